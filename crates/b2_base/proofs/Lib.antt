@@ -1,0 +1,5 @@
+pub mod TextKeys
+pub mod Joins
+pub mod Shapes
+pub mod Stays
+pub mod Under

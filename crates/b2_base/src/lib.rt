@@ -1,0 +1,16 @@
+//! Texts, paths, tokens and maps from texts, each seen by contracts as the value that it stands for.
+#![tactic(auto)]
+
+pub mod expand_fault;
+pub mod fault;
+pub mod laws;
+pub mod look;
+pub mod path;
+pub mod path_list;
+mod segments;
+#[cfg(test)]
+mod tests;
+pub mod text;
+pub mod text_list;
+pub mod text_map;
+pub mod token;

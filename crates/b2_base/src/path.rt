@@ -1,0 +1,180 @@
+//! Paths in normal form.
+ghost use Rattle.std.specs.Prelude.{◌≡◌, ◌↔◌, [], IfOk, IsErrOf, IsTrue, string_bytes};
+ghost use Rattle.b2_base.specs.Bytes.{HasNoZero};
+ghost use Rattle.b2_base.specs.Segments.{normal_of};
+ghost use Rattle.b2_base.specs.Normal.{IsNormal, IsUnder};
+
+use crate::fault::OutOfMemory;
+use crate::segments::{cut, is_below, is_rooted_text, join, keep};
+use crate::text::Text;
+use std::alloc::Global;
+use std::cmp::Ordering;
+use std::marker::Model;
+use thiserror::Error;
+
+/// Why a text is no path.
+#[derive(Debug, Drop, Error)]
+pub enum PathFault {
+    /// The text is empty.
+    #[error("the path is empty")]
+    Empty,
+    /// The text has a zero byte.
+    #[error("the path has a zero byte")]
+    Nul,
+    /// No memory was left.
+    #[error("out of memory")]
+    OutOfMemory,
+}
+
+impl From<OutOfMemory> for PathFault {
+    ghost use Rattle.b2_base.specs.declared.path.PathFault.TheVariants as faults;
+
+    ghost from_gives = { λ _ fault. fault ≡ faults.OutOfMemory };
+
+    fn from(_error: OutOfMemory) -> PathFault {
+        PathFault::OutOfMemory
+    }
+}
+
+/// A path in normal form, seen as its bytes: `.`, `/`, or some `..` and then names, joined by slashes. An absolute path
+/// begins with a slash and has no `..`. Paths are ordered by their bytes.
+#[derive(Debug, Drop)]
+pub struct Path {
+    text: Text,
+}
+
+impl Model for Path {
+    ghost use Rattle.std.specs.Prelude.{ℕ, List};
+    ghost use Rattle.b2_base.specs.Normal.{IsNormal};
+
+    ghost Value = { List ℕ };
+
+    ghost view = { λ p. p.text };
+
+    ghost invariant = { λ p. IsNormal p.text };
+}
+
+/// Whether no byte is zero.
+fn has_no_zero(text: &str) -> bool
+    ensures { IsTrue result ↔ HasNoZero text.now }
+{
+    text.as_bytes().iter().all(|byte| *byte > 0)
+}
+
+/// The normal form as text.
+fn normal_text(alloc: Global, text: &str) -> Result<String, OutOfMemory>
+    ensures { IfOk result (λ made. string_bytes made ≡ normal_of text.now) }
+{
+    let rooted = is_rooted_text(text);
+    let cuts = cut(alloc, text)?;
+    let kept = keep(alloc, rooted, cuts.as_slice())?;
+    join(alloc, rooted, kept.as_slice())
+}
+
+impl Path {
+    /// The normal form of a text: empty segments and `.` are dropped, and a segment before `..` with it. A leading `..`
+    /// stays, but for one at the root. What is left of nothing is `.`, or `/` at the root. `Empty` is answered exactly
+    /// for the empty text, `Nul` exactly where a zero byte stands.
+    pub fn normal(alloc: Global, text: &str) -> Result<Path, PathFault>
+        ensures exact { IfOk result (λ path. path ≡ normal_of text.now) }
+        ensures normal { IfOk result IsNormal }
+        ensures empty { IsErrOf result PathFault.Empty ↔ (text.now ≡ []) }
+        ensures nul { IsErrOf result PathFault.Nul ↔ ¬ HasNoZero text.now }
+        ensures no_zero { IfOk result (λ _. HasNoZero text.now) }
+    {
+        if text.is_empty() {
+            return Err(PathFault::Empty);
+        }
+        if !has_no_zero(text) {
+            return Err(PathFault::Nul);
+        }
+        let text = Text::from_string(normal_text(alloc, text)?);
+        Ok(Path { text })
+    }
+
+    /// The same path.
+    pub fn copy(&self) -> Result<Path, OutOfMemory>
+        ensures { IfOk result (λ made. made ≡ self.now) }
+    {
+        let text = self.text.copy()?;
+        Ok(Path { text })
+    }
+
+    /// The path as text.
+    pub fn as_text(&self) -> &Text
+        ensures value { result.now ≡ self.now }
+        ensures normal { IsNormal self.now }
+    {
+        &self.text
+    }
+
+    /// The path as a `str`.
+    pub fn as_str(&self) -> &str
+        ensures value { result.now ≡ self.now }
+        ensures normal { IsNormal self.now }
+        ensures no_zero { HasNoZero self.now }
+    {
+        self.text.as_str()
+    }
+
+    /// Whether the path lies below a folder: both are absolute or both relative, and the folder's segments are a proper
+    /// prefix of the path's. Below `.`, which has no segment, lies each relative path but `.` itself and those that begin
+    /// with `..`. Only the texts are compared, and no disk is asked. Takes no memory.
+    pub fn under(&self, dir: &Path) -> bool
+        ensures { IsTrue result ↔ IsUnder self.now dir.now }
+    {
+        is_below(self.text.as_str(), dir.text.as_str())
+    }
+}
+
+impl PartialEq for Path {
+    ghost use Rattle.std.specs.Str.{bytes_eq};
+    ghost use Rattle.std.specs.Cmp.{partial_equiv_from_equiv};
+    ghost use Rattle.std.specs.Cmp.Lexicographic.{nat_list_eq_equiv};
+
+    ghost eq = { bytes_eq };
+
+    ghost laws = { partial_equiv_from_equiv nat_list_eq_equiv };
+
+    fn eq(&self, other: &Path) -> bool {
+        self.as_str() == other.as_str()
+    }
+}
+
+impl Eq for Path {
+    ghost use Rattle.std.specs.Cmp.Lexicographic.{nat_list_eq_equiv};
+
+    ghost laws = { nat_list_eq_equiv };
+}
+
+impl PartialOrd for Path {
+    ghost use Rattle.std.specs.Prelude.{Some};
+    ghost use Rattle.std.specs.Ordering.{nat_cmp};
+    ghost use Rattle.std.specs.Cmp.Lexicographic.{slice_cmp, texts_po};
+
+    ghost partial_cmp = { λ x y. Some (slice_cmp nat_cmp x y) };
+
+    ghost laws = { texts_po };
+
+    fn partial_cmp(&self, other: &Path) -> Option<Ordering> {
+        Some(self.cmp(other))
+    }
+}
+
+impl Ord for Path {
+    ghost use Rattle.std.specs.Prelude.{refl};
+    ghost use Rattle.std.specs.Ordering.{nat_cmp};
+    ghost use Rattle.std.specs.Cmp.Lexicographic.{slice_cmp, nat_list_cmp_total, texts_ties};
+
+    ghost cmp = { slice_cmp nat_cmp };
+
+    ghost total = { nat_list_cmp_total };
+
+    ghost matches_partial_cmp = { λ x y. refl };
+
+    ghost matches_eq = { texts_ties };
+
+    fn cmp(&self, other: &Path) -> Ordering {
+        self.as_str().cmp(other.as_str())
+    }
+}

@@ -1,0 +1,137 @@
+//! A path's segments: cut at slashes, brought into normal form, and joined again.
+ghost use Rattle.std.specs.Prelude.{◌≡◌, ◌↔◌, ℕ, List, [], ◌∷◌, ◌++◌, codes, IfOk, IsTrue, OnOk, string_bytes};
+ghost use Rattle.b2_base.specs.Normal.{IsNormal, IsUnder, first_part};
+ghost use Rattle.b2_base.specs.Segments.{segments, is_rooted, is_dropped, is_up, step, kept, written, texts, stack};
+
+use crate::fault::OutOfMemory;
+use std::alloc::Global;
+
+/// Whether the text begins at the root.
+pub fn is_rooted_text(text: &str) -> bool
+    ensures { result ≡ is_rooted text.now }
+{
+    text.starts_with('/')
+}
+
+fn is_dropped_segment(segment: &str) -> bool
+    ensures { result ≡ is_dropped segment.now }
+{
+    segment == "" || segment == "."
+}
+
+fn is_up_segment(segment: &str) -> bool
+    ensures { result ≡ is_up segment.now }
+{
+    segment == ".."
+}
+
+/// The text, cut at its slashes.
+pub fn cut(alloc: Global, text: &str) -> Result<Vec<&str>, OutOfMemory>
+    ensures { IfOk result (λ cuts. texts cuts.items ≡ segments text.now) }
+{
+    let cuts = text.split('/').collect(alloc)?;
+    Ok(cuts)
+}
+
+fn take_in<'a>(rooted: bool, kept: &mut Vec<&'a str>, segment: &'a str) -> Result<(), OutOfMemory>
+    ensures { OnOk result (stack kept.new.items ≡ step rooted (stack kept.old.items) segment.now) }
+{
+    if is_dropped_segment(segment) {
+        return Ok(());
+    }
+    if is_up_segment(segment) {
+        match kept.last() {
+            None => {
+                if rooted {
+                    return Ok(());
+                }
+            }
+            Some(top) => {
+                if !is_up_segment(top) {
+                    let _top = kept.pop();
+                    return Ok(());
+                }
+            }
+        }
+    }
+    kept.push(segment)?;
+    Ok(())
+}
+
+/// The segments of the normal form.
+pub fn keep<'a>(alloc: Global, rooted: bool, cuts: &[&'a str]) -> Result<Vec<&'a str>, OutOfMemory>
+    ensures { IfOk result (λ found. texts found.items ≡ kept rooted (texts cuts.now)) }
+{
+    let mut found = Vec::new(alloc);
+    for cut in cuts {
+        take_in(rooted, &mut found, cut)?;
+    }
+    Ok(found)
+}
+
+/// The segments as one text.
+#[tactic(auto, using(crate::proofs::Joins::joins))]
+pub fn join(alloc: Global, rooted: bool, found: &[&str]) -> Result<String, OutOfMemory>
+    ensures { IfOk result (λ text. string_bytes text ≡ written rooted (texts found.now)) }
+{
+    let mut text = String::new(alloc);
+    if rooted {
+        text.push('/')?;
+    } else if found.is_empty() {
+        text.push('.')?;
+    }
+    for (i, segment) in found.iter().enumerate() {
+        if i > 0 {
+            text.push('/')?;
+        }
+        text.push_str(segment)?;
+    }
+    Ok(text)
+}
+
+/// Whether a text in normal form begins with the segment `..`.
+fn begins_above(path: &str) -> bool
+    requires { IsNormal path.now }
+    ensures { result ≡ is_up (first_part path.now) }
+{
+    path == ".." || path.starts_with("../")
+}
+
+/// Whether a text in normal form lies below `.`.
+fn is_below_here(path: &str) -> bool
+    requires { IsNormal path.now }
+    ensures { IsTrue result ↔ IsUnder path.now (codes ".") }
+{
+    path != "." && !is_rooted_text(path) && !begins_above(path)
+}
+
+/// Whether a text in normal form lies below the root.
+fn is_below_root(path: &str) -> bool
+    requires { IsNormal path.now }
+    ensures { IsTrue result ↔ IsUnder path.now (codes "/") }
+{
+    path != "/" && is_rooted_text(path)
+}
+
+/// Whether a text is another one with a slash after it, and maybe more.
+fn goes_on(path: &str, dir: &str) -> bool
+    ensures { IsTrue result ↔ ((rest : List ℕ) × (path.now ≡ dir.now ++ 47 ∷ rest)) }
+{
+    match path.strip_prefix(dir) {
+        None => false,
+        Some(rest) => rest.starts_with('/'),
+    }
+}
+
+/// Whether the first text lies below the second, both in normal form.
+pub fn is_below(path: &str, dir: &str) -> bool
+    requires path { IsNormal path.now }
+    requires dir { IsNormal dir.now }
+    ensures { IsTrue result ↔ IsUnder path.now dir.now }
+{
+    match dir {
+        "." => is_below_here(path),
+        "/" => is_below_root(path),
+        _ => goes_on(path, dir),
+    }
+}

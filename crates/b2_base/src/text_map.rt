@@ -1,0 +1,59 @@
+//! A map from texts.
+ghost use Rattle.std.specs.Prelude.{◌≡◌, IfOk, OnOk, OnErr, [], None};
+ghost use Rattle.std.specs.Option.{option_copied};
+ghost use Rattle.std.specs.FinMap as map;
+
+use crate::fault::OutOfMemory;
+use crate::text::Text;
+use std::alloc::Global;
+use std::collections::BTreeMap;
+use std::marker::Model;
+
+/// One value for each of some texts, seen as a finite map from their bytes.
+#[derive(Drop)]
+pub struct TextMap<V: Drop> {
+    values: BTreeMap<Text, V>,
+}
+
+impl<V: Drop> Model for TextMap<V> {
+    ghost use Rattle.std.specs.Prelude.{ℕ, List};
+    ghost use Rattle.std.specs.Ordering.{nat_cmp};
+    ghost use Rattle.std.specs.Cmp.Lexicographic.{slice_cmp};
+    ghost use Rattle.std.specs.Coded.{coded_ℕ, coded_list};
+    ghost use Rattle.std.specs.FinMap as map;
+
+    ghost Value = { map.FinMap (slice_cmp nat_cmp) V };
+
+    ghost coded = { map.code (coded_list coded_ℕ) V.code };
+
+    ghost view = { λ a. map.from_entries a.values.entries };
+}
+
+impl<V: Drop> TextMap<V> {
+    /// The map without a value.
+    pub fn new(alloc: Global) -> TextMap<V>
+        ensures { result ≡ map.from_entries [] }
+    {
+        TextMap {
+            values: BTreeMap::new(alloc),
+        }
+    }
+
+    /// The value of a text; takes no memory.
+    pub fn get(&self, text: &Text) -> Option<&V>
+        ensures { option_copied result ≡ map.get self.now text.now }
+    {
+        self.values.get(text)
+    }
+
+    /// Gives a text a value, and answers the one before. After an error the map is as before, and the text had none:
+    /// a text that has a value takes no memory.
+    pub fn insert(&mut self, text: Text, value: V) -> Result<Option<V>, OutOfMemory>
+        ensures before { IfOk result (λ before. before ≡ map.get self.old text) }
+        ensures ok { OnOk result (self.new ≡ map.insert self.old text value) }
+        ensures err { OnErr result (self.new ≡ self.old) }
+        ensures absent { OnErr result (map.get self.old text ≡ None) }
+    {
+        Ok(self.values.insert(text, value)?)
+    }
+}
