@@ -1,0 +1,7 @@
+pub mod FakeLemmas
+pub mod PlaceLemmas
+pub mod ShelfLemmas
+pub mod KnownLemmas
+pub mod MadeLemmas
+pub mod WriteLemmas
+pub mod CrewLemmas

@@ -1,0 +1,8 @@
+use Rattle.std.proofs.Common.{◌≡◌, map, take}
+use Rattle.b2_host.specs.Childhood.{read_all}
+use Rattle.b2_host.specs.Shelves.{standing, write_of}
+use Rattle.b2_host.proofs.job.hold.Given as goal
+
+-- the inputs so far
+abbrev pub invariant-loop-path : goal.invariant-loop-path
+invariant-loop-path l = map write_of l.held.items ≡ read_all (standing l.store.past.items l.store.places) (take l.path-index l.ins)

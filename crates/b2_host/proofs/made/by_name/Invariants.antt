@@ -1,0 +1,9 @@
+use Rattle.std.proofs.Common.{◌≡◌, ℕ, List, map, take}
+use Rattle.b2_host.specs.Found.{bytes_found}
+use Rattle.b2_host.specs.Results.{bytes_named}
+use Rattle.b2_host.specs.Shelves.{write_of}
+use Rattle.b2_host.proofs.made.by_name.Given as goal
+
+-- the inputs so far are found
+abbrev pub invariant-loop-input : goal.invariant-loop-input
+invariant-loop-input l = (name : List ℕ) → bytes_found l.found name ≡ bytes_named (map write_of (take l.input-index l.held)) name

@@ -1,0 +1,32 @@
+use Rattle.std.proofs.Common.{ap, sym, ◌∙◌, arith}
+use Rattle.b2_host.specs.Shelves.{all_known}
+use Rattle.b2_host.specs.Runnings.{promised}
+use Rattle.b2_host.proofs.KnownLemmas.{known_stays}
+use Rattle.b2_host.proofs.CrewLemmas.{promised_push}
+use Rattle.b2_host.proofs.memory.MemoryHost.admit.Goals as goal
+
+pub invariant_of-self-in-Break-branch-5 : goal.invariant_of-self-in-Break-branch-5
+invariant_of-self-in-Break-branch-5 c =
+    let had = c.args.self.now.room in
+    let pending = c.reserve.ensures.pending in
+    let len = c.prepare.ensures.len in
+    let room = c.prepare.ensures.room in
+    record {
+      room = omega (arith, had, pending, len, room);
+      known = ap (λ rs. all_known c.prepare.new.self.places (promised rs)) c.reserve.ensures.running
+          ∙ known_stays c.args.self.now.store.places c.prepare.new.self.places (promised c.args.self.now.crew.running.items) c.prepare.ensures.stays c.args.self.now.known;
+    }
+
+pub invariant_of-self-2 : goal.invariant_of-self-2
+invariant_of-self-2 c =
+    let pending = c.reserve.ensures.pending in
+    let more = c.add.ensures.pending in
+    let sum = c.in_ok-pending.ensures in
+    let entries = c.len.ensures in
+    let room = c.in_ok-prepare.ensures.ok in
+    record {
+      room = omega (arith, pending, more, sum, entries, room);
+      known = rw (c.add.ensures.running, c.reserve.ensures.running) (promised_push c.prepare.new.self.places c.args.self.now.crew.running.items _
+          (known_stays c.args.self.now.store.places c.prepare.new.self.places (promised c.args.self.now.crew.running.items) c.prepare.ensures.stays c.args.self.now.known)
+          (ap (all_known c.prepare.new.self.places) (sym c.as_slice.ensures.value) ∙ c.in_ok-prepare.ensures.known));
+    }

@@ -1,0 +1,14 @@
+use Rattle.std.proofs.Common.{◌∙◌, arith}
+use Rattle.b2_host.specs.Runnings.{promised}
+use Rattle.b2_host.proofs.KnownLemmas.{known_stays}
+use Rattle.b2_host.proofs.memory.MemoryHostFiles.remove.Goals as goal
+
+pub invariant_of-self-2 : goal.invariant_of-self-2
+invariant_of-self-2 c =
+    let had = c.args.self.now.room in
+    let len = c.remove.ensures.len in
+    let room = c.remove.ensures.room in
+    record {
+      room = omega (arith, had, len, room);
+      known = known_stays c.args.self.now.store.places c.remove.new.self.places (promised c.args.self.now.crew.running.items) (λ q k. c.remove.ensures.known q ∙ k) c.args.self.now.known;
+    }

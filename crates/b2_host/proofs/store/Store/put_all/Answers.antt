@@ -1,0 +1,24 @@
+use Rattle.std.proofs.Common.{ap, sym, ◌∙◌, map, length, arith}
+use Rattle.b2_host.specs.Writes.{all_written}
+use Rattle.b2_host.specs.Shelves.{is_known, all_known, write_of, disk_of}
+use Rattle.b2_host.proofs.KnownLemmas.{both, known_stays}
+use Rattle.b2_host.proofs.store.Store.put_all.Goals as goal
+
+pub loop-entry-preserved : goal.loop-entry-preserved
+loop-entry-preserved c =
+    let rest = c.in-Some.ensures.steps.0 in
+    let here = sym (ap (all_known c.loop-entry.self.places) rest) ∙ c.loop-entry.invariant.known in
+    let more = both (is_known c.loop-entry.self.places c.in-Some.entry.path) (all_known c.loop-entry.self.places c.next.new.self.rest.items) here in
+    let one = ap length rest in
+    let len = c.loop-entry.invariant.len in
+    let fits = c.loop-entry.invariant.fits in
+    let put_len = c.put.ensures.len in
+    let put_room = c.put.ensures.room in
+    record {
+      known = known_stays c.loop-entry.self.places c.put.new.self.places c.next.new.self.rest.items (λ q k. c.put.ensures.known q ∙ k) more.1;
+      told = ap (all_written (map write_of c.next.new.self.rest.items)) c.put.ensures.disk ∙ sym (ap (λ xs. all_written (map write_of xs) (disk_of c.loop-entry.self.past.items c.loop-entry.self.places)) rest) ∙ c.loop-entry.invariant.told;
+      same = λ q. c.put.ensures.known q ∙ c.loop-entry.invariant.same q;
+      len = omega (arith, one, len, put_len);
+      fits = omega (arith, one, fits, put_len, put_room);
+      room = c.put.ensures.room ∙ c.loop-entry.invariant.room;
+    }

@@ -1,0 +1,20 @@
+use Rattle.std.specs.Prelude.{◌≡◌, ℕ, ◌<◌, ◌≤◌, Result, Ok, Err}
+use Rattle.b2_host.specs.declared.fault.Failed.{Failed}
+use Rattle.b2_host.specs.declared.fault.IoFault.{IoFault}
+use Rattle.b2_host.specs.declared.fault.IoFault.TheVariants as faults
+
+-- A count of faults went up. It stops at the largest that 64 bits hold.
+pub record Rose (before after : ℕ) : Type 0 where
+  pub kept : before ≤ after
+  pub more : before < 18446744073709551615 → before < after
+
+-- a call that failed counted a fault, and no other call did
+abbrev pub FaultTold : {T : Type 0} → ℕ → ℕ → Result T Failed → Type 0
+FaultTold before after (Ok x) = after ≡ before
+FaultTold before after (Err e) = Rose before after
+
+-- the same of a call that may also want memory
+abbrev pub IoFaultTold : {T : Type 0} → ℕ → ℕ → Result T IoFault → Type 0
+IoFaultTold before after (Ok x) = after ≡ before
+IoFaultTold before after (Err faults.Failed) = Rose before after
+IoFaultTold before after (Err faults.OutOfMemory) = after ≡ before

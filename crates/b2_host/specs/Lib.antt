@@ -1,0 +1,13 @@
+pub mod Faults
+pub mod Standing
+pub mod Childhood
+pub mod Results
+pub mod Found
+pub mod Writes
+pub mod Fakes
+pub mod Shelves
+pub mod Kept
+pub mod Jobs
+pub mod Runnings
+pub mod Hosts
+pub mod Sinks

@@ -1,0 +1,46 @@
+use Rattle.std.specs.Prelude.{ℕ, ◌/◌, ◌%◌, ◌==◌, nat_le, Bool, false, not, ◌&&◌, ◌||◌, List, [], ◌∷◌, ◌++◌, codes, length, filter, fold, take_while, if◌then◌else◌}
+use Rattle.std.specs.List.{flat_map, slice_split}
+use Rattle.std.specs.Str.{bytes_eq}
+use Rattle.std.specs.Fmt.{decimal, digit_glyph}
+use Rattle.sha2.specs.Sha256.{sha256}
+
+-- white space: the bytes 9 to 13, and 32
+abbrev pub is_space : ℕ → Bool
+is_space byte = (nat_le 9 byte && nat_le byte 13) || byte == 32
+
+-- what stands between white space
+abbrev pub words_of : List ℕ → List (List ℕ)
+words_of text = filter (λ word. not (length word == 0)) (slice_split is_space text)
+
+-- the bytes of the input with that name, the last where several have it, or none
+abbrev pub bytes_named : List (List ℕ × List ℕ) → List ℕ → List ℕ
+bytes_named held name = fold (λ found input. if bytes_eq input.0 name then input.1 else found) [] held
+
+-- the bytes of the inputs that are named before the first `>`, joined in order
+abbrev pub joined : List (List ℕ × List ℕ) → List (List ℕ) → List ℕ
+joined held names = flat_map (bytes_named held) (take_while (λ name. not (bytes_eq name (codes ">"))) names)
+
+-- an input as it is digested: its path, its length in decimal and its bytes, the first two ended by a line feed
+abbrev pub input_text : List ℕ × List ℕ → List ℕ
+input_text input = input.0 ++ (10 ∷ (decimal (length input.1) ++ (10 ∷ input.1)))
+
+-- what is digested: the output's path and the text, each ended by a line feed, and the inputs in the order in which they were handed over
+abbrev pub whole_text : List ℕ → List (List ℕ × List ℕ) → List ℕ → List ℕ
+whole_text text held out = out ++ (10 ∷ (text ++ (10 ∷ flat_map input_text held)))
+
+-- two lower-case hexadecimal digits for each byte
+abbrev pub hexadecimal : List ℕ → List ℕ
+hexadecimal bytes = flat_map (λ byte. digit_glyph false (byte / 16) ∷ digit_glyph false (byte % 16) ∷ []) bytes
+
+-- the SHA-256 digest of what is digested, and a line feed
+abbrev pub digest_line : List ℕ → List (List ℕ × List ℕ) → List ℕ → List ℕ
+digest_line text held out = hexadecimal (sha256 (whole_text text held out)) ++ (10 ∷ [])
+
+-- what the words of a text make: `cat` joins, and all else digests
+abbrev pub made_by : List (List ℕ) → List ℕ → List (List ℕ × List ℕ) → List ℕ → List ℕ
+made_by [] text held out = digest_line text held out
+made_by (first ∷ more) text held out = if bytes_eq first (codes "cat") then joined held more else digest_line text held out
+
+-- what a child in memory makes of the bytes of named inputs, at an output
+unfoldable pub made_of : List ℕ → List (List ℕ × List ℕ) → List ℕ → List ℕ
+made_of text held out = made_by (words_of text) text held out

@@ -1,0 +1,8 @@
+use Rattle.std.specs.Prelude.{List}
+use Rattle.std.specs.List.{flat_map}
+use Rattle.b2_host.specs.declared.entry.Entry.{Entry}
+use Rattle.b2_host.specs.declared.running.Running.{Running}
+
+-- what children that run are yet to write
+abbrev pub promised : List Running → List Entry
+promised running = flat_map (λ child. child.entries.items) running

@@ -1,0 +1,34 @@
+use Rattle.std.specs.Prelude.{ℕ, ◌+◌, Bool, true, false, List, [], ◌∷◌, ◌++◌, codes, length, map, fold, take, Option, Some, None}
+use Rattle.b2_host.specs.Standing.{File, Disk, put, without}
+use Rattle.b2_host.specs.Childhood.{Given}
+use Rattle.b2_host.specs.Results.{made_of}
+
+-- The file that a write makes: its stamp is one more than the number of files that ever stood.
+abbrev pub next_file : List ℕ → Disk → File
+next_file bytes disk = record { stamp = length disk.past + 1; bytes = bytes }
+
+-- the disk after a write of bytes to a path
+abbrev pub written : List ℕ → List ℕ → Disk → Disk
+written path bytes disk = record {
+  now = put path (Some (next_file bytes disk)) disk.now;
+  past = disk.past ++ record { path = path; file = next_file bytes disk } ∷ [];
+}
+
+-- the disk after writes, one after another
+abbrev pub all_written : List (List ℕ × List ℕ) → Disk → Disk
+all_written writes disk = fold (λ so_far write. written write.0 write.1 so_far) disk writes
+
+-- the disk after an edit, which writes bytes or deletes
+abbrev pub edited : List ℕ → Option (List ℕ) → Disk → Disk
+edited path (Some bytes) disk = written path bytes disk
+edited path None disk = without path disk
+
+-- What a child in memory writes by its end: one that ends well, what its text makes at each output; one that ends badly,
+-- `torn` and a line feed at its first output.
+abbrev pub writes_of : Given → Bool → List (List ℕ × List ℕ)
+writes_of given true = map (λ out. (out, made_of given.text given.held out)) given.outs
+writes_of given false = map (λ out. (out, codes "torn" ++ 10 ∷ [])) (take 1 given.outs)
+
+-- what is told of a new disk
+abbrev pub blank : Disk
+blank = record { now = λ path. None; past = [] }

@@ -1,0 +1,99 @@
+//! The children of a host in memory.
+ghost use Rattle.std.specs.Prelude.{◌≡◌, ◌≢◌, ◌+◌, ◌≤◌, ◌<◌, ◌^◌, [], ◌∷◌, ◌++◌, length, IfOk, OnOk, vec_len, vec_capacity};
+ghost use Rattle.b2_host.specs.Runnings.{promised};
+
+use crate::children::ChildEvent;
+use crate::job::Job;
+use crate::running::Running;
+use b2_base::fault::OutOfMemory;
+use std::alloc::Global;
+use std::rc::Rc;
+
+/// What each start gave, the children that run, and what came to pass. `pending` counts what the children are yet to
+/// write.
+#[derive(Drop)]
+pub struct Crew {
+    pub given: Vec<Rc<Job>>,
+    pub running: Vec<Running>,
+    pub events: Vec<ChildEvent>,
+    pub pending: usize,
+    ghost owed: { pending ≡ length (promised running.items) },
+    ghost event_room: { vec_len events + vec_len running ≤ vec_capacity events },
+}
+
+impl Crew {
+    /// No child was started.
+    pub fn new(alloc: Global) -> Crew
+        ensures given { result.given.items ≡ [] }
+        ensures running { result.running.items ≡ [] }
+        ensures events { result.events.items ≡ [] }
+    {
+        Crew {
+            given: Vec::new(alloc),
+            running: Vec::new(alloc),
+            events: Vec::new(alloc),
+            pending: 0,
+        }
+    }
+
+    /// How many writes are pending with so many more.
+    pub fn pending_with(&self, more: usize) -> Result<usize, OutOfMemory>
+        ensures { IfOk result (λ sum. sum ≡ self.now.pending + more) }
+    {
+        match self.pending.checked_add(more) {
+            None => Err(OutOfMemory),
+            Some(sum) => Ok(sum),
+        }
+    }
+
+    /// Takes the room that one more child needs until its end.
+    pub fn reserve(&mut self) -> Result<(), OutOfMemory>
+        ensures given_room { OnOk result (vec_len self.new.given < vec_capacity self.new.given) }
+        ensures running_room { OnOk result (vec_len self.new.running < vec_capacity self.new.running) }
+        ensures event_room { OnOk result (vec_len self.new.events + vec_len self.new.running + 2 ≤ vec_capacity self.new.events) }
+        ensures given { self.new.given.items ≡ self.old.given.items }
+        ensures running { self.new.running.items ≡ self.old.running.items }
+        ensures events { self.new.events.items ≡ self.old.events.items }
+        ensures pending { self.new.pending ≡ self.old.pending }
+    {
+        self.given.reserve(1)?;
+        let children = self.running.len();
+        self.events.reserve(children + 2)?;
+        self.running.reserve(1)?;
+        Ok(())
+    }
+
+    /// One more child runs. The room for it was taken.
+    pub fn add(&mut self, child: Running, job: Rc<Job>)
+        requires given_room { vec_len self.old.given < vec_capacity self.old.given }
+        requires running_room { vec_len self.old.running < vec_capacity self.old.running }
+        requires event_room { vec_len self.old.events + vec_len self.old.running + 2 ≤ vec_capacity self.old.events }
+        requires fits { self.old.pending + vec_len child.entries < 2 ^ 64 }
+        ensures given { self.new.given.items ≡ self.old.given.items ++ job ∷ [] }
+        ensures running { self.new.running.items ≡ self.old.running.items ++ child ∷ [] }
+        ensures events { self.new.events.items ≡ self.old.events.items ++ ChildEvent.Start child.job.value.step ∷ [] }
+        ensures pending { self.new.pending ≡ self.old.pending + vec_len child.entries }
+    {
+        self.events
+            .push_reserved(ChildEvent::Start(child.job.as_ref().step));
+        self.given.push_reserved(job);
+        self.pending += child.entries.len();
+        self.running.push_reserved(child);
+    }
+
+    /// The child that was started first runs no more.
+    pub fn take_first(&mut self) -> Running
+        requires { self.old.running.items ≢ [] }
+        ensures running { self.old.running.items ≡ result ∷ self.new.running.items }
+        ensures given { self.new.given.items ≡ self.old.given.items }
+        ensures events { self.new.events.items ≡ self.old.events.items ++ ChildEvent.Done result.job.value.step result.well ∷ [] }
+        ensures pending { self.old.pending ≡ self.new.pending + vec_len result.entries }
+    {
+        let child = self.running.remove(0);
+        let step = child.job.as_ref().step;
+        self.events
+            .push_reserved(ChildEvent::Done(step, child.well));
+        self.pending -= child.entries.len();
+        child
+    }
+}

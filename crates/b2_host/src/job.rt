@@ -1,0 +1,124 @@
+//! What a start gives a child.
+ghost use Rattle.std.specs.Prelude.{◌≡◌, ◌∷◌, [], ◌++◌, codes, map, take, IfOk, OnOk};
+ghost use Rattle.std.specs.Option.{option_to_list};
+ghost use Rattle.b2_host.specs.Childhood.{read_at, read_all, given_at};
+ghost use Rattle.b2_host.specs.Results.{made_of};
+ghost use Rattle.b2_host.specs.Shelves.{standing, disk_of, write_of};
+
+use crate::entry::Entry;
+use crate::made::make;
+use crate::store::Store;
+use b2_base::fault::OutOfMemory;
+use b2_base::path::Path;
+use b2_base::path_list::{PathList, copy_paths};
+use std::alloc::Global;
+
+/// A step's text, what it reads and writes, and the inputs that stood when it started.
+#[derive(Debug, Drop)]
+pub struct Job {
+    pub step: u32,
+    pub text: String,
+    pub ins: PathList,
+    pub outs: PathList,
+    pub held: Vec<Entry>,
+}
+
+/// Adds an input with its bytes, if it stands.
+fn hold_one(
+    alloc: Global,
+    held: &mut Vec<Entry>,
+    store: &Store,
+    path: &Path,
+) -> Result<(), OutOfMemory>
+    ensures { OnOk result (map write_of held.new.items ≡ map write_of held.old.items ++ option_to_list (read_at (standing store.now.past.items store.now.places) path.now)) }
+{
+    if let Some(bytes) = store.bytes(path) {
+        let bytes = Vec::from_slice(alloc, bytes)?;
+        let path = path.copy()?;
+        held.push(Entry { path, bytes })?;
+    }
+    Ok(())
+}
+
+/// The inputs that stand, with their bytes.
+#[tactic(auto, using(crate::proofs::MadeLemmas::read_more))]
+fn hold(alloc: Global, store: &Store, ins: &[Path]) -> Result<Vec<Entry>, OutOfMemory>
+    ensures { IfOk result (λ held. map write_of held.items ≡ read_all (standing store.now.past.items store.now.places) ins.now) }
+{
+    let mut held = Vec::new(alloc);
+    for path in ins {
+        hold_one(alloc, &mut held, store, path)?;
+    }
+    Ok(held)
+}
+
+/// What a child that ends well writes.
+fn good_writes(
+    alloc: Global,
+    text: &str,
+    held: &[Entry],
+    outs: &[Path],
+) -> Result<Vec<Entry>, OutOfMemory>
+    ensures { IfOk result (λ entries. map write_of entries.items ≡ map (λ out. (out, made_of text.now (map write_of held.now) out)) outs.now) }
+{
+    let mut entries = Vec::new(alloc);
+    for out in outs {
+        let bytes = make(alloc, text, held, out)?;
+        let path = out.copy()?;
+        entries.push(Entry { path, bytes })?;
+    }
+    Ok(entries)
+}
+
+/// What a child that ends badly writes.
+fn bad_writes(alloc: Global, outs: &[Path]) -> Result<Vec<Entry>, OutOfMemory>
+    ensures { IfOk result (λ entries. map write_of entries.items ≡ map (λ out. (out, codes "torn" ++ 10 ∷ [])) (take 1 outs.now)) }
+{
+    let mut entries = Vec::new(alloc);
+    if let Some(out) = outs.first() {
+        let bytes = Vec::from_slice(alloc, b"torn\n")?;
+        let path = out.copy()?;
+        entries.push(Entry { path, bytes })?;
+    }
+    Ok(entries)
+}
+
+impl Job {
+    ghost use Rattle.b2_host.specs.Jobs.{given_of, IsLeft};
+
+    /// What a start gives.
+    pub fn new(
+        alloc: Global,
+        step: u32,
+        text: &str,
+        ins: &[Path],
+        outs: &[Path],
+        store: &Store,
+    ) -> Result<Job, OutOfMemory>
+        ensures { IfOk result (λ job. given_of job ≡ given_at step text.now ins.now outs.now (disk_of store.now.past.items store.now.places)) }
+    {
+        let text = String::from_str(alloc, text)?;
+        let held = hold(alloc, store, ins)?;
+        let ins = copy_paths(alloc, ins)?;
+        let outs = copy_paths(alloc, outs)?;
+        Ok(Job {
+            step,
+            text,
+            ins,
+            outs,
+            held,
+        })
+    }
+
+    /// What a child that runs the job writes by its end.
+    pub fn writes(&self, alloc: Global, well: bool) -> Result<Vec<Entry>, OutOfMemory>
+        ensures { IfOk result (λ entries. IsLeft self.now well entries.items) }
+    {
+        let outs = self.outs.as_slice();
+        if well {
+            good_writes(alloc, self.text.as_str(), self.held.as_slice(), outs)
+        } else {
+            bad_writes(alloc, outs)
+        }
+    }
+}

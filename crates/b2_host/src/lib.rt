@@ -1,0 +1,19 @@
+//! What a build needs of the outside: files, children and a place to write to.
+#![tactic(auto)]
+
+pub mod children;
+mod crew;
+mod entry;
+mod fakes;
+pub mod fault;
+pub mod files;
+mod job;
+mod made;
+pub mod memory;
+pub mod memory_sink;
+mod places;
+mod running;
+pub mod sink;
+mod store;
+#[cfg(test)]
+mod tests;

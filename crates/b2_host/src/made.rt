@@ -1,0 +1,154 @@
+//! What a child in memory makes.
+ghost use Rattle.std.specs.Prelude.{◌≡◌, ℕ, List, [], ◌∷◌, ◌++◌, map, IfOk, OnOk, string_bytes};
+ghost use Rattle.b2_base.specs.Segments.{texts};
+ghost use Rattle.b2_host.specs.Results.{is_space, words_of, bytes_named, joined, hexadecimal, digest_line, input_text, whole_text, made_by, made_of};
+ghost use Rattle.b2_host.specs.Found.{bytes_found};
+ghost use Rattle.b2_host.specs.Shelves.{write_of};
+
+use crate::entry::Entry;
+use b2_base::fault::OutOfMemory;
+use b2_base::path::Path;
+use sha2::{Digest, Sha256};
+use std::alloc::Global;
+use std::collections::BTreeMap;
+
+fn is_space_byte(byte: u8) -> bool
+    ensures { result ≡ is_space byte }
+{
+    (9 <= byte && byte <= 13) || byte == 32
+}
+
+/// The words of a text, which white space divides.
+fn words(alloc: Global, text: &str) -> Result<Vec<&[u8]>, OutOfMemory>
+    ensures { IfOk result (λ found. texts found.items ≡ words_of text.now) }
+{
+    let found = text
+        .as_bytes()
+        .split(|byte| is_space_byte(*byte))
+        .filter(|word| !word.is_empty())
+        .collect(alloc)?;
+    Ok(found)
+}
+
+/// The bytes of the inputs by their names.
+fn by_name(alloc: Global, held: &[Entry]) -> Result<BTreeMap<&[u8], &[u8]>, OutOfMemory>
+    ensures { IfOk result (λ found. (name : List ℕ) → bytes_found found name ≡ bytes_named (map write_of held.now) name) }
+{
+    let mut found = BTreeMap::new(alloc);
+    for input in held {
+        let name = input.path.as_str().as_bytes();
+        found.insert(name, input.bytes.as_slice())?;
+    }
+    Ok(found)
+}
+
+/// The bytes that were found for a name, or none.
+fn named<'a>(found: &BTreeMap<&'a [u8], &'a [u8]>, name: &'a [u8]) -> &'a [u8]
+    ensures { result.now ≡ bytes_found found.now name.now }
+{
+    match found.get(&name) {
+        None => &[],
+        Some(bytes) => *bytes,
+    }
+}
+
+/// The inputs that are named before the first `>`, joined.
+fn join(alloc: Global, held: &[Entry], names: &[&[u8]]) -> Result<Vec<u8>, OutOfMemory>
+    ensures { IfOk result (λ bytes. bytes.items ≡ joined (map write_of held.now) (texts names.now)) }
+{
+    let found = by_name(alloc, held)?;
+    let mut bytes = Vec::new(alloc);
+    for name in names {
+        if *name == b">".as_slice() {
+            return Ok(bytes);
+        }
+        bytes.extend_from_slice(named(&found, name))?;
+    }
+    Ok(bytes)
+}
+
+/// The digest of a text and its inputs as a line of hexadecimal digits.
+fn digest(alloc: Global, text: &str, held: &[Entry], out: &Path) -> Result<Vec<u8>, OutOfMemory>
+    ensures { IfOk result (λ bytes. bytes.items ≡ digest_line text.now (map write_of held.now) out.now) }
+{
+    let whole = whole(alloc, text, held, out)?;
+    let mut line = hexadecimal_text(alloc, Sha256::digest(whole.as_slice()).as_slice())?;
+    line.push(b'\n')?;
+    Ok(line)
+}
+
+/// What is digested.
+fn whole(alloc: Global, text: &str, held: &[Entry], out: &Path) -> Result<Vec<u8>, OutOfMemory>
+    ensures { IfOk result (λ bytes. bytes.items ≡ whole_text text.now (map write_of held.now) out.now) }
+{
+    let mut bytes = Vec::new(alloc);
+    bytes.extend_from_slice(out.as_str().as_bytes())?;
+    bytes.push(b'\n')?;
+    bytes.extend_from_slice(text.as_bytes())?;
+    bytes.push(b'\n')?;
+    for input in held {
+        add_input(alloc, &mut bytes, input)?;
+    }
+    Ok(bytes)
+}
+
+fn add_input(alloc: Global, bytes: &mut Vec<u8>, input: &Entry) -> Result<(), OutOfMemory>
+    ensures { OnOk result (bytes.new.items ≡ bytes.old.items ++ input_text (write_of input.now)) }
+{
+    let size = input.bytes.len();
+    let size = format!(in alloc; "{size}")?;
+    bytes.extend_from_slice(input.path.as_str().as_bytes())?;
+    bytes.push(b'\n')?;
+    bytes.extend_from_slice(size.as_bytes())?;
+    bytes.push(b'\n')?;
+    bytes.extend_from_slice(input.bytes.as_slice())?;
+    Ok(())
+}
+
+#[tactic(auto, using(std::proofs::lemmas::Fmt::hex_byte))]
+fn hexadecimal_pair(alloc: Global, byte: u8) -> Result<String, OutOfMemory>
+    ensures { IfOk result (λ pair. string_bytes pair ≡ hexadecimal (byte ∷ [])) }
+{
+    Ok(format!(in alloc; "{byte:02x}")?)
+}
+
+#[tactic(auto, using(crate::proofs::MadeLemmas::hex_more))]
+fn hexadecimal_text(alloc: Global, bytes: &[u8]) -> Result<Vec<u8>, OutOfMemory>
+    ensures { IfOk result (λ digits. digits.items ≡ hexadecimal bytes.now) }
+{
+    let mut digits = Vec::new(alloc);
+    for byte in bytes {
+        let pair = hexadecimal_pair(alloc, *byte)?;
+        digits.extend_from_slice(pair.as_bytes())?;
+    }
+    Ok(digits)
+}
+
+fn make_by(
+    alloc: Global,
+    words: &[&[u8]],
+    text: &str,
+    held: &[Entry],
+    out: &Path,
+) -> Result<Vec<u8>, OutOfMemory>
+    ensures { IfOk result (λ bytes. bytes.items ≡ made_by (texts words.now) text.now (map write_of held.now) out.now) }
+{
+    match words {
+        [] => digest(alloc, text, held, out),
+        [first, names @ ..] => {
+            if *first == b"cat".as_slice() {
+                return join(alloc, held, names);
+            }
+            digest(alloc, text, held, out)
+        }
+    }
+}
+
+/// What a child makes at an output.
+#[tactic(auto, unfolding(crate::specs::Results::made_of))]
+pub fn make(alloc: Global, text: &str, held: &[Entry], out: &Path) -> Result<Vec<u8>, OutOfMemory>
+    ensures { IfOk result (λ bytes. bytes.items ≡ made_of text.now (map write_of held.now) out.now) }
+{
+    let words = words(alloc, text)?;
+    make_by(alloc, words.as_slice(), text, held, out)
+}

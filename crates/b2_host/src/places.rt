@@ -1,0 +1,74 @@
+//! Where the file of each path is.
+ghost use Rattle.std.specs.Prelude.{◌≡◌, ℕ, List, [], None, Option, IsTrue, OnOk, OnErr, if◌then◌else◌};
+ghost use Rattle.std.specs.FinMap as map;
+ghost use Rattle.std.specs.Str.{bytes_eq};
+ghost use Rattle.b2_host.specs.Shelves.{place_of, is_known};
+
+use b2_base::fault::OutOfMemory;
+use b2_base::path::Path;
+use std::alloc::Global;
+use std::collections::BTreeMap;
+use std::marker::Model;
+
+/// For each path that was named, a place, or None.
+#[derive(Drop)]
+pub struct Places {
+    values: BTreeMap<Path, Option<usize>>,
+}
+
+impl Model for Places {
+    ghost use Rattle.std.specs.Prelude.{ℕ, List, Option};
+    ghost use Rattle.std.specs.Ordering.{nat_cmp};
+    ghost use Rattle.std.specs.Cmp.Lexicographic.{slice_cmp};
+    ghost use Rattle.std.specs.Coded.{coded_ℕ, coded_list, coded_option};
+    ghost use Rattle.std.specs.FinMap as map;
+
+    ghost Value = { map.FinMap (slice_cmp nat_cmp) (Option ℕ) };
+
+    ghost coded = { map.code (coded_list coded_ℕ) (coded_option coded_ℕ) };
+
+    ghost view = { λ p. map.from_entries p.values.entries };
+}
+
+impl Places {
+    /// No path is known.
+    pub fn new(alloc: Global) -> Places
+        ensures { result ≡ map.from_entries [] }
+    {
+        Places {
+            values: BTreeMap::new(alloc),
+        }
+    }
+
+    /// The place of a path.
+    pub fn get(&self, path: &Path) -> Option<usize>
+        ensures { result ≡ place_of self.now path.now }
+    {
+        match self.values.get(path) {
+            None => None,
+            Some(place) => *place,
+        }
+    }
+
+    /// Makes a path known, with no place if it was not.
+    pub fn know(&mut self, path: &Path) -> Result<(), OutOfMemory>
+        ensures known { OnOk result (IsTrue (is_known self.new path.now)) }
+        ensures stays { (other : List ℕ) → IsTrue (is_known self.old other) → IsTrue (is_known self.new other) }
+        ensures places { (other : List ℕ) → place_of self.new other ≡ place_of self.old other }
+    {
+        if !self.values.contains_key(path) {
+            self.values.insert(path.copy()?, None)?;
+        }
+        Ok(())
+    }
+
+    /// Gives a known path a place, or None. A path that is not known has no place and gets none.
+    pub fn set(&mut self, path: &Path, place: Option<usize>)
+        ensures known { (other : List ℕ) → is_known self.new other ≡ is_known self.old other }
+        ensures places { (other : List ℕ) → place_of self.new other ≡ (if bytes_eq path.now other then (if is_known self.old path.now then place else None) else place_of self.old other) }
+    {
+        if let Some(found) = self.values.get_mut(path) {
+            *found = place;
+        }
+    }
+}

@@ -1,0 +1,15 @@
+//! A child in memory.
+ghost use Rattle.b2_host.specs.Jobs.{IsLeft};
+
+use crate::entry::Entry;
+use crate::job::Job;
+use std::rc::Rc;
+
+/// A child that runs, whether it is to end well, and what it is to write by its end.
+#[derive(Drop)]
+pub struct Running {
+    pub job: Rc<Job>,
+    pub well: bool,
+    pub entries: Vec<Entry>,
+    ghost settled: { IsLeft job.value well entries.items },
+}
