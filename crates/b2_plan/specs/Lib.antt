@@ -1,0 +1,4 @@
+pub mod Plans
+pub mod Sources
+pub mod Closures
+pub mod Cleans

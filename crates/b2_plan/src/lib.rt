@@ -1,0 +1,8 @@
+//! Plans, and what a clean build of a plan is.
+#![tactic(auto)]
+
+mod makers;
+pub mod plan;
+pub mod step;
+#[cfg(test)]
+mod tests;

@@ -1,0 +1,55 @@
+//! Plans.
+ghost use Rattle.std.specs.Prelude.{◌≡◌, ℕ, List};
+ghost use Rattle.std.specs.FinMap as map;
+ghost use Rattle.b2_plan.specs.Plans.{maker_of};
+
+use crate::makers::makers_of;
+use crate::step::StepList;
+use b2_base::fault::OutOfMemory;
+use b2_base::path::Path;
+use b2_base::path_list::PathList;
+use b2_base::text_map::TextMap;
+use std::alloc::Global;
+
+/// What is to be built: the steps in order, the wanted files, and the output roots.
+#[derive(Drop)]
+pub struct Plan {
+    pub steps: StepList,
+    pub wanted: PathList,
+    pub roots: PathList,
+    makers: TextMap<u32>,
+    ghost makers_are: { (path : List ℕ) → map.get makers path ≡ maker_of steps path },
+}
+
+impl Plan {
+    ghost use Rattle.std.specs.Prelude.{◌≡◌, ◌≤◌, IfOk, length};
+    ghost use Rattle.b2_plan.specs.Plans.{maker_of};
+
+    /// The plan of these steps.
+    pub fn new(
+        alloc: Global,
+        steps: StepList,
+        wanted: PathList,
+        roots: PathList,
+    ) -> Result<Plan, OutOfMemory>
+        requires { length steps ≤ 65536 }
+        ensures steps { IfOk result (λ plan. plan.steps ≡ steps) }
+        ensures wanted { IfOk result (λ plan. plan.wanted ≡ wanted) }
+        ensures roots { IfOk result (λ plan. plan.roots ≡ roots) }
+    {
+        let makers = makers_of(alloc, steps.as_slice())?;
+        Ok(Plan {
+            steps,
+            wanted,
+            roots,
+            makers,
+        })
+    }
+
+    /// The number of the first step that has the path among its outputs, or None where no step has it. Takes no memory.
+    pub fn maker(&self, path: &Path) -> Option<u32>
+        ensures { result ≡ maker_of self.now.steps path.now }
+    {
+        self.makers.get(path.as_text()).copied()
+    }
+}
