@@ -1,0 +1,12 @@
+pub mod Slices
+pub mod Gaps
+pub mod Words
+pub mod Texts
+pub mod Bodies
+pub mod Lines
+pub mod FirstBad
+pub mod Boundaries
+pub mod Progress
+pub mod Unique
+pub mod Given
+pub mod Found

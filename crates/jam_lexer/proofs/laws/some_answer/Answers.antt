@@ -1,0 +1,5 @@
+use Rattle.jam_lexer.proofs.Found.{some_answer}
+use Rattle.jam_lexer.proofs.laws.some_answer.Goals as goal
+
+pub returns : goal.returns
+returns c = some_answer
