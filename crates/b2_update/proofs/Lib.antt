@@ -1,0 +1,14 @@
+pub mod Orders
+pub mod Elements
+pub mod Writing
+pub mod Waiting
+pub mod Makers
+pub mod Values
+pub mod Moves
+pub mod Steps
+pub mod Reading
+pub mod Removing
+pub mod Numbers
+pub mod Endings
+pub mod Beginnings
+pub mod Nexts

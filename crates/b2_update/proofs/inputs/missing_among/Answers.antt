@@ -1,0 +1,42 @@
+use Rattle.std.proofs.Common.{◌≡◌, ◌+◌, ◌↔◌, ◌++◌, ◌∷◌, [], ℕ, List, IsTrue, cond, take, get_or, subst, ◌∙◌}
+use Rattle.std.specs.List.{Contains}
+use Rattle.b2_host.specs.Standing.{Disk}
+use Rattle.b2_plan.specs.Sources.{IsMissing}
+use Rattle.b2_update.specs.Plain.{build_of}
+use Rattle.b2_update.proofs.Elements.{take_whole}
+use Rattle.b2_update.proofs.Reading.{told_all, told_at, told_map, missing_more, within_more, rising_next}
+use Rattle.b2_update.proofs.inputs.missing_among.Goals as goal
+
+pub loop-path-preserved : goal.loop-path-preserved
+loop-path-preserved g c =
+    let plan = c.args.plan.now in
+    let paths = c.args.paths.now in
+    let i = c.loop-path.path-index in
+    let d = c.path-item.result in
+    let missing = c.loop-path.missing in
+    let lacks = c.in_ok-lacks.lacks in
+    let inv = c.loop-path.invariant in
+    let disk = g.H.Files.disk c.args.host.now in
+    let e : c.add_missing.new.missing ≡ cond lacks (missing ++ get_or paths i d ∷ []) missing = subst (λ p. c.add_missing.new.missing ≡ cond lacks (missing ++ p ∷ []) missing) c.path-item.is c.in_ok-add_missing.ensures in
+    record {
+      faults = c.in_ok-lacks.ensures.faults ∙ inv.faults;
+      family = c.in_ok-lacks.ensures.family ∙ inv.family;
+      disk = c.in_ok-lacks.ensures.disk ∙ inv.disk;
+      rising = rising_next paths missing c.add_missing.new.missing i d lacks c.loop-path-test.true e c.requires inv.rising inv.within;
+      within = within_more paths missing c.add_missing.new.missing i d lacks c.loop-path-test.true e inv.within;
+      told = told_all (λ (before : Disk). (path : List ℕ) → Contains c.add_missing.new.missing path ↔ (Contains (take (c.loop-path.path-index + 1) paths) path × IsMissing (build_of plan.steps plan.wanted plan.roots g.H.Children.made before.now) path)) disk
+          (λ before is. missing_more (build_of plan.steps plan.wanted plan.roots g.H.Children.made before.now) paths missing c.add_missing.new.missing i d lacks c.loop-path-test.true
+          (subst (λ p. IsTrue lacks ↔ IsMissing (build_of plan.steps plan.wanted plan.roots g.H.Children.made before.now) p) c.path-item.is
+          (told_at (λ (z : Disk). IsTrue lacks ↔ IsMissing (build_of plan.steps plan.wanted plan.roots g.H.Children.made z.now) d) (g.H.Files.disk c.loop-path.host) before (inv.disk ∙ is) c.in_ok-lacks.ensures.told)) e
+          (told_at (λ (z : Disk). (path : List ℕ) → Contains missing path ↔ (Contains (take i paths) path × IsMissing (build_of plan.steps plan.wanted plan.roots g.H.Children.made z.now) path)) disk before is inv.told));
+    }
+
+pub returns-clause-told : goal.returns-clause-told
+returns-clause-told g c =
+    let plan = c.args.plan.now in
+    let paths = c.args.paths.now in
+    let missing = c.loop-path.missing in
+    let whole = take_whole paths c.loop-path.path-index c.loop-path-test.false in
+    told_map (λ (before : Disk). (path : List ℕ) → Contains missing path ↔ (Contains (take c.loop-path.path-index paths) path × IsMissing (build_of plan.steps plan.wanted plan.roots g.H.Children.made before.now) path))
+    (λ (before : Disk). (path : List ℕ) → Contains missing path ↔ (Contains paths path × IsMissing (build_of plan.steps plan.wanted plan.roots g.H.Children.made before.now) path)) (g.H.Files.disk c.args.host.now) c.loop-path.invariant.told
+    (λ before h path. subst (λ l. Contains missing path ↔ (Contains l path × IsMissing (build_of plan.steps plan.wanted plan.roots g.H.Children.made before.now) path)) whole (h path))

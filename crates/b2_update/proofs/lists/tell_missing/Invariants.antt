@@ -1,0 +1,11 @@
+use Rattle.std.proofs.Common.{◌≡◌, take}
+use Rattle.std.specs.List.{flat_map}
+use Rattle.b2_update.specs.Reports.{missing_line}
+use Rattle.b2_update.specs.Runners.{Adds}
+use Rattle.b2_update.proofs.lists.tell_missing.Given as goal
+
+abbrev pub invariant-loop-path : goal.invariant-loop-path
+invariant-loop-path g l = record {
+  faults : g.S.Sink.faults l.out ≡ g.S.Sink.faults l.fn.out;
+  lines : Adds (flat_map missing_line (take l.path-index l.paths)) (g.S.Sink.written l.fn.out) (g.S.Sink.written l.out);
+}

@@ -1,0 +1,43 @@
+use Rattle.std.proofs.Common.{◌↔◌, ◌∙◌, ℕ, List, sym, subst}
+use Rattle.std.specs.List.{Contains, AllPairs}
+use Rattle.std.proofs.lemmas.Result.{err_from_is_err_and}
+use Rattle.b2_plan.specs.Closures.{Before}
+use Rattle.b2_update.specs.Runners.{HasStopped}
+use Rattle.b2_update.proofs.Beginnings.{goes_err}
+use Rattle.b2_update.proofs.Nexts.{come_at, stopped_at, due_at}
+use Rattle.b2_update.proofs.run_step.start_step.Goals as goal
+
+pub returns-in_err-well-clause-told : goal.returns-in_err-well-clause-told
+returns-in_err-well-clause-told g c = λ u old text list due s.
+    let (y, e, q) = err_from_is_err_and c.from_residual-in_err-well.result c.from_residual-in_err-well.ensures.1 in
+    let f0 = g.H.Files.family c.args.host.now in
+    let f1 = g.H.Files.family c.run_child.new.host in
+    let d0 = g.H.Files.disk c.args.host.now in
+    let d1 = g.H.Files.disk c.run_child.new.host in
+    let w0 = g.S.Sink.written c.args.out.now in
+    let w1 = g.S.Sink.written c.run_child.new.out in
+    let ins = c.as_slice-2.result.now in
+    let rising : AllPairs Before ins = subst (λ (l : List (List ℕ)). AllPairs Before l) (sym c.as_slice-2.ensures) c.in_ok-ins.ensures.rising in
+    let same : (path : List ℕ) → Contains ins path ↔ Contains c.args.step.now.ins path =
+    λ path. subst (λ (l : List (List ℕ)). Contains l path ↔ Contains c.args.step.now.ins path) (sym c.as_slice-2.ensures) (subst (λ (l : List (List ℕ)). Contains c.in_ok-ins.ins path ↔ Contains l path) c.as_slice.ensures (c.in_ok-ins.ensures.same path)) in
+    let line = c.as_str.ensures.value ∙ c.in_ok-line.ensures in
+    let stopped : HasStopped g.H.Children.made c.args.number c.args.step.now ins c.as_str.result.now y f0 d0 w0 f1 d1 w1 =
+    subst (λ z. HasStopped g.H.Children.made c.args.number c.args.step.now ins c.as_str.result.now z f0 d0 w0 f1 d1 w1) (sym q) c.in_err-well.ensures.stopped in
+    goes_err u old text list c.from_residual-in_err-well.result f1 d1 w1 y e
+    (stopped_at u g.H.Children.made old text list c.args.number c.args.step.now ins c.as_str.result.now y f0 f1 d0 d1 w0 w1 due s c.requires.idle rising same line stopped)
+
+pub returns-clause-told : goal.returns-clause-told
+returns-clause-told g c = λ u old text list due s.
+    let f0 = g.H.Files.family c.args.host.now in
+    let f1 = g.H.Files.family c.run_child.new.host in
+    let d0 = g.H.Files.disk c.args.host.now in
+    let d1 = g.H.Files.disk c.run_child.new.host in
+    let w0 = g.S.Sink.written c.args.out.now in
+    let w1 = g.S.Sink.written c.run_child.new.out in
+    let ins = c.as_slice-2.result.now in
+    let rising : AllPairs Before ins = subst (λ (l : List (List ℕ)). AllPairs Before l) (sym c.as_slice-2.ensures) c.in_ok-ins.ensures.rising in
+    let same : (path : List ℕ) → Contains ins path ↔ Contains c.args.step.now.ins path =
+    λ path. subst (λ (l : List (List ℕ)). Contains l path ↔ Contains c.args.step.now.ins path) (sym c.as_slice-2.ensures) (subst (λ (l : List (List ℕ)). Contains c.in_ok-ins.ins path ↔ Contains l path) c.as_slice.ensures (c.in_ok-ins.ensures.same path)) in
+    let line = c.as_str.ensures.value ∙ c.in_ok-line.ensures in
+    let come = come_at u g.H.Children.made old text list c.args.number c.args.step.now ins c.as_str.result.now c.in_ok-well.well f0 f1 d0 d1 w0 w1 due s c.requires.idle rising same line c.in_ok-well.ensures.ran in
+    c.finish_step.ensures.told u old text list due.whole (due_at u g.H.Children.made list c.args.number c.args.step.now due) come

@@ -1,0 +1,131 @@
+use Rattle.std.proofs.Common.{◌≡◌, ◌≢◌, [], ℕ, List, sym, subst, refl, length, count_by}
+use Rattle.std.proofs.lemmas.Result.{err_from_is_err_and}
+use Rattle.b2_host.specs.Standing.{Disk}
+use Rattle.b2_plan.specs.declared.step.Step.{Step}
+use Rattle.b2_update.specs.declared.outcome.Outcome.{Outcome}
+use Rattle.b2_update.specs.declared.stop.Stop.TheVariants as stops
+use Rattle.b2_update.specs.Outcomes.{ArePathsOf}
+use Rattle.b2_update.specs.Inputs.{IsMissingInput, AreListed, is_settled}
+use Rattle.b2_update.specs.Plain.{build_of}
+use Rattle.b2_update.specs.Reports.{end_lines}
+use Rattle.b2_update.specs.Runners.{Adds, AddsPart}
+use Rattle.b2_update.specs.Progress.{Stopped, IsPrepared, update_of}
+use Rattle.b2_update.proofs.Beginnings.{match_err, stands_begin, whole_update, sink_stops}
+use Rattle.b2_update.proofs.Nexts.{stopped_along, stands_along}
+use Rattle.b2_update.proofs.Reading.{told_at}
+use Rattle.b2_update.proofs.Steps.{stands_stopped}
+use Rattle.b2_update.proofs.Endings.{has_finished, end_stopped}
+use Rattle.b2_update.proofs.update.run_plan.Goals as goal
+
+pub returns-in_err-missing-clause-told : goal.returns-in_err-missing-clause-told
+returns-in_err-missing-clause-told g c = λ before is.
+    let plan = c.args.plan.now in
+    let u = update_of plan.steps plan.wanted plan.roots g.H.Children.made before.now in
+    let (y, e, q) = err_from_is_err_and c.from_residual.result c.from_residual.ensures.1 in
+    let f0 = g.H.Files.family c.args.host.now in
+    let d0 = g.H.Files.disk c.args.host.now in
+    let w0 = g.S.Sink.written c.args.out.now in
+    let f1 = g.H.Files.family c.missing_inputs.new.host in
+    let d1 = g.H.Files.disk c.missing_inputs.new.host in
+    match_err c.from_residual.result _ _ y e
+    (stopped_along u f0 w0 y f0 f1 d0 d1 w0 c.in_err-missing.ensures.family c.in_err-missing.ensures.disk (stands_stopped u f0 w0 [] f0 d0 w0 y (stands_begin u f0 d0 w0 before is refl)))
+
+pub returns-in_err-outcomes-clause-told : goal.returns-in_err-outcomes-clause-told
+returns-in_err-outcomes-clause-told g c = λ before is.
+    let plan = c.args.plan.now in
+    let u = update_of plan.steps plan.wanted plan.roots g.H.Children.made before.now in
+    let f0 = g.H.Files.family c.args.host.now in
+    let d0 = g.H.Files.disk c.args.host.now in
+    let w0 = g.S.Sink.written c.args.out.now in
+    let f1 = g.H.Files.family c.missing_inputs.new.host in
+    let d1 = g.H.Files.disk c.missing_inputs.new.host in
+    let f2 = g.H.Files.family c.run_steps.new.host in
+    let d2 = g.H.Files.disk c.run_steps.new.host in
+    let w2 = g.S.Sink.written c.run_steps.new.out in
+    let p : IsPrepared u c.in_ok-missing.missing = record {
+      whole = whole_update plan.steps plan.wanted plan.roots g.H.Children.made before.now c.requires.apart c.requires.plain;
+      missing_are = told_at (λ (d : Disk). ArePathsOf (IsMissingInput (build_of plan.steps plan.wanted plan.roots g.H.Children.made d.now)) c.in_ok-missing.missing) d0 before is c.in_ok-missing.ensures.told;
+    } in
+    let begun = stands_along u f0 w0 [] f0 f1 d0 d1 w0 c.in_ok-missing.ensures.family c.in_ok-missing.ensures.disk (stands_begin u f0 d0 w0 before is refl) in
+    let here : IsPrepared u c.as_slice.result.now = subst (λ (l : List (List ℕ)). IsPrepared u l) (sym c.as_slice.ensures) p in
+    let (y, e, q) = err_from_is_err_and c.from_residual-in_err-outcomes.result c.from_residual-in_err-outcomes.ensures.1 in
+    match_err c.from_residual-in_err-outcomes.result _ _ y e (subst (λ z. Stopped u f0 w0 z f2 d2 w2) (sym q) (c.in_err-outcomes.ensures.told before.now f0 w0 here begun))
+
+pub returns-in_err-lists-clause-told : goal.returns-in_err-lists-clause-told
+returns-in_err-lists-clause-told g c = λ before is.
+    let plan = c.args.plan.now in
+    let u = update_of plan.steps plan.wanted plan.roots g.H.Children.made before.now in
+    let f0 = g.H.Files.family c.args.host.now in
+    let d0 = g.H.Files.disk c.args.host.now in
+    let w0 = g.S.Sink.written c.args.out.now in
+    let f1 = g.H.Files.family c.missing_inputs.new.host in
+    let d1 = g.H.Files.disk c.missing_inputs.new.host in
+    let f2 = g.H.Files.family c.run_steps.new.host in
+    let d2 = g.H.Files.disk c.run_steps.new.host in
+    let w2 = g.S.Sink.written c.run_steps.new.out in
+    let p : IsPrepared u c.in_ok-missing.missing = record {
+      whole = whole_update plan.steps plan.wanted plan.roots g.H.Children.made before.now c.requires.apart c.requires.plain;
+      missing_are = told_at (λ (d : Disk). ArePathsOf (IsMissingInput (build_of plan.steps plan.wanted plan.roots g.H.Children.made d.now)) c.in_ok-missing.missing) d0 before is c.in_ok-missing.ensures.told;
+    } in
+    let begun = stands_along u f0 w0 [] f0 f1 d0 d1 w0 c.in_ok-missing.ensures.family c.in_ok-missing.ensures.disk (stands_begin u f0 d0 w0 before is refl) in
+    let here : IsPrepared u c.as_slice.result.now = subst (λ (l : List (List ℕ)). IsPrepared u l) (sym c.as_slice.ensures) p in
+    let (y, e, q) = err_from_is_err_and c.from_residual-in_err-lists.result c.from_residual-in_err-lists.ensures.1 in
+    match_err c.from_residual-in_err-lists.result _ _ y e (stands_stopped u f0 w0 _ f2 d2 w2 y (c.in_ok-outcomes.ensures.told before.now f0 w0 here begun))
+
+pub returns-in_err-tell_end-clause-told : goal.returns-in_err-tell_end-clause-told
+returns-in_err-tell_end-clause-told g c = λ before is.
+    let plan = c.args.plan.now in
+    let u = update_of plan.steps plan.wanted plan.roots g.H.Children.made before.now in
+    let f0 = g.H.Files.family c.args.host.now in
+    let d0 = g.H.Files.disk c.args.host.now in
+    let w0 = g.S.Sink.written c.args.out.now in
+    let f1 = g.H.Files.family c.missing_inputs.new.host in
+    let d1 = g.H.Files.disk c.missing_inputs.new.host in
+    let f2 = g.H.Files.family c.run_steps.new.host in
+    let d2 = g.H.Files.disk c.run_steps.new.host in
+    let w2 = g.S.Sink.written c.run_steps.new.out in
+    let p : IsPrepared u c.in_ok-missing.missing = record {
+      whole = whole_update plan.steps plan.wanted plan.roots g.H.Children.made before.now c.requires.apart c.requires.plain;
+      missing_are = told_at (λ (d : Disk). ArePathsOf (IsMissingInput (build_of plan.steps plan.wanted plan.roots g.H.Children.made d.now)) c.in_ok-missing.missing) d0 before is c.in_ok-missing.ensures.told;
+    } in
+    let begun = stands_along u f0 w0 [] f0 f1 d0 d1 w0 c.in_ok-missing.ensures.family c.in_ok-missing.ensures.disk (stands_begin u f0 d0 w0 before is refl) in
+    let here : IsPrepared u c.as_slice.result.now = subst (λ (l : List (List ℕ)). IsPrepared u l) (sym c.as_slice.ensures) p in
+    let w3 = g.S.Sink.written c.tell_end.new.out in
+    let (y, e, q) = err_from_is_err_and c.from_residual-in_err-tell_end.result c.from_residual-in_err-tell_end.ensures.1 in
+    let list = c.in_ok-outcomes.outcomes.items in
+    let lists = c.in_ok-lists.lists in
+    let s = c.in_ok-outcomes.ensures.told before.now f0 w0 here begun in
+    let size : length list ≡ length plan.steps = c.in_ok-outcomes.ensures.whole in
+    let are : AreListed list c.in_ok-missing.missing lists = subst (λ (l : List Outcome). AreListed l c.in_ok-missing.missing lists) c.as_slice-3.ensures.value c.in_ok-lists.ensures in
+    let counted = subst (λ (l : List Outcome). c.count_settled-updated.result ≡ count_by is_settled l) c.as_slice-2.ensures.value c.count_settled-updated.ensures in
+    let other : y ≢ stops.Host = subst (λ z. z ≢ stops.Host) (sym q) (sink_stops (g.S.Sink.faults c.run_steps.new.out) (g.S.Sink.faults c.tell_end.new.out) c.in_err-tell_end.field-0.0 c.in_err-tell_end.ensures.faults) in
+    let part = subst (λ (l : List Step). AddsPart (end_lines l c.count_settled-updated.result lists) w2 w3) c.as_slice-4.ensures c.in_err-tell_end.ensures.err in
+    match_err c.from_residual-in_err-tell_end.result _ _ y e (end_stopped u c.in_ok-missing.missing p f0 w0 list f2 d2 w2 w3 s size lists are c.count_settled-updated.result counted y other part)
+
+pub returns-clause-told : goal.returns-clause-told
+returns-clause-told g c = λ before is.
+    let plan = c.args.plan.now in
+    let u = update_of plan.steps plan.wanted plan.roots g.H.Children.made before.now in
+    let f0 = g.H.Files.family c.args.host.now in
+    let d0 = g.H.Files.disk c.args.host.now in
+    let w0 = g.S.Sink.written c.args.out.now in
+    let f1 = g.H.Files.family c.missing_inputs.new.host in
+    let d1 = g.H.Files.disk c.missing_inputs.new.host in
+    let f2 = g.H.Files.family c.run_steps.new.host in
+    let d2 = g.H.Files.disk c.run_steps.new.host in
+    let w2 = g.S.Sink.written c.run_steps.new.out in
+    let p : IsPrepared u c.in_ok-missing.missing = record {
+      whole = whole_update plan.steps plan.wanted plan.roots g.H.Children.made before.now c.requires.apart c.requires.plain;
+      missing_are = told_at (λ (d : Disk). ArePathsOf (IsMissingInput (build_of plan.steps plan.wanted plan.roots g.H.Children.made d.now)) c.in_ok-missing.missing) d0 before is c.in_ok-missing.ensures.told;
+    } in
+    let begun = stands_along u f0 w0 [] f0 f1 d0 d1 w0 c.in_ok-missing.ensures.family c.in_ok-missing.ensures.disk (stands_begin u f0 d0 w0 before is refl) in
+    let here : IsPrepared u c.as_slice.result.now = subst (λ (l : List (List ℕ)). IsPrepared u l) (sym c.as_slice.ensures) p in
+    let w3 = g.S.Sink.written c.tell_end.new.out in
+    let list = c.in_ok-outcomes.outcomes.items in
+    let lists = c.in_ok-lists.lists in
+    let s = c.in_ok-outcomes.ensures.told before.now f0 w0 here begun in
+    let size : length list ≡ length plan.steps = c.in_ok-outcomes.ensures.whole in
+    let are : AreListed list c.in_ok-missing.missing lists = subst (λ (l : List Outcome). AreListed l c.in_ok-missing.missing lists) c.as_slice-3.ensures.value c.in_ok-lists.ensures in
+    let counted = subst (λ (l : List Outcome). c.count_settled-updated.result ≡ count_by is_settled l) c.as_slice-2.ensures.value c.count_settled-updated.ensures in
+    let all = subst (λ (l : List Step). Adds (end_lines l c.count_settled-updated.result lists) w2 w3) c.as_slice-4.ensures c.in_ok-tell_end.ensures.ok in
+    has_finished u c.in_ok-missing.missing p f0 w0 list f2 d2 w2 w3 s size lists are c.count_settled-updated.result counted all

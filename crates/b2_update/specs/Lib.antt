@@ -1,0 +1,10 @@
+pub mod Runs
+pub mod Outcomes
+pub mod Reports
+pub mod Plain
+pub mod Updates
+pub mod Stops
+pub mod Inputs
+pub mod Runners
+pub mod Outputs
+pub mod Progress

@@ -1,0 +1,23 @@
+use Rattle.std.specs.Prelude.{◌≡◌, ℕ, ◌<◌, true, false, List, [], Some}
+use Rattle.std.specs.List.{Contains}
+use Rattle.b2_host.specs.Standing.{Folder}
+use Rattle.b2_plan.specs.declared.step.Step.{Step}
+use Rattle.b2_plan.specs.Plans.{step_at, Makes}
+use Rattle.b2_plan.specs.Sources.{Build}
+use Rattle.b2_update.specs.Runs.{Update}
+
+-- The plan is in topological order: a step reads outputs of earlier steps alone. All outputs are wanted and nothing
+-- else, and each step owes a file at each output.
+pub record IsPlain (steps : List Step) (wanted : List (List ℕ)) : Type 0 where
+  pub in_order : (i k : ℕ) (step other : Step) (path : List ℕ) → step_at steps i ≡ Some step → Contains step.ins path → Makes steps k other path → k < i
+  pub all_wanted : (i : ℕ) (step : Step) (path : List ℕ) → Makes steps i step path → Contains wanted path
+  pub wanted_made : (path : List ℕ) → Contains wanted path → (i : ℕ) × (step : Step) × Makes steps i step path
+  pub leaves_files : (i : ℕ) (step : Step) → step_at steps i ≡ Some step → step.notfile ≡ false
+
+-- The clean build of a plan from the files at entry, whose inputs are those that the steps name: no file is scanned.
+abbrev pub build_of : List Step → List (List ℕ) → List (List ℕ) → (List ℕ → List (List ℕ × List ℕ) → List ℕ → List ℕ) → Folder → Build
+build_of steps wanted roots made folder = record { steps = steps; wanted = wanted; roots = roots; folder = folder; places = λ dirs path bytes. []; made = made }
+
+-- the update that runs every step that it needs, one at a time
+abbrev pub update_all : Build → Update
+update_all build = record { build = build; stale = λ events i members. true; quit = false; jobs = 1 }

@@ -1,0 +1,42 @@
+use Rattle.std.specs.Prelude.{◌≡◌, ℕ, Result, Ok, Err}
+use Rattle.b2_host.specs.declared.fault.IoFault.{IoFault}
+use Rattle.b2_host.specs.declared.fault.IoFault.TheVariants as faults
+use Rattle.b2_host.specs.Faults.{Rose}
+use Rattle.b2_update.specs.declared.stop.Stop.{Stop}
+use Rattle.b2_update.specs.declared.stop.Stop.TheVariants as stops
+
+-- what a fault of the host stops an update with
+abbrev pub host_stop_of : IoFault → Stop
+host_stop_of faults.Failed = stops.Host
+host_stop_of faults.OutOfMemory = stops.OutOfMemory
+
+-- what a fault of the sink stops an update with
+abbrev pub sink_stop_of : IoFault → Stop
+sink_stop_of faults.Failed = stops.Sink
+sink_stop_of faults.OutOfMemory = stops.OutOfMemory
+
+-- How the two counts of faults stand to a stop. After the first fault a child may still be waited for, so that the host's
+-- count may rise too.
+abbrev pub StopTold : ℕ → ℕ → ℕ → ℕ → Stop → Type 0
+StopTold host host_after sink sink_after stops.Host = Rose host host_after × (sink_after ≡ sink)
+StopTold host host_after sink sink_after stops.Sink = Rose sink sink_after
+StopTold host host_after sink sink_after stops.OutOfMemory = sink_after ≡ sink
+
+-- the counts of the host and of the sink stay, or stand to the stop as it says
+abbrev pub CountsTold : {T : Type 0} → ℕ → ℕ → ℕ → ℕ → Result T Stop → Type 0
+CountsTold host host_after sink sink_after (Ok x) = (host_after ≡ host) × (sink_after ≡ sink)
+CountsTold host host_after sink sink_after (Err stop) = StopTold host host_after sink sink_after stop
+
+-- the same of a call on the host alone
+abbrev pub HostTold : {T : Type 0} → ℕ → ℕ → Result T Stop → Type 0
+HostTold host host_after (Ok x) = host_after ≡ host
+HostTold host host_after (Err stops.Host) = Rose host host_after
+HostTold host host_after (Err stops.Sink) = ⊥
+HostTold host host_after (Err stops.OutOfMemory) = host_after ≡ host
+
+-- the same of a call on the sink alone
+abbrev pub SinkTold : {T : Type 0} → ℕ → ℕ → Result T Stop → Type 0
+SinkTold sink sink_after (Ok x) = sink_after ≡ sink
+SinkTold sink sink_after (Err stops.Host) = ⊥
+SinkTold sink sink_after (Err stops.Sink) = Rose sink sink_after
+SinkTold sink sink_after (Err stops.OutOfMemory) = sink_after ≡ sink

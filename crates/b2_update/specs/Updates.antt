@@ -1,0 +1,103 @@
+use Rattle.std.specs.Prelude.{◌≡◌, ◌≢◌, ℕ, true, List, [], ◌++◌, Option, Some, ◌⊎◌, ⊤, IfSome}
+use Rattle.std.specs.List.{AllByRecursion}
+use Rattle.b2_host.specs.declared.children.ChildEvent.{ChildEvent}
+use Rattle.b2_host.specs.Standing.{Folder, Disk}
+use Rattle.b2_host.specs.Childhood.{Family, Given}
+use Rattle.b2_host.specs.Faults.{Rose}
+use Rattle.b2_plan.specs.declared.step.Step.{Step}
+use Rattle.b2_update.specs.declared.failed_lists.FailedLists.{FailedLists}
+use Rattle.b2_update.specs.declared.stop.Stop.{Stop}
+use Rattle.b2_update.specs.declared.stop.Stop.TheVariants as stops
+use Rattle.b2_update.specs.declared.update_answer.UpdateAnswer.{UpdateAnswer}
+use Rattle.b2_update.specs.declared.update_answer.UpdateAnswer.TheVariants as answers
+use Rattle.b2_update.specs.Runs.{Update, is_done, IsRun, IsBegun, AreFed}
+use Rattle.b2_update.specs.Outcomes.{NoneStuck, AreLists, nothing_lacks, HasCleanBytes, LeavesNothing, OnlyOutputsChange}
+use Rattle.b2_update.specs.Reports.{event_lines, report}
+
+-- How the two counts of faults stand to an answer: an answer that is no fault comes only where both are as at entry, and
+-- a fault only where its count rose.
+abbrev pub FaultsTold : ℕ → ℕ → ℕ → ℕ → UpdateAnswer → Type 0
+FaultsTold host host_after sink sink_after answers.Done = (host_after ≡ host) × (sink_after ≡ sink)
+FaultsTold host host_after sink sink_after (answers.Failed lists) = (host_after ≡ host) × (sink_after ≡ sink)
+FaultsTold host host_after sink sink_after answers.HostFault = Rose host host_after × (sink_after ≡ sink)
+FaultsTold host host_after sink sink_after answers.SinkFault = Rose sink sink_after
+FaultsTold host host_after sink sink_after answers.OutOfMemory = sink_after ≡ sink
+
+-- A run has ended: no needed step is stuck, the lists are those of the run, what is settled has the bytes of the clean
+-- build, and nothing of a failed step stands.
+pub record HasEnded (u : Update) (events : List ChildEvent) (now : Folder) (lists : FailedLists) : Type 0 where
+  pub run : IsRun u events
+  pub none_stuck : NoneStuck u events
+  pub lacking : AreLists u events lists
+  pub clean : HasCleanBytes u events now
+  pub gone : LeavesNothing u events now
+
+-- something failed, was skipped or is missing
+abbrev pub SomethingLacks : FailedLists → Type 0
+SomethingLacks lists = (lists.failed ≢ []) ⊎ (lists.skipped ≢ []) ⊎ (lists.missing ≢ [])
+
+-- what an answer says of the run
+abbrev pub AnswerTold : Update → List ChildEvent → Folder → UpdateAnswer → Type 0
+AnswerTold u events now answers.Done = HasEnded u events now nothing_lacks
+AnswerTold u events now (answers.Failed lists) = HasEnded u events now lists × SomethingLacks lists
+AnswerTold u events now answers.HostFault = ⊤
+AnswerTold u events now answers.SinkFault = ⊤
+AnswerTold u events now answers.OutOfMemory = ⊤
+
+-- What came to pass between two moments of a host that tells its files: these events, each start with what it was given,
+-- are the beginning of a run, and nothing but outputs of started steps has changed.
+pub record HasRun (u : Update) (events : List ChildEvent) (old new : Family) (before after : Folder) : Type 0 where
+  pub events_are : new.events ≡ old.events ++ events
+  pub given : List Given
+  pub given_are : IfSome old.given (λ list. new.given ≡ Some (list ++ given))
+  pub begun : IsBegun u events
+  pub fed : AreFed u events given
+  pub changed : OnlyOutputsChange u events before after
+
+-- the one text begins with the other
+abbrev pub BeginsWith : List ℕ → List ℕ → Type 0
+BeginsWith whole front = (rest : List ℕ) × (whole ≡ front ++ rest)
+
+-- the lines of a prefix of the events that holds every start
+pub record TellsStarts (steps : List Step) (events : List ChildEvent) (written : List ℕ) : Type 0 where
+  pub front : List ChildEvent
+  pub rest : List ChildEvent
+  pub whole : events ≡ front ++ rest
+  pub only_ends : AllByRecursion (λ event. is_done event ≡ true) rest
+  pub lines : written ≡ event_lines steps front
+
+-- a beginning of the lines of the events, or, of a run that has ended, of its report
+abbrev pub BeginsReport : Update → List ChildEvent → List ℕ → Type 0
+BeginsReport u events written = BeginsWith (event_lines u.build.steps events) written ⊎ ((lists : FailedLists) × AreLists u events lists × BeginsWith (report u.build.steps events lists) written)
+
+-- what an answer says of the bytes that were written
+abbrev pub WrittenBy : Update → List ChildEvent → UpdateAnswer → List ℕ → Type 0
+WrittenBy u events answers.Done written = written ≡ report u.build.steps events nothing_lacks
+WrittenBy u events (answers.Failed lists) written = written ≡ report u.build.steps events lists
+WrittenBy u events answers.HostFault written = TellsStarts u.build.steps events written
+WrittenBy u events answers.SinkFault written = BeginsReport u events written
+WrittenBy u events answers.OutOfMemory written = BeginsReport u events written
+
+-- All that an update has done, over a host that tells its files.
+pub record HasUpdated (u : Update) (old new : Family) (answer : UpdateAnswer) (before after : Disk) : Type 0 where
+  pub events : List ChildEvent
+  pub ran : HasRun u events old new before.now after.now
+  pub told : AnswerTold u events after.now answer
+
+-- the bytes that were written, where the sink tells them
+abbrev pub HasWritten : Update → UpdateAnswer → Family → Family → Option (List ℕ) → Option (List ℕ) → Type 0
+HasWritten u answer old new before after = (events : List ChildEvent) → new.events ≡ old.events ++ events → IfSome before (λ text. (written : List ℕ) × (after ≡ Some (text ++ written)) × WrittenBy u events answer written)
+
+-- the answer of an update that was stopped
+abbrev pub stop_answer : Stop → UpdateAnswer
+stop_answer stops.Host = answers.HostFault
+stop_answer stops.Sink = answers.SinkFault
+stop_answer stops.OutOfMemory = answers.OutOfMemory
+
+-- the answer of an update that has come to its end with these lists
+abbrev pub IsEndOf : FailedLists → UpdateAnswer → Type 0
+IsEndOf lists answers.Done = (lists.failed ≡ []) × (lists.skipped ≡ []) × (lists.missing ≡ [])
+IsEndOf lists (answers.Failed others) = (others ≡ lists) × SomethingLacks lists
+IsEndOf lists answers.HostFault = ⊥
+IsEndOf lists answers.SinkFault = ⊥
+IsEndOf lists answers.OutOfMemory = ⊥

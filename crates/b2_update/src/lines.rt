@@ -1,0 +1,69 @@
+//! The lines of the report.
+ghost use Rattle.std.specs.Prelude.{◌≡◌, ℕ, IfOk, string_bytes, length};
+ghost use Rattle.b2_update.specs.Reports.{first_out, start_line, failed_line, missing_line, skipped_line, summary_line};
+
+use crate::failed_lists::FailedLists;
+use b2_base::fault::OutOfMemory;
+use b2_base::path::Path;
+use b2_plan::step::Step;
+use std::alloc::Global;
+
+/// The step's first output.
+fn first_output(step: &Step) -> &str
+    ensures { result.now ≡ first_out step.now }
+{
+    match step.outs.as_slice().first() {
+        None => "",
+        Some(out) => out.as_str(),
+    }
+}
+
+/// What is written when a step starts.
+pub fn start_text(alloc: Global, step: &Step) -> Result<String, OutOfMemory>
+    ensures { IfOk result (λ text. string_bytes text ≡ start_line step.now) }
+{
+    let name = step.name.as_str();
+    let out = first_output(step);
+    Ok(format!(in alloc; "{name} {out}\n")?)
+}
+
+/// What is written when a step has failed.
+pub fn failed_text(alloc: Global, step: &Step) -> Result<String, OutOfMemory>
+    ensures { IfOk result (λ text. string_bytes text ≡ failed_line step.now) }
+{
+    let name = step.name.as_str();
+    let out = first_output(step);
+    Ok(format!(in alloc; "...failed {name} {out}...\n")?)
+}
+
+/// What is written of a missing file.
+pub fn missing_text(alloc: Global, path: &Path) -> Result<String, OutOfMemory>
+    ensures { IfOk result (λ text. string_bytes text ≡ missing_line path.now) }
+{
+    let name = path.as_str();
+    Ok(format!(in alloc; "...missing {name}...\n")?)
+}
+
+/// What is written of a step that was skipped.
+pub fn skipped_text(alloc: Global, step: &Step) -> Result<String, OutOfMemory>
+    ensures { IfOk result (λ text. string_bytes text ≡ skipped_line step.now) }
+{
+    let out = first_output(step);
+    Ok(format!(in alloc; "...skipped {out}...\n")?)
+}
+
+/// The last line of a report.
+pub fn summary_text(
+    alloc: Global,
+    updated: usize,
+    lists: &FailedLists,
+) -> Result<String, OutOfMemory>
+    ensures { IfOk result (λ text. string_bytes text ≡ summary_line updated lists.now) }
+{
+    let failed = lists.failed.as_slice().len();
+    let skipped = lists.skipped.as_slice().len();
+    let missing = lists.missing.as_slice().len();
+    Ok(format!(in alloc;
+        "updated {updated}, failed {failed}, skipped {skipped}, missing {missing}\n"
+    )?)
+}

@@ -1,0 +1,176 @@
+//! What an update that ended names, and the end of its report.
+ghost use Rattle.std.specs.Prelude.{◌≡◌, ◌≤◌, [], ◌∷◌, ◌++◌, if◌then◌else◌, ℕ, List, Some, Bool, false, IfOk, OnOk, OnErr, length, count_by, IsTrue, ◌↔◌};
+ghost use Rattle.std.specs.List.{Contains, flat_map};
+ghost use Rattle.std.specs.Option.{option_copied};
+ghost use Rattle.b2_plan.specs.Plans.{step_at};
+ghost use Rattle.b2_update.specs.Stops.{SinkTold};
+ghost use Rattle.b2_update.specs.Inputs.{outcome_at, is_settled, AreListed};
+ghost use Rattle.b2_update.specs.Outcomes.{IsListOf};
+ghost use Rattle.b2_update.specs.Reports.{missing_line, skipped_line, said_of, summary_line, end_lines};
+ghost use Rattle.b2_update.specs.Runners.{Adds, AddsPart};
+ghost use Rattle.b2_update.specs.Updates.{SomethingLacks};
+
+use crate::child::write_line;
+use crate::failed_lists::FailedLists;
+use crate::lines::{missing_text, skipped_text, summary_text};
+use crate::number_list::NumberList;
+use crate::outcome::Outcome;
+use crate::stop::Stop;
+use b2_base::fault::OutOfMemory;
+use b2_base::path::Path;
+use b2_base::path_list::PathList;
+use b2_host::sink::Sink;
+use b2_plan::step::Step;
+use std::alloc::Global;
+
+/// Whether the outcomes are the same.
+fn is_same(outcome: Outcome, wanted: Outcome) -> bool
+    ensures { IsTrue result ↔ (outcome ≡ wanted) }
+{
+    outcome == wanted
+}
+
+/// Adds a number where it is to be noted.
+fn note(numbers: &mut NumberList, number: u32, noted: bool) -> Result<(), OutOfMemory>
+    ensures { OnOk result (numbers.new ≡ (if noted then numbers.old ++ number ∷ [] else numbers.old)) }
+{
+    if noted {
+        numbers.push(number)?;
+    }
+    Ok(())
+}
+
+/// The numbers of the steps with this outcome, in rising order.
+fn numbers_of(
+    alloc: Global,
+    outcomes: &[Outcome],
+    wanted: Outcome,
+) -> Result<NumberList, OutOfMemory>
+    requires { length outcomes.now ≤ 65536 }
+    ensures { IfOk result (IsListOf (λ i. outcome_at outcomes.now i ≡ Some wanted)) }
+{
+    let mut numbers = NumberList::new(alloc);
+    for (place, outcome) in outcomes.iter().enumerate() {
+        let noted = is_same(*outcome, wanted);
+        note(&mut numbers, place as u32 + 1, noted)?;
+    }
+    Ok(numbers)
+}
+
+/// What an update names whose steps have these outcomes, and to which these inputs are missing.
+pub fn list_outcomes(
+    alloc: Global,
+    outcomes: &[Outcome],
+    missing: PathList,
+) -> Result<FailedLists, OutOfMemory>
+    requires { length outcomes.now ≤ 65536 }
+    ensures { IfOk result (AreListed outcomes.now missing) }
+{
+    let failed = numbers_of(alloc, outcomes, Outcome::Failed)?;
+    let skipped = numbers_of(alloc, outcomes, Outcome::Skipped)?;
+    Ok(FailedLists {
+        failed,
+        skipped,
+        missing,
+    })
+}
+
+/// How many steps have settled.
+pub fn count_settled(outcomes: &[Outcome]) -> usize
+    ensures { result ≡ count_by is_settled outcomes.now }
+{
+    outcomes
+        .iter()
+        .filter(|outcome| matches!(**outcome, Outcome::Settled))
+        .count()
+}
+
+/// The step with a number, where there is one.
+fn step_of(steps: &[Step], number: u32) -> Option<&Step>
+    ensures { option_copied result ≡ step_at steps.now number }
+{
+    if number == 0 {
+        return None;
+    }
+    steps.get(number as usize - 1)
+}
+
+/// Writes what is missing.
+fn tell_missing<S: Sink>(alloc: Global, out: &mut S, paths: &[Path]) -> Result<(), Stop>
+    ensures faults { SinkTold (S.faults out.old) (S.faults out.new) result }
+    ensures ok { OnOk result (Adds (flat_map missing_line paths.now) (S.written out.old) (S.written out.new)) }
+    ensures err { OnErr result (AddsPart (flat_map missing_line paths.now) (S.written out.old) (S.written out.new)) }
+{
+    for path in paths {
+        let line = missing_text(alloc, path)?;
+        write_line(out, line.as_str())?;
+    }
+    Ok(())
+}
+
+/// Writes that the step with a number was skipped.
+fn tell_one_skipped<S: Sink>(
+    alloc: Global,
+    steps: &[Step],
+    out: &mut S,
+    number: u32,
+) -> Result<(), Stop>
+    ensures faults { SinkTold (S.faults out.old) (S.faults out.new) result }
+    ensures ok { OnOk result (Adds (said_of skipped_line (step_at steps.now number)) (S.written out.old) (S.written out.new)) }
+    ensures err { OnErr result (AddsPart (said_of skipped_line (step_at steps.now number)) (S.written out.old) (S.written out.new)) }
+{
+    match step_of(steps, number) {
+        None => Ok(()),
+        Some(step) => {
+            let line = skipped_text(alloc, step)?;
+            write_line(out, line.as_str())
+        }
+    }
+}
+
+/// Writes which steps were skipped.
+fn tell_skipped<S: Sink>(
+    alloc: Global,
+    steps: &[Step],
+    out: &mut S,
+    numbers: &[u32],
+) -> Result<(), Stop>
+    ensures faults { SinkTold (S.faults out.old) (S.faults out.new) result }
+    ensures ok { OnOk result (Adds (flat_map (λ i. said_of skipped_line (step_at steps.now i)) numbers.now) (S.written out.old) (S.written out.new)) }
+    ensures err { OnErr result (AddsPart (flat_map (λ i. said_of skipped_line (step_at steps.now i)) numbers.now) (S.written out.old) (S.written out.new)) }
+{
+    for number in numbers {
+        tell_one_skipped(alloc, steps, out, *number)?;
+    }
+    Ok(())
+}
+
+/// Writes the end of the report.
+pub fn tell_end<S: Sink>(
+    alloc: Global,
+    steps: &[Step],
+    out: &mut S,
+    updated: usize,
+    lists: &FailedLists,
+) -> Result<(), Stop>
+    ensures faults { SinkTold (S.faults out.old) (S.faults out.new) result }
+    ensures ok { OnOk result (Adds (end_lines steps.now updated lists.now) (S.written out.old) (S.written out.new)) }
+    ensures err { OnErr result (AddsPart (end_lines steps.now updated lists.now) (S.written out.old) (S.written out.new)) }
+{
+    tell_missing(alloc, out, lists.missing.as_slice())?;
+    tell_skipped(alloc, steps, out, lists.skipped.as_slice())?;
+    let line = summary_text(alloc, updated, lists)?;
+    write_line(out, line.as_str())
+}
+
+/// Whether nothing failed, was skipped or is missing.
+pub fn is_empty(lists: &FailedLists) -> bool
+    ensures failed { IsTrue result → lists.now.failed ≡ [] }
+    ensures skipped { IsTrue result → lists.now.skipped ≡ [] }
+    ensures missing { IsTrue result → lists.now.missing ≡ [] }
+    ensures some { result ≡ false → SomethingLacks lists.now }
+{
+    lists.failed.as_slice().is_empty()
+        && lists.skipped.as_slice().is_empty()
+        && lists.missing.as_slice().is_empty()
+}

@@ -1,0 +1,39 @@
+//! A step's outputs after its end.
+ghost use Rattle.std.specs.Prelude.{◌≡◌, ◌≢◌, ◌↔◌, ℕ, List, None, IfOk, OnOk, IsTrue};
+ghost use Rattle.std.specs.Option.{IfSome};
+ghost use Rattle.std.specs.List.{Contains};
+ghost use Rattle.b2_host.specs.Childhood.{BothTold};
+ghost use Rattle.b2_update.specs.Stops.{HostTold};
+ghost use Rattle.b2_update.specs.Outputs.{KeepsOthers, AreGone};
+
+use crate::stop::Stop;
+use b2_base::path::Path;
+use b2_host::children::Children;
+
+/// Whether a file stands at each of the paths.
+pub fn all_stand<H: Children>(host: &mut H, outs: &[Path]) -> Result<bool, Stop>
+    ensures faults { HostTold (H.faults host.old) (H.faults host.new) result }
+    ensures family { H.family host.new ≡ H.family host.old }
+    ensures disk { H.disk host.new ≡ H.disk host.old }
+    ensures told { IfOk result (λ all. IfSome (H.disk host.old) (λ before. IsTrue all ↔ ((path : List ℕ) → Contains outs.now path → before.now path ≢ None))) }
+{
+    for out in outs {
+        if host.stat(out)?.is_none() {
+            return Ok(false);
+        }
+    }
+    Ok(true)
+}
+
+/// Leaves no file at the paths.
+pub fn remove_all<H: Children>(host: &mut H, outs: &[Path]) -> Result<(), Stop>
+    ensures faults { HostTold (H.faults host.old) (H.faults host.new) result }
+    ensures family { H.family host.new ≡ H.family host.old }
+    ensures others { BothTold (KeepsOthers outs.now) (H.disk host.old) (H.disk host.new) }
+    ensures gone { OnOk result (IfSome (H.disk host.new) (AreGone outs.now)) }
+{
+    for out in outs {
+        host.remove(out)?;
+    }
+    Ok(())
+}
