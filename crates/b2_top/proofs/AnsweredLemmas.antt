@@ -1,0 +1,419 @@
+use Rattle.std.proofs.Common.{◌≡◌, ◌≢◌, ℕ, ◌==◌, Bool, true, false, length, List, [], ◌∷◌, ◌++◌, Option, None, Some, IfSome, Result, Ok, Err, ◌⊎◌, inl, inr, refl, ap, sym, ◌∙◌, subst, arith}
+use Rattle.std.specs.Option.{option_map}
+use Rattle.std.proofs.lemmas.List.{append-nil}
+use Rattle.std.specs.List.{AllByRecursion}
+use Rattle.b2_update.specs.Runs.{is_done}
+use Rattle.b2_host.specs.declared.children.ChildEvent.{ChildEvent}
+use Rattle.b2_host.specs.Standing.{Disk}
+use Rattle.b2_host.specs.Faults.{Rose}
+use Rattle.b2_host.specs.Childhood.{Family, BothTold}
+use Rattle.b2_plan.specs.declared.step.Step.{Step}
+use Rattle.b2_plan.specs.declared.plan.Plan.{Plan}
+use Rattle.b2_update.specs.declared.update_answer.UpdateAnswer.{UpdateAnswer}
+use Rattle.b2_update.specs.declared.update_answer.UpdateAnswer.TheVariants as ends
+use Rattle.b2_update.specs.Plain.{IsPlain}
+use Rattle.b2_update.specs.Updates.{BeginsWith, FaultsTold, HasUpdated, HasWritten}
+use Rattle.b2_top.specs.declared.refusal.Fault.{Fault}
+use Rattle.b2_top.specs.declared.refusal.Fault.TheVariants as faults
+use Rattle.b2_top.specs.declared.answer.Answer.{Answer}
+use Rattle.b2_top.specs.declared.answer.Answer.TheVariants as answers
+use Rattle.b2_top.specs.declared.jamroot.Stop.{Stop}
+use Rattle.b2_top.specs.declared.jamroot.Stop.TheVariants as stops
+use Rattle.b2_top.specs.Rules.{roots}
+use Rattle.b2_top.specs.declared.load.LoadEnd.{LoadEnd}
+use Rattle.b2_top.specs.declared.load.LoadEnd.TheVariants as ends_of_load
+use Rattle.b2_top.specs.Loads.{LoadCounted, EndTold, IsExactLoad}
+use Rattle.b2_top.specs.Jamroots.{outs_of}
+use Rattle.b2_top.specs.ProjectFiles.{jamroot, jamroot_of, IsNotYet, HasOpenQuote, HasPlan}
+use Rattle.b2_top.specs.Refusals.{fault_line, open_quote, host_fault_line, usage_line}
+use Rattle.b2_top.specs.Tells.{Tells, TellsFault, IsFaultOf, TellsStop}
+use Rattle.b2_top.specs.Tells.Tells.{told, failed, no_memory}
+use Rattle.b2_top.specs.Tells.TellsFault.{told as fault_told, failed as fault_failed, no_memory as fault_no_memory}
+use Rattle.b2_top.specs.Stops.{IsStop, IsExact, IsStoppedBy}
+use Rattle.b2_top.specs.Builds.{update_at, IsCutShort, CountsTold, HasCause, CameToPass, LeavesClean, ShouldEndWell, TellsHostFault, BeginsSome, ReportedBy, HasReported}
+use Rattle.b2_top.specs.Builds.BeginsSome.{nothing, usage, refusal}
+use Rattle.b2_top.specs.Answered.{IsAnswered, IsThePlan}
+use Rattle.b2_top.proofs.BuildLemmas.{top_of, came_of, clean_of, complete_of, began, at_plan}
+use Rattle.b2_top.proofs.ReportLemmas.{reported_plain, reported_fault, no_event}
+
+-- what follows where the files are told
+both_map : {P Q : Disk → Disk → Type 0} (d e : Option Disk) → ((b a : Disk) → P b a → Q b a) → BothTold P d e → BothTold Q d e
+both_map None None f h = tt
+both_map None (Some a) f h = h
+both_map (Some b) None f h = h
+both_map (Some b) (Some a) f h = f b a h
+
+both_with : {P Q : Disk → Disk → Type 0} (R : Disk → Type 0) (d e : Option Disk) → IfSome d R → ((b a : Disk) → R b → P b a → Q b a) → BothTold P d e → BothTold Q d e
+both_with R None None r f h = tt
+both_with R None (Some a) r f h = h
+both_with R (Some b) None r f h = h
+both_with R (Some b) (Some a) r f h = f b a r h
+
+-- the same files before and after
+both_same : (Q : Disk → Disk → Type 0) (R : Disk → Type 0) (d : Option Disk) → IfSome d R → ((b : Disk) → R b → Q b b) → BothTold Q d d
+both_same Q R None r f = tt
+both_same Q R (Some b) r f = f b r
+
+cut_sink : IsCutShort answers.SinkFault
+cut_sink = inr (inl refl)
+
+cut_memory : IsCutShort answers.OutOfMemory
+cut_memory = inr (inr refl)
+
+-- no result is a stop where a plan was read
+no_stop : {X : Type 0} (plan : Plan) (stop : Stop) → IsStoppedBy (Ok plan) stop → X
+no_stop plan stop h = elim h [ inl e ↦ absurd cc | inr e ↦ absurd cc ]
+
+-- ---- a plan was read, and its update is over
+
+has_plan : (plan : Plan) (d : Option Disk) → IfSome d (IsThePlan plan) → IfSome d (λ b. HasPlan (jamroot_of b) plan.steps)
+has_plan plan None h = tt
+has_plan plan (Some b) h = h.0
+
+-- what an update ensures
+pub record IsUpdated (made : List ℕ → List (List ℕ × List ℕ) → List ℕ → List ℕ) (steps : List Step) (old new : Family) (d e : Option Disk) (host host_after sink sink_after : ℕ) (text text_after : Option (List ℕ)) (r : UpdateAnswer) : Type 0 where
+  pub plain : IsPlain steps (outs_of steps)
+  pub counts : FaultsTold host host_after sink sink_after r
+  pub done : BothTold (λ before after. HasUpdated (update_at made steps before) old new r before after) d e
+  pub wrote : BothTold (λ before after. HasWritten (update_at made steps before) r old new text text_after) d e
+  pub none_left : (new.running ≡ []) ⊎ Rose host host_after
+
+not_usage : (r : UpdateAnswer) → top_of r ≡ answers.Usage → ⊥
+not_usage ends.Done e = absurd cc
+not_usage (ends.Failed lists) e = absurd cc
+not_usage ends.HostFault e = absurd cc
+not_usage ends.SinkFault e = absurd cc
+not_usage ends.OutOfMemory e = absurd cc
+
+counts_of : (f g s t : ℕ) (r : UpdateAnswer) → FaultsTold f g s t r → CountsTold f g s t (top_of r)
+counts_of f g s t ends.Done h = h
+counts_of f g s t (ends.Failed lists) h = h
+counts_of f g s t ends.HostFault h = h.0
+counts_of f g s t ends.SinkFault h = h
+counts_of f g s t ends.OutOfMemory h = tt
+
+clean_at : (made : List ℕ → List (List ℕ × List ℕ) → List ℕ → List ℕ) (steps : List Step) (old new : Family) (d e : Option Disk) (r : UpdateAnswer) → IsPlain steps (outs_of steps) → IfSome d (λ b. HasPlan (jamroot_of b) steps)
+    → BothTold (λ before after. HasUpdated (update_at made steps before) old new r before after) d e → top_of r ≡ answers.Ok → BothTold (LeavesClean made) d e
+clean_at made steps old new d e ends.Done plain plan h ok = clean_of made steps old new d e plain plan h
+clean_at made steps old new d e (ends.Failed lists) plain plan h ok = absurd cc
+clean_at made steps old new d e ends.HostFault plain plan h ok = absurd cc
+clean_at made steps old new d e ends.SinkFault plain plan h ok = absurd cc
+clean_at made steps old new d e ends.OutOfMemory plain plan h ok = absurd cc
+
+complete_at : (made : List ℕ → List (List ℕ × List ℕ) → List ℕ → List ℕ) (plan : Plan) (old new : Family) (d e : Option Disk) (f g s t : ℕ) (r : UpdateAnswer) → IsPlain plan.steps (outs_of plan.steps) → IfSome d (IsThePlan plan)
+    → BothTold (λ before after. HasUpdated (update_at made plan.steps before) old new r before after) d e
+    → BothTold (λ b a. (steps : List Step) → ShouldEndWell made [] steps old new b → g ≡ f → t ≡ s → (top_of r ≡ answers.Ok) ⊎ IsCutShort (top_of r)) d e
+complete_at made plan old new d e f g s t ends.Done plain the h = both_map d e (λ b a u steps should c1 c2. inl refl) h
+complete_at made plan old new d e f g s t (ends.Failed lists) plain the h =
+    both_with (IsThePlan plan) d e the (λ b a is never steps should c1 c2. absurd (never (subst (λ x. ShouldEndWell made [] x old new b) (sym (is.1.planned steps should.plan)) should))) (complete_of made plan.steps old new d e lists plain h)
+complete_at made plan old new d e f g s t ends.HostFault plain the h = both_map d e (λ b a u steps should c1 c2. inr (inl refl)) h
+complete_at made plan old new d e f g s t ends.SinkFault plain the h = both_map d e (λ b a u steps should c1 c2. inr cut_sink) h
+complete_at made plan old new d e f g s t ends.OutOfMemory plain the h = both_map d e (λ b a u steps should c1 c2. inr cut_memory) h
+
+-- the call is over with the update
+pub answered_plain : (made : List ℕ → List (List ℕ × List ℕ) → List ℕ → List ℕ) (plan : Plan) (old new : Family) (d e : Option Disk) (f g s t : ℕ) (text text_after : Option (List ℕ)) (r : UpdateAnswer)
+    → IfSome d (IsThePlan plan) → IsUpdated made plan.steps old new d e f g s t text text_after r → (r ≡ ends.HostFault → ⊥) → IsAnswered made [] old new d e f g s t text text_after (top_of r)
+answered_plain made plan old new d e f g s t text text_after r the u other = record {
+  clean = clean_at made plan.steps old new d e r u.plain (has_plan plan d the) u.done;
+  came = came_of made plan.steps old new d e r (has_plan plan d the) u.done;
+  counts = counts_of f g s t r u.counts;
+  usage = λ h. absurd (h refl);
+  no_usage = λ h. absurd (not_usage r h);
+  not_yet = both_with (IsThePlan plan) d e the (λ b a is h line should. no_stop plan _ (is.1.not_yet line should.1)) u.done;
+  open_quote_at = both_with (IsThePlan plan) d e the (λ b a is h line should. no_stop plan _ (is.1.open_quote line should.1)) u.done;
+  complete = complete_at made plan old new d e f g s t r u.plain the u.done;
+  reported = reported_plain made plan.steps s t old new text text_after d e r (has_plan plan d the) other u.wrote;
+  none_left = u.none_left;
+}
+
+-- the answer after a fault of the host
+data IsFaultAnswer (result : Answer) : Type 0 where
+  is_host : result ≡ answers.HostFault → IsFaultAnswer result
+  is_memory : result ≡ answers.OutOfMemory → IsFaultAnswer result
+
+fault_answer : (line : List ℕ) (f g : ℕ) (before after : Option (List ℕ)) (result : Answer) → TellsFault line f g before after result → IsFaultAnswer result
+fault_answer line f g before after result (fault_told is count taken) = is_host is
+fault_answer line f g before after result (fault_failed part is rose front taken) = is_host is
+fault_answer line f g before after result (fault_no_memory is count taken) = is_memory is
+
+cut_fault : (result : Answer) → IsFaultAnswer result → IsCutShort result
+cut_fault result (is_host e) = inl e
+cut_fault result (is_memory e) = inr (inr e)
+
+fault_counts : (f g s t : ℕ) (result : Answer) → Rose f g → IsFaultAnswer result → CountsTold f g s t result
+fault_counts f g s t result rose (is_host e) = subst (CountsTold f g s t) (sym e) rose
+fault_counts f g s t result rose (is_memory e) = subst (CountsTold f g s t) (sym e) tt
+
+fault_came : (made : List ℕ → List (List ℕ × List ℕ) → List ℕ → List ℕ) (words : List (List ℕ)) (old new : Family) (d e : Option Disk) (result : Answer) → IsFaultAnswer result → BothTold (CameToPass made words answers.HostFault old new) d e → BothTold (CameToPass made words result old new) d e
+fault_came made words old new d e result (is_host same) h = subst (λ r. BothTold (CameToPass made words r old new) d e) (sym same) h
+fault_came made words old new d e result (is_memory same) h = subst (λ r. BothTold (CameToPass made words r old new) d e) (sym same) (both_map d e (λ b a c. c) h)
+
+not_ok : (result : Answer) → IsFaultAnswer result → result ≡ answers.Ok → ⊥
+not_ok result (is_host e) ok = absurd cc
+not_ok result (is_memory e) ok = absurd cc
+
+not_used : (result : Answer) → IsFaultAnswer result → result ≡ answers.Usage → ⊥
+not_used result (is_host e) ok = absurd cc
+not_used result (is_memory e) ok = absurd cc
+
+-- a fault of the host ended the update
+pub answered_fault : (made : List ℕ → List (List ℕ × List ℕ) → List ℕ → List ℕ) (plan : Plan) (old new : Family) (d e : Option Disk) (f g s t v : ℕ) (text mid text_after : Option (List ℕ)) (result : Answer)
+    → IfSome d (IsThePlan plan) → IsUpdated made plan.steps old new d e f g s t text mid ends.HostFault → TellsFault host_fault_line t v mid text_after result → IsAnswered made [] old new d e f g s v text text_after result
+answered_fault made plan old new d e f g s t v text mid text_after result the u tells =
+    let is : IsFaultAnswer result = fault_answer host_fault_line t v mid text_after result tells in
+    record {
+      clean = λ ok. absurd (not_ok result is ok);
+      came = fault_came made [] old new d e result is (came_of made plan.steps old new d e ends.HostFault (has_plan plan d the) u.done);
+      counts = fault_counts f g s v result u.counts.0 is;
+      usage = λ h. absurd (h refl);
+      no_usage = λ h. absurd (not_used result is h);
+      not_yet = both_map d e (λ b a h line should. inr (cut_fault result is)) u.done;
+      open_quote_at = both_map d e (λ b a h line should. inr (cut_fault result is)) u.done;
+      complete = both_map d e (λ b a h steps should c1 c2. inr (cut_fault result is)) u.done;
+      reported = reported_fault made plan.steps s t v old new text mid text_after d e result (has_plan plan d the) u.counts.1 u.wrote tells;
+      none_left = u.none_left;
+    }
+
+-- ---- nothing was started
+
+-- anything of each told disk
+abbrev Anything : Disk → Type 0
+Anything disk = Unit {0}
+
+any_some : (d : Option Disk) → IfSome d Anything
+any_some None = tt
+any_some (Some b) = tt
+
+-- the report of one line, where nothing came to pass
+line_reported : (made : List ℕ → List (List ℕ × List ℕ) → List ℕ → List ℕ) (words : List (List ℕ)) (answer : Answer) (line : List ℕ) (f g : ℕ) (family : Family) (text text_after : Option (List ℕ)) (disk : Disk) (result : Answer)
+    → ((events : List ChildEvent) → ReportedBy made words f g answer disk events line) → ((events : List ChildEvent) (part : List ℕ) → BeginsWith line part → BeginsSome made words disk events part)
+    → Tells answer line f g text text_after result → HasReported made words f g result family family text text_after disk
+line_reported made words answer line f g family None text_after disk result whole begins tells = λ events are. tt
+line_reported made words answer line f g family (Some so_far) text_after disk result whole begins (told is count taken) = λ events are. (line, taken, subst (λ r. ReportedBy made words f g r disk events line) (sym is) (whole events))
+line_reported made words answer line f g family (Some so_far) text_after disk result whole begins (failed part is rose front taken) = λ events are. (part, taken, subst (λ r. ReportedBy made words f g r disk events part) (sym is) (begins events part front))
+line_reported made words answer line f g family (Some so_far) text_after disk result whole begins (no_memory is count taken) = λ events are. ([], taken, subst (λ r. ReportedBy made words f g r disk events []) (sym is) (nothing refl))
+
+-- the answer that a line was told for, or one that cuts it short
+data IsLineAnswer (answer result : Answer) (f g : ℕ) : Type 0 where
+  is_told : result ≡ answer → g ≡ f → IsLineAnswer answer result f g
+  is_sink : result ≡ answers.SinkFault → Rose f g → IsLineAnswer answer result f g
+  is_short : result ≡ answers.OutOfMemory → IsLineAnswer answer result f g
+
+line_answer : (answer : Answer) (line : List ℕ) (f g : ℕ) (before after : Option (List ℕ)) (result : Answer) → Tells answer line f g before after result → IsLineAnswer answer result f g
+line_answer answer line f g before after result (told is count taken) = is_told is count
+line_answer answer line f g before after result (failed part is rose front taken) = is_sink is rose
+line_answer answer line f g before after result (no_memory is count taken) = is_short is
+
+-- what holds of the told answer and of those that cut it short holds of the result
+by_line : (P : Answer → Type 0) (answer result : Answer) (f g : ℕ) → (g ≡ f → P answer) → (Rose f g → P answers.SinkFault) → P answers.OutOfMemory → IsLineAnswer answer result f g → P result
+by_line P answer result f g a b c (is_told is count) = subst P (sym is) (a count)
+by_line P answer result f g a b c (is_sink is rose) = subst P (sym is) (b rose)
+by_line P answer result f g a b c (is_short is) = subst P (sym is) c
+
+-- the usage line was told
+pub answered_usage : (made : List ℕ → List (List ℕ × List ℕ) → List ℕ → List ℕ) (words : List (List ℕ)) (family : Family) (d : Option Disk) (f s t : ℕ) (text text_after : Option (List ℕ)) (result : Answer)
+    → words ≢ [] → family.running ≡ [] → Tells answers.Usage usage_line s t text text_after result → IsAnswered made words family family d d f f s t text text_after result
+answered_usage made words family d f s t text text_after result some idle tells =
+    let is : IsLineAnswer answers.Usage result s t = line_answer answers.Usage usage_line s t text text_after result tells in
+    record {
+      clean = by_line (λ r. r ≡ answers.Ok → BothTold (LeavesClean made) d d) answers.Usage result s t (λ c ok. absurd cc) (λ rose ok. absurd cc) (λ ok. absurd cc) is;
+      came = both_same (CameToPass made words result family family) Anything d (any_some d) (λ b x. by_line (λ r. CameToPass made words r family family b b) answers.Usage result s t (λ c. (record { family = refl; disk = refl }, some)) (λ rose. inl (record { family = refl; disk = refl })) (inl (record { family = refl; disk = refl })) is);
+      counts = by_line (CountsTold f f s t) answers.Usage result s t (λ c. (refl, c)) (λ rose. rose) tt is;
+      usage = λ h. by_line (λ r. (r ≡ answers.Usage) ⊎ IsCutShort r) answers.Usage result s t (λ c. inl refl) (λ rose. inr cut_sink) (inr cut_memory) is;
+      no_usage = λ h. some;
+      not_yet = both_same _ Anything d (any_some d) (λ b x line should. absurd (some should.0));
+      open_quote_at = both_same _ Anything d (any_some d) (λ b x line should. absurd (some should.0));
+      complete = both_same _ Anything d (any_some d) (λ b x steps should c1 c2. absurd (some should.no_word));
+      reported = both_same (λ b a. HasReported made words s t result family family text text_after b) Anything d (any_some d) (λ b x. line_reported made words answers.Usage usage_line s t family text text_after b result (λ events. refl) (λ events part front. usage some front) tells);
+      none_left = inl idle;
+    }
+
+-- what was written before, and these bytes
+abbrev HasTaken_of : List ℕ → Option (List ℕ) → Option (List ℕ)
+HasTaken_of bytes before = option_map (λ so_far. so_far ++ bytes) before
+
+-- where no event came, the refusal is the whole report
+at_start : {b : Disk} (events : List ChildEvent) → events ≡ [] → TellsHostFault b events host_fault_line
+at_start events none = record { steps = []; lines = []; planned = inr none; tells = record { front = []; rest = events; whole = refl; only_ends = subst (λ (e : List ChildEvent). AllByRecursion (λ event. is_done event ≡ true) e) (sym none) tt; lines = refl }; whole_is = refl }
+
+-- the host failed before anything was started
+pub answered_unread : (made : List ℕ → List (List ℕ × List ℕ) → List ℕ → List ℕ) (family : Family) (d : Option Disk) (f g s t : ℕ) (text text_after : Option (List ℕ)) (result : Answer)
+    → Rose f g → family.running ≡ [] → TellsFault host_fault_line s t text text_after result → IsAnswered made [] family family d d f g s t text text_after result
+answered_unread made family d f g s t text text_after result rose idle tells =
+    let is : IsFaultAnswer result = fault_answer host_fault_line s t text text_after result tells in
+    record {
+      clean = λ ok. absurd (not_ok result is ok);
+      came = both_same (CameToPass made [] result family family) Anything d (any_some d) (λ b x. came b is);
+      counts = fault_counts f g s t result rose is;
+      usage = λ h. absurd (h refl);
+      no_usage = λ h. absurd (not_used result is h);
+      not_yet = both_same _ Anything d (any_some d) (λ b x line should. inr (cut_fault result is));
+      open_quote_at = both_same _ Anything d (any_some d) (λ b x line should. inr (cut_fault result is));
+      complete = both_same _ Anything d (any_some d) (λ b x steps should c1 c2. inr (cut_fault result is));
+      reported = both_same (λ b a. HasReported made [] s t result family family text text_after b) Anything d (any_some d) (λ b x. reported b text refl);
+      none_left = inl idle;
+    }
+  where
+    came : (b : Disk) → IsFaultAnswer result → CameToPass made [] result family family b b
+    came b (is_host e) = subst (λ r. CameToPass made [] r family family b b) (sym e) (inl (record { family = refl; disk = refl }))
+    came b (is_memory e) = subst (λ r. CameToPass made [] r family family b b) (sym e) (inl (record { family = refl; disk = refl }))
+
+    told_fault : (b : Disk) (events : List ChildEvent) (written : List ℕ) → events ≡ [] → TellsFault host_fault_line s t text text_after result → written ≡ [] → (so_far : List ℕ) → text ≡ Some so_far → (all : List ℕ) × (text_after ≡ Some (so_far ++ all)) × ReportedBy made [] s t result b events all
+    told_fault b events written none (fault_told is count taken) nil so_far e =
+        (host_fault_line, taken ∙ ap (λ x. HasTaken_of host_fault_line x) e, subst (λ r. ReportedBy made [] s t r b events host_fault_line) (sym is) (host_fault_line, at_start events none, inl refl))
+    told_fault b events written none (fault_failed part is rose front taken) nil so_far e =
+        (part, taken ∙ ap (λ x. HasTaken_of part x) e, subst (λ r. ReportedBy made [] s t r b events part) (sym is) (host_fault_line, at_start events none, inr (rose, front)))
+    told_fault b events written none (fault_no_memory is count taken) nil so_far e =
+        ([], taken ∙ ap (λ x. HasTaken_of [] x) e, subst (λ r. ReportedBy made [] s t r b events []) (sym is) (nothing refl))
+
+    reported : (b : Disk) (x : Option (List ℕ)) → text ≡ x → HasReported made [] s t result family family text text_after b
+    reported b None e = λ events are. subst (λ x. IfSome x (λ so_far. (written : List ℕ) × (text_after ≡ Some (so_far ++ written)) × ReportedBy made [] s t result b events written)) (sym e) tt
+    reported b (Some so_far) e = λ events are. subst (λ x. IfSome x (λ so_far. (written : List ℕ) × (text_after ≡ Some (so_far ++ written)) × ReportedBy made [] s t result b events written)) (sym e) (told_fault b events [] (no_event family.events events are) tells refl so_far e)
+
+-- ---- the project's file is refused
+
+-- what a load that stopped says of the project's file
+abbrev pub IsTheStop : Stop → Disk → Type 0
+IsTheStop stop disk = IsStop (jamroot_of disk) stop × IsExact (jamroot_of disk) (Err stop)
+
+line_of_stop : (r : Result Plan Stop) (n line : ℕ) → r ≡ Err (stops.NotYet n) → IsStoppedBy r (stops.NotYet line) → n ≡ line
+line_of_stop r n line e h = elim h [ inl same ↦ cc | inr memory ↦ absurd cc ]
+
+line_of_quote : (r : Result Plan Stop) (n line : ℕ) → r ≡ Err (stops.OpenQuote n) → IsStoppedBy r (stops.OpenQuote line) → n ≡ line
+line_of_quote r n line e h = elim h [ inl same ↦ cc | inr memory ↦ absurd cc ]
+
+other_stop : {X : Type 0} (r : Result Plan Stop) (n line : ℕ) → r ≡ Err (stops.NotYet n) → IsStoppedBy r (stops.OpenQuote line) → X
+other_stop r n line e h = elim h [ inl same ↦ absurd cc | inr memory ↦ absurd cc ]
+
+other_quote : {X : Type 0} (r : Result Plan Stop) (n line : ℕ) → r ≡ Err (stops.OpenQuote n) → IsStoppedBy r (stops.NotYet line) → X
+other_quote r n line e h = elim h [ inl same ↦ absurd cc | inr memory ↦ absurd cc ]
+
+-- the refusal of a stop has its cause, and is the only one
+record IsTheFault (fault : Fault) (disk : Disk) : Type 0 where
+  cause : HasCause [] disk fault
+  not_yet : (line : ℕ) → IsNotYet (jamroot_of disk) line → fault ≡ faults.NotYet jamroot line
+  open_quote_at : (line : ℕ) → HasOpenQuote (jamroot_of disk) line → fault ≡ open_quote line
+  no_plan : (steps : List Step) → HasPlan (jamroot_of disk) steps → ⊥
+
+the_fault : (stop : Stop) (fault : Fault) (disk : Disk) → IsFaultOf stop fault → IsTheStop stop disk → IsTheFault fault disk
+the_fault (stops.NotYet n) fault disk is the = subst (λ x. IsTheFault x disk) (sym is) (record {
+  cause = (refl, (refl, the.0));
+  not_yet = λ line h. ap (faults.NotYet jamroot) (line_of_stop (Err (stops.NotYet n)) n line refl (the.1.not_yet line h));
+  open_quote_at = λ line h. other_stop (Err (stops.NotYet n)) n line refl (the.1.open_quote line h);
+  no_plan = λ steps h. no_end n (the.1.planned steps h);
+})
+  where
+    no_end : (n : ℕ) → stops.NotYet n ≡ stops.OutOfMemory → ⊥
+    no_end n e = cc
+the_fault (stops.OpenQuote n) fault disk is the = subst (λ x. IsTheFault x disk) (sym is) (record {
+  cause = (n, refl, (refl, the.0));
+  not_yet = λ line h. other_quote (Err (stops.OpenQuote n)) n line refl (the.1.not_yet line h);
+  open_quote_at = λ line h. ap open_quote (line_of_quote (Err (stops.OpenQuote n)) n line refl (the.1.open_quote line h));
+  no_plan = λ steps h. no_end n (the.1.planned steps h);
+})
+  where
+    no_end : (n : ℕ) → stops.OpenQuote n ≡ stops.OutOfMemory → ⊥
+    no_end n e = cc
+the_fault stops.OutOfMemory fault disk is the = absurd is
+
+the_fault_told : (stop : Stop) (fault : Fault) (d : Option Disk) → IsFaultOf stop fault → IfSome d (IsTheStop stop) → IfSome d (IsTheFault fault)
+the_fault_told stop fault None is the = tt
+the_fault_told stop fault (Some b) is the = the_fault stop fault b is the
+
+answered_refused : (made : List ℕ → List (List ℕ × List ℕ) → List ℕ → List ℕ) (family : Family) (d : Option Disk) (f s t : ℕ) (text text_after : Option (List ℕ)) (result : Answer) (fault : Fault)
+    → IfSome d (IsTheFault fault) → family.running ≡ [] → Tells (answers.Refused fault) (fault_line fault) s t text text_after result → IsAnswered made [] family family d d f f s t text text_after result
+answered_refused made family d f s t text text_after result fault the idle tells =
+    let is : IsLineAnswer (answers.Refused fault) result s t = line_answer (answers.Refused fault) (fault_line fault) s t text text_after result tells in
+    record {
+      clean = by_line (λ r. r ≡ answers.Ok → BothTold (LeavesClean made) d d) (answers.Refused fault) result s t (λ c ok. absurd cc) (λ rose ok. absurd cc) (λ ok. absurd cc) is;
+      came = both_same (CameToPass made [] result family family) (IsTheFault fault) d the (λ b x. by_line (λ r. CameToPass made [] r family family b b) (answers.Refused fault) result s t (λ c. (record { family = refl; disk = refl }, x.cause)) (λ rose. inl (record { family = refl; disk = refl })) (inl (record { family = refl; disk = refl })) is);
+      counts = by_line (CountsTold f f s t) (answers.Refused fault) result s t (λ c. (refl, c)) (λ rose. rose) tt is;
+      usage = λ h. absurd (h refl);
+      no_usage = λ e. absurd (by_line (λ r. r ≡ answers.Usage → ⊥) (answers.Refused fault) result s t (λ c e. cc) (λ rose e. cc) (λ e. cc) is e);
+      not_yet = both_same _ (IsTheFault fault) d the (λ b x line should. by_line (λ r. (r ≡ answers.Refused (faults.NotYet jamroot line)) ⊎ IsCutShort r) (answers.Refused fault) result s t (λ c. inl (ap answers.Refused (x.not_yet line should.1))) (λ rose. inr cut_sink) (inr cut_memory) is);
+      open_quote_at = both_same _ (IsTheFault fault) d the (λ b x line should. by_line (λ r. (r ≡ answers.Refused (open_quote line)) ⊎ IsCutShort r) (answers.Refused fault) result s t (λ c. inl (ap answers.Refused (x.open_quote_at line should.1))) (λ rose. inr cut_sink) (inr cut_memory) is);
+      complete = both_same _ (IsTheFault fault) d the (λ b x steps should c1 c2. absurd (x.no_plan steps should.plan));
+      reported = both_same (λ b a. HasReported made [] s t result family family text text_after b) (IsTheFault fault) d the (λ b x. line_reported made [] (answers.Refused fault) (fault_line fault) s t family text text_after b result (λ events. refl) (λ events part front. refusal fault x.cause front) tells);
+      none_left = inl idle;
+    }
+
+-- memory ran out before anything was started or written
+answered_memory : (made : List ℕ → List (List ℕ × List ℕ) → List ℕ → List ℕ) (family : Family) (d : Option Disk) (f s t : ℕ) (text text_after : Option (List ℕ)) (result : Answer)
+    → family.running ≡ [] → result ≡ answers.OutOfMemory → text_after ≡ text → IsAnswered made [] family family d d f f s t text text_after result
+answered_memory made family d f s t text text_after result idle is same = subst (IsAnswered made [] family family d d f f s t text text_after) (sym is) (record {
+  clean = λ ok. absurd cc;
+  came = both_same (CameToPass made [] answers.OutOfMemory family family) Anything d (any_some d) (λ b x. inl (record { family = refl; disk = refl }));
+  counts = tt;
+  usage = λ h. absurd (h refl);
+  no_usage = λ e. absurd cc;
+  not_yet = both_same _ Anything d (any_some d) (λ b x line should. inr cut_memory);
+  open_quote_at = both_same _ Anything d (any_some d) (λ b x line should. inr cut_memory);
+  complete = both_same _ Anything d (any_some d) (λ b x steps should c1 c2. inr cut_memory);
+  reported = both_same (λ b a. HasReported made [] s t answers.OutOfMemory family family text text_after b) Anything d (any_some d) (λ b x. quiet b text text_after same);
+  none_left = inl idle;
+})
+  where
+    quiet : (b : Disk) (x y : Option (List ℕ)) → y ≡ x → HasReported made [] s t answers.OutOfMemory family family x y b
+    quiet b None y e = λ events are. tt
+    quiet b (Some so_far) y e = λ events are. ([], e ∙ ap Some (sym (append-nil so_far)), nothing refl)
+
+-- the project's file was refused, or memory ran out
+pub answered_stop : (made : List ℕ → List (List ℕ × List ℕ) → List ℕ → List ℕ) (family : Family) (d : Option Disk) (f s t : ℕ) (text text_after : Option (List ℕ)) (result : Answer) (stop : Stop)
+    → IfSome d (IsTheStop stop) → family.running ≡ [] → TellsStop stop s t text text_after result → IsAnswered made [] family family d d f f s t text text_after result
+answered_stop made family d f s t text text_after result stop the idle tells = elim tells [
+  | inl told_it ↦ answered_refused made family d f s t text text_after result told_it.0 (the_fault_told stop told_it.0 d told_it.1 the) idle told_it.2
+  | inr memory ↦ answered_memory made family d f s t text text_after result idle memory.0 memory.2
+]
+
+-- what an update ensures, as the plan's own wanted files and roots say it
+pub updated_at : (made : List ℕ → List (List ℕ × List ℕ) → List ℕ → List ℕ) (steps : List Step) (wants folders : List (List ℕ)) (old new : Family) (d e : Option Disk) (f g s t : ℕ) (text text_after : Option (List ℕ)) (r : UpdateAnswer)
+    → wants ≡ outs_of steps → folders ≡ roots → IsPlain steps wants → FaultsTold f g s t r → BothTold (λ before after. HasUpdated (began made steps wants folders before) old new r before after) d e → BothTold (λ before after. HasWritten (began made steps wants folders before) r old new text text_after) d e → (new.running ≡ []) ⊎ Rose f g
+    → IsUpdated made steps old new d e f g s t text text_after r
+updated_at made steps wants folders old new d e f g s t text text_after r w fr plain counts done wrote none_left = record {
+  plain = subst (IsPlain steps) w plain;
+  counts = counts;
+  done = at_plan (λ u. BothTold (λ before after. HasUpdated (u before) old new r before after) d e) made steps wants folders w fr done;
+  wrote = at_plan (λ u. BothTold (λ before after. HasWritten (u before) r old new text text_after) d e) made steps wants folders w fr wrote;
+  none_left = none_left;
+}
+
+-- the same call, begun before the project's file was read
+pub from_load : (made : List ℕ → List (List ℕ × List ℕ) → List ℕ → List ℕ) (words : List (List ℕ)) (first old new : Family) (c d e : Option Disk) (b f g s t : ℕ) (text text_after : Option (List ℕ)) (result : Answer)
+    → words ≡ [] → old ≡ first → d ≡ c → f ≡ b → IsAnswered made [] old new d e f g s t text text_after result → IsAnswered made words first new c e b g s t text text_after result
+from_load made words first old new c d e b f g s t text text_after result none same same_disk same_count h =
+    subst (λ w. IsAnswered made w first new c e b g s t text text_after result) (sym none)
+    (subst (λ x. IsAnswered made [] x new c e b g s t text text_after result) same
+    (subst (λ x. IsAnswered made [] old new x e b g s t text text_after result) same_disk
+    (subst (λ x. IsAnswered made [] old new d e x g s t text text_after result) same_count h)))
+
+-- nothing was started: the children, the files and the count of the host are as they were when the file was read
+pub from_unread : (made : List ℕ → List (List ℕ × List ℕ) → List ℕ → List ℕ) (words : List (List ℕ)) (old new : Family) (d e : Option Disk) (f g s t : ℕ) (text text_after : Option (List ℕ)) (result : Answer)
+    → words ≡ [] → new ≡ old → e ≡ d → IsAnswered made [] old old d d f g s t text text_after result → IsAnswered made words old new d e f g s t text text_after result
+from_unread made words old new d e f g s t text text_after result none same same_disk h =
+    subst (λ w. IsAnswered made w old new d e f g s t text text_after result) (sym none)
+    (subst (λ x. IsAnswered made [] old x d e f g s t text text_after result) (sym same)
+    (subst (λ x. IsAnswered made [] old old d x f g s t text text_after result) (sym same_disk) h))
+
+pub no_words : (words : List (List ℕ)) (empty : Bool) → empty ≡ (length words == 0) → empty ≡ true → words ≡ []
+no_words [] empty e t = refl
+no_words (w ∷ words) empty e t = let same : (length (w ∷ words) == 0) ≡ true = sym e ∙ t in absurd (grind (arith, same))
+
+pub some_words : (words : List (List ℕ)) (empty : Bool) → empty ≡ (length words == 0) → empty ≡ false → words ≢ []
+some_words [] empty e t = λ h. absurd cc
+some_words (w ∷ words) empty e t = λ h. cc
+
+-- what a load that stopped ensures
+pub load_stopped : (d : Option Disk) (f g : ℕ) (fault : LoadEnd) (stop : Stop) → fault ≡ ends_of_load.Stopped stop → LoadCounted {T = Plan} f g (Err fault) → EndTold d fault → IfSome d (λ before. IsExactLoad (jamroot_of before) (Err fault)) → (g ≡ f) × IfSome d (IsTheStop stop)
+load_stopped d f g fault stop e counts says exact =
+    (subst (λ x. LoadCounted {T = Plan} f g (Err x)) e counts, both d (subst (EndTold d) e says) (subst (λ x. IfSome d (λ before. IsExactLoad (jamroot_of before) (Err x))) e exact))
+  where
+    both : (d : Option Disk) → EndTold d (ends_of_load.Stopped stop) → IfSome d (λ before. IsExactLoad (jamroot_of before) (Err (ends_of_load.Stopped stop))) → IfSome d (IsTheStop stop)
+    both None a b = tt
+    both (Some disk) a b = (a, b)
+
+pub load_rose : (f g : ℕ) (fault : LoadEnd) → fault ≡ ends_of_load.Host → LoadCounted {T = Plan} f g (Err fault) → Rose f g
+load_rose f g fault e counts = subst (λ x. LoadCounted {T = Plan} f g (Err x)) e counts
+
+pub same_count : (made : List ℕ → List (List ℕ × List ℕ) → List ℕ → List ℕ) (family : Family) (d : Option Disk) (f g s t : ℕ) (text text_after : Option (List ℕ)) (result : Answer)
+    → g ≡ f → IsAnswered made [] family family d d f f s t text text_after result → IsAnswered made [] family family d d f g s t text text_after result
+same_count made family d f g s t text text_after result e h = subst (λ x. IsAnswered made [] family family d d f x s t text text_after result) (sym e) h

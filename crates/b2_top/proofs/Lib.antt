@@ -1,0 +1,15 @@
+pub mod NameLemmas
+pub mod ReadLemmas
+pub mod WholeLemmas
+pub mod BodyLemmas
+pub mod NormalLemmas
+pub mod RuleLemmas
+pub mod StepLemmas
+pub mod PlanLemmas
+pub mod LawLemmas
+pub mod PlainTexts
+pub mod Exactly
+pub mod BuildLemmas
+pub mod ReportLemmas
+pub mod AnsweredLemmas
+pub mod TellLemmas

@@ -1,0 +1,31 @@
+use Rattle.std.specs.Prelude.{◌≡◌, ◌≢◌, ℕ, List, [], Option, Ok, ◌⊎◌}
+use Rattle.b2_host.specs.Standing.{Disk}
+use Rattle.b2_host.specs.Faults.{Rose}
+use Rattle.b2_host.specs.Childhood.{Family, BothTold}
+use Rattle.b2_plan.specs.declared.step.Step.{Step}
+use Rattle.b2_plan.specs.declared.plan.Plan.{Plan}
+use Rattle.b2_top.specs.declared.refusal.Fault.TheVariants as faults
+use Rattle.b2_top.specs.declared.answer.Answer.{Answer}
+use Rattle.b2_top.specs.declared.answer.Answer.TheVariants as answers
+use Rattle.b2_top.specs.ProjectFiles.{jamroot, jamroot_of, HasPlan}
+use Rattle.b2_top.specs.Stops.{IsExact}
+use Rattle.b2_top.specs.Refusals.{open_quote}
+use Rattle.b2_top.specs.Builds.{IsCutShort, CountsTold, ShouldBeNotYet, ShouldBeOpenQuote, CameToPass, LeavesClean, ShouldEndWell, HasReported}
+
+-- All that a call of the build command promises: with these words, what there was of children before and after, the
+-- files, the counts of faults of host and sink, and what was written.
+pub record IsAnswered (made : List ℕ → List (List ℕ × List ℕ) → List ℕ → List ℕ) (words : List (List ℕ)) (old new : Family) (before after : Option Disk) (host host_after sink sink_after : ℕ) (text text_after : Option (List ℕ)) (result : Answer) : Type 0 where
+  pub clean : result ≡ answers.Ok → BothTold (LeavesClean made) before after
+  pub came : BothTold (CameToPass made words result old new) before after
+  pub counts : CountsTold host host_after sink sink_after result
+  pub usage : words ≢ [] → (result ≡ answers.Usage) ⊎ IsCutShort result
+  pub no_usage : result ≡ answers.Usage → words ≢ []
+  pub not_yet : BothTold (λ b a. (line : ℕ) → ShouldBeNotYet words b line → (result ≡ answers.Refused (faults.NotYet jamroot line)) ⊎ IsCutShort result) before after
+  pub open_quote_at : BothTold (λ b a. (line : ℕ) → ShouldBeOpenQuote words b line → (result ≡ answers.Refused (open_quote line)) ⊎ IsCutShort result) before after
+  pub complete : BothTold (λ b a. (steps : List Step) → ShouldEndWell made words steps old new b → host_after ≡ host → sink_after ≡ sink → (result ≡ answers.Ok) ⊎ IsCutShort result) before after
+  pub reported : BothTold (λ b a. HasReported made words sink sink_after result old new text text_after b) before after
+  pub none_left : (new.running ≡ []) ⊎ Rose host host_after
+
+-- the plan was read from the project's file, and nothing else can have been
+abbrev pub IsThePlan : Plan → Disk → Type 0
+IsThePlan plan disk = HasPlan (jamroot_of disk) plan.steps × IsExact (jamroot_of disk) (Ok plan)

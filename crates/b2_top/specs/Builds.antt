@@ -1,0 +1,126 @@
+use Rattle.std.specs.Prelude.{◌≡◌, ◌≢◌, ℕ, List, [], ◌++◌, Option, Some, ◌⊎◌, ⊤, IfSome, false}
+use Rattle.std.specs.List.{Contains}
+use Rattle.b2_host.specs.declared.children.ChildEvent.{ChildEvent}
+use Rattle.b2_host.specs.declared.children.ChildEvent.TheVariants.{Done}
+use Rattle.b2_host.specs.Standing.{Disk}
+use Rattle.b2_host.specs.Childhood.{Family}
+use Rattle.b2_host.specs.Faults.{Rose}
+use Rattle.b2_plan.specs.declared.step.Step.{Step}
+use Rattle.b2_plan.specs.Plans.{step_at}
+use Rattle.b2_plan.specs.Sources.{Build, IsGiven}
+use Rattle.b2_update.specs.Runs.{Update}
+use Rattle.b2_update.specs.Outcomes.{IsCleanBuild, nothing_lacks}
+use Rattle.b2_update.specs.Reports.{report}
+use Rattle.b2_update.specs.Plain.{build_of, update_all}
+use Rattle.b2_update.specs.Updates.{HasRun, HasEnded, SomethingLacks, TellsStarts, BeginsWith, BeginsReport}
+use Rattle.b2_top.specs.declared.refusal.Fault.{Fault}
+use Rattle.b2_top.specs.declared.refusal.Fault.TheVariants as faults
+use Rattle.b2_top.specs.declared.answer.Answer.{Answer}
+use Rattle.b2_top.specs.declared.answer.Answer.TheVariants as answers
+use Rattle.b2_top.specs.Rules.{roots}
+use Rattle.b2_top.specs.Jamroots.{outs_of}
+use Rattle.b2_top.specs.ProjectFiles.{jamroot, jamroot_of, IsNotYet, HasOpenQuote, HasPlan}
+use Rattle.b2_top.specs.Refusals.{fault_line, open_quote, host_fault_line, usage_line}
+
+-- what a text makes of named inputs, at an output
+abbrev pub Made : Type 0
+Made = List ℕ → List (List ℕ × List ℕ) → List ℕ → List ℕ
+
+-- the clean build of a plan from the files of a disk
+abbrev pub build_at : (List ℕ → List (List ℕ × List ℕ) → List ℕ → List ℕ) → List Step → Disk → Build
+build_at made steps disk = build_of steps (outs_of steps) roots made disk.now
+
+-- the update of a plan from the files of a disk
+abbrev pub update_at : (List ℕ → List (List ℕ × List ℕ) → List ℕ → List ℕ) → List Step → Disk → Update
+update_at made steps disk = update_all (build_at made steps disk)
+
+-- an answer that may take the place of any other: a fault of the host or of the sink, or want of memory
+abbrev pub IsCutShort : Answer → Type 0
+IsCutShort answer = (answer ≡ answers.HostFault) ⊎ (answer ≡ answers.SinkFault) ⊎ (answer ≡ answers.OutOfMemory)
+
+-- How the counts of faults stand to an answer: Ok, Failed, Refused and Usage come only where both are as at entry, and a
+-- fault only where its count rose.
+abbrev pub CountsTold : ℕ → ℕ → ℕ → ℕ → Answer → Type 0
+CountsTold host host_after sink sink_after answers.Ok = (host_after ≡ host) × (sink_after ≡ sink)
+CountsTold host host_after sink sink_after (answers.Failed lists) = (host_after ≡ host) × (sink_after ≡ sink)
+CountsTold host host_after sink sink_after (answers.Refused fault) = (host_after ≡ host) × (sink_after ≡ sink)
+CountsTold host host_after sink sink_after answers.Usage = (host_after ≡ host) × (sink_after ≡ sink)
+CountsTold host host_after sink sink_after answers.HostFault = Rose host host_after
+CountsTold host host_after sink sink_after answers.OutOfMemory = ⊤
+CountsTold host host_after sink sink_after answers.SinkFault = Rose sink sink_after
+
+-- the words are none, and the project's file is refused as not yet built at this line
+abbrev pub ShouldBeNotYet : List (List ℕ) → Disk → ℕ → Type 0
+ShouldBeNotYet words disk line = (words ≡ []) × IsNotYet (jamroot_of disk) line
+
+-- the same for an open quote
+abbrev pub ShouldBeOpenQuote : List (List ℕ) → Disk → ℕ → Type 0
+ShouldBeOpenQuote words disk line = (words ≡ []) × HasOpenQuote (jamroot_of disk) line
+
+-- The refusal has its cause: what is not built yet, or an open quote, and the words are none.
+abbrev pub HasCause : List (List ℕ) → Disk → Fault → Type 0
+HasCause words disk (faults.NotYet path line) = (path ≡ jamroot) × ShouldBeNotYet words disk line
+HasCause words disk (faults.Load fault) = (line : ℕ) × (faults.Load fault ≡ open_quote line) × ShouldBeOpenQuote words disk line
+
+-- The project has this plan, and its update came to pass so.
+pub record HasBuilt (made : List ℕ → List (List ℕ × List ℕ) → List ℕ → List ℕ) (words : List (List ℕ)) (steps : List Step) (events : List ChildEvent) (old new : Family) (before after : Disk) : Type 0 where
+  pub no_word : words ≡ []
+  pub plan : HasPlan (jamroot_of before) steps
+  pub ran : HasRun (update_at made steps before) events old new before.now after.now
+
+-- nothing was started, and no file has changed
+pub record IsUntouched (old new : Family) (before after : Disk) : Type 0 where
+  pub family : new ≡ old
+  pub disk : after ≡ before
+
+-- What came to pass, by the answer: a run that has ended where the answer is Ok or Failed; nothing where it is Refused or
+-- Usage; and with any other answer nothing, or the beginning of a run.
+abbrev pub CameToPass : (List ℕ → List (List ℕ × List ℕ) → List ℕ → List ℕ) → List (List ℕ) → Answer → Family → Family → Disk → Disk → Type 0
+CameToPass made words answers.Ok old new before after = (steps : List Step) × (events : List ChildEvent) × HasBuilt made words steps events old new before after × HasEnded (update_at made steps before) events after.now nothing_lacks
+CameToPass made words (answers.Failed lists) old new before after = (steps : List Step) × (events : List ChildEvent) × HasBuilt made words steps events old new before after × HasEnded (update_at made steps before) events after.now lists × SomethingLacks lists
+CameToPass made words (answers.Refused fault) old new before after = IsUntouched old new before after × HasCause words before fault
+CameToPass made words answers.Usage old new before after = IsUntouched old new before after × (words ≢ [])
+CameToPass made words answers.HostFault old new before after = IsUntouched old new before after ⊎ ((steps : List Step) × (events : List ChildEvent) × HasBuilt made words steps events old new before after)
+CameToPass made words answers.OutOfMemory old new before after = IsUntouched old new before after ⊎ ((steps : List Step) × (events : List ChildEvent) × HasBuilt made words steps events old new before after)
+CameToPass made words answers.SinkFault old new before after = IsUntouched old new before after ⊎ ((steps : List Step) × (events : List ChildEvent) × HasBuilt made words steps events old new before after)
+
+-- each wanted file of the project's plan has the bytes of the clean build of the sources at entry
+abbrev pub LeavesClean : (List ℕ → List (List ℕ × List ℕ) → List ℕ → List ℕ) → Disk → Disk → Type 0
+LeavesClean made before after = (steps : List Step) × HasPlan (jamroot_of before) steps × IsCleanBuild (build_at made steps before) after.now
+
+-- What should end well: no word, a plan whose sources all stand, and no child that ends badly.
+pub record ShouldEndWell (made : List ℕ → List (List ℕ × List ℕ) → List ℕ → List ℕ) (words : List (List ℕ)) (steps : List Step) (old new : Family) (before : Disk) : Type 0 where
+  pub no_word : words ≡ []
+  pub plan : HasPlan (jamroot_of before) steps
+  pub sources : (i : ℕ) (step : Step) (path : List ℕ) → step_at steps i ≡ Some step → Contains step.ins path → IsGiven (build_at made steps before) path
+  pub all_well : (events : List ChildEvent) → new.events ≡ old.events ++ events → (i : ℕ) → Contains events (Done i false) → ⊥
+
+-- The whole report of an update that a fault of the host ended: the lines of a prefix of the events that holds every
+-- start, and the refusal.
+pub record TellsHostFault (disk : Disk) (events : List ChildEvent) (whole : List ℕ) : Type 0 where
+  pub steps : List Step
+  pub lines : List ℕ
+  pub planned : HasPlan (jamroot_of disk) steps ⊎ (events ≡ [])
+  pub tells : TellsStarts steps events lines
+  pub whole_is : whole ≡ lines ++ host_fault_line
+
+-- A beginning of a report: of the line that the words, or a refusal with its cause, ask for, or of the plan's update.
+pub data BeginsSome (made : List ℕ → List (List ℕ × List ℕ) → List ℕ → List ℕ) (words : List (List ℕ)) (disk : Disk) (events : List ChildEvent) (written : List ℕ) : Type 0 where
+  nothing : written ≡ [] → BeginsSome made words disk events written
+  usage : words ≢ [] → BeginsWith usage_line written → BeginsSome made words disk events written
+  refusal : (fault : Fault) → HasCause words disk fault → BeginsWith (fault_line fault) written → BeginsSome made words disk events written
+  update : (steps : List Step) → HasPlan (jamroot_of disk) steps → BeginsReport (update_at made steps disk) events written → BeginsSome made words disk events written
+
+-- what an answer says of the bytes that were written
+abbrev pub ReportedBy : (List ℕ → List (List ℕ × List ℕ) → List ℕ → List ℕ) → List (List ℕ) → ℕ → ℕ → Answer → Disk → List ChildEvent → List ℕ → Type 0
+ReportedBy made words sink sink_after answers.Ok disk events written = (steps : List Step) × HasPlan (jamroot_of disk) steps × (written ≡ report steps events nothing_lacks)
+ReportedBy made words sink sink_after (answers.Failed lists) disk events written = (steps : List Step) × HasPlan (jamroot_of disk) steps × (written ≡ report steps events lists)
+ReportedBy made words sink sink_after (answers.Refused fault) disk events written = written ≡ fault_line fault
+ReportedBy made words sink sink_after answers.Usage disk events written = written ≡ usage_line
+ReportedBy made words sink sink_after answers.HostFault disk events written = (whole : List ℕ) × TellsHostFault disk events whole × ((written ≡ whole) ⊎ (Rose sink sink_after × BeginsWith whole written))
+ReportedBy made words sink sink_after answers.OutOfMemory disk events written = BeginsSome made words disk events written
+ReportedBy made words sink sink_after answers.SinkFault disk events written = BeginsSome made words disk events written
+
+-- the bytes that were written in a call, where the sink tells them
+abbrev pub HasReported : (List ℕ → List (List ℕ × List ℕ) → List ℕ → List ℕ) → List (List ℕ) → ℕ → ℕ → Answer → Family → Family → Option (List ℕ) → Option (List ℕ) → Disk → Type 0
+HasReported made words sink sink_after answer old new text text_after disk = (events : List ChildEvent) → new.events ≡ old.events ++ events → IfSome text (λ so_far. (written : List ℕ) × (text_after ≡ Some (so_far ++ written)) × ReportedBy made words sink sink_after answer disk events written)

@@ -1,0 +1,17 @@
+pub mod Statements
+pub mod Bodies
+pub mod Rules
+pub mod Jamroots
+pub mod Readings
+pub mod Places
+pub mod Cuts
+pub mod Checks
+pub mod Makes
+pub mod Statuses
+pub mod ProjectFiles
+pub mod Refusals
+pub mod Stops
+pub mod Loads
+pub mod Tells
+pub mod Builds
+pub mod Answered

@@ -1,0 +1,38 @@
+use Rattle.std.specs.Prelude.{◌≡◌, ℕ, List, [], ◌++◌, Option, ◌⊎◌}
+use Rattle.std.specs.Option.{option_map}
+use Rattle.b2_host.specs.Faults.{Rose}
+use Rattle.b2_update.specs.Updates.{BeginsWith}
+use Rattle.b2_top.specs.declared.refusal.Fault.{Fault}
+use Rattle.b2_top.specs.declared.refusal.Fault.TheVariants as faults
+use Rattle.b2_top.specs.declared.jamroot.Stop.{Stop}
+use Rattle.b2_top.specs.declared.jamroot.Stop.TheVariants as stops
+use Rattle.b2_top.specs.ProjectFiles.{jamroot}
+use Rattle.b2_top.specs.Refusals.{fault_line, open_quote}
+use Rattle.b2_top.specs.declared.answer.Answer.{Answer}
+use Rattle.b2_top.specs.declared.answer.Answer.TheVariants as answers
+
+-- these bytes were written, where the sink tells them
+abbrev pub HasTaken : List ℕ → Option (List ℕ) → Option (List ℕ) → Type 0
+HasTaken bytes before after = after ≡ option_map (λ so_far. so_far ++ bytes) before
+
+-- The line was written and the answer given; or the sink failed behind a beginning of it; or memory ran out before it.
+pub data Tells (answer : Answer) (line : List ℕ) (faults faults_after : ℕ) (before after : Option (List ℕ)) (result : Answer) : Type 0 where
+  told : result ≡ answer → faults_after ≡ faults → HasTaken line before after → Tells answer line faults faults_after before after result
+  failed : (part : List ℕ) → result ≡ answers.SinkFault → Rose faults faults_after → BeginsWith line part → HasTaken part before after → Tells answer line faults faults_after before after result
+  no_memory : result ≡ answers.OutOfMemory → faults_after ≡ faults → HasTaken [] before after → Tells answer line faults faults_after before after result
+
+-- The line of a fault of the host was written; or a beginning of it, where the sink failed; or memory ran out before it.
+pub data TellsFault (line : List ℕ) (faults faults_after : ℕ) (before after : Option (List ℕ)) (result : Answer) : Type 0 where
+  told : result ≡ answers.HostFault → faults_after ≡ faults → HasTaken line before after → TellsFault line faults faults_after before after result
+  failed : (part : List ℕ) → result ≡ answers.HostFault → Rose faults faults_after → BeginsWith line part → HasTaken part before after → TellsFault line faults faults_after before after result
+  no_memory : result ≡ answers.OutOfMemory → faults_after ≡ faults → HasTaken [] before after → TellsFault line faults faults_after before after result
+
+-- the refusal of a stop
+abbrev pub IsFaultOf : Stop → Fault → Type 0
+IsFaultOf (stops.NotYet line) fault = fault ≡ faults.NotYet jamroot line
+IsFaultOf (stops.OpenQuote line) fault = fault ≡ open_quote line
+IsFaultOf stops.OutOfMemory fault = ⊥
+
+-- the refusal of a stop was told, or memory ran out before it
+abbrev pub TellsStop : Stop → ℕ → ℕ → Option (List ℕ) → Option (List ℕ) → Answer → Type 0
+TellsStop stop count count_after before after result = ((fault : Fault) × IsFaultOf stop fault × Tells (answers.Refused fault) (fault_line fault) count count_after before after result) ⊎ ((result ≡ answers.OutOfMemory) × (count_after ≡ count) × (after ≡ before))

@@ -1,0 +1,24 @@
+//! Why a Jamroot has no plan.
+use b2_base::fault::OutOfMemory;
+use thiserror::Error;
+
+/// Why a Jamroot has no plan.
+#[derive(Clone, Copy, Debug, Error)]
+pub enum ReadFault {
+    /// The statement that begins on this line is of neither form, or breaks a rule.
+    #[error("line {line}: not yet")]
+    NotYet { line: u32 },
+    #[error("out of memory")]
+    OutOfMemory,
+}
+
+impl From<OutOfMemory> for ReadFault {
+    ghost use Rattle.std.specs.Prelude.{◌≡◌};
+    ghost use Rattle.b2_top.specs.declared.fault.ReadFault.TheVariants as faults;
+
+    ghost from_gives = { λ _ fault. fault ≡ faults.OutOfMemory };
+
+    fn from(_error: OutOfMemory) -> ReadFault {
+        ReadFault::OutOfMemory
+    }
+}

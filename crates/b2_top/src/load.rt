@@ -1,0 +1,91 @@
+//! Reads the project's file.
+ghost use Rattle.std.specs.Prelude.{◌≡◌, IfOk, IfErr};
+ghost use Rattle.std.specs.Option.{IfSome};
+ghost use Rattle.b2_host.specs.Standing.{Disk, ReadTold};
+ghost use Rattle.b2_plan.specs.Plans.{Apart};
+ghost use Rattle.b2_update.specs.Plain.{IsPlain};
+ghost use Rattle.b2_top.specs.Rules.{roots};
+ghost use Rattle.b2_top.specs.Jamroots.{outs_of};
+ghost use Rattle.b2_top.specs.ProjectFiles.{jamroot, jamroot_of, HasPlan};
+ghost use Rattle.b2_top.specs.Stops.{IsStop, IsExact};
+ghost use Rattle.b2_top.specs.Loads.{LoadCounted, IsUnread, EndTold, IsExactLoad};
+
+use crate::jamroot::{Stop, plan_of};
+use b2_base::path::Path;
+use b2_host::fault::IoFault;
+use b2_host::files::{Files, ReadAnswer};
+use b2_plan::plan::Plan;
+use std::alloc::Global;
+
+/// The most bytes that a project's file may have.
+const MOST: u64 = 1_048_576;
+
+/// Why no plan was loaded.
+#[derive(Debug, Drop)]
+pub enum LoadEnd {
+    /// The project's file has no plan.
+    Stopped(Stop),
+    /// The host failed.
+    Host,
+}
+
+/// What reading the project's file answers.
+fn read_jamroot<F: Files>(alloc: Global, files: &mut F) -> Result<ReadAnswer, LoadEnd>
+    ensures faults { LoadCounted (F.faults files.old) (F.faults files.new) result }
+    ensures disk { F.disk files.new ≡ F.disk files.old }
+    ensures family { F.family files.new ≡ F.family files.old }
+    ensures told { IfOk result (λ answer. IfSome (F.disk files.old) (λ before. ReadTold jamroot 1048576 answer before.now)) }
+    ensures unread { IfErr result IsUnread }
+{
+    let path = match Path::normal(alloc, "Jamroot") {
+        Ok(path) => path,
+        Err(_fault) => return Err(LoadEnd::Stopped(Stop::OutOfMemory)),
+    };
+    match files.read(&path, MOST) {
+        Ok(answer) => Ok(answer),
+        Err(IoFault::Failed) => Err(LoadEnd::Host),
+        Err(IoFault::OutOfMemory) => Err(LoadEnd::Stopped(Stop::OutOfMemory)),
+    }
+}
+
+/// The plan of what a read of the project's file answered.
+fn plan_of_answer(alloc: Global, answer: &ReadAnswer) -> Result<Plan, Stop>
+    ensures plan { IfOk result (λ plan. (disk : Disk) → ReadTold jamroot 1048576 answer.now disk.now → HasPlan (jamroot_of disk) plan.steps) }
+    ensures wanted { IfOk result (λ plan. plan.wanted ≡ outs_of plan.steps) }
+    ensures roots { IfOk result (λ plan. plan.roots ≡ roots) }
+    ensures apart { IfOk result (λ plan. Apart plan.steps plan.roots) }
+    ensures plain { IfOk result (λ plan. IsPlain plan.steps plan.wanted) }
+    ensures stop { IfErr result (λ stop. (disk : Disk) → ReadTold jamroot 1048576 answer.now disk.now → IsStop (jamroot_of disk) stop) }
+    ensures exact { (disk : Disk) → ReadTold jamroot 1048576 answer.now disk.now → IsExact (jamroot_of disk) result }
+{
+    match answer {
+        ReadAnswer::Missing => Err(Stop::NotYet { line: 0 }),
+        ReadAnswer::TooBig { .. } => Err(Stop::NotYet { line: 0 }),
+        ReadAnswer::Bytes(bytes) => {
+            if bytes.len() as u64 > MOST {
+                return Err(Stop::NotYet { line: 0 });
+            }
+            plan_of(alloc, bytes.as_slice())
+        }
+    }
+}
+
+/// The plan of the project in the folder.
+pub fn load<F: Files>(alloc: Global, files: &mut F) -> Result<Plan, LoadEnd>
+    ensures faults { LoadCounted (F.faults files.old) (F.faults files.new) result }
+    ensures disk { F.disk files.new ≡ F.disk files.old }
+    ensures family { F.family files.new ≡ F.family files.old }
+    ensures plan { IfOk result (λ plan. IfSome (F.disk files.old) (λ before. HasPlan (jamroot_of before) plan.steps)) }
+    ensures wanted { IfOk result (λ plan. plan.wanted ≡ outs_of plan.steps) }
+    ensures roots { IfOk result (λ plan. plan.roots ≡ roots) }
+    ensures apart { IfOk result (λ plan. Apart plan.steps plan.roots) }
+    ensures plain { IfOk result (λ plan. IsPlain plan.steps plan.wanted) }
+    ensures stop { IfErr result (EndTold (F.disk files.old)) }
+    ensures exact { IfSome (F.disk files.old) (λ before. IsExactLoad (jamroot_of before) result) }
+{
+    let answer = read_jamroot(alloc, files)?;
+    match plan_of_answer(alloc, &answer) {
+        Ok(plan) => Ok(plan),
+        Err(stop) => Err(LoadEnd::Stopped(stop)),
+    }
+}

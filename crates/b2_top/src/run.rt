@@ -1,0 +1,92 @@
+//! The build command.
+ghost use Rattle.std.specs.Prelude.{◌≡◌, ◌≢◌, ℕ, List, [], ◌⊎◌};
+ghost use Rattle.std.specs.Option.{IfSome};
+ghost use Rattle.b2_host.specs.Faults.{Rose};
+ghost use Rattle.b2_host.specs.Childhood.{BothTold};
+ghost use Rattle.b2_plan.specs.declared.step.Step.{Step};
+ghost use Rattle.b2_plan.specs.Plans.{Apart};
+ghost use Rattle.b2_update.specs.Plain.{IsPlain};
+ghost use Rattle.b2_top.specs.Rules.{roots};
+ghost use Rattle.b2_top.specs.Jamroots.{outs_of};
+ghost use Rattle.b2_top.specs.ProjectFiles.{jamroot};
+ghost use Rattle.b2_top.specs.Refusals.{open_quote};
+ghost use Rattle.b2_top.specs.Builds.{IsCutShort, CountsTold, ShouldBeNotYet, ShouldBeOpenQuote, CameToPass, LeavesClean, ShouldEndWell, HasReported};
+ghost use Rattle.b2_top.specs.Answered.{IsAnswered, IsThePlan};
+
+use crate::answer::Answer;
+use crate::load::{LoadEnd, load};
+use crate::refusal::Fault;
+use crate::tell::{tell_host_fault, tell_stop, tell_usage};
+use b2_base::text::Text;
+use b2_host::children::Children;
+use b2_host::sink::Sink;
+use b2_plan::plan::Plan;
+use b2_update::update::update;
+use b2_update::update_answer::UpdateAnswer;
+use std::alloc::Global;
+
+/// Runs the plan that was read, and tells a fault of the host.
+fn build<H: Children, S: Sink>(alloc: Global, plan: &Plan, host: &mut H, out: &mut S) -> Answer
+    requires idle { (H.family host.old).running ≡ [] }
+    requires apart { Apart plan.now.steps plan.now.roots }
+    requires plain { IsPlain plan.now.steps plan.now.wanted }
+    requires wanted { plan.now.wanted ≡ outs_of plan.now.steps }
+    requires roots { plan.now.roots ≡ roots }
+    requires read { IfSome (H.disk host.old) (IsThePlan plan.now) }
+    ensures { IsAnswered H.made [] (H.family host.old) (H.family host.new) (H.disk host.old) (H.disk host.new) (H.faults host.old) (H.faults host.new) (S.faults out.old) (S.faults out.new) (S.written out.old) (S.written out.new) result }
+{
+    match update(alloc, plan, host, out) {
+        UpdateAnswer::Done => Answer::Ok,
+        UpdateAnswer::Failed(lists) => Answer::Failed(lists),
+        UpdateAnswer::HostFault => tell_host_fault(out),
+        UpdateAnswer::SinkFault => Answer::SinkFault,
+        UpdateAnswer::OutOfMemory => Answer::OutOfMemory,
+    }
+}
+
+/// Reads the project and builds it, or tells why not.
+fn answer<H: Children, S: Sink>(alloc: Global, words: &[Text], host: &mut H, out: &mut S) -> Answer
+    requires { (H.family host.old).running ≡ [] }
+    ensures { IsAnswered H.made words.now (H.family host.old) (H.family host.new) (H.disk host.old) (H.disk host.new) (H.faults host.old) (H.faults host.new) (S.faults out.old) (S.faults out.new) (S.written out.old) (S.written out.new) result }
+{
+    if !words.is_empty() {
+        return tell_usage(out);
+    }
+    match load(alloc, host) {
+        Ok(plan) => build(alloc, &plan, host, out),
+        Err(LoadEnd::Host) => tell_host_fault(out),
+        Err(LoadEnd::Stopped(stop)) => tell_stop(alloc, stop, out),
+    }
+}
+
+/// Builds the project in the folder: reads its `Jamroot`, runs its steps in order, and writes the report to the sink. The
+/// command takes no words yet.
+pub fn run_b2<H: Children, S: Sink>(
+    alloc: Global,
+    words: &[Text],
+    host: &mut H,
+    out: &mut S,
+) -> Answer
+    requires idle { (H.family host.old).running ≡ [] }
+
+    // The headline: after Ok each wanted file has the bytes of the clean build of the sources at entry.
+    ensures clean { result ≡ Answer.Ok → BothTold (LeavesClean H.made) (H.disk host.old) (H.disk host.new) }
+    // What came to pass, by the answer: a whole run, nothing, or the beginning of a run.
+    ensures came { BothTold (CameToPass H.made words.now result (H.family host.old) (H.family host.new)) (H.disk host.old) (H.disk host.new) }
+    // Ok, Failed, Refused and Usage come only where nothing failed; a fault comes only where its count rose.
+    ensures counts { CountsTold (H.faults host.old) (H.faults host.new) (S.faults out.old) (S.faults out.new) result }
+    // A word asks for the usage line, and nothing else does.
+    ensures usage { words.now ≢ [] → (result ≡ Answer.Usage) ⊎ IsCutShort result }
+    ensures no_usage { result ≡ Answer.Usage → words.now ≢ [] }
+    // A Jamroot that is not as it should be is refused at its line, the first one.
+    ensures not_yet { BothTold (λ before after. (line : ℕ) → ShouldBeNotYet words.now before line → (result ≡ Answer.Refused (Fault.NotYet jamroot line)) ⊎ IsCutShort result) (H.disk host.old) (H.disk host.new) }
+    ensures open_quote { BothTold (λ before after. (line : ℕ) → ShouldBeOpenQuote words.now before line → (result ≡ Answer.Refused (open_quote line)) ⊎ IsCutShort result) (H.disk host.old) (H.disk host.new) }
+    // Where all sources stand, no child ends badly and nothing fails, the answer is Ok, or want of memory.
+    ensures complete { BothTold (λ before after. (steps : List Step) → ShouldEndWell H.made words.now steps (H.family host.old) (H.family host.new) before → H.faults host.new ≡ H.faults host.old → S.faults out.new ≡ S.faults out.old → (result ≡ Answer.Ok) ⊎ IsCutShort result) (H.disk host.old) (H.disk host.new) }
+    // What was written is the report.
+    ensures reported { BothTold (λ before after. HasReported H.made words.now (S.faults out.old) (S.faults out.new) result (H.family host.old) (H.family host.new) (S.written out.old) (S.written out.new) before) (H.disk host.old) (H.disk host.new) }
+    // No child is left, unless a wait failed.
+    ensures none_left { ((H.family host.new).running ≡ []) ⊎ Rose (H.faults host.old) (H.faults host.new) }
+{
+    answer(alloc, words, host, out)
+}
