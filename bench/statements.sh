@@ -1,0 +1,38 @@
+#!/bin/sh
+# Prints the seconds and the memory that ./b2 takes to plan and to run 1,000 and 10,000 statements, and to read a Jamroot of
+# 1 MiB of comments. Run ./setup.sh first.
+set -eu
+top=$(cd "$(dirname "$0")/.." && pwd)
+work=$(mktemp -d)
+trap 'rm -rf "$work"' EXIT
+
+measure() {
+    label=$1
+    shift
+    /usr/bin/env python3 - "$label" "$@" <<'PYTHON'
+import resource, subprocess, sys, time
+label, program = sys.argv[1], sys.argv[2:]
+begin = time.time()
+ended = subprocess.run(program, stdout=subprocess.DEVNULL)
+seconds = time.time() - begin
+memory = resource.getrusage(resource.RUSAGE_CHILDREN).ru_maxrss // 1024
+print(f"{label}: {seconds:.2f} s, at most {memory} MiB, status {ended.returncode}")
+PYTHON
+}
+
+for count in 1000 10000; do
+    mkdir "$work/$count"
+    cd "$work/$count"
+    {
+        echo 'actions touch { : > $(<) }'
+        awk -v n="$count" 'BEGIN { for (i = 1; i <= n; i++) print "make t" i " : s : @touch ;" }'
+    } > Jamroot
+    measure "plan $count statements whose source is missing" "$top/b2"
+    echo x > s
+    measure "plan and run $count statements" "$top/b2"
+done
+
+mkdir "$work/comments"
+cd "$work/comments"
+awk 'BEGIN { for (i = 0; i < 32768; i++) print "# a comment of thirty-two bytes." }' | head -c 1048576 > Jamroot
+measure "1 MiB of comments" "$top/b2"

@@ -1,0 +1,56 @@
+//! The words of the command line.
+ghost use Rattle.std.specs.Prelude.{◌↔◌, IsTrue};
+ghost use Rattle.b2_base.specs.Bytes.{HasNoZero};
+
+use b2_base::text::Text;
+use std::alloc::Global;
+use std::env::Env;
+use std::{env, io};
+
+/// Why the words cannot be handed on.
+#[derive(Clone, Copy, Debug)]
+pub enum WordsFault {
+    /// A word is no text, or holds the zero byte.
+    NoText,
+    OutOfMemory,
+}
+
+fn has_no_zero(word: &str) -> bool
+    ensures { IsTrue result ↔ HasNoZero word.now }
+{
+    word.as_bytes().iter().all(|byte| *byte > 0)
+}
+
+fn text_of(alloc: Global, word: &str) -> Result<Text, WordsFault> {
+    if !has_no_zero(word) {
+        return Err(WordsFault::NoText);
+    }
+    match Text::new(alloc, word) {
+        Ok(text) => Ok(text),
+        Err(_error) => Err(WordsFault::OutOfMemory),
+    }
+}
+
+fn fault_of(error: &io::Error) -> WordsFault {
+    match error.kind() {
+        io::ErrorKind::OutOfMemory => WordsFault::OutOfMemory,
+        _ => WordsFault::NoText,
+    }
+}
+
+/// The words behind the program's own name, in order.
+pub fn words_of<R: Env + AllocGlobal>(rt: &R) -> Result<Vec<Text>, WordsFault> {
+    let mut words = Vec::new(rt.alloc());
+    let mut args = match env::args(rt) {
+        Ok(args) => args,
+        Err(error) => return Err(fault_of(&error)),
+    };
+    let _name = args.next();
+    for word in args {
+        let text = text_of(rt.alloc(), word.as_str())?;
+        if words.push(text).is_err() {
+            return Err(WordsFault::OutOfMemory);
+        }
+    }
+    Ok(words)
+}
