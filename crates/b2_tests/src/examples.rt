@@ -1,0 +1,89 @@
+//! The worked examples, each named by what it shows.
+use crate::runs::{Faults, run, run_well, text_at};
+use std::test::Fail;
+
+/// The actions that join their inputs, one behind the other.
+const JOIN: &str = "actions join { cat $(>) > $(<) }\n";
+
+/// One step: `out.txt` is joined of `in.txt`.
+const ONE: &str = "actions join { cat $(>) > $(<) }\nmake out.txt : in.txt : @join ;\n";
+
+/// Two steps from `x`, and one that needs the first.
+const THREE: &str =
+    "actions join { cat $(>) > $(<) }\nmake a : x : @join ;\nmake d : a : @join ;\nmake e : x : @join ;\n";
+
+#[test]
+fn one_command_joins_its_input(rt: HostRuntime) -> Result<(), Fail> {
+    let alloc = rt.alloc();
+    let mut done = run_well(alloc, &[("Jamroot", ONE), ("in.txt", "hello\n")])?;
+    assert_eq!(rt; done.status, 0);
+    assert_eq!(rt;
+        done.output.as_str(),
+        "join bin/out.txt\nupdated 1, failed 0, skipped 0, missing 0\n"
+    );
+    let text = text_at(alloc, &mut done.host, "bin/out.txt")?.ok_or("no file")?;
+    assert_eq!(rt; text.as_str(), "hello\n");
+    Ok(())
+}
+
+#[test]
+fn files_without_a_step_are_answered_at_once(rt: HostRuntime) -> Result<(), Fail> {
+    let rows = [
+        ("", 0, "updated 0, failed 0, skipped 0, missing 0\n"),
+        (
+            "# nothing",
+            0,
+            "updated 0, failed 0, skipped 0, missing 0\n",
+        ),
+        (JOIN, 0, "updated 0, failed 0, skipped 0, missing 0\n"),
+        ("ECHO \"a", 2, "b2: Jamroot:1: open quote\n"),
+        ("\nactions a { x", 2, "b2: Jamroot:2: not yet\n"),
+        ("actions a {\nx } make", 2, "b2: Jamroot:2: not yet\n"),
+        ("actions a { \u{e9} }", 2, "b2: Jamroot:1: not yet\n"),
+        ("make a : b : @c ;", 2, "b2: Jamroot:1: not yet\n"),
+    ];
+    for (text, status, output) in rows {
+        let done = run_well(rt.alloc(), &[("Jamroot", text)])?;
+        assert_eq!(rt; done.status, status);
+        assert_eq!(rt; done.output.as_str(), output);
+    }
+    Ok(())
+}
+
+#[test]
+fn no_jamroot_is_not_yet_at_line_zero(rt: HostRuntime) -> Result<(), Fail> {
+    let done = run_well(rt.alloc(), &[])?;
+    assert_eq!(rt; done.status, 2);
+    assert_eq!(rt; done.output.as_str(), "b2: Jamroot:0: not yet\n");
+    Ok(())
+}
+
+#[test]
+fn a_missing_source_skips_its_step(rt: HostRuntime) -> Result<(), Fail> {
+    let done = run_well(rt.alloc(), &[("Jamroot", ONE)])?;
+    assert_eq!(rt; done.status, 1);
+    assert_eq!(rt;
+        done.output.as_str(),
+        "...missing in.txt...\n...skipped bin/out.txt...\nupdated 0, failed 0, skipped 1, missing 1\n"
+    );
+    Ok(())
+}
+
+#[test]
+fn a_failure_skips_what_depends_on_it_alone(rt: HostRuntime) -> Result<(), Fail> {
+    let alloc = rt.alloc();
+    let faults = Faults {
+        calls: &[],
+        children: &[1],
+        write: 0,
+    };
+    let mut done = run(alloc, &[("Jamroot", THREE), ("x", "x\n")], &faults)?;
+    assert_eq!(rt; done.status, 1);
+    assert_eq!(rt;
+        done.output.as_str(),
+        "join bin/a\n...failed join bin/a...\njoin bin/e\n...skipped bin/d...\nupdated 1, failed 1, skipped 1, missing 0\n"
+    );
+    assert!(rt; text_at(alloc, &mut done.host, "bin/a")?.is_none());
+    assert!(rt; text_at(alloc, &mut done.host, "bin/e")?.is_some());
+    Ok(())
+}

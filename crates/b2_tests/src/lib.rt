@@ -1,0 +1,9 @@
+//! Tests that run the whole program over files, children and a sink in memory.
+#![tactic(auto)]
+
+#[cfg(test)]
+mod examples;
+#[cfg(test)]
+mod faults;
+#[cfg(test)]
+mod runs;
