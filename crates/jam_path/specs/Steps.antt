@@ -1,0 +1,69 @@
+use Rattle.std.specs.Prelude.{◌≡◌, ◌≢◌, ◌↔◌, ℕ, ◌+◌, ◌<◌, ◌≤◌, ◌==◌, List, [], ◌∷◌, drop, length, slice_index, Option, Some, None, if◌then◌else◌, ⊤}
+use Rattle.std.specs.List.{list_any, before_first, after_first}
+use Rattle.std.specs.Borrow.{Bor}
+use Rattle.std.specs.Str.{chars, IsUtf8}
+use Rattle.jam_path.specs.Patterns.{is_taken, Match}
+use Rattle.jam_path.specs.declared.walk.Walk.{Walk}
+use Rattle.jam_path.specs.declared.walk.Walk.TheVariants.{Fits, Fails, Star}
+
+-- none of the last so many bytes is a `]`
+abbrev pub IsUnclosed : ℕ → List ℕ → Type 0
+IsUnclosed count pattern = (place : ℕ) → length pattern ≤ place + count → place < length pattern → slice_index pattern place ≢ 93
+
+-- what a walk to a `*` leaves: an end of the pattern, shorter than before, and no more text
+abbrev pub IsLeft : List ℕ → List ℕ → Walk → Type 0
+IsLeft pattern text Fits = ⊤
+IsLeft pattern text Fails = ⊤
+IsLeft pattern text (Star rest behind) =
+    ((k : ℕ) × (rest.now ≡ drop k pattern)) × (length rest.now < length pattern) × (length behind.now ≤ length text)
+    × IsUtf8 rest.now × IsUtf8 behind.now
+
+-- what an answer about a pattern says: the rest of the pattern, by its characters, or nothing
+abbrev pub Leads : Option (Bor (List ℕ)) → Option (List ℕ) → List ℕ → Type 0
+Leads None rest pattern = rest ≡ None
+Leads (Some found) rest pattern = (rest ≡ Some (chars found.now)) × ((k : ℕ) × (found.now ≡ drop k pattern)) × IsUtf8 found.now
+
+-- the members behind a dash that stands first
+abbrev pub behind_dash : List ℕ → Option (List ℕ)
+behind_dash [] = None
+behind_dash (dash ∷ []) = None
+behind_dash (dash ∷ high ∷ more) = if dash == 45 then Some more else None
+
+-- what stands behind a piece that takes one given character
+abbrev pub behind_exact : ℕ → List ℕ → ℕ → Option (List ℕ)
+behind_exact exact rest character = if exact == character then Some rest else None
+
+abbrev pub behind_escape : List ℕ → ℕ → Option (List ℕ)
+behind_escape [] character = behind_exact 92 [] character
+behind_escape (next ∷ rest) character = behind_exact next rest character
+
+abbrev pub behind_class : List ℕ → List ℕ → ℕ → Option (List ℕ)
+behind_class members rest character = if is_taken members character then Some rest else None
+
+abbrev pub behind_bracket : List ℕ → ℕ → Option (List ℕ)
+behind_bracket rest character =
+    if list_any (λ other. other == 93) rest
+    then behind_class (before_first (λ other. other == 93) rest) (after_first (λ other. other == 93) rest) character
+    else behind_exact 91 rest character
+
+-- the pattern behind its first piece, where that piece takes the character; nothing elsewhere, and at a `*`
+abbrev pub behind_one : List ℕ → ℕ → Option (List ℕ)
+behind_one [] character = None
+behind_one (first ∷ rest) character =
+    if first == 42 then None
+    else (if first == 63 then Some rest
+    else (if first == 92 then behind_escape rest character
+    else (if first == 91 then behind_bracket rest character
+    else behind_exact first rest character)))
+
+-- no `*` stands first
+abbrev pub IsStarless : List ℕ → Type 0
+IsStarless pattern = (rest : List ℕ) → pattern ≢ 42 ∷ rest
+
+-- how far a walk over the pieces before the next `*` came
+abbrev pub IsWalk : List ℕ → List ℕ → Walk → Type 0
+IsWalk pattern text Fits = Match pattern text
+IsWalk pattern text Fails = ¬ Match pattern text
+IsWalk pattern text (Star rest behind) =
+    (Match pattern text ↔ Match (42 ∷ chars rest.now) (chars behind.now))
+    × (Match (42 ∷ pattern) text ↔ Match (42 ∷ chars rest.now) (chars behind.now))

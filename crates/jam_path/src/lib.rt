@@ -1,0 +1,12 @@
+//! The five parts of a file name, and patterns on names.
+#![tactic(auto)]
+
+mod cut;
+pub mod glob;
+pub mod laws;
+pub mod name;
+pub mod name_parts;
+mod piece;
+#[cfg(test)]
+mod tests;
+mod walk;

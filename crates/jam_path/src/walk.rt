@@ -1,0 +1,46 @@
+//! A walk over the pieces of a pattern up to its next `*`.
+ghost use Rattle.std.specs.Str.{chars};
+ghost use Rattle.jam_path.specs.Steps.{IsUnclosed, IsWalk, IsLeft};
+
+use crate::piece::{behind_one, behind_star, first_char};
+
+/// What a walk came to.
+pub enum Walk<'a> {
+    /// The pattern, which had no `*`, matches the text.
+    Fits,
+    /// A piece did not take its character, or the text or the pattern ended too early.
+    Fails,
+    /// A `*`, with the pattern behind it and the text that is left.
+    Star { pattern: &'a str, text: &'a str },
+}
+
+/// Matches the pieces of the pattern that stand before its first `*`, each with one character. Takes time in proportion
+/// to the length of these pieces.
+pub fn walk_pieces<'a>(pattern: &'a str, text: &'a str, unclosed: usize) -> Walk<'a>
+    requires { IsUnclosed unclosed pattern.now }
+    ensures exact { IsWalk (chars pattern.now) (chars text.now) result }
+    ensures left { IsLeft pattern.now text.now result }
+{
+    let mut rest = pattern;
+    let mut left = text;
+    'pieces: loop {
+        if let Some(pattern) = behind_star(rest) {
+            return Walk::Star {
+                pattern,
+                text: left,
+            };
+        }
+        let Some((character, behind)) = first_char(left) else {
+            return if rest.is_empty() {
+                Walk::Fits
+            } else {
+                Walk::Fails
+            };
+        };
+        let Some(after) = behind_one(rest, character, unclosed) else {
+            return Walk::Fails;
+        };
+        rest = after;
+        left = behind;
+    }
+}
