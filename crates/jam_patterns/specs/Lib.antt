@@ -1,0 +1,4 @@
+pub mod Pattern
+pub mod Groups
+pub mod Captured
+pub mod Meaning
