@@ -1,0 +1,5 @@
+pub mod Lookups
+pub mod TableLemmas
+pub mod TextTests
+pub mod FaultLemmas
+pub mod Outcomes

@@ -1,0 +1,4 @@
+pub mod Attributes
+pub mod Table
+pub mod Faults
+pub mod Index

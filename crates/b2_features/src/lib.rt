@@ -1,0 +1,11 @@
+//! The table of features: what each is called, which values and attributes it has, and what its values are composed of.
+#![tactic(auto)]
+
+pub mod attribute;
+mod checks;
+pub mod fault;
+pub mod feature;
+mod implicit;
+pub mod registry;
+#[cfg(test)]
+mod tests;
