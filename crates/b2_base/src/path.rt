@@ -6,7 +6,7 @@ ghost use Rattle.b2_base.specs.Normal.{IsNormal, IsUnder};
 
 use crate::fault::OutOfMemory;
 use crate::segments::{cut, is_below, is_rooted_text, join, keep};
-use crate::text::Text;
+use crate::text::{Text, has_no_zero};
 use std::alloc::Global;
 use std::cmp::Ordering;
 use std::marker::Model;
@@ -52,13 +52,6 @@ impl Model for Path {
     ghost view = { λ p. p.text };
 
     ghost invariant = { λ p. IsNormal p.text };
-}
-
-/// Whether no byte is zero.
-fn has_no_zero(text: &str) -> bool
-    ensures { IsTrue result ↔ HasNoZero text.now }
-{
-    text.as_bytes().iter().all(|byte| *byte > 0)
 }
 
 /// The normal form as text.

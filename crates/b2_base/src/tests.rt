@@ -4,7 +4,7 @@ use crate::fault::OutOfMemory;
 use crate::laws::normal_stays;
 use crate::path::{Path, PathFault};
 use crate::path_list::{PathList, copy_paths};
-use crate::text::Text;
+use crate::text::{Text, has_no_zero};
 use crate::text_list::TextList;
 use crate::text_map::TextMap;
 use crate::token::{Token, TokenKind};

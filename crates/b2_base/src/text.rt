@@ -1,5 +1,5 @@
 //! Text with no zero byte.
-ghost use Rattle.std.specs.Prelude.{◌≡◌, IfOk, string_bytes};
+ghost use Rattle.std.specs.Prelude.{◌≡◌, ◌↔◌, IfOk, IsTrue, string_bytes};
 ghost use Rattle.b2_base.specs.Bytes.{HasNoZero};
 
 use crate::fault::OutOfMemory;
@@ -25,6 +25,13 @@ impl Model for Text {
     ghost invariant = { λ t. HasNoZero (string_bytes t.text) };
 }
 
+/// Whether no byte is zero, which is asked of each text that is made. Takes no memory.
+pub fn has_no_zero(text: &str) -> bool
+    ensures { IsTrue result ↔ HasNoZero text.now }
+{
+    text.as_bytes().iter().all(|byte| *byte > 0)
+}
+
 impl Text {
     /// Owns a copy of a text, which has no zero byte.
     pub fn new(alloc: Global, text: &str) -> Result<Text, OutOfMemory>
@@ -35,8 +42,8 @@ impl Text {
         Ok(Text { text })
     }
 
-    /// Owns the text itself; takes no memory.
-    pub(crate) fn from_string(text: String) -> Text
+    /// Owns the text itself, which has no zero byte; takes no memory.
+    pub fn from_string(text: String) -> Text
         requires { HasNoZero (string_bytes text) }
         ensures { result ≡ string_bytes text }
     {

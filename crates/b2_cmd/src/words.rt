@@ -1,8 +1,6 @@
 //! The words of the command line.
-ghost use Rattle.std.specs.Prelude.{◌↔◌, IsTrue};
-ghost use Rattle.b2_base.specs.Bytes.{HasNoZero};
 
-use b2_base::text::Text;
+use b2_base::text::{Text, has_no_zero};
 use std::alloc::Global;
 use std::env::Env;
 use std::{env, io};
@@ -13,12 +11,6 @@ pub enum WordsFault {
     /// A word is no text, or holds the zero byte.
     NoText,
     OutOfMemory,
-}
-
-fn has_no_zero(word: &str) -> bool
-    ensures { IsTrue result ↔ HasNoZero word.now }
-{
-    word.as_bytes().iter().all(|byte| *byte > 0)
 }
 
 fn text_of(alloc: Global, word: &str) -> Result<Text, WordsFault> {

@@ -12,10 +12,10 @@ Value = Option (List ℕ)
 
 -- what is known of values: v path value says that the path has the value
 abbrev pub Values : Type 1
-Values = List ℕ → Option (List ℕ) → Type 0
+Values = List ℕ → Value → Type 0
 
 -- The least set with the step's inputs and, for each member whose bytes are known, each of its includes.
-pub data Known (b : Build) (v : List ℕ → Option (List ℕ) → Type 0) (step : Step) : List ℕ → Type 0 where
+pub data Known (b : Build) (v : Values) (step : Step) : List ℕ → Type 0 where
   input : (path : List ℕ) → Contains step.ins path → Known b v step path
   include : (path bytes found : List ℕ) → Known b v step path → v path (Some bytes) → Includes b step path bytes found → Known b v step found
 
@@ -24,16 +24,16 @@ abbrev pub Before : List ℕ → List ℕ → Type 0
 Before p q = slice_cmp nat_cmp p q ≡ Less
 
 -- The closure of a step: the members of `Known` with their values, in byte order of path. So each member has a value.
-pub record IsClose (b : Build) (v : List ℕ → Option (List ℕ) → Type 0) (step : Step) (members : List (List ℕ × Option (List ℕ))) : Type 0 where
+pub record IsClose (b : Build) (v : Values) (step : Step) (members : List (List ℕ × Value)) : Type 0 where
   pub ordered : AllPairs (λ x y. Before x.0 y.0) members
-  pub each : (path : List ℕ) (value : Option (List ℕ)) → Contains members (path, value) → Known b v step path × v path value
-  pub whole : (path : List ℕ) → Known b v step path → (value : Option (List ℕ)) × Contains members (path, value)
+  pub each : (path : List ℕ) (value : Value) → Contains members (path, value) → Known b v step path × v path value
+  pub whole : (path : List ℕ) → Known b v step path → (value : Value) × Contains members (path, value)
 
 -- a member that has bytes, with them
-abbrev pub named : List ℕ × Option (List ℕ) → Option (List ℕ × List ℕ)
+abbrev pub named : List ℕ × Value → Option (List ℕ × List ℕ)
 named (path, None) = None
 named (path, Some bytes) = Some (path, bytes)
 
 -- the members that have bytes
-abbrev pub with_bytes : List (List ℕ × Option (List ℕ)) → List (List ℕ × List ℕ)
+abbrev pub with_bytes : List (List ℕ × Value) → List (List ℕ × List ℕ)
 with_bytes members = filter_map named members

@@ -1,16 +1,9 @@
 //! Names and patterns, by examples.
-ghost use Rattle.std.specs.Prelude.{◌↔◌, IsTrue};
-ghost use Rattle.b2_base.specs.Bytes.{HasNoZero};
 
 use crate::glob::glob_match;
 use crate::name::{join, parts};
+use b2_base::text::has_no_zero;
 use std::test::Fail;
-
-fn has_no_zero(text: &str) -> bool
-    ensures { IsTrue result ↔ HasNoZero text.now }
-{
-    text.as_bytes().iter().all(|byte| *byte > 0)
-}
 
 /// Each name, its grist, directory, base, suffix and member, and the name that these make.
 const NAMES: [[&str; 7]; 5] = [

@@ -1,16 +1,8 @@
-ghost use Rattle.std.specs.Prelude.{◌↔◌, IsTrue};
-ghost use Rattle.b2_base.specs.Bytes.{HasNoZero};
-
 use crate::groups::groups;
 use crate::refusal::PatternFault;
+use b2_base::text::has_no_zero;
 use std::alloc::{AllocError, Global};
 use std::test::Fail;
-
-fn has_no_zero(text: &str) -> bool
-    ensures { IsTrue result ↔ HasNoZero text.now }
-{
-    text.as_bytes().iter().all(|byte| *byte > 0)
-}
 
 /// The groups, each between `<` and `>`, or what came in their place.
 fn shown(alloc: Global, pattern: &str, text: &str) -> Result<String, AllocError> {
