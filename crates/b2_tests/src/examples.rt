@@ -1,5 +1,5 @@
 //! The worked examples, each named by what it shows.
-use crate::runs::{Faults, run, run_well, text_at};
+use crate::runs::{Faults, run, run_silent, run_well, text_at};
 use std::test::Fail;
 
 /// The actions that join their inputs, one behind the other.
@@ -37,9 +37,16 @@ fn files_without_a_step_are_answered_at_once(rt: HostRuntime) -> Result<(), Fail
         ),
         (JOIN, 0, "updated 0, failed 0, skipped 0, missing 0\n"),
         ("ECHO \"a", 2, "b2: Jamroot:1: open quote\n"),
-        ("\nactions a { x", 2, "b2: Jamroot:2: not yet\n"),
+        ("\nactions a { x", 2, "b2: Jamroot:2: open actions\n"),
+        ("actions a { x \"", 2, "b2: Jamroot:1: open actions\n"),
+        ("a \"\nactions a { x", 2, "b2: Jamroot:1: open quote\n"),
+        ("x\0\"", 2, "b2: Jamroot: byte 1 is not text\n"),
         ("actions a {\nx } make", 2, "b2: Jamroot:2: not yet\n"),
-        ("actions a { \u{e9} }", 2, "b2: Jamroot:1: not yet\n"),
+        (
+            "actions \"\u{e9}\" { \u{e9} }",
+            0,
+            "updated 0, failed 0, skipped 0, missing 0\n",
+        ),
         ("make a : b : @c ;", 2, "b2: Jamroot:1: not yet\n"),
     ];
     for (text, status, output) in rows {
@@ -85,5 +92,16 @@ fn a_failure_skips_what_depends_on_it_alone(rt: HostRuntime) -> Result<(), Fail>
     );
     assert!(rt; text_at(alloc, &mut done.host, "bin/a")?.is_none());
     assert!(rt; text_at(alloc, &mut done.host, "bin/e")?.is_some());
+    Ok(())
+}
+
+#[test]
+fn a_child_that_leaves_no_output_has_failed(rt: HostRuntime) -> Result<(), Fail> {
+    let (status, output) = run_silent(rt.alloc(), &[("Jamroot", THREE), ("x", "x\n")])?;
+    assert_eq!(rt; status, 1);
+    assert_eq!(rt;
+        output.as_str(),
+        "join bin/a\n...failed join bin/a...\njoin bin/e\n...failed join bin/e...\n...skipped bin/d...\nupdated 0, failed 2, skipped 1, missing 0\n"
+    );
     Ok(())
 }

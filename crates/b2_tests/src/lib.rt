@@ -1,4 +1,5 @@
-//! Tests that run the whole program over files, children and a sink in memory.
+//! Tests that run the whole program over files, children and a sink in memory, and a host for them whose children leave
+//! nothing.
 #![tactic(auto)]
 
 #[cfg(test)]
@@ -9,3 +10,4 @@ mod examples;
 mod faults;
 #[cfg(test)]
 mod runs;
+pub mod silent;

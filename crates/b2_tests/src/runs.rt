@@ -1,6 +1,7 @@
 //! Runs of the program over a host and a sink in memory.
 ghost use Rattle.std.specs.Prelude.{◌≡◌, [], IfOk};
 
+use crate::silent::SilentHost;
 use b2_base::path::Path;
 use b2_base::text::Text;
 use b2_host::files::{Files, ReadAnswer};
@@ -70,6 +71,16 @@ pub fn run_well(alloc: Global, files: &[(&str, &str)]) -> Result<Ended, Fail> {
         write: 0,
     };
     run(alloc, files, &faults)
+}
+
+/// Runs the program without words over these files, where children end well and leave nothing. Gives the status and what
+/// was written.
+pub fn run_silent(alloc: Global, files: &[(&str, &str)]) -> Result<(u8, String), Fail> {
+    let mut host = SilentHost::new(alloc, host_with(alloc, files)?);
+    let mut sink = MemorySink::new(alloc);
+    let answer = run_b2(alloc, &[], &mut host, &mut sink);
+    let output = String::from_utf8_lossy(alloc, sink.bytes())?;
+    Ok((answer.status(), output))
 }
 
 /// The text at a path, or nothing where no file stands.

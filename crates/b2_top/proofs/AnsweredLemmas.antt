@@ -13,6 +13,7 @@ use Rattle.b2_update.specs.declared.update_answer.UpdateAnswer.{UpdateAnswer}
 use Rattle.b2_update.specs.declared.update_answer.UpdateAnswer.TheVariants as ends
 use Rattle.b2_update.specs.Plain.{IsPlain}
 use Rattle.b2_update.specs.Updates.{BeginsWith, FaultsTold, HasUpdated, HasWritten}
+use Rattle.jam_lexer.specs.declared.fault.LexFault.{LexFault}
 use Rattle.b2_top.specs.declared.refusal.Fault.{Fault}
 use Rattle.b2_top.specs.declared.refusal.Fault.TheVariants as faults
 use Rattle.b2_top.specs.declared.answer.Answer.{Answer}
@@ -24,8 +25,8 @@ use Rattle.b2_top.specs.declared.load.LoadEnd.{LoadEnd}
 use Rattle.b2_top.specs.declared.load.LoadEnd.TheVariants as ends_of_load
 use Rattle.b2_top.specs.Loads.{LoadCounted, EndTold, IsExactLoad}
 use Rattle.b2_top.specs.Jamroots.{outs_of}
-use Rattle.b2_top.specs.ProjectFiles.{jamroot, jamroot_of, IsNotYet, HasOpenQuote, HasPlan}
-use Rattle.b2_top.specs.Refusals.{fault_line, open_quote, host_fault_line, usage_line}
+use Rattle.b2_top.specs.ProjectFiles.{jamroot, jamroot_of, IsNotYet, HasLexFault, HasPlan}
+use Rattle.b2_top.specs.Refusals.{fault_line, no_tokens, host_fault_line, usage_line}
 use Rattle.b2_top.specs.Tells.{Tells, TellsFault, IsFaultOf, TellsStop}
 use Rattle.b2_top.specs.Tells.Tells.{told, failed, no_memory}
 use Rattle.b2_top.specs.Tells.TellsFault.{told as fault_told, failed as fault_failed, no_memory as fault_no_memory}
@@ -120,7 +121,7 @@ answered_plain made plan old new d e f g s t text text_after r the u other = rec
   usage = λ h. absurd (h refl);
   no_usage = λ h. absurd (not_usage r h);
   not_yet = both_with (IsThePlan plan) d e the (λ b a is h line should. no_stop plan _ (is.1.not_yet line should.1)) u.done;
-  open_quote_at = both_with (IsThePlan plan) d e the (λ b a is h line should. no_stop plan _ (is.1.open_quote line should.1)) u.done;
+  without_tokens = both_with (IsThePlan plan) d e the (λ b a is h fault should. no_stop plan _ (is.1.no_tokens fault should.1)) u.done;
   complete = complete_at made plan old new d e f g s t r u.plain the u.done;
   reported = reported_plain made plan.steps s t old new text text_after d e r (has_plan plan d the) other u.wrote;
   none_left = u.none_left;
@@ -168,7 +169,7 @@ answered_fault made plan old new d e f g s t v text mid text_after result the u 
       usage = λ h. absurd (h refl);
       no_usage = λ h. absurd (not_used result is h);
       not_yet = both_map d e (λ b a h line should. inr (cut_fault result is)) u.done;
-      open_quote_at = both_map d e (λ b a h line should. inr (cut_fault result is)) u.done;
+      without_tokens = both_map d e (λ b a h fault should. inr (cut_fault result is)) u.done;
       complete = both_map d e (λ b a h steps should c1 c2. inr (cut_fault result is)) u.done;
       reported = reported_fault made plan.steps s t v old new text mid text_after d e result (has_plan plan d the) u.counts.1 u.wrote tells;
       none_left = u.none_left;
@@ -222,7 +223,7 @@ answered_usage made words family d f s t text text_after result some idle tells 
       usage = λ h. by_line (λ r. (r ≡ answers.Usage) ⊎ IsCutShort r) answers.Usage result s t (λ c. inl refl) (λ rose. inr cut_sink) (inr cut_memory) is;
       no_usage = λ h. some;
       not_yet = both_same _ Anything d (any_some d) (λ b x line should. absurd (some should.0));
-      open_quote_at = both_same _ Anything d (any_some d) (λ b x line should. absurd (some should.0));
+      without_tokens = both_same _ Anything d (any_some d) (λ b x fault should. absurd (some should.0));
       complete = both_same _ Anything d (any_some d) (λ b x steps should c1 c2. absurd (some should.no_word));
       reported = both_same (λ b a. HasReported made words s t result family family text text_after b) Anything d (any_some d) (λ b x. line_reported made words answers.Usage usage_line s t family text text_after b result (λ events. refl) (λ events part front. usage some front) tells);
       none_left = inl idle;
@@ -248,7 +249,7 @@ answered_unread made family d f g s t text text_after result rose idle tells =
       usage = λ h. absurd (h refl);
       no_usage = λ h. absurd (not_used result is h);
       not_yet = both_same _ Anything d (any_some d) (λ b x line should. inr (cut_fault result is));
-      open_quote_at = both_same _ Anything d (any_some d) (λ b x line should. inr (cut_fault result is));
+      without_tokens = both_same _ Anything d (any_some d) (λ b x fault should. inr (cut_fault result is));
       complete = both_same _ Anything d (any_some d) (λ b x steps should c1 c2. inr (cut_fault result is));
       reported = both_same (λ b a. HasReported made [] s t result family family text text_after b) Anything d (any_some d) (λ b x. reported b text refl);
       none_left = inl idle;
@@ -279,41 +280,41 @@ IsTheStop stop disk = IsStop (jamroot_of disk) stop × IsExact (jamroot_of disk)
 line_of_stop : (r : Result Plan Stop) (n line : ℕ) → r ≡ Err (stops.NotYet n) → IsStoppedBy r (stops.NotYet line) → n ≡ line
 line_of_stop r n line e h = elim h [ inl same ↦ cc | inr memory ↦ absurd cc ]
 
-line_of_quote : (r : Result Plan Stop) (n line : ℕ) → r ≡ Err (stops.OpenQuote n) → IsStoppedBy r (stops.OpenQuote line) → n ≡ line
-line_of_quote r n line e h = elim h [ inl same ↦ cc | inr memory ↦ absurd cc ]
+cause_of_stop : (r : Result Plan Stop) (cause other : LexFault) → r ≡ Err (stops.Lex cause) → IsStoppedBy r (stops.Lex other) → other ≡ cause
+cause_of_stop r cause other e h = elim h [ inl same ↦ cc | inr memory ↦ absurd cc ]
 
-other_stop : {X : Type 0} (r : Result Plan Stop) (n line : ℕ) → r ≡ Err (stops.NotYet n) → IsStoppedBy r (stops.OpenQuote line) → X
-other_stop r n line e h = elim h [ inl same ↦ absurd cc | inr memory ↦ absurd cc ]
+other_stop : {X : Type 0} (r : Result Plan Stop) (n : ℕ) (cause : LexFault) → r ≡ Err (stops.NotYet n) → IsStoppedBy r (stops.Lex cause) → X
+other_stop r n cause e h = elim h [ inl same ↦ absurd cc | inr memory ↦ absurd cc ]
 
-other_quote : {X : Type 0} (r : Result Plan Stop) (n line : ℕ) → r ≡ Err (stops.OpenQuote n) → IsStoppedBy r (stops.NotYet line) → X
-other_quote r n line e h = elim h [ inl same ↦ absurd cc | inr memory ↦ absurd cc ]
+other_cause : {X : Type 0} (r : Result Plan Stop) (cause : LexFault) (line : ℕ) → r ≡ Err (stops.Lex cause) → IsStoppedBy r (stops.NotYet line) → X
+other_cause r cause line e h = elim h [ inl same ↦ absurd cc | inr memory ↦ absurd cc ]
 
 -- the refusal of a stop has its cause, and is the only one
 record IsTheFault (fault : Fault) (disk : Disk) : Type 0 where
   cause : HasCause [] disk fault
   not_yet : (line : ℕ) → IsNotYet (jamroot_of disk) line → fault ≡ faults.NotYet jamroot line
-  open_quote_at : (line : ℕ) → HasOpenQuote (jamroot_of disk) line → fault ≡ open_quote line
+  without_tokens : (cause : LexFault) → HasLexFault (jamroot_of disk) cause → fault ≡ no_tokens cause
   no_plan : (steps : List Step) → HasPlan (jamroot_of disk) steps → ⊥
 
 the_fault : (stop : Stop) (fault : Fault) (disk : Disk) → IsFaultOf stop fault → IsTheStop stop disk → IsTheFault fault disk
 the_fault (stops.NotYet n) fault disk is the = subst (λ x. IsTheFault x disk) (sym is) (record {
   cause = (refl, (refl, the.0));
   not_yet = λ line h. ap (faults.NotYet jamroot) (line_of_stop (Err (stops.NotYet n)) n line refl (the.1.not_yet line h));
-  open_quote_at = λ line h. other_stop (Err (stops.NotYet n)) n line refl (the.1.open_quote line h);
+  without_tokens = λ cause h. other_stop (Err (stops.NotYet n)) n cause refl (the.1.no_tokens cause h);
   no_plan = λ steps h. no_end n (the.1.planned steps h);
 })
   where
     no_end : (n : ℕ) → stops.NotYet n ≡ stops.OutOfMemory → ⊥
     no_end n e = cc
-the_fault (stops.OpenQuote n) fault disk is the = subst (λ x. IsTheFault x disk) (sym is) (record {
-  cause = (n, refl, (refl, the.0));
-  not_yet = λ line h. other_quote (Err (stops.OpenQuote n)) n line refl (the.1.not_yet line h);
-  open_quote_at = λ line h. ap open_quote (line_of_quote (Err (stops.OpenQuote n)) n line refl (the.1.open_quote line h));
-  no_plan = λ steps h. no_end n (the.1.planned steps h);
+the_fault (stops.Lex found) fault disk is the = subst (λ x. IsTheFault x disk) (sym is) (record {
+  cause = (found, refl, (refl, the.0));
+  not_yet = λ line h. other_cause (Err (stops.Lex found)) found line refl (the.1.not_yet line h);
+  without_tokens = λ cause h. ap no_tokens (sym (cause_of_stop (Err (stops.Lex found)) found cause refl (the.1.no_tokens cause h)));
+  no_plan = λ steps h. no_end found (the.1.planned steps h);
 })
   where
-    no_end : (n : ℕ) → stops.OpenQuote n ≡ stops.OutOfMemory → ⊥
-    no_end n e = cc
+    no_end : (c : LexFault) → stops.Lex c ≡ stops.OutOfMemory → ⊥
+    no_end c e = cc
 the_fault stops.OutOfMemory fault disk is the = absurd is
 
 the_fault_told : (stop : Stop) (fault : Fault) (d : Option Disk) → IsFaultOf stop fault → IfSome d (IsTheStop stop) → IfSome d (IsTheFault fault)
@@ -331,7 +332,7 @@ answered_refused made family d f s t text text_after result fault the idle tells
       usage = λ h. absurd (h refl);
       no_usage = λ e. absurd (by_line (λ r. r ≡ answers.Usage → ⊥) (answers.Refused fault) result s t (λ c e. cc) (λ rose e. cc) (λ e. cc) is e);
       not_yet = both_same _ (IsTheFault fault) d the (λ b x line should. by_line (λ r. (r ≡ answers.Refused (faults.NotYet jamroot line)) ⊎ IsCutShort r) (answers.Refused fault) result s t (λ c. inl (ap answers.Refused (x.not_yet line should.1))) (λ rose. inr cut_sink) (inr cut_memory) is);
-      open_quote_at = both_same _ (IsTheFault fault) d the (λ b x line should. by_line (λ r. (r ≡ answers.Refused (open_quote line)) ⊎ IsCutShort r) (answers.Refused fault) result s t (λ c. inl (ap answers.Refused (x.open_quote_at line should.1))) (λ rose. inr cut_sink) (inr cut_memory) is);
+      without_tokens = both_same _ (IsTheFault fault) d the (λ b x cause should. by_line (λ r. (r ≡ answers.Refused (no_tokens cause)) ⊎ IsCutShort r) (answers.Refused fault) result s t (λ c. inl (ap answers.Refused (x.without_tokens cause should.1))) (λ rose. inr cut_sink) (inr cut_memory) is);
       complete = both_same _ (IsTheFault fault) d the (λ b x steps should c1 c2. absurd (x.no_plan steps should.plan));
       reported = both_same (λ b a. HasReported made [] s t result family family text text_after b) (IsTheFault fault) d the (λ b x. line_reported made [] (answers.Refused fault) (fault_line fault) s t family text text_after b result (λ events. refl) (λ events part front. refusal fault x.cause front) tells);
       none_left = inl idle;
@@ -347,7 +348,7 @@ answered_memory made family d f s t text text_after result idle is same = subst 
   usage = λ h. absurd (h refl);
   no_usage = λ e. absurd cc;
   not_yet = both_same _ Anything d (any_some d) (λ b x line should. inr cut_memory);
-  open_quote_at = both_same _ Anything d (any_some d) (λ b x line should. inr cut_memory);
+  without_tokens = both_same _ Anything d (any_some d) (λ b x fault should. inr cut_memory);
   complete = both_same _ Anything d (any_some d) (λ b x steps should c1 c2. inr cut_memory);
   reported = both_same (λ b a. HasReported made [] s t answers.OutOfMemory family family text text_after b) Anything d (any_some d) (λ b x. quiet b text text_after same);
   none_left = inl idle;

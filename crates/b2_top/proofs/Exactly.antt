@@ -1,23 +1,20 @@
-use Rattle.std.proofs.Common.{◌≡◌, ℕ, ◌<◌, ◌≤◌, List, Option, None, Some, Result, Ok, Err, ◌⊎◌, inl, inr, Bool, true, false, nat_lt, length, refl, ap, sym, ◌∙◌, subst, arith}
-use Rattle.std.specs.List.{All}
-use Rattle.std.proofs.lemmas.Bool.{ltb-true}
+use Rattle.std.proofs.Common.{◌≡◌, ℕ, ◌<◌, ◌≤◌, List, Option, None, Some, Result, Ok, Err, ◌⊎◌, inl, inr, length, refl, ap, sym, subst, arith}
 use Rattle.std.specs.Result.{IsErrOf, IfOk, MatchResult}
 use Rattle.b2_base.specs.declared.token.Token.{Token}
 use Rattle.b2_plan.specs.declared.step.Step.{Step}
 use Rattle.b2_plan.specs.declared.plan.Plan.{Plan}
 use Rattle.jam_lexer.specs.declared.fault.LexFault.{LexFault}
 use Rattle.jam_lexer.specs.declared.fault.LexFault.TheVariants as lex
-use Rattle.jam_lexer.specs.Signs.{line_of}
 use Rattle.jam_lexer.specs.Tokens.{AreTokens}
-use Rattle.jam_lexer.specs.Answers.{IsAnswer, IsOpenQuote, IsOpenActions}
+use Rattle.jam_lexer.specs.Answers.{IsFirstBad, IsAnswer, IsOpenQuote, IsOpenActions}
 use Rattle.b2_top.specs.declared.jamroot.Stop.{Stop}
 use Rattle.b2_top.specs.declared.jamroot.Stop.TheVariants as stops
 use Rattle.b2_top.specs.declared.fault.ReadFault.{ReadFault}
 use Rattle.b2_top.specs.declared.fault.ReadFault.TheVariants as reads
 use Rattle.b2_top.specs.Jamroots.{PlanOf, FirstBad}
-use Rattle.b2_top.specs.ProjectFiles.{IsPlainByte, IsFirstOdd, IsPlainText, IsNotYet, HasOpenQuote, HasPlan}
-use Rattle.b2_top.specs.ProjectFiles.IsNotYet.{no_file, too_large, odd_byte, open_body, bad_statement}
-use Rattle.b2_top.specs.Stops.{IsStoppedBy, IsExact}
+use Rattle.b2_top.specs.ProjectFiles.{IsShort, IsNotYet, HasLexFault, HasPlan}
+use Rattle.b2_top.specs.ProjectFiles.IsNotYet.{no_file, too_large, bad_statement}
+use Rattle.b2_top.specs.Stops.{stop_of_lex, IsStop, IsStoppedBy, IsExact}
 use Rattle.b2_top.proofs.LawLemmas.{never_both, one_plan, one_line}
 
 some_same : {X : Type 0} (x y : X) → Some x ≡ Some y → x ≡ y
@@ -26,37 +23,26 @@ some_same x y e = cc
 none_some : {X : Type 0} (x : X) → Some x ≡ None → ⊥
 none_some x e = cc
 
--- the first byte that is not read has one place
-one_odd : (text : List ℕ) (p q : ℕ) → IsFirstOdd text p → IsFirstOdd text q → p ≡ q
-one_odd text p q a b = go (nat_lt p q) refl (nat_lt q p) refl
-  where
-    go : (s : Bool) → nat_lt p q ≡ s → (t : Bool) → nat_lt q p ≡ t → p ≡ q
-    go true e t f = absurd (a.odd (b.plain_before p (ltb-true p q e)))
-    go false e true f = absurd (b.odd (a.plain_before q (ltb-true q p f)))
-    go false e false f = grind (arith, e, f)
-
--- text whose bytes are all read has no first byte that is not
-no_odd : (text : List ℕ) (place : ℕ) → All IsPlainByte text → IsFirstOdd text place → ⊥
-no_odd text place plain odd = odd.odd (plain place 0 odd.within)
+-- the file stands with this text
+pub short_text : (text : List ℕ) → length text ≤ 1048576 → IsShort (Some text) text
+short_text text fits = record { stands = refl; fits = fits }
 
 -- want of memory may answer anything
 pub exact_no_memory : (file : Option (List ℕ)) → IsExact file (Err stops.OutOfMemory)
-exact_no_memory file = record { not_yet = λ line h. inr refl; open_quote = λ line h. inr refl; planned = λ steps h. refl }
+exact_no_memory file = record { not_yet = λ line h. inr refl; no_tokens = λ fault h. inr refl; planned = λ steps h. refl }
 
 -- no file, or one that is too large
 pub exact_none : IsExact None (Err (stops.NotYet 0))
 exact_none = record {
   not_yet = λ line n. inl (ap (λ l. Err (stops.NotYet l)) (sym (line_is line n)));
-  open_quote = λ line h. absurd (none_some _ (sym h.plain.short.stands));
-  planned = λ steps h. absurd (none_some _ (sym h.plain.short.stands));
+  no_tokens = λ fault h. absurd (none_some _ (sym h.short.stands));
+  planned = λ steps h. absurd (none_some _ (sym h.short.stands));
 }
   where
     line_is : (line : ℕ) → IsNotYet None line → line ≡ 0
     line_is line (no_file e z) = z
     line_is line (too_large text e h z) = z
-    line_is line (odd_byte text place short odd l) = absurd (none_some text (sym short.stands))
-    line_is line (open_body text plain body) = absurd (none_some text (sym plain.short.stands))
-    line_is line (bad_statement text tokens plain are bad) = absurd (none_some text (sym plain.short.stands))
+    line_is line (bad_statement text tokens short are bad) = absurd (none_some text (sym short.stands))
 
 -- the text is not too large after all
 not_large : (whole text : List ℕ) → 1048576 < length whole → Some whole ≡ Some text → length text ≤ 1048576 → ⊥
@@ -65,75 +51,45 @@ not_large whole text large e fits = let same : length whole ≡ length text = ap
 pub exact_large : (whole : List ℕ) → 1048576 < length whole → IsExact (Some whole) (Err (stops.NotYet 0))
 exact_large whole large = record {
   not_yet = λ line n. inl (ap (λ l. Err (stops.NotYet l)) (sym (line_is line n)));
-  open_quote = λ line h. absurd (not_large whole h.text large h.plain.short.stands h.plain.short.fits);
-  planned = λ steps h. absurd (not_large whole h.text large h.plain.short.stands h.plain.short.fits);
+  no_tokens = λ fault h. absurd (not_large whole h.text large h.short.stands h.short.fits);
+  planned = λ steps h. absurd (not_large whole h.text large h.short.stands h.short.fits);
 }
   where
     line_is : (line : ℕ) → IsNotYet (Some whole) line → line ≡ 0
     line_is line (no_file e z) = z
     line_is line (too_large text e h z) = z
-    line_is line (odd_byte text place short odd l) = absurd (not_large whole text large short.stands short.fits)
-    line_is line (open_body text plain body) = absurd (not_large whole text large plain.short.stands plain.short.fits)
-    line_is line (bad_statement text tokens plain are bad) = absurd (not_large whole text large plain.short.stands plain.short.fits)
-
--- a byte that is not read
-pub exact_odd : (whole : List ℕ) (line place : ℕ) → length whole ≤ 1048576 → IsFirstOdd whole place → line ≡ line_of whole place → IsExact (Some whole) (Err (stops.NotYet line))
-exact_odd whole line place fits odd line_is = record {
-  not_yet = λ other n. inl (ap (λ l. Err (stops.NotYet l)) (same other n));
-  open_quote = λ other h. absurd (not_plain h.text h.plain);
-  planned = λ steps h. absurd (not_plain h.text h.plain);
-}
-  where
-    not_plain : (text : List ℕ) → IsPlainText (Some whole) text → ⊥
-    not_plain text plain = no_odd whole place (subst (All IsPlainByte) (sym (some_same whole text plain.short.stands)) plain.plain) odd
-
-    same : (other : ℕ) → IsNotYet (Some whole) other → line ≡ other
-    same other (no_file e z) = absurd (none_some whole e)
-    same other (too_large text e h z) = absurd (not_large text whole h (sym e) fits)
-    same other (odd_byte text place' short odd' l) =
-        let text_is : text ≡ whole = sym (some_same whole text short.stands) in
-        line_is ∙ ap (line_of whole) (one_odd whole place place' odd (subst (λ t. IsFirstOdd t place') text_is odd')) ∙ ap (λ t. line_of t place') (sym text_is) ∙ sym l
-    same other (open_body text plain body) = absurd (not_plain text plain)
-    same other (bad_statement text tokens plain are bad) = absurd (not_plain text plain)
+    line_is line (bad_statement text tokens short are bad) = absurd (not_large whole text large short.stands short.fits)
 
 -- what the answer of the lexer asks of the result
 abbrev pub Follows : Result (List Token) LexFault → Result Plan Stop → Type 0
 Follows (Ok tokens) result = ((line : ℕ) → FirstBad tokens line → IsStoppedBy result (stops.NotYet line)) × ((steps : List Step) → PlanOf tokens steps → MatchResult result (λ plan. plan.steps ≡ steps) (λ stop. stop ≡ stops.OutOfMemory))
-Follows (Err (lex.NotUtf8 at)) result = ⊥
-Follows (Err (lex.OpenQuote line)) result = result ≡ Err (stops.OpenQuote line)
-Follows (Err (lex.OpenActions line)) result = result ≡ Err (stops.NotYet line)
-Follows (Err lex.OutOfMemory) result = ⊥
+Follows (Err fault) result = result ≡ Err (stops.Lex fault)
 
--- text whose bytes are all read is answered as its tokens, or its open quote or body, ask
-pub exact_plain : (whole : List ℕ) (answer : Result (List Token) LexFault) (result : Result Plan Stop) → length whole ≤ 1048576 → All IsPlainByte whole
+-- text that is not too large is answered as its tokens, or its fault, ask
+pub exact_short : (whole : List ℕ) (answer : Result (List Token) LexFault) (result : Result Plan Stop) → length whole ≤ 1048576
     → ((other : Result (List Token) LexFault) → IsAnswer whole other → other ≡ answer) → Follows answer result → IsExact (Some whole) result
-exact_plain whole answer result fits plain only follows = record { not_yet = not_yet; open_quote = open_quote; planned = planned }
+exact_short whole answer result fits only follows = record { not_yet = not_yet; no_tokens = no_tokens; planned = planned }
   where
-    is_whole : (text : List ℕ) → IsPlainText (Some whole) text → text ≡ whole
-    is_whole text h = sym (some_same whole text h.short.stands)
+    is_whole : (text : List ℕ) → IsShort (Some whole) text → text ≡ whole
+    is_whole text h = sym (some_same whole text h.stands)
 
     not_yet : (line : ℕ) → IsNotYet (Some whole) line → IsStoppedBy result (stops.NotYet line)
     not_yet line (no_file e z) = absurd (none_some whole e)
     not_yet line (too_large text e h z) = absurd (not_large text whole h (sym e) fits)
-    not_yet line (odd_byte text place short odd l) = absurd (no_odd text place (subst (All IsPlainByte) (some_same whole text short.stands) plain) odd)
-    not_yet line (open_body text h body) =
-        let here : IsOpenActions whole line = subst (λ t. IsOpenActions t line) (is_whole text h) body in
-        let e : Err (lex.OpenActions line) ≡ answer = only (Err (lex.OpenActions line)) here in
-        inl (subst (λ a. Follows a result) (sym e) follows)
     not_yet line (bad_statement text tokens h are bad) =
         let here : AreTokens whole tokens = subst (λ t. AreTokens t tokens) (is_whole text h) are in
         let e : Ok tokens ≡ answer = only (Ok tokens) here in
         let f : Follows (Ok tokens) result = subst (λ a. Follows a result) (sym e) follows in f.0 line bad
 
-    open_quote : (line : ℕ) → HasOpenQuote (Some whole) line → IsStoppedBy result (stops.OpenQuote line)
-    open_quote line h =
-        let here : IsOpenQuote whole line = subst (λ t. IsOpenQuote t line) (is_whole h.text h.plain) h.unclosed in
-        let e : Err (lex.OpenQuote line) ≡ answer = only (Err (lex.OpenQuote line)) here in
+    no_tokens : (fault : LexFault) → HasLexFault (Some whole) fault → IsStoppedBy result (stops.Lex fault)
+    no_tokens fault h =
+        let here : IsAnswer whole (Err fault) = subst (λ t. IsAnswer t (Err fault)) (is_whole h.text h.short) h.cause in
+        let e : Err fault ≡ answer = only (Err fault) here in
         inl (subst (λ a. Follows a result) (sym e) follows)
 
     planned : (steps : List Step) → HasPlan (Some whole) steps → MatchResult result (λ plan. plan.steps ≡ steps) (λ stop. stop ≡ stops.OutOfMemory)
     planned steps h =
-        let here : AreTokens whole h.tokens = subst (λ t. AreTokens t h.tokens) (is_whole h.text h.plain) h.read in
+        let here : AreTokens whole h.tokens = subst (λ t. AreTokens t h.tokens) (is_whole h.text h.short) h.read in
         let e : Ok h.tokens ≡ answer = only (Ok h.tokens) here in
         let f : Follows (Ok h.tokens) result = subst (λ a. Follows a result) (sym e) follows in f.1 steps h.plan
 
@@ -180,17 +136,28 @@ read_follows tokens (Err (reads.NotYet n)) bad planned = (λ line h. elim (bad l
 read_follows tokens (Err reads.OutOfMemory) bad planned = (λ line h. inr refl, λ steps h. refl)
 
 -- the tokens were read, and the result is what the reader made of them
-pub exact_read : (whole : List ℕ) (tokens : List Token) (r : Result Plan ReadFault) (result : Result Plan Stop) → length whole ≤ 1048576 → All IsPlainByte whole
+pub exact_read : (whole : List ℕ) (tokens : List Token) (r : Result Plan ReadFault) (result : Result Plan Stop) → length whole ≤ 1048576
     → ((other : Result (List Token) LexFault) → IsAnswer whole other → other ≡ Ok tokens) → OnlyBad tokens r → OnlyPlan tokens r → stop_of_read r ≡ result → IsExact (Some whole) result
-exact_read whole tokens r result fits plain only bad planned e = exact_plain whole (Ok tokens) result fits plain only (subst (Follows (Ok tokens)) e (read_follows tokens r bad planned))
+exact_read whole tokens r result fits only bad planned e = exact_short whole (Ok tokens) result fits only (subst (Follows (Ok tokens)) e (read_follows tokens r bad planned))
 
--- the lexer found an open quote, or an open body
-pub exact_quote : (whole : List ℕ) (fault : LexFault) (line : ℕ) → length whole ≤ 1048576 → All IsPlainByte whole
-    → ((other : Result (List Token) LexFault) → IsAnswer whole other → (fault ≡ lex.OutOfMemory) ⊎ (other ≡ Err fault)) → fault ≡ lex.OpenQuote line → IsExact (Some whole) (Err (stops.OpenQuote line))
-exact_quote whole fault line fits plain only e =
-    exact_plain whole (Err (lex.OpenQuote line)) (Err (stops.OpenQuote line)) fits plain (λ other h. elim (only other h) [ inl m ↦ absurd cc | inr same ↦ same ∙ ap Err e ]) refl
+-- what is known of a fault of the lexer
+abbrev pub Only : List ℕ → LexFault → Type 0
+Only whole fault = (other : Result (List Token) LexFault) → IsAnswer whole other → (fault ≡ lex.OutOfMemory) ⊎ (other ≡ Err fault)
 
-pub exact_body : (whole : List ℕ) (fault : LexFault) (line : ℕ) → length whole ≤ 1048576 → All IsPlainByte whole
-    → ((other : Result (List Token) LexFault) → IsAnswer whole other → (fault ≡ lex.OutOfMemory) ⊎ (other ≡ Err fault)) → fault ≡ lex.OpenActions line → IsExact (Some whole) (Err (stops.NotYet line))
-exact_body whole fault line fits plain only e =
-    exact_plain whole (Err (lex.OpenActions line)) (Err (stops.NotYet line)) fits plain (λ other h. elim (only other h) [ inl m ↦ absurd cc | inr same ↦ same ∙ ap Err e ]) refl
+only_this : (whole : List ℕ) (fault : LexFault) → (fault ≡ lex.OutOfMemory → ⊥) → Only whole fault → (other : Result (List Token) LexFault) → IsAnswer whole other → other ≡ Err fault
+only_this whole fault kept only other h = elim (only other h) [ inl m ↦ absurd (kept m) | inr same ↦ same ]
+
+-- the lexer answered with a fault
+pub exact_fault : (whole : List ℕ) (fault : LexFault) → length whole ≤ 1048576 → Only whole fault → IsExact (Some whole) (Err (stop_of_lex fault))
+exact_fault whole (lex.NotUtf8 at) fits only = exact_short whole (Err (lex.NotUtf8 at)) _ fits (only_this whole (lex.NotUtf8 at) (λ e. cc) only) refl
+exact_fault whole (lex.OpenQuote line) fits only = exact_short whole (Err (lex.OpenQuote line)) _ fits (only_this whole (lex.OpenQuote line) (λ e. cc) only) refl
+exact_fault whole (lex.OpenActions line) fits only = exact_short whole (Err (lex.OpenActions line)) _ fits (only_this whole (lex.OpenActions line) (λ e. cc) only) refl
+exact_fault whole lex.OutOfMemory fits only = exact_no_memory (Some whole)
+
+-- the fault is the project's file's own
+pub fault_stops : (whole : List ℕ) (fault : LexFault) → length whole ≤ 1048576 → ((at : ℕ) → fault ≡ lex.NotUtf8 at → IsFirstBad whole at) → ((line : ℕ) → fault ≡ lex.OpenQuote line → IsOpenQuote whole line) → ((line : ℕ) → fault ≡ lex.OpenActions line → IsOpenActions whole line)
+    → IsStop (Some whole) (stop_of_lex fault)
+fault_stops whole (lex.NotUtf8 at) fits bad quote body = record { text = whole; short = short_text whole fits; cause = bad at refl }
+fault_stops whole (lex.OpenQuote line) fits bad quote body = record { text = whole; short = short_text whole fits; cause = quote line refl }
+fault_stops whole (lex.OpenActions line) fits bad quote body = record { text = whole; short = short_text whole fits; cause = body line refl }
+fault_stops whole lex.OutOfMemory fits bad quote body = tt

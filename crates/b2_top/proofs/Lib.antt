@@ -7,7 +7,6 @@ pub mod RuleLemmas
 pub mod StepLemmas
 pub mod PlanLemmas
 pub mod LawLemmas
-pub mod PlainTexts
 pub mod Exactly
 pub mod BuildLemmas
 pub mod ReportLemmas

@@ -4,13 +4,14 @@ use Rattle.b2_host.specs.Faults.{Rose}
 use Rattle.b2_host.specs.Childhood.{Family, BothTold}
 use Rattle.b2_plan.specs.declared.step.Step.{Step}
 use Rattle.b2_plan.specs.declared.plan.Plan.{Plan}
+use Rattle.jam_lexer.specs.declared.fault.LexFault.{LexFault}
 use Rattle.b2_top.specs.declared.refusal.Fault.TheVariants as faults
 use Rattle.b2_top.specs.declared.answer.Answer.{Answer}
 use Rattle.b2_top.specs.declared.answer.Answer.TheVariants as answers
 use Rattle.b2_top.specs.ProjectFiles.{jamroot, jamroot_of, HasPlan}
 use Rattle.b2_top.specs.Stops.{IsExact}
-use Rattle.b2_top.specs.Refusals.{open_quote}
-use Rattle.b2_top.specs.Builds.{IsCutShort, CountsTold, ShouldBeNotYet, ShouldBeOpenQuote, CameToPass, LeavesClean, ShouldEndWell, HasReported}
+use Rattle.b2_top.specs.Refusals.{no_tokens}
+use Rattle.b2_top.specs.Builds.{IsCutShort, CountsTold, ShouldBeNotYet, ShouldHaveNoTokens, CameToPass, LeavesClean, ShouldEndWell, HasReported}
 
 -- All that a call of the build command promises: with these words, what there was of children before and after, the
 -- files, the counts of faults of host and sink, and what was written.
@@ -21,7 +22,7 @@ pub record IsAnswered (made : List ℕ → List (List ℕ × List ℕ) → List 
   pub usage : words ≢ [] → (result ≡ answers.Usage) ⊎ IsCutShort result
   pub no_usage : result ≡ answers.Usage → words ≢ []
   pub not_yet : BothTold (λ b a. (line : ℕ) → ShouldBeNotYet words b line → (result ≡ answers.Refused (faults.NotYet jamroot line)) ⊎ IsCutShort result) before after
-  pub open_quote_at : BothTold (λ b a. (line : ℕ) → ShouldBeOpenQuote words b line → (result ≡ answers.Refused (open_quote line)) ⊎ IsCutShort result) before after
+  pub without_tokens : BothTold (λ b a. (fault : LexFault) → ShouldHaveNoTokens words b fault → (result ≡ answers.Refused (no_tokens fault)) ⊎ IsCutShort result) before after
   pub complete : BothTold (λ b a. (steps : List Step) → ShouldEndWell made words steps old new b → host_after ≡ host → sink_after ≡ sink → (result ≡ answers.Ok) ⊎ IsCutShort result) before after
   pub reported : BothTold (λ b a. HasReported made words sink sink_after result old new text text_after b) before after
   pub none_left : (new.running ≡ []) ⊎ Rose host host_after

@@ -13,14 +13,15 @@ use Rattle.b2_update.specs.Outcomes.{IsCleanBuild, nothing_lacks}
 use Rattle.b2_update.specs.Reports.{report}
 use Rattle.b2_update.specs.Plain.{build_of, update_all}
 use Rattle.b2_update.specs.Updates.{HasRun, HasEnded, SomethingLacks, TellsStarts, BeginsWith, BeginsReport}
+use Rattle.jam_lexer.specs.declared.fault.LexFault.{LexFault}
 use Rattle.b2_top.specs.declared.refusal.Fault.{Fault}
 use Rattle.b2_top.specs.declared.refusal.Fault.TheVariants as faults
 use Rattle.b2_top.specs.declared.answer.Answer.{Answer}
 use Rattle.b2_top.specs.declared.answer.Answer.TheVariants as answers
 use Rattle.b2_top.specs.Rules.{roots}
 use Rattle.b2_top.specs.Jamroots.{outs_of}
-use Rattle.b2_top.specs.ProjectFiles.{jamroot, jamroot_of, IsNotYet, HasOpenQuote, HasPlan}
-use Rattle.b2_top.specs.Refusals.{fault_line, open_quote, host_fault_line, usage_line}
+use Rattle.b2_top.specs.ProjectFiles.{jamroot, jamroot_of, IsNotYet, HasLexFault, HasPlan}
+use Rattle.b2_top.specs.Refusals.{fault_line, no_tokens, host_fault_line, usage_line}
 
 -- what a text makes of named inputs, at an output
 abbrev pub Made : Type 0
@@ -53,14 +54,14 @@ CountsTold host host_after sink sink_after answers.SinkFault = Rose sink sink_af
 abbrev pub ShouldBeNotYet : List (List ℕ) → Disk → ℕ → Type 0
 ShouldBeNotYet words disk line = (words ≡ []) × IsNotYet (jamroot_of disk) line
 
--- the same for an open quote
-abbrev pub ShouldBeOpenQuote : List (List ℕ) → Disk → ℕ → Type 0
-ShouldBeOpenQuote words disk line = (words ≡ []) × HasOpenQuote (jamroot_of disk) line
+-- the same where the project's file has no tokens, for this cause
+abbrev pub ShouldHaveNoTokens : List (List ℕ) → Disk → LexFault → Type 0
+ShouldHaveNoTokens words disk fault = (words ≡ []) × HasLexFault (jamroot_of disk) fault
 
--- The refusal has its cause: what is not built yet, or an open quote, and the words are none.
+-- The refusal has its cause: what is not built yet, or a file without tokens, and the words are none.
 abbrev pub HasCause : List (List ℕ) → Disk → Fault → Type 0
 HasCause words disk (faults.NotYet path line) = (path ≡ jamroot) × ShouldBeNotYet words disk line
-HasCause words disk (faults.Load fault) = (line : ℕ) × (faults.Load fault ≡ open_quote line) × ShouldBeOpenQuote words disk line
+HasCause words disk (faults.Load fault) = (cause : LexFault) × (faults.Load fault ≡ no_tokens cause) × ShouldHaveNoTokens words disk cause
 
 -- The project has this plan, and its update came to pass so.
 pub record HasBuilt (made : List ℕ → List (List ℕ × List ℕ) → List ℕ → List ℕ) (words : List (List ℕ)) (steps : List Step) (events : List ChildEvent) (old new : Family) (before after : Disk) : Type 0 where

@@ -36,6 +36,6 @@ host_fault_line = refusal_line (codes "host fault")
 abbrev pub usage_line : List ℕ
 usage_line = refusal_line (codes "usage: b2 [-jN] [-a] [-q] [-n or --show] [word ..], or b2 --drill=N")
 
--- the refusal of an open quote in the project's file
-abbrev pub open_quote : ℕ → Fault
-open_quote number = faults.Load (load.Lex jamroot (lex.OpenQuote number))
+-- the refusal of a project's file that has no tokens
+abbrev pub no_tokens : LexFault → Fault
+no_tokens fault = faults.Load (load.Lex jamroot fault)

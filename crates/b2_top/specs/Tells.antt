@@ -7,7 +7,7 @@ use Rattle.b2_top.specs.declared.refusal.Fault.TheVariants as faults
 use Rattle.b2_top.specs.declared.jamroot.Stop.{Stop}
 use Rattle.b2_top.specs.declared.jamroot.Stop.TheVariants as stops
 use Rattle.b2_top.specs.ProjectFiles.{jamroot}
-use Rattle.b2_top.specs.Refusals.{fault_line, open_quote}
+use Rattle.b2_top.specs.Refusals.{fault_line, no_tokens}
 use Rattle.b2_top.specs.declared.answer.Answer.{Answer}
 use Rattle.b2_top.specs.declared.answer.Answer.TheVariants as answers
 
@@ -30,7 +30,7 @@ pub data TellsFault (line : List ℕ) (faults faults_after : ℕ) (before after 
 -- the refusal of a stop
 abbrev pub IsFaultOf : Stop → Fault → Type 0
 IsFaultOf (stops.NotYet line) fault = fault ≡ faults.NotYet jamroot line
-IsFaultOf (stops.OpenQuote line) fault = fault ≡ open_quote line
+IsFaultOf (stops.Lex cause) fault = fault ≡ no_tokens cause
 IsFaultOf stops.OutOfMemory fault = ⊥
 
 -- the refusal of a stop was told, or memory ran out before it

@@ -1,10 +1,10 @@
 //! The project's file, from its bytes to its plan.
-ghost use Rattle.std.specs.Prelude.{◌≡◌, ℕ, ◌≤◌, length, Some, All, IfOk, IfErr, IfSome, IfNone, IsTrue, ◌↔◌};
+ghost use Rattle.std.specs.Prelude.{◌≡◌, ◌≤◌, length, Some, IfOk, IfErr};
 ghost use Rattle.b2_plan.specs.Plans.{Apart};
 ghost use Rattle.b2_top.specs.Rules.{roots};
 ghost use Rattle.b2_top.specs.Jamroots.{outs_of};
-ghost use Rattle.b2_top.specs.ProjectFiles.{IsPlainByte, IsFirstOdd, HasPlan};
-ghost use Rattle.b2_top.specs.Stops.{IsStop, OddLine, IsExact};
+ghost use Rattle.b2_top.specs.ProjectFiles.{HasPlan};
+ghost use Rattle.b2_top.specs.Stops.{stop_of_lex, IsStop, IsExact};
 ghost use Rattle.b2_update.specs.Plain.{IsPlain};
 
 use crate::fault::ReadFault;
@@ -19,33 +19,21 @@ use std::alloc::Global;
 pub enum Stop {
     /// What stands on this line is not built yet.
     NotYet { line: u32 },
-    /// The quotes of a word that begins on this line are not closed.
-    OpenQuote { line: u32 },
+    /// The file has no tokens. The fault is never want of memory.
+    Lex(LexFault),
     OutOfMemory,
 }
 
-fn is_plain(byte: u8) -> bool
-    ensures { IsTrue result ↔ IsPlainByte byte }
+/// What a fault of the lexer is for the project's file.
+fn stop_of_lex(fault: LexFault) -> Stop
+    ensures { result ≡ stop_of_lex fault }
 {
-    byte > 0 && byte < 128
-}
-
-/// The line of the first byte that is zero or above 127.
-fn odd_line(bytes: &[u8]) -> Option<u32>
-    requires { length bytes.now ≤ 1048576 }
-    ensures found { IfSome result (OddLine bytes.now) }
-    ensures none { IfNone result (All IsPlainByte bytes.now) }
-{
-    let mut line = 1;
-    for byte in bytes {
-        if !is_plain(*byte) {
-            return Some(line);
-        }
-        if *byte == b'\n' {
-            line += 1;
-        }
+    match fault {
+        LexFault::NotUtf8 { at } => Stop::Lex(LexFault::NotUtf8 { at }),
+        LexFault::OpenQuote { line } => Stop::Lex(LexFault::OpenQuote { line }),
+        LexFault::OpenActions { line } => Stop::Lex(LexFault::OpenActions { line }),
+        LexFault::OutOfMemory => Stop::OutOfMemory,
     }
-    None
 }
 
 /// The plan of the bytes of a project's file.
@@ -59,18 +47,12 @@ pub fn plan_of(alloc: Global, bytes: &[u8]) -> Result<Plan, Stop>
     ensures stop { IfErr result (IsStop (Some bytes.now)) }
     ensures exact { IsExact (Some bytes.now) result }
 {
-    if let Some(line) = odd_line(bytes) {
-        return Err(Stop::NotYet { line });
-    }
     match lex(alloc, bytes) {
         Ok(tokens) => match read_plan(alloc, tokens.as_slice()) {
             Ok(plan) => Ok(plan),
             Err(ReadFault::NotYet { line }) => Err(Stop::NotYet { line }),
             Err(ReadFault::OutOfMemory) => Err(Stop::OutOfMemory),
         },
-        Err(LexFault::NotUtf8 { .. }) => unreachable!(),
-        Err(LexFault::OpenQuote { line }) => Err(Stop::OpenQuote { line }),
-        Err(LexFault::OpenActions { line }) => Err(Stop::NotYet { line }),
-        Err(LexFault::OutOfMemory) => Err(Stop::OutOfMemory),
+        Err(fault) => Err(stop_of_lex(fault)),
     }
 }

@@ -3,14 +3,15 @@ ghost use Rattle.std.specs.Prelude.{◌≡◌, ◌≢◌, ℕ, List, [], ◌⊎�
 ghost use Rattle.std.specs.Option.{IfSome};
 ghost use Rattle.b2_host.specs.Faults.{Rose};
 ghost use Rattle.b2_host.specs.Childhood.{BothTold};
+ghost use Rattle.jam_lexer.specs.declared.fault.LexFault.{LexFault};
 ghost use Rattle.b2_plan.specs.declared.step.Step.{Step};
 ghost use Rattle.b2_plan.specs.Plans.{Apart};
 ghost use Rattle.b2_update.specs.Plain.{IsPlain};
 ghost use Rattle.b2_top.specs.Rules.{roots};
 ghost use Rattle.b2_top.specs.Jamroots.{outs_of};
 ghost use Rattle.b2_top.specs.ProjectFiles.{jamroot};
-ghost use Rattle.b2_top.specs.Refusals.{open_quote};
-ghost use Rattle.b2_top.specs.Builds.{IsCutShort, CountsTold, ShouldBeNotYet, ShouldBeOpenQuote, CameToPass, LeavesClean, ShouldEndWell, HasReported};
+ghost use Rattle.b2_top.specs.Refusals.{no_tokens};
+ghost use Rattle.b2_top.specs.Builds.{IsCutShort, CountsTold, ShouldBeNotYet, ShouldHaveNoTokens, CameToPass, LeavesClean, ShouldEndWell, HasReported};
 ghost use Rattle.b2_top.specs.Answered.{IsAnswered, IsThePlan};
 
 use crate::answer::Answer;
@@ -78,9 +79,10 @@ pub fn run_b2<H: Children, S: Sink>(
     // A word asks for the usage line, and nothing else does.
     ensures usage { words.now ≢ [] → (result ≡ Answer.Usage) ⊎ IsCutShort result }
     ensures no_usage { result ≡ Answer.Usage → words.now ≢ [] }
-    // A Jamroot that is not as it should be is refused at its line, the first one.
+    // A Jamroot that has no tokens is refused by the name of its fault, and one that is not as it should be at its first
+    // bad line.
     ensures not_yet { BothTold (λ before after. (line : ℕ) → ShouldBeNotYet words.now before line → (result ≡ Answer.Refused (Fault.NotYet jamroot line)) ⊎ IsCutShort result) (H.disk host.old) (H.disk host.new) }
-    ensures open_quote { BothTold (λ before after. (line : ℕ) → ShouldBeOpenQuote words.now before line → (result ≡ Answer.Refused (open_quote line)) ⊎ IsCutShort result) (H.disk host.old) (H.disk host.new) }
+    ensures without_tokens { BothTold (λ before after. (fault : LexFault) → ShouldHaveNoTokens words.now before fault → (result ≡ Answer.Refused (no_tokens fault)) ⊎ IsCutShort result) (H.disk host.old) (H.disk host.new) }
     // Where all sources stand, no child ends badly and nothing fails, the answer is Ok, or want of memory.
     ensures complete { BothTold (λ before after. (steps : List Step) → ShouldEndWell H.made words.now steps (H.family host.old) (H.family host.new) before → H.faults host.new ≡ H.faults host.old → S.faults out.new ≡ S.faults out.old → (result ≡ Answer.Ok) ⊎ IsCutShort result) (H.disk host.old) (H.disk host.new) }
     // What was written is the report.

@@ -95,11 +95,8 @@ fn fault_of(alloc: Global, stop: Stop) -> Result<Fault, OutOfMemory>
             let path = Text::new(alloc, "Jamroot")?;
             Ok(Fault::NotYet { path, line })
         }
-        Stop::OpenQuote { line } => match Path::normal(alloc, "Jamroot") {
-            Ok(path) => {
-                let fault = LexFault::OpenQuote { line };
-                Ok(Fault::Load(LoadFault::Lex { path, fault }))
-            }
+        Stop::Lex(fault) => match Path::normal(alloc, "Jamroot") {
+            Ok(path) => Ok(Fault::Load(LoadFault::Lex { path, fault })),
             Err(_fault) => Err(OutOfMemory),
         },
         Stop::OutOfMemory => Err(OutOfMemory),
