@@ -1,0 +1,5 @@
+use Rattle.b2_runs.proofs.Sameness.{clean_by_sources}
+use Rattle.b2_runs.proofs.after_laws.clean_by_sources.Goals as goal
+
+pub returns : goal.returns
+returns c = clean_by_sources

@@ -1,0 +1,5 @@
+use Rattle.b2_runs.proofs.Closings.{close_is_one}
+use Rattle.b2_runs.proofs.closure_laws.close_is_one.Goals as goal
+
+pub returns : goal.returns
+returns g c = close_is_one g.V.Worth.worth

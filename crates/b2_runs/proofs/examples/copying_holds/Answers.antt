@@ -1,0 +1,5 @@
+use Rattle.b2_runs.proofs.CopyRun.{copying_holds}
+use Rattle.b2_runs.proofs.examples.copying_holds.Goals as goal
+
+pub returns : goal.returns
+returns c = copying_holds

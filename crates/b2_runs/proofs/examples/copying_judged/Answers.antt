@@ -1,0 +1,5 @@
+use Rattle.b2_runs.proofs.Judging.{copying_judged}
+use Rattle.b2_runs.proofs.examples.copying_judged.Goals as goal
+
+pub returns : goal.returns
+returns c = copying_judged

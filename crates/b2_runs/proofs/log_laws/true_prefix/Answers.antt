@@ -1,0 +1,5 @@
+use Rattle.b2_runs.proofs.Lines.{true_prefix}
+use Rattle.b2_runs.proofs.log_laws.true_prefix.Goals as goal
+
+pub returns : goal.returns
+returns c = true_prefix

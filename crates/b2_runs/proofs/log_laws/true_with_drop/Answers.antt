@@ -1,0 +1,5 @@
+use Rattle.b2_runs.proofs.Lines.{true_with_drop}
+use Rattle.b2_runs.proofs.log_laws.true_with_drop.Goals as goal
+
+pub returns : goal.returns
+returns c = true_with_drop

@@ -1,0 +1,5 @@
+use Rattle.b2_runs.proofs.Noting.{failed_is_stale}
+use Rattle.b2_runs.proofs.noted_laws.failed_is_stale.Goals as goal
+
+pub returns : goal.returns
+returns c = failed_is_stale

@@ -1,0 +1,5 @@
+use Rattle.b2_runs.proofs.Noting.{noted_after_record}
+use Rattle.b2_runs.proofs.noted_laws.noted_after_record.Goals as goal
+
+pub returns : goal.returns
+returns c = noted_after_record

@@ -1,0 +1,5 @@
+use Rattle.b2_runs.proofs.Moves.{done_once}
+use Rattle.b2_runs.proofs.run_laws.done_once.Goals as goal
+
+pub returns : goal.returns
+returns c = done_once

@@ -1,0 +1,5 @@
+use Rattle.b2_runs.proofs.Moves.{needed_grows}
+use Rattle.b2_runs.proofs.run_laws.needed_grows.Goals as goal
+
+pub returns : goal.returns
+returns c = needed_grows

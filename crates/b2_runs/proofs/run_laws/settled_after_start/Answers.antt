@@ -1,0 +1,5 @@
+use Rattle.b2_runs.proofs.Moves.{settled_after_start}
+use Rattle.b2_runs.proofs.run_laws.settled_after_start.Goals as goal
+
+pub returns : goal.returns
+returns c = settled_after_start

@@ -1,0 +1,5 @@
+use Rattle.b2_runs.proofs.Settling.{settled_is_clean}
+use Rattle.b2_runs.proofs.settled_laws.settled_is_clean.Goals as goal
+
+pub returns : goal.returns
+returns c = settled_is_clean

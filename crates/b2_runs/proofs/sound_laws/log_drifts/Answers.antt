@@ -1,0 +1,5 @@
+use Rattle.b2_runs.proofs.Keeping.{log_drifts}
+use Rattle.b2_runs.proofs.sound_laws.log_drifts.Goals as goal
+
+pub returns : goal.returns
+returns c = log_drifts

@@ -1,0 +1,5 @@
+use Rattle.b2_runs.proofs.Keeping.{sound_after_end}
+use Rattle.b2_runs.proofs.sound_laws.sound_after_end.Goals as goal
+
+pub returns : goal.returns
+returns c = sound_after_end

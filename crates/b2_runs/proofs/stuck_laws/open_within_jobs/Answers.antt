@@ -1,0 +1,5 @@
+use Rattle.b2_runs.proofs.Opens.{open_within_jobs}
+use Rattle.b2_runs.proofs.stuck_laws.open_within_jobs.Goals as goal
+
+pub returns : goal.returns
+returns c = open_within_jobs

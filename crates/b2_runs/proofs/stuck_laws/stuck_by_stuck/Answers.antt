@@ -1,0 +1,5 @@
+use Rattle.b2_runs.proofs.Sticking.{stuck_by_stuck}
+use Rattle.b2_runs.proofs.stuck_laws.stuck_by_stuck.Goals as goal
+
+pub returns : goal.returns
+returns c = stuck_by_stuck

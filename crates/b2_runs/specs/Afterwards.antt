@@ -1,0 +1,41 @@
+use Rattle.std.specs.Prelude.{◌≡◌, ℕ, true, false, List, Option, Some}
+use Rattle.std.specs.List.{Contains}
+use Rattle.b2_host.specs.declared.children.ChildEvent.{ChildEvent}
+use Rattle.b2_host.specs.declared.children.ChildEvent.TheVariants.{Start, Done}
+use Rattle.b2_host.specs.Standing.{File, Folder}
+use Rattle.b2_plan.specs.declared.step.Step.{Step}
+use Rattle.b2_plan.specs.Plans.{step_at, Makes}
+use Rattle.b2_plan.specs.Sources.{Build}
+use Rattle.b2_plan.specs.Closures.{Value, IsClose}
+use Rattle.b2_plan.specs.Cleans.{Clean}
+use Rattle.b2_runs.specs.Logs.{Line, find_record}
+use Rattle.b2_runs.specs.Staleness.{Update, IsRecorded, NoneOlder, IsFresh}
+use Rattle.b2_runs.specs.Runs.{on_settled}
+
+-- the same update, with these files and this log at entry
+abbrev pub at_present : Update → Folder → List Line → Update
+at_present u now log = record u { build = record u.build { folder = now }; log = log }
+
+-- the next update: with these files and this log at entry, and not to run all
+abbrev pub next_update : Update → Folder → List Line → Update
+next_update u now log = record (at_present u now log) { all = false }
+
+-- The least set of paths that are made by an always-step or a notfile step, or by a step whose closure has one of this set.
+pub data Restless (b : Build) : List ℕ → Type 0 where
+  always : (i : ℕ) (step : Step) (path : List ℕ) → Makes b.steps i step path → step.always ≡ true → Restless b path
+  notfile : (i : ℕ) (step : Step) (path : List ℕ) → Makes b.steps i step path → step.notfile ≡ true → Restless b path
+  through : (i : ℕ) (step : Step) (path : List ℕ) (members : List (List ℕ × Value)) (member : List ℕ) (value : Value) → Makes b.steps i step path → IsClose b (Clean b) step members → Contains members (member, value) → Restless b member → Restless b path
+
+-- The log has the last word on each step, and the files stand so: of a step that was done well it has the record of the
+-- step and of these files, and no output of it is older than a member; of a step that was not started it says what it
+-- said at entry.
+pub record IsNoted (u : Update) (events : List ChildEvent) (now : List ℕ → Option File) (log : List Line) : Type 0 where
+  pub recorded : (i : ℕ) (step : Step) (members : List (List ℕ × Value)) → step_at u.build.steps i ≡ Some step → Contains events (Done i true) → step.notfile ≡ false → IsClose u.build (Clean u.build) step members → IsRecorded now log step members
+  pub none_older : (i : ℕ) (step : Step) (members : List (List ℕ × Value)) → step_at u.build.steps i ≡ Some step → Contains events (Done i true) → step.notfile ≡ false → IsClose u.build (Clean u.build) step members → NoneOlder now step members
+  pub not_started : (i : ℕ) (step : Step) → step_at u.build.steps i ≡ Some step → (Contains events (Start i) → ⊥) → find_record step.outs log ≡ find_record step.outs u.log
+
+-- The step's closure is defined on what is settled, and with it the step is fresh.
+pub record IsFreshStep (u : Update) (events : List ChildEvent) (step : Step) : Type 0 where
+  pub members : List (List ℕ × Value)
+  pub close : IsClose u.build (on_settled u events) step members
+  pub is_fresh : IsFresh u events step members

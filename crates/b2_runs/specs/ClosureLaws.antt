@@ -1,0 +1,24 @@
+use Rattle.std.specs.Prelude.{◌≡◌, ℕ, List}
+use Rattle.b2_plan.specs.declared.step.Step.{Step}
+use Rattle.b2_plan.specs.Sources.{Build}
+use Rattle.b2_plan.specs.Closures.{Value, Values, Known, IsClose}
+
+-- the one says of values all that the other says
+abbrev pub Extends : Values → Values → Type 0
+Extends v more = (path : List ℕ) (value : Value) → v path value → more path value
+
+-- each path has at most one value
+abbrev pub IsMap : Values → Type 0
+IsMap v = (path : List ℕ) (x y : Value) → v path x → v path y → x ≡ y
+
+-- where more is known of values, no less is known of what a step reads
+abbrev pub KnownGrows : Values → Values → Type 0
+KnownGrows v more = (b : Build) (step : Step) (path : List ℕ) → Extends v more → Known b v step path → Known b more step path
+
+-- a closure that is defined stays the same, where more is known of values
+abbrev pub CloseStays : Values → Values → Type 0
+CloseStays v more = (b : Build) (step : Step) (members : List (List ℕ × Value)) → Extends v more → IsMap more → IsClose b v step members → IsClose b more step members
+
+-- the closure is one list
+abbrev pub CloseIsOne : Values → Type 0
+CloseIsOne v = (b : Build) (step : Step) (members others : List (List ℕ × Value)) → IsMap v → IsClose b v step members → IsClose b v step others → members ≡ others

@@ -1,0 +1,48 @@
+use Rattle.std.specs.Prelude.{◌≡◌, ℕ, List, [], ◌∷◌, ◌++◌, Some, map}
+use Rattle.std.specs.List.{Contains}
+use Rattle.b2_host.specs.Standing.{Past}
+use Rattle.b2_runs.specs.Logs.{Record, Line, Line.Recorded, Line.Dropped, path_of, outs_of, record_in, find_record, IsTrueRecord, LogTrue}
+
+-- what a step's text makes of named inputs, at an output
+abbrev pub Makings : Type 0
+Makings = List ℕ → List (List ℕ × List ℕ) → List ℕ → List ℕ
+
+-- what is found is in the log, and has these outputs
+abbrev pub FoundIsThere : Type 0
+FoundIsThere = (outs : List (List ℕ)) (log : List Line) (r : Record) → find_record outs log ≡ Some r → Contains log (Recorded r) × (map path_of r.outs ≡ outs)
+
+-- a line at the end has the last word on its outputs
+abbrev pub LastWord : Type 0
+LastWord = (log : List Line) (line : Line) → find_record (outs_of line) (log ++ line ∷ []) ≡ record_in line
+
+-- a line says nothing of other outputs
+abbrev pub OthersUnsaid : Type 0
+OthersUnsaid = (outs : List (List ℕ)) (log : List Line) (line : Line) → (outs_of line ≡ outs → ⊥) → find_record outs (log ++ line ∷ []) ≡ find_record outs log
+
+-- a log without lines is true
+abbrev pub EmptyIsTrue : Type 0
+EmptyIsTrue = (made : Makings) (past : List Past) → LogTrue made past []
+
+-- a true log stays true where more has stood
+abbrev pub TrueAsPastGrows : Type 0
+TrueAsPastGrows = (made : Makings) (past more : List Past) (log : List Line) → ((old : Past) → Contains past old → Contains more old) → LogTrue made past log → LogTrue made more log
+
+-- a true log stays true where a true record is appended
+abbrev pub TrueWithRecord : Type 0
+TrueWithRecord = (made : Makings) (past : List Past) (log : List Line) (r : Record) → LogTrue made past log → IsTrueRecord made past r → LogTrue made past (log ++ Recorded r ∷ [])
+
+-- a true log stays true where a drop is appended
+abbrev pub TrueWithDrop : Type 0
+TrueWithDrop = (made : Makings) (past : List Past) (log : List Line) (outs : List (List ℕ)) → LogTrue made past log → LogTrue made past (log ++ Dropped outs ∷ [])
+
+-- what is left of a true log that was torn is true: any first lines of it
+abbrev pub TruePrefix : Type 0
+TruePrefix = (made : Makings) (past : List Past) (front rest : List Line) → LogTrue made past (front ++ rest) → LogTrue made past front
+
+-- so is what an append leaves that was torn, be it of a true record
+abbrev pub TrueAfterTornAppend : Type 0
+TrueAfterTornAppend = (made : Makings) (past : List Past) (log front rest : List Line) (r : Record) → LogTrue made past log → IsTrueRecord made past r → log ++ Recorded r ∷ [] ≡ front ++ rest → LogTrue made past front
+
+-- a log whose lines are all among those of a true log is true
+abbrev pub TrueWithFewer : Type 0
+TrueWithFewer = (made : Makings) (past : List Past) (log kept : List Line) → ((line : Line) → Contains kept line → Contains log line) → LogTrue made past log → LogTrue made past kept

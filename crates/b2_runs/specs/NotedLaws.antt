@@ -1,0 +1,51 @@
+use Rattle.std.specs.Prelude.{◌≡◌, ℕ, Bool, true, List, [], ◌∷◌, ◌++◌, Some}
+use Rattle.b2_host.specs.declared.children.ChildEvent.{ChildEvent}
+use Rattle.b2_host.specs.declared.children.ChildEvent.TheVariants.{Start, Done}
+use Rattle.b2_host.specs.Standing.{Folder, Disk, IsKept}
+use Rattle.b2_host.specs.Childhood.{Family, Ends}
+use Rattle.b2_plan.specs.declared.step.Step.{Step}
+use Rattle.b2_plan.specs.Plans.{Apart, step_at}
+use Rattle.b2_plan.specs.Closures.{Value, IsClose}
+use Rattle.b2_plan.specs.Cleans.{Clean}
+use Rattle.b2_runs.specs.Logs.{Record, Line, Line.Recorded, outs_of, find_record}
+use Rattle.b2_runs.specs.Staleness.{Update, AreStamped, paths_with_bytes, NoneOlder, IsFresh}
+use Rattle.b2_runs.specs.Runs.{IsOpen, IsRunSoFar}
+use Rattle.b2_runs.specs.Outcomes.{IsFailed, LeavesNothing}
+use Rattle.b2_runs.specs.Soundness.{IsLoose, Drifts, AreAtWork}
+use Rattle.b2_runs.specs.Afterwards.{next_update, IsNoted}
+
+-- before any event a log that says what the one at entry said has the last word
+abbrev pub NotedAtEntry : Type 0
+NotedAtEntry = (u : Update) (now : Folder) (log : List Line) → ((outs : List (List ℕ)) → find_record outs log ≡ find_record outs u.log) → IsNoted u [] now log
+
+-- .. and as a step starts
+abbrev pub NotedAfterStart : Type 0
+NotedAfterStart = (u : Update) (events : List ChildEvent) (now : Folder) (log : List Line) (i : ℕ) → IsNoted u events now log → IsNoted u (events ++ Start i ∷ []) now log
+
+-- .. as steps that run or failed change their outputs
+abbrev pub NotedAfterDrift : Type 0
+NotedAfterDrift = (u : Update) (events : List ChildEvent) (before after : Disk) (log : List Line) → Apart u.build.steps u.build.roots → IsRunSoFar u events → Drifts u events before after → IsNoted u events before.now log → IsNoted u events after.now log
+
+-- .. as a step is done badly, or as one is done that has no record
+abbrev pub NotedAfterOtherEnd : Type 0
+NotedAfterOtherEnd = (u : Update) (events : List ChildEvent) (now : Folder) (log : List Line) (i : ℕ) (step : Step) (well : Bool) → step_at u.build.steps i ≡ Some step → (well ≡ true → step.notfile ≡ true) → IsNoted u events now log → IsNoted u (events ++ Done i well ∷ []) now log
+
+-- .. as a line is appended for the outputs of a step that runs or failed, as one that drops its record
+abbrev pub NotedAfterLine : Type 0
+NotedAfterLine = (u : Update) (events : List ChildEvent) (now : Folder) (log : List Line) (i : ℕ) (step : Step) (line : Line) → Apart u.build.steps u.build.roots → step_at u.build.steps i ≡ Some step → IsLoose events i → outs_of line ≡ step.outs → IsNoted u events now log → IsNoted u events now (log ++ line ∷ [])
+
+-- .. and as a step is done well and its record is appended
+abbrev pub NotedAfterRecord : Type 0
+NotedAfterRecord = (u : Update) (events : List ChildEvent) (now : Folder) (log : List Line) (i : ℕ) (step : Step) (members : List (List ℕ × Value)) (r : Record) → Apart u.build.steps u.build.roots → IsNoted u events now log → IsOpen events i
+    → step_at u.build.steps i ≡ Some step → IsClose u.build (Clean u.build) step members → r.text ≡ step.text → AreStamped now step.outs r.outs → AreStamped now (paths_with_bytes members) r.ins → NoneOlder now step members
+    → IsNoted u (events ++ Done i true ∷ []) now (log ++ Recorded r ∷ [])
+
+-- a child that ends well leaves no output older than a member of its step's closure
+abbrev pub OutputsAreNewer : Type 0
+OutputsAreNewer = (u : Update) (events : List ChildEvent) (old new : Family) (before after : Disk) (i : ℕ) (step : Step) (members : List (List ℕ × Value)) → Apart u.build.steps u.build.roots → IsRunSoFar u events → AreAtWork u events old.running → IsKept before
+    → Ends u.build.made old (Some before) i true new (Some after) → step_at u.build.steps i ≡ Some step → IsClose u.build (Clean u.build) step members → NoneOlder after.now step members
+
+-- a failed step is stale to the next update, since its outputs do not stand
+abbrev pub FailedIsStale : Type 0
+FailedIsStale = (u : Update) (events : List ChildEvent) (now : Folder) (log : List Line) (i : ℕ) (step : Step) (members : List (List ℕ × Value)) → Apart u.build.steps u.build.roots → LeavesNothing u events now log → IsFailed events i
+    → step_at u.build.steps i ≡ Some step → IsFresh (next_update u now log) [] step members → ⊥

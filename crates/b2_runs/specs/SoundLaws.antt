@@ -1,0 +1,50 @@
+use Rattle.std.specs.Prelude.{◌≡◌, ℕ, Bool, true, false, List, [], ◌∷◌, ◌++◌, Some}
+use Rattle.std.specs.List.{Contains}
+use Rattle.b2_host.specs.declared.children.ChildEvent.{ChildEvent}
+use Rattle.b2_host.specs.declared.children.ChildEvent.TheVariants.{Start, Done}
+use Rattle.b2_host.specs.Standing.{Disk, Past, IsKept, without}
+use Rattle.b2_host.specs.Childhood.{Family, Child, WorkedOn, Ends}
+use Rattle.b2_plan.specs.declared.step.Step.{Step}
+use Rattle.b2_plan.specs.Plans.{Apart, Makes, log_path, step_at}
+use Rattle.b2_plan.specs.Closures.{Value, IsClose}
+use Rattle.b2_plan.specs.Cleans.{Clean}
+use Rattle.b2_runs.specs.Logs.{Record, LogTrue, IsTrueRecord}
+use Rattle.b2_runs.specs.Staleness.{Update, AreStamped, paths_with_bytes}
+use Rattle.b2_runs.specs.Runs.{Settled}
+use Rattle.b2_runs.specs.Soundness.{IsSound, IsLoose, Drifts, AreAtWork}
+
+-- where an update begins, the disk is sound to it
+abbrev pub SoundAtEntry : Type 0
+SoundAtEntry = (u : Update) (disk : Disk) → IsKept disk → LogTrue u.build.made disk.past u.log → ((path : List ℕ) → u.build.folder path ≡ disk.now path) → IsSound u [] disk
+
+-- it stays sound as a step starts
+abbrev pub SoundAfterStart : Type 0
+SoundAfterStart = (u : Update) (events : List ChildEvent) (disk : Disk) (i : ℕ) → IsSound u events disk → IsSound u (events ++ Start i ∷ []) disk
+
+-- it stays sound as steps that run or failed change their outputs, and the log changes
+abbrev pub SoundAfterDrift : Type 0
+SoundAfterDrift = (u : Update) (events : List ChildEvent) (before after : Disk) → Apart u.build.steps u.build.roots → IsSound u events before → Drifts u events before after → IsSound u events after
+
+-- it stays sound as a child ends: where it ended well, its outputs have the clean build's bytes
+abbrev pub SoundAfterEnd : Type 0
+SoundAfterEnd = (u : Update) (events : List ChildEvent) (old new : Family) (before after : Disk) (i : ℕ) (well : Bool) → Apart u.build.steps u.build.roots → AreAtWork u events old.running → IsSound u events before → IsKept after
+    → Ends u.build.made old (Some before) i well new (Some after) → IsSound u (events ++ Done i well ∷ []) after
+
+-- children at work change nothing but outputs of steps that run
+abbrev pub WorkDrifts : Type 0
+WorkDrifts = (u : Update) (events : List ChildEvent) (running : List Child) (before after : Disk) → AreAtWork u events running → IsKept after → WorkedOn running before after → Drifts u events before after
+
+-- to remove an output of a step that runs or failed changes nothing else
+abbrev pub RemovalDrifts : Type 0
+RemovalDrifts = (u : Update) (events : List ChildEvent) (disk : Disk) (i : ℕ) (step : Step) (path : List ℕ) → Makes u.build.steps i step path → IsLoose events i → IsKept (without path disk) → Drifts u events disk (without path disk)
+
+-- a call that changes nothing but the log changes nothing else
+abbrev pub LogDrifts : Type 0
+LogDrifts = (u : Update) (events : List ChildEvent) (before after : Disk) → IsKept after → ((path : List ℕ) → (path ≡ log_path → ⊥) → after.now path ≡ before.now path) → ((old : Past) → Contains before.past old → Contains after.past old) → Drifts u events before after
+
+-- the record of a step that was done well is true as soon as the step is done, before it is appended
+abbrev pub RecordIsTrue : Type 0
+RecordIsTrue = (u : Update) (events : List ChildEvent) (disk : Disk) (i : ℕ) (step : Step) (members : List (List ℕ × Value)) (r : Record) → Apart u.build.steps u.build.roots → IsSound u events disk
+    → step_at u.build.steps i ≡ Some step → Contains events (Done i true) → step.notfile ≡ false
+    → IsClose u.build (Clean u.build) step members → ((member : List ℕ) (value : Value) → Contains members (member, value) → Settled u events member)
+    → r.text ≡ step.text → AreStamped disk.now step.outs r.outs → AreStamped disk.now (paths_with_bytes members) r.ins → IsTrueRecord u.build.made disk.past r

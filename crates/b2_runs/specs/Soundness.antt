@@ -1,0 +1,53 @@
+use Rattle.std.specs.Prelude.{◌≡◌, ◌≢◌, ℕ, true, List, Some, None, ⊤}
+use Rattle.std.specs.List.{Contains, AllPairs}
+use Rattle.b2_host.specs.declared.children.ChildEvent.{ChildEvent}
+use Rattle.b2_host.specs.declared.children.ChildEvent.TheVariants.{Start, Done}
+use Rattle.b2_host.specs.Standing.{File, Folder, Disk, Past, Stood, IsKept, bytes_at}
+use Rattle.b2_host.specs.Childhood.{Given, Child}
+use Rattle.b2_plan.specs.declared.step.Step.{Step}
+use Rattle.b2_plan.specs.Plans.{log_path, Makes}
+use Rattle.b2_plan.specs.Closures.{Value}
+use Rattle.b2_plan.specs.Cleans.{Clean}
+use Rattle.b2_runs.specs.Logs.{LogTrue}
+use Rattle.b2_runs.specs.Staleness.{Update}
+use Rattle.b2_runs.specs.Runs.{IsOpen, IsFed}
+use Rattle.b2_runs.specs.Outcomes.{OnlyOutputsChange}
+
+-- where the value is bytes, a file with these bytes stands there
+abbrev pub Holds : Folder → List ℕ → Value → Type 0
+Holds folder path None = ⊤
+Holds folder path (Some bytes) = bytes_at folder path ≡ Some bytes
+
+-- How the disk stands to an update after these events: the files at entry have stood and the log at entry is true, what
+-- was done well has the values of the clean build, and nothing else has changed but the log and outputs of started steps.
+pub record IsSound (u : Update) (events : List ChildEvent) (disk : Disk) : Type 0 where
+  pub keeps : IsKept disk
+  pub entry_stood : (path : List ℕ) (file : File) → u.build.folder path ≡ Some file → Stood disk.past path file
+  pub log_true : LogTrue u.build.made disk.past u.log
+  pub done_well : (i : ℕ) (step : Step) (path : List ℕ) → Makes u.build.steps i step path → Contains events (Done i true) → (value : Value) × Clean u.build path value × Holds disk.now path value
+  pub only_outputs : OnlyOutputsChange u events u.build.folder disk.now
+
+-- the step was started and has not ended well: it runs, or it failed
+abbrev pub IsLoose : List ChildEvent → ℕ → Type 0
+IsLoose events i = Contains events (Start i) × (Contains events (Done i true) → ⊥)
+
+-- Between two events nothing changes but the log and outputs of steps that run or failed, and what stood is not forgotten.
+pub record Drifts (u : Update) (events : List ChildEvent) (before after : Disk) : Type 0 where
+  pub keeps : IsKept after
+  pub others : (path : List ℕ) → (path ≡ log_path → ⊥) → ((i : ℕ) (step : Step) → Makes u.build.steps i step path → IsLoose events i → ⊥) → after.now path ≡ before.now path
+  pub grows : (old : Past) → Contains before.past old → Contains after.past old
+
+-- The child is that of an open step, and was given what the step is to be given.
+pub record IsAtWork (u : Update) (events : List ChildEvent) (child : Child) : Type 0 where
+  pub is_open : IsOpen events child.step
+  pub given : Given
+  pub told : child.given ≡ Some given
+  pub fed : IsFed u child.step given
+  pub ins : child.ins ≡ given.ins
+  pub outs : child.outs ≡ given.outs
+
+-- The children that run are those of the open steps, each once and at work.
+pub record AreAtWork (u : Update) (events : List ChildEvent) (running : List Child) : Type 0 where
+  pub each : (child : Child) → Contains running child → IsAtWork u events child
+  pub once : AllPairs (λ child other. child.step ≢ other.step) running
+  pub whole : (i : ℕ) → IsOpen events i → (child : Child) × Contains running child × (child.step ≡ i)

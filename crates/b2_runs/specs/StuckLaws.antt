@@ -1,0 +1,33 @@
+use Rattle.std.specs.Prelude.{◌≡◌, ℕ, ◌+◌, ◌≤◌, List, Some, count_by}
+use Rattle.std.specs.List.{Contains}
+use Rattle.b2_host.specs.declared.children.ChildEvent.{ChildEvent}
+use Rattle.b2_plan.specs.declared.step.Step.{Step}
+use Rattle.b2_plan.specs.Plans.{Apart, Makes, step_at}
+use Rattle.b2_plan.specs.Closures.{Known}
+use Rattle.b2_runs.specs.Staleness.{Update}
+use Rattle.b2_runs.specs.Runs.{on_settled, IsOpen, IsRunSoFar, IsRun, is_start, is_done}
+use Rattle.b2_runs.specs.Outcomes.{IsSettledStep, IsStuck}
+use Rattle.b2_runs.specs.Cycles.{IsStepCycle}
+
+-- where a stuck step needs an output of a step that is not settled, that step is stuck too
+abbrev pub StuckByStuck : Type 0
+StuckByStuck = (u : Update) (events : List ChildEvent) (i k : ℕ) (step other : Step) (path : List ℕ) → IsStuck u events i → step_at u.build.steps i ≡ Some step → Known u.build (on_settled u events) step path
+    → Makes u.build.steps k other path → (IsSettledStep u events k → ⊥) → IsStuck u events k
+
+-- a stuck step needs a stuck step, where a list has all that it is known to read
+abbrev pub StuckNeedsStuck : Type 0
+StuckNeedsStuck = (u : Update) (events : List ChildEvent) (i : ℕ) (step : Step) (names : List (List ℕ)) → Apart u.build.steps u.build.roots → 1 ≤ u.jobs → IsRun u events → IsStuck u events i → step_at u.build.steps i ≡ Some step
+    → ((path : List ℕ) → Known u.build (on_settled u events) step path → Contains names path)
+    → ¬ ((path : List ℕ) (k : ℕ) (other : Step) → Known u.build (on_settled u events) step path → Makes u.build.steps k other path → ¬ IsStuck u events k)
+
+-- no more steps are open than there are jobs
+abbrev pub OpenWithinJobs : Type 0
+OpenWithinJobs = (u : Update) (events : List ChildEvent) → IsRunSoFar u events → count_by is_start events ≤ count_by is_done events + u.jobs
+
+-- where nothing is open, as many steps are done as were started
+abbrev pub StartsAreDone : Type 0
+StartsAreDone = (u : Update) (events : List ChildEvent) → IsRunSoFar u events → ((i : ℕ) → IsOpen events i → ⊥) → count_by is_start events ≡ count_by is_done events
+
+-- the list of a step cycle is one
+abbrev pub StepCycleIsOne : Type 0
+StepCycleIsOne = (u : Update) (events : List ChildEvent) (list other : List ℕ) → IsStepCycle u events list → IsStepCycle u events other → list ≡ other

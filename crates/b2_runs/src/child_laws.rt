@@ -1,0 +1,42 @@
+//! Laws of children beside a run: what they are given, and which of them are at work.
+ghost use Rattle.b2_runs.specs.ChildLaws.{StartIsFed, StartMayBegin, AtWorkAtEntry, AtWorkAfterStart, AtWorkAfterEnd, EndIsOpen, FedAfterStart, FedAfterEnd};
+
+/// A step that can start is fed, where it is handed the members of its closure that have bytes.
+pub fn start_is_fed()
+    ensures { StartIsFed }
+{}
+
+/// A step that can start may start beside the children that are at work.
+pub fn start_may_begin()
+    ensures { StartMayBegin }
+{}
+
+/// Before any event no child is at work.
+pub fn at_work_at_entry()
+    ensures { AtWorkAtEntry }
+{}
+
+/// After a start one child more is at work.
+pub fn at_work_after_start()
+    ensures { AtWorkAfterStart }
+{}
+
+/// After an end one child less is at work.
+pub fn at_work_after_end()
+    ensures { AtWorkAfterEnd }
+{}
+
+/// A child that ends is that of an open step.
+pub fn end_is_open()
+    ensures { EndIsOpen }
+{}
+
+/// Each start has its entry in what was given, as one more starts.
+pub fn fed_after_start()
+    ensures { FedAfterStart }
+{}
+
+/// Each start has its entry in what was given, as one ends.
+pub fn fed_after_end()
+    ensures { FedAfterEnd }
+{}

@@ -1,0 +1,30 @@
+//! Small updates for which all that the laws ask for holds, so that no law speaks of nothing.
+ghost use Rattle.b2_runs.specs.Examples.{CopyingHolds, CopyingJudged, CirclingHolds};
+ghost use Rattle.b2_runs.specs.Overlap.{OverlapHolds, FailureHolds};
+
+/// An update that copies one file: its run is a whole run in which all went well, its disk is sound, its log is true and
+/// has the last word.
+pub fn copying_holds()
+    ensures { CopyingHolds }
+{}
+
+/// The step of that update is fresh to the next one where nothing was done, and stale where a file, the log, its closure or
+/// its text is another.
+pub fn copying_judged()
+    ensures { CopyingJudged }
+{}
+
+/// An update whose step reads what it writes: nothing can start, and the step is stuck.
+pub fn circling_holds()
+    ensures { CirclingHolds }
+{}
+
+/// An update of three steps with two jobs: children that overlap are a whole run, and other events are none.
+pub fn overlap_holds()
+    ensures { OverlapHolds }
+{}
+
+/// The same update where the second child fails: the step that needs it is skipped, and the others are not.
+pub fn failure_holds()
+    ensures { FailureHolds }
+{}

@@ -1,0 +1,17 @@
+//! What a run of an update is, and the laws that its outcome follows from.
+#![tactic(auto)]
+
+pub mod after_laws;
+pub mod child_laws;
+pub mod closure_laws;
+pub mod complete_laws;
+pub mod examples;
+pub mod log_laws;
+pub mod noted_laws;
+pub mod run_laws;
+pub mod settled_laws;
+pub mod sound_laws;
+pub mod stale_laws;
+pub mod stuck_laws;
+#[cfg(test)]
+mod tests;

@@ -1,0 +1,42 @@
+//! Laws of the log beside a run: it has the last word on each step.
+ghost use Rattle.b2_runs.specs.NotedLaws.{NotedAtEntry, NotedAfterStart, NotedAfterDrift, NotedAfterOtherEnd, NotedAfterLine, NotedAfterRecord, OutputsAreNewer, FailedIsStale};
+
+/// Before any event a log that says what the one at entry said has the last word.
+pub fn noted_at_entry()
+    ensures { NotedAtEntry }
+{}
+
+/// The log has the last word as a step starts.
+pub fn noted_after_start()
+    ensures { NotedAfterStart }
+{}
+
+/// The log has the last word as steps that run or failed change their outputs.
+pub fn noted_after_drift()
+    ensures { NotedAfterDrift }
+{}
+
+/// The log has the last word as a step is done badly, or as one is done well that has no record.
+pub fn noted_after_other_end()
+    ensures { NotedAfterOtherEnd }
+{}
+
+/// The log has the last word as a line is appended for the outputs of a step that runs or failed.
+pub fn noted_after_line()
+    ensures { NotedAfterLine }
+{}
+
+/// The log has the last word as a step is done well and its record is appended.
+pub fn noted_after_record()
+    ensures { NotedAfterRecord }
+{}
+
+/// A child that ends well leaves no output older than a member of its step's closure.
+pub fn outputs_are_newer()
+    ensures { OutputsAreNewer }
+{}
+
+/// A failed step whose outputs do not stand is stale to the next update.
+pub fn failed_is_stale()
+    ensures { FailedIsStale }
+{}

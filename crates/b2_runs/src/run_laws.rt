@@ -1,0 +1,52 @@
+//! Laws of runs: how they go on, and what stays as they do.
+ghost use Rattle.b2_runs.specs.RunLaws.{RunGoesOn, RunHasBegun, SettledAfterStart, SettledAfterEnd, NeededGrows, CloseOnSettled, StartedHasClosure, DoneWasStarted, DoneOnce, SettledHasValue};
+
+/// A run goes on by each event that may come.
+pub fn run_goes_on()
+    ensures { RunGoesOn }
+{}
+
+/// The beginning of a run is one.
+pub fn run_has_begun()
+    ensures { RunHasBegun }
+{}
+
+/// What is settled stays settled as a step starts.
+pub fn settled_after_start()
+    ensures { SettledAfterStart }
+{}
+
+/// What is settled stays settled as a step ends.
+pub fn settled_after_end()
+    ensures { SettledAfterEnd }
+{}
+
+/// What is needed stays needed as a run goes on.
+pub fn needed_grows()
+    ensures { NeededGrows }
+{}
+
+/// A closure by what is settled is one by the clean build with all members settled, and the other way round.
+pub fn close_on_settled()
+    ensures { CloseOnSettled }
+{}
+
+/// A step that was started has its closure on what is settled.
+pub fn started_has_closure()
+    ensures { StartedHasClosure }
+{}
+
+/// A step that is done was started.
+pub fn done_was_started()
+    ensures { DoneWasStarted }
+{}
+
+/// A step is done once.
+pub fn done_once()
+    ensures { DoneOnce }
+{}
+
+/// What is settled has a value in the clean build.
+pub fn settled_has_value()
+    ensures { SettledHasValue }
+{}

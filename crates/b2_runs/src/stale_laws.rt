@@ -1,0 +1,12 @@
+//! Laws of staleness: it is one of five points.
+ghost use Rattle.b2_runs.specs.StaleLaws.{StaleByPoint, StaleByPointAlone};
+
+/// A step is stale where one of the five points holds.
+pub fn stale_by_point()
+    ensures { StaleByPoint }
+{}
+
+/// A step is stale nowhere else: where none of the five points holds it is not.
+pub fn stale_by_point_alone()
+    ensures { StaleByPointAlone }
+{}

@@ -1,0 +1,27 @@
+//! Laws of stuck steps: each needs another, so they go in a circle.
+ghost use Rattle.b2_runs.specs.StuckLaws.{StuckByStuck, StuckNeedsStuck, StartsAreDone, OpenWithinJobs, StepCycleIsOne};
+
+/// Where a stuck step needs an output of a step that is not settled, that step is stuck too.
+pub fn stuck_by_stuck()
+    ensures { StuckByStuck }
+{}
+
+/// A stuck step needs a stuck step, where a list has all that it is known to read.
+pub fn stuck_needs_stuck()
+    ensures { StuckNeedsStuck }
+{}
+
+/// Where nothing is open, as many steps are done as were started.
+pub fn starts_are_done()
+    ensures { StartsAreDone }
+{}
+
+/// The list of a step cycle is one.
+pub fn step_cycle_is_one()
+    ensures { StepCycleIsOne }
+{}
+
+/// No more steps are open than there are jobs.
+pub fn open_within_jobs()
+    ensures { OpenWithinJobs }
+{}
