@@ -1,0 +1,12 @@
+//! What a token says.
+use b2_base::text::Text;
+use b2_base::token::TokenKind;
+
+/// What a token says, without its place.
+#[derive(Debug, Drop)]
+pub struct Lexeme {
+    /// What it is.
+    pub kind: TokenKind,
+    /// Its text; for a word without the quotes and backslashes of its spelling.
+    pub text: Text,
+}
