@@ -11,6 +11,7 @@ pub mod Keeping
 pub mod Sameness
 pub mod Presence
 pub mod Calmness
+pub mod Seeing
 pub mod Noting
 pub mod Opens
 pub mod Gathering

@@ -5,8 +5,8 @@ use Rattle.std.proofs.lemmas.List.Elements.{Contains-push_cases, Contains-append
 use Rattle.std.proofs.lemmas.Slice.Eq.{bytes_eq-Decides}
 use Rattle.std.specs.Str.{bytes_eq}
 use Rattle.b2_host.specs.Standing.{Past}
-use Rattle.b2_runs.specs.Logs.{Record, Line, Line.Recorded, Line.Dropped, path_of, outs_of, paths_eq, record_in, last_line, InputStood, IsTrueRecord, IsTrueLine, LogTrue}
-use Rattle.b2_runs.specs.LogLaws.{Makings, FoundIsThere, LastWord, OthersUnsaid, EmptyIsTrue, TrueAsPastGrows, TrueWithRecord, TrueWithDrop, TruePrefix, TrueAfterTornAppend, TrueWithFewer}
+use Rattle.b2_runs.specs.Logs.{Record, Line, Line.Recorded, Line.Dropped, path_of, outs_of, paths_eq, record_in, last_line, find_record, InputStood, IsTrueRecord, IsTrueLine, LogTrue}
+use Rattle.b2_runs.specs.LogLaws.{Makings, FoundIsThere, LastWord, OthersUnsaid, OthersUnsaidThoughTorn, EmptyIsTrue, TrueAsPastGrows, TrueWithRecord, TrueWithDrop, TruePrefix, TrueAfterTornAppend, TrueWithFewer}
 use Rattle.b2_runs.proofs.Elements.{Contains_here, Contains_there, Contains_nil}
 
 -- what stands in a list read backwards stands in it
@@ -77,6 +77,10 @@ last_word log line =
 pub others_unsaid : OthersUnsaid
 others_unsaid outs log line differ =
     ap (option_and_then record_in) (last_pushed outs log line ∙ ap (λ t. cond t (Some line) (last_line outs log)) (paths_eq_false (outs_of line) outs differ))
+
+pub others_unsaid_though_torn : OthersUnsaidThoughTorn
+others_unsaid_though_torn outs log after line (inl same) differ = ap (find_record outs) same
+others_unsaid_though_torn outs log after line (inr whole) differ = ap (find_record outs) whole ∙ others_unsaid outs log line differ
 
 pub empty_is_true : EmptyIsTrue
 empty_is_true made past line c = absurd (Contains_nil line c)

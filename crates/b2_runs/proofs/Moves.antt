@@ -8,8 +8,8 @@ use Rattle.b2_plan.specs.Plans.{Makes, Apart, step_at}
 use Rattle.b2_plan.specs.Closures.{Value, IsClose}
 use Rattle.b2_plan.specs.Cleans.{Clean, value_of}
 use Rattle.b2_runs.specs.Staleness.{Update, IsFresh}
-use Rattle.b2_runs.specs.Runs.{Settled, Settled.source, Settled.done_well, Settled.fresh, on_settled, Needed, Needed.wanted, Needed.member, IsOpen, CanStart, MayCome, RunFrom}
-use Rattle.b2_runs.specs.RunLaws.{RunGoesOn, RunHasBegun, SettledAfterStart, SettledAfterEnd, NeededGrows, CloseOnSettled, StartedHasClosure, DoneWasStarted, DoneOnce, SettledHasValue}
+use Rattle.b2_runs.specs.Runs.{Settled, Settled.source, Settled.done_well, Settled.fresh, on_settled, Needed, Needed.wanted, Needed.member, IsOpen, CanStart, MayCome, RunFrom, AreOnce}
+use Rattle.b2_runs.specs.RunLaws.{RunGoesOn, RunHasBegun, SettledAfterStart, SettledAfterEnd, NeededGrows, CloseOnSettled, StartedHasClosure, DoneWasStarted, DoneOnce, EachEventOnce, SettledHasValue}
 use Rattle.b2_runs.proofs.Elements.{one_step, Contains_cases, Contains_nil}
 use Rattle.b2_runs.proofs.Closings.{known_grows, close_stays, close_back, close_is_one}
 use Rattle.b2_runs.proofs.Rounds.{source_not_made}
@@ -202,6 +202,26 @@ run_once u before (e ∷ events) i well other (m, r) c d = go (Contains_cases e 
 -- a step is done once
 pub done_once : DoneOnce
 done_once u events i well other r c d = run_once u [] events i well other r c d
+
+-- no event that was there before comes in a run, and none comes twice
+run_each : (u : Update) (before events : List ChildEvent) → RunFrom u before events → ((event : ChildEvent) → Contains events event → Contains before event → ⊥) × AreOnce events
+run_each u before [] r = (λ event c old. Contains_nil event c, tt)
+run_each u before (e ∷ events) (m, r) =
+    let (new, once) = run_each u (before ++ e ∷ []) events r in (
+      λ event c old. elim (Contains_cases e event events c) [
+        | inl same ↦ first e m (subst (Contains before) (sym same) old)
+        | inr later ↦ new event later (Contains-append_left before (e ∷ []) event old)
+      ],
+      (λ c. new e c (Contains-push before e), once),
+    )
+  where
+    first : (event : ChildEvent) → MayCome u before event → Contains before event → ⊥
+    first (Start i) may old = may.0.not_started old
+    first (Done i well) may old = may.0.1 well old
+
+-- each event of a run is there once
+pub each_event_once : EachEventOnce
+each_event_once u events r = (run_each u [] events r).1
 
 -- what is settled in a run has a value in the clean build
 pub settled_has_value : SettledHasValue

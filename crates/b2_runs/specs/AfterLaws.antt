@@ -1,16 +1,16 @@
-use Rattle.std.specs.Prelude.{◌≡◌, ◌↔◌, ℕ, List, [], Some}
+use Rattle.std.specs.Prelude.{◌≡◌, ◌↔◌, ℕ, true, false, List, [], Some, None}
 use Rattle.std.specs.List.{Contains}
 use Rattle.b2_host.specs.declared.children.ChildEvent.{ChildEvent}
 use Rattle.b2_host.specs.declared.children.ChildEvent.TheVariants.{Start}
-use Rattle.b2_host.specs.Standing.{Folder, Disk}
+use Rattle.b2_host.specs.Standing.{Folder, Disk, bytes_at}
 use Rattle.b2_plan.specs.declared.step.Step.{Step}
 use Rattle.b2_plan.specs.Plans.{Apart, Makes, step_at}
 use Rattle.b2_plan.specs.Sources.{Build, IsInRoots}
-use Rattle.b2_plan.specs.Closures.{Value}
+use Rattle.b2_plan.specs.Closures.{Value, Values, IsClose}
 use Rattle.b2_plan.specs.Cleans.{Clean}
 use Rattle.b2_runs.specs.Logs.{Line, find_record}
 use Rattle.b2_runs.specs.Staleness.{Update, IsFresh}
-use Rattle.b2_runs.specs.Runs.{Settled, IsRunSoFar, CanStart}
+use Rattle.b2_runs.specs.Runs.{Settled, on_settled, IsRunSoFar, CanStart}
 use Rattle.b2_runs.specs.Outcomes.{AllWent}
 use Rattle.b2_runs.specs.Soundness.{IsSound}
 use Rattle.b2_runs.specs.Afterwards.{at_present, next_update, Restless, IsNoted, IsFreshStep}
@@ -26,6 +26,24 @@ JudgedByPresent = (u : Update) (events : List ChildEvent) (disk : Disk) (log : L
     → step_at u.build.steps i ≡ Some step → (Contains events (Start i) → ⊥) → ((member : List ℕ) (value : Value) → Contains members (member, value) → Settled u events member)
     → IsFresh (at_present u disk.now log) events step members ↔ IsFresh u events step members
 
+-- The value that a path is seen to have on the disk: none where a notfile step makes it, else the bytes that stand there.
+abbrev pub seen : Build → Folder → Values
+seen b now path None = (i : ℕ) × (step : Step) × Makes b.steps i step path × (step.notfile ≡ true)
+seen b now path (Some bytes) = (bytes_at now path ≡ Some bytes) × ((i : ℕ) (step : Step) → Makes b.steps i step path → step.notfile ≡ false)
+
+-- the values that are seen of what is settled
+abbrev pub seen_settled : Update → List ChildEvent → Folder → Values
+seen_settled u events now path value = Settled u events path × seen u.build now path value
+
+-- of what is settled the disk shows the values of the clean build, and no others
+abbrev pub SeenIsClean : Type 0
+SeenIsClean = (u : Update) (events : List ChildEvent) (disk : Disk) (path : List ℕ) (value : Value) → Apart u.build.steps u.build.roots → IsRunSoFar u events → IsSound u events disk → on_settled u events path value ↔ seen_settled u events disk.now path value
+
+-- so the closure of a step that the present disk shows on what is settled is its closure by the clean build there
+abbrev pub ClosureByPresent : Type 0
+ClosureByPresent = (u : Update) (events : List ChildEvent) (disk : Disk) (step : Step) (members : List (List ℕ × Value)) → Apart u.build.steps u.build.roots → IsRunSoFar u events → IsSound u events disk
+    → IsClose (record u.build { folder = disk.now }) (seen_settled u events disk.now) step members ↔ IsClose u.build (on_settled u events) step members
+
 -- what was settled is settled to the next update before any event, but for what an always-step or a notfile step reaches
 abbrev pub SettledAfterwards : Type 0
 SettledAfterwards = (u : Update) (events : List ChildEvent) (disk : Disk) (log : List Line) (path : List ℕ) → Apart u.build.steps u.build.roots → IsRunSoFar u events → IsSound u events disk → IsNoted u events disk.now log
@@ -37,7 +55,12 @@ abbrev pub FreshAfterwards : Type 0
 FreshAfterwards = (u : Update) (events : List ChildEvent) (disk : Disk) (log : List Line) (i : ℕ) (step : Step) (path : List ℕ) → Apart u.build.steps u.build.roots → IsRunSoFar u events → IsSound u events disk → IsNoted u events disk.now log
     → Makes u.build.steps i step path → Settled u events path → (Restless u.build path → ⊥) → IsFreshStep (next_update u disk.now log) [] step
 
--- where all went well, the next update can start no other steps
+-- where all went well, the next update can at no moment of its run start any other step
+abbrev pub NoneCanStartAfterwards : Type 0
+NoneCanStartAfterwards = (u : Update) (events later : List ChildEvent) (disk : Disk) (log : List Line) (i : ℕ) (step : Step) (path : List ℕ) → Apart u.build.steps u.build.roots → IsRunSoFar u events → IsSound u events disk → IsNoted u events disk.now log → AllWent u events
+    → IsRunSoFar (next_update u disk.now log) later → Makes u.build.steps i step path → (Restless u.build path → ⊥) → CanStart (next_update u disk.now log) later i → ⊥
+
+-- so its run, however far it has gone, holds the start of no other step
 abbrev pub NothingStartsAfterwards : Type 0
-NothingStartsAfterwards = (u : Update) (events : List ChildEvent) (disk : Disk) (log : List Line) (i : ℕ) (step : Step) (path : List ℕ) → Apart u.build.steps u.build.roots → IsRunSoFar u events → IsSound u events disk → IsNoted u events disk.now log → AllWent u events
-    → Makes u.build.steps i step path → (Restless u.build path → ⊥) → CanStart (next_update u disk.now log) [] i → ⊥
+NothingStartsAfterwards = (u : Update) (events later : List ChildEvent) (disk : Disk) (log : List Line) (i : ℕ) (step : Step) (path : List ℕ) → Apart u.build.steps u.build.roots → IsRunSoFar u events → IsSound u events disk → IsNoted u events disk.now log → AllWent u events
+    → IsRunSoFar (next_update u disk.now log) later → Makes u.build.steps i step path → (Restless u.build path → ⊥) → Contains later (Start i) → ⊥

@@ -1,4 +1,4 @@
-use Rattle.std.specs.Prelude.{◌≡◌, ℕ, List, [], ◌∷◌, ◌++◌, Some, map}
+use Rattle.std.specs.Prelude.{◌≡◌, ◌⊎◌, ℕ, List, [], ◌∷◌, ◌++◌, Some, map}
 use Rattle.std.specs.List.{Contains}
 use Rattle.b2_host.specs.Standing.{Past}
 use Rattle.b2_runs.specs.Logs.{Record, Line, Line.Recorded, Line.Dropped, path_of, outs_of, record_in, find_record, IsTrueRecord, LogTrue}
@@ -42,6 +42,10 @@ TruePrefix = (made : Makings) (past : List Past) (front rest : List Line) → Lo
 -- so is what an append leaves that was torn, be it of a true record
 abbrev pub TrueAfterTornAppend : Type 0
 TrueAfterTornAppend = (made : Makings) (past : List Past) (log front rest : List Line) (r : Record) → LogTrue made past log → IsTrueRecord made past r → log ++ Recorded r ∷ [] ≡ front ++ rest → LogTrue made past front
+
+-- an append that was torn has left the lines as they were, or the whole line behind them: it says nothing of other outputs
+abbrev pub OthersUnsaidThoughTorn : Type 0
+OthersUnsaidThoughTorn = (outs : List (List ℕ)) (log after : List Line) (line : Line) → (after ≡ log) ⊎ (after ≡ log ++ line ∷ []) → (outs_of line ≡ outs → ⊥) → find_record outs after ≡ find_record outs log
 
 -- a log whose lines are all among those of a true log is true
 abbrev pub TrueWithFewer : Type 0

@@ -7,7 +7,7 @@ use Rattle.b2_plan.specs.Plans.{Apart, step_at}
 use Rattle.b2_plan.specs.Closures.{Value, IsClose}
 use Rattle.b2_plan.specs.Cleans.{Clean}
 use Rattle.b2_runs.specs.Staleness.{Update}
-use Rattle.b2_runs.specs.Runs.{Settled, on_settled, Needed, IsOpen, CanStart, MayCome, IsRunSoFar}
+use Rattle.b2_runs.specs.Runs.{Settled, on_settled, Needed, IsOpen, CanStart, MayCome, IsRunSoFar, AreOnce}
 
 -- a run goes on by each event that may come
 abbrev pub RunGoesOn : Type 0
@@ -47,6 +47,10 @@ DoneWasStarted = (u : Update) (events : List ChildEvent) (i : ℕ) (well : Bool)
 -- a step is done once
 abbrev pub DoneOnce : Type 0
 DoneOnce = (u : Update) (events : List ChildEvent) (i : ℕ) (well other : Bool) → IsRunSoFar u events → Contains events (Done i well) → Contains events (Done i other) → well ≡ other
+
+-- so each event of a run is there once: no step starts twice, and none ends twice
+abbrev pub EachEventOnce : Type 0
+EachEventOnce = (u : Update) (events : List ChildEvent) → IsRunSoFar u events → AreOnce events
 
 -- what is settled has a value in the clean build: no file is asked for this
 abbrev pub SettledHasValue : Type 0

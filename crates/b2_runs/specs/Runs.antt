@@ -66,6 +66,11 @@ RunFrom u before (event ∷ events) = MayCome u before event × RunFrom u (befor
 abbrev pub IsRunSoFar : Update → List ChildEvent → Type 0
 IsRunSoFar u events = RunFrom u [] events
 
+-- each of the events is there once
+abbrev pub AreOnce : List ChildEvent → Type 0
+AreOnce [] = ⊤
+AreOnce (event ∷ events) = (Contains events event → ⊥) × AreOnce events
+
 -- a whole run: at its end nothing is open and nothing can start
 pub record IsRun (u : Update) (events : List ChildEvent) : Type 0 where
   pub each : IsRunSoFar u events

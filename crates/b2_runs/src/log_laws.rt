@@ -1,5 +1,5 @@
 //! Laws of the log: what its lines say, and what keeps it true.
-ghost use Rattle.b2_runs.specs.LogLaws.{FoundIsThere, LastWord, OthersUnsaid, EmptyIsTrue, TrueAsPastGrows, TrueWithRecord, TrueWithDrop, TruePrefix, TrueAfterTornAppend, TrueWithFewer};
+ghost use Rattle.b2_runs.specs.LogLaws.{FoundIsThere, LastWord, OthersUnsaid, OthersUnsaidThoughTorn, EmptyIsTrue, TrueAsPastGrows, TrueWithRecord, TrueWithDrop, TruePrefix, TrueAfterTornAppend, TrueWithFewer};
 
 /// A record that is found is in the log, and has the outputs that were asked for.
 pub fn found_is_there()
@@ -14,6 +14,11 @@ pub fn last_word()
 /// A line says nothing of other outputs.
 pub fn others_unsaid()
     ensures { OthersUnsaid }
+{}
+
+/// A torn append says nothing of other outputs.
+pub fn others_unsaid_though_torn()
+    ensures { OthersUnsaidThoughTorn }
 {}
 
 /// A log without lines is true.

@@ -1,5 +1,5 @@
 //! Laws of runs: how they go on, and what stays as they do.
-ghost use Rattle.b2_runs.specs.RunLaws.{RunGoesOn, RunHasBegun, SettledAfterStart, SettledAfterEnd, NeededGrows, CloseOnSettled, StartedHasClosure, DoneWasStarted, DoneOnce, SettledHasValue};
+ghost use Rattle.b2_runs.specs.RunLaws.{RunGoesOn, RunHasBegun, SettledAfterStart, SettledAfterEnd, NeededGrows, CloseOnSettled, StartedHasClosure, DoneWasStarted, DoneOnce, EachEventOnce, SettledHasValue};
 
 /// A run goes on by each event that may come.
 pub fn run_goes_on()
@@ -44,6 +44,11 @@ pub fn done_was_started()
 /// A step is done once.
 pub fn done_once()
     ensures { DoneOnce }
+{}
+
+/// No step starts twice, and none ends twice.
+pub fn each_event_once()
+    ensures { EachEventOnce }
 {}
 
 /// What is settled has a value in the clean build.

@@ -10,6 +10,7 @@ use std::test::Fail;
 fn each_law_can_be_called(_rt: HostRuntime) -> Result<(), Fail> {
     after_laws::clean_by_sources();
     after_laws::judged_by_present();
+    after_laws::closure_by_present();
     after_laws::settled_afterwards();
     after_laws::fresh_afterwards();
     after_laws::nothing_starts_afterwards();
@@ -40,6 +41,7 @@ fn each_law_can_be_called(_rt: HostRuntime) -> Result<(), Fail> {
     log_laws::found_is_there();
     log_laws::last_word();
     log_laws::others_unsaid();
+    log_laws::others_unsaid_though_torn();
     log_laws::empty_is_true();
     log_laws::true_as_past_grows();
     log_laws::true_with_record();
@@ -64,6 +66,7 @@ fn each_law_can_be_called(_rt: HostRuntime) -> Result<(), Fail> {
     run_laws::started_has_closure();
     run_laws::done_was_started();
     run_laws::done_once();
+    run_laws::each_event_once();
     run_laws::settled_has_value();
     settled_laws::settled_is_clean();
     settled_laws::fresh_is_clean();

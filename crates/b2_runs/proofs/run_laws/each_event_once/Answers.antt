@@ -1,0 +1,5 @@
+use Rattle.b2_runs.proofs.Moves.{each_event_once}
+use Rattle.b2_runs.proofs.run_laws.each_event_once.Goals as goal
+
+pub returns : goal.returns
+returns c = each_event_once
