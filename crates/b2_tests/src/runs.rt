@@ -63,6 +63,18 @@ pub fn run(alloc: Global, files: &[(&str, &str)], faults: &Faults) -> Result<End
     run_over(alloc, host, &[], faults.write)
 }
 
+/// Runs the program with these words over these files, where these things fail.
+pub fn run_words(
+    alloc: Global,
+    words: &[Text],
+    files: &[(&str, &str)],
+    faults: &Faults,
+) -> Result<Ended, Fail> {
+    let mut host = host_with(alloc, files)?;
+    host.fail_calls(faults.calls)?;
+    run_over(alloc, host, words, faults.write)
+}
+
 /// Runs the program without words over these files.
 pub fn run_well(alloc: Global, files: &[(&str, &str)]) -> Result<Ended, Fail> {
     let faults = Faults {

@@ -6,13 +6,15 @@ use Rattle.b2_update.specs.Runs.{is_done}
 use Rattle.b2_host.specs.declared.children.ChildEvent.{ChildEvent}
 use Rattle.b2_host.specs.Standing.{Disk}
 use Rattle.b2_host.specs.Faults.{Rose}
-use Rattle.b2_host.specs.Childhood.{Family, BothTold}
+use Rattle.b2_host.specs.Childhood.{Family, Child, BothTold}
 use Rattle.b2_plan.specs.declared.step.Step.{Step}
 use Rattle.b2_plan.specs.declared.plan.Plan.{Plan}
 use Rattle.b2_update.specs.declared.update_answer.UpdateAnswer.{UpdateAnswer}
 use Rattle.b2_update.specs.declared.update_answer.UpdateAnswer.TheVariants as ends
 use Rattle.b2_update.specs.Plain.{IsPlain}
 use Rattle.b2_update.specs.Updates.{BeginsWith, FaultsTold, HasUpdated, HasWritten}
+use Rattle.b2_update.specs.Turns.{HasTurns, failed_of}
+use Rattle.b2_update.proofs.Turning.{turns_none}
 use Rattle.jam_lexer.specs.declared.fault.LexFault.{LexFault}
 use Rattle.b2_top.specs.declared.refusal.Fault.{Fault}
 use Rattle.b2_top.specs.declared.refusal.Fault.TheVariants as faults
@@ -23,16 +25,17 @@ use Rattle.b2_top.specs.declared.jamroot.Stop.TheVariants as stops
 use Rattle.b2_top.specs.Rules.{roots}
 use Rattle.b2_top.specs.declared.load.LoadEnd.{LoadEnd}
 use Rattle.b2_top.specs.declared.load.LoadEnd.TheVariants as ends_of_load
-use Rattle.b2_top.specs.Loads.{LoadCounted, EndTold, IsExactLoad}
+use Rattle.b2_top.specs.Loads.{LoadCounted, EndNamesText, EndTold, IsExactLoad}
 use Rattle.b2_top.specs.Jamroots.{outs_of}
 use Rattle.b2_top.specs.ProjectFiles.{jamroot, jamroot_of, IsNotYet, HasLexFault, HasPlan}
-use Rattle.b2_top.specs.Refusals.{fault_line, no_tokens, host_fault_line, usage_line}
+use Rattle.b2_top.specs.Refusals.{fault_line, HoldsNoWant, no_tokens, host_fault_line, usage_line}
 use Rattle.b2_top.specs.Tells.{Tells, TellsFault, IsFaultOf, TellsStop}
 use Rattle.b2_top.specs.Tells.Tells.{told, failed, no_memory}
 use Rattle.b2_top.specs.Tells.TellsFault.{told as fault_told, failed as fault_failed, no_memory as fault_no_memory}
-use Rattle.b2_top.specs.Stops.{IsStop, IsExact, IsStoppedBy}
-use Rattle.b2_top.specs.Builds.{update_at, IsCutShort, CountsTold, HasCause, CameToPass, LeavesClean, ShouldEndWell, TellsHostFault, BeginsSome, ReportedBy, HasReported}
-use Rattle.b2_top.specs.Builds.BeginsSome.{nothing, usage, refusal}
+use Rattle.b2_top.specs.Stops.{NamesText, IsStop, IsExact, IsStoppedBy}
+use Rattle.b2_top.specs.Builds.{update_at, IsCutShort, IsOfWords, StartsNone, RefusesNoWant, failed_in, CountsTold, HasCause, CameToPass, LeavesClean, ShouldEndWell, TellsHostFault, FailsAtWrite, BeginsSome, ReportedBy, HasReported}
+use Rattle.b2_top.specs.Builds.BeginsSome.{nothing}
+use Rattle.b2_top.specs.Builds.FailsAtWrite.{usage as fails_usage, refusal as fails_refusal}
 use Rattle.b2_top.specs.Answered.{IsAnswered, IsThePlan}
 use Rattle.b2_top.proofs.BuildLemmas.{top_of, came_of, clean_of, complete_of, began, at_plan}
 use Rattle.b2_top.proofs.ReportLemmas.{reported_plain, reported_fault, no_event}
@@ -74,10 +77,11 @@ has_plan plan (Some b) h = h.0
 -- what an update ensures
 pub record IsUpdated (made : List ℕ → List (List ℕ × List ℕ) → List ℕ → List ℕ) (steps : List Step) (old new : Family) (d e : Option Disk) (host host_after sink sink_after : ℕ) (text text_after : Option (List ℕ)) (r : UpdateAnswer) : Type 0 where
   pub plain : IsPlain steps (outs_of steps)
-  pub counts : FaultsTold host host_after sink sink_after r
+  pub counts : FaultsTold host host_after new.running sink sink_after r
   pub done : BothTold (λ before after. HasUpdated (update_at made steps before) old new r before after) d e
   pub wrote : BothTold (λ before after. HasWritten (update_at made steps before) r old new text text_after) d e
   pub none_left : (new.running ≡ []) ⊎ Rose host host_after
+  pub turns : HasTurns (failed_of r) old.events new.events
 
 not_usage : (r : UpdateAnswer) → top_of r ≡ answers.Usage → ⊥
 not_usage ends.Done e = absurd cc
@@ -86,12 +90,33 @@ not_usage ends.HostFault e = absurd cc
 not_usage ends.SinkFault e = absurd cc
 not_usage ends.OutOfMemory e = absurd cc
 
-counts_of : (f g s t : ℕ) (r : UpdateAnswer) → FaultsTold f g s t r → CountsTold f g s t (top_of r)
-counts_of f g s t ends.Done h = h
-counts_of f g s t (ends.Failed lists) h = h
-counts_of f g s t ends.HostFault h = h.0
-counts_of f g s t ends.SinkFault h = h
-counts_of f g s t ends.OutOfMemory h = tt
+turns_of : (r : UpdateAnswer) (old new : List ChildEvent) → HasTurns (failed_of r) old new → HasTurns (failed_in (top_of r)) old new
+turns_of ends.Done old new h = h
+turns_of (ends.Failed lists) old new h = h
+turns_of ends.HostFault old new h = h
+turns_of ends.SinkFault old new h = h
+turns_of ends.OutOfMemory old new h = h
+
+none_of : (r : UpdateAnswer) (old new : Family) → StartsNone (top_of r) old new
+none_of ends.Done old new = tt
+none_of (ends.Failed lists) old new = tt
+none_of ends.HostFault old new = tt
+none_of ends.SinkFault old new = tt
+none_of ends.OutOfMemory old new = tt
+
+no_refusal : (r : UpdateAnswer) → RefusesNoWant (top_of r)
+no_refusal ends.Done = tt
+no_refusal (ends.Failed lists) = tt
+no_refusal ends.HostFault = tt
+no_refusal ends.SinkFault = tt
+no_refusal ends.OutOfMemory = tt
+
+counts_of : (f g : ℕ) (left : List Child) (s t : ℕ) (r : UpdateAnswer) → FaultsTold f g left s t r → CountsTold f g left s t (top_of r)
+counts_of f g left s t ends.Done h = h
+counts_of f g left s t (ends.Failed lists) h = h
+counts_of f g left s t ends.HostFault h = h.0
+counts_of f g left s t ends.SinkFault h = h
+counts_of f g left s t ends.OutOfMemory h = h.0
 
 clean_at : (made : List ℕ → List (List ℕ × List ℕ) → List ℕ → List ℕ) (steps : List Step) (old new : Family) (d e : Option Disk) (r : UpdateAnswer) → IsPlain steps (outs_of steps) → IfSome d (λ b. HasPlan (jamroot_of b) steps)
     → BothTold (λ before after. HasUpdated (update_at made steps before) old new r before after) d e → top_of r ≡ answers.Ok → BothTold (LeavesClean made) d e
@@ -117,8 +142,12 @@ pub answered_plain : (made : List ℕ → List (List ℕ × List ℕ) → List �
 answered_plain made plan old new d e f g s t text text_after r the u other = record {
   clean = clean_at made plan.steps old new d e r u.plain (has_plan plan d the) u.done;
   came = came_of made plan.steps old new d e r (has_plan plan d the) u.done;
-  counts = counts_of f g s t r u.counts;
+  counts = counts_of f g new.running s t r u.counts;
   usage = λ h. absurd (h refl);
+  alone = λ h. absurd (h refl);
+  turns = turns_of r old.events new.events u.turns;
+  starts_none = none_of r old new;
+  no_want = no_refusal r;
   no_usage = λ h. absurd (not_usage r h);
   not_yet = both_with (IsThePlan plan) d e the (λ b a is h line should. no_stop plan _ (is.1.not_yet line should.1)) u.done;
   without_tokens = both_with (IsThePlan plan) d e the (λ b a is h fault should. no_stop plan _ (is.1.no_tokens fault should.1)) u.done;
@@ -141,13 +170,27 @@ cut_fault : (result : Answer) → IsFaultAnswer result → IsCutShort result
 cut_fault result (is_host e) = inl e
 cut_fault result (is_memory e) = inr (inr e)
 
-fault_counts : (f g s t : ℕ) (result : Answer) → Rose f g → IsFaultAnswer result → CountsTold f g s t result
-fault_counts f g s t result rose (is_host e) = subst (CountsTold f g s t) (sym e) rose
-fault_counts f g s t result rose (is_memory e) = subst (CountsTold f g s t) (sym e) tt
+-- the host failed, and then its line was written, or not
+fault_counts : (line : List ℕ) (f g : ℕ) (left : List Child) (s t v : ℕ) (before after : Option (List ℕ)) (result : Answer) → Rose f g → t ≡ s → TellsFault line t v before after result → CountsTold f g left s v result
+fault_counts line f g left s t v before after result rose same (fault_told is count taken) = subst (CountsTold f g left s v) (sym is) rose
+fault_counts line f g left s t v before after result rose same (fault_failed part is higher front taken) = subst (CountsTold f g left s v) (sym is) rose
+fault_counts line f g left s t v before after result rose same (fault_no_memory is count taken) = subst (CountsTold f g left s v) (sym is) (count ∙ same)
 
 fault_came : (made : List ℕ → List (List ℕ × List ℕ) → List ℕ → List ℕ) (words : List (List ℕ)) (old new : Family) (d e : Option Disk) (result : Answer) → IsFaultAnswer result → BothTold (CameToPass made words answers.HostFault old new) d e → BothTold (CameToPass made words result old new) d e
 fault_came made words old new d e result (is_host same) h = subst (λ r. BothTold (CameToPass made words r old new) d e) (sym same) h
 fault_came made words old new d e result (is_memory same) h = subst (λ r. BothTold (CameToPass made words r old new) d e) (sym same) (both_map d e (λ b a c. c) h)
+
+none_fault : (old new : Family) (result : Answer) → IsFaultAnswer result → StartsNone result old new
+none_fault old new result (is_host e) = subst (λ r. StartsNone r old new) (sym e) tt
+none_fault old new result (is_memory e) = subst (λ r. StartsNone r old new) (sym e) tt
+
+turns_fault : (old new : List ChildEvent) (result : Answer) → HasTurns [] old new → IsFaultAnswer result → HasTurns (failed_in result) old new
+turns_fault old new result h (is_host e) = subst (λ r. HasTurns (failed_in r) old new) (sym e) h
+turns_fault old new result h (is_memory e) = subst (λ r. HasTurns (failed_in r) old new) (sym e) h
+
+want_fault : (result : Answer) → IsFaultAnswer result → RefusesNoWant result
+want_fault result (is_host e) = subst RefusesNoWant (sym e) tt
+want_fault result (is_memory e) = subst RefusesNoWant (sym e) tt
 
 not_ok : (result : Answer) → IsFaultAnswer result → result ≡ answers.Ok → ⊥
 not_ok result (is_host e) ok = absurd cc
@@ -165,8 +208,12 @@ answered_fault made plan old new d e f g s t v text mid text_after result the u 
     record {
       clean = λ ok. absurd (not_ok result is ok);
       came = fault_came made [] old new d e result is (came_of made plan.steps old new d e ends.HostFault (has_plan plan d the) u.done);
-      counts = fault_counts f g s v result u.counts.0 is;
+      counts = fault_counts host_fault_line f g new.running s t v mid text_after result u.counts.0 u.counts.1 tells;
       usage = λ h. absurd (h refl);
+      alone = λ h. absurd (h refl);
+      turns = turns_fault old.events new.events result u.turns is;
+      starts_none = none_fault old new result is;
+      no_want = want_fault result is;
       no_usage = λ h. absurd (not_used result is h);
       not_yet = both_map d e (λ b a h line should. inr (cut_fault result is)) u.done;
       without_tokens = both_map d e (λ b a h fault should. inr (cut_fault result is)) u.done;
@@ -187,12 +234,12 @@ any_some (Some b) = tt
 
 -- the report of one line, where nothing came to pass
 line_reported : (made : List ℕ → List (List ℕ × List ℕ) → List ℕ → List ℕ) (words : List (List ℕ)) (answer : Answer) (line : List ℕ) (f g : ℕ) (family : Family) (text text_after : Option (List ℕ)) (disk : Disk) (result : Answer)
-    → ((events : List ChildEvent) → ReportedBy made words f g answer disk events line) → ((events : List ChildEvent) (part : List ℕ) → BeginsWith line part → BeginsSome made words disk events part)
+    → ((events : List ChildEvent) → ReportedBy made words f g answer disk events line) → ((events : List ChildEvent) (part : List ℕ) → BeginsWith line part → FailsAtWrite made words disk events part)
     → Tells answer line f g text text_after result → HasReported made words f g result family family text text_after disk
 line_reported made words answer line f g family None text_after disk result whole begins tells = λ events are. tt
 line_reported made words answer line f g family (Some so_far) text_after disk result whole begins (told is count taken) = λ events are. (line, taken, subst (λ r. ReportedBy made words f g r disk events line) (sym is) (whole events))
 line_reported made words answer line f g family (Some so_far) text_after disk result whole begins (failed part is rose front taken) = λ events are. (part, taken, subst (λ r. ReportedBy made words f g r disk events part) (sym is) (begins events part front))
-line_reported made words answer line f g family (Some so_far) text_after disk result whole begins (no_memory is count taken) = λ events are. ([], taken, subst (λ r. ReportedBy made words f g r disk events []) (sym is) (nothing refl))
+line_reported made words answer line f g family (Some so_far) text_after disk result whole begins (no_memory is count taken) = λ events are. ([], taken, subst (λ r. ReportedBy made words f g r disk events []) (sym is) (nothing (no_event family.events events are) refl))
 
 -- the answer that a line was told for, or one that cuts it short
 data IsLineAnswer (answer result : Answer) (f g : ℕ) : Type 0 where
@@ -211,6 +258,12 @@ by_line P answer result f g a b c (is_told is count) = subst P (sym is) (a count
 by_line P answer result f g a b c (is_sink is rose) = subst P (sym is) (b rose)
 by_line P answer result f g a b c (is_short is) = subst P (sym is) c
 
+-- a line was told, or cut short
+line_counts : (answer : Answer) (line : List ℕ) (f : ℕ) (left : List Child) (s t : ℕ) (before after : Option (List ℕ)) (result : Answer) → (t ≡ s → CountsTold f f left s t answer) → Tells answer line s t before after result → CountsTold f f left s t result
+line_counts answer line f left s t before after result whole (told is count taken) = subst (CountsTold f f left s t) (sym is) (whole count)
+line_counts answer line f left s t before after result whole (failed part is rose front taken) = subst (CountsTold f f left s t) (sym is) (rose, inl refl)
+line_counts answer line f left s t before after result whole (no_memory is count taken) = subst (CountsTold f f left s t) (sym is) count
+
 -- the usage line was told
 pub answered_usage : (made : List ℕ → List (List ℕ × List ℕ) → List ℕ → List ℕ) (words : List (List ℕ)) (family : Family) (d : Option Disk) (f s t : ℕ) (text text_after : Option (List ℕ)) (result : Answer)
     → words ≢ [] → family.running ≡ [] → Tells answers.Usage usage_line s t text text_after result → IsAnswered made words family family d d f f s t text text_after result
@@ -219,13 +272,17 @@ answered_usage made words family d f s t text text_after result some idle tells 
     record {
       clean = by_line (λ r. r ≡ answers.Ok → BothTold (LeavesClean made) d d) answers.Usage result s t (λ c ok. absurd cc) (λ rose ok. absurd cc) (λ ok. absurd cc) is;
       came = both_same (CameToPass made words result family family) Anything d (any_some d) (λ b x. by_line (λ r. CameToPass made words r family family b b) answers.Usage result s t (λ c. (record { family = refl; disk = refl }, some)) (λ rose. inl (record { family = refl; disk = refl })) (inl (record { family = refl; disk = refl })) is);
-      counts = by_line (CountsTold f f s t) answers.Usage result s t (λ c. (refl, c)) (λ rose. rose) tt is;
-      usage = λ h. by_line (λ r. (r ≡ answers.Usage) ⊎ IsCutShort r) answers.Usage result s t (λ c. inl refl) (λ rose. inr cut_sink) (inr cut_memory) is;
+      counts = line_counts answers.Usage usage_line f family.running s t text text_after result (λ c. (refl, c)) tells;
+      usage = λ h. by_line IsOfWords answers.Usage result s t (λ c. inl refl) (λ rose. inr (inl refl)) (inr (inr refl)) is;
+      alone = λ h. record { family = refl; disk = refl; count = refl };
+      turns = by_line (λ r. HasTurns (failed_in r) family.events family.events) answers.Usage result s t (λ c. turns_none family.events family.events refl) (λ rose. turns_none family.events family.events refl) (turns_none family.events family.events refl) is;
+      starts_none = by_line (λ r. StartsNone r family family) answers.Usage result s t (λ c. refl) (λ rose. tt) tt is;
+      no_want = by_line RefusesNoWant answers.Usage result s t (λ c. tt) (λ rose. tt) tt is;
       no_usage = λ h. some;
       not_yet = both_same _ Anything d (any_some d) (λ b x line should. absurd (some should.0));
       without_tokens = both_same _ Anything d (any_some d) (λ b x fault should. absurd (some should.0));
       complete = both_same _ Anything d (any_some d) (λ b x steps should c1 c2. absurd (some should.no_word));
-      reported = both_same (λ b a. HasReported made words s t result family family text text_after b) Anything d (any_some d) (λ b x. line_reported made words answers.Usage usage_line s t family text text_after b result (λ events. refl) (λ events part front. usage some front) tells);
+      reported = both_same (λ b a. HasReported made words s t result family family text text_after b) Anything d (any_some d) (λ b x. line_reported made words answers.Usage usage_line s t family text text_after b result (λ events. refl) (λ events part front. fails_usage some front) tells);
       none_left = inl idle;
     }
 
@@ -234,8 +291,8 @@ abbrev HasTaken_of : List ℕ → Option (List ℕ) → Option (List ℕ)
 HasTaken_of bytes before = option_map (λ so_far. so_far ++ bytes) before
 
 -- where no event came, the refusal is the whole report
-at_start : {b : Disk} (events : List ChildEvent) → events ≡ [] → TellsHostFault b events host_fault_line
-at_start events none = record { steps = []; lines = []; planned = inr none; tells = record { front = []; rest = events; whole = refl; only_ends = subst (λ (e : List ChildEvent). AllByRecursion (λ event. is_done event ≡ true) e) (sym none) tt; lines = refl }; whole_is = refl }
+at_start : (s t : ℕ) (b : Disk) (events : List ChildEvent) (part : List ℕ) → events ≡ [] → ((part ≡ host_fault_line) × (t ≡ s)) ⊎ (Rose s t × BeginsWith host_fault_line part) → TellsHostFault s t b events part
+at_start s t b events part none ended = record { steps = []; lines = []; planned = inr none; tells = record { front = []; rest = events; whole = refl; only_ends = subst (λ (e : List ChildEvent). AllByRecursion (λ event. is_done event ≡ true) e) (sym none) tt; lines = refl }; refusal = part; written_is = refl; ended = ended }
 
 -- the host failed before anything was started
 pub answered_unread : (made : List ℕ → List (List ℕ × List ℕ) → List ℕ → List ℕ) (family : Family) (d : Option Disk) (f g s t : ℕ) (text text_after : Option (List ℕ)) (result : Answer)
@@ -245,8 +302,12 @@ answered_unread made family d f g s t text text_after result rose idle tells =
     record {
       clean = λ ok. absurd (not_ok result is ok);
       came = both_same (CameToPass made [] result family family) Anything d (any_some d) (λ b x. came b is);
-      counts = fault_counts f g s t result rose is;
+      counts = fault_counts host_fault_line f g family.running s s t text text_after result rose refl tells;
       usage = λ h. absurd (h refl);
+      alone = λ h. absurd (h refl);
+      turns = turns_fault family.events family.events result (turns_none family.events family.events refl) is;
+      starts_none = none_fault family family result is;
+      no_want = want_fault result is;
       no_usage = λ h. absurd (not_used result is h);
       not_yet = both_same _ Anything d (any_some d) (λ b x line should. inr (cut_fault result is));
       without_tokens = both_same _ Anything d (any_some d) (λ b x fault should. inr (cut_fault result is));
@@ -261,11 +322,11 @@ answered_unread made family d f g s t text text_after result rose idle tells =
 
     told_fault : (b : Disk) (events : List ChildEvent) (written : List ℕ) → events ≡ [] → TellsFault host_fault_line s t text text_after result → written ≡ [] → (so_far : List ℕ) → text ≡ Some so_far → (all : List ℕ) × (text_after ≡ Some (so_far ++ all)) × ReportedBy made [] s t result b events all
     told_fault b events written none (fault_told is count taken) nil so_far e =
-        (host_fault_line, taken ∙ ap (λ x. HasTaken_of host_fault_line x) e, subst (λ r. ReportedBy made [] s t r b events host_fault_line) (sym is) (host_fault_line, at_start events none, inl refl))
+        (host_fault_line, taken ∙ ap (λ x. HasTaken_of host_fault_line x) e, subst (λ r. ReportedBy made [] s t r b events host_fault_line) (sym is) (at_start s t b events host_fault_line none (inl (refl, count))))
     told_fault b events written none (fault_failed part is rose front taken) nil so_far e =
-        (part, taken ∙ ap (λ x. HasTaken_of part x) e, subst (λ r. ReportedBy made [] s t r b events part) (sym is) (host_fault_line, at_start events none, inr (rose, front)))
+        (part, taken ∙ ap (λ x. HasTaken_of part x) e, subst (λ r. ReportedBy made [] s t r b events part) (sym is) (at_start s t b events part none (inr (rose, front))))
     told_fault b events written none (fault_no_memory is count taken) nil so_far e =
-        ([], taken ∙ ap (λ x. HasTaken_of [] x) e, subst (λ r. ReportedBy made [] s t r b events []) (sym is) (nothing refl))
+        ([], taken ∙ ap (λ x. HasTaken_of [] x) e, subst (λ r. ReportedBy made [] s t r b events []) (sym is) (nothing none refl))
 
     reported : (b : Disk) (x : Option (List ℕ)) → text ≡ x → HasReported made [] s t result family family text text_after b
     reported b None e = λ events are. subst (λ x. IfSome x (λ so_far. (written : List ℕ) × (text_after ≡ Some (so_far ++ written)) × ReportedBy made [] s t result b events written)) (sym e) tt
@@ -321,31 +382,45 @@ the_fault_told : (stop : Stop) (fault : Fault) (d : Option Disk) → IsFaultOf s
 the_fault_told stop fault None is the = tt
 the_fault_told stop fault (Some b) is the = the_fault stop fault b is the
 
+-- what is refused for a stop holds no want of memory
+holds_no_want : (stop : Stop) (fault : Fault) → IsFaultOf stop fault → NamesText stop → HoldsNoWant fault
+holds_no_want (stops.NotYet line) fault is names = subst HoldsNoWant (sym is) tt
+holds_no_want (stops.Lex cause) fault is names = subst HoldsNoWant (sym is) names
+holds_no_want stops.OutOfMemory fault is names = absurd is
+
 answered_refused : (made : List ℕ → List (List ℕ × List ℕ) → List ℕ → List ℕ) (family : Family) (d : Option Disk) (f s t : ℕ) (text text_after : Option (List ℕ)) (result : Answer) (fault : Fault)
-    → IfSome d (IsTheFault fault) → family.running ≡ [] → Tells (answers.Refused fault) (fault_line fault) s t text text_after result → IsAnswered made [] family family d d f f s t text text_after result
-answered_refused made family d f s t text text_after result fault the idle tells =
+    → HoldsNoWant fault → IfSome d (IsTheFault fault) → family.running ≡ [] → Tells (answers.Refused fault) (fault_line fault) s t text text_after result → IsAnswered made [] family family d d f f s t text text_after result
+answered_refused made family d f s t text text_after result fault holds the idle tells =
     let is : IsLineAnswer (answers.Refused fault) result s t = line_answer (answers.Refused fault) (fault_line fault) s t text text_after result tells in
     record {
       clean = by_line (λ r. r ≡ answers.Ok → BothTold (LeavesClean made) d d) (answers.Refused fault) result s t (λ c ok. absurd cc) (λ rose ok. absurd cc) (λ ok. absurd cc) is;
       came = both_same (CameToPass made [] result family family) (IsTheFault fault) d the (λ b x. by_line (λ r. CameToPass made [] r family family b b) (answers.Refused fault) result s t (λ c. (record { family = refl; disk = refl }, x.cause)) (λ rose. inl (record { family = refl; disk = refl })) (inl (record { family = refl; disk = refl })) is);
-      counts = by_line (CountsTold f f s t) (answers.Refused fault) result s t (λ c. (refl, c)) (λ rose. rose) tt is;
+      counts = line_counts (answers.Refused fault) (fault_line fault) f family.running s t text text_after result (λ c. (refl, c)) tells;
       usage = λ h. absurd (h refl);
+      alone = λ h. absurd (h refl);
+      turns = by_line (λ r. HasTurns (failed_in r) family.events family.events) (answers.Refused fault) result s t (λ c. turns_none family.events family.events refl) (λ rose. turns_none family.events family.events refl) (turns_none family.events family.events refl) is;
+      starts_none = by_line (λ r. StartsNone r family family) (answers.Refused fault) result s t (λ c. refl) (λ rose. tt) tt is;
+      no_want = by_line RefusesNoWant (answers.Refused fault) result s t (λ c. holds) (λ rose. tt) tt is;
       no_usage = λ e. absurd (by_line (λ r. r ≡ answers.Usage → ⊥) (answers.Refused fault) result s t (λ c e. cc) (λ rose e. cc) (λ e. cc) is e);
       not_yet = both_same _ (IsTheFault fault) d the (λ b x line should. by_line (λ r. (r ≡ answers.Refused (faults.NotYet jamroot line)) ⊎ IsCutShort r) (answers.Refused fault) result s t (λ c. inl (ap answers.Refused (x.not_yet line should.1))) (λ rose. inr cut_sink) (inr cut_memory) is);
       without_tokens = both_same _ (IsTheFault fault) d the (λ b x cause should. by_line (λ r. (r ≡ answers.Refused (no_tokens cause)) ⊎ IsCutShort r) (answers.Refused fault) result s t (λ c. inl (ap answers.Refused (x.without_tokens cause should.1))) (λ rose. inr cut_sink) (inr cut_memory) is);
       complete = both_same _ (IsTheFault fault) d the (λ b x steps should c1 c2. absurd (x.no_plan steps should.plan));
-      reported = both_same (λ b a. HasReported made [] s t result family family text text_after b) (IsTheFault fault) d the (λ b x. line_reported made [] (answers.Refused fault) (fault_line fault) s t family text text_after b result (λ events. refl) (λ events part front. refusal fault x.cause front) tells);
+      reported = both_same (λ b a. HasReported made [] s t result family family text text_after b) (IsTheFault fault) d the (λ b x. line_reported made [] (answers.Refused fault) (fault_line fault) s t family text text_after b result (λ events. refl) (λ events part front. fails_refusal fault x.cause front) tells);
       none_left = inl idle;
     }
 
 -- memory ran out before anything was started or written
 answered_memory : (made : List ℕ → List (List ℕ × List ℕ) → List ℕ → List ℕ) (family : Family) (d : Option Disk) (f s t : ℕ) (text text_after : Option (List ℕ)) (result : Answer)
-    → family.running ≡ [] → result ≡ answers.OutOfMemory → text_after ≡ text → IsAnswered made [] family family d d f f s t text text_after result
-answered_memory made family d f s t text text_after result idle is same = subst (IsAnswered made [] family family d d f f s t text text_after) (sym is) (record {
+    → family.running ≡ [] → result ≡ answers.OutOfMemory → t ≡ s → text_after ≡ text → IsAnswered made [] family family d d f f s t text text_after result
+answered_memory made family d f s t text text_after result idle is count same = subst (IsAnswered made [] family family d d f f s t text text_after) (sym is) (record {
   clean = λ ok. absurd cc;
   came = both_same (CameToPass made [] answers.OutOfMemory family family) Anything d (any_some d) (λ b x. inl (record { family = refl; disk = refl }));
-  counts = tt;
+  counts = count;
   usage = λ h. absurd (h refl);
+  alone = λ h. absurd (h refl);
+  turns = turns_none family.events family.events refl;
+  starts_none = tt;
+  no_want = tt;
   no_usage = λ e. absurd cc;
   not_yet = both_same _ Anything d (any_some d) (λ b x line should. inr cut_memory);
   without_tokens = both_same _ Anything d (any_some d) (λ b x fault should. inr cut_memory);
@@ -356,26 +431,27 @@ answered_memory made family d f s t text text_after result idle is same = subst 
   where
     quiet : (b : Disk) (x y : Option (List ℕ)) → y ≡ x → HasReported made [] s t answers.OutOfMemory family family x y b
     quiet b None y e = λ events are. tt
-    quiet b (Some so_far) y e = λ events are. ([], e ∙ ap Some (sym (append-nil so_far)), nothing refl)
+    quiet b (Some so_far) y e = λ events are. ([], e ∙ ap Some (sym (append-nil so_far)), nothing (no_event family.events events are) refl)
 
 -- the project's file was refused, or memory ran out
 pub answered_stop : (made : List ℕ → List (List ℕ × List ℕ) → List ℕ → List ℕ) (family : Family) (d : Option Disk) (f s t : ℕ) (text text_after : Option (List ℕ)) (result : Answer) (stop : Stop)
-    → IfSome d (IsTheStop stop) → family.running ≡ [] → TellsStop stop s t text text_after result → IsAnswered made [] family family d d f f s t text text_after result
-answered_stop made family d f s t text text_after result stop the idle tells = elim tells [
-  | inl told_it ↦ answered_refused made family d f s t text text_after result told_it.0 (the_fault_told stop told_it.0 d told_it.1 the) idle told_it.2
-  | inr memory ↦ answered_memory made family d f s t text text_after result idle memory.0 memory.2
+    → NamesText stop → IfSome d (IsTheStop stop) → family.running ≡ [] → TellsStop stop s t text text_after result → IsAnswered made [] family family d d f f s t text text_after result
+answered_stop made family d f s t text text_after result stop names the idle tells = elim tells [
+  | inl told_it ↦ answered_refused made family d f s t text text_after result told_it.0 (holds_no_want stop told_it.0 told_it.1 names) (the_fault_told stop told_it.0 d told_it.1 the) idle told_it.2
+  | inr memory ↦ answered_memory made family d f s t text text_after result idle memory.0 memory.1 memory.2
 ]
 
 -- what an update ensures, as the plan's own wanted files and roots say it
 pub updated_at : (made : List ℕ → List (List ℕ × List ℕ) → List ℕ → List ℕ) (steps : List Step) (wants folders : List (List ℕ)) (old new : Family) (d e : Option Disk) (f g s t : ℕ) (text text_after : Option (List ℕ)) (r : UpdateAnswer)
-    → wants ≡ outs_of steps → folders ≡ roots → IsPlain steps wants → FaultsTold f g s t r → BothTold (λ before after. HasUpdated (began made steps wants folders before) old new r before after) d e → BothTold (λ before after. HasWritten (began made steps wants folders before) r old new text text_after) d e → (new.running ≡ []) ⊎ Rose f g
+    → wants ≡ outs_of steps → folders ≡ roots → IsPlain steps wants → FaultsTold f g new.running s t r → BothTold (λ before after. HasUpdated (began made steps wants folders before) old new r before after) d e → BothTold (λ before after. HasWritten (began made steps wants folders before) r old new text text_after) d e → (new.running ≡ []) ⊎ Rose f g → HasTurns (failed_of r) old.events new.events
     → IsUpdated made steps old new d e f g s t text text_after r
-updated_at made steps wants folders old new d e f g s t text text_after r w fr plain counts done wrote none_left = record {
+updated_at made steps wants folders old new d e f g s t text text_after r w fr plain counts done wrote none_left turns = record {
   plain = subst (IsPlain steps) w plain;
   counts = counts;
   done = at_plan (λ u. BothTold (λ before after. HasUpdated (u before) old new r before after) d e) made steps wants folders w fr done;
   wrote = at_plan (λ u. BothTold (λ before after. HasWritten (u before) r old new text text_after) d e) made steps wants folders w fr wrote;
   none_left = none_left;
+  turns = turns;
 }
 
 -- the same call, begun before the project's file was read
@@ -411,6 +487,9 @@ load_stopped d f g fault stop e counts says exact =
     both : (d : Option Disk) → EndTold d (ends_of_load.Stopped stop) → IfSome d (λ before. IsExactLoad (jamroot_of before) (Err (ends_of_load.Stopped stop))) → IfSome d (IsTheStop stop)
     both None a b = tt
     both (Some disk) a b = (a, b)
+
+pub load_names : (fault : LoadEnd) (stop : Stop) → fault ≡ ends_of_load.Stopped stop → EndNamesText fault → NamesText stop
+load_names fault stop e names = subst EndNamesText e names
 
 pub load_rose : (f g : ℕ) (fault : LoadEnd) → fault ≡ ends_of_load.Host → LoadCounted {T = Plan} f g (Err fault) → Rose f g
 load_rose f g fault e counts = subst (λ x. LoadCounted {T = Plan} f g (Err x)) e counts

@@ -8,8 +8,7 @@ use Rattle.b2_host.specs.Childhood.{Family, BothTold}
 use Rattle.b2_plan.specs.declared.step.Step.{Step}
 use Rattle.b2_update.specs.declared.update_answer.UpdateAnswer.{UpdateAnswer}
 use Rattle.b2_update.specs.declared.update_answer.UpdateAnswer.TheVariants as ends
-use Rattle.b2_update.specs.Reports.{event_line, event_lines}
-use Rattle.b2_update.specs.Updates.{BeginsWith, TellsStarts, WrittenBy, HasWritten}
+use Rattle.b2_update.specs.Updates.{TellsStarts, WrittenBy, HasWritten}
 use Rattle.b2_top.specs.declared.answer.Answer.{Answer}
 use Rattle.b2_top.specs.ProjectFiles.{jamroot_of, HasPlan}
 use Rattle.b2_top.specs.Refusals.{host_fault_line}
@@ -17,23 +16,12 @@ use Rattle.b2_top.specs.Tells.{HasTaken, TellsFault}
 use Rattle.b2_top.specs.Tells.TellsFault.{told as fault_told, failed as fault_failed, no_memory as fault_no_memory}
 use Rattle.b2_top.specs.Builds.{update_at, BeginsSome, ReportedBy, HasReported}
 use Rattle.b2_top.specs.Builds.BeginsSome.{update}
+use Rattle.b2_top.specs.Builds.FailsAtWrite.{update as fails_update}
 use Rattle.b2_top.proofs.BuildLemmas.{top_of}
-
--- the lines of events and more events
-lines_append : (steps : List Step) (front rest : List ChildEvent) → event_lines steps (front ++ rest) ≡ event_lines steps front ++ event_lines steps rest
-lines_append steps [] rest = refl
-lines_append steps (event ∷ front) rest = ap (λ t. event_line steps event ++ t) (lines_append steps front rest) ∙ sym (append_assoc (event_line steps event) (event_lines steps front) (event_lines steps rest))
-
--- what tells every start begins the lines of all events
-starts_begin : (steps : List Step) (events : List ChildEvent) (written : List ℕ) → TellsStarts steps events written → BeginsWith (event_lines steps events) written
-starts_begin steps events written t = (event_lines steps t.rest, ap (event_lines steps) t.whole ∙ lines_append steps t.front t.rest ∙ ap (λ x. x ++ event_lines steps t.rest) (sym t.lines))
 
 -- bytes that were taken behind others
 taken_more : (so_far written part : List ℕ) (mid after : Option (List ℕ)) → mid ≡ Some (so_far ++ written) → HasTaken part mid after → after ≡ Some (so_far ++ (written ++ part))
 taken_more so_far written part mid after e taken = taken ∙ ap (option_map (λ t. t ++ part)) e ∙ ap Some (append_assoc so_far written part)
-
-begins_more : (written line part : List ℕ) → BeginsWith line part → BeginsWith (written ++ line) (written ++ part)
-begins_more written line part b = (b.0, ap (λ l. written ++ l) b.1 ∙ sym (append_assoc written part b.0))
 
 -- no event came where nothing changed
 pub no_event : (old events : List ChildEvent) → old ≡ old ++ events → events ≡ []
@@ -49,7 +37,7 @@ by_plain : (made : List ℕ → List (List ℕ × List ℕ) → List ℕ → Lis
 by_plain made steps f g disk events written ends.Done plan other w = (steps, plan, w)
 by_plain made steps f g disk events written (ends.Failed lists) plan other w = (steps, plan, w)
 by_plain made steps f g disk events written ends.HostFault plan other w = absurd (other refl)
-by_plain made steps f g disk events written ends.SinkFault plan other w = update steps plan w
+by_plain made steps f g disk events written ends.SinkFault plan other w = fails_update steps plan w
 by_plain made steps f g disk events written ends.OutOfMemory plan other w = update steps plan w
 
 pub reported_plain : (made : List ℕ → List (List ℕ × List ℕ) → List ℕ → List ℕ) (steps : List Step) (f g : ℕ) (old new : Family) (text text_after : Option (List ℕ)) (d e : Option Disk) (r : UpdateAnswer)
@@ -63,22 +51,22 @@ reported_plain made steps f g old new (Some so_far) text_after (Some before) (So
 
 -- the report where the host failed in an update
 fault_by : (made : List ℕ → List (List ℕ × List ℕ) → List ℕ → List ℕ) (steps : List Step) (f g h : ℕ) (disk : Disk) (events : List ChildEvent) (so_far written : List ℕ) (mid after : Option (List ℕ)) (result : Answer)
-    → HasPlan (jamroot_of disk) steps ⊎ (events ≡ []) → (BeginsWith (event_lines steps events) written → BeginsSome made [] disk events written) → TellsStarts steps events written → g ≡ f → mid ≡ Some (so_far ++ written) → TellsFault host_fault_line g h mid after result
+    → HasPlan (jamroot_of disk) steps ⊎ (events ≡ []) → (TellsStarts steps events written → BeginsSome made [] disk events written) → TellsStarts steps events written → g ≡ f → mid ≡ Some (so_far ++ written) → TellsFault host_fault_line g h mid after result
     → (all : List ℕ) × (after ≡ Some (so_far ++ all)) × ReportedBy made [] f h result disk events all
 fault_by made steps f g h disk events so_far written mid after result plan begins starts same e (fault_told is count taken) = (
   written ++ host_fault_line,
   taken_more so_far written host_fault_line mid after e taken,
-  subst (λ r. ReportedBy made [] f h r disk events (written ++ host_fault_line)) (sym is) (written ++ host_fault_line, record { steps = steps; lines = written; planned = plan; tells = starts; whole_is = refl }, inl refl),
+  subst (λ r. ReportedBy made [] f h r disk events (written ++ host_fault_line)) (sym is) (record { steps = steps; lines = written; planned = plan; tells = starts; refusal = host_fault_line; written_is = refl; ended = inl (refl, count ∙ same) }),
 )
 fault_by made steps f g h disk events so_far written mid after result plan begins starts same e (fault_failed part is rose front taken) = (
   written ++ part,
   taken_more so_far written part mid after e taken,
-  subst (λ r. ReportedBy made [] f h r disk events (written ++ part)) (sym is) (written ++ host_fault_line, record { steps = steps; lines = written; planned = plan; tells = starts; whole_is = refl }, inr (subst (λ n. Rose n h) same rose, begins_more written host_fault_line part front)),
+  subst (λ r. ReportedBy made [] f h r disk events (written ++ part)) (sym is) (record { steps = steps; lines = written; planned = plan; tells = starts; refusal = part; written_is = refl; ended = inr (subst (λ n. Rose n h) same rose, front) }),
 )
 fault_by made steps f g h disk events so_far written mid after result plan begins starts same e (fault_no_memory is count taken) = (
   written,
   taken_more so_far written [] mid after e taken ∙ ap (λ t. Some (so_far ++ t)) (append-nil written),
-  subst (λ r. ReportedBy made [] f h r disk events written) (sym is) (begins (starts_begin steps events written starts)),
+  subst (λ r. ReportedBy made [] f h r disk events written) (sym is) (begins starts),
 )
 
 pub reported_fault : (made : List ℕ → List (List ℕ × List ℕ) → List ℕ → List ℕ) (steps : List Step) (f g h : ℕ) (old new : Family) (text mid text_after : Option (List ℕ)) (d e : Option Disk) (result : Answer)

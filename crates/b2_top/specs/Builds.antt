@@ -3,7 +3,7 @@ use Rattle.std.specs.List.{Contains}
 use Rattle.b2_host.specs.declared.children.ChildEvent.{ChildEvent}
 use Rattle.b2_host.specs.declared.children.ChildEvent.TheVariants.{Done}
 use Rattle.b2_host.specs.Standing.{Disk}
-use Rattle.b2_host.specs.Childhood.{Family}
+use Rattle.b2_host.specs.Childhood.{Family, Child}
 use Rattle.b2_host.specs.Faults.{Rose}
 use Rattle.b2_plan.specs.declared.step.Step.{Step}
 use Rattle.b2_plan.specs.Plans.{step_at}
@@ -12,7 +12,8 @@ use Rattle.b2_update.specs.Runs.{Update}
 use Rattle.b2_update.specs.Outcomes.{IsCleanBuild, nothing_lacks}
 use Rattle.b2_update.specs.Reports.{report}
 use Rattle.b2_update.specs.Plain.{build_of, update_all}
-use Rattle.b2_update.specs.Updates.{HasRun, HasEnded, SomethingLacks, TellsStarts, BeginsWith, BeginsReport}
+use Rattle.b2_update.specs.Stops.{IsQuietHost}
+use Rattle.b2_update.specs.Updates.{HasRun, HasEnded, SomethingLacks, TellsStarts, BeginsWith, StopsAtWrite, StopsSomewhere}
 use Rattle.jam_lexer.specs.declared.fault.LexFault.{LexFault}
 use Rattle.b2_top.specs.declared.refusal.Fault.{Fault}
 use Rattle.b2_top.specs.declared.refusal.Fault.TheVariants as faults
@@ -21,7 +22,7 @@ use Rattle.b2_top.specs.declared.answer.Answer.TheVariants as answers
 use Rattle.b2_top.specs.Rules.{roots}
 use Rattle.b2_top.specs.Jamroots.{outs_of}
 use Rattle.b2_top.specs.ProjectFiles.{jamroot, jamroot_of, IsNotYet, HasLexFault, HasPlan}
-use Rattle.b2_top.specs.Refusals.{fault_line, no_tokens, host_fault_line, usage_line}
+use Rattle.b2_top.specs.Refusals.{fault_line, HoldsNoWant, no_tokens, host_fault_line, usage_line}
 
 -- what a text makes of named inputs, at an output
 abbrev pub Made : Type 0
@@ -40,15 +41,56 @@ abbrev pub IsCutShort : Answer → Type 0
 IsCutShort answer = (answer ≡ answers.HostFault) ⊎ (answer ≡ answers.SinkFault) ⊎ (answer ≡ answers.OutOfMemory)
 
 -- How the counts of faults stand to an answer: Ok, Failed, Refused and Usage come only where both are as at entry, and a
--- fault only where its count rose.
-abbrev pub CountsTold : ℕ → ℕ → ℕ → ℕ → Answer → Type 0
-CountsTold host host_after sink sink_after answers.Ok = (host_after ≡ host) × (sink_after ≡ sink)
-CountsTold host host_after sink sink_after (answers.Failed lists) = (host_after ≡ host) × (sink_after ≡ sink)
-CountsTold host host_after sink sink_after (answers.Refused fault) = (host_after ≡ host) × (sink_after ≡ sink)
-CountsTold host host_after sink sink_after answers.Usage = (host_after ≡ host) × (sink_after ≡ sink)
-CountsTold host host_after sink sink_after answers.HostFault = Rose host host_after
-CountsTold host host_after sink sink_after answers.OutOfMemory = ⊤
-CountsTold host host_after sink sink_after answers.SinkFault = Rose sink sink_after
+-- fault only where its count rose. The first fault decides: with SinkFault the host's count is as at entry, unless the wait
+-- for the child that ran failed behind it, so that the child is left; with HostFault the sink may have failed at its line.
+abbrev pub CountsTold : ℕ → ℕ → List Child → ℕ → ℕ → Answer → Type 0
+CountsTold host host_after left sink sink_after answers.Ok = (host_after ≡ host) × (sink_after ≡ sink)
+CountsTold host host_after left sink sink_after (answers.Failed lists) = (host_after ≡ host) × (sink_after ≡ sink)
+CountsTold host host_after left sink sink_after (answers.Refused fault) = (host_after ≡ host) × (sink_after ≡ sink)
+CountsTold host host_after left sink sink_after answers.Usage = (host_after ≡ host) × (sink_after ≡ sink)
+CountsTold host host_after left sink sink_after answers.HostFault = Rose host host_after
+CountsTold host host_after left sink sink_after answers.OutOfMemory = sink_after ≡ sink
+CountsTold host host_after left sink sink_after answers.SinkFault = Rose sink sink_after × IsQuietHost host host_after left
+
+-- The answers that may come where a word stands: the usage line was written, or the sink failed or memory ran out at it.
+abbrev pub IsOfWords : Answer → Type 0
+IsOfWords answer = (answer ≡ answers.Usage) ⊎ (answer ≡ answers.SinkFault) ⊎ (answer ≡ answers.OutOfMemory)
+
+-- the host is as it was: its children, its files and its count of faults
+pub record IsLeftAlone (old new : Family) (before after : Option Disk) (host host_after : ℕ) : Type 0 where
+  pub family : new ≡ old
+  pub disk : after ≡ before
+  pub count : host_after ≡ host
+
+-- where the answer is Refused or Usage, nothing was started
+abbrev pub StartsNone : Answer → Family → Family → Type 0
+StartsNone answers.Ok old new = ⊤
+StartsNone (answers.Failed lists) old new = ⊤
+StartsNone (answers.Refused fault) old new = new ≡ old
+StartsNone answers.Usage old new = new ≡ old
+StartsNone answers.HostFault old new = ⊤
+StartsNone answers.OutOfMemory old new = ⊤
+StartsNone answers.SinkFault old new = ⊤
+
+-- a refusal is never for want of memory
+abbrev pub RefusesNoWant : Answer → Type 0
+RefusesNoWant answers.Ok = ⊤
+RefusesNoWant (answers.Failed lists) = ⊤
+RefusesNoWant (answers.Refused fault) = HoldsNoWant fault
+RefusesNoWant answers.Usage = ⊤
+RefusesNoWant answers.HostFault = ⊤
+RefusesNoWant answers.OutOfMemory = ⊤
+RefusesNoWant answers.SinkFault = ⊤
+
+-- the steps that an answer names as failed
+abbrev pub failed_in : Answer → List ℕ
+failed_in answers.Ok = []
+failed_in (answers.Failed lists) = lists.failed
+failed_in (answers.Refused fault) = []
+failed_in answers.Usage = []
+failed_in answers.HostFault = []
+failed_in answers.OutOfMemory = []
+failed_in answers.SinkFault = []
 
 -- the words are none, and the project's file is refused as not yet built at this line
 abbrev pub ShouldBeNotYet : List (List ℕ) → Disk → ℕ → Type 0
@@ -96,21 +138,30 @@ pub record ShouldEndWell (made : List ℕ → List (List ℕ × List ℕ) → Li
   pub sources : (i : ℕ) (step : Step) (path : List ℕ) → step_at steps i ≡ Some step → Contains step.ins path → IsGiven (build_at made steps before) path
   pub all_well : (events : List ChildEvent) → new.events ≡ old.events ++ events → (i : ℕ) → Contains events (Done i false) → ⊥
 
--- The whole report of an update that a fault of the host ended: the lines of a prefix of the events that holds every
--- start, and the refusal.
-pub record TellsHostFault (disk : Disk) (events : List ChildEvent) (whole : List ℕ) : Type 0 where
+-- The report of an update that a fault of the host ended: the lines of a prefix of the events that holds every start, and
+-- the refusal, or a beginning of it where the sink failed at it.
+pub record TellsHostFault (sink sink_after : ℕ) (disk : Disk) (events : List ChildEvent) (written : List ℕ) : Type 0 where
   pub steps : List Step
   pub lines : List ℕ
   pub planned : HasPlan (jamroot_of disk) steps ⊎ (events ≡ [])
   pub tells : TellsStarts steps events lines
-  pub whole_is : whole ≡ lines ++ host_fault_line
+  pub refusal : List ℕ
+  pub written_is : written ≡ lines ++ refusal
+  pub ended : ((refusal ≡ host_fault_line) × (sink_after ≡ sink)) ⊎ (Rose sink sink_after × BeginsWith host_fault_line refusal)
+
+-- Where a write failed: at the line that the words, or a refusal with its cause, ask for, or at one of the plan's update, after
+-- which nothing was started.
+pub data FailsAtWrite (made : List ℕ → List (List ℕ × List ℕ) → List ℕ → List ℕ) (words : List (List ℕ)) (disk : Disk) (events : List ChildEvent) (written : List ℕ) : Type 0 where
+  usage : words ≢ [] → BeginsWith usage_line written → FailsAtWrite made words disk events written
+  refusal : (fault : Fault) → HasCause words disk fault → BeginsWith (fault_line fault) written → FailsAtWrite made words disk events written
+  update : (steps : List Step) → HasPlan (jamroot_of disk) steps → StopsAtWrite (update_at made steps disk) events written → FailsAtWrite made words disk events written
 
 -- A beginning of a report: of the line that the words, or a refusal with its cause, ask for, or of the plan's update.
 pub data BeginsSome (made : List ℕ → List (List ℕ × List ℕ) → List ℕ → List ℕ) (words : List (List ℕ)) (disk : Disk) (events : List ChildEvent) (written : List ℕ) : Type 0 where
-  nothing : written ≡ [] → BeginsSome made words disk events written
+  nothing : events ≡ [] → written ≡ [] → BeginsSome made words disk events written
   usage : words ≢ [] → BeginsWith usage_line written → BeginsSome made words disk events written
   refusal : (fault : Fault) → HasCause words disk fault → BeginsWith (fault_line fault) written → BeginsSome made words disk events written
-  update : (steps : List Step) → HasPlan (jamroot_of disk) steps → BeginsReport (update_at made steps disk) events written → BeginsSome made words disk events written
+  update : (steps : List Step) → HasPlan (jamroot_of disk) steps → StopsSomewhere (update_at made steps disk) events written → BeginsSome made words disk events written
 
 -- what an answer says of the bytes that were written
 abbrev pub ReportedBy : (List ℕ → List (List ℕ × List ℕ) → List ℕ → List ℕ) → List (List ℕ) → ℕ → ℕ → Answer → Disk → List ChildEvent → List ℕ → Type 0
@@ -118,9 +169,9 @@ ReportedBy made words sink sink_after answers.Ok disk events written = (steps : 
 ReportedBy made words sink sink_after (answers.Failed lists) disk events written = (steps : List Step) × HasPlan (jamroot_of disk) steps × (written ≡ report steps events lists)
 ReportedBy made words sink sink_after (answers.Refused fault) disk events written = written ≡ fault_line fault
 ReportedBy made words sink sink_after answers.Usage disk events written = written ≡ usage_line
-ReportedBy made words sink sink_after answers.HostFault disk events written = (whole : List ℕ) × TellsHostFault disk events whole × ((written ≡ whole) ⊎ (Rose sink sink_after × BeginsWith whole written))
+ReportedBy made words sink sink_after answers.HostFault disk events written = TellsHostFault sink sink_after disk events written
 ReportedBy made words sink sink_after answers.OutOfMemory disk events written = BeginsSome made words disk events written
-ReportedBy made words sink sink_after answers.SinkFault disk events written = BeginsSome made words disk events written
+ReportedBy made words sink sink_after answers.SinkFault disk events written = FailsAtWrite made words disk events written
 
 -- the bytes that were written in a call, where the sink tells them
 abbrev pub HasReported : (List ℕ → List (List ℕ × List ℕ) → List ℕ → List ℕ) → List (List ℕ) → ℕ → ℕ → Answer → Family → Family → Option (List ℕ) → Option (List ℕ) → Disk → Type 0

@@ -7,7 +7,7 @@ use Rattle.b2_top.specs.declared.jamroot.Stop.TheVariants as stops
 use Rattle.b2_top.specs.declared.load.LoadEnd.{LoadEnd}
 use Rattle.b2_top.specs.declared.load.LoadEnd.TheVariants as ends
 use Rattle.b2_top.specs.ProjectFiles.{jamroot_of}
-use Rattle.b2_top.specs.Stops.{IsStop, IsExact}
+use Rattle.b2_top.specs.Stops.{NamesText, IsStop, IsExact}
 
 -- a load that says that the host failed has seen it fail, and no other has
 abbrev pub LoadCounted : {T : Type 0} → ℕ → ℕ → Result T LoadEnd → Type 0
@@ -19,6 +19,11 @@ LoadCounted before after (Err ends.Host) = Rose before after
 abbrev pub IsUnread : LoadEnd → Type 0
 IsUnread (ends.Stopped stop) = stop ≡ stops.OutOfMemory
 IsUnread ends.Host = ⊤
+
+-- the end of a load never tells a file without tokens by want of memory
+abbrev pub EndNamesText : LoadEnd → Type 0
+EndNamesText (ends.Stopped stop) = NamesText stop
+EndNamesText ends.Host = ⊤
 
 -- what the end of a load says of the project's file, where the files are told
 abbrev pub EndTold : Option Disk → LoadEnd → Type 0

@@ -1,4 +1,4 @@
-use Rattle.std.specs.Prelude.{ℕ, List, ◌++◌, codes}
+use Rattle.std.specs.Prelude.{◌≢◌, ℕ, List, ◌++◌, ⊤, codes}
 use Rattle.std.specs.Fmt.{decimal}
 use Rattle.jam_lexer.specs.declared.fault.LexFault.{LexFault}
 use Rattle.jam_lexer.specs.declared.fault.LexFault.TheVariants as lex
@@ -35,6 +35,11 @@ host_fault_line = refusal_line (codes "host fault")
 
 abbrev pub usage_line : List ℕ
 usage_line = refusal_line (codes "usage: b2 [-jN] [-a] [-q] [-n or --show] [word ..], or b2 --drill=N")
+
+-- a refusal holds no want of memory inside
+abbrev pub HoldsNoWant : Fault → Type 0
+HoldsNoWant (faults.NotYet path number) = ⊤
+HoldsNoWant (faults.Load (load.Lex path fault)) = fault ≢ lex.OutOfMemory
 
 -- the refusal of a project's file that has no tokens
 abbrev pub no_tokens : LexFault → Fault

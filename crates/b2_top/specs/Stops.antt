@@ -1,4 +1,4 @@
-use Rattle.std.specs.Prelude.{◌≡◌, ℕ, List, Option, Result, ◌⊎◌, ⊤, MatchResult, IsErrOf}
+use Rattle.std.specs.Prelude.{◌≡◌, ◌≢◌, ℕ, List, Option, Result, ◌⊎◌, ⊤, MatchResult, IsErrOf}
 use Rattle.b2_plan.specs.declared.step.Step.{Step}
 use Rattle.b2_plan.specs.declared.plan.Plan.{Plan}
 use Rattle.jam_lexer.specs.declared.fault.LexFault.{LexFault}
@@ -13,6 +13,12 @@ stop_of_lex (lex.NotUtf8 at) = stops.Lex (lex.NotUtf8 at)
 stop_of_lex (lex.OpenQuote line) = stops.Lex (lex.OpenQuote line)
 stop_of_lex (lex.OpenActions line) = stops.Lex (lex.OpenActions line)
 stop_of_lex lex.OutOfMemory = stops.OutOfMemory
+
+-- a file without tokens is told by a fault of its text, never by want of memory
+abbrev pub NamesText : Stop → Type 0
+NamesText (stops.NotYet line) = ⊤
+NamesText (stops.Lex fault) = fault ≢ lex.OutOfMemory
+NamesText stops.OutOfMemory = ⊤
 
 -- what a stop says of the project's file
 abbrev pub IsStop : Option (List ℕ) → Stop → Type 0

@@ -4,7 +4,7 @@ ghost use Rattle.b2_plan.specs.Plans.{Apart};
 ghost use Rattle.b2_top.specs.Rules.{roots};
 ghost use Rattle.b2_top.specs.Jamroots.{outs_of};
 ghost use Rattle.b2_top.specs.ProjectFiles.{HasPlan};
-ghost use Rattle.b2_top.specs.Stops.{stop_of_lex, IsStop, IsExact};
+ghost use Rattle.b2_top.specs.Stops.{stop_of_lex, NamesText, IsStop, IsExact};
 ghost use Rattle.b2_update.specs.Plain.{IsPlain};
 
 use crate::fault::ReadFault;
@@ -26,7 +26,8 @@ pub enum Stop {
 
 /// What a fault of the lexer is for the project's file.
 fn stop_of_lex(fault: LexFault) -> Stop
-    ensures { result ≡ stop_of_lex fault }
+    ensures is { result ≡ stop_of_lex fault }
+    ensures names { NamesText result }
 {
     match fault {
         LexFault::NotUtf8 { at } => Stop::Lex(LexFault::NotUtf8 { at }),
@@ -45,6 +46,7 @@ pub fn plan_of(alloc: Global, bytes: &[u8]) -> Result<Plan, Stop>
     ensures apart { IfOk result (λ plan. Apart plan.steps plan.roots) }
     ensures plain { IfOk result (λ plan. IsPlain plan.steps plan.wanted) }
     ensures stop { IfErr result (IsStop (Some bytes.now)) }
+    ensures names { IfErr result NamesText }
     ensures exact { IsExact (Some bytes.now) result }
 {
     match lex(alloc, bytes) {

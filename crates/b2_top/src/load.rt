@@ -7,8 +7,8 @@ ghost use Rattle.b2_update.specs.Plain.{IsPlain};
 ghost use Rattle.b2_top.specs.Rules.{roots};
 ghost use Rattle.b2_top.specs.Jamroots.{outs_of};
 ghost use Rattle.b2_top.specs.ProjectFiles.{jamroot, jamroot_of, HasPlan};
-ghost use Rattle.b2_top.specs.Stops.{IsStop, IsExact};
-ghost use Rattle.b2_top.specs.Loads.{LoadCounted, IsUnread, EndTold, IsExactLoad};
+ghost use Rattle.b2_top.specs.Stops.{NamesText, IsStop, IsExact};
+ghost use Rattle.b2_top.specs.Loads.{LoadCounted, IsUnread, EndNamesText, EndTold, IsExactLoad};
 
 use crate::jamroot::{Stop, plan_of};
 use b2_base::path::Path;
@@ -36,6 +36,7 @@ fn read_jamroot<F: Files>(alloc: Global, files: &mut F) -> Result<ReadAnswer, Lo
     ensures family { F.family files.new ≡ F.family files.old }
     ensures told { IfOk result (λ answer. IfSome (F.disk files.old) (λ before. ReadTold jamroot 1048576 answer before.now)) }
     ensures unread { IfErr result IsUnread }
+    ensures names { IfErr result EndNamesText }
 {
     let path = match Path::normal(alloc, "Jamroot") {
         Ok(path) => path,
@@ -55,6 +56,7 @@ fn plan_of_answer(alloc: Global, answer: &ReadAnswer) -> Result<Plan, Stop>
     ensures roots { IfOk result (λ plan. plan.roots ≡ roots) }
     ensures apart { IfOk result (λ plan. Apart plan.steps plan.roots) }
     ensures plain { IfOk result (λ plan. IsPlain plan.steps plan.wanted) }
+    ensures names { IfErr result NamesText }
     ensures stop { IfErr result (λ stop. (disk : Disk) → ReadTold jamroot 1048576 answer.now disk.now → IsStop (jamroot_of disk) stop) }
     ensures exact { (disk : Disk) → ReadTold jamroot 1048576 answer.now disk.now → IsExact (jamroot_of disk) result }
 {
@@ -80,6 +82,7 @@ pub fn load<F: Files>(alloc: Global, files: &mut F) -> Result<Plan, LoadEnd>
     ensures roots { IfOk result (λ plan. plan.roots ≡ roots) }
     ensures apart { IfOk result (λ plan. Apart plan.steps plan.roots) }
     ensures plain { IfOk result (λ plan. IsPlain plan.steps plan.wanted) }
+    ensures names { IfErr result EndNamesText }
     ensures stop { IfErr result (EndTold (F.disk files.old)) }
     ensures exact { IfSome (F.disk files.old) (λ before. IsExactLoad (jamroot_of before) result) }
 {

@@ -7,11 +7,12 @@ ghost use Rattle.jam_lexer.specs.declared.fault.LexFault.{LexFault};
 ghost use Rattle.b2_plan.specs.declared.step.Step.{Step};
 ghost use Rattle.b2_plan.specs.Plans.{Apart};
 ghost use Rattle.b2_update.specs.Plain.{IsPlain};
+ghost use Rattle.b2_update.specs.Turns.{HasTurns};
 ghost use Rattle.b2_top.specs.Rules.{roots};
 ghost use Rattle.b2_top.specs.Jamroots.{outs_of};
 ghost use Rattle.b2_top.specs.ProjectFiles.{jamroot};
 ghost use Rattle.b2_top.specs.Refusals.{no_tokens};
-ghost use Rattle.b2_top.specs.Builds.{IsCutShort, CountsTold, ShouldBeNotYet, ShouldHaveNoTokens, CameToPass, LeavesClean, ShouldEndWell, HasReported};
+ghost use Rattle.b2_top.specs.Builds.{IsCutShort, IsOfWords, IsLeftAlone, StartsNone, RefusesNoWant, failed_in, CountsTold, ShouldBeNotYet, ShouldHaveNoTokens, CameToPass, LeavesClean, ShouldEndWell, HasReported};
 ghost use Rattle.b2_top.specs.Answered.{IsAnswered, IsThePlan};
 
 use crate::answer::Answer;
@@ -74,11 +75,17 @@ pub fn run_b2<H: Children, S: Sink>(
     ensures clean { result ≡ Answer.Ok → BothTold (LeavesClean H.made) (H.disk host.old) (H.disk host.new) }
     // What came to pass, by the answer: a whole run, nothing, or the beginning of a run.
     ensures came { BothTold (CameToPass H.made words.now result (H.family host.old) (H.family host.new)) (H.disk host.old) (H.disk host.new) }
-    // Ok, Failed, Refused and Usage come only where nothing failed; a fault comes only where its count rose.
-    ensures counts { CountsTold (H.faults host.old) (H.faults host.new) (S.faults out.old) (S.faults out.new) result }
-    // A word asks for the usage line, and nothing else does.
-    ensures usage { words.now ≢ [] → (result ≡ Answer.Usage) ⊎ IsCutShort result }
+    // Ok, Failed, Refused and Usage come only where nothing failed; a fault comes only where its count rose, and the first
+    // one decides.
+    ensures counts { CountsTold (H.faults host.old) (H.faults host.new) (H.family host.new).running (S.faults out.old) (S.faults out.new) result }
+    // A word asks for the usage line, before the host is called, and nothing else does.
+    ensures usage { words.now ≢ [] → IsOfWords result }
+    ensures alone { words.now ≢ [] → IsLeftAlone (H.family host.old) (H.family host.new) (H.disk host.old) (H.disk host.new) (H.faults host.old) (H.faults host.new) }
     ensures no_usage { result ≡ Answer.Usage → words.now ≢ [] }
+    // A call that is refused has started nothing.
+    ensures starts_none { StartsNone result (H.family host.old) (H.family host.new) }
+    // A refusal holds no want of memory inside.
+    ensures no_want { RefusesNoWant result }
     // A Jamroot that has no tokens is refused by the name of its fault, and one that is not as it should be at its first
     // bad line.
     ensures not_yet { BothTold (λ before after. (line : ℕ) → ShouldBeNotYet words.now before line → (result ≡ Answer.Refused (Fault.NotYet jamroot line)) ⊎ IsCutShort result) (H.disk host.old) (H.disk host.new) }
@@ -87,6 +94,8 @@ pub fn run_b2<H: Children, S: Sink>(
     ensures complete { BothTold (λ before after. (steps : List Step) → ShouldEndWell H.made words.now steps (H.family host.old) (H.family host.new) before → H.faults host.new ≡ H.faults host.old → S.faults out.new ≡ S.faults out.old → (result ≡ Answer.Ok) ⊎ IsCutShort result) (H.disk host.old) (H.disk host.new) }
     // What was written is the report.
     ensures reported { BothTold (λ before after. HasReported H.made words.now (S.faults out.old) (S.faults out.new) result (H.family host.old) (H.family host.new) (S.written out.old) (S.written out.new) before) (H.disk host.old) (H.disk host.new) }
+    // The events are in turn, over every host: one step is open at a time, none starts twice, and each failed step was done.
+    ensures turns { HasTurns (failed_in result) (H.family host.old).events (H.family host.new).events }
     // No child is left, unless a wait failed.
     ensures none_left { ((H.family host.new).running ≡ []) ⊎ Rose (H.faults host.old) (H.faults host.new) }
 {

@@ -10,7 +10,7 @@ use Rattle.b2_update.specs.declared.stop.Stop.{Stop}
 use Rattle.b2_update.specs.declared.stop.Stop.TheVariants as stops
 use Rattle.b2_update.specs.Runs.{Update}
 use Rattle.b2_update.specs.Plain.{IsPlain}
-use Rattle.b2_update.specs.Stops.{SinkTold}
+use Rattle.b2_update.specs.Stops.{HostTold, SinkTold}
 use Rattle.b2_update.specs.Inputs.{outcome_at}
 use Rattle.b2_update.specs.Progress.{IsWhole, Stands, Stopped, GoesOn, update_of}
 use Rattle.b2_update.proofs.Elements.{Contains-nil}
@@ -62,6 +62,15 @@ pub sink_stops : (sink after : ℕ) (stop : Stop) → SinkTold {T = Unit {0}} si
 sink_stops sink after stops.Host told e = told
 sink_stops sink after stops.Sink told e = let f : stops.Sink ≡ stops.Host = e in cc
 sink_stops sink after stops.OutOfMemory told e = let f : stops.OutOfMemory ≡ stops.Host = e in cc
+
+-- where the host or memory stops, the sink does not
+pub host_stops : (host after : ℕ) (stop : Stop) → HostTold {T = Unit {0}} host after (Err stop) → stop ≢ stops.Sink
+host_stops host after stops.Host told e = let f : stops.Host ≡ stops.Sink = e in cc
+host_stops host after stops.Sink told e = told
+host_stops host after stops.OutOfMemory told e = let f : stops.OutOfMemory ≡ stops.Sink = e in cc
+
+pub no_sink : (stop : Stop) → stop ≡ stops.OutOfMemory → stop ≢ stops.Sink
+no_sink stop e f = let g : stops.OutOfMemory ≡ stops.Sink = sym e ∙ f in cc
 
 pub memory_stops : (stop : Stop) → stop ≡ stops.OutOfMemory → stop ≢ stops.Host
 memory_stops stop e f = let g : stops.OutOfMemory ≡ stops.Host = sym e ∙ f in cc

@@ -19,12 +19,12 @@ use Rattle.b2_update.specs.Outcomes.{IsSettledStep, IsFailed, IsMissed, IsLeft, 
 use Rattle.b2_update.specs.Reports.{event_lines, end_lines, report, is_good_end}
 use Rattle.b2_update.specs.declared.update_answer.UpdateAnswer.{UpdateAnswer}
 use Rattle.b2_update.specs.declared.update_answer.UpdateAnswer.TheVariants as answers
-use Rattle.b2_update.specs.Updates.{HasEnded, HasRun, HasUpdated, HasWritten, WrittenBy, AnswerTold, SomethingLacks, BeginsReport, stop_answer, IsEndOf}
+use Rattle.b2_update.specs.Updates.{HasEnded, HasRun, HasUpdated, HasWritten, WrittenBy, AnswerTold, SomethingLacks, StopsAtEnd, stop_answer, IsEndOf}
 use Rattle.b2_update.specs.Inputs.{IsMissingInput, outcome_at, is_settled, AreListed}
 use Rattle.b2_update.specs.Runners.{Adds, AddsPart}
 use Rattle.b2_update.specs.Progress.{IsWhole, IsPrepared, HasSettled, WasSkipped, Became, IsUnderWay, Stands, Stopped, ToldBy, HasFinished}
 use Rattle.b2_update.proofs.Elements.{some_element, Contains-nil, Contains-cases}
-use Rattle.b2_update.proofs.Writing.{adds_both, adds_then_part}
+use Rattle.b2_update.proofs.Writing.{adds_both}
 use Rattle.b2_update.proofs.Values.{val_le}
 use Rattle.b2_update.proofs.Moves.{all_needed, not_settled, cannot_start, outcome_some}
 
@@ -239,8 +239,15 @@ end_stopped u lacks p old text list fam disk written written2 s size lists are u
     let core = s.core in
     let counted : updated ≡ count_by is_good_end s.events = count ∙ sym s.settled in
     let end : AddsPart (end_lines steps (count_by is_good_end s.events) lists) written written2 = subst (λ n. AddsPart (end_lines steps n lists) written written2) counted adds in
-    let q = adds_then_part (event_lines steps s.events) (end_lines steps (count_by is_good_end s.events) lists) text written written2 s.lines end in
-    let begins : BeginsReport u s.events q.part = inr (lists, all_lists u lacks p old list s.events fam s.now.now core size lists are, (q.rest, q.whole)) in
+    let all : List ℕ = event_lines steps s.events ++ end.part in
+    let at : StopsAtEnd u s.events all = record {
+      run = (all_ended u lacks p old text list fam disk written s size lists are).run;
+      lists = lists;
+      are = all_lists u lacks p old list s.events fam s.now.now core size lists are;
+      part = end.part;
+      begins = (end.rest, end.whole);
+      lines = refl;
+    } in
     let ran = has_run u old list s.events fam s.now.now core in
     record {
       now = s.now;
@@ -252,9 +259,9 @@ end_stopped u lacks p old text list fam disk written written2 s size lists are u
       begun = ran.begun;
       fed = ran.fed;
       changed = ran.changed;
-      part = q.part;
-      lines = q.adds;
-      told = elim stop as (λ z. (z ≢ stops.Host) → ToldBy u s.events z q.part) [ stops.Host ↦ λ h. absurd (h refl) | stops.Sink ↦ λ h. begins | stops.OutOfMemory ↦ λ h. begins ] other;
+      part = all;
+      lines = adds_both (event_lines steps s.events) end.part text written written2 s.lines end.adds;
+      told = elim stop as (λ z. (z ≢ stops.Host) → ToldBy u s.events z all) [ stops.Host ↦ λ h. absurd (h refl) | stops.Sink ↦ λ h. inr at | stops.OutOfMemory ↦ λ h. inr (inr at) ] other;
     }
 
 append_cancel : (xs ys zs : List ChildEvent) → xs ++ ys ≡ xs ++ zs → ys ≡ zs

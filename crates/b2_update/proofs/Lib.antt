@@ -12,3 +12,4 @@ pub mod Numbers
 pub mod Endings
 pub mod Beginnings
 pub mod Nexts
+pub mod Turning

@@ -1,4 +1,4 @@
-use Rattle.std.proofs.Common.{◌≡◌, ◌≢◌, ℕ, zero, suc, ◌+◌, ◌<◌, ◌≤◌, ◌↔◌, Bool, true, false, cond, List, [], ◌∷◌, ◌++◌, length, ◌⊎◌, inl, inr, refl, sym, ap, subst, subst₂, arith, ◌∙◌, Option, Some, None, IfSome, slice_get, count_by, append_assoc, append-nil, option_map, map}
+use Rattle.std.proofs.Common.{◌≡◌, ◌≢◌, ℕ, zero, suc, ◌+◌, ◌<◌, ◌≤◌, ◌↔◌, Bool, true, false, cond, List, [], ◌∷◌, ◌++◌, length, ◌⊎◌, inl, inr, refl, sym, ap, subst, subst₂, arith, ◌∙◌, Option, Some, None, IfSome, slice_get, count_by, append_assoc, append-nil, option_map, map, codes}
 use Rattle.std.specs.List.{Contains, AllPairs, AllByRecursion}
 use Rattle.std.proofs.lemmas.List.Elements.{Contains-push_cases, Contains-append_left, Contains-push}
 use Rattle.std.proofs.lemmas.Grind.{flat_map-append}
@@ -17,13 +17,14 @@ use Rattle.b2_update.specs.declared.outcome.Outcome.TheVariants as outcomes
 use Rattle.b2_update.specs.declared.stop.Stop.{Stop}
 use Rattle.b2_update.specs.declared.stop.Stop.TheVariants as stops
 use Rattle.b2_update.specs.Runs.{Update, is_start, is_done, MayCome, IsFed, path_in}
-use Rattle.b2_update.specs.Reports.{is_good_end, event_line, event_lines, start_line, failed_line, said_of}
+use Rattle.b2_update.specs.Reports.{is_good_end, event_line, event_lines, start_line, failed_line, said_of, line as line_of, title}
 use Rattle.b2_update.specs.Inputs.{outcome_at, is_settled}
 use Rattle.b2_update.specs.Runners.{Adds, AddsPart, IsDrained, HasRunChild, HasStopped, started}
 use Rattle.b2_update.specs.Outputs.{KeepsOthers, AreGone}
 use Rattle.b2_update.specs.Progress.{IsWhole, IsMade, IsUnderWay, IsDue, Stands, HasCome, Stopped, ToldBy}
 use Rattle.b2_update.proofs.Elements.{Contains-nil}
-use Rattle.b2_update.proofs.Writing.{adds_both, adds_then_part}
+use Rattle.b2_update.specs.Updates.{StopsAtEvent}
+use Rattle.b2_update.proofs.Writing.{adds_both}
 use Rattle.b2_update.proofs.Values.{members_of, read_members, paths_read}
 use Rattle.b2_update.proofs.Moves.{IsReadyInput, ready_input, ready_close, may_start, none_starts, under_drift, under_start, under_done, under_outcome, count_one, done_not_new, start_not_new, outcome_old, one_step, step_within}
 
@@ -33,7 +34,7 @@ told_after P before None h = absurd h
 told_after P before (Some disk) h = (disk, refl, h)
 
 -- the only child that runs
-only_child : (running : List Child) (c0 c : Child) (place : ℕ) → running ≡ [] → slice_get (running ++ c0 ∷ []) place ≡ Some c → c0 ≡ c
+pub only_child : (running : List Child) (c0 c : Child) (place : ℕ) → running ≡ [] → slice_get (running ++ c0 ∷ []) place ≡ Some c → c0 ≡ c
 only_child running c0 c place none at = go place (subst (λ r. slice_get (r ++ c0 ∷ []) place ≡ Some c) none at)
   where
     go : (place : ℕ) → slice_get (c0 ∷ []) place ≡ Some c → c0 ≡ c
@@ -117,7 +118,7 @@ may_end : (u : Update) (old : Family) (list : List Outcome) (events : List Child
     → MayCome u (events ++ Start (length list + 1) ∷ []) (Done (length list + 1) well)
 may_end u old list events family after well w s = ((Contains-push events (Start (length list + 1)), s.first), none_starts u w (events ++ Start (length list + 1) ∷ []) s.odd)
 
-length_push : (list : List Outcome) (o : Outcome) → length (list ++ o ∷ []) ≡ length list + 1
+pub length_push : (list : List Outcome) (o : Outcome) → length (list ++ o ∷ []) ≡ length list + 1
 length_push [] o = refl
 length_push (x ∷ list) o = ap suc (length_push list o) ∙ omega arith
 
@@ -210,20 +211,25 @@ stop_with u old text list events fam disk written stop now now_is core part line
 }
 
 -- the lines of a prefix that holds every start are told
-told_front : (u : Update) (events front rest : List ChildEvent) (stop : Stop) → events ≡ front ++ rest → AllByRecursion (λ event. is_done event ≡ true) rest → ToldBy u events stop (event_lines u.build.steps front)
-told_front u events front rest stops.Host whole ends = record { front = front; rest = rest; whole = whole; only_ends = ends; lines = refl }
-told_front u events front rest stops.Sink whole ends = inl (event_lines u.build.steps rest, ap (event_lines u.build.steps) whole ∙ flat_map-append (event_line u.build.steps) front rest)
-told_front u events front rest stops.OutOfMemory whole ends = inl (event_lines u.build.steps rest, ap (event_lines u.build.steps) whole ∙ flat_map-append (event_line u.build.steps) front rest)
+told_front : (u : Update) (events front rest : List ChildEvent) (stop : Stop) → stop ≢ stops.Sink → events ≡ front ++ rest → AllByRecursion (λ event. is_done event ≡ true) rest → ToldBy u events stop (event_lines u.build.steps front)
+told_front u events front rest stops.Host other whole ends = record { front = front; rest = rest; whole = whole; only_ends = ends; lines = refl }
+told_front u events front rest stops.Sink other whole ends = absurd (other refl)
+told_front u events front rest stops.OutOfMemory other whole ends = inl (record { front = front; rest = rest; whole = whole; only_ends = ends; lines = refl })
 
-told_part : (u : Update) (events : List ChildEvent) (part rest : List ℕ) (stop : Stop) → stop ≢ stops.Host → event_lines u.build.steps events ≡ part ++ rest → ToldBy u events stop part
-told_part u events part rest stops.Host other whole = absurd (other refl)
-told_part u events part rest stops.Sink other whole = inl (rest, whole)
-told_part u events part rest stops.OutOfMemory other whole = inl (rest, whole)
+-- a line is not empty
+some_line : (text : List ℕ) → line_of text ≢ []
+some_line [] e = let f : 10 ∷ [] ≡ [] = e in cc
+some_line (x ∷ text) e = let f : x ∷ (text ++ 10 ∷ []) ≡ [] = e in cc
+
+told_part : (u : Update) (events : List ChildEvent) (stop : Stop) (written : List ℕ) → stop ≢ stops.Host → StopsAtEvent u.build.steps events written → ToldBy u events stop written
+told_part u events stops.Host written other at = absurd (other refl)
+told_part u events stops.Sink written other at = inl at
+told_part u events stops.OutOfMemory written other at = inr (inl at)
 
 -- a stop between two steps
-pub stands_stopped : (u : Update) (old : Family) (text : Option (List ℕ)) (list : List Outcome) (fam : Family) (disk : Option Disk) (written : Option (List ℕ)) (stop : Stop) → Stands u old text list fam disk written → Stopped u old text stop fam disk written
-stands_stopped u old text list fam disk written stop s =
-    stop_with u old text list s.events fam disk written stop s.now s.now_is s.core (event_lines u.build.steps s.events) s.lines (told_front u s.events s.events [] stop (sym (append-nil s.events)) tt)
+pub stands_stopped : (u : Update) (old : Family) (text : Option (List ℕ)) (list : List Outcome) (fam : Family) (disk : Option Disk) (written : Option (List ℕ)) (stop : Stop) → stop ≢ stops.Sink → Stands u old text list fam disk written → Stopped u old text stop fam disk written
+stands_stopped u old text list fam disk written stop other s =
+    stop_with u old text list s.events fam disk written stop s.now s.now_is s.core (event_lines u.build.steps s.events) s.lines (told_front u s.events s.events [] stop other (sym (append-nil s.events)) tt)
 
 -- What holds after the wait for a child that may run on.
 record IsHalted (u : Update) (old : Family) (list : List Outcome) (events : List ChildEvent) (family : Family) (disk : Option Disk) : Type 0 where
@@ -277,29 +283,38 @@ has_stopped u made old text list step ins line stop fam fam2 disk disk2 written 
     let events1 : List ChildEvent = s.events ++ Start i ∷ [] in
     let lines1 : event_lines steps events1 ≡ event_lines steps s.events ++ line = event_more steps s.events (Start i) ∙ ap (λ t. event_lines steps s.events ++ t) (started_line steps i step due.at ∙ sym line_is) in
     elim stopped.at [
-      | inl (family_is, disk_is, written_is) ↦
-          let a : Stopped u old text stop fam disk written = stands_stopped u old text list fam disk written stop s in
+      | inl (other, family_is, disk_is, written_is) ↦
+          let a : Stopped u old text stop fam disk written = stands_stopped u old text list fam disk written stop other s in
           let b : Stopped u old text stop fam2 disk written = subst (λ f. Stopped u old text stop f disk written) (sym family_is) a in
           subst₂ (λ d w. Stopped u old text stop fam2 d w) (sym disk_is) (sym written_is) b
       | inr (inl (other, drained, part)) ↦
           let h = has_halted u made old text list step ins fam fam2 disk disk2 written due s idle rising same drained in
           let events2 : List ChildEvent = events1 ++ h.rest in
-          let p = adds_then_part (event_lines steps s.events) line text written written2 s.lines part in
-          let whole : event_lines steps events2 ≡ p.part ++ (p.rest ++ event_lines steps h.rest) =
-          flat_map-append (event_line steps) events1 h.rest ∙ ap (λ t. t ++ event_lines steps h.rest) (lines1 ∙ p.whole) ∙ append_assoc p.part p.rest (event_lines steps h.rest) in
-          stop_with u old text list events2 fam2 disk2 written2 stop h.now h.now_is h.core p.part p.adds (told_part u events2 p.part (p.rest ++ event_lines steps h.rest) stop other whole)
-      | inr (inr (drained, told)) ↦
+          let said : event_line steps (Start i) ≡ line = started_line steps i step due.at ∙ sym line_is in
+          stop_with u old text list events2 fam2 disk2 written2 stop h.now h.now_is h.core (event_lines steps s.events ++ part.part) (adds_both (event_lines steps s.events) part.part text written written2 s.lines part.adds)
+          (told_part u events2 stop (event_lines steps s.events ++ part.part) other (record {
+            front = s.events;
+            event = Start i;
+            rest = h.rest;
+            whole = append_assoc s.events (Start i ∷ []) h.rest;
+            only_ends = h.only_ends;
+            has_line = λ e. some_line (title step) (sym line_is ∙ sym said ∙ e);
+            part = part.part;
+            begins = (part.rest, said ∙ part.whole);
+            lines = refl;
+          }))
+      | inr (inr (other, drained, told)) ↦
           let h = has_halted u made old text list step ins fam fam2 disk disk2 written due s idle rising same drained in
           let events2 : List ChildEvent = events1 ++ h.rest in
           let lines : Adds (event_lines steps events1) text written2 = subst (λ t. Adds t text written2) (sym lines1) (adds_both (event_lines steps s.events) line text written written2 s.lines told) in
-          stop_with u old text list events2 fam2 disk2 written2 stop h.now h.now_is h.core (event_lines steps events1) lines (told_front u events2 events1 h.rest stop refl h.only_ends)
+          stop_with u old text list events2 fam2 disk2 written2 stop h.now h.now_is h.core (event_lines steps events1) lines (told_front u events2 events1 h.rest stop other refl h.only_ends)
     ]
 
 -- a stop when the next step has ended
-pub came_stopped : (u : Update) (old : Family) (text : Option (List ℕ)) (list : List Outcome) (well : Bool) (fam : Family) (disk : Option Disk) (written : Option (List ℕ)) (stop : Stop) → HasCome u old text list well fam disk written → Stopped u old text stop fam disk written
-came_stopped u old text list well fam disk written stop h =
+pub came_stopped : (u : Update) (old : Family) (text : Option (List ℕ)) (list : List Outcome) (well : Bool) (fam : Family) (disk : Option Disk) (written : Option (List ℕ)) (stop : Stop) → stop ≢ stops.Sink → HasCome u old text list well fam disk written → Stopped u old text stop fam disk written
+came_stopped u old text list well fam disk written stop other h =
     let i : ℕ = length list + 1 in
-    stop_with u old text list (h.front ++ Done i well ∷ []) fam disk written stop h.now h.now_is h.core (event_lines u.build.steps h.front) h.lines (told_front u (h.front ++ Done i well ∷ []) h.front (Done i well ∷ []) stop refl (refl, tt))
+    stop_with u old text list (h.front ++ Done i well ∷ []) fam disk written stop h.now h.now_is h.core (event_lines u.build.steps h.front) h.lines (told_front u (h.front ++ Done i well ∷ []) h.front (Done i well ∷ []) stop other refl (refl, tt))
 
 -- a stop while the line of a failure was written
 pub came_part : (u : Update) (old : Family) (text : Option (List ℕ)) (list : List Outcome) (step : Step) (fam : Family) (disk : Option Disk) (written written2 : Option (List ℕ)) (stop : Stop) → step_at u.build.steps (length list + 1) ≡ Some step → HasCome u old text list false fam disk written
@@ -308,9 +323,19 @@ came_part u old text list step fam disk written written2 stop at h other line li
     let i : ℕ = length list + 1 in
     let steps = u.build.steps in
     let events : List ChildEvent = h.front ++ Done i false ∷ [] in
-    let p = adds_then_part (event_lines steps h.front) line text written written2 h.lines part in
     let said : event_line steps (Done i false) ≡ line = ap (said_of failed_line) at ∙ sym line_is in
-    stop_with u old text list events fam disk written2 stop h.now h.now_is h.core p.part p.adds (told_part u events p.part p.rest stop other (event_more steps h.front (Done i false) ∙ ap (λ t. event_lines steps h.front ++ t) said ∙ p.whole))
+    stop_with u old text list events fam disk written2 stop h.now h.now_is h.core (event_lines steps h.front ++ part.part) (adds_both (event_lines steps h.front) part.part text written written2 h.lines part.adds)
+    (told_part u events stop (event_lines steps h.front ++ part.part) other (record {
+      front = h.front;
+      event = Done i false;
+      rest = [];
+      whole = refl;
+      only_ends = tt;
+      has_line = λ e. some_line (codes "...failed " ++ title step ++ codes "...") (sym line_is ∙ sym said ∙ e);
+      part = part.part;
+      begins = (part.rest, said ∙ part.whole);
+      lines = refl;
+    }))
 
 -- the next step has settled
 pub came_settled : (u : Update) (old : Family) (text : Option (List ℕ)) (list : List Outcome) (fam : Family) (disk : Option Disk) (written : Option (List ℕ)) → HasCome u old text list true fam disk written → Stands u old text (list ++ outcomes.Settled ∷ []) fam disk written

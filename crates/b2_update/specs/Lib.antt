@@ -8,3 +8,4 @@ pub mod Inputs
 pub mod Runners
 pub mod Outputs
 pub mod Progress
+pub mod Turns

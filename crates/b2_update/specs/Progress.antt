@@ -17,7 +17,7 @@ use Rattle.b2_update.specs.Runs.{Update, is_start, is_done, RunFrom, IsBegun, Ar
 use Rattle.b2_update.specs.Outcomes.{OnlyOutputsChange, ArePathsOf}
 use Rattle.b2_update.specs.Reports.{event_lines, report, is_good_end}
 use Rattle.b2_update.specs.Plain.{IsPlain, build_of, update_all}
-use Rattle.b2_update.specs.Updates.{TellsStarts, BeginsReport, HasRun, HasEnded}
+use Rattle.b2_update.specs.Updates.{TellsStarts, StopsAtWrite, StopsSomewhere, HasRun, HasEnded}
 use Rattle.b2_update.specs.Inputs.{IsMissingInput, outcome_at, is_settled}
 use Rattle.b2_update.specs.Runners.{Adds}
 
@@ -118,8 +118,8 @@ pub record HasCome (u : Update) (old : Family) (text : Option (List ℕ)) (list 
 -- what was written before a stop
 abbrev pub ToldBy : Update → List ChildEvent → Stop → List ℕ → Type 0
 ToldBy u events stops.Host part = TellsStarts u.build.steps events part
-ToldBy u events stops.Sink part = BeginsReport u events part
-ToldBy u events stops.OutOfMemory part = BeginsReport u events part
+ToldBy u events stops.Sink part = StopsAtWrite u events part
+ToldBy u events stops.OutOfMemory part = StopsSomewhere u events part
 
 -- what holds where an update has stopped
 pub record Stopped (u : Update) (old : Family) (text : Option (List ℕ)) (stop : Stop) (new : Family) (disk : Option Disk) (written : Option (List ℕ)) : Type 0 where

@@ -44,6 +44,6 @@ pub record HasRunChild (made : List ℕ → List (List ℕ × List ℕ) → List
 -- It stopped before the start, or after the start at the writing of the line, or after that at the wait.
 pub record HasStopped (made : List ℕ → List (List ℕ × List ℕ) → List ℕ → List ℕ) (number : ℕ) (step : Step) (ins : List (List ℕ)) (line : List ℕ) (stop : Stop) (old : Family) (before : Option Disk) (text : Option (List ℕ)) (new : Family) (after : Option Disk) (text_after : Option (List ℕ)) : Type 0 where
   pub at :
-      ((new ≡ old) × (after ≡ before) × (text_after ≡ text))
+      ((stop ≢ stops.Sink) × (new ≡ old) × (after ≡ before) × (text_after ≡ text))
       ⊎ ((stop ≢ stops.Host) × IsDrained made (started number step ins before old) before new after × AddsPart line text text_after)
-      ⊎ (IsDrained made (started number step ins before old) before new after × Adds line text text_after)
+      ⊎ ((stop ≢ stops.Sink) × IsDrained made (started number step ins before old) before new after × Adds line text text_after)

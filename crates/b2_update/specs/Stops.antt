@@ -1,7 +1,8 @@
-use Rattle.std.specs.Prelude.{◌≡◌, ℕ, Result, Ok, Err}
+use Rattle.std.specs.Prelude.{◌≡◌, ◌≢◌, ℕ, List, [], ◌⊎◌, Result, Ok, Err}
 use Rattle.b2_host.specs.declared.fault.IoFault.{IoFault}
 use Rattle.b2_host.specs.declared.fault.IoFault.TheVariants as faults
 use Rattle.b2_host.specs.Faults.{Rose}
+use Rattle.b2_host.specs.Childhood.{Child}
 use Rattle.b2_update.specs.declared.stop.Stop.{Stop}
 use Rattle.b2_update.specs.declared.stop.Stop.TheVariants as stops
 
@@ -15,17 +16,22 @@ abbrev pub sink_stop_of : IoFault → Stop
 sink_stop_of faults.Failed = stops.Sink
 sink_stop_of faults.OutOfMemory = stops.OutOfMemory
 
--- How the two counts of faults stand to a stop. After the first fault a child may still be waited for, so that the host's
--- count may rise too.
-abbrev pub StopTold : ℕ → ℕ → ℕ → ℕ → Stop → Type 0
-StopTold host host_after sink sink_after stops.Host = Rose host host_after × (sink_after ≡ sink)
-StopTold host host_after sink sink_after stops.Sink = Rose sink sink_after
-StopTold host host_after sink sink_after stops.OutOfMemory = sink_after ≡ sink
+-- What the host's count of faults may do behind another fault: it is as it was, or the wait for the child that ran failed,
+-- so that a child is left.
+abbrev pub IsQuietHost : ℕ → ℕ → List Child → Type 0
+IsQuietHost host host_after left = (host_after ≡ host) ⊎ (left ≢ [])
+
+-- How the two counts of faults stand to a stop, which is the first fault: a fault of the host comes where the sink's count
+-- is as it was, and one of the sink, or want of memory, where the host's is, but for the wait that follows it.
+abbrev pub StopTold : ℕ → ℕ → List Child → ℕ → ℕ → Stop → Type 0
+StopTold host host_after left sink sink_after stops.Host = Rose host host_after × (sink_after ≡ sink)
+StopTold host host_after left sink sink_after stops.Sink = Rose sink sink_after × IsQuietHost host host_after left
+StopTold host host_after left sink sink_after stops.OutOfMemory = (sink_after ≡ sink) × IsQuietHost host host_after left
 
 -- the counts of the host and of the sink stay, or stand to the stop as it says
-abbrev pub CountsTold : {T : Type 0} → ℕ → ℕ → ℕ → ℕ → Result T Stop → Type 0
-CountsTold host host_after sink sink_after (Ok x) = (host_after ≡ host) × (sink_after ≡ sink)
-CountsTold host host_after sink sink_after (Err stop) = StopTold host host_after sink sink_after stop
+abbrev pub CountsTold : {T : Type 0} → ℕ → ℕ → List Child → ℕ → ℕ → Result T Stop → Type 0
+CountsTold host host_after left sink sink_after (Ok x) = (host_after ≡ host) × (sink_after ≡ sink)
+CountsTold host host_after left sink sink_after (Err stop) = StopTold host host_after left sink sink_after stop
 
 -- the same of a call on the host alone
 abbrev pub HostTold : {T : Type 0} → ℕ → ℕ → Result T Stop → Type 0

@@ -1,8 +1,8 @@
-use Rattle.std.specs.Prelude.{◌≡◌, ◌≢◌, ℕ, true, List, [], ◌++◌, Option, Some, ◌⊎◌, ⊤, IfSome}
+use Rattle.std.specs.Prelude.{◌≡◌, ◌≢◌, ℕ, true, List, [], ◌∷◌, ◌++◌, Option, Some, ◌⊎◌, ⊤, IfSome, count_by}
 use Rattle.std.specs.List.{AllByRecursion}
 use Rattle.b2_host.specs.declared.children.ChildEvent.{ChildEvent}
 use Rattle.b2_host.specs.Standing.{Folder, Disk}
-use Rattle.b2_host.specs.Childhood.{Family, Given}
+use Rattle.b2_host.specs.Childhood.{Family, Child, Given}
 use Rattle.b2_host.specs.Faults.{Rose}
 use Rattle.b2_plan.specs.declared.step.Step.{Step}
 use Rattle.b2_update.specs.declared.failed_lists.FailedLists.{FailedLists}
@@ -10,18 +10,20 @@ use Rattle.b2_update.specs.declared.stop.Stop.{Stop}
 use Rattle.b2_update.specs.declared.stop.Stop.TheVariants as stops
 use Rattle.b2_update.specs.declared.update_answer.UpdateAnswer.{UpdateAnswer}
 use Rattle.b2_update.specs.declared.update_answer.UpdateAnswer.TheVariants as answers
+use Rattle.b2_update.specs.Stops.{IsQuietHost}
 use Rattle.b2_update.specs.Runs.{Update, is_done, IsRun, IsBegun, AreFed}
 use Rattle.b2_update.specs.Outcomes.{NoneStuck, AreLists, nothing_lacks, HasCleanBytes, LeavesNothing, OnlyOutputsChange}
-use Rattle.b2_update.specs.Reports.{event_lines, report}
+use Rattle.b2_update.specs.Reports.{event_line, event_lines, is_good_end, end_lines, report}
 
 -- How the two counts of faults stand to an answer: an answer that is no fault comes only where both are as at entry, and
--- a fault only where its count rose.
-abbrev pub FaultsTold : ℕ → ℕ → ℕ → ℕ → UpdateAnswer → Type 0
-FaultsTold host host_after sink sink_after answers.Done = (host_after ≡ host) × (sink_after ≡ sink)
-FaultsTold host host_after sink sink_after (answers.Failed lists) = (host_after ≡ host) × (sink_after ≡ sink)
-FaultsTold host host_after sink sink_after answers.HostFault = Rose host host_after × (sink_after ≡ sink)
-FaultsTold host host_after sink sink_after answers.SinkFault = Rose sink sink_after
-FaultsTold host host_after sink sink_after answers.OutOfMemory = sink_after ≡ sink
+-- a fault only where its count rose and the other's is as at entry. Behind a fault of the sink, or want of memory, the wait
+-- for the child that ran may fail, so that the child is left.
+abbrev pub FaultsTold : ℕ → ℕ → List Child → ℕ → ℕ → UpdateAnswer → Type 0
+FaultsTold host host_after left sink sink_after answers.Done = (host_after ≡ host) × (sink_after ≡ sink)
+FaultsTold host host_after left sink sink_after (answers.Failed lists) = (host_after ≡ host) × (sink_after ≡ sink)
+FaultsTold host host_after left sink sink_after answers.HostFault = Rose host host_after × (sink_after ≡ sink)
+FaultsTold host host_after left sink sink_after answers.SinkFault = Rose sink sink_after × IsQuietHost host host_after left
+FaultsTold host host_after left sink sink_after answers.OutOfMemory = (sink_after ≡ sink) × IsQuietHost host host_after left
 
 -- A run has ended: no needed step is stuck, the lists are those of the run, what is settled has the bytes of the clean
 -- build, and nothing of a failed step stands.
@@ -66,17 +68,43 @@ pub record TellsStarts (steps : List Step) (events : List ChildEvent) (written :
   pub only_ends : AllByRecursion (λ event. is_done event ≡ true) rest
   pub lines : written ≡ event_lines steps front
 
--- a beginning of the lines of the events, or, of a run that has ended, of its report
-abbrev pub BeginsReport : Update → List ChildEvent → List ℕ → Type 0
-BeginsReport u events written = BeginsWith (event_lines u.build.steps events) written ⊎ ((lists : FailedLists) × AreLists u events lists × BeginsWith (report u.build.steps events lists) written)
+-- The writing stopped at the line of an event: the lines of the events before it were written, and a beginning of its own.
+-- After it nothing was started.
+pub record StopsAtEvent (steps : List Step) (events : List ChildEvent) (written : List ℕ) : Type 0 where
+  pub front : List ChildEvent
+  pub event : ChildEvent
+  pub rest : List ChildEvent
+  pub whole : events ≡ front ++ event ∷ rest
+  pub only_ends : AllByRecursion (λ event. is_done event ≡ true) rest
+  pub has_line : event_line steps event ≢ []
+  pub part : List ℕ
+  pub begins : BeginsWith (event_line steps event) part
+  pub lines : written ≡ event_lines steps front ++ part
+
+-- The writing stopped behind the events of a whole run, in the end of its report.
+pub record StopsAtEnd (u : Update) (events : List ChildEvent) (written : List ℕ) : Type 0 where
+  pub run : IsRun u events
+  pub lists : FailedLists
+  pub are : AreLists u events lists
+  pub part : List ℕ
+  pub begins : BeginsWith (end_lines u.build.steps (count_by is_good_end events) lists) part
+  pub lines : written ≡ event_lines u.build.steps events ++ part
+
+-- where the writing stops
+abbrev pub StopsAtWrite : Update → List ChildEvent → List ℕ → Type 0
+StopsAtWrite u events written = StopsAtEvent u.build.steps events written ⊎ StopsAtEnd u events written
+
+-- where want of memory stops an update: between two lines, or in the writing
+abbrev pub StopsSomewhere : Update → List ChildEvent → List ℕ → Type 0
+StopsSomewhere u events written = TellsStarts u.build.steps events written ⊎ StopsAtWrite u events written
 
 -- what an answer says of the bytes that were written
 abbrev pub WrittenBy : Update → List ChildEvent → UpdateAnswer → List ℕ → Type 0
 WrittenBy u events answers.Done written = written ≡ report u.build.steps events nothing_lacks
 WrittenBy u events (answers.Failed lists) written = written ≡ report u.build.steps events lists
 WrittenBy u events answers.HostFault written = TellsStarts u.build.steps events written
-WrittenBy u events answers.SinkFault written = BeginsReport u events written
-WrittenBy u events answers.OutOfMemory written = BeginsReport u events written
+WrittenBy u events answers.SinkFault written = StopsAtWrite u events written
+WrittenBy u events answers.OutOfMemory written = StopsSomewhere u events written
 
 -- All that an update has done, over a host that tells its files.
 pub record HasUpdated (u : Update) (old new : Family) (answer : UpdateAnswer) (before after : Disk) : Type 0 where

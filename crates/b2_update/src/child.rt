@@ -1,7 +1,7 @@
 //! One child at a time: its start, its line, and its end.
 ghost use Rattle.std.specs.Prelude.{◌≡◌, [], None, IfOk, OnOk, OnErr, ◌⊎◌, IfErr, string_bytes};
 ghost use Rattle.b2_host.specs.Faults.{Rose};
-ghost use Rattle.b2_update.specs.Stops.{HostTold, SinkTold, CountsTold};
+ghost use Rattle.b2_update.specs.Stops.{IsQuietHost, HostTold, SinkTold, CountsTold};
 ghost use Rattle.b2_update.specs.Runners.{RunsOne, ChildHasEnded, IsDrained, Adds, AddsPart, HasRunChild, HasStopped};
 
 use crate::stop::{Stop, host_stop, sink_stop};
@@ -27,6 +27,7 @@ fn drain<H: Children>(host: &mut H)
     requires { RunsOne (H.family host.old).running }
     ensures none_left { ((H.family host.new).running ≡ []) ⊎ Rose (H.faults host.old) (H.faults host.new) }
     ensures faults { (H.faults host.new ≡ H.faults host.old) ⊎ Rose (H.faults host.old) (H.faults host.new) }
+    ensures quiet { IsQuietHost (H.faults host.old) (H.faults host.new) (H.family host.new).running }
     ensures drained { IsDrained H.made (H.family host.old) (H.disk host.old) (H.family host.new) (H.disk host.new) }
 {
     let _ended = host.wait_one();
@@ -61,7 +62,7 @@ pub fn run_child<H: Children, S: Sink>(
     line: &str,
 ) -> Result<bool, Stop>
     requires { (H.family host.old).running ≡ [] }
-    ensures faults { CountsTold (H.faults host.old) (H.faults host.new) (S.faults out.old) (S.faults out.new) result }
+    ensures faults { CountsTold (H.faults host.old) (H.faults host.new) (H.family host.new).running (S.faults out.old) (S.faults out.new) result }
     ensures none_left { OnErr result (((H.family host.new).running ≡ []) ⊎ Rose (H.faults host.old) (H.faults host.new)) }
     ensures idle { OnOk result ((H.family host.new).running ≡ []) }
     ensures untold { H.disk host.old ≡ None → H.disk host.new ≡ None }

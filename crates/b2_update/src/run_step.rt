@@ -12,6 +12,8 @@ ghost use Rattle.b2_update.specs.Stops.{CountsTold, HostTold};
 ghost use Rattle.b2_update.specs.Inputs.{IsReadable, outcome_at};
 ghost use Rattle.b2_update.specs.Progress.{IsWhole, IsPrepared, IsDue, Stands, HasCome, GoesOn, update_of};
 ghost use Rattle.b2_update.specs.Runs.{Update};
+ghost use Rattle.b2_update.specs.Turns.{HadTurns, TurnsOn};
+ghost use Rattle.b2_host.specs.declared.children.ChildEvent.{ChildEvent};
 
 use crate::child::{run_child, write_line};
 use crate::distinct::distinct;
@@ -76,7 +78,7 @@ fn fail_step<H: Children, S: Sink>(
     out: &mut S,
     step: &Step,
 ) -> Result<Outcome, Stop>
-    ensures faults { CountsTold (H.faults host.old) (H.faults host.new) (S.faults out.old) (S.faults out.new) result }
+    ensures faults { CountsTold (H.faults host.old) (H.faults host.new) (H.family host.new).running (S.faults out.old) (S.faults out.new) result }
     ensures family { H.family host.new ≡ H.family host.old }
     ensures untold { H.disk host.old ≡ None → H.disk host.new ≡ None }
     ensures told { (u : Update) (old : Family) (text : Option (List ℕ)) (list : List Outcome) → IsWhole u → step_at u.build.steps (length list + 1) ≡ Some step.now → HasCome u old text list false (H.family host.old) (H.disk host.old) (S.written out.old) → GoesOn u old text list result (H.family host.new) (H.disk host.new) (S.written out.new) }
@@ -109,7 +111,7 @@ fn finish_step<H: Children, S: Sink>(
     step: &Step,
     well: bool,
 ) -> Result<Outcome, Stop>
-    ensures faults { CountsTold (H.faults host.old) (H.faults host.new) (S.faults out.old) (S.faults out.new) result }
+    ensures faults { CountsTold (H.faults host.old) (H.faults host.new) (H.family host.new).running (S.faults out.old) (S.faults out.new) result }
     ensures family { H.family host.new ≡ H.family host.old }
     ensures untold { H.disk host.old ≡ None → H.disk host.new ≡ None }
     ensures told { (u : Update) (old : Family) (text : Option (List ℕ)) (list : List Outcome) → IsWhole u → step_at u.build.steps (length list + 1) ≡ Some step.now → HasCome u old text list well (H.family host.old) (H.disk host.old) (S.written out.old) → GoesOn u old text list result (H.family host.new) (H.disk host.new) (S.written out.new) }
@@ -130,10 +132,11 @@ fn start_step<H: Children, S: Sink>(
     step: &Step,
 ) -> Result<Outcome, Stop>
     requires idle { (H.family host.old).running ≡ [] }
-    ensures faults { CountsTold (H.faults host.old) (H.faults host.new) (S.faults out.old) (S.faults out.new) result }
+    ensures faults { CountsTold (H.faults host.old) (H.faults host.new) (H.family host.new).running (S.faults out.old) (S.faults out.new) result }
     ensures none_left { OnErr result (((H.family host.new).running ≡ []) ⊎ Rose (H.faults host.old) (H.faults host.new)) }
     ensures idle { OnOk result ((H.family host.new).running ≡ []) }
     ensures untold { H.disk host.old ≡ None → H.disk host.new ≡ None }
+    ensures turns { (list : List Outcome) (old : List ChildEvent) → number ≡ length list + 1 → HadTurns list old (H.family host.old).events → TurnsOn list old (H.family host.new).events result }
     ensures told { (u : Update) (old : Family) (text : Option (List ℕ)) (list : List Outcome) → IsDue u H.made list number step.now → Stands u old text list (H.family host.old) (H.disk host.old) (S.written out.old) → GoesOn u old text list result (H.family host.new) (H.disk host.new) (S.written out.new) }
 {
     let ins = distinct(alloc, step.ins.as_slice())?;
@@ -156,10 +159,11 @@ pub fn run_step<H: Children, S: Sink>(
     requires rising { AllPairs Before missing.now }
     requires next { step_at plan.now.steps (length outcomes.now + 1) ≡ Some step.now }
     requires few { length outcomes.now < 65536 }
-    ensures faults { CountsTold (H.faults host.old) (H.faults host.new) (S.faults out.old) (S.faults out.new) result }
+    ensures faults { CountsTold (H.faults host.old) (H.faults host.new) (H.family host.new).running (S.faults out.old) (S.faults out.new) result }
     ensures none_left { OnErr result (((H.family host.new).running ≡ []) ⊎ Rose (H.faults host.old) (H.faults host.new)) }
     ensures idle { OnOk result ((H.family host.new).running ≡ []) }
     ensures untold { H.disk host.old ≡ None → H.disk host.new ≡ None }
+    ensures turns { (old : List ChildEvent) → HadTurns outcomes.now old (H.family host.old).events → TurnsOn outcomes.now old (H.family host.new).events result }
     ensures told { (before : Folder) (old : Family) (text : Option (List ℕ)) → IsPrepared (update_of plan.now.steps plan.now.wanted plan.now.roots H.made before) missing.now → Stands (update_of plan.now.steps plan.now.wanted plan.now.roots H.made before) old text outcomes.now (H.family host.old) (H.disk host.old) (S.written out.old)
         → GoesOn (update_of plan.now.steps plan.now.wanted plan.now.roots H.made before) old text outcomes.now result (H.family host.new) (H.disk host.new) (S.written out.new) }
 {

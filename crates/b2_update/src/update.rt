@@ -9,6 +9,8 @@ ghost use Rattle.b2_plan.specs.Closures.{Before};
 ghost use Rattle.b2_update.specs.Plain.{IsPlain, build_of, update_all};
 ghost use Rattle.b2_update.specs.Stops.{CountsTold};
 ghost use Rattle.b2_update.specs.Progress.{IsPrepared, Stands, Stopped, HasFinished, update_of};
+ghost use Rattle.b2_host.specs.declared.children.ChildEvent.{ChildEvent};
+ghost use Rattle.b2_update.specs.Turns.{HasTurns, HadTurns, failed_of};
 ghost use Rattle.b2_update.specs.Updates.{FaultsTold, HasUpdated, HasWritten, stop_answer, IsEndOf};
 
 use crate::failed_lists::FailedLists;
@@ -35,11 +37,12 @@ fn run_steps<H: Children, S: Sink>(
     requires idle { (H.family host.old).running ≡ [] }
     requires apart { Apart plan.now.steps plan.now.roots }
     requires rising { AllPairs Before missing.now }
-    ensures faults { CountsTold (H.faults host.old) (H.faults host.new) (S.faults out.old) (S.faults out.new) result }
+    ensures faults { CountsTold (H.faults host.old) (H.faults host.new) (H.family host.new).running (S.faults out.old) (S.faults out.new) result }
     ensures none_left { OnErr result (((H.family host.new).running ≡ []) ⊎ Rose (H.faults host.old) (H.faults host.new)) }
     ensures idle { OnOk result ((H.family host.new).running ≡ []) }
     ensures untold { H.disk host.old ≡ None → H.disk host.new ≡ None }
     ensures whole { IfOk result (λ outcomes. length outcomes.items ≡ length plan.now.steps) }
+    ensures turns { (old : List ChildEvent) → HadTurns [] old (H.family host.old).events → MatchResult result (λ outcomes. HadTurns outcomes.items old (H.family host.new).events) (λ stop. HasTurns [] old (H.family host.new).events) }
     ensures told { (before : Folder) (old : Family) (text : Option (List ℕ)) → IsPrepared (update_of plan.now.steps plan.now.wanted plan.now.roots H.made before) missing.now → Stands (update_of plan.now.steps plan.now.wanted plan.now.roots H.made before) old text [] (H.family host.old) (H.disk host.old) (S.written out.old)
         → MatchResult result (λ outcomes. Stands (update_of plan.now.steps plan.now.wanted plan.now.roots H.made before) old text outcomes.items (H.family host.new) (H.disk host.new) (S.written out.new)) (λ stop. Stopped (update_of plan.now.steps plan.now.wanted plan.now.roots H.made before) old text stop (H.family host.new) (H.disk host.new) (S.written out.new)) }
 {
@@ -61,9 +64,10 @@ fn run_plan<H: Children, S: Sink>(
     requires idle { (H.family host.old).running ≡ [] }
     requires apart { Apart plan.now.steps plan.now.roots }
     requires plain { IsPlain plan.now.steps plan.now.wanted }
-    ensures faults { CountsTold (H.faults host.old) (H.faults host.new) (S.faults out.old) (S.faults out.new) result }
+    ensures faults { CountsTold (H.faults host.old) (H.faults host.new) (H.family host.new).running (S.faults out.old) (S.faults out.new) result }
     ensures none_left { ((H.family host.new).running ≡ []) ⊎ Rose (H.faults host.old) (H.faults host.new) }
     ensures untold { H.disk host.old ≡ None → H.disk host.new ≡ None }
+    ensures turns { MatchResult result (λ lists. HasTurns lists.failed (H.family host.old).events (H.family host.new).events) (λ stop. HasTurns [] (H.family host.old).events (H.family host.new).events) }
     ensures told { (before : Disk) → H.disk host.old ≡ Some before → MatchResult result (λ lists. HasFinished (update_of plan.now.steps plan.now.wanted plan.now.roots H.made before.now) (H.family host.old) (S.written out.old) lists (H.family host.new) (H.disk host.new) (S.written out.new)) (λ stop. Stopped (update_of plan.now.steps plan.now.wanted plan.now.roots H.made before.now) (H.family host.old) (S.written out.old) stop (H.family host.new) (H.disk host.new) (S.written out.new)) }
 {
     let missing = missing_inputs(alloc, plan, host)?;
@@ -109,9 +113,11 @@ pub fn update<H: Children, S: Sink>(
     requires apart { Apart plan.now.steps plan.now.roots }
     requires plain { IsPlain plan.now.steps plan.now.wanted }
 
-    ensures faults { FaultsTold (H.faults host.old) (H.faults host.new) (S.faults out.old) (S.faults out.new) result }
+    ensures faults { FaultsTold (H.faults host.old) (H.faults host.new) (H.family host.new).running (S.faults out.old) (S.faults out.new) result }
     // No child is left, unless a wait failed.
     ensures none_left { ((H.family host.new).running ≡ []) ⊎ Rose (H.faults host.old) (H.faults host.new) }
+    // The events are in turn, over every host: one step is open at a time, none starts twice, and each failed step was done.
+    ensures turns { HasTurns (failed_of result) (H.family host.old).events (H.family host.new).events }
     ensures updated { BothTold (λ before after. HasUpdated (update_all (build_of plan.now.steps plan.now.wanted plan.now.roots H.made before.now)) (H.family host.old) (H.family host.new) result before after) (H.disk host.old) (H.disk host.new) }
     ensures written { BothTold (λ before after. HasWritten (update_all (build_of plan.now.steps plan.now.wanted plan.now.roots H.made before.now)) result (H.family host.old) (H.family host.new) (S.written out.old) (S.written out.new)) (H.disk host.old) (H.disk host.new) }
 {

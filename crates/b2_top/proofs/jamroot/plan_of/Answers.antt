@@ -19,7 +19,7 @@ returns-in-Err-NotYet-clause-exact c =
 
 pub returns-clause-stop : goal.returns-clause-stop
 returns-clause-stop c =
-    rw c.stop_of_lex.ensures (fault_stops c.args.bytes.now c.in-Err.fault c.requires (λ at e. (c.in-Err.ensures.not_utf8 at).0 (ap Err e)) (λ line e. c.in-Err.ensures.open_quote line (ap Err e)) (λ line e. c.in-Err.ensures.open_actions line (ap Err e)))
+    rw c.stop_of_lex.ensures.is (fault_stops c.args.bytes.now c.in-Err.fault c.requires (λ at e. (c.in-Err.ensures.not_utf8 at).0 (ap Err e)) (λ line e. c.in-Err.ensures.open_quote line (ap Err e)) (λ line e. c.in-Err.ensures.open_actions line (ap Err e)))
 
 pub returns-clause-exact : goal.returns-clause-exact
-returns-clause-exact c = rw c.stop_of_lex.ensures (exact_fault c.args.bytes.now c.in-Err.fault c.requires c.in-Err.ensures.no_other)
+returns-clause-exact c = rw c.stop_of_lex.ensures.is (exact_fault c.args.bytes.now c.in-Err.fault c.requires c.in-Err.ensures.no_other)

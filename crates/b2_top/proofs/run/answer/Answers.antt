@@ -1,4 +1,4 @@
-use Rattle.b2_top.proofs.AnsweredLemmas.{answered_usage, answered_unread, answered_stop, from_load, from_unread, load_stopped, load_rose, same_count, no_words, some_words}
+use Rattle.b2_top.proofs.AnsweredLemmas.{answered_usage, answered_unread, answered_stop, from_load, from_unread, load_stopped, load_names, load_rose, same_count, no_words, some_words}
 use Rattle.b2_top.proofs.run.answer.Goals as goal
 
 pub returns-then-not-is_empty : goal.returns-then-not-is_empty
@@ -27,4 +27,4 @@ returns-in-Err-Stopped g c =
     from_unread g.H.Children.made c.args.words.now (g.H.Files.family c.args.host.now) (g.H.Files.family c.load.new.files) (g.H.Files.disk c.args.host.now) (g.H.Files.disk c.load.new.files) (g.H.Files.faults c.args.host.now) (g.H.Files.faults c.load.new.files) (g.S.Sink.faults c.args.out.now) (g.S.Sink.faults c.tell_stop.new.out) (g.S.Sink.written c.args.out.now) (g.S.Sink.written c.tell_stop.new.out) c.tell_stop.result
     (no_words c.args.words.now c.is_empty.result c.is_empty.ensures c.if-not-is_empty.false) l.family l.disk
     (same_count g.H.Children.made (g.H.Files.family c.args.host.now) (g.H.Files.disk c.args.host.now) (g.H.Files.faults c.args.host.now) (g.H.Files.faults c.load.new.files) (g.S.Sink.faults c.args.out.now) (g.S.Sink.faults c.tell_stop.new.out) (g.S.Sink.written c.args.out.now) (g.S.Sink.written c.tell_stop.new.out) c.tell_stop.result stopped.0
-    (answered_stop g.H.Children.made (g.H.Files.family c.args.host.now) (g.H.Files.disk c.args.host.now) (g.H.Files.faults c.args.host.now) (g.S.Sink.faults c.args.out.now) (g.S.Sink.faults c.tell_stop.new.out) (g.S.Sink.written c.args.out.now) (g.S.Sink.written c.tell_stop.new.out) c.tell_stop.result c.in-Err-Stopped.stop stopped.1 c.requires c.tell_stop.ensures))
+    (answered_stop g.H.Children.made (g.H.Files.family c.args.host.now) (g.H.Files.disk c.args.host.now) (g.H.Files.faults c.args.host.now) (g.S.Sink.faults c.args.out.now) (g.S.Sink.faults c.tell_stop.new.out) (g.S.Sink.written c.args.out.now) (g.S.Sink.written c.tell_stop.new.out) c.tell_stop.result c.in-Err-Stopped.stop (load_names c.in-Err-Stopped.field-0 c.in-Err-Stopped.stop c.in-Err-Stopped.field-0-is l.names) stopped.1 c.requires c.tell_stop.ensures))

@@ -3,7 +3,7 @@ use Rattle.std.proofs.lemmas.Result.{err_from_is_err_and}
 use Rattle.b2_host.specs.Childhood.{BothTold}
 use Rattle.b2_update.specs.declared.stop.Stop.TheVariants as stops
 use Rattle.b2_update.specs.Outputs.{KeepsOthers, AreGone}
-use Rattle.b2_update.proofs.Beginnings.{goes_err, sink_stops}
+use Rattle.b2_update.proofs.Beginnings.{goes_err, sink_stops, host_stops, no_sink}
 use Rattle.b2_update.proofs.Steps.{came_stopped, came_kept, came_part, came_failed}
 use Rattle.b2_update.proofs.run_step.fail_step.Goals as goal
 
@@ -16,7 +16,8 @@ returns-in_err-remove_all-clause-told g c = λ u old text list w at come.
     let d1 = g.H.Files.disk c.remove_all.new.host in
     let wr = g.S.Sink.written c.args.out.now in
     let kept = subst (λ l. BothTold (KeepsOthers l) d0 d1) c.as_slice.ensures c.in_err-remove_all.ensures.others in
-    goes_err u old text list c.from_residual.result f1 d1 wr y e (came_stopped u old text list false f1 d1 wr y (came_kept u old text list c.args.step.now f0 f1 d0 d1 wr w at come c.in_err-remove_all.ensures.family kept))
+    let other : y ≢ stops.Sink = subst (λ z. z ≢ stops.Sink) (sym q) (host_stops (g.H.Files.faults c.args.host.now) (g.H.Files.faults c.remove_all.new.host) c.in_err-remove_all.field-0.0 c.in_err-remove_all.ensures.faults) in
+    goes_err u old text list c.from_residual.result f1 d1 wr y e (came_stopped u old text list false f1 d1 wr y other (came_kept u old text list c.args.step.now f0 f1 d0 d1 wr w at come c.in_err-remove_all.ensures.family kept))
 
 pub returns-in_err-line-clause-told : goal.returns-in_err-line-clause-told
 returns-in_err-line-clause-told g c = λ u old text list w at come.
@@ -27,7 +28,7 @@ returns-in_err-line-clause-told g c = λ u old text list w at come.
     let d1 = g.H.Files.disk c.remove_all.new.host in
     let wr = g.S.Sink.written c.args.out.now in
     let kept = subst (λ l. BothTold (KeepsOthers l) d0 d1) c.as_slice.ensures c.in_ok-remove_all.ensures.others in
-    goes_err u old text list c.from_residual-in_err-line.result f1 d1 wr y e (came_stopped u old text list false f1 d1 wr y (came_kept u old text list c.args.step.now f0 f1 d0 d1 wr w at come c.in_ok-remove_all.ensures.family kept))
+    goes_err u old text list c.from_residual-in_err-line.result f1 d1 wr y e (came_stopped u old text list false f1 d1 wr y (no_sink y q) (came_kept u old text list c.args.step.now f0 f1 d0 d1 wr w at come c.in_ok-remove_all.ensures.family kept))
 
 pub returns-in_err-write_line-clause-told : goal.returns-in_err-write_line-clause-told
 returns-in_err-write_line-clause-told g c = λ u old text list w at come.

@@ -1,9 +1,10 @@
-use Rattle.std.proofs.Common.{subst, ◌≡◌, ◌≢◌, true, false, None, IfSome, List, ℕ}
+use Rattle.std.proofs.Common.{sym, subst, ◌≡◌, ◌≢◌, true, false, None, IfSome, List, ℕ}
 use Rattle.std.specs.List.{Contains}
 use Rattle.b2_host.specs.Standing.{Disk}
 use Rattle.std.proofs.lemmas.Result.{err_from_is_err_and}
+use Rattle.b2_update.specs.declared.stop.Stop.TheVariants as stops
 use Rattle.b2_update.specs.Progress.{HasCome}
-use Rattle.b2_update.proofs.Beginnings.{goes_err}
+use Rattle.b2_update.proofs.Beginnings.{goes_err, host_stops}
 use Rattle.b2_update.proofs.Nexts.{stopped_along, stands_along, come_along, came_badly}
 use Rattle.b2_update.proofs.Steps.{came_stopped, came_settled}
 use Rattle.b2_update.proofs.run_step.finish_step.Goals as goal
@@ -16,7 +17,8 @@ returns-in_err-left-clause-told g c = λ u old text list w at come.
     let d0 = g.H.Files.disk c.args.host.now in
     let d1 = g.H.Files.disk c.has_left.new.host in
     let wr = g.S.Sink.written c.args.out.now in
-    goes_err u old text list c.from_residual.result f1 d1 wr y e (stopped_along u old text y f0 f1 d0 d1 wr c.in_err-left.ensures.family c.in_err-left.ensures.disk (came_stopped u old text list c.args.well f0 d0 wr y come))
+    let other : y ≢ stops.Sink = subst (λ z. z ≢ stops.Sink) (sym q) (host_stops (g.H.Files.faults c.args.host.now) (g.H.Files.faults c.has_left.new.host) c.in_err-left.field-0.0 c.in_err-left.ensures.faults) in
+    goes_err u old text list c.from_residual.result f1 d1 wr y e (stopped_along u old text y f0 f1 d0 d1 wr c.in_err-left.ensures.family c.in_err-left.ensures.disk (came_stopped u old text list c.args.well f0 d0 wr y other come))
 
 pub returns-then-left-clause-told : goal.returns-then-left-clause-told
 returns-then-left-clause-told g c = λ u old text list w at come.

@@ -2,6 +2,7 @@ use Rattle.std.proofs.Common.{◌+◌, ℕ, List, sym, subst, refl, arith, lengt
 use Rattle.std.specs.List.{Contains}
 use Rattle.b2_update.specs.Progress.{update_of}
 use Rattle.b2_update.proofs.Nexts.{skip_next, readable_input}
+use Rattle.b2_update.proofs.Turning.{turn_skipped}
 use Rattle.b2_update.proofs.run_step.run_step.Goals as goal
 
 pub returns-then-not-is_ready-clause-told : goal.returns-then-not-is_ready-clause-told
@@ -19,3 +20,9 @@ returns-clause-told g c = λ before old text p s.
     let ready = λ (path : List ℕ) (inside : Contains c.args.step.now.ins path). readable_input u c.args.missing.now p list (length list + 1) c.args.step.now c.requires.next path inside
     (c.is_ready.ensures.all c.if-not-is_ready.false path (subst (λ (l : List (List ℕ)). Contains l path) (sym c.as_slice.ensures) inside)) in
     c.start_step.ensures.told u old text list (record { whole = p.whole; made_is = refl; place = omega arith; at = c.requires.next; ready = ready }) s
+
+pub returns-then-not-is_ready-clause-turns : goal.returns-then-not-is_ready-clause-turns
+returns-then-not-is_ready-clause-turns g c = λ old h. turn_skipped c.args.outcomes.now old (g.H.Files.family c.args.host.now).events h
+
+pub returns-clause-turns : goal.returns-clause-turns
+returns-clause-turns g c = λ old h. c.start_step.ensures.turns c.args.outcomes.now old (omega arith) h

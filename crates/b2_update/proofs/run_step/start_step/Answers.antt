@@ -1,10 +1,13 @@
 use Rattle.std.proofs.Common.{◌↔◌, ◌∙◌, ℕ, List, sym, subst}
 use Rattle.std.specs.List.{Contains, AllPairs}
 use Rattle.std.proofs.lemmas.Result.{err_from_is_err_and}
+use Rattle.b2_host.specs.Childhood.{Family}
 use Rattle.b2_plan.specs.Closures.{Before}
+use Rattle.b2_update.specs.Turns.{TookTurn}
 use Rattle.b2_update.specs.Runners.{HasStopped}
 use Rattle.b2_update.proofs.Beginnings.{goes_err}
 use Rattle.b2_update.proofs.Nexts.{come_at, stopped_at, due_at}
+use Rattle.b2_update.proofs.Turning.{turns_halt, turns_on, turn_any, ran_turn, stop_turn}
 use Rattle.b2_update.proofs.run_step.start_step.Goals as goal
 
 pub returns-in_err-well-clause-told : goal.returns-in_err-well-clause-told
@@ -41,3 +44,36 @@ returns-clause-told g c = λ u old text list due s.
     let line = c.as_str.ensures.value ∙ c.in_ok-line.ensures in
     let come = come_at u g.H.Children.made old text list c.args.number c.args.step.now ins c.as_str.result.now c.in_ok-well.well f0 f1 d0 d1 w0 w1 due s c.requires.idle rising same line c.in_ok-well.ensures.ran in
     c.finish_step.ensures.told u old text list due.whole (due_at u g.H.Children.made list c.args.number c.args.step.now due) come
+
+pub returns-in_err-ins-clause-turns : goal.returns-in_err-ins-clause-turns
+returns-in_err-ins-clause-turns g c = λ list old is h. let (y, e, q) = err_from_is_err_and c.from_residual.result c.from_residual.ensures.1 in turns_halt list old (g.H.Files.family c.args.host.now).events c.from_residual.result y e h
+
+pub returns-in_err-line-clause-turns : goal.returns-in_err-line-clause-turns
+returns-in_err-line-clause-turns g c = λ list old is h. let (y, e, q) = err_from_is_err_and c.from_residual-in_err-line.result c.from_residual-in_err-line.ensures.1 in turns_halt list old (g.H.Files.family c.args.host.now).events c.from_residual-in_err-line.result y e h
+
+pub returns-in_err-well-clause-turns : goal.returns-in_err-well-clause-turns
+returns-in_err-well-clause-turns g c = λ list old is h.
+    let (y, e, q) = err_from_is_err_and c.from_residual-in_err-well.result c.from_residual-in_err-well.ensures.1 in
+    let f0 = g.H.Files.family c.args.host.now in
+    let f1 = g.H.Files.family c.run_child.new.host in
+    let d0 = g.H.Files.disk c.args.host.now in
+    let d1 = g.H.Files.disk c.run_child.new.host in
+    let w0 = g.S.Sink.written c.args.out.now in
+    let w1 = g.S.Sink.written c.run_child.new.out in
+    let ins = c.as_slice-2.result.now in
+    let stopped : HasStopped g.H.Children.made c.args.number c.args.step.now ins c.as_str.result.now y f0 d0 w0 f1 d1 w1 =
+    subst (λ z. HasStopped g.H.Children.made c.args.number c.args.step.now ins c.as_str.result.now z f0 d0 w0 f1 d1 w1) (sym q) c.in_err-well.ensures.stopped in
+    turns_on list c.args.number old f0.events f1.events c.from_residual-in_err-well.result is h (stop_turn g.H.Children.made c.args.number c.args.step.now ins c.as_str.result.now y f0 d0 w0 f1 d1 w1 c.from_residual-in_err-well.result e c.requires.idle stopped)
+
+pub returns-clause-turns : goal.returns-clause-turns
+returns-clause-turns g c = λ list old is h.
+    let f0 = g.H.Files.family c.args.host.now in
+    let f1 = g.H.Files.family c.run_child.new.host in
+    let f2 = g.H.Files.family c.finish_step.new.host in
+    let d0 = g.H.Files.disk c.args.host.now in
+    let d1 = g.H.Files.disk c.run_child.new.host in
+    let w0 = g.S.Sink.written c.args.out.now in
+    let w1 = g.S.Sink.written c.run_child.new.out in
+    let turn : TookTurn c.args.number f0.events f1.events = ran_turn g.H.Children.made c.args.number c.args.step.now c.as_slice-2.result.now c.as_str.result.now c.in_ok-well.well f0 d0 w0 f1 d1 w1 c.requires.idle c.in_ok-well.ensures.ran in
+    let along : TookTurn c.args.number f0.events f2.events = subst (λ (f : Family). TookTurn c.args.number f0.events f.events) (sym c.finish_step.ensures.family) turn in
+    turns_on list c.args.number old f0.events f2.events c.finish_step.result is h (turn_any c.args.number f0.events f2.events c.finish_step.result along)

@@ -1,4 +1,4 @@
-use Rattle.std.proofs.Common.{◌≡◌, ◌≢◌, [], ℕ, List, sym, subst, refl, length, count_by}
+use Rattle.std.proofs.Common.{◌≡◌, ◌≢◌, [], ℕ, List, sym, subst, refl, ap, length, count_by}
 use Rattle.std.proofs.lemmas.Result.{err_from_is_err_and}
 use Rattle.b2_host.specs.Standing.{Disk}
 use Rattle.b2_plan.specs.declared.step.Step.{Step}
@@ -10,11 +10,14 @@ use Rattle.b2_update.specs.Plain.{build_of}
 use Rattle.b2_update.specs.Reports.{end_lines}
 use Rattle.b2_update.specs.Runners.{Adds, AddsPart}
 use Rattle.b2_update.specs.Progress.{Stopped, IsPrepared, update_of}
-use Rattle.b2_update.proofs.Beginnings.{match_err, stands_begin, whole_update, sink_stops}
+use Rattle.b2_update.proofs.Beginnings.{match_err, stands_begin, whole_update, sink_stops, host_stops, no_sink}
 use Rattle.b2_update.proofs.Nexts.{stopped_along, stands_along}
 use Rattle.b2_update.proofs.Reading.{told_at}
 use Rattle.b2_update.proofs.Steps.{stands_stopped}
 use Rattle.b2_update.proofs.Endings.{has_finished, end_stopped}
+use Rattle.b2_host.specs.Childhood.{Family}
+use Rattle.b2_update.specs.Turns.{HadTurns}
+use Rattle.b2_update.proofs.Turning.{turns_none, had_none, had_turns, had_lists}
 use Rattle.b2_update.proofs.update.run_plan.Goals as goal
 
 pub returns-in_err-missing-clause-told : goal.returns-in_err-missing-clause-told
@@ -27,8 +30,9 @@ returns-in_err-missing-clause-told g c = λ before is.
     let w0 = g.S.Sink.written c.args.out.now in
     let f1 = g.H.Files.family c.missing_inputs.new.host in
     let d1 = g.H.Files.disk c.missing_inputs.new.host in
+    let other : y ≢ stops.Sink = subst (λ z. z ≢ stops.Sink) (sym q) (host_stops (g.H.Files.faults c.args.host.now) (g.H.Files.faults c.missing_inputs.new.host) c.in_err-missing.field-0.0 c.in_err-missing.ensures.faults) in
     match_err c.from_residual.result _ _ y e
-    (stopped_along u f0 w0 y f0 f1 d0 d1 w0 c.in_err-missing.ensures.family c.in_err-missing.ensures.disk (stands_stopped u f0 w0 [] f0 d0 w0 y (stands_begin u f0 d0 w0 before is refl)))
+    (stopped_along u f0 w0 y f0 f1 d0 d1 w0 c.in_err-missing.ensures.family c.in_err-missing.ensures.disk (stands_stopped u f0 w0 [] f0 d0 w0 y other (stands_begin u f0 d0 w0 before is refl)))
 
 pub returns-in_err-outcomes-clause-told : goal.returns-in_err-outcomes-clause-told
 returns-in_err-outcomes-clause-told g c = λ before is.
@@ -70,7 +74,7 @@ returns-in_err-lists-clause-told g c = λ before is.
     let begun = stands_along u f0 w0 [] f0 f1 d0 d1 w0 c.in_ok-missing.ensures.family c.in_ok-missing.ensures.disk (stands_begin u f0 d0 w0 before is refl) in
     let here : IsPrepared u c.as_slice.result.now = subst (λ (l : List (List ℕ)). IsPrepared u l) (sym c.as_slice.ensures) p in
     let (y, e, q) = err_from_is_err_and c.from_residual-in_err-lists.result c.from_residual-in_err-lists.ensures.1 in
-    match_err c.from_residual-in_err-lists.result _ _ y e (stands_stopped u f0 w0 _ f2 d2 w2 y (c.in_ok-outcomes.ensures.told before.now f0 w0 here begun))
+    match_err c.from_residual-in_err-lists.result _ _ y e (stands_stopped u f0 w0 _ f2 d2 w2 y (no_sink y q) (c.in_ok-outcomes.ensures.told before.now f0 w0 here begun))
 
 pub returns-in_err-tell_end-clause-told : goal.returns-in_err-tell_end-clause-told
 returns-in_err-tell_end-clause-told g c = λ before is.
@@ -129,3 +133,47 @@ returns-clause-told g c = λ before is.
     let counted = subst (λ (l : List Outcome). c.count_settled-updated.result ≡ count_by is_settled l) c.as_slice-2.ensures.value c.count_settled-updated.ensures in
     let all = subst (λ (l : List Step). Adds (end_lines l c.count_settled-updated.result lists) w2 w3) c.as_slice-4.ensures c.in_ok-tell_end.ensures.ok in
     has_finished u c.in_ok-missing.missing p f0 w0 list f2 d2 w2 w3 s size lists are c.count_settled-updated.result counted all
+
+pub returns-in_err-missing-clause-turns : goal.returns-in_err-missing-clause-turns
+returns-in_err-missing-clause-turns g c =
+    let (y, e, q) = err_from_is_err_and c.from_residual.result c.from_residual.ensures.1 in
+    let f0 = g.H.Files.family c.args.host.now in
+    let f1 = g.H.Files.family c.missing_inputs.new.host in
+    match_err c.from_residual.result _ _ y e (turns_none f0.events f1.events (ap (λ (f : Family). f.events) c.in_err-missing.ensures.family))
+
+pub returns-in_err-outcomes-clause-turns : goal.returns-in_err-outcomes-clause-turns
+returns-in_err-outcomes-clause-turns g c =
+    let (y, e, q) = err_from_is_err_and c.from_residual-in_err-outcomes.result c.from_residual-in_err-outcomes.ensures.1 in
+    let f0 = g.H.Files.family c.args.host.now in
+    let f1 = g.H.Files.family c.missing_inputs.new.host in
+    let begun : HadTurns [] f0.events f1.events = subst (λ (f : Family). HadTurns [] f0.events f.events) (sym c.in_ok-missing.ensures.family) (had_none f0.events) in
+    match_err c.from_residual-in_err-outcomes.result _ _ y e (c.in_err-outcomes.ensures.turns f0.events begun)
+
+pub returns-in_err-lists-clause-turns : goal.returns-in_err-lists-clause-turns
+returns-in_err-lists-clause-turns g c =
+    let (y, e, q) = err_from_is_err_and c.from_residual-in_err-lists.result c.from_residual-in_err-lists.ensures.1 in
+    let f0 = g.H.Files.family c.args.host.now in
+    let f1 = g.H.Files.family c.missing_inputs.new.host in
+    let f2 = g.H.Files.family c.run_steps.new.host in
+    let begun : HadTurns [] f0.events f1.events = subst (λ (f : Family). HadTurns [] f0.events f.events) (sym c.in_ok-missing.ensures.family) (had_none f0.events) in
+    match_err c.from_residual-in_err-lists.result _ _ y e (had_turns c.in_ok-outcomes.outcomes.items f0.events f2.events (c.in_ok-outcomes.ensures.turns f0.events begun))
+
+pub returns-in_err-tell_end-clause-turns : goal.returns-in_err-tell_end-clause-turns
+returns-in_err-tell_end-clause-turns g c =
+    let (y, e, q) = err_from_is_err_and c.from_residual-in_err-tell_end.result c.from_residual-in_err-tell_end.ensures.1 in
+    let f0 = g.H.Files.family c.args.host.now in
+    let f1 = g.H.Files.family c.missing_inputs.new.host in
+    let f2 = g.H.Files.family c.run_steps.new.host in
+    let begun : HadTurns [] f0.events f1.events = subst (λ (f : Family). HadTurns [] f0.events f.events) (sym c.in_ok-missing.ensures.family) (had_none f0.events) in
+    match_err c.from_residual-in_err-tell_end.result _ _ y e (had_turns c.in_ok-outcomes.outcomes.items f0.events f2.events (c.in_ok-outcomes.ensures.turns f0.events begun))
+
+pub returns-clause-turns : goal.returns-clause-turns
+returns-clause-turns g c =
+    let f0 = g.H.Files.family c.args.host.now in
+    let f1 = g.H.Files.family c.missing_inputs.new.host in
+    let f2 = g.H.Files.family c.run_steps.new.host in
+    let list = c.in_ok-outcomes.outcomes.items in
+    let lists = c.in_ok-lists.lists in
+    let begun : HadTurns [] f0.events f1.events = subst (λ (f : Family). HadTurns [] f0.events f.events) (sym c.in_ok-missing.ensures.family) (had_none f0.events) in
+    let are : AreListed list c.in_ok-missing.missing lists = subst (λ (l : List Outcome). AreListed l c.in_ok-missing.missing lists) c.as_slice-3.ensures.value c.in_ok-lists.ensures in
+    had_lists list c.in_ok-missing.missing lists f0.events f2.events (c.in_ok-outcomes.ensures.turns f0.events begun) are

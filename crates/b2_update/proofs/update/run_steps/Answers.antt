@@ -2,8 +2,10 @@ use Rattle.std.proofs.Common.{List, sym, subst}
 use Rattle.std.proofs.lemmas.Result.{err_from_is_err_and}
 use Rattle.b2_update.specs.declared.outcome.Outcome.{Outcome}
 use Rattle.b2_update.specs.Progress.{Stands, update_of}
-use Rattle.b2_update.proofs.Beginnings.{match_err}
+use Rattle.b2_update.proofs.Beginnings.{match_err, no_sink}
 use Rattle.b2_update.proofs.Steps.{stands_stopped}
+use Rattle.b2_update.specs.Turns.{HadTurns}
+use Rattle.b2_update.proofs.Turning.{had_turns}
 use Rattle.b2_update.proofs.update.run_steps.Goals as goal
 
 pub returns-in_err-push-clause-told : goal.returns-in_err-push-clause-told
@@ -18,4 +20,12 @@ returns-in_err-push-clause-told g c = λ before old text p s.
     let d1 = g.H.Files.disk c.run_step.new.host in
     let w1 = g.S.Sink.written c.run_step.new.out in
     let st = c.in_ok-outcome.ensures.told before old text p (subst (λ (l : List Outcome). Stands u old text l f0 d0 w0) (sym c.as_slice.ensures.value) (c.loop-step.invariant.told before old text p s)) in
-    match_err c.from_residual-in_err-push.result _ _ y e (stands_stopped u old text _ f1 d1 w1 y st)
+    match_err c.from_residual-in_err-push.result _ _ y e (stands_stopped u old text _ f1 d1 w1 y (no_sink y q) st)
+
+pub returns-in_err-push-clause-turns : goal.returns-in_err-push-clause-turns
+returns-in_err-push-clause-turns g c = λ old h.
+    let (y, e, q) = err_from_is_err_and c.from_residual-in_err-push.result c.from_residual-in_err-push.ensures.1 in
+    let f0 = g.H.Files.family c.loop-step.host in
+    let f1 = g.H.Files.family c.run_step.new.host in
+    let had = c.in_ok-outcome.ensures.turns old (subst (λ (l : List Outcome). HadTurns l old f0.events) (sym c.as_slice.ensures.value) (c.loop-step.invariant.turns old h)) in
+    match_err c.from_residual-in_err-push.result _ _ y e (had_turns _ old f1.events had)

@@ -1,6 +1,8 @@
 use Rattle.std.proofs.Common.{◌≡◌, [], ℕ, List, Option, None, length}
 use Rattle.b2_host.specs.Standing.{Folder}
 use Rattle.b2_host.specs.Childhood.{Family}
+use Rattle.b2_host.specs.declared.children.ChildEvent.{ChildEvent}
+use Rattle.b2_update.specs.Turns.{HadTurns}
 use Rattle.b2_update.specs.Progress.{IsPrepared, Stands, update_of}
 use Rattle.b2_update.proofs.update.run_steps.Given as goal
 
@@ -12,6 +14,7 @@ invariant-loop-step g l = record {
   idle : (g.H.Files.family l.host).running ≡ [];
   untold : g.H.Files.disk l.fn.host ≡ None → g.H.Files.disk l.host ≡ None;
   size : length l.outcomes.items ≡ l.step-index;
+  turns : (old : List ChildEvent) → HadTurns [] old (g.H.Files.family l.fn.host).events → HadTurns l.outcomes.items old (g.H.Files.family l.host).events;
   told : (before : Folder) (old : Family) (text : Option (List ℕ)) → IsPrepared (update_of l.plan.steps l.plan.wanted l.plan.roots g.H.Children.made before) l.missing → Stands (update_of l.plan.steps l.plan.wanted l.plan.roots g.H.Children.made before) old text [] (g.H.Files.family l.fn.host) (g.H.Files.disk l.fn.host) (g.S.Sink.written l.fn.out)
       → Stands (update_of l.plan.steps l.plan.wanted l.plan.roots g.H.Children.made before) old text l.outcomes.items (g.H.Files.family l.host) (g.H.Files.disk l.host) (g.S.Sink.written l.out);
 }

@@ -3,6 +3,7 @@ use Rattle.b2_host.specs.Standing.{Disk}
 use Rattle.b2_update.specs.Progress.{update_of}
 use Rattle.b2_update.specs.Updates.{HasUpdated, HasWritten}
 use Rattle.b2_update.proofs.Endings.{both_from, finished_updated, finished_written, stopped_updated, stopped_written}
+use Rattle.b2_update.proofs.Turning.{turns_end, turns_stop}
 use Rattle.b2_update.proofs.update.update.Goals as goal
 
 pub returns-in-Ok-clause-updated : goal.returns-in-Ok-clause-updated
@@ -54,3 +55,9 @@ returns-in-Err-clause-written g c =
     (λ before is.
     let (after, at, has) = stopped_written (update_of plan.steps plan.wanted plan.roots g.H.Children.made before.now) c.in-Err.stop f0 f1 w0 w1 d1 (c.in-Err.ensures.told before is) in
     (after, at, subst (λ a. HasWritten (update_of plan.steps plan.wanted plan.roots g.H.Children.made before.now) a f0 f1 w0 w1) (sym c.stopped.ensures) has))
+
+pub returns-in-Ok-clause-turns : goal.returns-in-Ok-clause-turns
+returns-in-Ok-clause-turns g c = turns_end c.in-Ok.lists c.finished.result (g.H.Files.family c.args.host.now).events (g.H.Files.family c.run_plan.new.host).events c.finished.ensures c.in-Ok.ensures.turns
+
+pub returns-in-Err-clause-turns : goal.returns-in-Err-clause-turns
+returns-in-Err-clause-turns g c = turns_stop c.in-Err.stop c.stopped.result (g.H.Files.family c.args.host.now).events (g.H.Files.family c.run_plan.new.host).events c.stopped.ensures c.in-Err.ensures.turns
