@@ -1,0 +1,11 @@
+pub mod Counting
+pub mod Exits
+pub mod Fields
+pub mod Keeping
+pub mod KeptLogs
+pub mod Latest
+pub mod Numbers
+pub mod Parts
+pub mod Paths
+pub mod ReadLogs
+pub mod Wholes

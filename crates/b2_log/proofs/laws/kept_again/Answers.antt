@@ -1,0 +1,5 @@
+use Rattle.b2_log.proofs.KeptLogs as lemmas
+use Rattle.b2_log.proofs.laws.kept_again.Goals as goal
+
+pub returns : goal.returns
+returns c = lemmas.kept_again

@@ -1,0 +1,5 @@
+use Rattle.b2_log.proofs.ReadLogs as lemmas
+use Rattle.b2_log.proofs.laws.one_spelling.Goals as goal
+
+pub returns : goal.returns
+returns c = lemmas.one_spelling
