@@ -1,0 +1,6 @@
+use Rattle.b2_props.proofs.Gaining.{gains_next}
+use Rattle.b2_props.proofs.draft.Draft.add_all.Goals as goal
+
+pub loop-pair-preserved : goal.loop-pair-preserved
+loop-pair-preserved c =
+    gains_next c.args.registry.now c.args.pairs.now c.loop-pair.pair-index c.pair-item.result c.args.self.now c.loop-pair.self c.add.new.self c.loop-pair-test.true c.pair-item.is c.loop-pair.invariant c.in_ok-add.ensures

@@ -1,0 +1,7 @@
+use Rattle.std.proofs.Common.{take}
+use Rattle.b2_props.specs.Holding.{Takes}
+use Rattle.b2_props.proofs.draft.Draft.put_all.Given as goal
+
+-- the pairs so far are added
+abbrev pub invariant-loop-pair : goal.invariant-loop-pair
+invariant-loop-pair l = Takes l.registry (take l.pair-index l.pairs) l.fn.self l.self

@@ -1,0 +1,5 @@
+pub mod Sets
+pub mod Refinement
+pub mod Holding
+pub mod Elements
+pub mod Laws
