@@ -1,0 +1,10 @@
+pub mod Marks
+pub mod Grammar
+pub mod Machine
+pub mod Trees
+pub mod Spelling
+pub mod Readings
+pub mod Gives
+pub mod Alike
+pub mod Laws
+pub mod Examples
