@@ -1,0 +1,99 @@
+-- Reading parameters.
+use Rattle.std.proofs.Common.{◌≡◌, ℕ, ◌+◌, ◌≤◌, List, [], ◌∷◌, ◌++◌, Bool, true, false, ◌&&◌, Option, Some, None, if◌then◌else◌, flat_map, refl, sym, ap, ◌∙◌, subst, arith, append_assoc}
+use Rattle.std.specs.Prelude.{codes}
+use Rattle.std.specs.Str.{bytes_eq}
+use Rattle.std.proofs.lemmas.List.{append-nil}
+use Rattle.std.specs.declared.vec.Vec.{Vec}
+use Rattle.std.specs.declared.alloc.Global.{Global}
+use Rattle.b2_base.specs.declared.token.TokenKind.{TokenKind}
+use Rattle.b2_base.specs.declared.token.TokenKind.TheVariants as kinds
+use Rattle.b2_base.specs.declared.token.Token.{Token}
+use Rattle.jam_grammar.specs.declared.tree.Param.{Param}
+use Rattle.jam_grammar.specs.declared.mark.Mark.{Mark}
+use Rattle.jam_grammar.specs.declared.mark.Mark.TheVariants as m
+use Rattle.jam_grammar.specs.Marks.{mark_of_token, mark_by_kind, mark_of_word, mark_of_key, mark_of_reserved, is_word}
+use Rattle.jam_grammar.specs.Grammar as part
+use Rattle.jam_grammar.specs.Grammar.{Part, Params, MoreParams, Names, NameTail}
+use Rattle.jam_grammar.specs.Spelling.{Sym, Key, Named, Never, Spells, param_syms, takes_all, no_mark, plist_syms, further_params, params_syms}
+use Rattle.jam_parser.specs.Parts.{least, ComesTo, IsRead}
+use Rattle.jam_parser.specs.Params.{after_name, after_list, lists_of, params_read}
+use Rattle.jam_parser.specs.Starts.{StandsBehind}
+use Rattle.jam_parser.proofs.Sequences.{composed, takes, takes_past}
+use Rattle.jam_parser.proofs.ReadArgs.{never}
+
+no : (b : Bool) (x y : Mark) → is_word x ≡ false → is_word y ≡ false → is_word (if b then x else y) ≡ false
+no true x y p q = p
+no false x y p q = q
+
+no_reserved : (text : List ℕ) → is_word (mark_of_reserved text) ≡ false
+unfolding mark_of_reserved
+no_reserved text = no (bytes_eq text (codes "actions")) m.Actions _ refl (no (bytes_eq text (codes "case")) m.Case _ refl (no (bytes_eq text (codes "else")) m.Else _ refl (no (bytes_eq text (codes "for")) m.For _ refl (no (bytes_eq text (codes "if")) m.If _ refl (no (bytes_eq text (codes "in")) m.In _ refl (no (bytes_eq text (codes "include")) m.Include _ refl (no (bytes_eq text (codes "local")) m.Local _ refl (no (bytes_eq text (codes "module")) m.Module _ refl (no (bytes_eq text (codes "on")) m.On _ refl (no (bytes_eq text (codes "return")) m.Return _ refl (no (bytes_eq text (codes "rule")) m.Rule _ refl (no (bytes_eq text (codes "switch")) m.Switch _ refl (no (bytes_eq text (codes "while")) m.While _ refl refl)))))))))))))
+
+-- a key is no word
+no_key : (text : List ℕ) → is_word (mark_of_key text) ≡ false
+unfolding mark_of_key
+no_key text = no (bytes_eq text (codes ";")) m.Semicolon _ refl (no (bytes_eq text (codes ":")) m.Colon _ refl (no (bytes_eq text (codes "{")) m.BraceOpen _ refl (no (bytes_eq text (codes "}")) m.BraceClose _ refl (no (bytes_eq text (codes "[")) m.SquareOpen _ refl (no (bytes_eq text (codes "]")) m.SquareClose _ refl (no (bytes_eq text (codes "(")) m.ParenOpen _ refl (no (bytes_eq text (codes ")")) m.ParenClose _ refl (no (bytes_eq text (codes "=")) m.Equals _ refl (no (bytes_eq text (codes "+=")) m.PlusEquals _ refl (no (bytes_eq text (codes "?=")) m.QueryEquals _ refl (no (bytes_eq text (codes "!=")) m.NotEquals _ refl (no (bytes_eq text (codes "!")) m.Not _ refl (no (bytes_eq text (codes "&&")) m.And _ refl (no (bytes_eq text (codes "||")) m.Or _ refl (no_reserved text)))))))))))))))
+
+word : (a b c : Bool) → (if a then m.Query else if b then m.Star else if c then m.Plus else m.Plain) ≡ m.Plain → b ≡ false
+word true b c h = cc
+word false true c h = cc
+word false false c h = refl
+
+by_kind : (k : TokenKind) (text : List ℕ) → mark_by_kind k text ≡ m.Plain → bytes_eq text (codes "*") ≡ false
+unfolding mark_of_word
+by_kind kinds.Word text h = word (bytes_eq text (codes "?")) (bytes_eq text (codes "*")) (bytes_eq text (codes "+")) h
+by_kind kinds.Key text h = let clash : false ≡ true = sym (no_key text) ∙ ap is_word h in cc
+by_kind kinds.Body text h = cc
+
+-- a word that is no mark of parameters is not `*`
+pub plain_is_no_star : (t : Token) → mark_of_token t ≡ m.Plain → bytes_eq t.text (codes "*") ≡ false
+unfolding mark_of_token
+plain_is_no_star t h = by_kind t.kind t.text h
+
+-- one more parameter, which is no `*` alone
+pub still_names : (xs ys : List Param) (x : Param) → ys ≡ xs ++ x ∷ [] → bytes_eq x.name (codes "*") ≡ false → takes_all ys ≡ false
+still_names xs ys x e h = ap takes_all e ∙ by xs
+  where
+    by : (xs : List Param) → takes_all (xs ++ x ∷ []) ≡ false
+    by [] = ap (λ b. b && no_mark x.mark) h
+    by (y ∷ []) = refl
+    by (y ∷ z ∷ xs) = refl
+
+names_snoc : (xs : List Param) (x : Param) → flat_map param_syms (xs ++ x ∷ []) ≡ flat_map param_syms xs ++ param_syms x
+names_snoc [] x = append-nil _
+names_snoc (y ∷ xs) x = ap (λ s. param_syms y ++ s) (names_snoc xs x) ∙ sym (append_assoc (param_syms y) (flat_map param_syms xs) (param_syms x))
+
+pub more_names : (xs ys : List Param) (x : Param) → ys ≡ xs ++ x ∷ [] → flat_map param_syms ys ≡ flat_map param_syms xs ++ param_syms x
+more_names xs ys x e = ap (flat_map param_syms) e ∙ names_snoc xs x
+
+-- a name, where one may come
+pub name_comes : (may_come : Bool) (t : Token) (a b : List Token) (name : List ℕ) (d : ℕ) → may_come ≡ true → a ≡ t ∷ b → mark_of_token t ≡ m.Plain → name ≡ t.text → ComesTo (after_name may_come) (NameTail ∷ []) a d (Named name ∷ []) b
+name_comes may_come t a b name d open1 h is e =
+    let taken = takes Names (NameTail ∷ []) m.Plain t a b d h is refl in
+    subst (λ x. ComesTo (after_name x) (NameTail ∷ []) a d (Named name ∷ []) b) (sym open1) record {
+      moves = taken.moves;
+      spells = subst (λ z. Spells z (Named name ∷ []) b) (sym h) ((is, sym e), refl);
+      shorter = taken.shorter;
+    }
+
+pub nothing_least : (b : Bool) → least (after_name b) ≡ 0
+nothing_least true = refl
+nothing_least false = refl
+
+further_snoc : (vs : List (Vec Param Global)) (v : Vec Param Global) → further_params (lists_of (vs ++ v ∷ [])) ≡ further_params (lists_of vs) ++ (Key m.Colon ∷ plist_syms v.items)
+further_snoc [] v = ap (λ s. Key m.Colon ∷ s) (append-nil _)
+further_snoc (u ∷ vs) v = ap (λ s. Key m.Colon ∷ (plist_syms u.items ++ s)) (further_snoc vs v) ∙ ap (λ s. Key m.Colon ∷ s) (sym (append_assoc (plist_syms u.items) (further_params (lists_of vs)) _))
+
+-- one more list
+pub more_lists : (before after : List Token) (vs ws : List (Vec Param Global)) (v : Vec Param Global) → Spells before (params_read (lists_of vs)) after → ws ≡ vs ++ v ∷ [] → params_read (lists_of ws) ≡ params_read (lists_of vs) ++ (Key m.Colon ∷ plist_syms v.items)
+more_lists before after [] ws v s e = absurd (never before after s)
+more_lists before after (u ∷ vs) ws v s e = ap (λ x. params_read (lists_of x)) e ∙ ap (λ x. plist_syms u.items ++ x) (further_snoc vs v) ∙ sym (append_assoc (plist_syms u.items) (further_params (lists_of vs)) _)
+
+-- a colon behind a list that is not the last
+pub list_comes : (last : Bool) (a b : List Token) (d : ℕ) → last ≡ false → StandsBehind m.Colon a b → ComesTo (after_list last) (Params ∷ []) a d (Key m.Colon ∷ []) b
+list_comes last a b d open1 h = subst (λ x. ComesTo (after_list x) (Params ∷ []) a d (Key m.Colon ∷ []) b) (sym open1) (takes_past MoreParams (Params ∷ []) m.Colon a b d h refl)
+
+-- lists that were read, in parentheses
+pub in_parens : (a b : List Token) (lists : List (List Param)) → Spells a (params_read lists) b → params_syms lists ≡ Key m.ParenOpen ∷ (params_read lists ++ Key m.ParenClose ∷ [])
+in_parens a b [] h = absurd (never a b h)
+in_parens a b (x ∷ xs) h = refl

@@ -1,0 +1,5 @@
+pub mod Parts
+pub mod Starts
+pub mod Begins
+pub mod Params
+pub mod Faults

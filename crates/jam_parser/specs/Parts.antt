@@ -1,0 +1,50 @@
+-- What reading a part answers.
+use Rattle.std.specs.Prelude.{◌≡◌, ℕ, ◌+◌, ◌≤◌, List, [], ◌∷◌, ◌++◌, length}
+use Rattle.b2_base.specs.declared.token.Token.{Token}
+use Rattle.jam_grammar.specs.Grammar.{Part, Key, OneWord, OneStmt, OneBlock, CaseBlock, OneArg, OneInner, OneExpr, Both, Single}
+use Rattle.jam_grammar.specs.Spelling.{Sym, Spells}
+use Rattle.jam_grammar.specs.Gives.{Leads, Ends}
+use Rattle.jam_parser.specs.declared.reading.Fault.{Fault}
+use Rattle.jam_parser.specs.declared.reading.Fault.TheVariants as faults
+
+-- reading the parts ends here, whatever has to come behind them; nothing is said where memory runs out
+abbrev pub EndsBy : List Part → List Token → ℕ → Fault → Type 0
+EndsBy parts tokens depth faults.Memory = Unit {0}
+EndsBy parts tokens depth (faults.At rest) = Ends parts tokens depth rest.now
+
+-- the parts that take a token at least
+abbrev pub least_of : Part → ℕ
+least_of (Key mark) = 1
+least_of OneWord = 1
+least_of OneStmt = 1
+least_of OneBlock = 1
+least_of OneArg = 1
+least_of OneInner = 1
+least_of OneExpr = 1
+least_of Both = 1
+least_of Single = 1
+least_of _ = 0
+
+abbrev pub least : List Part → ℕ
+least [] = 0
+least (part ∷ parts) = least_of part + least parts
+
+-- The parts are read, the symbols are spelled by that, and the others are read from the tokens after.
+pub record ComesTo (parts others : List Part) (tokens : List Token) (depth : ℕ) (syms : List Sym) (after : List Token) : Type 0 where
+  pub moves : Leads parts tokens depth others after
+  pub spells : Spells tokens syms after
+  pub shorter : length after + least parts ≤ length tokens + least others
+
+-- the parts are read and nothing is left of them
+abbrev pub IsRead : List Part → List Token → ℕ → List Sym → List Token → Type 0
+IsRead parts tokens depth syms after = ComesTo parts [] tokens depth syms after
+
+-- The same, where what is spelled stands behind what was read before.
+pub record Continues (front : List Sym) (parts others : List Part) (tokens : List Token) (depth : ℕ) (all : List Sym) (after : List Token) : Type 0 where
+  pub syms : List Sym
+  pub whole : all ≡ front ++ syms
+  pub comes : ComesTo parts others tokens depth syms after
+
+-- and nothing is left of the parts
+abbrev pub Completes : List Sym → List Part → List Token → ℕ → List Sym → List Token → Type 0
+Completes front parts tokens depth all after = Continues front parts [] tokens depth all after

@@ -1,0 +1,196 @@
+//! Reading conditions.
+ghost use Rattle.std.specs.Prelude.{◌≡◌, ◌<◌, ◌≤◌, ◌∷◌, ◌++◌, [], false, MatchResult};
+ghost use Rattle.jam_grammar.specs.Spelling.{Anywhere, WithinOr, WithinAnd, expr_syms, arg_syms};
+ghost use Rattle.jam_grammar.specs.Spelling as spelling;
+ghost use Rattle.jam_grammar.specs.Grammar.{OneExpr, Both, Single, OrTail, AndTail, OneArg, Compared, Key};
+ghost use Rattle.jam_grammar.specs.declared.mark.Mark.TheVariants as marks;
+ghost use Rattle.jam_parser.specs.Starts.{starts_with};
+ghost use Rattle.jam_parser.specs.Parts.{IsRead, Completes, EndsBy};
+
+use crate::args::{MAX_OPEN, arg, args};
+use crate::reading::{Fault, key_here, past};
+use b2_base::token::Token;
+use jam_grammar::mark::Mark;
+use jam_grammar::tree::{Arg, Expr};
+use std::alloc::Global;
+
+/// Reads a condition, where depth are open.
+#[cycle(exprs)]
+pub fn expr<'a>(
+    alloc: Global,
+    rest: &'a [Token],
+    depth: u8,
+) -> Result<(Expr, &'a [Token]), Fault<'a>>
+    requires { depth ≤ 64 }
+    ensures { MatchResult result (λ r. IsRead (OneExpr ∷ []) rest.now depth (expr_syms Anywhere r.0) r.1.now) (λ e. EndsBy (OneExpr ∷ []) rest.now depth e) }
+{
+    let (first, after) = both(alloc, rest, depth)?;
+    match past(after, Mark::Or) {
+        Some(behind) => {
+            let (whole, after) = or_rest(alloc, first, behind, depth)?;
+            Ok((whole, after))
+        }
+        None => Ok((first, after)),
+    }
+}
+
+/// Reads what stands behind the first `||` of a condition.
+#[cycle(exprs)]
+fn or_rest<'a>(
+    alloc: Global,
+    first: Expr,
+    rest: &'a [Token],
+    depth: u8,
+) -> Result<(Expr, &'a [Token]), Fault<'a>>
+    requires { depth ≤ 64 }
+    ensures { MatchResult result (λ r. Completes (expr_syms WithinOr first ++ spelling.Key marks.Or ∷ []) (Both ∷ OrTail ∷ []) rest.now depth (expr_syms Anywhere r.0) r.1.now) (λ e. EndsBy (Both ∷ OrTail ∷ []) rest.now depth e) }
+{
+    let mut members = Vec::new(alloc);
+    let (second, mut left) = both(alloc, rest, depth)?;
+    members.push(first)?;
+    members.push(second)?;
+    'each: while let Some(after) = past(left, Mark::Or) {
+        let (one, after) = both(alloc, after, depth)?;
+        members.push(one)?;
+        left = after;
+    }
+    Ok((Expr::Or(members), left))
+}
+
+/// Reads a condition without `||`.
+#[cycle(exprs)]
+fn both<'a>(alloc: Global, rest: &'a [Token], depth: u8) -> Result<(Expr, &'a [Token]), Fault<'a>>
+    requires { depth ≤ 64 }
+    ensures { MatchResult result (λ r. IsRead (Both ∷ []) rest.now depth (expr_syms WithinOr r.0) r.1.now) (λ e. EndsBy (Both ∷ []) rest.now depth e) }
+{
+    let (first, after) = single(alloc, rest, depth)?;
+    match past(after, Mark::And) {
+        Some(behind) => {
+            let (whole, after) = and_rest(alloc, first, behind, depth)?;
+            Ok((whole, after))
+        }
+        None => Ok((first, after)),
+    }
+}
+
+/// Reads what stands behind the first `&&` of a condition.
+#[cycle(exprs)]
+fn and_rest<'a>(
+    alloc: Global,
+    first: Expr,
+    rest: &'a [Token],
+    depth: u8,
+) -> Result<(Expr, &'a [Token]), Fault<'a>>
+    requires { depth ≤ 64 }
+    ensures { MatchResult result (λ r. Completes (expr_syms WithinAnd first ++ spelling.Key marks.And ∷ []) (Single ∷ AndTail ∷ []) rest.now depth (expr_syms WithinOr r.0) r.1.now) (λ e. EndsBy (Single ∷ AndTail ∷ []) rest.now depth e) }
+{
+    let mut members = Vec::new(alloc);
+    let (second, mut left) = single(alloc, rest, depth)?;
+    members.push(first)?;
+    members.push(second)?;
+    'each: while let Some(after) = past(left, Mark::And) {
+        let (one, after) = single(alloc, after, depth)?;
+        members.push(one)?;
+        left = after;
+    }
+    Ok((Expr::And(members), left))
+}
+
+/// Reads a condition without `||` and `&&`.
+#[cycle(exprs)]
+fn single<'a>(alloc: Global, rest: &'a [Token], depth: u8) -> Result<(Expr, &'a [Token]), Fault<'a>>
+    requires { depth ≤ 64 }
+    ensures { MatchResult result (λ r. IsRead (Single ∷ []) rest.now depth (expr_syms WithinAnd r.0) r.1.now) (λ e. EndsBy (Single ∷ []) rest.now depth e) }
+{
+    match past(rest, Mark::Not) {
+        Some(after) if depth < MAX_OPEN => negated(alloc, after, depth + 1),
+        Some(_) => Err(Fault::At(rest)),
+        None => positive(alloc, rest, depth),
+    }
+}
+
+/// Reads what stands behind `!`, which is counted in depth.
+#[cycle(exprs)]
+fn negated<'a>(
+    alloc: Global,
+    rest: &'a [Token],
+    depth: u8,
+) -> Result<(Expr, &'a [Token]), Fault<'a>>
+    requires { depth ≤ 64 }
+    ensures { MatchResult result (λ r. Completes (spelling.Key marks.Not ∷ []) (Single ∷ []) rest.now depth (expr_syms WithinAnd r.0) r.1.now) (λ e. EndsBy (Single ∷ []) rest.now depth e) }
+{
+    let (inner, after) = single(alloc, rest, depth)?;
+    let inner = Box::new(alloc, inner)?;
+    Ok((Expr::Not(inner), after))
+}
+
+/// Reads a condition that begins with no `!`.
+#[cycle(exprs)]
+fn positive<'a>(
+    alloc: Global,
+    rest: &'a [Token],
+    depth: u8,
+) -> Result<(Expr, &'a [Token]), Fault<'a>>
+    requires capped { depth ≤ 64 }
+    requires no_not { starts_with marks.Not rest.now ≡ false }
+    ensures { MatchResult result (λ r. IsRead (Single ∷ []) rest.now depth (expr_syms WithinAnd r.0) r.1.now) (λ e. EndsBy (Single ∷ []) rest.now depth e) }
+{
+    match past(rest, Mark::ParenOpen) {
+        Some(after) if depth < MAX_OPEN => group(alloc, after, depth),
+        Some(_) => Err(Fault::At(rest)),
+        None => operand(alloc, rest, depth),
+    }
+}
+
+/// Reads what stands behind an opening parenthesis, which is not counted in depth.
+#[cycle(exprs)]
+fn group<'a>(alloc: Global, rest: &'a [Token], depth: u8) -> Result<(Expr, &'a [Token]), Fault<'a>>
+    requires { depth < 64 }
+    ensures { MatchResult result (λ r. Completes (spelling.Key marks.ParenOpen ∷ []) (OneExpr ∷ Key marks.ParenClose ∷ []) rest.now depth (expr_syms WithinAnd r.0) r.1.now) (λ e. EndsBy (OneExpr ∷ Key marks.ParenClose ∷ []) rest.now depth e) }
+{
+    let (inner, after) = expr(alloc, rest, depth + 1)?;
+    let after = key_here(after, Mark::ParenClose, depth)?;
+    let inner = Box::new(alloc, inner)?;
+    Ok((Expr::Group(inner), after))
+}
+
+/// Reads an argument, alone or compared.
+fn operand<'a>(
+    alloc: Global,
+    rest: &'a [Token],
+    depth: u8,
+) -> Result<(Expr, &'a [Token]), Fault<'a>>
+    requires { depth ≤ 64 }
+    ensures { MatchResult result (λ r. IsRead (OneArg ∷ Compared ∷ []) rest.now depth (expr_syms WithinAnd r.0) r.1.now) (λ e. EndsBy (OneArg ∷ Compared ∷ []) rest.now depth e) }
+{
+    let (left, after) = arg(alloc, rest, depth)?;
+    let (whole, after) = compared(alloc, left, after, depth)?;
+    Ok((whole, after))
+}
+
+/// Reads what may stand behind an argument in a condition.
+fn compared<'a>(
+    alloc: Global,
+    left: Arg,
+    rest: &'a [Token],
+    depth: u8,
+) -> Result<(Expr, &'a [Token]), Fault<'a>>
+    requires { depth ≤ 64 }
+    ensures { MatchResult result (λ r. Completes (arg_syms left) (Compared ∷ []) rest.now depth (expr_syms WithinAnd r.0) r.1.now) (λ e. EndsBy (Compared ∷ []) rest.now depth e) }
+{
+    if let Some(after) = past(rest, Mark::Equals) {
+        let (right, after) = arg(alloc, after, depth)?;
+        return Ok((Expr::Equal(left, right), after));
+    }
+    if let Some(after) = past(rest, Mark::NotEquals) {
+        let (right, after) = arg(alloc, after, depth)?;
+        return Ok((Expr::Differ(left, right), after));
+    }
+    match past(rest, Mark::In) {
+        Some(after) => {
+            let (list, after) = args(alloc, after, depth)?;
+            Ok((Expr::Within(left, list), after))
+        }
+        None => Ok((Expr::Bare(left), rest)),
+    }
+}

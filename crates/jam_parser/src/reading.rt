@@ -1,0 +1,109 @@
+//! The next token, and what reading answers.
+ghost use Rattle.std.specs.Prelude.{◌≡◌, [], ◌∷◌, false, MatchOption, MatchResult};
+ghost use Rattle.jam_grammar.specs.Marks.{mark_of_token};
+ghost use Rattle.jam_grammar.specs.Grammar.{Key, OneWord};
+ghost use Rattle.jam_grammar.specs.Spelling as spelling;
+ghost use Rattle.jam_grammar.specs.declared.mark.Mark.TheVariants as marks;
+ghost use Rattle.jam_parser.specs.Starts.{starts_with, StandsBehind};
+ghost use Rattle.jam_parser.specs.Parts.{IsRead, EndsBy};
+
+use b2_base::fault::OutOfMemory;
+use b2_base::text::Text;
+use b2_base::token::Token;
+use jam_grammar::mark::{Mark, mark_of};
+use std::alloc::{AllocError, AllocFailed};
+
+/// Why nothing is read.
+#[derive(Drop)]
+pub enum Fault<'a> {
+    /// No memory was left.
+    Memory,
+    /// At the first of these tokens, or at the end of the file where there is none.
+    At(&'a [Token]),
+}
+
+impl From<OutOfMemory> for Fault<'_> {
+    ghost use Rattle.std.specs.Prelude.{◌≡◌};
+    ghost use Rattle.jam_parser.specs.declared.reading.Fault.TheVariants.{Memory};
+
+    ghost from_gives = { λ _ e. e ≡ Memory };
+
+    fn from(_error: OutOfMemory) -> Self {
+        Fault::Memory
+    }
+}
+
+impl From<AllocError> for Fault<'_> {
+    ghost use Rattle.std.specs.Prelude.{◌≡◌};
+    ghost use Rattle.jam_parser.specs.declared.reading.Fault.TheVariants.{Memory};
+
+    ghost from_gives = { λ _ e. e ≡ Memory };
+
+    fn from(_error: AllocError) -> Self {
+        Fault::Memory
+    }
+}
+
+impl<T: Drop> From<AllocFailed<T>> for Fault<'_> {
+    ghost use Rattle.std.specs.Prelude.{◌≡◌};
+    ghost use Rattle.jam_parser.specs.declared.reading.Fault.TheVariants.{Memory};
+
+    ghost from_gives = { λ _ e. e ≡ Memory };
+
+    fn from(_error: AllocFailed<T>) -> Self {
+        Fault::Memory
+    }
+}
+
+/// The first token with its mark, and those after it.
+pub fn next_of(rest: &[Token]) -> Option<(Mark, &Token, &[Token])>
+    ensures { MatchOption result (rest.now ≡ []) (λ next. (rest.now ≡ next.1.now ∷ next.2.now) × (mark_of_token next.1.now ≡ next.0)) }
+{
+    match rest {
+        [] => None,
+        [first, after @ ..] => Some((mark_of(first), first, after)),
+    }
+}
+
+/// What stands behind this mark, if it stands here.
+pub fn past<'a>(rest: &'a [Token], want: Mark) -> Option<&'a [Token]>
+    ensures { MatchOption result (starts_with want rest.now ≡ false) (λ after. StandsBehind want rest.now after.now) }
+{
+    match next_of(rest) {
+        Some((mark, _, after)) if mark == want => Some(after),
+        _ => None,
+    }
+}
+
+/// Goes past a key that has to stand here.
+pub fn key_here<'a>(rest: &'a [Token], want: Mark, depth: u8) -> Result<&'a [Token], Fault<'a>>
+    ensures { MatchResult result (λ after. IsRead (Key want ∷ []) rest.now depth (spelling.Key want ∷ []) after.now) (λ e. EndsBy (Key want ∷ []) rest.now depth e) }
+{
+    match past(rest, want) {
+        Some(after) => Ok(after),
+        None => Err(Fault::At(rest)),
+    }
+}
+
+/// Reads a word that has to stand here.
+pub fn word_here<'a>(rest: &'a [Token], depth: u8) -> Result<(Text, &'a [Token]), Fault<'a>>
+    ensures { MatchResult result (λ r. IsRead (OneWord ∷ []) rest.now depth (spelling.Says r.0 ∷ []) r.1.now) (λ e. EndsBy (OneWord ∷ []) rest.now depth e) }
+{
+    match next_of(rest) {
+        Some((Mark::Plain | Mark::Query | Mark::Star | Mark::Plus, first, after)) => Ok((
+            first.text.copy()?,
+            after,
+        )),
+        _ => Err(Fault::At(rest)),
+    }
+}
+
+/// Reads a body that has to stand here.
+pub fn body_here<'a>(rest: &'a [Token], depth: u8) -> Result<(Text, &'a [Token]), Fault<'a>>
+    ensures { MatchResult result (λ r. IsRead (Key marks.Body ∷ []) rest.now depth (spelling.Raw r.0 ∷ []) r.1.now) (λ e. EndsBy (Key marks.Body ∷ []) rest.now depth e) }
+{
+    match next_of(rest) {
+        Some((Mark::Body, first, after)) => Ok((first.text.copy()?, after)),
+        _ => Err(Fault::At(rest)),
+    }
+}

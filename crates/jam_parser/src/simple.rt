@@ -1,0 +1,231 @@
+//! Reading statements without blocks of statements.
+ghost use Rattle.std.specs.Prelude.{◌≡◌, ◌<◌, ◌≤◌, ◌∷◌, ◌++◌, [], false, MatchOption, MatchResult};
+ghost use Rattle.jam_grammar.specs.Trees.{value_tree};
+ghost use Rattle.jam_grammar.specs.Spelling.{form_syms, arg_syms, args_syms, value_syms, braced, sign_mark};
+ghost use Rattle.jam_grammar.specs.Spelling as spelling;
+ghost use Rattle.jam_grammar.specs.Grammar.{OneStmt, Tail, Assigned, LocalTail, BodyBlock, OneWord, OneArg, Args, More, Key};
+ghost use Rattle.jam_grammar.specs.declared.mark.Mark.TheVariants as marks;
+ghost use Rattle.jam_parser.specs.Starts.{starts_with, starts_sign, StandsBehind};
+ghost use Rattle.jam_parser.specs.Parts.{IsRead, ComesTo, Completes, EndsBy};
+
+use crate::args::{MAX_OPEN, arg, args, lists};
+use crate::reading::{Fault, body_here, key_here, next_of, past, word_here};
+use b2_base::text::Text;
+use b2_base::token::Token;
+use jam_grammar::mark::Mark;
+use jam_grammar::tree::{Arg, Form, Sign};
+use std::alloc::Global;
+
+/// Reads a list up to the end of the statement.
+fn list_end<'a>(
+    alloc: Global,
+    rest: &'a [Token],
+    depth: u8,
+) -> Result<(Vec<Arg>, &'a [Token]), Fault<'a>>
+    requires { depth ≤ 64 }
+    ensures { MatchResult result (λ r. IsRead (Args ∷ Key marks.Semicolon ∷ []) rest.now depth (args_syms r.0.items ++ spelling.Key marks.Semicolon ∷ []) r.1.now) (λ e. EndsBy (Args ∷ Key marks.Semicolon ∷ []) rest.now depth e) }
+{
+    let (list, after) = args(alloc, rest, depth)?;
+    let after = key_here(after, Mark::Semicolon, depth)?;
+    Ok((list, after))
+}
+
+/// Reads what stands behind `include`.
+pub fn include<'a>(
+    alloc: Global,
+    rest: &'a [Token],
+    depth: u8,
+) -> Result<(Form, &'a [Token]), Fault<'a>>
+    requires { depth ≤ 64 }
+    ensures { MatchResult result (λ r. Completes (spelling.Key marks.Include ∷ []) (Args ∷ Key marks.Semicolon ∷ []) rest.now depth (form_syms r.0) r.1.now) (λ e. EndsBy (Args ∷ Key marks.Semicolon ∷ []) rest.now depth e) }
+{
+    let (names, after) = list_end(alloc, rest, depth)?;
+    Ok((Form::Include(names), after))
+}
+
+/// Reads what stands behind `return`.
+pub fn returned<'a>(
+    alloc: Global,
+    rest: &'a [Token],
+    depth: u8,
+) -> Result<(Form, &'a [Token]), Fault<'a>>
+    requires { depth ≤ 64 }
+    ensures { MatchResult result (λ r. Completes (spelling.Key marks.Return ∷ []) (Args ∷ Key marks.Semicolon ∷ []) rest.now depth (form_syms r.0) r.1.now) (λ e. EndsBy (Args ∷ Key marks.Semicolon ∷ []) rest.now depth e) }
+{
+    let (value, after) = list_end(alloc, rest, depth)?;
+    Ok((Form::Return(value), after))
+}
+
+/// Reads what stands behind `local`.
+pub fn local<'a>(
+    alloc: Global,
+    rest: &'a [Token],
+    depth: u8,
+) -> Result<(Form, &'a [Token]), Fault<'a>>
+    requires { depth ≤ 64 }
+    ensures { MatchResult result (λ r. Completes (spelling.Key marks.Local ∷ []) (Args ∷ LocalTail ∷ []) rest.now depth (form_syms r.0) r.1.now) (λ e. EndsBy (Args ∷ LocalTail ∷ []) rest.now depth e) }
+{
+    let (names, after) = args(alloc, rest, depth)?;
+    let (value, after) = local_value(alloc, after, depth)?;
+    Ok((Form::Local { names, value }, after))
+}
+
+/// Reads what stands behind the names of `local`.
+fn local_value<'a>(
+    alloc: Global,
+    rest: &'a [Token],
+    depth: u8,
+) -> Result<(Option<Vec<Arg>>, &'a [Token]), Fault<'a>>
+    requires { depth ≤ 64 }
+    ensures { MatchResult result (λ r. IsRead (LocalTail ∷ []) rest.now depth (value_syms (value_tree r.0)) r.1.now) (λ e. EndsBy (LocalTail ∷ []) rest.now depth e) }
+{
+    match next_of(rest) {
+        Some((Mark::Semicolon, _, after)) => Ok((None, after)),
+        Some((Mark::Equals, _, after)) => {
+            let (value, after) = list_end(alloc, after, depth)?;
+            Ok((Some(value), after))
+        }
+        _ => Err(Fault::At(rest)),
+    }
+}
+
+/// Reads what stands behind `actions`.
+pub fn actions<'a>(rest: &'a [Token], depth: u8) -> Result<(Form, &'a [Token]), Fault<'a>>
+    requires { depth < 64 }
+    ensures { MatchResult result (λ r. Completes (spelling.Key marks.Actions ∷ []) (OneWord ∷ BodyBlock ∷ []) rest.now depth (form_syms r.0) r.1.now) (λ e. EndsBy (OneWord ∷ BodyBlock ∷ []) rest.now depth e) }
+{
+    let (name, after) = word_here(rest, depth)?;
+    let (body, after) = body_block(after, depth)?;
+    Ok((Form::Actions { name, body }, after))
+}
+
+/// Reads a body in braces.
+fn body_block<'a>(rest: &'a [Token], depth: u8) -> Result<(Text, &'a [Token]), Fault<'a>>
+    requires { depth < 64 }
+    ensures { MatchResult result (λ r. IsRead (BodyBlock ∷ []) rest.now depth (braced (spelling.Raw r.0 ∷ [])) r.1.now) (λ e. EndsBy (BodyBlock ∷ []) rest.now depth e) }
+{
+    match past(rest, Mark::BraceOpen) {
+        Some(after) => {
+            let (body, after) = body_here(after, depth + 1)?;
+            let after = key_here(after, Mark::BraceClose, depth)?;
+            Ok((body, after))
+        }
+        None => Err(Fault::At(rest)),
+    }
+}
+
+/// Reads a statement that begins with an argument.
+pub fn by_arg<'a>(
+    alloc: Global,
+    rest: &'a [Token],
+    depth: u8,
+) -> Result<(Form, &'a [Token]), Fault<'a>>
+    requires { depth ≤ 64 }
+    ensures { MatchResult result (λ r. IsRead (OneArg ∷ Tail ∷ []) rest.now depth (form_syms r.0) r.1.now) (λ e. EndsBy (OneArg ∷ Tail ∷ []) rest.now depth e) }
+{
+    let (head, after) = arg(alloc, rest, depth)?;
+    let (form, after) = tail(alloc, head, after, depth)?;
+    Ok((form, after))
+}
+
+/// Reads what stands behind the first argument of a statement.
+fn tail<'a>(
+    alloc: Global,
+    head: Arg,
+    rest: &'a [Token],
+    depth: u8,
+) -> Result<(Form, &'a [Token]), Fault<'a>>
+    requires { depth ≤ 64 }
+    ensures { MatchResult result (λ r. Completes (arg_syms head) (Tail ∷ []) rest.now depth (form_syms r.0) r.1.now) (λ e. EndsBy (Tail ∷ []) rest.now depth e) }
+{
+    match past(rest, Mark::On) {
+        Some(after) => assign_on(alloc, head, after, depth),
+        None => match sign_here(rest) {
+            Some((sign, after)) => assign(alloc, head, sign, after, depth),
+            None => call(alloc, head, rest, depth),
+        },
+    }
+}
+
+/// The sign of an assignment that stands here, and what stands behind it.
+fn sign_here(rest: &[Token]) -> Option<(Sign, &[Token])>
+    ensures { MatchOption result (starts_sign rest.now ≡ false) (λ r. StandsBehind (sign_mark r.0) rest.now r.1.now) }
+{
+    match next_of(rest) {
+        Some((Mark::Equals, _, after)) => Some((Sign::Set, after)),
+        Some((Mark::PlusEquals, _, after)) => Some((Sign::Add, after)),
+        Some((Mark::QueryEquals, _, after)) => Some((Sign::Fill, after)),
+        _ => None,
+    }
+}
+
+/// Reads what stands behind the sign of an assignment.
+fn assign<'a>(
+    alloc: Global,
+    target: Arg,
+    sign: Sign,
+    rest: &'a [Token],
+    depth: u8,
+) -> Result<(Form, &'a [Token]), Fault<'a>>
+    requires { depth ≤ 64 }
+    ensures { MatchResult result (λ r. Completes (arg_syms target ++ spelling.Key (sign_mark sign) ∷ []) (Args ∷ Key marks.Semicolon ∷ []) rest.now depth (form_syms r.0) r.1.now) (λ e. EndsBy (Args ∷ Key marks.Semicolon ∷ []) rest.now depth e) }
+{
+    let (value, after) = list_end(alloc, rest, depth)?;
+    Ok((
+        Form::Assign {
+            target,
+            sign,
+            value,
+        },
+        after,
+    ))
+}
+
+/// Reads what stands behind `target on`.
+fn assign_on<'a>(
+    alloc: Global,
+    target: Arg,
+    rest: &'a [Token],
+    depth: u8,
+) -> Result<(Form, &'a [Token]), Fault<'a>>
+    requires { depth ≤ 64 }
+    ensures { MatchResult result (λ r. Completes (arg_syms target ++ spelling.Key marks.On ∷ []) (Args ∷ Assigned ∷ []) rest.now depth (form_syms r.0) r.1.now) (λ e. EndsBy (Args ∷ Assigned ∷ []) rest.now depth e) }
+{
+    let (on, after) = args(alloc, rest, depth)?;
+    let (sign, after) = sign_read(after, depth)?;
+    let (value, after) = list_end(alloc, after, depth)?;
+    Ok((
+        Form::AssignOn {
+            target,
+            on,
+            sign,
+            value,
+        },
+        after,
+    ))
+}
+
+/// Reads the sign of an assignment, which has to stand here.
+fn sign_read<'a>(rest: &'a [Token], depth: u8) -> Result<(Sign, &'a [Token]), Fault<'a>>
+    ensures { MatchResult result (λ r. ComesTo (Assigned ∷ []) (Args ∷ Key marks.Semicolon ∷ []) rest.now depth (spelling.Key (sign_mark r.0) ∷ []) r.1.now) (λ e. EndsBy (Assigned ∷ []) rest.now depth e) }
+{
+    match sign_here(rest) {
+        Some((sign, after)) => Ok((sign, after)),
+        None => Err(Fault::At(rest)),
+    }
+}
+
+/// Reads the lists of a call up to the end of the statement.
+fn call<'a>(
+    alloc: Global,
+    head: Arg,
+    rest: &'a [Token],
+    depth: u8,
+) -> Result<(Form, &'a [Token]), Fault<'a>>
+    requires { depth ≤ 64 }
+    ensures { MatchResult result (λ r. Completes (arg_syms head) (Args ∷ More 8 ∷ Key marks.Semicolon ∷ []) rest.now depth (form_syms r.0) r.1.now) (λ e. EndsBy (Args ∷ More 8 ∷ Key marks.Semicolon ∷ []) rest.now depth e) }
+{
+    let (lists, after) = lists(alloc, rest, depth)?;
+    let after = key_here(after, Mark::Semicolon, depth)?;
+    Ok((Form::Call { head, lists }, after))
+}
