@@ -18,8 +18,8 @@ use crate::spelling::{push_spelling, separator};
 use b2_base::fault::OutOfMemory;
 use std::alloc::Global;
 
-/// The lexemes one after the other, as their definition has it.
-fn joined(alloc: Global, lexemes: &[Lexeme]) -> Result<Vec<u8>, OutOfMemory>
+/// Any lexemes as a text, spelled as [`written`] says. Where they cannot stand in a text, lexing may read others.
+pub fn spelled(alloc: Global, lexemes: &[Lexeme]) -> Result<Vec<u8>, OutOfMemory>
     ensures exact { IfOk result (λ bytes. bytes.items ≡ bytes_of lexemes.now) }
     ensures texts { IfOk result (λ _. AreTexts lexemes.now) }
 {
@@ -46,5 +46,5 @@ pub fn written(alloc: Global, lexemes: &[Lexeme]) -> Result<Vec<u8>, OutOfMemory
     ensures exact { IfOk result (λ bytes. bytes.items ≡ bytes_of lexemes.now) }
     ensures reads_back { IfOk result (λ bytes. ReadsAs bytes.items lexemes.now) }
 {
-    joined(alloc, lexemes)
+    spelled(alloc, lexemes)
 }

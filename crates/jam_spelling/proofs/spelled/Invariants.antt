@@ -1,5 +1,5 @@
 use Rattle.jam_spelling.proofs.Progress.{HasWritten}
-use Rattle.jam_spelling.proofs.joined.Given as goal
+use Rattle.jam_spelling.proofs.spelled.Given as goal
 
 abbrev pub invariant-loop-place : goal.invariant-loop-place
 invariant-loop-place l = HasWritten l.lexemes l.place l.bytes.items

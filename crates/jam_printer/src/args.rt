@@ -1,0 +1,86 @@
+//! Arguments.
+ghost use Rattle.std.specs.Prelude.{◌≡◌, ◌++◌, ◌∷◌, [], IfOk};
+ghost use Rattle.jam_grammar.specs.Spelling.{arg_syms, inner_syms, args_syms, lists_syms, further_syms};
+ghost use Rattle.jam_printer.specs.Lexemes.{written_as};
+
+use crate::lexemes::{push_key, push_word};
+use b2_base::fault::OutOfMemory;
+use jam_grammar::mark::Mark;
+use jam_grammar::tree::{Arg, Inner};
+use jam_spelling::lexeme::Lexeme;
+
+/// Appends an argument.
+#[cycle(args)]
+pub fn push_arg(lexemes: &mut Vec<Lexeme>, arg: &Arg) -> Result<(), OutOfMemory>
+    ensures { IfOk result (λ _. lexemes.new.items ≡ lexemes.old.items ++ written_as (arg_syms arg.now)) }
+{
+    match arg {
+        Arg::Word(text) => push_word(lexemes, text),
+        Arg::Bracket(inner) => {
+            push_key(lexemes, Mark::SquareOpen)?;
+            push_inner(lexemes, inner)?;
+            push_key(lexemes, Mark::SquareClose)
+        }
+    }
+}
+
+/// Appends what stands in brackets.
+#[cycle(args)]
+fn push_inner(lexemes: &mut Vec<Lexeme>, inner: &Inner) -> Result<(), OutOfMemory>
+    ensures { IfOk result (λ _. lexemes.new.items ≡ lexemes.old.items ++ written_as (inner_syms inner.now)) }
+{
+    match inner {
+        Inner::Call { head, lists } => {
+            push_arg(lexemes, head)?;
+            push_lists(lexemes, lists)
+        }
+        Inner::On { target, inner } => {
+            push_key(lexemes, Mark::On)?;
+            push_arg(lexemes, target)?;
+            push_inner(lexemes, inner)
+        }
+        Inner::OnReturn { target, value } => {
+            push_key(lexemes, Mark::On)?;
+            push_arg(lexemes, target)?;
+            push_key(lexemes, Mark::Return)?;
+            push_args(lexemes, value)
+        }
+    }
+}
+
+/// Appends arguments one after another.
+#[cycle(args)]
+pub fn push_args(lexemes: &mut Vec<Lexeme>, args: &[Arg]) -> Result<(), OutOfMemory>
+    ensures { IfOk result (λ _. lexemes.new.items ≡ lexemes.old.items ++ written_as (args_syms args.now)) }
+{
+    for arg in args {
+        push_arg(lexemes, arg)?;
+    }
+    Ok(())
+}
+
+/// Appends lists with colons between them.
+#[cycle(args)]
+pub fn push_lists(lexemes: &mut Vec<Lexeme>, lists: &[Vec<Arg>]) -> Result<(), OutOfMemory>
+    ensures { IfOk result (λ _. lexemes.new.items ≡ lexemes.old.items ++ written_as (lists_syms lists.now)) }
+{
+    match lists {
+        [] => Ok(()),
+        [first, more @ ..] => {
+            push_args(lexemes, first)?;
+            push_further(lexemes, more)
+        }
+    }
+}
+
+/// Appends lists with a colon before each.
+#[cycle(args)]
+fn push_further(lexemes: &mut Vec<Lexeme>, lists: &[Vec<Arg>]) -> Result<(), OutOfMemory>
+    ensures { IfOk result (λ _. lexemes.new.items ≡ lexemes.old.items ++ written_as (further_syms lists.now)) }
+{
+    for list in lists {
+        push_key(lexemes, Mark::Colon)?;
+        push_args(lexemes, list)?;
+    }
+    Ok(())
+}

@@ -1,0 +1,103 @@
+//! The lexemes of statements that hold no others.
+ghost use Rattle.std.specs.Prelude.{◌≡◌, ◌++◌, ◌∷◌, [], IfOk, option_copied};
+ghost use Rattle.jam_grammar.specs.declared.mark.Mark.TheVariants as marks;
+ghost use Rattle.jam_grammar.specs.Trees.{value_tree};
+ghost use Rattle.jam_grammar.specs.Spelling.{Key, Says, Raw, arg_syms, args_syms, lists_syms, set_syms, value_syms, sign_mark, braced};
+ghost use Rattle.jam_printer.specs.Lexemes.{written_as};
+
+use crate::args::{push_arg, push_args, push_lists};
+use crate::lexemes::{push_body, push_key, push_word};
+use b2_base::fault::OutOfMemory;
+use b2_base::text::Text;
+use jam_grammar::mark::Mark;
+use jam_grammar::tree::{Arg, Sign};
+use jam_spelling::lexeme::Lexeme;
+
+/// The mark of a sign.
+fn sign_mark(sign: Sign) -> Mark
+    ensures { result ≡ sign_mark sign }
+{
+    match sign {
+        Sign::Set => Mark::Equals,
+        Sign::Add => Mark::PlusEquals,
+        Sign::Fill => Mark::QueryEquals,
+    }
+}
+
+/// Appends a sign or a key, a list, and the end of the statement.
+pub fn push_set(lexemes: &mut Vec<Lexeme>, mark: Mark, list: &[Arg]) -> Result<(), OutOfMemory>
+    ensures { IfOk result (λ _. lexemes.new.items ≡ lexemes.old.items ++ written_as (set_syms mark (args_syms list.now))) }
+{
+    push_key(lexemes, mark)?;
+    push_args(lexemes, list)?;
+    push_key(lexemes, Mark::Semicolon)
+}
+
+/// Appends a `local`.
+pub fn push_local(
+    lexemes: &mut Vec<Lexeme>,
+    names: &[Arg],
+    value: Option<&Vec<Arg>>,
+) -> Result<(), OutOfMemory>
+    ensures { IfOk result (λ _. lexemes.new.items ≡ lexemes.old.items ++ written_as (Key marks.Local ∷ (args_syms names.now ++ value_syms (value_tree (option_copied value.entry))))) }
+{
+    push_key(lexemes, Mark::Local)?;
+    push_args(lexemes, names)?;
+    match value {
+        None => push_key(lexemes, Mark::Semicolon),
+        Some(value) => push_set(lexemes, Mark::Equals, value),
+    }
+}
+
+/// Appends an assignment.
+pub fn push_assign(
+    lexemes: &mut Vec<Lexeme>,
+    target: &Arg,
+    sign: Sign,
+    value: &[Arg],
+) -> Result<(), OutOfMemory>
+    ensures { IfOk result (λ _. lexemes.new.items ≡ lexemes.old.items ++ written_as (arg_syms target.now ++ set_syms (sign_mark sign) (args_syms value.now))) }
+{
+    push_arg(lexemes, target)?;
+    push_set(lexemes, sign_mark(sign), value)
+}
+
+/// Appends an assignment on targets.
+pub fn push_assign_on(
+    lexemes: &mut Vec<Lexeme>,
+    target: &Arg,
+    on: &[Arg],
+    sign: Sign,
+    value: &[Arg],
+) -> Result<(), OutOfMemory>
+    ensures { IfOk result (λ _. lexemes.new.items ≡ lexemes.old.items ++ written_as (arg_syms target.now ++ (Key marks.On ∷ (args_syms on.now ++ set_syms (sign_mark sign) (args_syms value.now))))) }
+{
+    push_arg(lexemes, target)?;
+    push_key(lexemes, Mark::On)?;
+    push_args(lexemes, on)?;
+    push_set(lexemes, sign_mark(sign), value)
+}
+
+/// Appends an `actions`.
+pub fn push_actions(lexemes: &mut Vec<Lexeme>, name: &Text, body: &Text) -> Result<(), OutOfMemory>
+    ensures { IfOk result (λ _. lexemes.new.items ≡ lexemes.old.items ++ written_as (Key marks.Actions ∷ Says name.now ∷ braced (Raw body.now ∷ []))) }
+{
+    push_key(lexemes, Mark::Actions)?;
+    push_word(lexemes, name)?;
+    push_key(lexemes, Mark::BraceOpen)?;
+    push_body(lexemes, body)?;
+    push_key(lexemes, Mark::BraceClose)
+}
+
+/// Appends a call.
+pub fn push_call(
+    lexemes: &mut Vec<Lexeme>,
+    head: &Arg,
+    lists: &[Vec<Arg>],
+) -> Result<(), OutOfMemory>
+    ensures { IfOk result (λ _. lexemes.new.items ≡ lexemes.old.items ++ written_as (arg_syms head.now ++ (lists_syms lists.now ++ Key marks.Semicolon ∷ []))) }
+{
+    push_arg(lexemes, head)?;
+    push_lists(lexemes, lists)?;
+    push_key(lexemes, Mark::Semicolon)
+}

@@ -1,0 +1,223 @@
+//! The lexemes of statements.
+ghost use Rattle.std.specs.Prelude.{◌≡◌, ◌++◌, ◌∷◌, [], IfOk, map};
+ghost use Rattle.jam_grammar.specs.declared.mark.Mark.TheVariants as marks;
+ghost use Rattle.jam_grammar.specs.Spelling.{Key, Says, Anywhere, arg_syms, args_syms, expr_syms, braced, block_syms, form_syms, other_syms, only, is_if, case_syms, cases_syms, local_syms, params_syms};
+ghost use Rattle.jam_grammar.specs.Trees.{form_tree};
+ghost use Rattle.jam_printer.specs.Lexemes.{written_as};
+
+use crate::args::{push_arg, push_args};
+use crate::exprs::push_expr;
+use crate::lexemes::{push_key, push_word};
+use crate::params::push_params;
+use crate::simple::{push_actions, push_assign, push_assign_on, push_call, push_local, push_set};
+use b2_base::fault::OutOfMemory;
+use b2_base::text::Text;
+use jam_grammar::mark::Mark;
+use jam_grammar::tree::{Arg, Block, Case, Expr, Form, Other, Param, Stmt};
+use jam_spelling::lexeme::Lexeme;
+
+/// Appends a block in braces.
+#[cycle(stmts)]
+fn push_block(lexemes: &mut Vec<Lexeme>, block: &Block) -> Result<(), OutOfMemory>
+    ensures { IfOk result (λ _. lexemes.new.items ≡ lexemes.old.items ++ written_as (braced (block_syms block.now))) }
+{
+    push_key(lexemes, Mark::BraceOpen)?;
+    push_stmts(lexemes, block)?;
+    push_key(lexemes, Mark::BraceClose)
+}
+
+/// Appends the statements of a block.
+#[cycle(stmts)]
+pub fn push_stmts(lexemes: &mut Vec<Lexeme>, block: &Block) -> Result<(), OutOfMemory>
+    ensures { IfOk result (λ _. lexemes.new.items ≡ lexemes.old.items ++ written_as (block_syms block.now)) }
+{
+    for stmt in &block.stmts {
+        push_stmt(lexemes, stmt)?;
+    }
+    Ok(())
+}
+
+/// Appends a statement.
+#[cycle(stmts)]
+fn push_stmt(lexemes: &mut Vec<Lexeme>, stmt: &Stmt) -> Result<(), OutOfMemory>
+    ensures { IfOk result (λ _. lexemes.new.items ≡ lexemes.old.items ++ written_as (form_syms stmt.now.form)) }
+{
+    match &stmt.form {
+        Form::Braces(block) => push_block(lexemes, block),
+        Form::Local { names, value } => push_local(lexemes, names, value.as_ref()),
+        Form::Assign {
+            target,
+            sign,
+            value,
+        } => push_assign(lexemes, target, *sign, value),
+        Form::AssignOn {
+            target,
+            on,
+            sign,
+            value,
+        } => push_assign_on(lexemes, target, on, *sign, value),
+        Form::Include(names) => push_set(lexemes, Mark::Include, names),
+        Form::Return(value) => push_set(lexemes, Mark::Return, value),
+        Form::If { test, then, other } => {
+            push_if(lexemes, test, then)?;
+            push_other(lexemes, other)
+        }
+        Form::For {
+            local,
+            name,
+            items,
+            block,
+        } => push_for(lexemes, *local, name, items, block),
+        Form::While { test, block } => push_while(lexemes, test, block),
+        Form::Switch { value, cases } => push_switch(lexemes, value, cases),
+        Form::Module { name, block } => push_module(lexemes, name, block),
+        Form::Rule {
+            name,
+            params,
+            block,
+        } => push_rule(lexemes, name, params, block),
+        Form::Actions { name, body } => push_actions(lexemes, name, body),
+        Form::On { target, stmt } => push_on(lexemes, target, stmt),
+        Form::Call { head, lists } => push_call(lexemes, head, lists),
+    }
+}
+
+/// Appends an `if` up to the end of its block.
+#[cycle(stmts)]
+fn push_if(lexemes: &mut Vec<Lexeme>, test: &Expr, block: &Block) -> Result<(), OutOfMemory>
+    ensures { IfOk result (λ _. lexemes.new.items ≡ lexemes.old.items ++ written_as (Key marks.If ∷ (expr_syms Anywhere test.now ++ braced (block_syms block.now)))) }
+{
+    push_key(lexemes, Mark::If)?;
+    push_expr(lexemes, test)?;
+    push_block(lexemes, block)
+}
+
+/// Appends what follows on an `if`.
+#[cycle(stmts)]
+fn push_other(lexemes: &mut Vec<Lexeme>, other: &Other) -> Result<(), OutOfMemory>
+    ensures { IfOk result (λ _. lexemes.new.items ≡ lexemes.old.items ++ written_as (other_syms other.now)) }
+{
+    match other {
+        Other::Nothing => Ok(()),
+        Other::Braces(block) => {
+            push_key(lexemes, Mark::Else)?;
+            push_block(lexemes, block)
+        }
+        Other::If(stmt) => {
+            push_key(lexemes, Mark::Else)?;
+            push_else_if(lexemes, stmt)
+        }
+    }
+}
+
+/// Appends the `if` behind an `else`; no source gives another statement there.
+#[cycle(stmts)]
+fn push_else_if(lexemes: &mut Vec<Lexeme>, stmt: &Stmt) -> Result<(), OutOfMemory>
+    ensures { IfOk result (λ _. lexemes.new.items ≡ lexemes.old.items ++ written_as (only (is_if (form_tree stmt.now.form)) (form_syms stmt.now.form))) }
+{
+    match &stmt.form {
+        Form::If { .. } => push_stmt(lexemes, stmt),
+        _ => Ok(()),
+    }
+}
+
+/// Appends a `for`.
+#[cycle(stmts)]
+fn push_for(
+    lexemes: &mut Vec<Lexeme>,
+    local: bool,
+    name: &Text,
+    items: &[Arg],
+    block: &Block,
+) -> Result<(), OutOfMemory>
+    ensures { IfOk result (λ _. lexemes.new.items ≡ lexemes.old.items ++ written_as (Key marks.For ∷ (local_syms local ++ (Says name.now ∷ Key marks.In ∷ (args_syms items.now ++ braced (block_syms block.now)))))) }
+{
+    push_key(lexemes, Mark::For)?;
+    if local {
+        push_key(lexemes, Mark::Local)?;
+    }
+    push_word(lexemes, name)?;
+    push_key(lexemes, Mark::In)?;
+    push_args(lexemes, items)?;
+    push_block(lexemes, block)
+}
+
+/// Appends a `while`.
+#[cycle(stmts)]
+fn push_while(lexemes: &mut Vec<Lexeme>, test: &Expr, block: &Block) -> Result<(), OutOfMemory>
+    ensures { IfOk result (λ _. lexemes.new.items ≡ lexemes.old.items ++ written_as (Key marks.While ∷ (expr_syms Anywhere test.now ++ braced (block_syms block.now)))) }
+{
+    push_key(lexemes, Mark::While)?;
+    push_expr(lexemes, test)?;
+    push_block(lexemes, block)
+}
+
+/// Appends a `switch`.
+#[cycle(stmts)]
+fn push_switch(lexemes: &mut Vec<Lexeme>, value: &[Arg], cases: &[Case]) -> Result<(), OutOfMemory>
+    ensures { IfOk result (λ _. lexemes.new.items ≡ lexemes.old.items ++ written_as (Key marks.Switch ∷ (args_syms value.now ++ braced (cases_syms cases.now)))) }
+{
+    push_key(lexemes, Mark::Switch)?;
+    push_args(lexemes, value)?;
+    push_key(lexemes, Mark::BraceOpen)?;
+    push_cases(lexemes, cases)?;
+    push_key(lexemes, Mark::BraceClose)
+}
+
+/// Appends the cases of a `switch`.
+#[cycle(stmts)]
+fn push_cases(lexemes: &mut Vec<Lexeme>, cases: &[Case]) -> Result<(), OutOfMemory>
+    ensures { IfOk result (λ _. lexemes.new.items ≡ lexemes.old.items ++ written_as (cases_syms cases.now)) }
+{
+    for case in cases {
+        push_case(lexemes, case)?;
+    }
+    Ok(())
+}
+
+/// Appends a case of a `switch`.
+#[cycle(stmts)]
+fn push_case(lexemes: &mut Vec<Lexeme>, case: &Case) -> Result<(), OutOfMemory>
+    ensures { IfOk result (λ _. lexemes.new.items ≡ lexemes.old.items ++ written_as (case_syms case.now)) }
+{
+    push_key(lexemes, Mark::Case)?;
+    push_word(lexemes, &case.pattern)?;
+    push_key(lexemes, Mark::Colon)?;
+    push_stmts(lexemes, &case.block)
+}
+
+/// Appends a `module`.
+#[cycle(stmts)]
+fn push_module(lexemes: &mut Vec<Lexeme>, name: &[Arg], block: &Block) -> Result<(), OutOfMemory>
+    ensures { IfOk result (λ _. lexemes.new.items ≡ lexemes.old.items ++ written_as (Key marks.Module ∷ (args_syms name.now ++ braced (block_syms block.now)))) }
+{
+    push_key(lexemes, Mark::Module)?;
+    push_args(lexemes, name)?;
+    push_block(lexemes, block)
+}
+
+/// Appends a `rule`.
+#[cycle(stmts)]
+fn push_rule(
+    lexemes: &mut Vec<Lexeme>,
+    name: &Text,
+    params: &[Vec<Param>],
+    block: &Block,
+) -> Result<(), OutOfMemory>
+    ensures { IfOk result (λ _. lexemes.new.items ≡ lexemes.old.items ++ written_as (Key marks.Rule ∷ Says name.now ∷ (params_syms (map (λ list. list.items) params.now) ++ braced (block_syms block.now)))) }
+{
+    push_key(lexemes, Mark::Rule)?;
+    push_word(lexemes, name)?;
+    push_params(lexemes, params)?;
+    push_block(lexemes, block)
+}
+
+/// Appends an `on` before a statement.
+#[cycle(stmts)]
+fn push_on(lexemes: &mut Vec<Lexeme>, target: &Arg, stmt: &Stmt) -> Result<(), OutOfMemory>
+    ensures { IfOk result (λ _. lexemes.new.items ≡ lexemes.old.items ++ written_as (Key marks.On ∷ (arg_syms target.now ++ form_syms stmt.now.form))) }
+{
+    push_key(lexemes, Mark::On)?;
+    push_arg(lexemes, target)?;
+    push_stmt(lexemes, stmt)
+}
