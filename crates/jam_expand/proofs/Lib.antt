@@ -1,0 +1,12 @@
+pub mod CutLemmas
+pub mod IndexLemmas
+pub mod WordLemmas
+pub mod LimitLemmas
+pub mod ModifierLemmas
+pub mod ChangeLemmas
+pub mod IndexedLemmas
+pub mod GatherLemmas
+pub mod GlueLemmas
+pub mod ProductLemmas
+pub mod SumLemmas
+pub mod ExpandLemmas

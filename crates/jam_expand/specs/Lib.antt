@@ -1,0 +1,13 @@
+pub mod Limits
+pub mod Words
+pub mod Shown
+pub mod Cuts
+pub mod Indexes
+pub mod Modifiers
+pub mod Reading
+pub mod References
+pub mod Values
+pub mod Glue
+pub mod Products
+pub mod Heads
+pub mod Expansions

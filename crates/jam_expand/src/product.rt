@@ -1,0 +1,134 @@
+//! The product of lists of texts.
+ghost use Rattle.std.specs.Prelude.{◌≡◌, ℕ, ◌≤◌, ◌==◌, ◌++◌, [], ◌∷◌, List, length, map, IfOk, OnOk, IfSome};
+ghost use Rattle.std.specs.List.{list_any};
+ghost use Rattle.jam_expand.specs.Heads.{head_of, heads, IsSumOf};
+ghost use Rattle.jam_expand.specs.Limits.{limit, within, IsWithin, IsGivenBy};
+ghost use Rattle.jam_expand.specs.Products.{cross, product};
+
+use crate::limit::longer;
+use b2_base::expand_fault::ExpandFault;
+use b2_base::fault::OutOfMemory;
+use b2_base::text::Text;
+use b2_base::text_list::TextList;
+use std::alloc::Global;
+
+/// One text behind another.
+fn joined(alloc: Global, first: &Text, second: &Text) -> Result<Text, OutOfMemory>
+    ensures { IfOk result (λ made. made ≡ first.now ++ second.now) }
+{
+    let mut text = String::from_str(alloc, first.as_str())?;
+    text.push_str(second.as_str())?;
+    Ok(Text::from_string(text))
+}
+
+/// Adds each of the texts behind one.
+fn push_behind(
+    alloc: Global,
+    made: &mut TextList,
+    first: &Text,
+    others: &[Text],
+) -> Result<(), OutOfMemory>
+    ensures { OnOk result (made.new ≡ made.old ++ map (λ other. first.now ++ other) others.now) }
+{
+    for other in others {
+        made.push(joined(alloc, first, other)?)?;
+    }
+    Ok(())
+}
+
+/// Each text before each of the others, the first list varying slowest.
+fn cross(alloc: Global, texts: &[Text], others: &[Text]) -> Result<TextList, OutOfMemory>
+    ensures { IfOk result (λ made. made ≡ cross texts.now others.now) }
+{
+    let mut made = TextList::new(alloc);
+    for text in texts {
+        push_behind(alloc, &mut made, text, others)?;
+    }
+    Ok(made)
+}
+
+/// The sum with the lengths of the texts behind one of this length.
+fn sum_behind(sum: u64, len: usize, others: &[Text]) -> Result<u64, ExpandFault>
+    requires { sum ≤ limit }
+    ensures sum { (texts : List (List ℕ)) (first : List ℕ) → IsWithin texts sum → length first ≡ len → IsSumOf result (texts ++ map (λ other. first ++ other) others.now) }
+    ensures small { IfOk result (λ sum. sum ≤ limit) }
+{
+    let mut sum = sum;
+    for other in others {
+        let Some(len) = len.checked_add(other.as_str().len()) else {
+            return Err(ExpandFault::OutOfMemory);
+        };
+        sum = longer(sum, len)?;
+    }
+    Ok(sum)
+}
+
+/// The sum of the lengths of the products of two lists, each behind a text of length `len`.
+fn sum_of_cross(len: usize, texts: &[Text], others: &[Text]) -> Result<u64, ExpandFault>
+    ensures { (first : List ℕ) → length first ≡ len → IsSumOf result (map (λ other. first ++ other) (cross texts.now others.now)) }
+{
+    let mut sum = 0;
+    for text in texts {
+        let Some(len) = len.checked_add(text.as_str().len()) else {
+            return Err(ExpandFault::OutOfMemory);
+        };
+        sum = sum_behind(sum, len, others)?;
+    }
+    Ok(sum)
+}
+
+/// The length of the first text of a list.
+fn head_len(list: &TextList) -> usize
+    ensures { result ≡ length (head_of list.now) }
+{
+    match list.as_slice().first() {
+        None => 0,
+        Some(text) => text.as_str().len(),
+    }
+}
+
+/// The length of the first element of a product.
+fn heads_len(lists: &[TextList]) -> Option<usize>
+    ensures { IfSome result (λ len. len ≡ length (heads lists.now)) }
+{
+    let mut len = 0usize;
+    for list in lists {
+        len = len.checked_add(head_len(list))?;
+    }
+    Some(len)
+}
+
+/// The list of the empty text.
+fn one_empty(alloc: Global) -> Result<TextList, OutOfMemory>
+    ensures { IfOk result (λ list. list ≡ [] ∷ []) }
+{
+    let mut list = TextList::new(alloc);
+    list.push(Text::new(alloc, "")?)?;
+    Ok(list)
+}
+
+/// Whether one of the lists is empty.
+fn any_empty(lists: &[TextList]) -> bool
+    ensures { result ≡ list_any (λ list. length list == 0) lists.now }
+{
+    lists.iter().any(|list| list.as_slice().is_empty())
+}
+
+/// The product of the lists, the leftmost varying slowest. How large it is, is found before it is made.
+pub fn product(alloc: Global, mut lists: Vec<TextList>) -> Result<TextList, ExpandFault>
+    ensures { IsGivenBy result (within (product lists.items)) }
+{
+    if any_empty(lists.as_slice()) {
+        return Ok(TextList::new(alloc));
+    }
+    let Some(mut before) = heads_len(lists.as_slice()) else {
+        return Err(ExpandFault::OutOfMemory);
+    };
+    let mut made = one_empty(alloc)?;
+    'lists: while let Some(list) = lists.pop() {
+        before -= head_len(&list);
+        sum_of_cross(before, list.as_slice(), made.as_slice())?;
+        made = cross(alloc, list.as_slice(), made.as_slice())?;
+    }
+    Ok(made)
+}

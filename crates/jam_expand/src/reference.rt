@@ -1,0 +1,76 @@
+//! What stands behind a name: an index and modifiers.
+ghost use Rattle.std.specs.Prelude.{◌≡◌, ◌⊎◌, None, MatchOption, IfOk, IfSome};
+ghost use Rattle.std.specs.Str.{IsUtf8};
+ghost use Rattle.b2_base.specs.Bytes.{HasNoZero};
+ghost use Rattle.b2_base.specs.declared.expand_fault.ExpandFault.TheVariants as faults;
+ghost use Rattle.jam_expand.specs.Indexes.{behind_close, indexed};
+ghost use Rattle.jam_expand.specs.Limits.{IsGivenBy};
+ghost use Rattle.jam_expand.specs.References.{reference_of, IsIndexedBy, IsClosedBy};
+
+use crate::cut::{behind_sign, split_before};
+use crate::index::{Index, index_of};
+use crate::modifiers::{Modifiers, read_modifiers};
+use b2_base::expand_fault::ExpandFault;
+use b2_base::text::Text;
+use std::alloc::Global;
+
+/// What stands behind a name.
+#[derive(Drop)]
+pub struct Reference {
+    /// Which elements are selected.
+    pub index: Option<Index>,
+    /// What is made of them.
+    pub modifiers: Modifiers,
+}
+
+/// The fault of an index that is not of its form.
+fn bad_index(alloc: Global, text: &str) -> ExpandFault
+    requires { HasNoZero text.now }
+    ensures { (result ≡ faults.OutOfMemory) ⊎ (result ≡ faults.BadIndex text.now) }
+{
+    match Text::new(alloc, text) {
+        Ok(text) => ExpandFault::BadIndex { text },
+        Err(_) => ExpandFault::OutOfMemory,
+    }
+}
+
+/// The text behind a `]` that stands first, where it is empty or begins with `:`.
+fn behind_close(text: &str) -> Option<&str>
+    ensures { IsClosedBy result (behind_close text.now) }
+{
+    let behind = behind_sign(text, b']')?;
+    if behind.is_empty() || behind_sign(behind, b':').is_some() {
+        Some(behind)
+    } else {
+        None
+    }
+}
+
+/// The index that stands first, if one does, and the text of the modifiers behind it.
+fn read_index(alloc: Global, text: &str) -> Result<(Option<Index>, &str), ExpandFault>
+    requires { HasNoZero text.now }
+    ensures read { IsIndexedBy result (indexed text.now) }
+    ensures no_zero { IfOk result (λ found. HasNoZero found.1.now) }
+{
+    let Some(inside) = behind_sign(text, b'[') else {
+        return Ok((None, text));
+    };
+    let (written, rest) = split_before(inside, b"]");
+    let Some(behind) = behind_close(rest) else {
+        return Err(bad_index(alloc, written));
+    };
+    match index_of(written.as_bytes()) {
+        None => Err(bad_index(alloc, written)),
+        Some(index) => Ok((Some(index), behind)),
+    }
+}
+
+/// The index and the modifiers that stand behind a name. The index is read first.
+pub fn read_reference(alloc: Global, text: &str) -> Result<Reference, ExpandFault>
+    requires { HasNoZero text.now }
+    ensures { IsGivenBy result (reference_of text.now) }
+{
+    let (index, rest) = read_index(alloc, text)?;
+    let modifiers = read_modifiers(alloc, rest)?;
+    Ok(Reference { index, modifiers })
+}
