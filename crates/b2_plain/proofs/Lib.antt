@@ -1,0 +1,12 @@
+pub mod Parts
+pub mod Outs
+pub mod Reaching
+pub mod Orders
+pub mod Closed
+pub mod Growing
+pub mod Cleaning
+pub mod Zips
+pub mod Touching
+pub mod Placing
+pub mod Joins
+pub mod Settlings

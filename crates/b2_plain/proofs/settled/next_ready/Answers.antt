@@ -1,0 +1,18 @@
+use Rattle.std.proofs.Common.{◌≡◌, ℕ, List, sym, ◌∙◌, true, false}
+use Rattle.b2_plain.specs.Moments.{update_of}
+use Rattle.b2_plain.specs.Readies.{IsReady}
+use Rattle.b2_plain.proofs.Reaching.{at_place, none_in}
+use Rattle.b2_plain.proofs.Outs.{none_more}
+use Rattle.b2_plain.proofs.settled.next_ready.Goals as goal
+
+pub returns-then-branch : goal.returns-then-branch
+returns-then-branch g c =
+    (c.loop-place-test.true, at_place (IsReady (update_of g.W.World.places g.W.World.made c.args.update.now) c.args.events.now c.args.settled.now) c.args.rest.now c.loop-place.place c.index-rest-place.result c.loop-place-test.true c.index-rest-place.is (c.in_ok-is_ready.ensures.0 c.if-branch.true))
+
+pub loop-place-preserved : goal.loop-place-preserved
+loop-place-preserved g c =
+    none_more (λ (p : List ℕ). IsReady (update_of g.W.World.places g.W.World.made c.args.update.now) c.args.events.now c.args.settled.now p → ⊥) c.args.rest.now c.loop-place.place c.index-rest-place.result c.loop-place-test.true c.index-rest-place.is c.loop-place.invariant
+    (λ p. let t = c.in_ok-is_ready.ensures.1 p in let f : true ≡ false = sym t ∙ c.if-branch.false in absurd (let h : true ≡ false = f in cc))
+
+pub returns : goal.returns
+returns g c = none_in (IsReady (update_of g.W.World.places g.W.World.made c.args.update.now) c.args.events.now c.args.settled.now) c.args.rest.now c.loop-place.place c.loop-place-test.false c.loop-place.invariant

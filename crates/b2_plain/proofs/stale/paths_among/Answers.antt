@@ -1,0 +1,18 @@
+use Rattle.std.proofs.Common.{◌≡◌, ℕ, List, ◌++◌, ◌∷◌, [], ap, sym, ◌∙◌, Option, Some, None}
+use Rattle.b2_plain.proofs.Cleaning.{paths_some, paths_none}
+use Rattle.b2_plain.proofs.stale.paths_among.Goals as goal
+use Rattle.b2_plain.proofs.stale.paths_among.Goals.{in-Some+in_ok-copy+in_ok-push, in_default}
+
+pub loop-member-preserved : goal.loop-member-preserved
+loop-member-preserved c =
+    let path : List ℕ = c.member.inside.path in
+    let before : List (List ℕ) = c.loop-member.found.items in
+    elim c.match-bytes.branch [
+      | in-Some+in_ok-copy+in_ok-push w ↦
+          let bytes : List ℕ = w.in-Some._bytes.now in
+          let is : c.member-item.result ≡ (path, Some bytes) = sym c.member.view_is ∙ (λ i. (path, sym w.in-Some.ensures i)) in
+          (λ i. (w.found-is i).items) ∙ w.in_ok-push.ensures.items ∙ (λ i. before ++ (w.in_ok-copy.ensures i) ∷ []) ∙ ap (λ (l : List (List ℕ)). l ++ path ∷ []) c.loop-member.invariant ∙ sym (paths_some c.args.members.now c.loop-member.member-index path bytes c.member-item.result c.loop-member-test.true c.member-item.is is)
+      | in_default w ↦
+          let is : c.member-item.result ≡ (path, None) = sym c.member.view_is ∙ (λ i. (path, sym w.in_default.ensures i)) in
+          (λ i. (w.found-is i).items) ∙ c.loop-member.invariant ∙ sym (paths_none c.args.members.now c.loop-member.member-index path c.member-item.result c.loop-member-test.true c.member-item.is is)
+    ]

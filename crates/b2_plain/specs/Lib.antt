@@ -1,0 +1,8 @@
+pub mod Tables
+pub mod Reaches
+pub mod Fillings
+pub mod Lines
+pub mod Moments
+pub mod Placings
+pub mod Joins
+pub mod Readies
