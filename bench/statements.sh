@@ -7,17 +7,7 @@ work=$(mktemp -d)
 trap 'rm -rf "$work"' EXIT
 
 measure() {
-    label=$1
-    shift
-    /usr/bin/env python3 - "$label" "$@" <<'PYTHON'
-import resource, subprocess, sys, time
-label, program = sys.argv[1], sys.argv[2:]
-begin = time.time()
-ended = subprocess.run(program, stdout=subprocess.DEVNULL)
-seconds = time.time() - begin
-memory = resource.getrusage(resource.RUSAGE_CHILDREN).ru_maxrss // 1024
-print(f"{label}: {seconds:.2f} s, at most {memory} MiB, status {ended.returncode}")
-PYTHON
+    python3 "$top/bench/measure.py" "$@"
 }
 
 for count in 1000 10000; do
