@@ -10,3 +10,4 @@ pub mod GlueLemmas
 pub mod ProductLemmas
 pub mod SumLemmas
 pub mod ExpandLemmas
+pub mod BodyLemmas

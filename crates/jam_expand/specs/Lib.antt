@@ -11,3 +11,5 @@ pub mod Glue
 pub mod Products
 pub mod Heads
 pub mod Expansions
+pub mod Bodies
+pub mod BodyCuts

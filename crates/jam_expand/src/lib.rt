@@ -1,6 +1,9 @@
 //! Words with variables, and the texts that they stand for.
 #![tactic(auto)]
 
+pub mod body;
+#[cfg(test)]
+mod body_tests;
 mod change;
 mod cut;
 pub mod expand;

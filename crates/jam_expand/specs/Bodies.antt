@@ -1,0 +1,43 @@
+-- The body of an action, and the text that it stands for.
+use Rattle.std.specs.Prelude.{ℕ, ◌-◌, ◌==◌, Bool, ◌||◌, List, [], ◌∷◌, ◌++◌, filter, length, take, drop, Result, Ok}
+use Rattle.std.specs.Int.{is_in_range}
+use Rattle.std.specs.List.{slice_split, join_with_byte, prefix_len, suffix_len}
+use Rattle.b2_base.specs.declared.expand_fault.ExpandFault.{ExpandFault}
+use Rattle.jam_expand.specs.Limits.{Answer, and_then, within}
+use Rattle.jam_expand.specs.Expansions.{expansion}
+
+-- white space is the bytes 9 to 13 and 32
+abbrev pub is_white : ℕ → Bool
+is_white byte = is_in_range 9 13 byte || byte == 32
+
+-- The body's words: it is cut at each byte of white space. A word is empty where two of them meet.
+abbrev pub words : List ℕ → List (List ℕ)
+words = slice_split is_white
+
+-- the body's white space, in order
+abbrev pub spaces : List ℕ → List ℕ
+spaces = filter is_white
+
+-- texts with white space between them
+abbrev pub woven : List (List ℕ) → List ℕ → List ℕ
+woven [] spaces = []
+woven (text ∷ more) [] = text
+woven (text ∷ more) (space ∷ spaces) = text ++ space ∷ woven more spaces
+
+-- a text without the white space at its end
+abbrev pub without_end : List ℕ → List ℕ
+without_end text = take (length text - suffix_len is_white text) text
+
+-- a text without the white space at both ends
+abbrev pub trimmed : List ℕ → List ℕ
+trimmed text = without_end (drop (prefix_len is_white text) text)
+
+-- The texts of the words, behind those of earlier ones: each is its word's elements with one space between them. As a
+-- list they are within the limit, each time one is added.
+unfoldable pub body_texts : (List ℕ → List (List ℕ)) → List (List ℕ) → List (List ℕ) → Answer
+body_texts names texts [] = Ok texts
+body_texts names texts (word ∷ more) = and_then (expansion names word) (λ elements. and_then (within (texts ++ join_with_byte 32 elements ∷ [])) (λ longer. body_texts names longer more))
+
+-- what a body stands for: its white space stays, but for both ends of the result
+abbrev pub body_expansion : (List ℕ → List (List ℕ)) → List ℕ → Result (List ℕ) ExpandFault
+body_expansion names body = and_then (body_texts names [] (words body)) (λ texts. Ok (trimmed (woven texts (spaces body))))
