@@ -20,6 +20,7 @@ pub struct RealHost<'a, R: Disk + AllocGlobal + Processes> {
     jobs: Vec<Job>,
     processes: Vec<Child<R::Started>>,
     events: Vec<ChildEvent>,
+    lost: u64,
     ghost same_len: { vec_len processes ≡ vec_len jobs },
     ghost event_room: { vec_len events + vec_len jobs ≤ vec_capacity events },
 }
@@ -36,6 +37,7 @@ impl<'a, R: Disk + AllocGlobal + Processes> RealHost<'a, R> {
             jobs: Vec::new(rt.alloc()),
             processes: Vec::new(rt.alloc()),
             events: Vec::new(rt.alloc()),
+            lost: 0,
         }
     }
 
@@ -56,6 +58,8 @@ impl<R: Disk + AllocGlobal + Processes> Files for RealHost<'_, R> {
     ghost faults = { λ host. host.files.failed };
 
     ghost family = { λ host. record { running = map child_of host.jobs.items; events = host.events.items; given = None } };
+
+    ghost failed_waits = { λ host. host.lost };
 
     ghost kept = { λ files. tt };
 
@@ -99,7 +103,10 @@ impl<R: Disk + AllocGlobal + Processes> Children for RealHost<'_, R> {
     fn wait_one(&mut self) -> Result<(u32, bool), Failed> {
         let process = &mut self.processes[0];
         match process.wait() {
-            Err(_error) => Err(self.files.fail()),
+            Err(_error) => {
+                self.lost = self.lost.saturating_add(1);
+                Err(self.files.fail())
+            }
             Ok(status) => {
                 let _process = self.processes.remove(0);
                 let job = self.jobs.remove(0);

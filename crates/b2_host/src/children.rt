@@ -23,6 +23,7 @@ pub trait Children: Files {
     fn start(&mut self, step: u32, text: &str, ins: &[Path], outs: &[Path]) -> Result<(), IoFault>
         requires { MayStart (Self.family self.old).running ins.now outs.now }
         ensures faults { IoFaultTold (Self.faults self.old) (Self.faults self.new) result }
+        ensures waits { Self.failed_waits self.new ≡ Self.failed_waits self.old }
         ensures disk { Self.disk self.new ≡ Self.disk self.old }
         ensures started { OnOk result (Self.family self.new ≡ after_start step text.now ins.now outs.now (Self.disk self.old) (Self.family self.old)) }
         ensures none_started { OnErr result (Self.family self.new ≡ Self.family self.old) };
@@ -32,6 +33,7 @@ pub trait Children: Files {
     fn wait_one(&mut self) -> Result<(u32, bool), Failed>
         requires { (Self.family self.old).running ≢ [] }
         ensures faults { FaultTold (Self.faults self.old) (Self.faults self.new) result }
+        ensures waits { FaultTold (Self.failed_waits self.old) (Self.failed_waits self.new) result }
         ensures ended { IfOk result (λ done. Ends made (Self.family self.old) (Self.disk self.old) done.0 done.1 (Self.family self.new) (Self.disk self.new)) }
         ensures same_run { OnErr result (Self.family self.new ≡ Self.family self.old) }
         ensures worked { OnErr result (BothTold (WorkedOn (Self.family self.old).running) (Self.disk self.old) (Self.disk self.new)) };

@@ -32,11 +32,15 @@ pub trait Files {
     /// What there is of children. No call on files changes it.
     ghost family: { Self → Family };
 
+    /// How often a wait for a child failed. It never falls, and no call on files changes it.
+    ghost failed_waits: { Self → ℕ };
+
     /// The stamp of the file at a path, or None where no file stands.
     fn stat(&mut self, path: &Path) -> Result<Option<u64>, Failed>
         ensures faults { FaultTold (faults self.old) (faults self.new) result }
         ensures disk { disk self.new ≡ disk self.old }
         ensures family { family self.new ≡ family self.old }
+        ensures waits { failed_waits self.new ≡ failed_waits self.old }
         ensures told { IfOk result (λ stamp. IfSome (disk self.old) (λ before. StatTold path.now stamp before.now)) };
 
     /// The bytes of the file at a path, where it has no more than `most`.
@@ -44,12 +48,14 @@ pub trait Files {
         ensures faults { IoFaultTold (faults self.old) (faults self.new) result }
         ensures disk { disk self.new ≡ disk self.old }
         ensures family { family self.new ≡ family self.old }
+        ensures waits { failed_waits self.new ≡ failed_waits self.old }
         ensures told { IfOk result (λ answer. IfSome (disk self.old) (λ before. ReadTold path.now most answer before.now)) };
 
     /// Leaves no file at a path. Where none stands, it is Ok. After a failure the file stands or does not.
     fn remove(&mut self, path: &Path) -> Result<(), Failed>
         ensures faults { FaultTold (faults self.old) (faults self.new) result }
         ensures family { family self.new ≡ family self.old }
+        ensures waits { failed_waits self.new ≡ failed_waits self.old }
         ensures removed { OnOk result (disk self.new ≡ option_map (without path.now) (disk self.old)) }
         ensures failed { OnErr result ((disk self.new ≡ disk self.old) ⊎ (disk self.new ≡ option_map (without path.now) (disk self.old))) };
 

@@ -32,6 +32,7 @@ pub struct MemoryHost {
     fakes: Fakes,
     store: Store,
     crew: Crew,
+    lost: u64,
     ghost room: { vec_len store.past + crew.pending ≤ vec_capacity store.past },
     ghost known: { IsTrue (all_known store.places (promised crew.running.items)) },
 }
@@ -45,6 +46,7 @@ impl MemoryHost {
         ensures disk { IfOk result (λ host. ⟦<MemoryHost as Files>⟧.disk host ≡ Some blank) }
         ensures family { IfOk result (λ host. ⟦<MemoryHost as Files>⟧.family host ≡ no_family) }
         ensures faults { IfOk result (λ host. ⟦<MemoryHost as Files>⟧.faults host ≡ 0) }
+        ensures waits { IfOk result (λ host. ⟦<MemoryHost as Files>⟧.failed_waits host ≡ 0) }
         ensures calls { IfOk result (λ host. listed_calls host ≡ []) }
         ensures starts { IfOk result (λ host. listed_starts host ≡ []) }
     {
@@ -53,6 +55,7 @@ impl MemoryHost {
             fakes: Fakes::new(alloc),
             store: Store::new(alloc),
             crew: Crew::new(alloc),
+            lost: 0,
         })
     }
 
@@ -63,6 +66,7 @@ impl MemoryHost {
         ensures err { OnErr result (⟦<MemoryHost as Files>⟧.disk self.new ≡ ⟦<MemoryHost as Files>⟧.disk self.old) }
         ensures family { ⟦<MemoryHost as Files>⟧.family self.new ≡ ⟦<MemoryHost as Files>⟧.family self.old }
         ensures faults { ⟦<MemoryHost as Files>⟧.faults self.new ≡ ⟦<MemoryHost as Files>⟧.faults self.old }
+        ensures waits { ⟦<MemoryHost as Files>⟧.failed_waits self.new ≡ ⟦<MemoryHost as Files>⟧.failed_waits self.old }
         ensures calls { listed_calls self.new ≡ listed_calls self.old }
         ensures starts { listed_starts self.new ≡ listed_starts self.old }
     {
@@ -84,6 +88,7 @@ impl MemoryHost {
         ensures disk { ⟦<MemoryHost as Files>⟧.disk self.new ≡ ⟦<MemoryHost as Files>⟧.disk self.old }
         ensures family { ⟦<MemoryHost as Files>⟧.family self.new ≡ ⟦<MemoryHost as Files>⟧.family self.old }
         ensures faults { ⟦<MemoryHost as Files>⟧.faults self.new ≡ ⟦<MemoryHost as Files>⟧.faults self.old }
+        ensures waits { ⟦<MemoryHost as Files>⟧.failed_waits self.new ≡ ⟦<MemoryHost as Files>⟧.failed_waits self.old }
     {
         self.fakes.list_calls(calls)
     }
@@ -98,6 +103,7 @@ impl MemoryHost {
         ensures disk { ⟦<MemoryHost as Files>⟧.disk self.new ≡ ⟦<MemoryHost as Files>⟧.disk self.old }
         ensures family { ⟦<MemoryHost as Files>⟧.family self.new ≡ ⟦<MemoryHost as Files>⟧.family self.old }
         ensures faults { ⟦<MemoryHost as Files>⟧.faults self.new ≡ ⟦<MemoryHost as Files>⟧.faults self.old }
+        ensures waits { ⟦<MemoryHost as Files>⟧.failed_waits self.new ≡ ⟦<MemoryHost as Files>⟧.failed_waits self.old }
     {
         self.fakes.list_starts(starts)
     }
@@ -120,6 +126,7 @@ impl MemoryHost {
         ensures calls { listed_calls self.new ≡ listed_calls self.old }
         ensures starts { listed_starts self.new ≡ (if is_ok result then after_one (listed_starts self.old) else listed_starts self.old) }
         ensures faults { self.new.fakes.faults ≡ self.old.fakes.faults }
+        ensures waits { self.new.lost ≡ self.old.lost }
     {
         let pending = self.crew.pending_with(entries.len())?;
         let job = Rc::new(self.alloc, job)?;
@@ -145,8 +152,11 @@ impl Files for MemoryHost {
 
     ghost family = { told_family };
 
+    ghost failed_waits = { λ host. host.lost };
+
     fn stat(&mut self, path: &Path) -> Result<Option<u64>, Failed>
         ensures faults { FaultTold self.old.fakes.faults self.new.fakes.faults result }
+        ensures waits { self.new.lost ≡ self.old.lost }
         ensures disk { told_disk self.new ≡ told_disk self.old }
         ensures family { told_family self.new ≡ told_family self.old }
         ensures told { IfOk result (λ stamp. StatTold path.now stamp (told_disk self.old).now) }
@@ -161,6 +171,7 @@ impl Files for MemoryHost {
 
     fn read(&mut self, path: &Path, most: u64) -> Result<ReadAnswer, IoFault>
         ensures faults { IoFaultTold self.old.fakes.faults self.new.fakes.faults result }
+        ensures waits { self.new.lost ≡ self.old.lost }
         ensures disk { told_disk self.new ≡ told_disk self.old }
         ensures family { told_family self.new ≡ told_family self.old }
         ensures told { IfOk result (λ answer. ReadTold path.now most answer (told_disk self.old).now) }
@@ -176,6 +187,7 @@ impl Files for MemoryHost {
 
     fn remove(&mut self, path: &Path) -> Result<(), Failed>
         ensures faults { FaultTold self.old.fakes.faults self.new.fakes.faults result }
+        ensures waits { self.new.lost ≡ self.old.lost }
         ensures family { told_family self.new ≡ told_family self.old }
         ensures removed { OnOk result (told_disk self.new ≡ without path.now (told_disk self.old)) }
         ensures stays { OnErr result (told_disk self.new ≡ told_disk self.old) }
@@ -204,6 +216,7 @@ impl Children for MemoryHost {
     fn start(&mut self, step: u32, text: &str, ins: &[Path], outs: &[Path]) -> Result<(), IoFault>
         requires { MayStart (told_family self.old).running ins.now outs.now }
         ensures faults { IoFaultTold self.old.fakes.faults self.new.fakes.faults result }
+        ensures waits { self.new.lost ≡ self.old.lost }
         ensures disk { told_disk self.new ≡ told_disk self.old }
         ensures started { OnOk result (told_family self.new ≡ after_start step text.now ins.now outs.now (Some (told_disk self.old)) (told_family self.old)) }
         ensures none_started { OnErr result (told_family self.new ≡ told_family self.old) }
@@ -226,6 +239,7 @@ impl Children for MemoryHost {
     fn wait_one(&mut self) -> Result<(u32, bool), Failed>
         requires { (told_family self.old).running ≢ [] }
         ensures faults { FaultTold self.old.fakes.faults self.new.fakes.faults result }
+        ensures waits { FaultTold self.old.lost self.new.lost result }
         ensures ended { IfOk result (λ done. Ends made_of (told_family self.old) (Some (told_disk self.old)) done.0 done.1 (told_family self.new) (Some (told_disk self.new))) }
         ensures same_run { OnErr result (told_family self.new ≡ told_family self.old) }
         ensures worked { OnErr result (BothTold (WorkedOn (told_family self.old).running) (Some (told_disk self.old)) (Some (told_disk self.new))) }
@@ -237,6 +251,7 @@ impl Children for MemoryHost {
         ensures starts { listed_starts self.new ≡ listed_starts self.old }
     {
         if self.fakes.fails(CallKind::Wait) {
+            self.lost = self.lost.saturating_add(1);
             return Err(Failed);
         }
         let Running { job, well, entries } = self.crew.take_first();

@@ -65,6 +65,8 @@ impl Files for SilentHost {
 
     ghost family = { λ host. record { running = map child_of host.jobs.items; events = host.events.items; given = None } };
 
+    ghost failed_waits = { λ host. ⟦<MemoryHost as Files>⟧.failed_waits host.files };
+
     ghost kept = { λ files. tt };
 
     fn stat(&mut self, path: &Path) -> Result<Option<u64>, Failed> {

@@ -34,6 +34,7 @@ fn read_jamroot<F: Files>(alloc: Global, files: &mut F) -> Result<ReadAnswer, Lo
     ensures faults { LoadCounted (F.faults files.old) (F.faults files.new) result }
     ensures disk { F.disk files.new ≡ F.disk files.old }
     ensures family { F.family files.new ≡ F.family files.old }
+    ensures waits { F.failed_waits files.new ≡ F.failed_waits files.old }
     ensures told { IfOk result (λ answer. IfSome (F.disk files.old) (λ before. ReadTold jamroot 1048576 answer before.now)) }
     ensures unread { IfErr result IsUnread }
     ensures names { IfErr result EndNamesText }
@@ -77,6 +78,7 @@ pub fn load<F: Files>(alloc: Global, files: &mut F) -> Result<Plan, LoadEnd>
     ensures faults { LoadCounted (F.faults files.old) (F.faults files.new) result }
     ensures disk { F.disk files.new ≡ F.disk files.old }
     ensures family { F.family files.new ≡ F.family files.old }
+    ensures waits { F.failed_waits files.new ≡ F.failed_waits files.old }
     ensures plan { IfOk result (λ plan. IfSome (F.disk files.old) (λ before. HasPlan (jamroot_of before) plan.steps)) }
     ensures wanted { IfOk result (λ plan. plan.wanted ≡ outs_of plan.steps) }
     ensures roots { IfOk result (λ plan. plan.roots ≡ roots) }

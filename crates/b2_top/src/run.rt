@@ -35,7 +35,8 @@ fn build<H: Children, S: Sink>(alloc: Global, plan: &Plan, host: &mut H, out: &m
     requires wanted { plan.now.wanted ≡ outs_of plan.now.steps }
     requires roots { plan.now.roots ≡ roots }
     requires read { IfSome (H.disk host.old) (IsThePlan plan.now) }
-    ensures { IsAnswered H.made [] (H.family host.old) (H.family host.new) (H.disk host.old) (H.disk host.new) (H.faults host.old) (H.faults host.new) (S.faults out.old) (S.faults out.new) (S.written out.old) (S.written out.new) result }
+    ensures answered { IsAnswered H.made [] (H.family host.old) (H.family host.new) (H.disk host.old) (H.disk host.new) (H.faults host.old) (H.faults host.new) (S.faults out.old) (S.faults out.new) (S.written out.old) (S.written out.new) result }
+    ensures waited { ((H.family host.new).running ≡ []) ⊎ Rose (H.failed_waits host.old) (H.failed_waits host.new) }
 {
     match update(alloc, plan, host, out) {
         UpdateAnswer::Done => Answer::Ok,
@@ -49,7 +50,8 @@ fn build<H: Children, S: Sink>(alloc: Global, plan: &Plan, host: &mut H, out: &m
 /// Reads the project and builds it, or tells why not.
 fn answer<H: Children, S: Sink>(alloc: Global, words: &[Text], host: &mut H, out: &mut S) -> Answer
     requires { (H.family host.old).running ≡ [] }
-    ensures { IsAnswered H.made words.now (H.family host.old) (H.family host.new) (H.disk host.old) (H.disk host.new) (H.faults host.old) (H.faults host.new) (S.faults out.old) (S.faults out.new) (S.written out.old) (S.written out.new) result }
+    ensures answered { IsAnswered H.made words.now (H.family host.old) (H.family host.new) (H.disk host.old) (H.disk host.new) (H.faults host.old) (H.faults host.new) (S.faults out.old) (S.faults out.new) (S.written out.old) (S.written out.new) result }
+    ensures waited { ((H.family host.new).running ≡ []) ⊎ Rose (H.failed_waits host.old) (H.failed_waits host.new) }
 {
     if !words.is_empty() {
         return tell_usage(out);
@@ -96,8 +98,9 @@ pub fn run_b2<H: Children, S: Sink>(
     ensures reported { BothTold (λ before after. HasReported H.made words.now (S.faults out.old) (S.faults out.new) result (H.family host.old) (H.family host.new) (S.written out.old) (S.written out.new) before) (H.disk host.old) (H.disk host.new) }
     // The events are in turn, over every host: one step is open at a time, none starts twice, and each failed step was done.
     ensures turns { HasTurns (failed_in result) (H.family host.old).events (H.family host.new).events }
-    // No child is left, unless a wait failed.
-    ensures none_left { ((H.family host.new).running ≡ []) ⊎ Rose (H.faults host.old) (H.faults host.new) }
+    // No child is left, unless a wait failed, and then the host's count of faults rose.
+    ensures none_left { ((H.family host.new).running ≡ []) ⊎ Rose (H.failed_waits host.old) (H.failed_waits host.new) }
+    ensures left_counted { ((H.family host.new).running ≡ []) ⊎ Rose (H.faults host.old) (H.faults host.new) }
 {
     answer(alloc, words, host, out)
 }

@@ -26,6 +26,8 @@ pub fn write_line<S: Sink>(out: &mut S, line: &str) -> Result<(), Stop>
 fn drain<H: Children>(host: &mut H)
     requires { RunsOne (H.family host.old).running }
     ensures none_left { ((H.family host.new).running ≡ []) ⊎ Rose (H.faults host.old) (H.faults host.new) }
+    ensures waited { ((H.family host.new).running ≡ []) ⊎ Rose (H.failed_waits host.old) (H.failed_waits host.new) }
+    ensures waits { (H.failed_waits host.new ≡ H.failed_waits host.old) ⊎ Rose (H.failed_waits host.old) (H.failed_waits host.new) }
     ensures faults { (H.faults host.new ≡ H.faults host.old) ⊎ Rose (H.faults host.old) (H.faults host.new) }
     ensures quiet { IsQuietHost (H.faults host.old) (H.faults host.new) (H.family host.new).running }
     ensures drained { IsDrained H.made (H.family host.old) (H.disk host.old) (H.family host.new) (H.disk host.new) }
@@ -38,6 +40,8 @@ fn wait_child<H: Children>(host: &mut H) -> Result<bool, Stop>
     requires { RunsOne (H.family host.old).running }
     ensures faults { HostTold (H.faults host.old) (H.faults host.new) result }
     ensures none_left { OnErr result (((H.family host.new).running ≡ []) ⊎ Rose (H.faults host.old) (H.faults host.new)) }
+    ensures waited { OnErr result (((H.family host.new).running ≡ []) ⊎ Rose (H.failed_waits host.old) (H.failed_waits host.new)) }
+    ensures waits { OnOk result (H.failed_waits host.new ≡ H.failed_waits host.old) }
     ensures idle { OnOk result ((H.family host.new).running ≡ []) }
     ensures ended { IfOk result (λ well. ChildHasEnded H.made (H.family host.old) (H.disk host.old) well (H.family host.new) (H.disk host.new)) }
     ensures drained { OnErr result (IsDrained H.made (H.family host.old) (H.disk host.old) (H.family host.new) (H.disk host.new)) }
@@ -64,6 +68,8 @@ pub fn run_child<H: Children, S: Sink>(
     requires { (H.family host.old).running ≡ [] }
     ensures faults { CountsTold (H.faults host.old) (H.faults host.new) (H.family host.new).running (S.faults out.old) (S.faults out.new) result }
     ensures none_left { OnErr result (((H.family host.new).running ≡ []) ⊎ Rose (H.faults host.old) (H.faults host.new)) }
+    ensures waited { OnErr result (((H.family host.new).running ≡ []) ⊎ Rose (H.failed_waits host.old) (H.failed_waits host.new)) }
+    ensures waits { OnOk result (H.failed_waits host.new ≡ H.failed_waits host.old) }
     ensures idle { OnOk result ((H.family host.new).running ≡ []) }
     ensures untold { H.disk host.old ≡ None → H.disk host.new ≡ None }
     ensures ran { IfOk result (λ well. HasRunChild H.made number step.now ins.now line.now well (H.family host.old) (H.disk host.old) (S.written out.old) (H.family host.new) (H.disk host.new) (S.written out.new)) }

@@ -58,6 +58,7 @@ fn is_in_roots(roots: &[Path], path: &Path) -> bool
 fn is_source<H: Children>(plan: &Plan, host: &mut H, path: &Path) -> Result<bool, Stop>
     ensures faults { HostTold (H.faults host.old) (H.faults host.new) result }
     ensures family { H.family host.new ≡ H.family host.old }
+    ensures waits { H.failed_waits host.new ≡ H.failed_waits host.old }
     ensures disk { H.disk host.new ≡ H.disk host.old }
     ensures told { IfOk result (λ stands. IfSome (H.disk host.old) (λ before. IsTrue stands ↔ ((bytes : List ℕ) × IsSource (build_of plan.now.steps plan.now.wanted plan.now.roots H.made before.now) path.now bytes))) }
 {
@@ -72,6 +73,7 @@ fn is_source<H: Children>(plan: &Plan, host: &mut H, path: &Path) -> Result<bool
 fn is_missing<H: Children>(plan: &Plan, host: &mut H, path: &Path) -> Result<bool, Stop>
     ensures faults { HostTold (H.faults host.old) (H.faults host.new) result }
     ensures family { H.family host.new ≡ H.family host.old }
+    ensures waits { H.failed_waits host.new ≡ H.failed_waits host.old }
     ensures disk { H.disk host.new ≡ H.disk host.old }
     ensures told { IfOk result (λ missing. IfSome (H.disk host.old) (λ before. IsTrue missing ↔ IsMissing (build_of plan.now.steps plan.now.wanted plan.now.roots H.made before.now) path.now)) }
 {
@@ -102,6 +104,7 @@ fn missing_among<H: Children>(
     requires { AllPairs Before paths.now }
     ensures faults { HostTold (H.faults host.old) (H.faults host.new) result }
     ensures family { H.family host.new ≡ H.family host.old }
+    ensures waits { H.failed_waits host.new ≡ H.failed_waits host.old }
     ensures disk { H.disk host.new ≡ H.disk host.old }
     ensures rising { IfOk result (AllPairs Before) }
     ensures told { IfOk result (λ missing. IfSome (H.disk host.old) (λ before. (path : List ℕ) → Contains missing path ↔ (Contains paths.now path × IsMissing (build_of plan.now.steps plan.now.wanted plan.now.roots H.made before.now) path))) }
@@ -122,6 +125,7 @@ pub fn missing_inputs<H: Children>(
 ) -> Result<PathList, Stop>
     ensures faults { HostTold (H.faults host.old) (H.faults host.new) result }
     ensures family { H.family host.new ≡ H.family host.old }
+    ensures waits { H.failed_waits host.new ≡ H.failed_waits host.old }
     ensures disk { H.disk host.new ≡ H.disk host.old }
     ensures rising { IfOk result (AllPairs Before) }
     ensures told { IfOk result (λ missing. IfSome (H.disk host.old) (λ before. ArePathsOf (IsMissingInput (build_of plan.now.steps plan.now.wanted plan.now.roots H.made before.now)) missing)) }

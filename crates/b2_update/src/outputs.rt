@@ -14,6 +14,7 @@ use b2_host::children::Children;
 pub fn all_stand<H: Children>(host: &mut H, outs: &[Path]) -> Result<bool, Stop>
     ensures faults { HostTold (H.faults host.old) (H.faults host.new) result }
     ensures family { H.family host.new ≡ H.family host.old }
+    ensures waits { H.failed_waits host.new ≡ H.failed_waits host.old }
     ensures disk { H.disk host.new ≡ H.disk host.old }
     ensures told { IfOk result (λ all. IfSome (H.disk host.old) (λ before. IsTrue all ↔ ((path : List ℕ) → Contains outs.now path → before.now path ≢ None))) }
 {
@@ -29,6 +30,7 @@ pub fn all_stand<H: Children>(host: &mut H, outs: &[Path]) -> Result<bool, Stop>
 pub fn remove_all<H: Children>(host: &mut H, outs: &[Path]) -> Result<(), Stop>
     ensures faults { HostTold (H.faults host.old) (H.faults host.new) result }
     ensures family { H.family host.new ≡ H.family host.old }
+    ensures waits { H.failed_waits host.new ≡ H.failed_waits host.old }
     ensures others { BothTold (KeepsOthers outs.now) (H.disk host.old) (H.disk host.new) }
     ensures gone { OnOk result (IfSome (H.disk host.new) (AreGone outs.now)) }
 {

@@ -80,6 +80,7 @@ fn fail_step<H: Children, S: Sink>(
 ) -> Result<Outcome, Stop>
     ensures faults { CountsTold (H.faults host.old) (H.faults host.new) (H.family host.new).running (S.faults out.old) (S.faults out.new) result }
     ensures family { H.family host.new ≡ H.family host.old }
+    ensures waits { H.failed_waits host.new ≡ H.failed_waits host.old }
     ensures untold { H.disk host.old ≡ None → H.disk host.new ≡ None }
     ensures told { (u : Update) (old : Family) (text : Option (List ℕ)) (list : List Outcome) → IsWhole u → step_at u.build.steps (length list + 1) ≡ Some step.now → HasCome u old text list false (H.family host.old) (H.disk host.old) (S.written out.old) → GoesOn u old text list result (H.family host.new) (H.disk host.new) (S.written out.new) }
 {
@@ -93,6 +94,7 @@ fn fail_step<H: Children, S: Sink>(
 fn has_left<H: Children>(host: &mut H, outs: &[Path], well: bool) -> Result<bool, Stop>
     ensures faults { HostTold (H.faults host.old) (H.faults host.new) result }
     ensures family { H.family host.new ≡ H.family host.old }
+    ensures waits { H.failed_waits host.new ≡ H.failed_waits host.old }
     ensures disk { H.disk host.new ≡ H.disk host.old }
     ensures well { IfOk result (λ left. left ≡ true → well ≡ true) }
     ensures told { IfOk result (λ left. IfSome (H.disk host.old) (λ before. well ≡ true → ((path : List ℕ) → Contains outs.now path → before.now path ≢ None) → left ≡ true)) }
@@ -113,6 +115,7 @@ fn finish_step<H: Children, S: Sink>(
 ) -> Result<Outcome, Stop>
     ensures faults { CountsTold (H.faults host.old) (H.faults host.new) (H.family host.new).running (S.faults out.old) (S.faults out.new) result }
     ensures family { H.family host.new ≡ H.family host.old }
+    ensures waits { H.failed_waits host.new ≡ H.failed_waits host.old }
     ensures untold { H.disk host.old ≡ None → H.disk host.new ≡ None }
     ensures told { (u : Update) (old : Family) (text : Option (List ℕ)) (list : List Outcome) → IsWhole u → step_at u.build.steps (length list + 1) ≡ Some step.now → HasCome u old text list well (H.family host.old) (H.disk host.old) (S.written out.old) → GoesOn u old text list result (H.family host.new) (H.disk host.new) (S.written out.new) }
 {
@@ -134,6 +137,8 @@ fn start_step<H: Children, S: Sink>(
     requires idle { (H.family host.old).running ≡ [] }
     ensures faults { CountsTold (H.faults host.old) (H.faults host.new) (H.family host.new).running (S.faults out.old) (S.faults out.new) result }
     ensures none_left { OnErr result (((H.family host.new).running ≡ []) ⊎ Rose (H.faults host.old) (H.faults host.new)) }
+    ensures waited { OnErr result (((H.family host.new).running ≡ []) ⊎ Rose (H.failed_waits host.old) (H.failed_waits host.new)) }
+    ensures waits { OnOk result (H.failed_waits host.new ≡ H.failed_waits host.old) }
     ensures idle { OnOk result ((H.family host.new).running ≡ []) }
     ensures untold { H.disk host.old ≡ None → H.disk host.new ≡ None }
     ensures turns { (list : List Outcome) (old : List ChildEvent) → number ≡ length list + 1 → HadTurns list old (H.family host.old).events → TurnsOn list old (H.family host.new).events result }
@@ -161,6 +166,8 @@ pub fn run_step<H: Children, S: Sink>(
     requires few { length outcomes.now < 65536 }
     ensures faults { CountsTold (H.faults host.old) (H.faults host.new) (H.family host.new).running (S.faults out.old) (S.faults out.new) result }
     ensures none_left { OnErr result (((H.family host.new).running ≡ []) ⊎ Rose (H.faults host.old) (H.faults host.new)) }
+    ensures waited { OnErr result (((H.family host.new).running ≡ []) ⊎ Rose (H.failed_waits host.old) (H.failed_waits host.new)) }
+    ensures waits { OnOk result (H.failed_waits host.new ≡ H.failed_waits host.old) }
     ensures idle { OnOk result ((H.family host.new).running ≡ []) }
     ensures untold { H.disk host.old ≡ None → H.disk host.new ≡ None }
     ensures turns { (old : List ChildEvent) → HadTurns outcomes.now old (H.family host.old).events → TurnsOn outcomes.now old (H.family host.new).events result }

@@ -39,6 +39,7 @@ fn run_steps<H: Children, S: Sink>(
     requires rising { AllPairs Before missing.now }
     ensures faults { CountsTold (H.faults host.old) (H.faults host.new) (H.family host.new).running (S.faults out.old) (S.faults out.new) result }
     ensures none_left { OnErr result (((H.family host.new).running ≡ []) ⊎ Rose (H.faults host.old) (H.faults host.new)) }
+    ensures waited { OnErr result (((H.family host.new).running ≡ []) ⊎ Rose (H.failed_waits host.old) (H.failed_waits host.new)) }
     ensures idle { OnOk result ((H.family host.new).running ≡ []) }
     ensures untold { H.disk host.old ≡ None → H.disk host.new ≡ None }
     ensures whole { IfOk result (λ outcomes. length outcomes.items ≡ length plan.now.steps) }
@@ -66,6 +67,7 @@ fn run_plan<H: Children, S: Sink>(
     requires plain { IsPlain plan.now.steps plan.now.wanted }
     ensures faults { CountsTold (H.faults host.old) (H.faults host.new) (H.family host.new).running (S.faults out.old) (S.faults out.new) result }
     ensures none_left { ((H.family host.new).running ≡ []) ⊎ Rose (H.faults host.old) (H.faults host.new) }
+    ensures waited { ((H.family host.new).running ≡ []) ⊎ Rose (H.failed_waits host.old) (H.failed_waits host.new) }
     ensures untold { H.disk host.old ≡ None → H.disk host.new ≡ None }
     ensures turns { MatchResult result (λ lists. HasTurns lists.failed (H.family host.old).events (H.family host.new).events) (λ stop. HasTurns [] (H.family host.old).events (H.family host.new).events) }
     ensures told { (before : Disk) → H.disk host.old ≡ Some before → MatchResult result (λ lists. HasFinished (update_of plan.now.steps plan.now.wanted plan.now.roots H.made before.now) (H.family host.old) (S.written out.old) lists (H.family host.new) (H.disk host.new) (S.written out.new)) (λ stop. Stopped (update_of plan.now.steps plan.now.wanted plan.now.roots H.made before.now) (H.family host.old) (S.written out.old) stop (H.family host.new) (H.disk host.new) (S.written out.new)) }
@@ -114,8 +116,9 @@ pub fn update<H: Children, S: Sink>(
     requires plain { IsPlain plan.now.steps plan.now.wanted }
 
     ensures faults { FaultsTold (H.faults host.old) (H.faults host.new) (H.family host.new).running (S.faults out.old) (S.faults out.new) result }
-    // No child is left, unless a wait failed.
+    // No child is left, unless a wait failed, and then the host's count of faults rose.
     ensures none_left { ((H.family host.new).running ≡ []) ⊎ Rose (H.faults host.old) (H.faults host.new) }
+    ensures waited { ((H.family host.new).running ≡ []) ⊎ Rose (H.failed_waits host.old) (H.failed_waits host.new) }
     // The events are in turn, over every host: one step is open at a time, none starts twice, and each failed step was done.
     ensures turns { HasTurns (failed_of result) (H.family host.old).events (H.family host.new).events }
     ensures updated { BothTold (λ before after. HasUpdated (update_all (build_of plan.now.steps plan.now.wanted plan.now.roots H.made before.now)) (H.family host.old) (H.family host.new) result before after) (H.disk host.old) (H.disk host.new) }

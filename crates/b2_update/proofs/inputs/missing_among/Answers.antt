@@ -20,6 +20,7 @@ loop-path-preserved g c =
     let e : c.add_missing.new.missing ≡ cond lacks (missing ++ get_or paths i d ∷ []) missing = subst (λ p. c.add_missing.new.missing ≡ cond lacks (missing ++ p ∷ []) missing) c.path-item.is c.in_ok-add_missing.ensures in
     record {
       faults = c.in_ok-lacks.ensures.faults ∙ inv.faults;
+      waits = c.in_ok-lacks.ensures.waits ∙ inv.waits;
       family = c.in_ok-lacks.ensures.family ∙ inv.family;
       disk = c.in_ok-lacks.ensures.disk ∙ inv.disk;
       rising = rising_next paths missing c.add_missing.new.missing i d lacks c.loop-path-test.true e c.requires inv.rising inv.within;

@@ -8,6 +8,7 @@ use Rattle.b2_update.proofs.inputs.missing_among.Given as goal
 abbrev pub invariant-loop-path : goal.invariant-loop-path
 invariant-loop-path g l = record {
   faults : g.H.Files.faults l.host ≡ g.H.Files.faults l.fn.host;
+  waits : g.H.Files.failed_waits l.host ≡ g.H.Files.failed_waits l.fn.host;
   family : g.H.Files.family l.host ≡ g.H.Files.family l.fn.host;
   disk : g.H.Files.disk l.host ≡ g.H.Files.disk l.fn.host;
   rising : AllPairs Before l.missing;

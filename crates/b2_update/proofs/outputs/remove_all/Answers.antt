@@ -25,6 +25,7 @@ loop-out-preserved g c =
     let e : z ≡ option_map (without (get_or outs i d)) y = subst (λ p. z ≡ option_map (without p) y) c.out-item.is c.in_ok-remove.ensures.removed in
     record {
       faults = c.in_ok-remove.ensures.faults ∙ c.loop-out.invariant.faults;
+      waits = c.in_ok-remove.ensures.waits ∙ c.loop-out.invariant.waits;
       family = c.in_ok-remove.ensures.family ∙ c.loop-out.invariant.family;
       others = kept_more outs i d x y z c.loop-out-test.true c.loop-out.invariant.others (inr e);
       gone = gone_more outs i d y z c.loop-out-test.true c.loop-out.invariant.gone e;

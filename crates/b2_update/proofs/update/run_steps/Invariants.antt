@@ -11,6 +11,7 @@ abbrev pub invariant-loop-step : goal.invariant-loop-step
 invariant-loop-step g l = record {
   host : g.H.Files.faults l.host ≡ g.H.Files.faults l.fn.host;
   sink : g.S.Sink.faults l.out ≡ g.S.Sink.faults l.fn.out;
+  waits : g.H.Files.failed_waits l.host ≡ g.H.Files.failed_waits l.fn.host;
   idle : (g.H.Files.family l.host).running ≡ [];
   untold : g.H.Files.disk l.fn.host ≡ None → g.H.Files.disk l.host ≡ None;
   size : length l.outcomes.items ≡ l.step-index;
