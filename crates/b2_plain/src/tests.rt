@@ -194,7 +194,7 @@ fn what_is_clean(rt: HostRuntime) -> Result<(), Fail> {
             ("bin/gcc/debug/s.o", &["bin/gcc/debug/s.cpp"]),
         ],
         files: &[("g.in", 1, "g\n"), ("s.in", 2, "#include \"g.h\"\n")],
-        includes: &[("bin/gcc/debug/s.cpp", &["g.h", "bin/gcc/debug/g.h"])],
+        includes: &[("bin/gcc/debug/s.cpp", &["bin/gcc/debug/g.h"])],
     };
     check_clean(
         &rt,
