@@ -10,5 +10,5 @@ ended = subprocess.run(program, stdout=subprocess.PIPE)
 seconds = time.time() - begin
 memory = resource.getrusage(resource.RUSAGE_CHILDREN).ru_maxrss // 1024
 lines = ended.stdout.decode(errors="replace").splitlines()
-last = lines[-1] if lines else ""
+last = lines[-1][:60] if lines else ""
 print(f"{label}: {seconds:.2f} s, at most {memory} MiB, status {ended.returncode}, {last}")

@@ -1,5 +1,5 @@
 //! Runs one part of the language on a file and tells what came of it, for the scripts of bench/. The words are the part
-//! (`tree`, `print`, `word` or `log`) and the file.
+//! (`tree`, `print`, `word`, `body` or `log`) and the file.
 #![tactic(auto)]
 
 mod constant;

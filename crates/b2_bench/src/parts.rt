@@ -5,6 +5,7 @@ use b2_base::fault::OutOfMemory;
 use b2_base::text::has_no_zero;
 use b2_base::token::Token;
 use b2_log::log::read_log;
+use jam_expand::body::expand_body;
 use jam_expand::expand::expand;
 use jam_grammar::tree::Tree;
 use jam_lexer::lex;
@@ -49,9 +50,11 @@ fn tree_told(alloc: Global, bytes: &[u8]) -> Result<String, OutOfMemory> {
     }
 }
 
+/// The printed text without its last line feed.
 fn printed_line(alloc: Global, tree: &Tree) -> Result<String, OutOfMemory> {
-    let count = print(alloc, tree)?.len();
-    Ok(format!(in alloc; "{count} bytes")?)
+    let bytes = print(alloc, tree)?;
+    let text = String::from_utf8_lossy(alloc, bytes.as_slice())?;
+    Ok(String::from_str(alloc, text.as_str().trim_end())?)
 }
 
 fn printed_told(alloc: Global, bytes: &[u8]) -> Result<String, OutOfMemory> {
@@ -70,6 +73,17 @@ fn word_told(alloc: Global, text: &str) -> Result<String, OutOfMemory> {
         Ok(texts) => {
             let count = texts.as_slice().len();
             Ok(format!(in alloc; "{count} elements")?)
+        }
+        Err(_fault) => Ok(String::from_str(alloc, "no expansion")?),
+    }
+}
+
+fn body_told(alloc: Global, text: &str) -> Result<String, OutOfMemory> {
+    let names = Constant::new(alloc, 2)?;
+    match expand_body(alloc, text, &names) {
+        Ok(text) => {
+            let count = text.as_str().len();
+            Ok(format!(in alloc; "{count} bytes")?)
         }
         Err(_fault) => Ok(String::from_str(alloc, "no expansion")?),
     }
@@ -97,6 +111,7 @@ pub fn told(alloc: Global, part: &str, bytes: &[u8]) -> Result<String, OutOfMemo
             }
             match part {
                 "word" => word_told(alloc, text),
+                "body" => body_told(alloc, text),
                 _ => Ok(String::from_str(alloc, "no such part")?),
             }
         }
