@@ -1,4 +1,5 @@
 //! What each part answers.
+ghost use Rattle.b2_base.specs.Bytes.{HasNoZero};
 
 use crate::constant::Constant;
 use b2_base::fault::OutOfMemory;
@@ -67,7 +68,9 @@ fn printed_told(alloc: Global, bytes: &[u8]) -> Result<String, OutOfMemory> {
     }
 }
 
-fn word_told(alloc: Global, text: &str) -> Result<String, OutOfMemory> {
+fn word_told(alloc: Global, text: &str) -> Result<String, OutOfMemory>
+    requires { HasNoZero text.now }
+{
     let names = Constant::new(alloc, NAMED)?;
     match expand(alloc, text, &names) {
         Ok(texts) => {
@@ -78,7 +81,9 @@ fn word_told(alloc: Global, text: &str) -> Result<String, OutOfMemory> {
     }
 }
 
-fn body_told(alloc: Global, text: &str) -> Result<String, OutOfMemory> {
+fn body_told(alloc: Global, text: &str) -> Result<String, OutOfMemory>
+    requires { HasNoZero text.now }
+{
     let names = Constant::new(alloc, 2)?;
     match expand_body(alloc, text, &names) {
         Ok(text) => {
