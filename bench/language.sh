@@ -20,7 +20,7 @@ repeat() {
 }
 
 for size in 131072 1048576; do
-    repeat '{' $size > text
+    repeat '{ ' $((size / 2)) > text
     part "$size bytes of {" tree text
     repeat '[ ' $((size / 2)) > text
     part "$size bytes of [" tree text
