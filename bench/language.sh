@@ -28,6 +28,17 @@ for size in 131072 1048576; do
     part "$size bytes of words" tree text
     { echo 'if a { }'; repeat 'else if a { } ' $((size / 14 - 1)); } > text
     part "$size bytes of else if" tree text
+    { printf 'if a'; repeat ' || a' $((size / 5 - 2)); printf ' { }'; } > text
+    part "$size bytes of ||" tree text
+    { repeat '[ a ] ' $((size / 6 - 1)); printf ';'; } > text
+    part "$size bytes of [ a ]" tree text
+    { printf 'switch a { '; repeat 'case b : ' $((size / 9 - 2)); printf '}'; } > text
+    part "$size bytes of cases" tree text
+    { printf 'rule r ( '; repeat 'a ' $((size / 2 - 10)); printf ') { }'; } > text
+    part "$size bytes of parameters" tree text
+    deep=$(repeat '{ ' 60)$(repeat '} ' 60)
+    repeat "$deep" $((size / 240)) > text
+    part "$size bytes of braces within braces" tree text
     repeat 'X = a b c ; ' $((size / 12)) > text
     part "$size bytes of assignments, read" tree text
     part "$size bytes of assignments, read and printed" print text
