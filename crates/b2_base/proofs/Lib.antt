@@ -3,3 +3,5 @@ pub mod Joins
 pub mod Shapes
 pub mod Stays
 pub mod Under
+pub mod Steps
+pub mod Ends

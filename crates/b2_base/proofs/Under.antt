@@ -16,9 +16,9 @@ use Rattle.b2_base.proofs.Stays.{cut_joined, not_rooted, whole_dots, dot_is_no_s
 -- ---- the parts of a normal form
 
 -- a segment that a normal form has: neither empty nor `.`, with no slash
-record IsPart (segment : List ℕ) : Type 0 where
-  shown : is_dropped segment ≡ false
-  whole : IsWhole segment
+pub record IsPart (segment : List ℕ) : Type 0 where
+  pub shown : is_dropped segment ≡ false
+  pub whole : IsWhole segment
 
 -- the root or not, and then parts
 record Cut (text : List ℕ) : Type 0 where
@@ -31,7 +31,7 @@ names_are : (names : List (List ℕ)) → AllByRecursion IsName names → AllByR
 names_are [] a = tt
 names_are (n ∷ names) a = (record { shown = a.0.shown; whole = a.0.whole }, names_are names a.1)
 
-all_are : (ups : ℕ) (names : List (List ℕ)) → AllByRecursion IsName names → AllByRecursion IsPart (replicate ups two_dots ++ names)
+pub all_are : (ups : ℕ) (names : List (List ℕ)) → AllByRecursion IsName names → AllByRecursion IsPart (replicate ups two_dots ++ names)
 all_are zero names a = names_are names a
 all_are (suc n) names a = (record { shown = refl; whole = whole_dots }, all_are n names a)
 
@@ -46,13 +46,13 @@ all_shown : (found : List (List ℕ)) → AllByRecursion IsPart found → filter
 all_shown [] a = refl
 all_shown (s ∷ found) a = ap (λ d. cond (not d) (s ∷ filter (λ s. not (is_dropped s)) found) (filter (λ s. not (is_dropped s)) found)) a.0.shown ∙ ap (λ r. s ∷ r) (all_shown found a.1)
 
-parts_written : (rooted : Bool) (found : List (List ℕ)) → AllByRecursion IsPart found → parts (written rooted found) ≡ found
+pub parts_written : (rooted : Bool) (found : List (List ℕ)) → AllByRecursion IsPart found → parts (written rooted found) ≡ found
 parts_written true [] a = refl
 parts_written false [] a = refl
 parts_written true (s ∷ found) a = ap (filter (λ s. not (is_dropped s))) (cut_joined s found a.0.whole (wholes found a.1)) ∙ all_shown (s ∷ found) a
 parts_written false (s ∷ found) a = ap (filter (λ s. not (is_dropped s))) (cut_joined s found a.0.whole (wholes found a.1)) ∙ all_shown (s ∷ found) a
 
-rooted_written : (rooted : Bool) (found : List (List ℕ)) → AllByRecursion IsPart found → is_rooted (written rooted found) ≡ rooted
+pub rooted_written : (rooted : Bool) (found : List (List ℕ)) → AllByRecursion IsPart found → is_rooted (written rooted found) ≡ rooted
 rooted_written true found a = refl
 rooted_written false [] a = refl
 rooted_written false ([] ∷ found) a = absurd (true≢false a.0.shown)
@@ -65,7 +65,7 @@ rooted_cut : (text : List ℕ) (n : Cut text) → is_rooted text ≡ n.rooted
 rooted_cut text n = ap is_rooted n.text_is ∙ rooted_written n.rooted n.found n.each
 
 -- the text is its root and parts again
-cut_is : (text : List ℕ) → IsNormal text → text ≡ written (is_rooted text) (parts text)
+pub cut_is : (text : List ℕ) → IsNormal text → text ≡ written (is_rooted text) (parts text)
 cut_is text n =
     let m = cut_normal text n in
     m.text_is ∙ ap (λ r. written r m.found) (sym (rooted_cut text m)) ∙ ap (written (is_rooted text)) (sym (parts_cut text m))

@@ -1,8 +1,9 @@
 //! Paths in normal form.
-ghost use Rattle.std.specs.Prelude.{◌≡◌, ◌↔◌, [], IfOk, IsErrOf, IsTrue, string_bytes};
+ghost use Rattle.std.specs.Prelude.{◌≡◌, ◌↔◌, ℕ, List, [], IfOk, IsErrOf, IsTrue, string_bytes};
 ghost use Rattle.b2_base.specs.Bytes.{HasNoZero};
-ghost use Rattle.b2_base.specs.Segments.{normal_of};
-ghost use Rattle.b2_base.specs.Normal.{IsNormal, IsUnder};
+ghost use Rattle.b2_base.specs.Segments.{normal_of, is_rooted, segments};
+ghost use Rattle.b2_base.specs.Normal.{IsNormal, IsUnder, parts};
+ghost use Rattle.b2_base.specs.Simpler.{Reaches, IsSimplest};
 
 use crate::fault::OutOfMemory;
 use crate::segments::{cut, is_below, is_rooted_text, join, keep};
@@ -68,9 +69,17 @@ impl Path {
     /// The normal form of a text: empty segments and `.` are dropped, and a segment before `..` with it. A leading `..`
     /// stays, but for one at the root. What is left of nothing is `.`, or `/` at the root. `Empty` is answered exactly
     /// for the empty text, `Nul` exactly where a zero byte stands.
+    ///
+    /// Said by single steps: the path begins at the root where the text does. One step of simplification after another
+    /// leads from the text's segments to the path's. No step leads on from these, and whichever steps are taken, they
+    /// end in no other list.
     pub fn normal(alloc: Global, text: &str) -> Result<Path, PathFault>
         ensures exact { IfOk result (λ path. path ≡ normal_of text.now) }
         ensures normal { IfOk result IsNormal }
+        ensures root { IfOk result (λ path. is_rooted path ≡ is_rooted text.now) }
+        ensures reached { IfOk result (λ path. Reaches (is_rooted text.now) (segments text.now) (parts path)) }
+        ensures simplest { IfOk result (λ path. IsSimplest (is_rooted path) (parts path)) }
+        ensures only { IfOk result (λ path. (found : List (List ℕ)) → Reaches (is_rooted text.now) (segments text.now) found → IsSimplest (is_rooted text.now) found → found ≡ parts path) }
         ensures empty { IsErrOf result PathFault.Empty ↔ (text.now ≡ []) }
         ensures nul { IsErrOf result PathFault.Nul ↔ ¬ HasNoZero text.now }
         ensures no_zero { IfOk result (λ _. HasNoZero text.now) }

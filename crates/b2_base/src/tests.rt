@@ -1,7 +1,7 @@
 //! Worked cases, and each public function once.
 use crate::expand_fault::ExpandFault;
 use crate::fault::OutOfMemory;
-use crate::laws::normal_stays;
+use crate::laws::{normal_is_simplest, normal_is_the_end, normal_stays, one_end, one_normal_text};
 use crate::path::{Path, PathFault};
 use crate::path_list::{PathList, copy_paths};
 use crate::text::{Text, has_no_zero};
@@ -32,6 +32,15 @@ fn normal_forms(rt: HostRuntime) -> Result<(), Fail> {
     assert!(rt; matches!(Path::normal(rt.alloc(), ""), Err(PathFault::Empty)));
     assert!(rt; matches!(Path::normal(rt.alloc(), "a\0b"), Err(PathFault::Nul)));
     normal_stays();
+    Ok(())
+}
+
+#[test]
+fn laws_of_normal_forms(_rt: HostRuntime) -> Result<(), Fail> {
+    one_normal_text();
+    one_end();
+    normal_is_simplest();
+    normal_is_the_end();
     Ok(())
 }
 

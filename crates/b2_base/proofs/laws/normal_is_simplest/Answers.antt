@@ -1,0 +1,5 @@
+use Rattle.b2_base.proofs.Ends.{normal_is_simplest}
+use Rattle.b2_base.proofs.laws.normal_is_simplest.Goals as goal
+
+pub returns : goal.returns
+returns c = normal_is_simplest

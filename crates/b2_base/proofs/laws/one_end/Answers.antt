@@ -1,0 +1,8 @@
+use Rattle.b2_base.proofs.Steps.{step_shortens, one_end}
+use Rattle.b2_base.proofs.laws.one_end.Goals as goal
+
+pub returns-clause-ends : goal.returns-clause-ends
+returns-clause-ends c = step_shortens
+
+pub returns-clause-one : goal.returns-clause-one
+returns-clause-one c = one_end
