@@ -5,3 +5,5 @@ pub mod KnownLemmas
 pub mod MadeLemmas
 pub mod WriteLemmas
 pub mod CrewLemmas
+mod OrderLemmas
+mod ResultLemmas

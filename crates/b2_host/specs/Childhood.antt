@@ -1,9 +1,9 @@
-use Rattle.std.specs.Prelude.{◌≡◌, ◌≢◌, ℕ, ◌<◌, List, [], ◌∷◌, ◌++◌, Bool, true, Option, Some, None, remove, slice_get, ⊤}
+use Rattle.std.specs.Prelude.{◌≡◌, ℕ, ◌<◌, List, [], ◌∷◌, ◌++◌, Bool, true, Option, Some, None, remove, slice_get, ⊤}
 use Rattle.std.specs.Option.{option_map}
 use Rattle.std.specs.List.{Contains, filter_map}
 use Rattle.b2_host.specs.declared.children.ChildEvent.{ChildEvent}
 use Rattle.b2_host.specs.declared.children.ChildEvent.TheVariants as events
-use Rattle.b2_host.specs.Standing.{File, Folder, Disk, Past, Stood}
+use Rattle.b2_host.specs.Standing.{File, Folder, Disk, Past}
 
 -- What a child was given at its start: the bytes are those of its inputs that stood then, in the order of the inputs.
 pub record Given : Type 0 where

@@ -11,3 +11,4 @@ pub mod Jobs
 pub mod Runnings
 pub mod Hosts
 pub mod Sinks
+pub mod ResultLaws

@@ -1,6 +1,8 @@
 use Rattle.std.specs.Prelude.{ℕ, ◌/◌, ◌%◌, ◌==◌, nat_le, Bool, false, not, ◌&&◌, ◌||◌, List, [], ◌∷◌, ◌++◌, codes, length, filter, fold, take_while, if◌then◌else◌}
 use Rattle.std.specs.List.{flat_map, slice_split}
 use Rattle.std.specs.Str.{bytes_eq}
+use Rattle.std.specs.Ordering.{is_lt, nat_cmp}
+use Rattle.std.specs.Cmp.Lexicographic.{slice_cmp}
 use Rattle.std.specs.Fmt.{decimal, digit_glyph}
 use Rattle.sha2.specs.Sha256.{sha256}
 
@@ -24,9 +26,19 @@ joined held names = flat_map (bytes_named held) (take_while (λ name. not (bytes
 abbrev pub input_text : List ℕ × List ℕ → List ℕ
 input_text input = input.0 ++ (10 ∷ (decimal (length input.1) ++ (10 ∷ input.1)))
 
--- what is digested: the output's path and the text, each ended by a line feed, and the inputs in the order in which they were handed over
+-- an input put before the first whose path is not below its own
+abbrev pub put_by_path : List ℕ × List ℕ → List (List ℕ × List ℕ) → List (List ℕ × List ℕ)
+put_by_path input [] = input ∷ []
+put_by_path input (first ∷ more) = if is_lt (slice_cmp nat_cmp first.0 input.0) then first ∷ put_by_path input more else input ∷ first ∷ more
+
+-- the inputs in byte order of their paths; those that have one path keep their order
+abbrev pub by_path : List (List ℕ × List ℕ) → List (List ℕ × List ℕ)
+by_path [] = []
+by_path (input ∷ more) = put_by_path input (by_path more)
+
+-- what is digested: the output's path and the text, each ended by a line feed, and the inputs in byte order of their paths
 abbrev pub whole_text : List ℕ → List (List ℕ × List ℕ) → List ℕ → List ℕ
-whole_text text held out = out ++ (10 ∷ (text ++ (10 ∷ flat_map input_text held)))
+whole_text text held out = out ++ (10 ∷ (text ++ (10 ∷ flat_map input_text (by_path held))))
 
 -- two lower-case hexadecimal digits for each byte
 abbrev pub hexadecimal : List ℕ → List ℕ

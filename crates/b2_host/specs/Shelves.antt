@@ -1,4 +1,5 @@
 use Rattle.std.specs.Prelude.{◌≡◌, ℕ, ◌+◌, Bool, is_some, List, [], ◌∷◌, slice_get, Option, Some, None, unwrap_or, option_and_then}
+use Rattle.std.specs.Borrow.{Bor}
 use Rattle.std.specs.Option.{option_map}
 use Rattle.std.specs.List.{list_all}
 use Rattle.std.specs.Ordering.{nat_cmp}
@@ -27,6 +28,10 @@ entry_path entry = entry.path
 -- an entry as a write
 abbrev pub write_of : Entry → List ℕ × List ℕ
 write_of entry = (entry.path, entry.bytes.items)
+
+-- the same of an entry that is referred to
+abbrev pub input_of : Bor Entry → List ℕ × List ℕ
+input_of entry = write_of entry.now
 
 -- the entry at a place as a file: its stamp counts from 1
 abbrev pub file_of : ℕ → Entry → File

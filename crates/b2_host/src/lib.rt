@@ -12,6 +12,7 @@ mod made;
 pub mod memory;
 pub mod memory_sink;
 mod places;
+pub mod result_laws;
 mod running;
 pub mod sink;
 mod store;

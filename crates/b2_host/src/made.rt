@@ -1,9 +1,10 @@
 //! What a child in memory makes.
 ghost use Rattle.std.specs.Prelude.{◌≡◌, ℕ, List, [], ◌∷◌, ◌++◌, map, IfOk, OnOk, string_bytes};
+ghost use Rattle.std.specs.List.{flat_map};
 ghost use Rattle.b2_base.specs.Segments.{texts};
-ghost use Rattle.b2_host.specs.Results.{is_space, words_of, bytes_named, joined, hexadecimal, digest_line, input_text, whole_text, made_by, made_of};
+ghost use Rattle.b2_host.specs.Results.{is_space, words_of, bytes_named, joined, hexadecimal, digest_line, input_text, by_path, whole_text, made_by, made_of};
 ghost use Rattle.b2_host.specs.Found.{bytes_found};
-ghost use Rattle.b2_host.specs.Shelves.{write_of};
+ghost use Rattle.b2_host.specs.Shelves.{write_of, input_of};
 
 use crate::entry::Entry;
 use b2_base::fault::OutOfMemory;
@@ -77,18 +78,35 @@ fn digest(alloc: Global, text: &str, held: &[Entry], out: &Path) -> Result<Vec<u
     Ok(line)
 }
 
+/// The inputs in byte order of their paths.
+fn sorted<'a>(alloc: Global, held: &'a [Entry]) -> Result<Vec<&'a Entry>, OutOfMemory>
+    ensures { IfOk result (λ inputs. map input_of inputs.items ≡ by_path (map write_of held.now)) }
+{
+    let mut inputs: Vec<&Entry> = held.iter().collect(alloc)?;
+    inputs.sort_by(|one, other| one.path.cmp(&other.path))?;
+    Ok(inputs)
+}
+
+fn add_inputs(alloc: Global, bytes: &mut Vec<u8>, inputs: &[&Entry]) -> Result<(), OutOfMemory>
+    ensures { OnOk result (bytes.new.items ≡ bytes.old.items ++ flat_map input_text (map input_of inputs.now)) }
+{
+    for input in inputs {
+        add_input(alloc, bytes, input)?;
+    }
+    Ok(())
+}
+
 /// What is digested.
 fn whole(alloc: Global, text: &str, held: &[Entry], out: &Path) -> Result<Vec<u8>, OutOfMemory>
     ensures { IfOk result (λ bytes. bytes.items ≡ whole_text text.now (map write_of held.now) out.now) }
 {
+    let inputs = sorted(alloc, held)?;
     let mut bytes = Vec::new(alloc);
     bytes.extend_from_slice(out.as_str().as_bytes())?;
     bytes.push(b'\n')?;
     bytes.extend_from_slice(text.as_bytes())?;
     bytes.push(b'\n')?;
-    for input in held {
-        add_input(alloc, &mut bytes, input)?;
-    }
+    add_inputs(alloc, &mut bytes, inputs.as_slice())?;
     Ok(bytes)
 }
 

@@ -5,6 +5,7 @@ use crate::children::{ChildEvent, Children};
 use crate::files::{Files, ReadAnswer};
 use crate::memory::{CallKind, MemoryHost};
 use crate::memory_sink::MemorySink;
+use crate::result_laws::order_is_free;
 use crate::sink::Sink;
 use b2_base::path::Path;
 use std::alloc::Global;
@@ -60,6 +61,29 @@ fn a_child_joins_or_digests(rt: HostRuntime) -> Result<(), Fail> {
     for (text, left) in rows {
         let bytes = left_by(rt.alloc(), text)?;
         assert_eq!(rt; bytes.as_slice(), left.as_bytes());
+    }
+    Ok(())
+}
+
+/// What a child that reads two of the files `a` and `B` leaves at `bin/o`.
+fn left_by_two(alloc: Global, first: &str, second: &str) -> Result<Vec<u8>, Fail> {
+    let mut host = host_with_a(alloc)?;
+    let path = Path::normal(alloc, "B")?;
+    host.edit(&path, Some(b"yz".as_slice()))?;
+    let ins = [Path::normal(alloc, first)?, Path::normal(alloc, second)?];
+    let outs = [Path::normal(alloc, "bin/o")?];
+    host.start(7, "echo hi", ins.as_slice(), outs.as_slice())?;
+    host.wait_one()?;
+    bytes_at(alloc, &mut host, "bin/o")
+}
+
+#[test]
+fn a_digest_takes_inputs_in_byte_order(rt: HostRuntime) -> Result<(), Fail> {
+    order_is_free();
+    let line = "582e90e7a61df0f92aa414e1b82dfd11ab6f20970d2aa48be13690e0447919d0\n";
+    for (first, second) in [("a", "B"), ("B", "a")] {
+        let bytes = left_by_two(rt.alloc(), first, second)?;
+        assert_eq!(rt; bytes.as_slice(), line.as_bytes());
     }
     Ok(())
 }

@@ -1,0 +1,5 @@
+use Rattle.b2_host.proofs.ResultLemmas.{order_is_free}
+use Rattle.b2_host.proofs.result_laws.order_is_free.Goals as goal
+
+pub returns : goal.returns
+returns c = order_is_free
