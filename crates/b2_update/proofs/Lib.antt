@@ -1,7 +1,6 @@
 pub mod Orders
 pub mod Elements
 pub mod Writing
-pub mod Waiting
 pub mod Makers
 pub mod Values
 pub mod Moves

@@ -35,7 +35,8 @@ fn drain<H: Children>(host: &mut H)
     let _ended = host.wait_one();
 }
 
-/// Waits for the child that runs, and says whether it ended well. After a failure it is waited for once more.
+/// Waits for the child that runs, and says whether it ended well. A wait that failed leaves the child, so that there is
+/// never more than one wait for a start.
 fn wait_child<H: Children>(host: &mut H) -> Result<bool, Stop>
     requires { RunsOne (H.family host.old).running }
     ensures faults { HostTold (H.faults host.old) (H.faults host.new) result }
@@ -48,10 +49,7 @@ fn wait_child<H: Children>(host: &mut H) -> Result<bool, Stop>
 {
     match host.wait_one() {
         Ok((_step, well)) => Ok(well),
-        Err(_failed) => {
-            drain(host);
-            Err(Stop::Host)
-        }
+        Err(_failed) => Err(Stop::Host),
     }
 }
 
