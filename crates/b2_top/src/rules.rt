@@ -112,6 +112,13 @@ fn are_good_sources(
     Ok(true)
 }
 
+/// Whether one more `make` may stand behind so many.
+fn has_room(makes: usize) -> bool
+    ensures { IsTrue result ↔ (makes < 65536) }
+{
+    makes < 65_536
+}
+
 fn is_good_make(
     alloc: Global,
     names: &Names,
@@ -125,7 +132,7 @@ fn is_good_make(
     if is_before(&names.first_makes, &make.name, place) {
         return Ok(false);
     }
-    if makes >= 65_536 {
+    if !has_room(makes) {
         return Ok(false);
     }
     if !is_make_name(make.name.as_str()) {

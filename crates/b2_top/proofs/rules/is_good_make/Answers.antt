@@ -1,4 +1,4 @@
-use Rattle.std.proofs.Common.{◌↔◌, IsTrue, not, is_some, sym, ap, ◌∙◌, subst, arith}
+use Rattle.std.proofs.Common.{◌↔◌, IsTrue, not, is_some, sym, ap, ◌∙◌, subst}
 use Rattle.std.specs.FinMap.{get}
 use Rattle.std.specs.List.{All}
 use Rattle.std.proofs.lemmas.Result.{IfOk-weaker}
@@ -14,7 +14,7 @@ returns c =
     (λ r d. (
       λ t. record {
         once = sym c.is_before.ensures ∙ c.if-is_before.false;
-        few = omega (arith, c.if-makes-ge65536.false);
+        few = c.has_room.ensures.0 c.if-not-has_room.false;
         name = subst IsMakeName c.as_str.ensures.value (c.is_make_name.ensures.0 c.if-not-is_make_name.false);
         rule = ap is_some found.1;
         sources = subst (All (PassesSource c.args.names.now c.args.place)) c.as_slice.ensures (d.0 t);
