@@ -140,12 +140,17 @@ impl<'a, R: Disk + AllocGlobal> RealFiles<'a, R> {
         match fs::remove_file(self.rt, path.as_str()) {
             Ok(()) => Ok(()),
             Err(error) => {
-                if is_missing(&error) {
+                if is_missing(&error) || self.is_no_file(path) {
                     Ok(())
                 } else {
                     Err(self.fail())
                 }
             }
         }
+    }
+
+    /// Whether no file is known to stand at the path; a directory is none.
+    fn is_no_file(&self, path: &Path) -> bool {
+        matches!(self.metadata(path), Ok(None))
     }
 }
