@@ -1,9 +1,9 @@
-use Rattle.std.proofs.Common.{◌≡◌, ℕ, zero, suc, ◌<◌, ◌≤◌, ◌+◌, Bool, true, false, List, [], ◌∷◌, ◌++◌, length, get_or, ◌⊎◌, inl, inr, refl, sym, ap, subst, arith, ◌∙◌, ◌↔◌, take, Option, Some, None, add-one, map, append-nil, MatchOption}
-use Rattle.std.specs.List.{Contains, filter_map}
+use Rattle.std.proofs.Common.{◌≡◌, ℕ, zero, suc, ◌<◌, ◌≤◌, ◌+◌, List, [], ◌∷◌, ◌++◌, length, get_or, ◌⊎◌, inl, inr, refl, sym, ap, subst, arith, ◌∙◌, ◌↔◌, take, Option, Some, None, add-one, map, append-nil, MatchOption}
+use Rattle.std.specs.List.{Contains}
 use Rattle.std.proofs.lemmas.List.{take_more}
 use Rattle.std.proofs.lemmas.List.Elements.{filter_map-append}
 use Rattle.b2_plan.specs.declared.step.Step.{Step}
-use Rattle.b2_plan.specs.Plans.{Apart, Makes, step_at}
+use Rattle.b2_plan.specs.Plans.{Apart, step_at}
 use Rattle.b2_plan.specs.Sources.{Build, IsSource, IsGiven}
 use Rattle.b2_plan.specs.Closures.{Value, Values, IsClose, named, with_bytes}
 use Rattle.b2_plan.specs.Cleans.{value_of, IsBuilt, IsSourceValue, Val, Clean}

@@ -1,10 +1,10 @@
-use Rattle.std.proofs.Common.{◌≡◌, ℕ, zero, suc, ◌<◌, ◌≤◌, ◌+◌, List, [], ◌∷◌, ◌++◌, length, get_or, ◌⊎◌, inl, inr, refl, sym, ap, subst, subst₂, arith, ◌∙◌, ◌↔◌, Some, None, Option, MatchOption, map, take}
+use Rattle.std.proofs.Common.{◌≡◌, ℕ, zero, suc, ◌<◌, ◌≤◌, ◌+◌, List, [], ◌∷◌, ◌++◌, length, get_or, inl, inr, refl, sym, ap, subst, subst₂, arith, ◌∙◌, ◌↔◌, Some, None, Option, MatchOption, map, take}
 use Rattle.std.specs.List.{Contains, AllPairs}
 use Rattle.std.proofs.lemmas.List.Elements.{Contains-push_cases}
 use Rattle.std.proofs.lemmas.List.{take_more}
 use Rattle.b2_plan.specs.declared.step.Step.{Step}
 use Rattle.b2_plan.specs.Sources.{Build}
-use Rattle.b2_plan.specs.Closures.{Value, Values, Known, Before, IsClose}
+use Rattle.b2_plan.specs.Closures.{Value, Known, Before, IsClose}
 use Rattle.b2_runs.proofs.Elements.{Contains_here, Contains_there, Contains_cases, Contains_nil}
 use Rattle.b2_plain.specs.Reaches.{held, AreValued, path_in}
 use Rattle.b2_plain.proofs.Parts.{take_whole}

@@ -1,10 +1,9 @@
-use Rattle.std.proofs.Common.{◌≡◌, ◌≢◌, ℕ, zero, suc, ◌<◌, ◌≤◌, ◌+◌, Bool, true, false, List, [], ◌∷◌, length, get_or, ◌⊎◌, inl, inr, refl, sym, ap, subst, subst₂, arith, ◌∙◌, ◌↔◌, IsTrue, Option, Some, None, codes, ◌==◌, eqb-true}
+use Rattle.std.proofs.Common.{◌≡◌, ◌≢◌, ℕ, suc, ◌<◌, ◌≤◌, ◌+◌, Bool, true, false, List, [], ◌∷◌, length, get_or, ◌⊎◌, inl, inr, refl, sym, ap, subst, subst₂, arith, ◌∙◌, Some, codes, ◌==◌, eqb-true}
 use Rattle.std.specs.List.{Contains}
-use Rattle.b2_base.specs.Normal.{IsUnder}
 use Rattle.b2_plan.specs.declared.step.Step.{Step}
 use Rattle.b2_plan.specs.Plans.{Apart, Makes, step_at, log_path}
-use Rattle.b2_plain.specs.Placings.{IsClash, IsPlaced, IsStepPlaced}
-use Rattle.b2_plain.proofs.Outs.{makes_at, numbered, same_read}
+use Rattle.b2_plain.specs.Placings.{IsStepPlaced}
+use Rattle.b2_plain.proofs.Outs.{numbered, same_read}
 use Rattle.std.proofs.lemmas.Option.{slice_get-get_or}
 
 split : (k i : ℕ) → k < i + 1 → (k < i) ⊎ (k ≡ i)

@@ -1,4 +1,4 @@
-use Rattle.std.proofs.Common.{◌≡◌, ℕ, zero, suc, ◌<◌, ◌≤◌, ◌+◌, Bool, true, false, List, [], ◌∷◌, length, get_or, ◌⊎◌, inl, inr, refl, sym, ap, subst, arith, ◌∙◌, ◌↔◌, IsTrue, Option, Some, None}
+use Rattle.std.proofs.Common.{◌≡◌, ℕ, suc, ◌<◌, ◌≤◌, ◌+◌, Bool, true, false, List, length, get_or, ◌⊎◌, inl, inr, refl, sym, ap, subst, arith, ◌∙◌, Some}
 use Rattle.std.specs.List.{Contains}
 use Rattle.b2_host.specs.declared.children.ChildEvent.{ChildEvent}
 use Rattle.b2_host.specs.declared.children.ChildEvent.TheVariants.{Done}
@@ -7,8 +7,7 @@ use Rattle.b2_plan.specs.declared.step.Step.{Step}
 use Rattle.b2_plan.specs.Closures.{Value}
 use Rattle.b2_runs.specs.Staleness.{Update, NoneOlder, IsRecorded, IsFresh}
 use Rattle.b2_plain.specs.Moments.{IsTouched}
-use Rattle.b2_plain.proofs.Outs.{makes_at, numbered, none_more, same_read}
-use Rattle.b2_plain.proofs.Reaching.{none_in}
+use Rattle.b2_plain.proofs.Outs.{makes_at, numbered, same_read}
 
 abbrev pub Touching : List ChildEvent → ℕ → Step → Type 0
 Touching events i step = ((well : Bool) × Contains events (Done i well)) ⊎ (step.notfile ≡ true)

@@ -1,7 +1,6 @@
 pub mod Tables
 pub mod Reaches
 pub mod Fillings
-pub mod Lines
 pub mod Moments
 pub mod Placings
 pub mod Joins

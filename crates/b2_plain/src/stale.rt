@@ -8,7 +8,6 @@ ghost use Rattle.b2_plain.specs.Tables.{folder_of};
 ghost use Rattle.b2_plain.specs.Moments.{update_of, IsTouched};
 
 use crate::given::is_among;
-use crate::log_line::{Stamped, last_record};
 use crate::member::Member;
 use crate::moment::SmallUpdate;
 use crate::small::Small;
@@ -30,14 +29,14 @@ fn has_stamp<W: World>(small: &Small<W>, path: &Path, stamp: u64) -> bool
 }
 
 /// Whether the entry is the path with the stamp of the file there.
-fn is_stamped<W: World>(small: &Small<W>, path: &Path, entry: &Stamped) -> bool
+fn is_stamped<W: World>(small: &Small<W>, path: &Path, entry: &(Path, u64)) -> bool
     ensures { IsTrue result ↔ ((entry.now.0 ≡ path.now) × (stamp_at (folder_of small.now.files.items) path.now ≡ Some entry.now.1)) }
 {
-    entry.path == *path && has_stamp(small, path, entry.stamp)
+    entry.0 == *path && has_stamp(small, path, entry.1)
 }
 
 /// Whether these are the paths, in order, with the stamps of the files there.
-fn are_stamped<W: World>(small: &Small<W>, paths: &[Path], entries: &[Stamped]) -> bool
+fn are_stamped<W: World>(small: &Small<W>, paths: &[Path], entries: &[(Path, u64)]) -> bool
     ensures { IsTrue result ↔ AreStamped (folder_of small.now.files.items) paths.now entries.now }
 {
     if paths.len() != entries.len() {
@@ -75,7 +74,7 @@ fn is_recorded<W: World>(
 ) -> Result<bool, OutOfMemory>
     ensures { IfOk result (λ b. IsTrue b ↔ IsRecorded (folder_of update.now.small.files.items) (update_of W.places W.made update.now).log step.now members.now) }
 {
-    let Some(last) = last_record(update.log.as_slice(), step.outs.as_slice()) else {
+    let Some(last) = update.log.find(step.outs.as_slice()) else {
         return Ok(false);
     };
     if last.text != step.text {

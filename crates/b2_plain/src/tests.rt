@@ -3,7 +3,6 @@ use crate::apart::is_apart;
 use crate::clean::{clean, clean_close};
 use crate::given::is_among;
 use crate::joining::{Include, Joining};
-use crate::log_line::{LogLine, LogRecord, Stamped};
 use crate::moment::SmallUpdate;
 use crate::settled::settled;
 use crate::small::Small;
@@ -13,6 +12,9 @@ use b2_base::path::Path;
 use b2_base::path_list::PathList;
 use b2_base::text::Text;
 use b2_host::children::ChildEvent;
+use b2_log::line::{LogLine, Record};
+use b2_log::log::Log;
+use b2_log::stamped::StampedPaths;
 use b2_plan::step::{Step, StepList};
 use std::alloc::Global;
 use std::process::Abort;
@@ -108,23 +110,19 @@ fn check_clean(
     Ok(())
 }
 
-fn stamps(alloc: Global, rows: &[(&str, u64)]) -> Result<Vec<Stamped>, Fail> {
-    let mut entries = Vec::new(alloc);
+fn stamps(alloc: Global, rows: &[(&str, u64)]) -> Result<StampedPaths, Fail> {
+    let mut entries = StampedPaths::new(alloc);
     for (path, stamp) in rows {
-        let path = Path::normal(alloc, path)?;
-        entries.push(Stamped {
-            path,
-            stamp: *stamp,
-        })?;
+        entries.push(Path::normal(alloc, path)?, *stamp)?;
     }
     Ok(entries)
 }
 
 /// A log with the record of a step's first output and its inputs; without one where no stamps are given.
-fn log_of(alloc: Global, rows: &[(&str, u64)]) -> Result<Vec<LogLine>, Fail> {
-    let mut log = Vec::new(alloc);
+fn log_of(alloc: Global, rows: &[(&str, u64)]) -> Result<Log, Fail> {
+    let mut log = Log::new(alloc);
     if let Some((first, rest)) = rows.split_first() {
-        log.push(LogLine::Recorded(LogRecord {
+        log.add(LogLine::Record(Record {
             text: Text::new(alloc, "cat")?,
             outs: stamps(alloc, &[*first])?,
             ins: stamps(alloc, rest)?,
@@ -347,7 +345,7 @@ fn check_settled(
 ) -> Result<(), Fail> {
     let update = SmallUpdate {
         small: plan_of(alloc, example)?,
-        log: Vec::new(alloc),
+        log: Log::new(alloc),
         all: false,
         quit: false,
         jobs: 2,

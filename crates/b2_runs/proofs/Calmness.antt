@@ -9,7 +9,7 @@ use Rattle.b2_plan.specs.Plans.{Makes, Apart}
 use Rattle.b2_plan.specs.Sources.{Build, IsInRoots}
 use Rattle.b2_plan.specs.Closures.{Value, Known, IsClose}
 use Rattle.b2_plan.specs.Cleans.{Val, Clean}
-use Rattle.b2_runs.specs.Logs.{Line}
+use Rattle.b2_log.specs.declared.line.LogLine.{LogLine}
 use Rattle.b2_runs.specs.Staleness.{Update, IsFresh}
 use Rattle.b2_runs.specs.Runs.{Settled, Settled.source, Settled.done_well, Settled.fresh, on_settled, Needed, Needed.wanted, Needed.member, RunFrom, IsRunSoFar, CanStart}
 use Rattle.b2_runs.specs.Outcomes.{AllWent, IsSettledStep}
@@ -48,14 +48,14 @@ below b apart (suc n) i step path x members makes close (inr s) =
     (n, refl, subst (λ ms. (member : List ℕ) (value : Value) → Contains ms (member, value) → Val b n member value) one (λ m y c. (s.close.each m y c).1))
 
 -- What the next update judges of a step whose outputs were settled.
-record Judged (u : Update) (events : List ChildEvent) (next : Update) (step : Step) : Type 0 where
-  members : List (List ℕ × Value)
-  close : IsClose u.build (Clean u.build) step members
-  inside : (member : List ℕ) (value : Value) → Contains members (member, value) → Settled u events member
-  is_fresh : IsFresh next [] step members
+pub record Judged (u : Update) (events : List ChildEvent) (next : Update) (step : Step) : Type 0 where
+  pub members : List (List ℕ × Value)
+  pub close : IsClose u.build (Clean u.build) step members
+  pub inside : (member : List ℕ) (value : Value) → Contains members (member, value) → Settled u events member
+  pub is_fresh : IsFresh next [] step members
 
 -- a step that was done well is fresh by its record
-judge_done : (u : Update) (events : List ChildEvent) (disk : Disk) (log : List Line) → Apart u.build.steps u.build.roots → IsRunSoFar u events → IsNoted u events disk.now log
+judge_done : (u : Update) (events : List ChildEvent) (disk : Disk) (log : List LogLine) → Apart u.build.steps u.build.roots → IsRunSoFar u events → IsNoted u events disk.now log
     → (i : ℕ) (step : Step) (path : List ℕ) → Makes u.build.steps i step path → Contains events (Done i true) → (Restless u.build path → ⊥) → Judged u events (next_update u disk.now log) step
 judge_done u events disk log apart run noted i step path makes done calm =
     let (members, on) = started_has_closure u events i step apart run (done_was_started u events i true run done) makes.at in
@@ -79,7 +79,7 @@ judge_done u events disk log apart run noted i step path makes done calm =
     }
 
 -- a step that was fresh is fresh as before
-judge_fresh : (u : Update) (events : List ChildEvent) (disk : Disk) (log : List Line) → Apart u.build.steps u.build.roots → IsSound u events disk → IsNoted u events disk.now log
+judge_fresh : (u : Update) (events : List ChildEvent) (disk : Disk) (log : List LogLine) → Apart u.build.steps u.build.roots → IsSound u events disk → IsNoted u events disk.now log
     → (i : ℕ) (step : Step) (path : List ℕ) (members : List (List ℕ × Value)) → Makes u.build.steps i step path → (Contains events (Start i) → ⊥) → IsClose u.build (Clean u.build) step members
     → ((member : List ℕ) (value : Value) → Contains members (member, value) → Settled u events member) → IsFresh u events step members → Judged u events (next_update u disk.now log) step
 judge_fresh u events disk log apart sound noted i step path members makes not_started close inside f =
@@ -105,7 +105,7 @@ judge_fresh u events disk log apart sound noted i step path members makes not_st
     }
 
 -- a step whose outputs were settled is fresh next time
-judge_next : (u : Update) (events : List ChildEvent) (disk : Disk) (log : List Line) → Apart u.build.steps u.build.roots → IsRunSoFar u events → IsSound u events disk → IsNoted u events disk.now log
+pub judge_next : (u : Update) (events : List ChildEvent) (disk : Disk) (log : List LogLine) → Apart u.build.steps u.build.roots → IsRunSoFar u events → IsSound u events disk → IsNoted u events disk.now log
     → (i : ℕ) (step : Step) (path : List ℕ) → Makes u.build.steps i step path → Settled u events path → (Restless u.build path → ⊥) → Judged u events (next_update u disk.now log) step
 judge_next u events disk log apart run sound noted i step path makes (source p bytes s) calm = absurd (source_not_made u.build apart p bytes s i step makes)
 judge_next u events disk log apart run sound noted i step path makes (done_well k s p makes_k done) calm =
@@ -114,13 +114,13 @@ judge_next u events disk log apart run sound noted i step path makes (fresh k s 
     subst (Judged u events (next_update u disk.now log)) (maker_is_one u.build apart k i s step p makes_k makes) (judge_fresh u events disk log apart sound noted k s p members makes_k not_started close inside f)
 
 -- a step that is fresh next time, and whose members are settled then, has settled outputs
-settle_step : (u : Update) (events : List ChildEvent) (disk : Disk) (log : List Line) → SameSources u.build disk.now → (i : ℕ) (step : Step) (path : List ℕ) → Makes u.build.steps i step path
+settle_step : (u : Update) (events : List ChildEvent) (disk : Disk) (log : List LogLine) → SameSources u.build disk.now → (i : ℕ) (step : Step) (path : List ℕ) → Makes u.build.steps i step path
     → (j : Judged u events (next_update u disk.now log) step) → ((member : List ℕ) (value : Value) → Contains j.members (member, value) → Settled (next_update u disk.now log) [] member) → Settled (next_update u disk.now log) [] path
 settle_step u events disk log same i step path makes j inside =
     fresh i step path j.members makes (λ c. Contains_nil (Start i) c) (clean_close_to u.build disk.now same step j.members j.close) inside j.is_fresh
 
 -- what was settled is settled next time, by the rounds of its value
-settle_next : (u : Update) (events : List ChildEvent) (disk : Disk) (log : List Line) → Apart u.build.steps u.build.roots → IsRunSoFar u events → IsSound u events disk → IsNoted u events disk.now log
+settle_next : (u : Update) (events : List ChildEvent) (disk : Disk) (log : List LogLine) → Apart u.build.steps u.build.roots → IsRunSoFar u events → IsSound u events disk → IsNoted u events disk.now log
     → (n : ℕ) (path : List ℕ) (x : Value) → Val u.build n path x → Settled u events path → (Restless u.build path → ⊥) → Settled (next_update u disk.now log) [] path
 settle_next u events disk log apart run sound noted n path x v (source p bytes s) calm = source p bytes (source_to u.build disk.now (same_sources u events disk apart sound) p bytes s)
 settle_next u events disk log apart run sound noted zero path x v (done_well i step p makes done) calm = absurd (source_not_made u.build apart p v.0 v.1 i step makes)
@@ -175,7 +175,7 @@ needed_settled u events went i needed = elim (went.none_stuck i needed) [
 ]
 
 -- where all went well, no more is needed next time, however far the next run has gone
-needed_later : (u : Update) (events later : List ChildEvent) (disk : Disk) (log : List Line) → Apart u.build.steps u.build.roots → IsRunSoFar u events → IsSound u events disk → AllWent u events → (i : ℕ) → Needed (next_update u disk.now log) later i → Needed u events i
+needed_later : (u : Update) (events later : List ChildEvent) (disk : Disk) (log : List LogLine) → Apart u.build.steps u.build.roots → IsRunSoFar u events → IsSound u events disk → AllWent u events → (i : ℕ) → Needed (next_update u disk.now log) later i → Needed u events i
 needed_later u events later disk log apart run sound went i (wanted k step path c makes) = wanted k step path c makes
 needed_later u events later disk log apart run sound went i (member k step j other path needed at known makes) =
     let needed_j = needed_later u events later disk log apart run sound went j needed in
@@ -212,7 +212,7 @@ fresh_later next b later i step path members begun none calm f = record {
 }
 
 -- where none was started so far, none can start
-calm_waits : (u : Update) (events later : List ChildEvent) (disk : Disk) (log : List Line) (i : ℕ) (step : Step) (path : List ℕ) → Apart u.build.steps u.build.roots → IsRunSoFar u events → IsSound u events disk → IsNoted u events disk.now log → AllWent u events
+calm_waits : (u : Update) (events later : List ChildEvent) (disk : Disk) (log : List LogLine) (i : ℕ) (step : Step) (path : List ℕ) → Apart u.build.steps u.build.roots → IsRunSoFar u events → IsSound u events disk → IsNoted u events disk.now log → AllWent u events
     → Begun later → NoneCalm u.build later → Makes u.build.steps i step path → (Restless u.build path → ⊥) → CanStart (next_update u disk.now log) later i → ⊥
 calm_waits u events later disk log i step path apart run sound noted went begun none makes calm can =
     let next = next_update u disk.now log in
@@ -227,7 +227,7 @@ calm_waits u events later disk log i step path apart run sound noted went begun 
     can.stale (subst₂ (λ s ms. IsFresh next later s ms) same one f)
 
 -- along a run none is started
-none_calm : (u : Update) (events : List ChildEvent) (disk : Disk) (log : List Line) → Apart u.build.steps u.build.roots → IsRunSoFar u events → IsSound u events disk → IsNoted u events disk.now log → AllWent u events
+none_calm : (u : Update) (events : List ChildEvent) (disk : Disk) (log : List LogLine) → Apart u.build.steps u.build.roots → IsRunSoFar u events → IsSound u events disk → IsNoted u events disk.now log → AllWent u events
     → (before later : List ChildEvent) → Begun before → NoneCalm u.build before → RunFrom (next_update u disk.now log) before later → NoneCalm u.build (before ++ later)
 none_calm u events disk log apart run sound noted went before [] begun none r = subst (NoneCalm u.build) (sym (append-nil before)) none
 none_calm u events disk log apart run sound noted went before (Start i ∷ later) begun none (m, r) =

@@ -208,7 +208,7 @@ sound =
     let drifted = sound_after_drift copying (Start 1 ∷ []) disk_before disk_after apart begun drifts in
     sound_done copying (Start 1 ∷ []) disk_after 1 true drifted (λ good. out_clean)
 
-log_true : LogTrue copying.build.made disk_after.past log_after
+pub log_true : LogTrue copying.build.made disk_after.past log_after
 log_true =
     true_with_record copying.build.made disk_after.past [] copy_record (empty_is_true copying.build.made disk_after.past)
     (record_is_true copying copied disk_after 1 copy_step members_in copy_record apart sound refl done refl close (inside copied) refl ((refl, refl), tt) ((refl, refl), tt))

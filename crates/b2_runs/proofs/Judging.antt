@@ -3,7 +3,8 @@ use Rattle.b2_host.specs.declared.children.ChildEvent.TheVariants.{Done}
 use Rattle.b2_host.specs.Standing.{Folder, put}
 use Rattle.b2_plan.specs.declared.step.Step.{Step}
 use Rattle.b2_plan.specs.Closures.{Value}
-use Rattle.b2_runs.specs.Logs.{Record, find_record}
+use Rattle.b2_log.specs.declared.line.Record.{Record}
+use Rattle.b2_log.specs.Finding.{find_record}
 use Rattle.b2_runs.specs.Staleness.{AreStamped, IsFresh, IsRecorded, paths_with_bytes}
 use Rattle.b2_runs.specs.Examples.{in_path, out_path, out_file, new_file, disk_after, log_after, copy_record, copy_step, in_members, after_copying, CopyingJudged}
 use Rattle.b2_runs.proofs.Elements.{Contains_here, Contains_nil}

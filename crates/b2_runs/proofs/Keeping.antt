@@ -12,7 +12,8 @@ use Rattle.b2_plan.specs.Plans.{Apart, Makes}
 use Rattle.b2_plan.specs.Sources.{Build}
 use Rattle.b2_plan.specs.Closures.{Value, IsClose, with_bytes}
 use Rattle.b2_plan.specs.Cleans.{Clean, value_of}
-use Rattle.b2_runs.specs.Logs.{Record, InputStood, IsTrueRecord}
+use Rattle.b2_log.specs.declared.line.Record.{Record}
+use Rattle.b2_runs.specs.Logs.{InputStood, IsTrueRecord}
 use Rattle.b2_runs.specs.Staleness.{Update, AreStamped, path_in}
 use Rattle.b2_runs.specs.Soundness.{Holds, IsSound, IsAtWork}
 use Rattle.b2_runs.specs.SoundLaws.{SoundAtEntry, SoundAfterStart, SoundAfterDrift, SoundAfterEnd, WorkDrifts, RemovalDrifts, LogDrifts, RecordIsTrue}

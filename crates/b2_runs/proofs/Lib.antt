@@ -4,6 +4,7 @@ pub mod Rounds
 pub mod Ranks
 pub mod Cleanness
 pub mod Lines
+pub mod Fronts
 pub mod Standings
 pub mod Settling
 pub mod Moves
@@ -13,6 +14,8 @@ pub mod Presence
 pub mod Calmness
 pub mod Seeing
 pub mod Noting
+pub mod Proper
+pub mod Stopping
 pub mod Opens
 pub mod Gathering
 pub mod Sticking
@@ -22,8 +25,10 @@ pub mod Circling
 pub mod Points
 pub mod Completing
 pub mod Circles
+pub mod Walking
 pub mod Parting
 pub mod Working
 pub mod Judging
+pub mod Filing
 pub mod Overlapping
 pub mod Failing

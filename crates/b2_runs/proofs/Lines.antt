@@ -1,11 +1,14 @@
-use Rattle.std.proofs.Common.{◌≡◌, ℕ, Bool, true, false, List, [], ◌∷◌, ◌++◌, inl, inr, refl, sym, ap, subst, ◌∙◌, Option, Some, None, map, reverse, find, option_and_then, cond, ◌&&◌}
+use Rattle.std.proofs.Common.{◌≡◌, ℕ, Bool, true, false, List, [], ◌∷◌, ◌++◌, inl, inr, refl, sym, ap, subst, ◌∙◌, Option, Some, None, map, reverse, find, option_and_then, cond}
 use Rattle.std.specs.List.{Contains, AllZip}
 use Rattle.std.proofs.lemmas.List.{reverse-append}
 use Rattle.std.proofs.lemmas.List.Elements.{Contains-push_cases, Contains-append_left}
-use Rattle.std.proofs.lemmas.Slice.Eq.{bytes_eq-Decides}
-use Rattle.std.specs.Str.{bytes_eq}
+use Rattle.std.proofs.lemmas.Slice.Eq.{slice_eq-Decides, bytes_eq-Decides}
 use Rattle.b2_host.specs.Standing.{Past}
-use Rattle.b2_runs.specs.Logs.{Record, Line, Line.Recorded, Line.Dropped, path_of, outs_of, paths_eq, record_in, last_line, find_record, InputStood, IsTrueRecord, IsTrueLine, LogTrue}
+use Rattle.b2_log.specs.declared.line.Record.{Record}
+use Rattle.b2_log.specs.declared.line.LogLine.{LogLine}
+use Rattle.b2_log.specs.declared.line.LogLine.TheVariants as lines
+use Rattle.b2_log.specs.Finding.{path_of, outs_of, paths_eq, record_in, last_line, find_record}
+use Rattle.b2_runs.specs.Logs.{InputStood, IsTrueRecord, IsTrueLine, LogTrue}
 use Rattle.b2_runs.specs.LogLaws.{Makings, FoundIsThere, LastWord, OthersUnsaid, OthersUnsaidThoughTorn, EmptyIsTrue, TrueAsPastGrows, TrueWithRecord, TrueWithDrop, TruePrefix, TrueAfterTornAppend, TrueWithFewer}
 use Rattle.b2_runs.proofs.Elements.{Contains_here, Contains_there, Contains_nil}
 
@@ -27,20 +30,10 @@ found_in p (y ∷ ys) x e = go (p y) refl e (found_in p ys x)
     go false pass f later = let (c, t) = later f in (Contains_there y x ys c, t)
 
 paths_eq_true : (xs ys : List (List ℕ)) → paths_eq xs ys ≡ true → xs ≡ ys
-paths_eq_true [] [] e = refl
-paths_eq_true [] (y ∷ ys) e = absurd (let f : false ≡ true = e in cc)
-paths_eq_true (x ∷ xs) [] e = absurd (let f : false ≡ true = e in cc)
-paths_eq_true (x ∷ xs) (y ∷ ys) e = both (bytes_eq x y) refl e (paths_eq_true xs ys)
-  where
-    both : (t : Bool) → bytes_eq x y ≡ t → (t && paths_eq xs ys) ≡ true → (paths_eq xs ys ≡ true → xs ≡ ys) → x ∷ xs ≡ y ∷ ys
-    both true f g rest = let p : x ≡ y = (bytes_eq-Decides x y).0 f in let q : xs ≡ ys = rest g in λ i. p i ∷ q i
-    both false f g rest = absurd (let h : false ≡ true = g in cc)
+paths_eq_true xs ys e = (slice_eq-Decides bytes_eq-Decides xs ys (paths_eq xs ys) refl).0 e
 
 paths_eq_refl : (xs : List (List ℕ)) → paths_eq xs xs ≡ true
-paths_eq_refl [] = refl
-paths_eq_refl (x ∷ xs) =
-    let e : bytes_eq x x ≡ true = (bytes_eq-Decides x x).1 refl in
-    rw (e, paths_eq_refl xs)
+paths_eq_refl xs = (slice_eq-Decides bytes_eq-Decides xs xs (paths_eq xs xs) refl).1 refl
 
 paths_eq_false : (xs ys : List (List ℕ)) → (xs ≡ ys → ⊥) → paths_eq xs ys ≡ false
 paths_eq_false xs ys differ = go (paths_eq xs ys) refl
@@ -49,15 +42,15 @@ paths_eq_false xs ys differ = go (paths_eq xs ys) refl
     go true e = absurd (differ (paths_eq_true xs ys e))
     go false e = e
 
-record_from : (line : Line) (r : Record) → record_in line ≡ Some r → line ≡ Recorded r
-record_from (Recorded s) r e = ap Recorded (let f : Some s ≡ Some r = e in let g : s ≡ r = cc in g)
-record_from (Dropped outs) r e = absurd (let f : None ≡ Some r = e in cc)
+record_from : (line : LogLine) (r : Record) → record_in line ≡ Some r → line ≡ lines.Record r
+record_from (lines.Record s) r e = ap lines.Record (let f : Some s ≡ Some r = e in let g : s ≡ r = cc in g)
+record_from (lines.Drop outs) r e = absurd (let f : None ≡ Some r = e in cc)
 
 -- what is found is in the log, and has these outputs
 pub found_is_there : FoundIsThere
 found_is_there outs log r e = go (last_line outs log) refl e
   where
-    go : (o : Option Line) → last_line outs log ≡ o → option_and_then record_in o ≡ Some r → Contains log (Recorded r) × (map path_of r.outs ≡ outs)
+    go : (o : Option LogLine) → last_line outs log ≡ o → option_and_then record_in o ≡ Some r → Contains log (lines.Record r) × (map path_of r.outs ≡ outs)
     go None is f = absurd (let g : None ≡ Some r = f in cc)
     go (Some line) is f =
         let same = record_from line r f in
@@ -65,7 +58,7 @@ found_is_there outs log r e = go (last_line outs log) refl e
         let eq = paths_eq_true (outs_of line) outs pass in
         (subst (λ l. Contains log l) same (from_reverse log line c), ap outs_of (sym same) ∙ eq)
 
-last_pushed : (outs : List (List ℕ)) (log : List Line) (line : Line) → last_line outs (log ++ line ∷ []) ≡ cond (paths_eq (outs_of line) outs) (Some line) (last_line outs log)
+last_pushed : (outs : List (List ℕ)) (log : List LogLine) (line : LogLine) → last_line outs (log ++ line ∷ []) ≡ cond (paths_eq (outs_of line) outs) (Some line) (last_line outs log)
 last_pushed outs log line = ap (find (λ l. paths_eq (outs_of l) outs)) (reverse-append log (line ∷ []))
 
 -- a line at the end has the last word on its outputs
@@ -95,25 +88,25 @@ record_grows made past more r grows t = record { held = t.held; ins = go r.ins t
     go (q ∷ qs) [] a = a
     go (q ∷ qs) (h ∷ hs) (a, more_a) = (record { path = a.path; stood = grows _ a.stood }, go qs hs more_a)
 
-line_grows : (made : Makings) (past more : List Past) (line : Line) → ((old : Past) → Contains past old → Contains more old) → IsTrueLine made past line → IsTrueLine made more line
-line_grows made past more (Recorded r) grows t = record_grows made past more r grows t
-line_grows made past more (Dropped outs) grows t = tt
+line_grows : (made : Makings) (past more : List Past) (line : LogLine) → ((old : Past) → Contains past old → Contains more old) → IsTrueLine made past line → IsTrueLine made more line
+line_grows made past more (lines.Record r) grows t = record_grows made past more r grows t
+line_grows made past more (lines.Drop outs) grows t = tt
 
 -- more that stood leaves a true log true
 pub true_as_past_grows : TrueAsPastGrows
 true_as_past_grows made past more log grows old line c = line_grows made past more line grows (old line c)
 
 -- so does a true line at the end
-true_with_line : (made : Makings) (past : List Past) (log : List Line) (new : Line) → LogTrue made past log → IsTrueLine made past new → LogTrue made past (log ++ new ∷ [])
+pub true_with_line : (made : Makings) (past : List Past) (log : List LogLine) (new : LogLine) → LogTrue made past log → IsTrueLine made past new → LogTrue made past (log ++ new ∷ [])
 true_with_line made past log new old t line c = elim (Contains-push_cases log new line c) [ inl d ↦ old line d | inr e ↦ subst (IsTrueLine made past) e t ]
 
 -- a record
 pub true_with_record : TrueWithRecord
-true_with_record made past log r old new = true_with_line made past log (Recorded r) old new
+true_with_record made past log r old new = true_with_line made past log (lines.Record r) old new
 
 -- or a drop
 pub true_with_drop : TrueWithDrop
-true_with_drop made past log outs old = true_with_line made past log (Dropped outs) old tt
+true_with_drop made past log outs old = true_with_line made past log (lines.Drop outs) old tt
 
 -- any first lines of a true log are true
 pub true_prefix : TruePrefix

@@ -8,7 +8,9 @@ use Rattle.b2_plan.specs.declared.step.Step.{Step}
 use Rattle.b2_plan.specs.Plans.{log_path, Apart, Makes, step_at}
 use Rattle.b2_plan.specs.Closures.{Value, IsClose}
 use Rattle.b2_plan.specs.Cleans.{Clean}
-use Rattle.b2_runs.specs.Logs.{Line, Line.Recorded, outs_of, find_record}
+use Rattle.b2_log.specs.declared.line.LogLine.{LogLine}
+use Rattle.b2_log.specs.declared.line.LogLine.TheVariants as lines
+use Rattle.b2_log.specs.Finding.{outs_of, find_record}
 use Rattle.b2_runs.specs.Staleness.{Update, IsRecorded, NoneOlder}
 use Rattle.b2_runs.specs.Runs.{Settled, Settled.source, Settled.done_well, Settled.fresh, IsRunSoFar}
 use Rattle.b2_runs.specs.Soundness.{IsLoose, Drifts, IsAtWork}
@@ -100,7 +102,7 @@ other_outs u apart i k step other at at_k differ e =
     differ (apart.one_maker k i other step out (record { at = at_k; among = c }) (record { at = at; among = subst (λ o. Contains o out) (sym e) c }))
 
 -- a line for the outputs of one step leaves what was noted of the others
-line_for : (u : Update) (now : Folder) (log : List Line) (i k : ℕ) (step other : Step) (line : Line) (members : List (List ℕ × Value)) → Apart u.build.steps u.build.roots → step_at u.build.steps i ≡ Some step → step_at u.build.steps k ≡ Some other → (k ≡ i → ⊥)
+line_for : (u : Update) (now : Folder) (log : List LogLine) (i k : ℕ) (step other : Step) (line : LogLine) (members : List (List ℕ × Value)) → Apart u.build.steps u.build.roots → step_at u.build.steps i ≡ Some step → step_at u.build.steps k ≡ Some other → (k ≡ i → ⊥)
     → outs_of line ≡ step.outs → IsRecorded now log other members → IsRecorded now (log ++ line ∷ []) other members
 line_for u now log i k step other line members apart at at_k differ outs r = record {
   last = r.last;
@@ -123,12 +125,12 @@ noted_after_line u events now log i step line apart at loose outs n = record {
 pub noted_after_record : NotedAfterRecord
 noted_after_record u events now log i step members r apart n opened at close text outs ins older = record {
   recorded = λ k other others at_k done file close_k. elim (done_in_done events i k true true done) [
-    | inl before ↦ line_for u now log i k step other (Recorded r) others apart at at_k (λ e. opened.1 true (subst (λ j. Contains events (Done j true)) e before)) outs_are (n.recorded k other others at_k before file close_k)
+    | inl before ↦ line_for u now log i k step other (lines.Record r) others apart at at_k (λ e. opened.1 true (subst (λ j. Contains events (Done j true)) e before)) outs_are (n.recorded k other others at_k before file close_k)
     | inr (e, w) ↦
         let same : step ≡ other = one_step u.build.steps k step other (subst (λ j. step_at u.build.steps j ≡ Some step) e at) at_k in
         let one : members ≡ others = same_members u apart k step other (subst (λ j. step_at u.build.steps j ≡ Some step) e at) at_k members others close close_k in
-        subst₂ (λ s ms. IsRecorded now (log ++ Recorded r ∷ []) s ms) same one
-        (record { last = r; found = subst (λ o. find_record o (log ++ Recorded r ∷ []) ≡ Some r) outs_are (last_word log (Recorded r)); text = text; outs = outs; ins = ins })
+        subst₂ (λ s ms. IsRecorded now (log ++ lines.Record r ∷ []) s ms) same one
+        (record { last = r; found = subst (λ o. find_record o (log ++ lines.Record r ∷ []) ≡ Some r) outs_are (last_word log (lines.Record r)); text = text; outs = outs; ins = ins })
   ];
   none_older = λ k other others at_k done file close_k. elim (done_in_done events i k true true done) [
     | inl before ↦ n.none_older k other others at_k before file close_k
@@ -138,12 +140,12 @@ noted_after_record u events now log i step members r apart n opened at close tex
         subst₂ (λ s ms. NoneOlder now s ms) same one older
   ];
   not_started = λ k other at_k none.
-      others_unsaid other.outs log (Recorded r)
+      others_unsaid other.outs log (lines.Record r)
       (λ e. other_outs u apart i k step other at at_k (λ same. none (subst (λ j. Contains (events ++ Done i true ∷ []) (Start j)) (sym same) (Contains-append_left events (Done i true ∷ []) (Start i) opened.0))) (sym outs_are ∙ e))
       ∙ n.not_started k other at_k (λ c. none (Contains-append_left events (Done i true ∷ []) (Start k) c));
 }
   where
-    outs_are : outs_of (Recorded r) ≡ step.outs
+    outs_are : outs_of (lines.Record r) ≡ step.outs
     outs_are = stamped_paths now step.outs r.outs outs
 
 -- an output of a child that ended well is newer than its step's members

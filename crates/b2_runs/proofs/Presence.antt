@@ -6,7 +6,8 @@ use Rattle.b2_host.specs.Standing.{Folder, Disk}
 use Rattle.b2_plan.specs.declared.step.Step.{Step}
 use Rattle.b2_plan.specs.Plans.{Makes, Apart}
 use Rattle.b2_plan.specs.Closures.{Value, with_bytes}
-use Rattle.b2_runs.specs.Logs.{Line, find_record}
+use Rattle.b2_log.specs.declared.line.LogLine.{LogLine}
+use Rattle.b2_log.specs.Finding.{find_record}
 use Rattle.b2_runs.specs.Staleness.{Update, IsRecorded, NoneOlder, IsFresh, paths_with_bytes}
 use Rattle.b2_runs.specs.Runs.{Settled, Settled.source, Settled.done_well, Settled.fresh}
 use Rattle.b2_runs.specs.Soundness.{IsSound}
@@ -16,7 +17,7 @@ use Rattle.b2_runs.proofs.Standings.{stamped_move, path_in_back, with_bytes_in}
 use Rattle.b2_runs.proofs.Settling.{source_kept, unstarted_kept}
 
 -- a record of files that stand as before is one still, by a log that says the same
-pub recorded_move : (old new : Folder) (log later : List Line) (step : Step) (members : List (List ℕ × Value)) → ((out : List ℕ) → Contains step.outs out → new out ≡ old out) → ((member : List ℕ) (value : Value) → Contains members (member, value) → new member ≡ old member)
+pub recorded_move : (old new : Folder) (log later : List LogLine) (step : Step) (members : List (List ℕ × Value)) → ((out : List ℕ) → Contains step.outs out → new out ≡ old out) → ((member : List ℕ) (value : Value) → Contains members (member, value) → new member ≡ old member)
     → find_record step.outs later ≡ find_record step.outs log → IsRecorded old log step members → IsRecorded new later step members
 recorded_move old new log later step members outs ins says r = record {
   last = r.last;
@@ -32,7 +33,7 @@ pub none_older_move : (old new : Folder) (step : Step) (members : List (List ℕ
 none_older_move old new step members outs ins n out m x p q co cm at_p at_q = n out m x p q co cm (sym (outs out co) ∙ at_p) (sym (ins m x cm) ∙ at_q)
 
 -- a step is judged alike where its outputs and members stand as before, and the log says the same of it
-pub fresh_move : (u : Update) (events : List ChildEvent) (new : Folder) (later : List Line) (step : Step) (members : List (List ℕ × Value))
+pub fresh_move : (u : Update) (events : List ChildEvent) (new : Folder) (later : List LogLine) (step : Step) (members : List (List ℕ × Value))
     → ((out : List ℕ) → Contains step.outs out → new out ≡ u.build.folder out)
     → ((member : List ℕ) (value : Value) → Contains members (member, value) → new member ≡ u.build.folder member)
     → find_record step.outs later ≡ find_record step.outs u.log

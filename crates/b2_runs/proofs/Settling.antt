@@ -8,7 +8,8 @@ use Rattle.b2_plan.specs.Plans.{log_path, Makes, Apart}
 use Rattle.b2_plan.specs.Sources.{Build, IsSource, IsInRoots}
 use Rattle.b2_plan.specs.Closures.{Value, with_bytes}
 use Rattle.b2_plan.specs.Cleans.{Val, Clean, value_of}
-use Rattle.b2_runs.specs.Logs.{IsTrueRecord, Line.Recorded}
+use Rattle.b2_log.specs.declared.line.LogLine.TheVariants as lines
+use Rattle.b2_runs.specs.Logs.{IsTrueRecord}
 use Rattle.b2_runs.specs.Staleness.{Update, IsFresh}
 use Rattle.b2_runs.specs.Runs.{Settled, Settled.source, Settled.done_well, Settled.fresh, Needed.wanted}
 use Rattle.b2_runs.specs.Outcomes.{AllWent}
@@ -55,7 +56,7 @@ fresh_bytes : (u : Update) (events : List ChildEvent) (disk : Disk) → IsSound 
     → (out : List ℕ) → Contains step.outs out → Holds u.build.folder out (Some (u.build.made step.text (with_bytes members) out))
 fresh_bytes u events disk sound step members f hold out c =
     let last = f.recorded.last in
-    let told : IsTrueRecord u.build.made disk.past last = sound.log_true (Recorded last) (found_is_there step.outs u.log last f.recorded.found).0 in
+    let told : IsTrueRecord u.build.made disk.past last = sound.log_true (lines.Record last) (found_is_there step.outs u.log last f.recorded.found).0 in
     let same : told.held ≡ with_bytes members =
     same_held disk.past u.build.folder sound.keeps.one_each sound.entry_stood (with_bytes members) last.ins told.held (λ p x d. hold p (Some x) (with_bytes_in members p x d)) f.recorded.ins told.ins in
     let (stamp, there, has) = stamp_of u.build.folder step.outs last.outs f.recorded.outs out c in

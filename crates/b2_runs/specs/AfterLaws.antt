@@ -8,7 +8,8 @@ use Rattle.b2_plan.specs.Plans.{Apart, Makes, step_at}
 use Rattle.b2_plan.specs.Sources.{Build, IsInRoots}
 use Rattle.b2_plan.specs.Closures.{Value, Values, IsClose}
 use Rattle.b2_plan.specs.Cleans.{Clean}
-use Rattle.b2_runs.specs.Logs.{Line, find_record}
+use Rattle.b2_log.specs.declared.line.LogLine.{LogLine}
+use Rattle.b2_log.specs.Finding.{find_record}
 use Rattle.b2_runs.specs.Staleness.{Update, IsFresh}
 use Rattle.b2_runs.specs.Runs.{Settled, on_settled, IsRunSoFar, CanStart}
 use Rattle.b2_runs.specs.Outcomes.{AllWent}
@@ -22,7 +23,7 @@ CleanBySources = (b : Build) (now : Folder) (path : List ℕ) (value : Value) �
 -- a step that was not started is judged by the present files, and by a log that says of it what it said at entry, as by
 -- those at entry
 abbrev pub JudgedByPresent : Type 0
-JudgedByPresent = (u : Update) (events : List ChildEvent) (disk : Disk) (log : List Line) (i : ℕ) (step : Step) (members : List (List ℕ × Value)) → Apart u.build.steps u.build.roots → IsSound u events disk → find_record step.outs log ≡ find_record step.outs u.log
+JudgedByPresent = (u : Update) (events : List ChildEvent) (disk : Disk) (log : List LogLine) (i : ℕ) (step : Step) (members : List (List ℕ × Value)) → Apart u.build.steps u.build.roots → IsSound u events disk → find_record step.outs log ≡ find_record step.outs u.log
     → step_at u.build.steps i ≡ Some step → (Contains events (Start i) → ⊥) → ((member : List ℕ) (value : Value) → Contains members (member, value) → Settled u events member)
     → IsFresh (at_present u disk.now log) events step members ↔ IsFresh u events step members
 
@@ -46,21 +47,21 @@ ClosureByPresent = (u : Update) (events : List ChildEvent) (disk : Disk) (step :
 
 -- what was settled is settled to the next update before any event, but for what an always-step or a notfile step reaches
 abbrev pub SettledAfterwards : Type 0
-SettledAfterwards = (u : Update) (events : List ChildEvent) (disk : Disk) (log : List Line) (path : List ℕ) → Apart u.build.steps u.build.roots → IsRunSoFar u events → IsSound u events disk → IsNoted u events disk.now log
+SettledAfterwards = (u : Update) (events : List ChildEvent) (disk : Disk) (log : List LogLine) (path : List ℕ) → Apart u.build.steps u.build.roots → IsRunSoFar u events → IsSound u events disk → IsNoted u events disk.now log
     → Settled u events path → (Restless u.build path → ⊥) → Settled (next_update u disk.now log) [] path
 
 -- a step whose outputs were settled is fresh to the next update before any event, but for those that an always-step or a
 -- notfile step reaches
 abbrev pub FreshAfterwards : Type 0
-FreshAfterwards = (u : Update) (events : List ChildEvent) (disk : Disk) (log : List Line) (i : ℕ) (step : Step) (path : List ℕ) → Apart u.build.steps u.build.roots → IsRunSoFar u events → IsSound u events disk → IsNoted u events disk.now log
+FreshAfterwards = (u : Update) (events : List ChildEvent) (disk : Disk) (log : List LogLine) (i : ℕ) (step : Step) (path : List ℕ) → Apart u.build.steps u.build.roots → IsRunSoFar u events → IsSound u events disk → IsNoted u events disk.now log
     → Makes u.build.steps i step path → Settled u events path → (Restless u.build path → ⊥) → IsFreshStep (next_update u disk.now log) [] step
 
 -- where all went well, the next update can at no moment of its run start any other step
 abbrev pub NoneCanStartAfterwards : Type 0
-NoneCanStartAfterwards = (u : Update) (events later : List ChildEvent) (disk : Disk) (log : List Line) (i : ℕ) (step : Step) (path : List ℕ) → Apart u.build.steps u.build.roots → IsRunSoFar u events → IsSound u events disk → IsNoted u events disk.now log → AllWent u events
+NoneCanStartAfterwards = (u : Update) (events later : List ChildEvent) (disk : Disk) (log : List LogLine) (i : ℕ) (step : Step) (path : List ℕ) → Apart u.build.steps u.build.roots → IsRunSoFar u events → IsSound u events disk → IsNoted u events disk.now log → AllWent u events
     → IsRunSoFar (next_update u disk.now log) later → Makes u.build.steps i step path → (Restless u.build path → ⊥) → CanStart (next_update u disk.now log) later i → ⊥
 
 -- so its run, however far it has gone, holds the start of no other step
 abbrev pub NothingStartsAfterwards : Type 0
-NothingStartsAfterwards = (u : Update) (events later : List ChildEvent) (disk : Disk) (log : List Line) (i : ℕ) (step : Step) (path : List ℕ) → Apart u.build.steps u.build.roots → IsRunSoFar u events → IsSound u events disk → IsNoted u events disk.now log → AllWent u events
+NothingStartsAfterwards = (u : Update) (events later : List ChildEvent) (disk : Disk) (log : List LogLine) (i : ℕ) (step : Step) (path : List ℕ) → Apart u.build.steps u.build.roots → IsRunSoFar u events → IsSound u events disk → IsNoted u events disk.now log → AllWent u events
     → IsRunSoFar (next_update u disk.now log) later → Makes u.build.steps i step path → (Restless u.build path → ⊥) → Contains later (Start i) → ⊥

@@ -8,16 +8,17 @@ use Rattle.b2_plan.specs.Plans.{step_at, Makes}
 use Rattle.b2_plan.specs.Sources.{Build}
 use Rattle.b2_plan.specs.Closures.{Value, IsClose}
 use Rattle.b2_plan.specs.Cleans.{Clean}
-use Rattle.b2_runs.specs.Logs.{Line, find_record}
+use Rattle.b2_log.specs.declared.line.LogLine.{LogLine}
+use Rattle.b2_log.specs.Finding.{find_record}
 use Rattle.b2_runs.specs.Staleness.{Update, IsRecorded, NoneOlder, IsFresh}
 use Rattle.b2_runs.specs.Runs.{on_settled}
 
 -- the same update, with these files and this log at entry
-abbrev pub at_present : Update → Folder → List Line → Update
+abbrev pub at_present : Update → Folder → List LogLine → Update
 at_present u now log = record u { build = record u.build { folder = now }; log = log }
 
 -- the next update: with these files and this log at entry, and not to run all
-abbrev pub next_update : Update → Folder → List Line → Update
+abbrev pub next_update : Update → Folder → List LogLine → Update
 next_update u now log = record (at_present u now log) { all = false }
 
 -- The least set of paths that are made by an always-step or a notfile step, or by a step whose closure has one of this set.
@@ -29,7 +30,7 @@ pub data Restless (b : Build) : List ℕ → Type 0 where
 -- The log has the last word on each step, and the files stand so: of a step that was done well it has the record of the
 -- step and of these files, and no output of it is older than a member; of a step that was not started it says what it
 -- said at entry.
-pub record IsNoted (u : Update) (events : List ChildEvent) (now : List ℕ → Option File) (log : List Line) : Type 0 where
+pub record IsNoted (u : Update) (events : List ChildEvent) (now : List ℕ → Option File) (log : List LogLine) : Type 0 where
   pub recorded : (i : ℕ) (step : Step) (members : List (List ℕ × Value)) → step_at u.build.steps i ≡ Some step → Contains events (Done i true) → step.notfile ≡ false → IsClose u.build (Clean u.build) step members → IsRecorded now log step members
   pub none_older : (i : ℕ) (step : Step) (members : List (List ℕ × Value)) → step_at u.build.steps i ≡ Some step → Contains events (Done i true) → step.notfile ≡ false → IsClose u.build (Clean u.build) step members → NoneOlder now step members
   pub not_started : (i : ℕ) (step : Step) → step_at u.build.steps i ≡ Some step → (Contains events (Start i) → ⊥) → find_record step.outs log ≡ find_record step.outs u.log

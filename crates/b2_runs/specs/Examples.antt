@@ -1,4 +1,4 @@
-use Rattle.std.specs.Prelude.{ℕ, true, false, List, [], ◌∷◌, ◌++◌, Some, None, codes, if◌then◌else◌}
+use Rattle.std.specs.Prelude.{◌≡◌, ℕ, ◌<◌, length, true, false, List, [], ◌∷◌, ◌++◌, Some, None, codes, if◌then◌else◌}
 use Rattle.std.specs.List.{flat_map}
 use Rattle.std.specs.Str.{bytes_eq}
 use Rattle.b2_host.specs.declared.children.ChildEvent.{ChildEvent}
@@ -9,7 +9,12 @@ use Rattle.b2_plan.specs.declared.step.Step.{Step}
 use Rattle.b2_plan.specs.Plans.{Apart}
 use Rattle.b2_plan.specs.Sources.{Build}
 use Rattle.b2_plan.specs.Closures.{Value}
-use Rattle.b2_runs.specs.Logs.{Record, Line, Line.Recorded, Line.Dropped, LogTrue}
+use Rattle.b2_log.specs.declared.line.Record.{Record}
+use Rattle.b2_log.specs.declared.line.LogLine.{LogLine}
+use Rattle.b2_log.specs.declared.line.LogLine.TheVariants as lines
+use Rattle.b2_log.specs.Lines.{log_bytes}
+use Rattle.b2_runs.specs.Logs.{LogTrue}
+use Rattle.b2_runs.specs.LogFiles.{IsLogOf, FileTells, IsTrueFile}
 use Rattle.b2_runs.specs.Staleness.{Update, IsFresh, IsStale}
 use Rattle.b2_runs.specs.Runs.{IsRun}
 use Rattle.b2_runs.specs.Outcomes.{AllWent, IsStuck}
@@ -78,8 +83,8 @@ disk_after = record { now = put out_path (Some out_file) at_entry; past = in_pas
 abbrev pub copy_record : Record
 copy_record = record { text = codes "cat"; outs = (out_path, 2) ∷ []; ins = (in_path, 1) ∷ [] }
 
-abbrev pub log_after : List Line
-log_after = Recorded copy_record ∷ []
+abbrev pub log_after : List LogLine
+log_after = lines.Record copy_record ∷ []
 
 -- the child that runs in between
 abbrev pub copy_given : Given
@@ -109,6 +114,20 @@ pub record CopyingHolds : Type 0 where
   pub log_true : LogTrue copying.build.made disk_after.past log_after
   pub noted : IsNoted copying copied disk_after.now log_after
 
+-- the bytes of that log: one line, with the byte 9 between its fields and 10 at its end
+abbrev pub copy_bytes : List ℕ
+copy_bytes = codes "+1" ++ 9 ∷ codes "cat" ++ 9 ∷ codes "1" ++ 9 ∷ codes "bin/out" ++ 9 ∷ codes "2" ++ 9 ∷ codes "1" ++ 9 ∷ codes "in" ++ 9 ∷ codes "1" ++ 9 ∷ codes "." ++ 10 ∷ []
+
+-- A file of these bytes counts as that log, is true, and tells the record. Where bytes of its end are missing it is still
+-- true, and tells nothing. It is not true where nothing has stood.
+pub record CopyingFiled : Type 0 where
+  pub spelled : log_bytes log_after ≡ copy_bytes
+  pub counts : IsLogOf copy_bytes log_after
+  pub is_true : IsTrueFile copying.build.made disk_after.past copy_bytes
+  pub tells : FileTells copy_bytes (out_path ∷ []) (Some copy_record)
+  pub torn : (part missing : List ℕ) → copy_bytes ≡ part ++ missing → 0 < length missing → IsTrueFile copying.build.made disk_after.past part × FileTells part (out_path ∷ []) None
+  pub not_true : ¬ IsTrueFile copying.build.made [] copy_bytes
+
 -- the step that copies, and its closure
 abbrev pub copy_step : Step
 copy_step = step_from (in_path ∷ [])
@@ -117,7 +136,7 @@ abbrev pub in_members : List (List ℕ × Value)
 in_members = (in_path, Some (7 ∷ [])) ∷ []
 
 -- an update after it, with these files and this log
-abbrev pub after_copying : Folder → List Line → Update
+abbrev pub after_copying : Folder → List LogLine → Update
 after_copying now log = next_update copying now log
 
 -- a file that was written anew
@@ -136,7 +155,7 @@ pub record CopyingJudged : Type 0 where
   pub output_removed : IsStale (after_copying (put out_path None disk_after.now) log_after) [] copy_step in_members
   -- the log was deleted, or the record dropped
   pub log_deleted : IsStale (after_copying disk_after.now []) [] copy_step in_members
-  pub record_dropped : IsStale (after_copying disk_after.now (log_after ++ Dropped (out_path ∷ []) ∷ [])) [] copy_step in_members
+  pub record_dropped : IsStale (after_copying disk_after.now (log_after ++ lines.Drop (out_path ∷ []) ∷ [])) [] copy_step in_members
   -- the closure has lost a member, though no stamp rose
   pub member_lost : IsStale (after_copying disk_after.now log_after) [] copy_step []
   -- the text is another

@@ -8,12 +8,15 @@ pub mod Afterwards
 pub mod ClosureLaws
 pub mod CleanLaws
 pub mod LogLaws
+pub mod LogFiles
+pub mod LogFileLaws
 pub mod SettledLaws
 pub mod RunLaws
 pub mod SoundLaws
 pub mod AfterLaws
 pub mod NotedLaws
 pub mod StuckLaws
+pub mod StopLaws
 pub mod Examples
 pub mod StaleLaws
 pub mod CompleteLaws

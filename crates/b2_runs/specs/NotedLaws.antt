@@ -7,7 +7,10 @@ use Rattle.b2_plan.specs.declared.step.Step.{Step}
 use Rattle.b2_plan.specs.Plans.{Apart, step_at}
 use Rattle.b2_plan.specs.Closures.{Value, IsClose}
 use Rattle.b2_plan.specs.Cleans.{Clean}
-use Rattle.b2_runs.specs.Logs.{Record, Line, Line.Recorded, outs_of, find_record}
+use Rattle.b2_log.specs.declared.line.Record.{Record}
+use Rattle.b2_log.specs.declared.line.LogLine.{LogLine}
+use Rattle.b2_log.specs.declared.line.LogLine.TheVariants as lines
+use Rattle.b2_log.specs.Finding.{outs_of, find_record}
 use Rattle.b2_runs.specs.Staleness.{Update, AreStamped, paths_with_bytes, NoneOlder, IsFresh}
 use Rattle.b2_runs.specs.Runs.{IsOpen, IsRunSoFar}
 use Rattle.b2_runs.specs.Outcomes.{IsFailed, LeavesNothing}
@@ -16,29 +19,29 @@ use Rattle.b2_runs.specs.Afterwards.{next_update, IsNoted}
 
 -- before any event a log that says what the one at entry said has the last word
 abbrev pub NotedAtEntry : Type 0
-NotedAtEntry = (u : Update) (now : Folder) (log : List Line) → ((outs : List (List ℕ)) → find_record outs log ≡ find_record outs u.log) → IsNoted u [] now log
+NotedAtEntry = (u : Update) (now : Folder) (log : List LogLine) → ((outs : List (List ℕ)) → find_record outs log ≡ find_record outs u.log) → IsNoted u [] now log
 
 -- .. and as a step starts
 abbrev pub NotedAfterStart : Type 0
-NotedAfterStart = (u : Update) (events : List ChildEvent) (now : Folder) (log : List Line) (i : ℕ) → IsNoted u events now log → IsNoted u (events ++ Start i ∷ []) now log
+NotedAfterStart = (u : Update) (events : List ChildEvent) (now : Folder) (log : List LogLine) (i : ℕ) → IsNoted u events now log → IsNoted u (events ++ Start i ∷ []) now log
 
 -- .. as steps that run or failed change their outputs
 abbrev pub NotedAfterDrift : Type 0
-NotedAfterDrift = (u : Update) (events : List ChildEvent) (before after : Disk) (log : List Line) → Apart u.build.steps u.build.roots → IsRunSoFar u events → Drifts u events before after → IsNoted u events before.now log → IsNoted u events after.now log
+NotedAfterDrift = (u : Update) (events : List ChildEvent) (before after : Disk) (log : List LogLine) → Apart u.build.steps u.build.roots → IsRunSoFar u events → Drifts u events before after → IsNoted u events before.now log → IsNoted u events after.now log
 
 -- .. as a step is done badly, or as one is done that has no record
 abbrev pub NotedAfterOtherEnd : Type 0
-NotedAfterOtherEnd = (u : Update) (events : List ChildEvent) (now : Folder) (log : List Line) (i : ℕ) (step : Step) (well : Bool) → step_at u.build.steps i ≡ Some step → (well ≡ true → step.notfile ≡ true) → IsNoted u events now log → IsNoted u (events ++ Done i well ∷ []) now log
+NotedAfterOtherEnd = (u : Update) (events : List ChildEvent) (now : Folder) (log : List LogLine) (i : ℕ) (step : Step) (well : Bool) → step_at u.build.steps i ≡ Some step → (well ≡ true → step.notfile ≡ true) → IsNoted u events now log → IsNoted u (events ++ Done i well ∷ []) now log
 
 -- .. as a line is appended for the outputs of a step that runs or failed, as one that drops its record
 abbrev pub NotedAfterLine : Type 0
-NotedAfterLine = (u : Update) (events : List ChildEvent) (now : Folder) (log : List Line) (i : ℕ) (step : Step) (line : Line) → Apart u.build.steps u.build.roots → step_at u.build.steps i ≡ Some step → IsLoose events i → outs_of line ≡ step.outs → IsNoted u events now log → IsNoted u events now (log ++ line ∷ [])
+NotedAfterLine = (u : Update) (events : List ChildEvent) (now : Folder) (log : List LogLine) (i : ℕ) (step : Step) (line : LogLine) → Apart u.build.steps u.build.roots → step_at u.build.steps i ≡ Some step → IsLoose events i → outs_of line ≡ step.outs → IsNoted u events now log → IsNoted u events now (log ++ line ∷ [])
 
 -- .. and as a step is done well and its record is appended
 abbrev pub NotedAfterRecord : Type 0
-NotedAfterRecord = (u : Update) (events : List ChildEvent) (now : Folder) (log : List Line) (i : ℕ) (step : Step) (members : List (List ℕ × Value)) (r : Record) → Apart u.build.steps u.build.roots → IsNoted u events now log → IsOpen events i
+NotedAfterRecord = (u : Update) (events : List ChildEvent) (now : Folder) (log : List LogLine) (i : ℕ) (step : Step) (members : List (List ℕ × Value)) (r : Record) → Apart u.build.steps u.build.roots → IsNoted u events now log → IsOpen events i
     → step_at u.build.steps i ≡ Some step → IsClose u.build (Clean u.build) step members → r.text ≡ step.text → AreStamped now step.outs r.outs → AreStamped now (paths_with_bytes members) r.ins → NoneOlder now step members
-    → IsNoted u (events ++ Done i true ∷ []) now (log ++ Recorded r ∷ [])
+    → IsNoted u (events ++ Done i true ∷ []) now (log ++ lines.Record r ∷ [])
 
 -- a child that ends well leaves no output older than a member of its step's closure
 abbrev pub OutputsAreNewer : Type 0
@@ -47,5 +50,5 @@ OutputsAreNewer = (u : Update) (events : List ChildEvent) (old new : Family) (be
 
 -- a failed step is stale to the next update, since its outputs do not stand
 abbrev pub FailedIsStale : Type 0
-FailedIsStale = (u : Update) (events : List ChildEvent) (now : Folder) (log : List Line) (i : ℕ) (step : Step) (members : List (List ℕ × Value)) → Apart u.build.steps u.build.roots → LeavesNothing u events now log → IsFailed events i
+FailedIsStale = (u : Update) (events : List ChildEvent) (now : Folder) (log : List LogLine) (i : ℕ) (step : Step) (members : List (List ℕ × Value)) → Apart u.build.steps u.build.roots → LeavesNothing u events now log → IsFailed events i
     → step_at u.build.steps i ≡ Some step → IsFresh (next_update u now log) [] step members → ⊥

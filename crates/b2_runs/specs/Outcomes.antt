@@ -8,7 +8,8 @@ use Rattle.b2_plan.specs.Plans.{log_path, step_at, Makes}
 use Rattle.b2_plan.specs.Sources.{Build, IsGiven, IsMissing}
 use Rattle.b2_plan.specs.Closures.{Known, Before}
 use Rattle.b2_plan.specs.Cleans.{Clean}
-use Rattle.b2_runs.specs.Logs.{Line, find_record}
+use Rattle.b2_log.specs.declared.line.LogLine.{LogLine}
+use Rattle.b2_log.specs.Finding.{find_record}
 use Rattle.b2_runs.specs.Staleness.{Update}
 use Rattle.b2_runs.specs.Runs.{Settled, on_settled, Needed}
 
@@ -78,7 +79,7 @@ IsCleanBuild b now = (path : List ℕ) → Contains b.wanted path
     → ((bytes : List ℕ) × Clean b path (Some bytes) × (bytes_at now path ≡ Some bytes)) ⊎ ((i : ℕ) × (step : Step) × Makes b.steps i step path × (step.notfile ≡ true))
 
 -- No output of a failed step stands, and the log has no record for its outputs.
-pub record LeavesNothing (u : Update) (events : List ChildEvent) (now : Folder) (log : List Line) : Type 0 where
+pub record LeavesNothing (u : Update) (events : List ChildEvent) (now : Folder) (log : List LogLine) : Type 0 where
   pub files : (i : ℕ) (step : Step) (path : List ℕ) → IsFailed events i → Makes u.build.steps i step path → now path ≡ None
   pub records : (i : ℕ) (step : Step) → IsFailed events i → step_at u.build.steps i ≡ Some step → find_record step.outs log ≡ None
 

@@ -8,7 +8,8 @@ use Rattle.b2_plan.specs.declared.step.Step.{Step}
 use Rattle.b2_plan.specs.Plans.{Apart, Makes, log_path, step_at}
 use Rattle.b2_plan.specs.Closures.{Value, IsClose}
 use Rattle.b2_plan.specs.Cleans.{Clean}
-use Rattle.b2_runs.specs.Logs.{Record, LogTrue, IsTrueRecord}
+use Rattle.b2_log.specs.declared.line.Record.{Record}
+use Rattle.b2_runs.specs.Logs.{LogTrue, IsTrueRecord}
 use Rattle.b2_runs.specs.Staleness.{Update, AreStamped, paths_with_bytes}
 use Rattle.b2_runs.specs.Runs.{Settled}
 use Rattle.b2_runs.specs.Soundness.{IsSound, IsLoose, Drifts, AreAtWork}

@@ -8,12 +8,14 @@ use Rattle.b2_plan.specs.declared.step.Step.{Step}
 use Rattle.b2_plan.specs.Plans.{Makes}
 use Rattle.b2_plan.specs.Sources.{Build}
 use Rattle.b2_plan.specs.Closures.{Value, with_bytes}
-use Rattle.b2_runs.specs.Logs.{Record, Line, find_record}
+use Rattle.b2_log.specs.declared.line.Record.{Record}
+use Rattle.b2_log.specs.declared.line.LogLine.{LogLine}
+use Rattle.b2_log.specs.Finding.{find_record}
 
 -- What an update begins with: its plan with the files at entry, the log at entry, and the options.
 pub record Update : Type 0 where
   pub build : Build
-  pub log : List Line
+  pub log : List LogLine
   -- all that is needed runs
   pub all : Bool
   -- nothing starts after a failure
@@ -39,7 +41,7 @@ paths_with_bytes members = map path_in (with_bytes members)
 
 -- The log's last line for the step's outputs is a record with this very text, these outputs with the stamps of the files
 -- that stand there, and exactly the members that have bytes, with the stamps of theirs.
-pub record IsRecorded (folder : List ℕ → Option File) (log : List Line) (step : Step) (members : List (List ℕ × Value)) : Type 0 where
+pub record IsRecorded (folder : List ℕ → Option File) (log : List LogLine) (step : Step) (members : List (List ℕ × Value)) : Type 0 where
   pub last : Record
   pub found : find_record step.outs log ≡ Some last
   pub text : last.text ≡ step.text

@@ -1,11 +1,17 @@
 //! Small updates for which all that the laws ask for holds, so that no law speaks of nothing.
-ghost use Rattle.b2_runs.specs.Examples.{CopyingHolds, CopyingJudged, CirclingHolds};
+ghost use Rattle.b2_runs.specs.Examples.{CopyingHolds, CopyingFiled, CopyingJudged, CirclingHolds};
 ghost use Rattle.b2_runs.specs.Overlap.{OverlapHolds, FailureHolds};
 
 /// An update that copies one file: its run is a whole run in which all went well, its disk is sound, its log is true and
 /// has the last word.
 pub fn copying_holds()
     ensures { CopyingHolds }
+{}
+
+/// The log of that update as a file: it counts as the one line, is true, and tells the record; torn, it is true and tells
+/// nothing.
+pub fn copying_filed()
+    ensures { CopyingFiled }
 {}
 
 /// The step of that update is fresh to the next one where nothing was done, and stale where a file, the log, its closure or

@@ -6,12 +6,14 @@ pub mod child_laws;
 pub mod closure_laws;
 pub mod complete_laws;
 pub mod examples;
+pub mod log_file_laws;
 pub mod log_laws;
 pub mod noted_laws;
 pub mod run_laws;
 pub mod settled_laws;
 pub mod sound_laws;
 pub mod stale_laws;
+pub mod stop_laws;
 pub mod stuck_laws;
 #[cfg(test)]
 mod tests;

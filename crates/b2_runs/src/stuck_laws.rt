@@ -1,5 +1,5 @@
 //! Laws of stuck steps: each needs another, so they go in a circle.
-ghost use Rattle.b2_runs.specs.StuckLaws.{StuckByStuck, StuckNeedsStuck, StartsAreDone, OpenWithinJobs, StepCycleIsOne};
+ghost use Rattle.b2_runs.specs.StuckLaws.{StuckByStuck, StuckNeedsStuck, StartsAreDone, OpenWithinJobs, StepCycleIsOne, StepCycleIsThere, StuckIsCycle};
 
 /// Where a stuck step needs an output of a step that is not settled, that step is stuck too.
 pub fn stuck_by_stuck()
@@ -24,4 +24,14 @@ pub fn step_cycle_is_one()
 /// No more steps are open than there are jobs.
 pub fn open_within_jobs()
     ensures { OpenWithinJobs }
+{}
+
+/// Where each stuck step has a lowest stuck step that it needs, there is a step cycle.
+pub fn step_cycle_is_there()
+    ensures { StepCycleIsThere }
+{}
+
+/// Where a step is stuck there is a step cycle, if for each stuck step a list has all that it is known to read.
+pub fn stuck_is_cycle()
+    ensures { StuckIsCycle }
 {}

@@ -1,7 +1,7 @@
 //! Each law is called once.
 use crate::{
-    after_laws, child_laws, closure_laws, complete_laws, examples, log_laws, noted_laws, run_laws,
-    settled_laws, sound_laws, stale_laws, stuck_laws,
+    after_laws, child_laws, closure_laws, complete_laws, examples, log_file_laws, log_laws,
+    noted_laws, run_laws, settled_laws, sound_laws, stale_laws, stop_laws, stuck_laws,
 };
 use std::marker::Brand;
 use std::test::Fail;
@@ -34,10 +34,33 @@ fn each_law_can_be_called(_rt: HostRuntime) -> Result<(), Fail> {
     complete_laws::starts_come_first();
     complete_laws::failed_is_not_settled();
     examples::copying_holds();
+    examples::copying_filed();
     examples::copying_judged();
     examples::circling_holds();
     examples::overlap_holds();
     examples::failure_holds();
+    log_file_laws::file_is_one_log();
+    log_file_laws::file_is_some_log();
+    log_file_laws::read_file_tells();
+    log_file_laws::true_file_tells();
+    log_file_laws::empty_file_is_true();
+    log_file_laws::file_true_as_past_grows();
+    log_file_laws::true_front();
+    log_file_laws::true_with_spelling();
+    log_file_laws::true_with_torn_spelling();
+    log_file_laws::true_of_kept();
+    log_file_laws::append_adds();
+    log_file_laws::torn_append_leaves();
+    log_file_laws::read_tells_log();
+    log_file_laws::true_by_file();
+    log_file_laws::true_where_missing();
+    log_file_laws::true_where_still();
+    log_file_laws::torn_tells_others();
+    log_file_laws::kept_tells_same();
+    log_file_laws::record_is_proper();
+    log_file_laws::drop_is_proper();
+    log_file_laws::true_through_work();
+    log_file_laws::true_through_removal();
     log_laws::found_is_there();
     log_laws::last_word();
     log_laws::others_unsaid();
@@ -82,10 +105,20 @@ fn each_law_can_be_called(_rt: HostRuntime) -> Result<(), Fail> {
     sound_laws::record_is_true();
     stale_laws::stale_by_point();
     stale_laws::stale_by_point_alone();
+    stop_laws::run_is_begun();
+    stop_laws::begun_goes_on();
+    stop_laws::sound_before_ends();
+    stop_laws::noted_through_ends();
+    stop_laws::noted_though_torn();
+    stop_laws::fresh_though_stopped();
+    stop_laws::not_started_again();
+    stop_laws::no_work_is_lost();
     stuck_laws::stuck_by_stuck();
     stuck_laws::stuck_needs_stuck();
     stuck_laws::starts_are_done();
     stuck_laws::step_cycle_is_one();
+    stuck_laws::step_cycle_is_there();
+    stuck_laws::stuck_is_cycle();
     stuck_laws::open_within_jobs();
     Ok(())
 }

@@ -1,4 +1,4 @@
-use Rattle.std.proofs.Common.{◌≡◌, ℕ, suc, ◌<◌, true, false, sym, ◌∙◌, refl, add-one, get_or}
+use Rattle.std.proofs.Common.{◌≡◌, true, false, sym, ◌∙◌, refl, add-one}
 use Rattle.b2_plan.specs.declared.step.Step.{Step}
 use Rattle.b2_plain.specs.Placings.{IsClash}
 use Rattle.b2_plain.proofs.Reaching.{never}

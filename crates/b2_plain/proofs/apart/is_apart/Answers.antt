@@ -1,4 +1,4 @@
-use Rattle.std.proofs.Common.{◌≡◌, ℕ, suc, List, true, false, sym, subst, ◌∙◌, refl, add-one}
+use Rattle.std.proofs.Common.{◌≡◌, true, false, sym, subst, refl, add-one}
 use Rattle.std.specs.List.{Contains}
 use Rattle.b2_plain.specs.Placings.{IsStepPlaced}
 use Rattle.b2_plain.proofs.Reaching.{never}

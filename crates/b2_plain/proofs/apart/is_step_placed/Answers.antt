@@ -1,4 +1,4 @@
-use Rattle.std.proofs.Common.{◌≡◌, ◌≢◌, ◌<◌, ℕ, List, [], true, false, sym, subst, ◌∙◌, refl, length, arith}
+use Rattle.std.proofs.Common.{◌≡◌, ℕ, List, true, false, sym, subst, ◌∙◌, refl, arith}
 use Rattle.std.specs.List.{Contains}
 use Rattle.b2_plain.specs.Placings.{IsPlaced}
 use Rattle.b2_plain.proofs.Reaching.{never, read_in}

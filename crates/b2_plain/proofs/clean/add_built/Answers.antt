@@ -1,4 +1,4 @@
-use Rattle.std.proofs.Common.{ℕ, List, Option, ◌≡◌, sym, subst}
+use Rattle.std.proofs.Common.{ℕ, List, Option, sym, subst}
 use Rattle.b2_plan.specs.Closures.{IsClose}
 use Rattle.b2_runs.proofs.Closings.{close_is_one}
 use Rattle.b2_plain.specs.Tables.{build_of}

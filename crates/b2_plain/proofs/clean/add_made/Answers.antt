@@ -1,4 +1,4 @@
-use Rattle.std.proofs.Common.{◌≡◌, ℕ, List, Option, ◌++◌, ◌∷◌, [], ap, ◌∙◌, subst, sym}
+use Rattle.std.proofs.Common.{◌≡◌, ℕ, List, Option, ◌++◌, ◌∷◌, [], ap, ◌∙◌, subst}
 use Rattle.std.specs.List.{Contains}
 use Rattle.b2_plan.specs.Cleans.{value_of}
 use Rattle.b2_plain.specs.Tables.{build_of}

@@ -1,4 +1,4 @@
-use Rattle.std.proofs.Common.{◌≡◌, ℕ, List, ◌++◌, ◌∷◌, [], ap, sym, ◌∙◌, Option, Some, None, append-nil, Vec}
+use Rattle.std.proofs.Common.{◌≡◌, ℕ, List, ◌++◌, ◌∷◌, [], ap, sym, ◌∙◌, Some, None, append-nil}
 use Rattle.b2_plan.specs.Closures.{with_bytes}
 use Rattle.b2_plain.proofs.Parts.{take_whole}
 use Rattle.b2_plain.proofs.Cleaning.{bytes_some, bytes_none}

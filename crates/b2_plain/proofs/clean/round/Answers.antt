@@ -1,5 +1,4 @@
 use Rattle.std.proofs.Common.{ℕ, List, Option, subst}
-use Rattle.std.specs.List.{Contains}
 use Rattle.b2_plan.specs.declared.step.Step.{Step}
 use Rattle.b2_plain.specs.Tables.{build_of}
 use Rattle.b2_plain.specs.Reaches.{held}

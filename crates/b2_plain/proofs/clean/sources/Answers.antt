@@ -1,9 +1,7 @@
 use Rattle.std.proofs.Common.{◌≡◌, ℕ, List, Option, Some, ◌++◌, ◌∷◌, [], ap, ◌∙◌, subst, sym, ◌↔◌, ◌⊎◌}
 use Rattle.std.specs.List.{Contains}
 use Rattle.b2_runs.proofs.Elements.{Contains_nil}
-use Rattle.b2_plan.specs.Sources.{IsGiven}
 use Rattle.b2_plain.specs.Tables.{build_of}
-use Rattle.b2_plain.specs.Fillings.{IsGrown}
 use Rattle.b2_plain.proofs.Growing.{grown_none, grown_more, grown_push, grown_same, grown_whole}
 use Rattle.b2_plain.proofs.Cleaning.{IsSourceAt, source_here, sources_whole}
 use Rattle.b2_plain.proofs.clean.sources.Goals as goal

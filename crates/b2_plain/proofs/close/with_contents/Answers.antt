@@ -1,5 +1,4 @@
-use Rattle.std.proofs.Common.{◌≡◌, ℕ, List, ◌++◌, ◌∷◌, [], ap, subst₂, ◌∙◌, Option}
-use Rattle.std.specs.List.{Contains}
+use Rattle.std.proofs.Common.{◌≡◌, ℕ, List, ◌++◌, ◌∷◌, [], ap, ◌∙◌, Option}
 use Rattle.b2_plain.proofs.Closed.{valued_none, valued_more, valued_whole}
 use Rattle.b2_plain.proofs.Reaching.{read_in}
 use Rattle.b2_plain.proofs.close.with_contents.Goals as goal

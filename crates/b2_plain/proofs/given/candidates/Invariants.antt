@@ -1,4 +1,4 @@
-use Rattle.std.proofs.Common.{ℕ, ◌<◌, get_or, List}
+use Rattle.std.proofs.Common.{ℕ, ◌<◌, get_or}
 use Rattle.std.specs.List.{Contains}
 use Rattle.b2_host.specs.Standing.{Past}
 use Rattle.b2_plain.proofs.given.candidates.Given as goal

@@ -1,4 +1,4 @@
-use Rattle.std.proofs.Common.{◌≡◌, sym, subst, ◌∙◌, true, false, IsTrue, get_or}
+use Rattle.std.proofs.Common.{◌≡◌, sym, subst, ◌∙◌, true, false, get_or}
 use Rattle.std.specs.List.{AllByRecursion}
 use Rattle.b2_plan.specs.Sources.{IsGiven, IsMissing}
 use Rattle.b2_plain.specs.Tables.{build_of}

@@ -1,4 +1,4 @@
-use Rattle.std.proofs.Common.{◌≡◌, ℕ, suc, List, ap, sym, subst, ◌∙◌, refl, true, false, Option, get_or}
+use Rattle.std.proofs.Common.{◌≡◌, ℕ, suc, List, sym, subst, ◌∙◌, refl, true, false, get_or}
 use Rattle.std.specs.List.{Contains}
 use Rattle.b2_plan.specs.declared.step.Step.{Step}
 use Rattle.b2_plain.proofs.Outs.{makes_at, not_made, none_more}

@@ -1,4 +1,4 @@
-use Rattle.std.proofs.Common.{ℕ, ◌<◌, get_or, List}
+use Rattle.std.proofs.Common.{ℕ, ◌<◌, get_or}
 use Rattle.std.specs.List.{Contains}
 use Rattle.b2_plan.specs.declared.step.Step.{Step}
 use Rattle.b2_plain.proofs.given.is_made.Given as goal

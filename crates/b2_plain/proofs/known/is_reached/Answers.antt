@@ -1,6 +1,4 @@
-use Rattle.std.proofs.Common.{inr, refl, subst}
-use Rattle.b2_plain.specs.Tables.{build_of}
-use Rattle.b2_plain.specs.Reaches.{held, IsIncluded}
+use Rattle.std.proofs.Common.{inr, refl}
 use Rattle.b2_plain.proofs.Reaching.{read_in}
 use Rattle.b2_plain.proofs.known.is_reached.Goals as goal
 

@@ -1,4 +1,4 @@
-use Rattle.std.proofs.Common.{◌≡◌, ℕ, List, sym, ◌∙◌, true, false, IsTrue}
+use Rattle.std.proofs.Common.{◌≡◌, ℕ, List, sym, ◌∙◌, true, false}
 use Rattle.b2_plain.specs.Tables.{build_of}
 use Rattle.b2_plain.specs.Reaches.{held, IsReached}
 use Rattle.b2_plain.proofs.Reaching.{at_place, none_in}

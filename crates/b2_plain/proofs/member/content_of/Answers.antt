@@ -1,4 +1,4 @@
-use Rattle.std.proofs.Common.{◌≡◌, ℕ, List, ap, sym, subst, ◌∙◌, Option}
+use Rattle.std.proofs.Common.{ℕ, List, ap, sym, subst, ◌∙◌, Option}
 use Rattle.std.specs.List.{Contains}
 use Rattle.std.specs.Str.{bytes_eq}
 use Rattle.b2_plain.proofs.Parts.{absent_more, take_whole}

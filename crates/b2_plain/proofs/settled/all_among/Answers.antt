@@ -1,4 +1,4 @@
-use Rattle.std.proofs.Common.{◌≡◌, ◌<◌, ℕ, List, Option, true, false, ap, sym, subst, ◌∙◌, refl, arith, get_or}
+use Rattle.std.proofs.Common.{◌≡◌, ℕ, List, Option, true, false, sym, subst, refl, arith}
 use Rattle.std.specs.List.{Contains}
 use Rattle.b2_plain.proofs.Reaching.{never, read_in}
 use Rattle.b2_plain.proofs.Outs.{none_more}

@@ -1,4 +1,4 @@
-use Rattle.std.proofs.Common.{◌≡◌, ℕ, suc, List, inl, inr, Some, true, false, sym, ap, subst, ◌∙◌, refl, add-one, ◌+◌}
+use Rattle.std.proofs.Common.{◌≡◌, List, inl, inr, Some, true, false, sym, subst, ◌∙◌, refl, add-one, ◌+◌}
 use Rattle.b2_plan.specs.declared.step.Step.{Step}
 use Rattle.b2_plan.specs.Plans.{step_at}
 use Rattle.b2_plain.specs.Moments.{update_of}

@@ -1,4 +1,3 @@
-use Rattle.std.proofs.Common.{ℕ, List}
 use Rattle.b2_plan.specs.Sources.{IsGiven}
 use Rattle.b2_runs.specs.Runs.{Settled}
 use Rattle.b2_plain.specs.Tables.{build_of}

@@ -1,5 +1,4 @@
-use Rattle.std.proofs.Common.{◌≡◌, ℕ, ◌<◌, List, Option, Some, None, true, false, ap, sym, subst, ◌∙◌, refl, arith}
-use Rattle.std.specs.List.{Contains}
+use Rattle.std.proofs.Common.{◌≡◌, ℕ, List, Some, None, sym, subst, ◌∙◌, refl, arith}
 use Rattle.b2_host.specs.Standing.{File}
 use Rattle.b2_plain.specs.Tables.{folder_of}
 use Rattle.b2_plain.proofs.Reaching.{never, read_in}

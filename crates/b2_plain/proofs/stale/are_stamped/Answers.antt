@@ -1,5 +1,5 @@
-use Rattle.std.proofs.Common.{◌≡◌, ℕ, List, Some, true, false, sym, ap, subst₂, ◌∙◌, refl, get_or}
-use Rattle.b2_runs.specs.Staleness.{stamp_at, AreStamped}
+use Rattle.std.proofs.Common.{◌≡◌, ℕ, List, Some, true, false, sym, subst₂, refl}
+use Rattle.b2_runs.specs.Staleness.{stamp_at}
 use Rattle.b2_plain.specs.Tables.{folder_of}
 use Rattle.b2_plain.proofs.Reaching.{never}
 use Rattle.b2_plain.proofs.Zips.{zip_more, zip_at, zip_whole, zip_long}

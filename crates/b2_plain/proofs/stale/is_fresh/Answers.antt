@@ -1,8 +1,6 @@
-use Rattle.std.proofs.Common.{◌≡◌, ℕ, List, Option, Some, true, false, sym, subst, ◌∙◌}
+use Rattle.std.proofs.Common.{◌≡◌, ℕ, List, true, false, sym, subst}
 use Rattle.std.specs.List.{Contains}
-use Rattle.b2_host.specs.Standing.{File}
 use Rattle.b2_plan.specs.declared.step.Step.{Step}
-use Rattle.b2_plain.specs.Tables.{folder_of}
 use Rattle.b2_plain.specs.Moments.{update_of, IsTouched}
 use Rattle.b2_plain.proofs.Reaching.{never}
 use Rattle.b2_plain.proofs.Touching.{fresh_so, fresh_touched}

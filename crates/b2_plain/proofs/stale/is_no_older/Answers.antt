@@ -1,4 +1,4 @@
-use Rattle.std.proofs.Common.{◌≡◌, ℕ, List, Option, true, false, ap, sym, subst, ◌∙◌}
+use Rattle.std.proofs.Common.{◌≡◌, ℕ, List, Option, true, false, sym, subst, ◌∙◌}
 use Rattle.b2_plain.specs.Tables.{folder_of}
 use Rattle.b2_plain.proofs.Reaching.{never, read_in}
 use Rattle.b2_plain.proofs.Touching.{NotOlder}

@@ -1,4 +1,4 @@
-use Rattle.std.proofs.Common.{◌≡◌, ℕ, suc, List, true, false, sym, subst, ◌∙◌, refl, add-one, ◌⊎◌, inl, inr}
+use Rattle.std.proofs.Common.{◌≡◌, ℕ, List, true, false, sym, subst, ◌∙◌, refl, add-one}
 use Rattle.std.specs.List.{Contains}
 use Rattle.b2_plain.proofs.Reaching.{never}
 use Rattle.b2_plain.proofs.Touching.{touched_here, touched_none, touched_more}

@@ -1,6 +1,5 @@
-use Rattle.std.proofs.Common.{◌≡◌, ℕ, ◌≤◌, List, Option, Some, true, false, ap, sym, subst, ◌∙◌, refl, arith}
+use Rattle.std.proofs.Common.{◌≡◌, ℕ, List, true, false, subst, refl}
 use Rattle.std.specs.List.{Contains}
-use Rattle.b2_host.specs.Standing.{File}
 use Rattle.b2_plain.specs.Tables.{folder_of}
 use Rattle.b2_plain.proofs.Reaching.{never, read_in}
 use Rattle.b2_plain.proofs.Outs.{none_more}

@@ -1,4 +1,4 @@
-use Rattle.std.proofs.Common.{◌≡◌, ℕ, List, Option, true, false, ap, sym, subst, ◌∙◌, refl}
+use Rattle.std.proofs.Common.{◌≡◌, ℕ, List, Option, true, false, sym, subst, ◌∙◌, refl}
 use Rattle.b2_plain.specs.Moments.{IsTouched}
 use Rattle.b2_plain.proofs.Reaching.{never, read_in, none_in}
 use Rattle.b2_plain.proofs.Outs.{none_more}

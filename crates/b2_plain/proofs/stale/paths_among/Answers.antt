@@ -1,4 +1,4 @@
-use Rattle.std.proofs.Common.{◌≡◌, ℕ, List, ◌++◌, ◌∷◌, [], ap, sym, ◌∙◌, Option, Some, None}
+use Rattle.std.proofs.Common.{◌≡◌, ℕ, List, ◌++◌, ◌∷◌, [], ap, sym, ◌∙◌, Some, None}
 use Rattle.b2_plain.proofs.Cleaning.{paths_some, paths_none}
 use Rattle.b2_plain.proofs.stale.paths_among.Goals as goal
 use Rattle.b2_plain.proofs.stale.paths_among.Goals.{in-Some+in_ok-copy+in_ok-push, in_default}

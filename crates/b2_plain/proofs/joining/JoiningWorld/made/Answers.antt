@@ -1,4 +1,4 @@
-use Rattle.std.proofs.Common.{◌≡◌, ℕ, List, ◌++◌, ap, sym, ◌∙◌}
+use Rattle.std.proofs.Common.{◌++◌, ap, sym, ◌∙◌}
 use Rattle.b2_plain.specs.Joins.{joined}
 use Rattle.b2_plain.proofs.Parts.{take_whole}
 use Rattle.b2_plain.proofs.Joins.{joined_more}

@@ -1,0 +1,151 @@
+use Rattle.std.proofs.Common.{◌≡◌, ℕ, Bool, true, false, List, [], ◌∷◌, ◌++◌, inl, inr, refl, sym, ap, subst, subst₂, ◌∙◌, append_assoc, append-nil}
+use Rattle.std.specs.List.{Contains, AllByRecursion}
+use Rattle.std.proofs.lemmas.List.Elements.{Contains-append_left, Contains-append_cases}
+use Rattle.b2_host.specs.declared.children.ChildEvent.{ChildEvent}
+use Rattle.b2_host.specs.declared.children.ChildEvent.TheVariants.{Start, Done}
+use Rattle.b2_host.specs.Standing.{Disk}
+use Rattle.b2_plan.specs.declared.step.Step.{Step}
+use Rattle.b2_plan.specs.Plans.{Makes, Apart}
+use Rattle.b2_log.specs.declared.line.LogLine.{LogLine}
+use Rattle.b2_runs.specs.Staleness.{Update, IsFresh}
+use Rattle.b2_runs.specs.Runs.{Settled, Settled.done_well, is_done, RunFrom, IsRunSoFar, IsBegun, CanStart}
+use Rattle.b2_runs.specs.Soundness.{IsSound, IsLoose, Drifts}
+use Rattle.b2_runs.specs.Afterwards.{next_update, Restless, Restless.through, IsNoted}
+use Rattle.b2_runs.specs.StopLaws.{RunIsBegun, BegunGoesOn, SoundBeforeEnds, NotedThroughEnds, NotedThoughTorn, FreshThoughStopped, NotStartedAgain, NoWorkIsLost}
+use Rattle.b2_runs.proofs.Elements.{one_step, Contains_cases, Contains_nil}
+use Rattle.b2_runs.proofs.Moves.{close_on_settled, same_members, start_in_start, done_in_start, start_in_done, done_in_done}
+use Rattle.b2_runs.proofs.Sameness.{clean_close_to}
+use Rattle.b2_runs.proofs.Noting.{noted_after_drift, noted_after_line}
+use Rattle.b2_runs.proofs.Calmness.{same_sources, judge_next, fresh_afterwards}
+
+-- a start is none of some ends
+start_not_done : (rest : List ChildEvent) → AllByRecursion (λ event. is_done event ≡ true) rest → (i : ℕ) → Contains rest (Start i) → ⊥
+start_not_done [] ends i c = Contains_nil (Start i) c
+start_not_done (event ∷ rest) ends i c = elim (Contains_cases event (Start i) rest c) [
+  | inl e ↦ (let f : false ≡ true = ap is_done (sym e) ∙ ends.0 in cc)
+  | inr d ↦ start_not_done rest ends.1 i d
+]
+
+-- each start of what has begun is before the ends
+start_before : (u : Update) (events : List ChildEvent) (b : IsBegun u events) (i : ℕ) → Contains events (Start i) → Contains b.front (Start i)
+start_before u events b i c = elim (Contains-append_cases b.front b.rest (Start i) (subst (λ l. Contains l (Start i)) b.whole c)) [
+  | inl d ↦ d
+  | inr d ↦ absurd (start_not_done b.rest b.only_ends i d)
+]
+
+-- each event before the ends is one of all
+event_after : (u : Update) (events : List ChildEvent) (b : IsBegun u events) (event : ChildEvent) → Contains b.front event → Contains events event
+event_after u events b event c = subst (λ l. Contains l event) (sym b.whole) (Contains-append_left b.front b.rest event c)
+
+pub run_is_begun : RunIsBegun
+run_is_begun u events run = (record { front = events; rest = []; whole = sym (append-nil events); run = run; only_ends = tt }, refl)
+
+more_ends : (rest : List ChildEvent) (i : ℕ) (well : Bool) → AllByRecursion (λ event. is_done event ≡ true) rest → AllByRecursion (λ event. is_done event ≡ true) (rest ++ Done i well ∷ [])
+more_ends [] i well ends = (refl, tt)
+more_ends (event ∷ rest) i well ends = (ends.0, more_ends rest i well ends.1)
+
+pub begun_goes_on : BegunGoesOn
+begun_goes_on u events i well b = (
+  record {
+    front = b.front;
+    rest = b.rest ++ Done i well ∷ [];
+    whole = ap (λ (l : List ChildEvent). l ++ Done i well ∷ []) b.whole ∙ append_assoc b.front b.rest (Done i well ∷ []);
+    run = b.run;
+    only_ends = more_ends b.rest i well b.only_ends;
+  },
+  refl,
+)
+
+pub sound_before_ends : SoundBeforeEnds
+sound_before_ends u events disk b s = record {
+  keeps = s.keeps;
+  entry_stood = s.entry_stood;
+  log_true = s.log_true;
+  done_well = λ i step path makes done. s.done_well i step path makes (event_after u events b (Done i true) done);
+  only_outputs = λ path not_log unmade. s.only_outputs path not_log (λ i step started makes. unmade i step (start_before u events b i started) makes);
+}
+
+-- what is loose after the ends was so before them
+loose_before : (u : Update) (events : List ChildEvent) (b : IsBegun u events) (i : ℕ) → IsLoose events i → IsLoose b.front i
+loose_before u events b i l = (start_before u events b i l.0, λ done. l.1 (event_after u events b (Done i true) done))
+
+drifts_before : (u : Update) (events : List ChildEvent) (before after : Disk) (b : IsBegun u events) → Drifts u events before after → Drifts u b.front before after
+drifts_before u events before after b d = record {
+  keeps = d.keeps;
+  others = λ path not_log unmade. d.others path not_log (λ i step makes loose. unmade i step makes (loose_before u events b i loose));
+  grows = d.grows;
+}
+
+pub noted_through_ends : NotedThroughEnds
+noted_through_ends u events before after log b apart d n = noted_after_drift u b.front before after log apart b.run (drifts_before u events before after b d) n
+
+pub noted_though_torn : NotedThoughTorn
+noted_though_torn u events now log after i step line apart at loose outs (inl same) n = subst (IsNoted u events now) (sym same) n
+noted_though_torn u events now log after i step line apart at loose outs (inr whole) n = subst (IsNoted u events now) (sym whole) (noted_after_line u events now log i step line apart at loose outs n)
+
+pub fresh_though_stopped : FreshThoughStopped
+fresh_though_stopped u events disk log i step path b apart s n makes settled calm =
+    fresh_afterwards u b.front disk log i step path apart b.run (sound_before_ends u events disk b s) n makes settled calm
+
+-- ---- the next update
+
+-- no step was started whose outputs were settled, but for those that an always-step or a notfile step reaches
+abbrev NoneRepeated : Update → List ChildEvent → List ChildEvent → Type 0
+NoneRepeated u events later = (i : ℕ) (step : Step) (path : List ℕ) → Makes u.build.steps i step path → Settled u events path → (Restless u.build path → ⊥) → Contains later (Start i) → ⊥
+
+-- each step that is done was started
+abbrev Begun : List ChildEvent → Type 0
+Begun later = (i : ℕ) (well : Bool) → Contains later (Done i well) → Contains later (Start i)
+
+-- where none was started so far, none can start
+rests : (u : Update) (events later : List ChildEvent) (disk : Disk) (log : List LogLine) (i : ℕ) (step : Step) (path : List ℕ) → Apart u.build.steps u.build.roots → IsRunSoFar u events → IsSound u events disk → IsNoted u events disk.now log
+    → Begun later → NoneRepeated u events later → Makes u.build.steps i step path → Settled u events path → (Restless u.build path → ⊥) → CanStart (next_update u disk.now log) later i → ⊥
+rests u events later disk log i step path apart run sound noted begun none makes settled calm can =
+    let next = next_update u disk.now log in
+    let j = judge_next u events disk log apart run sound noted i step path makes settled calm in
+    let f : IsFresh next later step j.members = record {
+      not_all = j.is_fresh.not_all;
+      not_always = j.is_fresh.not_always;
+      not_notfile = j.is_fresh.not_notfile;
+      stand = j.is_fresh.stand;
+      none_older = j.is_fresh.none_older;
+      none_done = λ m y k other well c makes_m d. none k other m makes_m (j.inside m y c) (λ r. calm (through i step path j.members m y makes j.close c r)) (begun k well d);
+      none_notfile = j.is_fresh.none_notfile;
+      recorded = j.is_fresh.recorded;
+    } in
+    let same : step ≡ can.step = one_step u.build.steps i step can.step makes.at can.at in
+    let close = clean_close_to u.build disk.now (same_sources u events disk apart sound) step j.members j.close in
+    let close_can = (close_on_settled next later can.step can.members apart).0 can.close in
+    let one : j.members ≡ can.members = same_members next apart i step can.step makes.at can.at j.members can.members close close_can.0 in
+    can.stale (subst₂ (λ s ms. IsFresh next later s ms) same one f)
+
+-- along a run none is started
+none_repeated : (u : Update) (events : List ChildEvent) (disk : Disk) (log : List LogLine) → Apart u.build.steps u.build.roots → IsRunSoFar u events → IsSound u events disk → IsNoted u events disk.now log
+    → (before later : List ChildEvent) → Begun before → NoneRepeated u events before → RunFrom (next_update u disk.now log) before later → NoneRepeated u events (before ++ later)
+none_repeated u events disk log apart run sound noted before [] begun none r = subst (NoneRepeated u events) (sym (append-nil before)) none
+none_repeated u events disk log apart run sound noted before (Start i ∷ later) begun none (m, r) =
+    subst (NoneRepeated u events) (append_assoc before (Start i ∷ []) later)
+    (none_repeated u events disk log apart run sound noted (before ++ Start i ∷ []) later
+    (λ k w d. Contains-append_left before (Start i ∷ []) (Start k) (begun k w (done_in_start before i k w d)))
+    (λ k step path makes settled calm c. elim (start_in_start before i k c) [
+      | inl old ↦ none k step path makes settled calm old
+      | inr e ↦ rests u events before disk log k step path apart run sound noted begun none makes settled calm (subst (CanStart (next_update u disk.now log) before) e m.0)
+    ])
+    r)
+none_repeated u events disk log apart run sound noted before (Done i well ∷ later) begun none (m, r) =
+    subst (NoneRepeated u events) (append_assoc before (Done i well ∷ []) later)
+    (none_repeated u events disk log apart run sound noted (before ++ Done i well ∷ []) later
+    (λ k w d. Contains-append_left before (Done i well ∷ []) (Start k) (elim (done_in_done before i k well w d) [
+      | inl old ↦ begun k w old
+      | inr e ↦ subst (λ j. Contains before (Start j)) e.0 m.0.0
+    ]))
+    (λ k step path makes settled calm c. none k step path makes settled calm (start_in_done before i k well c))
+    r)
+
+pub not_started_again : NotStartedAgain
+not_started_again u events later disk log i step path b apart s n run_later makes settled calm c =
+    none_repeated u b.front disk log apart b.run (sound_before_ends u events disk b s) n [] later (λ k w d. absurd (Contains_nil (Done k w) d)) (λ k other p makes_k settled_k calm_k d. Contains_nil (Start k) d) run_later i step path makes settled calm c
+
+pub no_work_is_lost : NoWorkIsLost
+no_work_is_lost u events later disk log i step path b apart s n run_later makes done calm c =
+    not_started_again u events later disk log i step path b apart s n run_later makes (done_well i step path makes done) calm c

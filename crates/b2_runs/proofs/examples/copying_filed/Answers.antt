@@ -1,0 +1,5 @@
+use Rattle.b2_runs.proofs.Filing as lemmas
+use Rattle.b2_runs.proofs.examples.copying_filed.Goals as goal
+
+pub returns : goal.returns
+returns c = lemmas.copying_filed

@@ -1,0 +1,5 @@
+use Rattle.b2_runs.proofs.Proper as lemmas
+use Rattle.b2_runs.proofs.log_file_laws.drop_is_proper.Goals as goal
+
+pub returns : goal.returns
+returns c = lemmas.drop_is_proper

@@ -1,0 +1,5 @@
+use Rattle.b2_runs.proofs.Proper as lemmas
+use Rattle.b2_runs.proofs.log_file_laws.record_is_proper.Goals as goal
+
+pub returns : goal.returns
+returns c = lemmas.record_is_proper

@@ -1,0 +1,5 @@
+use Rattle.b2_runs.proofs.Stopping as lemmas
+use Rattle.b2_runs.proofs.stop_laws.noted_through_ends.Goals as goal
+
+pub returns : goal.returns
+returns c = lemmas.noted_through_ends
