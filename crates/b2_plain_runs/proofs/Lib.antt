@@ -1,0 +1,4 @@
+pub mod Sieving
+pub mod Needing
+pub mod Barring
+pub mod Starting
