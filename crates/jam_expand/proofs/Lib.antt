@@ -1,6 +1,7 @@
 pub mod CutLemmas
 pub mod IndexLemmas
 pub mod WordLemmas
+pub mod UnclosedLemmas
 pub mod LimitLemmas
 pub mod ModifierLemmas
 pub mod ChangeLemmas
@@ -8,6 +9,7 @@ pub mod IndexedLemmas
 pub mod GatherLemmas
 pub mod GlueLemmas
 pub mod ProductLemmas
+pub mod MergedLemmas
 pub mod SumLemmas
 pub mod ExpandLemmas
 pub mod BodyLemmas

@@ -1,5 +1,6 @@
 pub mod Limits
 pub mod Words
+pub mod Unclosed
 pub mod Shown
 pub mod Cuts
 pub mod Indexes
@@ -10,6 +11,8 @@ pub mod Values
 pub mod Glue
 pub mod Products
 pub mod Heads
+pub mod Merged
 pub mod Expansions
 pub mod Bodies
 pub mod BodyCuts
+pub mod Pairs

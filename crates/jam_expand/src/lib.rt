@@ -12,6 +12,8 @@ mod glue;
 mod index;
 mod limit;
 mod modifiers;
+#[cfg(test)]
+mod pairs;
 mod piece;
 mod product;
 mod reference;

@@ -1,5 +1,6 @@
 //! A word, cut into literal text and parts.
-ghost use Rattle.std.specs.Prelude.{◌≡◌, ◌<◌, ◌++◌, length, drop, map, None, IfOk, OnOk, IfSome, IfNone};
+ghost use Rattle.std.specs.Prelude.{◌≡◌, ◌-◌, ◌^◌, ◌<◌, ◌++◌, length, drop, take, map, None, IfOk, OnOk, IfSome, IfNone, if◌then◌else◌};
+ghost use Rattle.jam_expand.specs.Unclosed.{spare_with, unclosed_behind, ends_at};
 ghost use Rattle.jam_expand.specs.Words.{closing, inside_len, literal_of, pieces_of};
 ghost use Rattle.jam_expand.specs.Shown.{shown, IsPartAt};
 
@@ -63,14 +64,64 @@ fn part_at(word: &str, at: usize) -> Option<(&str, usize)>
     Some((&word[at + 2..behind - 1], behind))
 }
 
+/// How many `)` have no `(` of their own, where so many have none in what stands behind the byte.
+fn spare_with(byte: u8, spare: usize) -> usize
+    requires { spare < 2 ^ 63 }
+    ensures { result ≡ spare_with byte spare }
+{
+    match byte {
+        b')' => spare + 1,
+        b'(' => spare.saturating_sub(1),
+        _ => spare,
+    }
+}
+
+/// The places of each `$(` that nothing closes, the last first. One pass from the end finds them.
+fn unclosed_places(alloc: Global, bytes: &[u8]) -> Result<Vec<usize>, OutOfMemory>
+    ensures { IfOk result (λ places. places.items ≡ unclosed_behind 0 bytes.now) }
+{
+    let mut places = Vec::new(alloc);
+    let mut spare = 0;
+    let mut opens = false;
+    let mut at = bytes.len();
+    'bytes: while at > 0 {
+        at -= 1;
+        let byte = bytes[at];
+        if opens && byte == b'$' {
+            places.push(at)?;
+        }
+        opens = byte == b'(' && spare == 0;
+        spare = spare_with(byte, spare);
+    }
+    Ok(places)
+}
+
+/// Whether the places end with this one, which is then taken away.
+fn take_last(places: &mut Vec<usize>, place: usize) -> bool
+    ensures last { result ≡ ends_at place places.old.items }
+    ensures left { places.new.items ≡ (if result then take (length places.old.items - 1) places.old.items else places.old.items) }
+{
+    let len = places.len();
+    if len == 0 || places[len - 1] != place {
+        return false;
+    }
+    places.truncate(len - 1);
+    true
+}
+
 /// The pieces of a word.
 pub fn pieces_of<'a>(alloc: Global, word: &'a str) -> Result<Vec<Piece<'a>>, OutOfMemory>
     ensures { IfOk result (λ pieces. map shown pieces.items ≡ pieces_of word.now) }
 {
     let mut pieces = Vec::new(alloc);
+    let mut unclosed = unclosed_places(alloc, word.as_bytes())?;
     let mut start = 0;
     let mut at = 0;
     'bytes: while at < word.len() {
+        if take_last(&mut unclosed, at) {
+            at += 1;
+            continue 'bytes;
+        }
         match part_at(word, at) {
             None => at += 1,
             Some((inside, behind)) => {

@@ -1,8 +1,10 @@
 //! The product of lists of texts.
-ghost use Rattle.std.specs.Prelude.{◌≡◌, ℕ, ◌≤◌, ◌==◌, ◌++◌, [], ◌∷◌, List, length, map, IfOk, OnOk, IfSome};
+ghost use Rattle.std.specs.Prelude.{◌≡◌, ℕ, ◌≤◌, ◌==◌, ◌++◌, [], ◌∷◌, List, false, length, map, string_bytes, IfOk, OnOk};
 ghost use Rattle.std.specs.List.{list_any};
+ghost use Rattle.b2_base.specs.Bytes.{HasNoZero};
 ghost use Rattle.jam_expand.specs.Heads.{head_of, heads, IsSumOf};
 ghost use Rattle.jam_expand.specs.Limits.{limit, within, IsWithin, IsGivenBy};
+ghost use Rattle.jam_expand.specs.Merged.{merged_behind};
 ghost use Rattle.jam_expand.specs.Products.{cross, product};
 
 use crate::limit::longer;
@@ -11,6 +13,7 @@ use b2_base::fault::OutOfMemory;
 use b2_base::text::Text;
 use b2_base::text_list::TextList;
 use std::alloc::Global;
+use std::mem;
 
 /// One text behind another.
 fn joined(alloc: Global, first: &Text, second: &Text) -> Result<Text, OutOfMemory>
@@ -87,15 +90,18 @@ fn head_len(list: &TextList) -> usize
     }
 }
 
-/// The length of the first element of a product.
-fn heads_len(lists: &[TextList]) -> Option<usize>
-    ensures { IfSome result (λ len. len ≡ length (heads lists.now)) }
+/// The length of the first element of a product; one that no number holds is no text that memory holds.
+fn heads_len(lists: &[TextList]) -> Result<usize, OutOfMemory>
+    ensures { IfOk result (λ len. len ≡ length (heads lists.now)) }
 {
     let mut len = 0usize;
     for list in lists {
-        len = len.checked_add(head_len(list))?;
+        let Some(sum) = len.checked_add(head_len(list)) else {
+            return Err(OutOfMemory);
+        };
+        len = sum;
     }
-    Some(len)
+    Ok(len)
 }
 
 /// The list of the empty text.
@@ -114,16 +120,58 @@ fn any_empty(lists: &[TextList]) -> bool
     lists.iter().any(|list| list.as_slice().is_empty())
 }
 
-/// The product of the lists, the leftmost varying slowest. How large it is, is found before it is made.
-pub fn product(alloc: Global, mut lists: Vec<TextList>) -> Result<TextList, ExpandFault>
+/// Adds a list of one text.
+fn push_single(alloc: Global, lists: &mut Vec<TextList>, text: String) -> Result<(), OutOfMemory>
+    requires { HasNoZero (string_bytes text) }
+    ensures { OnOk result (lists.new.items ≡ lists.old.items ++ (string_bytes text ∷ []) ∷ []) }
+{
+    let mut list = TextList::new(alloc);
+    list.push(Text::from_string(text))?;
+    lists.push(list)?;
+    Ok(())
+}
+
+/// Adds a list. The only text of a list is put behind `run`; before another list `run` is added, and is empty then.
+fn add_list(
+    alloc: Global,
+    lists: &mut Vec<TextList>,
+    run: &mut String,
+    list: TextList,
+) -> Result<(), OutOfMemory>
+    requires { HasNoZero (string_bytes run.old) }
+    ensures merged { OnOk result ((rest : List (List (List ℕ))) → lists.new.items ++ merged_behind (string_bytes run.new) rest ≡ lists.old.items ++ merged_behind (string_bytes run.old) (list ∷ rest)) }
+    ensures no_zero { OnOk result (HasNoZero (string_bytes run.new)) }
+{
+    if let [text] = list.as_slice() {
+        run.push_str(text.as_str())?;
+        return Ok(());
+    }
+    let before = mem::replace(run, String::new(alloc));
+    push_single(alloc, lists, before)?;
+    lists.push(list)?;
+    Ok(())
+}
+
+/// The lists, of which those of one text that stand side by side are joined to one. None is empty, so every other list
+/// has several texts then, and the product at least doubles there: what is made on the way is a few times the product.
+fn merged(alloc: Global, lists: Vec<TextList>) -> Result<Vec<TextList>, OutOfMemory>
+    ensures { IfOk result (λ made. made.items ≡ merged_behind [] lists.items) }
+{
+    let mut made = Vec::new(alloc);
+    let mut run = String::new(alloc);
+    for list in lists {
+        add_list(alloc, &mut made, &mut run, list)?;
+    }
+    push_single(alloc, &mut made, run)?;
+    Ok(made)
+}
+
+/// The product of lists of which none is empty.
+fn filled_product(alloc: Global, mut lists: Vec<TextList>) -> Result<TextList, ExpandFault>
+    requires { list_any (λ list. length list == 0) lists.items ≡ false }
     ensures { IsGivenBy result (within (product lists.items)) }
 {
-    if any_empty(lists.as_slice()) {
-        return Ok(TextList::new(alloc));
-    }
-    let Some(mut before) = heads_len(lists.as_slice()) else {
-        return Err(ExpandFault::OutOfMemory);
-    };
+    let mut before = heads_len(lists.as_slice())?;
     let mut made = one_empty(alloc)?;
     'lists: while let Some(list) = lists.pop() {
         before -= head_len(&list);
@@ -131,4 +179,14 @@ pub fn product(alloc: Global, mut lists: Vec<TextList>) -> Result<TextList, Expa
         made = cross(alloc, list.as_slice(), made.as_slice())?;
     }
     Ok(made)
+}
+
+/// The product of the lists, the leftmost varying slowest. How large it is, is found before it is made.
+pub fn product(alloc: Global, lists: Vec<TextList>) -> Result<TextList, ExpandFault>
+    ensures { IsGivenBy result (within (product lists.items)) }
+{
+    if any_empty(lists.as_slice()) {
+        return Ok(TextList::new(alloc));
+    }
+    filled_product(alloc, merged(alloc, lists)?)
 }

@@ -1,37 +1,15 @@
-use Rattle.std.proofs.Common.{◌≡◌, ◌-◌, [], ap, sym, ◌∙◌, arith, length, take, ◌++◌}
-use Rattle.std.proofs.lemmas.Result.{err_from_is_err_and}
-use Rattle.jam_expand.specs.Heads.{heads}
-use Rattle.jam_expand.specs.Limits.{within}
-use Rattle.jam_expand.proofs.ProductLemmas.{product_empty, made_nothing, before_last, made_fault, made_more, made_all}
+use Rattle.std.proofs.Common.{ap, sym, subst, ◌∙◌, []}
+use Rattle.jam_expand.specs.Limits.{within, IsGivenBy}
+use Rattle.jam_expand.specs.Products.{product}
+use Rattle.jam_expand.proofs.ProductLemmas.{product_empty}
+use Rattle.jam_expand.proofs.MergedLemmas.{merged_same, merged_filled}
 use Rattle.jam_expand.proofs.product.product.Goals as goal
 
 pub returns-then-any_empty : goal.returns-then-any_empty
 returns-then-any_empty c = rw c.new.ensures (ap within (product_empty c.args.lists.items (rw c.as_slice.ensures.value at (sym c.if-any_empty.ensures))))
 
-pub lists-init : goal.lists-init
-lists-init c = rw c.in_ok-made.ensures (made_nothing c.args.lists.items c.in-Some.before (rw c.as_slice.ensures.value at (sym c.if-any_empty.ensures)) (rw c.as_slice-2.ensures.value at c.in-Some.ensures))
-
-pub overflow_sub-before : goal.overflow_sub-before
-overflow_sub-before c =
-    let whole : c.lists.before ≡ _ = before_last c.args.lists.items c.pop.new.self.items c.lists.lists.items c.in-Some-pop.list c.lists.made c.lists.before c.lists.invariant c.in-Some-pop.ensures.items in
-    omega (arith, whole, c.head_len-before.ensures)
-
-pub returns-in_err-sum_of_cross : goal.returns-in_err-sum_of_cross
-returns-in_err-sum_of_cross c =
-    let p = err_from_is_err_and c.from_residual-in_err-sum_of_cross.result c.from_residual-in_err-sum_of_cross.ensures.1 in
-    let whole = before_last c.args.lists.items c.pop.new.self.items c.lists.lists.items c.in-Some-pop.list c.lists.made c.lists.before c.lists.invariant c.in-Some-pop.ensures.items in
-    let len : length (heads c.pop.new.self.items) ≡ c.lists.before - c.head_len-before.result = omega (arith, whole, c.head_len-before.ensures) in
-    rw (p.1, p.2)
-    (made_fault c.args.lists.items c.pop.new.self.items c.lists.lists.items c.in-Some-pop.list c.lists.made c.lists.before c.in_err-sum_of_cross.field-0.0 c.lists.invariant c.in-Some-pop.ensures.items
-    (rw (c.as_slice-in-Some-pop.ensures, c.as_slice-in-Some-pop-2.ensures) at (c.in_err-sum_of_cross.ensures (heads c.pop.new.self.items) len)))
-
-pub lists-preserved : goal.lists-preserved
-lists-preserved c =
-    let whole = before_last c.args.lists.items c.pop.new.self.items c.lists.lists.items c.in-Some-pop.list c.lists.made c.lists.before c.lists.invariant c.in-Some-pop.ensures.items in
-    let len : length (heads c.pop.new.self.items) ≡ c.lists.before - c.head_len-before.result = omega (arith, whole, c.head_len-before.ensures) in
-    rw (c.in_ok-made-2.ensures, c.as_slice-in-Some-pop-3.ensures, c.as_slice-in-Some-pop-4.ensures, c.head_len-before.ensures)
-    (made_more c.args.lists.items c.pop.new.self.items c.lists.lists.items c.in-Some-pop.list c.lists.made c.lists.before c.in_ok-sum_of_cross.field-0 c.lists.invariant c.in-Some-pop.ensures.items
-    (rw (c.as_slice-in-Some-pop.ensures, c.as_slice-in-Some-pop-2.ensures) at (c.in_ok-sum_of_cross.ensures (heads c.pop.new.self.items) len)))
+pub filled_product-requires : goal.filled_product-requires
+filled_product-requires c = rw c.in_ok-merged.ensures (merged_filled [] c.args.lists.items (rw c.as_slice.ensures.value at (sym c.if-any_empty.ensures)))
 
 pub returns : goal.returns
-returns c = made_all c.args.lists.items c.lists.lists.items c.lists.made c.lists.before c.lists.invariant (c.in_default-pop.ensures.items ∙ ap (λ s. s ++ []) (c.in_default-pop.ensures.rest ∙ ap (λ n. take (n - 1) c.lists.lists.items) c.in_default-pop.ensures.cases.0))
+returns c = subst (λ answer. IsGivenBy c.filled_product.result answer) (ap within (ap product c.in_ok-merged.ensures ∙ merged_same c.args.lists.items)) c.filled_product.ensures

@@ -1,6 +1,6 @@
 use Rattle.std.proofs.Common.{vec_len}
 use Rattle.jam_expand.proofs.ProductLemmas.{HasMade}
-use Rattle.jam_expand.proofs.product.product.Given as goal
+use Rattle.jam_expand.proofs.product.filled_product.Given as goal
 
 abbrev pub invariant-lists : goal.invariant-lists
 invariant-lists l = HasMade l.fn.lists.items l.lists.items l.made l.before
