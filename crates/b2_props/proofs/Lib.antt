@@ -3,3 +3,7 @@ pub mod SetLemmas
 pub mod Gaining
 pub mod Completing
 pub mod Showing
+pub mod Reading
+pub mod Joining
+pub mod Rows
+pub mod Requesting

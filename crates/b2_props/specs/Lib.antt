@@ -3,3 +3,7 @@ pub mod Refinement
 pub mod Holding
 pub mod Elements
 pub mod Laws
+pub mod Words
+pub mod Requests
+pub mod Ways
+pub mod Meeting

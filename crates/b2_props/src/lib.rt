@@ -1,12 +1,19 @@
 //! Sets of properties: what stands in them, how they are made whole and refined, and how a request is read.
 #![tactic(auto)]
 
+mod choice;
+mod clashes;
 mod draft;
 pub mod elements;
 pub mod laws;
 mod lookups;
+mod product;
 pub mod props;
 pub mod refinement;
+pub mod request;
+pub mod request_fault;
 pub mod requirement;
 #[cfg(test)]
 mod tests;
+mod ways;
+mod words;

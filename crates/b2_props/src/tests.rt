@@ -4,6 +4,8 @@ use crate::elements::{dir_of, propagated};
 use crate::laws::{no_pairs_are_set, refining_twice};
 use crate::props::Props;
 use crate::refinement::{expand, refine, set_of};
+use crate::request::{PropsList, Request, read_request};
+use crate::request_fault::RequestFault;
 use b2_base::text::{Text, has_no_zero};
 use b2_features::registry::Registry;
 use std::alloc::{AllocError, Global};
@@ -36,7 +38,7 @@ fn pairs(alloc: Global, words: &str) -> Result<Vec<(Text, Text)>, AllocError> {
     Ok(made)
 }
 
-/// Features of a compiler, each with its values and attributes.
+/// Features of a compiler and two optional ones, each with its values and attributes.
 static FEATURES: &str = "toolset: gcc: implicit propagated symmetric
 variant: debug release: implicit composite propagated symmetric
 optimization: off speed space: propagated
@@ -48,6 +50,7 @@ runtime-link: shared static: propagated
 threading: single multi: propagated
 warnings: on all off: incidental
 strip: all: optional
+profile: small: composite optional
 define: : free
 include: : free path";
 
@@ -68,10 +71,11 @@ fn add_feature(registry: &mut Registry, alloc: Global, line: &str) -> Result<(),
 fn compose(
     registry: &mut Registry,
     alloc: Global,
+    name: &str,
     value: &str,
     parts: &str,
 ) -> Result<(), AllocError> {
-    let name = text(alloc, "variant")?;
+    let name = text(alloc, name)?;
     let value = text(alloc, value)?;
     let parts = pairs(alloc, parts)?;
     registry
@@ -87,14 +91,23 @@ fn compiler(alloc: Global) -> Result<Registry, AllocError> {
     compose(
         &mut registry,
         alloc,
+        "variant",
         "debug",
         "optimization=off debug-symbols=on inlining=off runtime-debugging=on",
     )?;
     compose(
         &mut registry,
         alloc,
+        "variant",
         "release",
         "optimization=speed debug-symbols=off inlining=full runtime-debugging=off define=NDEBUG",
+    )?;
+    compose(
+        &mut registry,
+        alloc,
+        "profile",
+        "small",
+        "optimization=space",
     )?;
     Ok(registry)
 }
@@ -196,5 +209,89 @@ fn a_set_has_its_pairs(rt: HostRuntime) -> Result<(), Fail> {
     assert!(rt; Props::new(alloc).pairs().is_empty());
     no_pairs_are_set();
     refining_twice();
+    Ok(())
+}
+
+fn read(alloc: Global, request: &Request) -> Result<String, AllocError> {
+    let mut told = String::new(alloc);
+    for target in request.targets.as_slice() {
+        told.push_str(target.as_str())?;
+        told.push_str(", ")?;
+    }
+    for set in request.sets.as_slice() {
+        told.push_str("[")?;
+        let pairs = shown(alloc, set)?;
+        told.push_str(pairs.as_str())?;
+        told.push_str("]")?;
+    }
+    Ok(told)
+}
+
+fn refused(alloc: Global, fault: &RequestFault) -> Result<String, AllocError> {
+    match fault {
+        RequestFault::UnknownWord { word } => format!(in alloc; "unknown word {}", word.as_str()),
+        RequestFault::UnknownValue { word } => format!(in alloc; "unknown value {}", word.as_str()),
+        RequestFault::Conflict { word } => format!(in alloc; "conflict {}", word.as_str()),
+        RequestFault::OutOfMemory => Err(AllocError),
+    }
+}
+
+/// Reads a request, and tells its targets and sets, or why it is refused.
+fn asked(registry: &Registry, alloc: Global, words: &str) -> Result<String, AllocError> {
+    let words = texts(alloc, words)?;
+    match read_request(alloc, registry, words.as_slice()) {
+        Ok(request) => read(alloc, &request),
+        Err(fault) => refused(alloc, &fault),
+    }
+}
+
+/// Words, and the targets and sets that they ask for, or why they are refused.
+static REQUESTS: [[&str; 2]; 19] = [
+    ["", "[]"],
+    ["debug release", "[variant=debug][variant=release]"],
+    ["debug/release", "conflict debug/release"],
+    ["nothing", "nothing, []"],
+    ["x=y", "unknown word x=y"],
+    ["link=none x=y", "unknown value link=none"],
+    ["debug/x=y/nothing", "debug/x=y/nothing, []"],
+    ["debug link=static", "[variant=debug link=static]"],
+    ["debug lib release", "lib, [variant=debug][variant=release]"],
+    [
+        "debug,release link=static,shared",
+        "[variant=debug link=static][variant=debug link=shared][variant=release link=static][variant=release link=shared]",
+    ],
+    [
+        "link=static debug/threading=multi link=shared",
+        "[variant=debug link=static threading=multi][variant=debug link=shared threading=multi]",
+    ],
+    ["gcc,debug", "[toolset=gcc][variant=debug]"],
+    [
+        "define=A,B define=C",
+        "[define=A define=C][define=B define=C]",
+    ],
+    [
+        "debug/link=static release/link=static",
+        "conflict release/link=static",
+    ],
+    ["link=static/link=static", "[link=static]"],
+    ["link=static link=shared/debug x=y", "unknown word x=y"],
+    ["release profile=small", "conflict profile=small"],
+    [
+        "release profile=small optimization=off",
+        "[variant=release optimization=off profile=small]",
+    ],
+    ["define=a/b define=", "define=a/b, [define=]"],
+];
+
+#[test]
+fn requests_are_read(rt: HostRuntime) -> Result<(), Fail> {
+    let alloc = rt.alloc();
+    let registry = compiler(alloc)?;
+    for [words, want] in REQUESTS {
+        assert_eq!(rt; asked(&registry, alloc, words)?.as_str(), want);
+    }
+    let mut sets = PropsList::new(alloc);
+    sets.push(Props::new(alloc))?;
+    assert!(rt; sets.as_slice()[0].pairs().is_empty());
     Ok(())
 }

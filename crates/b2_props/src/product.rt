@@ -1,0 +1,87 @@
+//! All choices of one of each.
+ghost use Rattle.std.specs.Prelude.{◌≡◌, ◌++◌, ◌∷◌, [], IfOk, OnOk, map};
+ghost use Rattle.std.specs.List.{flat_map};
+ghost use Rattle.b2_props.specs.Requests.{product};
+
+use crate::choice::{Choice, Factor};
+use b2_base::fault::OutOfMemory;
+use std::alloc::Global;
+
+fn copy(choice: &Choice) -> Result<Choice, OutOfMemory>
+    ensures { IfOk result (λ made. made ≡ choice.now) }
+{
+    Ok(Choice {
+        pair: (choice.pair.0.copy()?, choice.pair.1.copy()?),
+        word: choice.word,
+    })
+}
+
+/// A row with one choice more behind it.
+fn longer(alloc: Global, row: &[Choice], choice: &Choice) -> Result<Vec<Choice>, OutOfMemory>
+    ensures { IfOk result (λ made. made.items ≡ row.now ++ choice.now ∷ []) }
+{
+    let mut made = Vec::new(alloc);
+    for earlier in row {
+        made.push(copy(earlier)?)?;
+    }
+    made.push(copy(choice)?)?;
+    Ok(made)
+}
+
+fn push_all(
+    alloc: Global,
+    rows: &mut Vec<Vec<Choice>>,
+    row: &[Choice],
+    choices: &[Choice],
+) -> Result<(), OutOfMemory>
+    ensures { OnOk result (map (λ r. r.items) rows.new.items ≡ map (λ r. r.items) rows.old.items ++ map (λ choice. row.now ++ choice ∷ []) choices.now) }
+{
+    for choice in choices {
+        rows.push(longer(alloc, row, choice)?)?;
+    }
+    Ok(())
+}
+
+/// Adds a row for each choice; the row itself becomes the last of them, so that one choice alone costs no copy of the row.
+fn branch(
+    alloc: Global,
+    rows: &mut Vec<Vec<Choice>>,
+    row: Vec<Choice>,
+    choices: &[Choice],
+) -> Result<(), OutOfMemory>
+    ensures { OnOk result (map (λ r. r.items) rows.new.items ≡ map (λ r. r.items) rows.old.items ++ map (λ choice. row.items ++ choice ∷ []) choices.now) }
+{
+    let mut row = row;
+    if let Some((last, others)) = choices.split_last() {
+        push_all(alloc, rows, row.as_slice(), others)?;
+        row.push(copy(last)?)?;
+        rows.push(row)?;
+    }
+    Ok(())
+}
+
+fn grown(
+    alloc: Global,
+    rows: Vec<Vec<Choice>>,
+    choices: &[Choice],
+) -> Result<Vec<Vec<Choice>>, OutOfMemory>
+    ensures { IfOk result (λ made. map (λ r. r.items) made.items ≡ flat_map (λ row. map (λ choice. row ++ choice ∷ []) choices.now) (map (λ r. r.items) rows.items)) }
+{
+    let mut made = Vec::new(alloc);
+    for row in rows {
+        branch(alloc, &mut made, row, choices)?;
+    }
+    Ok(made)
+}
+
+/// All lists with one choice of each factor, the leftmost varying slowest.
+pub(crate) fn product(alloc: Global, factors: &[Factor]) -> Result<Vec<Vec<Choice>>, OutOfMemory>
+    ensures { IfOk result (λ made. map (λ r. r.items) made.items ≡ product (map (λ f. f.choices.items) factors.now)) }
+{
+    let mut rows = Vec::new(alloc);
+    rows.push(Vec::new(alloc))?;
+    for factor in factors {
+        rows = grown(alloc, rows, factor.choices.as_slice())?;
+    }
+    Ok(rows)
+}
