@@ -91,3 +91,17 @@ fn a_run_leaves_the_clean_build(rt: HostRuntime) -> Result<(), Fail> {
     }
     Ok(())
 }
+
+#[test]
+fn the_text_of_a_step_names_its_files(rt: HostRuntime) -> Result<(), Fail> {
+    let alloc = rt.alloc();
+    let text = "actions join { cat $(>) > $(<) }\nmake out.txt : in.txt : @join ;\n";
+    let bytes = text.as_bytes();
+    if bytes.len() > 1_048_576 {
+        return Err(Fail::from("too long"));
+    }
+    let plan = read_plan(alloc, lex(alloc, bytes)?.as_slice())?;
+    let step = plan.steps.as_slice().first().ok_or("no step")?;
+    assert_eq!(rt; step.text.as_str(), "cat in.txt > bin/out.txt");
+    Ok(())
+}

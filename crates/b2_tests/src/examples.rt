@@ -37,6 +37,7 @@ fn files_without_a_step_are_answered_at_once(rt: HostRuntime) -> Result<(), Fail
         ),
         (JOIN, 0, "updated 0, failed 0, skipped 0, missing 0\n"),
         ("ECHO \"a", 2, "b2: Jamroot:1: open quote\n"),
+        ("actions a { x", 2, "b2: Jamroot:1: open actions\n"),
         ("\nactions a { x", 2, "b2: Jamroot:2: open actions\n"),
         ("actions a { x \"", 2, "b2: Jamroot:1: open actions\n"),
         ("a \"\nactions a { x", 2, "b2: Jamroot:1: open quote\n"),
@@ -53,7 +54,58 @@ fn files_without_a_step_are_answered_at_once(rt: HostRuntime) -> Result<(), Fail
         let done = run_well(rt.alloc(), &[("Jamroot", text)])?;
         assert_eq!(rt; done.status, status);
         assert_eq!(rt; done.output.as_str(), output);
+        assert!(rt; done.host.events().is_empty());
     }
+    Ok(())
+}
+
+/// Jamroots that break a rule, each with the line of the first statement that does. Line 1 has the actions.
+const BROKEN: [(&str, u32); 22] = [
+    ("actions join { }", 2),
+    ("make a : x : @other ;", 2),
+    ("make a : x : @join ;\nmake a : y : @join ;", 3),
+    ("make a.c : x : @join ;", 2),
+    ("make b2.log : x : @join ;", 2),
+    ("make . : x : @join ;", 2),
+    ("make .. : x : @join ;", 2),
+    ("make a/b : x : @join ;", 2),
+    ("make \"\" : x : @join ;", 2),
+    ("make a : a : @join ;", 2),
+    ("make a : b : @join ;\nmake b : x : @join ;", 2),
+    ("make a : bin/x : @join ;", 2),
+    ("make a : stage/x : @join ;", 2),
+    ("make a : dist/x : @join ;", 2),
+    ("make a : ../x : @join ;", 2),
+    ("make a : /x : @join ;", 2),
+    ("make a : x//y : @join ;", 2),
+    ("make a : x.hpp : @join ;", 2),
+    ("make a : x : join ;", 2),
+    ("make a : x : @join", 2),
+    ("actions f { $(X) }", 2),
+    ("make a : x : @join ;\n\nECHO a ;", 4),
+];
+
+#[test]
+fn the_first_statement_that_breaks_a_rule_is_told(rt: HostRuntime) -> Result<(), Fail> {
+    let alloc = rt.alloc();
+    for (text, line) in BROKEN {
+        let text = format!(in alloc; "{JOIN}{text}\n")?;
+        let done = run_well(alloc, &[("Jamroot", text.as_str())])?;
+        let output = format!(in alloc; "b2: Jamroot:{line}: not yet\n")?;
+        assert_eq!(rt; done.status, 2);
+        assert_eq!(rt; done.output.as_str(), output.as_str());
+        assert!(rt; done.host.events().is_empty());
+    }
+    Ok(())
+}
+
+#[test]
+fn a_jamroot_past_its_limit_is_not_yet_at_line_zero(rt: HostRuntime) -> Result<(), Fail> {
+    let alloc = rt.alloc();
+    let spaces = " ".repeat(alloc, 1_048_577)?;
+    let done = run_well(alloc, &[("Jamroot", spaces.as_str())])?;
+    assert_eq!(rt; done.status, 2);
+    assert_eq!(rt; done.output.as_str(), "b2: Jamroot:0: not yet\n");
     Ok(())
 }
 
@@ -73,6 +125,26 @@ fn a_missing_source_skips_its_step(rt: HostRuntime) -> Result<(), Fail> {
         done.output.as_str(),
         "...missing in.txt...\n...skipped bin/out.txt...\nupdated 0, failed 0, skipped 1, missing 1\n"
     );
+    Ok(())
+}
+
+#[test]
+fn each_line_of_the_end_is_one_write(rt: HostRuntime) -> Result<(), Fail> {
+    let rows = [
+        (1, ""),
+        (2, "...missing in.txt...\n"),
+        (3, "...missing in.txt...\n...skipped bin/out.txt...\n"),
+    ];
+    for (write, output) in rows {
+        let faults = Faults {
+            calls: &[],
+            children: &[],
+            write,
+        };
+        let done = run(rt.alloc(), &[("Jamroot", ONE)], &faults)?;
+        assert_eq!(rt; done.status, 6);
+        assert_eq!(rt; done.output.as_str(), output);
+    }
     Ok(())
 }
 

@@ -127,12 +127,13 @@ fn nothing_starts_after_a_fault_of_the_host(rt: HostRuntime) -> Result<(), Fail>
             "join bin/a\nb2: host fault\n",
             [ChildEvent::Start(1), ChildEvent::Done(1, true)].as_slice(),
         ),
+        // The wait that failed was the only one, so the child is left.
         (
             CallKind::Wait,
             1,
             0,
             "join bin/a\nb2: host fault\n",
-            [ChildEvent::Start(1), ChildEvent::Done(1, true)].as_slice(),
+            [ChildEvent::Start(1)].as_slice(),
         ),
         (
             CallKind::Remove,
@@ -212,6 +213,15 @@ fn the_first_of_two_faults_decides(rt: HostRuntime) -> Result<(), Fail> {
             1,
             6,
             "",
+            [ChildEvent::Start(1)].as_slice(),
+        ),
+        // The wait fails, and then the line of that fault.
+        (
+            CallKind::Wait,
+            0,
+            2,
+            4,
+            "join bin/a\n",
             [ChildEvent::Start(1)].as_slice(),
         ),
         // The output of the step that failed cannot be removed, and then the line of that fault fails.

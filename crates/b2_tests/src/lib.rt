@@ -9,5 +9,7 @@ mod examples;
 #[cfg(test)]
 mod faults;
 #[cfg(test)]
+mod language;
+#[cfg(test)]
 mod runs;
 pub mod silent;
