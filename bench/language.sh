@@ -47,6 +47,10 @@ done
 printf '%s' '$(X)$(X)' > text
 part "a word of 1,000,000 elements" word text
 for size in 131072 1048576; do
+    repeat '$(' $((size / 2)) > text
+    part "a word of $size bytes of \$(" word text
+    repeat '$(X[1])' $((size / 7)) > text
+    part "a word of $size bytes of parts of one element" word text
     repeat '$(X) b c ' $((size / 9)) > text
     part "a body of $size bytes" body text
     repeat '$(' $((size / 2)) > text
