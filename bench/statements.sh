@@ -1,6 +1,6 @@
 #!/bin/sh
-# Prints the seconds and the memory that ./b2 takes to plan and to run 1,000 and 10,000 statements, and to read a Jamroot of
-# 1 MiB of comments. Run ./setup.sh first.
+# Prints the seconds and the memory that ./b2 takes to plan and to run 1,000 and 10,000 statements, to plan as many of which
+# each needs earlier ones, and to read a Jamroot of 1 MiB of comments. Run ./setup.sh first.
 set -eu
 top=$(cd "$(dirname "$0")/.." && pwd)
 work=$(mktemp -d)
@@ -20,6 +20,13 @@ for count in 1000 10000; do
     measure "plan $count statements whose source is missing" "$top/b2"
     echo x > s
     measure "plan and run $count statements" "$top/b2"
+    mkdir "$work/$count-each"
+    cd "$work/$count-each"
+    {
+        echo 'actions touch { : > $(<) }'
+        awk -v n="$count" 'BEGIN { print "make t1 : s : @touch ;"; for (i = 2; i <= n; i++) print "make t" i " : t" i - 1 " t" int(i / 2) " : @touch ;" }'
+    } > Jamroot
+    measure "plan $count statements of which each needs earlier ones" "$top/b2"
 done
 
 mkdir "$work/comments"
