@@ -10,7 +10,8 @@ use Rattle.b2_runs.specs.Overlap.{copy_from, x_path, b_path, c_path, three_copie
 use Rattle.b2_runs.proofs.Elements.{Contains_here, Contains_cases, Contains_nil}
 use Rattle.b2_runs.proofs.Rounds.{source_not_made}
 use Rattle.b2_runs.proofs.Copying.{one_of}
-use Rattle.b2_runs.proofs.Overlapping.{number_of, numbered, made_at, apart, makes_b, makes_c, skip, start_not_done, done_not_start, done_number, done_well_is, start_number, can_first, can_second, first_lowest, second_lowest, third_waits, third_needs_second, none_can, second_open, wants_c, after_two}
+use Rattle.b2_runs.proofs.Copies.{number_of}
+use Rattle.b2_runs.proofs.Overlapping.{numbered, made_at, apart, makes_b, makes_c, skip, start_not_done, done_not_start, done_number, done_well_is, start_number, can_first, can_second, first_lowest, second_lowest, third_waits, third_needs_second, none_can, second_open, wants_c, after_two}
 
 abbrev after_failure : List ChildEvent
 after_failure = Start 1 ∷ Start 2 ∷ Done 2 false ∷ []

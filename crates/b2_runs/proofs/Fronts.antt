@@ -137,9 +137,9 @@ pub torn_append_leaves : TornAppendLeaves
 torn_append_leaves bytes log after line part [] r good split within is =
     let all : spelling line ≡ part = split ∙ append-nil part in
     let added : IsLogOf (bytes ++ part) (log ++ line ∷ []) = subst (λ (w : List ℕ). IsLogOf (bytes ++ w) (log ++ line ∷ [])) all (append_adds bytes log line r good (subst (λ (w : List ℕ). length (bytes ++ w) ≤ log_limit) (sym all) within)) in
-    inr (file_is_one_log (bytes ++ part) after (log ++ line ∷ []) is added)
+    inl (refl, file_is_one_log (bytes ++ part) after (log ++ line ∷ []) is added)
 torn_append_leaves bytes log after line part (m ∷ missing) r good split within is =
-    inl (file_is_one_log (bytes ++ part) after log is (is_read (length bytes) within (torn_line bytes log line part (m ∷ missing) r good split (omega arith))))
+    inr ((λ e. let f : m ∷ missing ≡ [] = e in cc), file_is_one_log (bytes ++ part) after log is (is_read (length bytes) within (torn_line bytes log line part (m ∷ missing) r good split (omega arith))))
 
 -- what a torn append leaves, as lines
 torn_log : (bytes : List ℕ) (log : List LogLine) (line : LogLine) (part missing : List ℕ) → IsReading bytes log (length bytes) → IsGood line → spelling line ≡ part ++ missing → length (bytes ++ part) ≤ log_limit → (after : List LogLine) × IsLogOf (bytes ++ part) after
@@ -161,7 +161,7 @@ torn_tells_others bytes log line part missing outs told r good split within diff
     after = torn_log bytes log line part missing r good split within
 
     same : (lines_after : List LogLine) → IsLogOf (bytes ++ part) lines_after → find_record outs lines_after ≡ find_record outs log
-    same lines_after is = logs.others_unsaid_though_torn outs log lines_after line (torn_append_leaves bytes log lines_after line part missing r good split within is) differ
+    same lines_after is = logs.others_unsaid_though_torn outs log lines_after line (elim (torn_append_leaves bytes log lines_after line part missing r good split within is) [ inl whole ↦ inr whole.1 | inr torn ↦ inl torn.1 ]) differ
 
 -- the kept lines are no longer than all
 kept_shorter : (log : List LogLine) → length (log_bytes (kept log)) ≤ length (log_bytes log)

@@ -30,5 +30,7 @@ pub mod Parting
 pub mod Working
 pub mod Judging
 pub mod Filing
+pub mod Copies
 pub mod Overlapping
+pub mod Tailing
 pub mod Failing

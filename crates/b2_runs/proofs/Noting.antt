@@ -167,7 +167,7 @@ outputs_are_newer u events old new before after i step members apart run at_work
 
 -- a failed step has an output that does not stand
 pub failed_is_stale : FailedIsStale
-failed_is_stale u events now log i step members apart leaves bad at f =
+failed_is_stale u events now log quit jobs i step members apart leaves bad at f =
     let (out, c) = some_element step.outs (apart.some_out i step at) in
     let (file, stands) = f.stand out c in
     let gone : now out ≡ None = leaves.files i step out bad (record { at = at; among = c }) in

@@ -1,11 +1,10 @@
-use Rattle.std.proofs.Common.{◌≡◌, ℕ, zero, suc, ◌<◌, ◌+◌, Bool, true, false, List, [], ◌∷◌, length, ◌⊎◌, inl, inr, refl, sym, ap, subst, ◌∙◌, arith, Some, None, codes, if◌then◌else◌, count_by}
+use Rattle.std.proofs.Common.{◌≡◌, ℕ, ◌<◌, ◌+◌, Bool, true, false, List, [], ◌∷◌, length, ◌⊎◌, inl, inr, refl, sym, ap, subst, ◌∙◌, arith, Some, None, codes, count_by}
 use Rattle.std.specs.List.{Contains}
-use Rattle.std.specs.Str.{bytes_eq}
 use Rattle.b2_base.specs.Normal.{IsUnder, parts}
 use Rattle.b2_host.specs.declared.children.ChildEvent.{ChildEvent}
 use Rattle.b2_host.specs.declared.children.ChildEvent.TheVariants.{Start, Done}
 use Rattle.b2_plan.specs.declared.step.Step.{Step}
-use Rattle.b2_plan.specs.Plans.{log_path, step_at, Makes, Apart}
+use Rattle.b2_plan.specs.Plans.{step_at, Makes, Apart}
 use Rattle.b2_plan.specs.Sources.{IsSource}
 use Rattle.b2_plan.specs.Closures.{Value, Values, Known, Known.input as input_of, Known.include, IsClose}
 use Rattle.b2_runs.specs.Runs.{Settled, Settled.source, Settled.done_well, Settled.fresh, on_settled, Needed.wanted, IsOpen, CanStart, IsRun, is_start, is_done}
@@ -16,77 +15,32 @@ use Rattle.b2_runs.proofs.Rounds.{source_not_made}
 use Rattle.b2_runs.proofs.Cleanness.{clean_is_made}
 use Rattle.b2_runs.proofs.Settling.{source_clean}
 use Rattle.b2_runs.proofs.Moves.{close_on_settled}
-use Rattle.b2_runs.proofs.Copying.{one_of, longer, different}
+use Rattle.b2_runs.proofs.Copying.{one_of, longer}
+use Rattle.b2_runs.proofs.Copies as copies
+use Rattle.b2_runs.proofs.Copies.{number_of}
 
 -- the three steps
 pub which : (i : ℕ) (step : Step) → step_at three_copies.steps i ≡ Some step → ((i ≡ 1) × (copy_from x_path a_path ≡ step)) ⊎ ((i ≡ 2) × (copy_from x_path b_path ≡ step)) ⊎ ((i ≡ 3) × (copy_from b_path c_path ≡ step))
-which zero step e = absurd (let f : None ≡ Some step = e in cc)
-which (suc zero) step e = inl (refl, (let f : Some (copy_from x_path a_path) ≡ Some step = e in cc))
-which (suc (suc zero)) step e = inr (inl (refl, (let f : Some (copy_from x_path b_path) ≡ Some step = e in cc)))
-which (suc (suc (suc zero))) step e = inr (inr (refl, (let f : Some (copy_from b_path c_path) ≡ Some step = e in cc)))
-which (suc (suc (suc (suc i)))) step e = absurd (let f : None ≡ Some step = e in cc)
-
--- the number of the step that makes a path
-abbrev pub number_of : List ℕ → ℕ
-number_of path = if bytes_eq path a_path then 1 else (if bytes_eq path b_path then 2 else 3)
+which = copies.which x_path x_path b_path
 
 -- what each makes
 pub made_at : (i : ℕ) (step : Step) (path : List ℕ) → Makes three_copies.steps i step path → ((i ≡ 1) × (a_path ≡ path)) ⊎ ((i ≡ 2) × (b_path ≡ path)) ⊎ ((i ≡ 3) × (c_path ≡ path))
-made_at i step path m = elim (which i step m.at) [
-  | inl (e, s) ↦ inl (e, one_of a_path path (subst (λ (t : Step). Contains t.outs path) (sym s) m.among))
-  | inr (inl (e, s)) ↦ inr (inl (e, one_of b_path path (subst (λ (t : Step). Contains t.outs path) (sym s) m.among)))
-  | inr (inr (e, s)) ↦ inr (inr (e, one_of c_path path (subst (λ (t : Step). Contains t.outs path) (sym s) m.among)))
-]
+made_at = copies.made_at x_path x_path b_path
 
 pub numbered : (i : ℕ) (step : Step) (path : List ℕ) → Makes three_copies.steps i step path → i ≡ number_of path
-numbered i step path m = elim (made_at i step path m) [
-  | inl (e, p) ↦ subst (λ q. i ≡ number_of q) p e
-  | inr (inl (e, p)) ↦ subst (λ q. i ≡ number_of q) p e
-  | inr (inr (e, p)) ↦ subst (λ q. i ≡ number_of q) p e
-]
-
-in_bin : (i : ℕ) (step : Step) (path : List ℕ) → Makes three_copies.steps i step path → IsUnder path (codes "bin") × (length (parts path) ≡ 2) × (bytes_eq path log_path ≡ false)
-in_bin i step path m = elim (made_at i step path m) [
-  | inl (e, p) ↦ subst (λ q. IsUnder q (codes "bin") × (length (parts q) ≡ 2) × (bytes_eq q log_path ≡ false)) p (record { next = codes "a"; more = []; rooted = refl; goes_on = refl; not_above = λ h. refl }, refl, refl)
-  | inr (inl (e, p)) ↦ subst (λ q. IsUnder q (codes "bin") × (length (parts q) ≡ 2) × (bytes_eq q log_path ≡ false)) p (record { next = codes "b"; more = []; rooted = refl; goes_on = refl; not_above = λ h. refl }, refl, refl)
-  | inr (inr (e, p)) ↦ subst (λ q. IsUnder q (codes "bin") × (length (parts q) ≡ 2) × (bytes_eq q log_path ≡ false)) p (record { next = codes "c"; more = []; rooted = refl; goes_on = refl; not_above = λ h. refl }, refl, refl)
-]
-
-has_out : (i : ℕ) (step : Step) → step_at three_copies.steps i ≡ Some step → (path : List ℕ) × Contains step.outs path
-has_out i step at = elim (which i step at) [
-  | inl (e, s) ↦ (a_path, subst (λ (t : Step). Contains t.outs a_path) s (Contains_here a_path []))
-  | inr (inl (e, s)) ↦ (b_path, subst (λ (t : Step). Contains t.outs b_path) s (Contains_here b_path []))
-  | inr (inr (e, s)) ↦ (c_path, subst (λ (t : Step). Contains t.outs c_path) s (Contains_here c_path []))
-]
+numbered = copies.numbered x_path x_path b_path
 
 pub apart : Apart three_copies.steps three_copies.roots
-apart = record {
-  under_root = λ i step path m. (codes "bin", Contains_here (codes "bin") [], (in_bin i step path m).0);
-  one_maker = λ i k step other path m n. numbered i step path m ∙ sym (numbered k other path n);
-  no_folder = λ i k step other path folder m n u.
-      let h = longer path folder u in
-      let e = (in_bin i step path m).1 in
-      let f = (in_bin k other folder n).1 in
-      omega (arith, h, e, f);
-  not_log = λ i step m. different log_path log_path (in_bin i step log_path m).2 refl;
-  not_below_log = λ i step path m u.
-      let h = longer path log_path u in
-      let e = (in_bin i step path m).1 in
-      let small : 2 < length (parts path) = h in
-      omega (arith, small, e);
-  some_out = λ i step at none. (let (path, c) = has_out i step at in Contains_nil path (subst (λ l. Contains l path) none c));
-  bin = Contains_here (codes "bin") [];
-  few = omega arith;
-}
+apart = copies.are_apart x_path x_path b_path
 
 pub makes_a : Makes three_copies.steps 1 (copy_from x_path a_path) a_path
-makes_a = record { at = refl; among = Contains_here a_path [] }
+makes_a = copies.makes_first x_path x_path b_path
 
 pub makes_b : Makes three_copies.steps 2 (copy_from x_path b_path) b_path
-makes_b = record { at = refl; among = Contains_here b_path [] }
+makes_b = copies.makes_second x_path x_path b_path
 
 pub makes_c : Makes three_copies.steps 3 (copy_from b_path c_path) c_path
-makes_c = record { at = refl; among = Contains_here c_path [] }
+makes_c = copies.makes_third x_path x_path b_path
 
 -- one event is not another
 pub skip : (x y : ChildEvent) (xs : List ChildEvent) → (x ≡ y → ⊥) → (Contains xs y → ⊥) → Contains (x ∷ xs) y → ⊥

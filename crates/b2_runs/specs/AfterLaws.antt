@@ -1,4 +1,4 @@
-use Rattle.std.specs.Prelude.{◌≡◌, ◌↔◌, ℕ, true, false, List, [], Some, None}
+use Rattle.std.specs.Prelude.{◌≡◌, ◌↔◌, ℕ, Bool, true, false, List, [], Some, None}
 use Rattle.std.specs.List.{Contains}
 use Rattle.b2_host.specs.declared.children.ChildEvent.{ChildEvent}
 use Rattle.b2_host.specs.declared.children.ChildEvent.TheVariants.{Start}
@@ -47,21 +47,21 @@ ClosureByPresent = (u : Update) (events : List ChildEvent) (disk : Disk) (step :
 
 -- what was settled is settled to the next update before any event, but for what an always-step or a notfile step reaches
 abbrev pub SettledAfterwards : Type 0
-SettledAfterwards = (u : Update) (events : List ChildEvent) (disk : Disk) (log : List LogLine) (path : List ℕ) → Apart u.build.steps u.build.roots → IsRunSoFar u events → IsSound u events disk → IsNoted u events disk.now log
-    → Settled u events path → (Restless u.build path → ⊥) → Settled (next_update u disk.now log) [] path
+SettledAfterwards = (u : Update) (events : List ChildEvent) (disk : Disk) (log : List LogLine) (quit : Bool) (jobs : ℕ) (path : List ℕ) → Apart u.build.steps u.build.roots → IsRunSoFar u events → IsSound u events disk → IsNoted u events disk.now log
+    → Settled u events path → (Restless u.build path → ⊥) → Settled (next_update u disk.now log quit jobs) [] path
 
 -- a step whose outputs were settled is fresh to the next update before any event, but for those that an always-step or a
 -- notfile step reaches
 abbrev pub FreshAfterwards : Type 0
-FreshAfterwards = (u : Update) (events : List ChildEvent) (disk : Disk) (log : List LogLine) (i : ℕ) (step : Step) (path : List ℕ) → Apart u.build.steps u.build.roots → IsRunSoFar u events → IsSound u events disk → IsNoted u events disk.now log
-    → Makes u.build.steps i step path → Settled u events path → (Restless u.build path → ⊥) → IsFreshStep (next_update u disk.now log) [] step
+FreshAfterwards = (u : Update) (events : List ChildEvent) (disk : Disk) (log : List LogLine) (quit : Bool) (jobs : ℕ) (i : ℕ) (step : Step) (path : List ℕ) → Apart u.build.steps u.build.roots → IsRunSoFar u events → IsSound u events disk → IsNoted u events disk.now log
+    → Makes u.build.steps i step path → Settled u events path → (Restless u.build path → ⊥) → IsFreshStep (next_update u disk.now log quit jobs) [] step
 
 -- where all went well, the next update can at no moment of its run start any other step
 abbrev pub NoneCanStartAfterwards : Type 0
-NoneCanStartAfterwards = (u : Update) (events later : List ChildEvent) (disk : Disk) (log : List LogLine) (i : ℕ) (step : Step) (path : List ℕ) → Apart u.build.steps u.build.roots → IsRunSoFar u events → IsSound u events disk → IsNoted u events disk.now log → AllWent u events
-    → IsRunSoFar (next_update u disk.now log) later → Makes u.build.steps i step path → (Restless u.build path → ⊥) → CanStart (next_update u disk.now log) later i → ⊥
+NoneCanStartAfterwards = (u : Update) (events later : List ChildEvent) (disk : Disk) (log : List LogLine) (quit : Bool) (jobs : ℕ) (i : ℕ) (step : Step) (path : List ℕ) → Apart u.build.steps u.build.roots → IsRunSoFar u events → IsSound u events disk → IsNoted u events disk.now log → AllWent u events
+    → IsRunSoFar (next_update u disk.now log quit jobs) later → Makes u.build.steps i step path → (Restless u.build path → ⊥) → CanStart (next_update u disk.now log quit jobs) later i → ⊥
 
 -- so its run, however far it has gone, holds the start of no other step
 abbrev pub NothingStartsAfterwards : Type 0
-NothingStartsAfterwards = (u : Update) (events later : List ChildEvent) (disk : Disk) (log : List LogLine) (i : ℕ) (step : Step) (path : List ℕ) → Apart u.build.steps u.build.roots → IsRunSoFar u events → IsSound u events disk → IsNoted u events disk.now log → AllWent u events
-    → IsRunSoFar (next_update u disk.now log) later → Makes u.build.steps i step path → (Restless u.build path → ⊥) → Contains later (Start i) → ⊥
+NothingStartsAfterwards = (u : Update) (events later : List ChildEvent) (disk : Disk) (log : List LogLine) (quit : Bool) (jobs : ℕ) (i : ℕ) (step : Step) (path : List ℕ) → Apart u.build.steps u.build.roots → IsRunSoFar u events → IsSound u events disk → IsNoted u events disk.now log → AllWent u events
+    → IsRunSoFar (next_update u disk.now log quit jobs) later → Makes u.build.steps i step path → (Restless u.build path → ⊥) → Contains later (Start i) → ⊥

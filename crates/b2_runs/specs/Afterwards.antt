@@ -1,4 +1,4 @@
-use Rattle.std.specs.Prelude.{◌≡◌, ℕ, true, false, List, Option, Some}
+use Rattle.std.specs.Prelude.{◌≡◌, ℕ, Bool, true, false, List, Option, Some}
 use Rattle.std.specs.List.{Contains}
 use Rattle.b2_host.specs.declared.children.ChildEvent.{ChildEvent}
 use Rattle.b2_host.specs.declared.children.ChildEvent.TheVariants.{Start, Done}
@@ -17,9 +17,10 @@ use Rattle.b2_runs.specs.Runs.{on_settled}
 abbrev pub at_present : Update → Folder → List LogLine → Update
 at_present u now log = record u { build = record u.build { folder = now }; log = log }
 
--- the next update: with these files and this log at entry, and not to run all
-abbrev pub next_update : Update → Folder → List LogLine → Update
-next_update u now log = record (at_present u now log) { all = false }
+-- the next update: of the same plan, with these files and this log at entry, and not to run all; whether it is to quit and
+-- how many children may be open is its own
+abbrev pub next_update : Update → Folder → List LogLine → Bool → ℕ → Update
+next_update u now log quit jobs = record (at_present u now log) { all = false; quit = quit; jobs = jobs }
 
 -- The least set of paths that are made by an always-step or a notfile step, or by a step whose closure has one of this set.
 pub data Restless (b : Build) : List ℕ → Type 0 where

@@ -17,8 +17,9 @@ use Rattle.b2_runs.specs.Logs.{LogTrue}
 use Rattle.b2_runs.specs.LogFiles.{IsLogOf, FileTells, IsTrueFile}
 use Rattle.b2_runs.specs.Staleness.{Update, IsFresh, IsStale}
 use Rattle.b2_runs.specs.Runs.{IsRun}
-use Rattle.b2_runs.specs.Outcomes.{AllWent, IsStuck}
+use Rattle.b2_runs.specs.Outcomes.{AllWent, IsListOf, IsStuck}
 use Rattle.b2_runs.specs.Cycles.{IsStepCycle}
+use Rattle.b2_runs.specs.Overlap.{copy_from, a_path, b_path, c_path}
 use Rattle.b2_runs.specs.CompleteLaws.{CleanIsDefined}
 use Rattle.b2_runs.specs.Soundness.{IsSound, Drifts, AreAtWork}
 use Rattle.b2_runs.specs.Afterwards.{next_update, IsNoted}
@@ -135,9 +136,9 @@ copy_step = step_from (in_path ∷ [])
 abbrev pub in_members : List (List ℕ × Value)
 in_members = (in_path, Some (7 ∷ [])) ∷ []
 
--- an update after it, with these files and this log
+-- an update after it, with these files and this log, that may have four children open and is to quit
 abbrev pub after_copying : Folder → List LogLine → Update
-after_copying now log = next_update copying now log
+after_copying now log = next_update copying now log true 4
 
 -- a file that was written anew
 abbrev pub new_file : File
@@ -171,3 +172,26 @@ pub record CirclingHolds : Type 0 where
   pub run : IsRun circling []
   pub stuck : IsStuck circling [] 1
   pub cycle : IsStepCycle circling [] (1 ∷ [])
+
+-- `a` is copied from `b`, `b` from `c`, and `c` from `b`; `a` is wanted
+abbrev pub tailed_copies : Build
+tailed_copies = record {
+  steps = copy_from b_path a_path ∷ copy_from c_path b_path ∷ copy_from b_path c_path ∷ [];
+  wanted = a_path ∷ [];
+  roots = codes "bin" ∷ [];
+  folder = at_entry;
+  places = λ dirs path bytes. [];
+  made = λ text held out. flat_map (λ input. input.1) held;
+}
+
+abbrev pub tailed : Update
+tailed = record { build = tailed_copies; log = []; all = false; quit = false; jobs = 2 }
+
+-- It is one of an apart plan. Its run without events is a whole run, and leaves all three steps stuck. The walk goes from
+-- the first step to the second, the third and the second again, so the first step, where it starts, is not in the list.
+pub record TailedHolds : Type 0 where
+  pub apart : Apart tailed.build.steps tailed.build.roots
+  pub run : IsRun tailed []
+  pub stuck : IsListOf (IsStuck tailed []) (1 ∷ 2 ∷ 3 ∷ [])
+  pub cycle : IsStepCycle tailed [] (2 ∷ 3 ∷ [])
+  pub no_other : (list : List ℕ) → IsStepCycle tailed [] list → list ≡ 2 ∷ 3 ∷ []

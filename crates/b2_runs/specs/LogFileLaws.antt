@@ -1,4 +1,4 @@
-use Rattle.std.specs.Prelude.{◌≡◌, ◌↔◌, ◌⊎◌, ℕ, ◌≤◌, List, [], ◌∷◌, ◌++◌, length, Option, Some, None, map}
+use Rattle.std.specs.Prelude.{◌≡◌, ◌≢◌, ◌↔◌, ◌⊎◌, ℕ, ◌≤◌, List, [], ◌∷◌, ◌++◌, length, Option, Some, None, map}
 use Rattle.std.specs.List.{Contains}
 use Rattle.b2_host.specs.declared.files.ReadAnswer.{ReadAnswer}
 use Rattle.b2_host.specs.declared.children.ChildEvent.{ChildEvent}
@@ -67,11 +67,11 @@ TrueOfKept = (made : Makings) (past : List Past) (bytes : List ℕ) (log : List 
 abbrev pub AppendAdds : Type 0
 AppendAdds = (bytes : List ℕ) (log : List LogLine) (line : LogLine) → IsReading bytes log (length bytes) → IsGood line → length (bytes ++ spelling line) ≤ log_limit → IsLogOf (bytes ++ spelling line) (log ++ line ∷ [])
 
--- where only the first part of the spelling was appended and the file is within the limit, it counts as the lines before,
--- or as these and the whole line
+-- where only the first part of the spelling was appended and the file is within the limit, it counts as the lines before and
+-- the whole line where no byte is missing, and as the lines before alone where one is
 abbrev pub TornAppendLeaves : Type 0
 TornAppendLeaves = (bytes : List ℕ) (log after : List LogLine) (line : LogLine) (part missing : List ℕ) → IsReading bytes log (length bytes) → IsGood line → spelling line ≡ part ++ missing → length (bytes ++ part) ≤ log_limit
-    → IsLogOf (bytes ++ part) after → (after ≡ log) ⊎ (after ≡ log ++ line ∷ [])
+    → IsLogOf (bytes ++ part) after → ((missing ≡ []) × (after ≡ log ++ line ∷ [])) ⊎ ((missing ≢ []) × (after ≡ log))
 
 -- so it tells of other outputs what it told before
 abbrev pub TornTellsOthers : Type 0

@@ -42,6 +42,7 @@ IsLogTold (answers.TooBig size) log = log ≡ []
 abbrev pub IsLogIn : Folder → List LogLine → Type 0
 IsLogIn folder log = IsLogHeld (bytes_at folder log_path) log
 
--- the log on a disk is true
+-- The log on a disk is true. That what stood has one content for a path and a stamp is not said again here: each host that
+-- tells its files promises it of every disk (`IsKept`), and `IsSound` has it of the disk of an update.
 abbrev pub IsTrueOn : (List ℕ → List (List ℕ × List ℕ) → List ℕ → List ℕ) → Disk → Type 0
 IsTrueOn made disk = (log : List LogLine) → IsLogIn disk.now log → LogTrue made disk.past log

@@ -50,5 +50,5 @@ OutputsAreNewer = (u : Update) (events : List ChildEvent) (old new : Family) (be
 
 -- a failed step is stale to the next update, since its outputs do not stand
 abbrev pub FailedIsStale : Type 0
-FailedIsStale = (u : Update) (events : List ChildEvent) (now : Folder) (log : List LogLine) (i : ℕ) (step : Step) (members : List (List ℕ × Value)) → Apart u.build.steps u.build.roots → LeavesNothing u events now log → IsFailed events i
-    → step_at u.build.steps i ≡ Some step → IsFresh (next_update u now log) [] step members → ⊥
+FailedIsStale = (u : Update) (events : List ChildEvent) (now : Folder) (log : List LogLine) (quit : Bool) (jobs : ℕ) (i : ℕ) (step : Step) (members : List (List ℕ × Value)) → Apart u.build.steps u.build.roots → LeavesNothing u events now log → IsFailed events i
+    → step_at u.build.steps i ≡ Some step → IsFresh (next_update u now log quit jobs) [] step members → ⊥

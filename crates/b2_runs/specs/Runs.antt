@@ -1,5 +1,5 @@
 use Rattle.std.specs.Prelude.{◌≡◌, ℕ, ◌+◌, ◌<◌, Bool, true, false, List, [], ◌∷◌, ◌++◌, Option, Some, None, ⊤, count_by}
-use Rattle.std.specs.List.{Contains, AllZip, AllByRecursion, filter_map}
+use Rattle.std.specs.List.{Contains, AllZip, filter_map}
 use Rattle.b2_host.specs.declared.children.ChildEvent.{ChildEvent}
 use Rattle.b2_host.specs.declared.children.ChildEvent.TheVariants.{Start, Done}
 use Rattle.b2_host.specs.Childhood.{Given}
@@ -77,13 +77,23 @@ pub record IsRun (u : Update) (events : List ChildEvent) : Type 0 where
   pub none_open : (i : ℕ) → IsOpen events i → ⊥
   pub none_left : (i : ℕ) → CanStart u events i → ⊥
 
--- the beginning of a run up to a start, and after it ends of steps alone
+-- this event is the end of a step that is open after those
+abbrev pub EndsOpen : List ChildEvent → ChildEvent → Type 0
+EndsOpen before (Start i) = ⊥
+EndsOpen before (Done i well) = IsOpen before i
+
+-- behind those events, these are ends of steps that are open there, one after another, so each step ends once
+abbrev pub OpenEnds : List ChildEvent → List ChildEvent → Type 0
+OpenEnds before [] = ⊤
+OpenEnds before (event ∷ events) = EndsOpen before event × OpenEnds (before ++ event ∷ []) events
+
+-- What there is of an update that stopped anywhere: a run so far, and behind it ends alone, of steps that it left open.
 pub record IsBegun (u : Update) (events : List ChildEvent) : Type 0 where
   pub front : List ChildEvent
   pub rest : List ChildEvent
   pub whole : events ≡ front ++ rest
   pub run : IsRunSoFar u front
-  pub only_ends : AllByRecursion (λ event. is_done event ≡ true) rest
+  pub ends : OpenEnds front rest
 
 -- the number of the step that an event starts
 abbrev pub started : ChildEvent → Option ℕ

@@ -8,25 +8,43 @@ use Rattle.b2_plan.specs.Plans.{Apart, Makes, step_at}
 use Rattle.b2_log.specs.declared.line.LogLine.{LogLine}
 use Rattle.b2_log.specs.Finding.{outs_of}
 use Rattle.b2_runs.specs.Staleness.{Update}
-use Rattle.b2_runs.specs.Runs.{Settled, IsRunSoFar, IsBegun}
+use Rattle.b2_runs.specs.Runs.{Settled, IsOpen, IsRunSoFar, AreOnce, IsBegun}
 use Rattle.b2_runs.specs.Soundness.{IsSound, IsLoose, Drifts}
 use Rattle.b2_runs.specs.Afterwards.{next_update, Restless, IsNoted, IsFreshStep}
 
--- Of an update that stops anywhere, the events are the beginning of a run up to its last start, and ends behind it. What
--- was done before that start is kept: the log has the last word on it, whatever the children do that end behind it.
+-- Of an update that stops anywhere, the events are a run so far, with each start in it, and behind it ends of steps that it
+-- left open. What was done in the run so far is kept: the log has the last word on it, whatever the children do that end
+-- behind it.
 
--- a run so far has begun, and what has begun still has where one more step ends; its run up to the last start is the same
+-- a run so far has begun
 abbrev pub RunIsBegun : Type 0
 RunIsBegun = (u : Update) (events : List ChildEvent) → IsRunSoFar u events → (b : IsBegun u events) × (b.front ≡ events)
 
+-- what has begun still has where one more step that is open ends, and the run so far in it is the same
 abbrev pub BegunGoesOn : Type 0
-BegunGoesOn = (u : Update) (events : List ChildEvent) (i : ℕ) (well : Bool) (b : IsBegun u events) → (c : IsBegun u (events ++ Done i well ∷ [])) × (c.front ≡ b.front)
+BegunGoesOn = (u : Update) (events : List ChildEvent) (i : ℕ) (well : Bool) (b : IsBegun u events) → IsOpen events i → (c : IsBegun u (events ++ Done i well ∷ [])) × (c.front ≡ b.front)
 
--- a disk that is sound after the events is sound after those up to the last start
+-- the events of what has begun, up to any start, are a run so far
+abbrev pub BegunUpToStart : Type 0
+BegunUpToStart = (u : Update) (events before after : List ChildEvent) (i : ℕ) → IsBegun u events → events ≡ before ++ Start i ∷ after → IsRunSoFar u (before ++ Start i ∷ [])
+
+-- in what has begun each step that is done was started
+abbrev pub EndedWasStarted : Type 0
+EndedWasStarted = (u : Update) (events : List ChildEvent) (i : ℕ) (well : Bool) → IsBegun u events → Contains events (Done i well) → Contains events (Start i)
+
+-- .. it is done once
+abbrev pub EndedOnce : Type 0
+EndedOnce = (u : Update) (events : List ChildEvent) (i : ℕ) (well other : Bool) → IsBegun u events → Contains events (Done i well) → Contains events (Done i other) → well ≡ other
+
+-- .. and each event is there once
+abbrev pub BegunOnce : Type 0
+BegunOnce = (u : Update) (events : List ChildEvent) → IsBegun u events → AreOnce events
+
+-- a disk that is sound after the events is sound after the run so far in them
 abbrev pub SoundBeforeEnds : Type 0
 SoundBeforeEnds = (u : Update) (events : List ChildEvent) (disk : Disk) (b : IsBegun u events) → IsSound u events disk → IsSound u b.front disk
 
--- of what was done up to the last start the log keeps the last word, as steps that run or failed change their outputs
+-- of what was done in the run so far the log keeps the last word, as steps that run or failed change their outputs
 abbrev pub NotedThroughEnds : Type 0
 NotedThroughEnds = (u : Update) (events : List ChildEvent) (before after : Disk) (log : List LogLine) (b : IsBegun u events) → Apart u.build.steps u.build.roots → Drifts u events before after → IsNoted u b.front before.now log → IsNoted u b.front after.now log
 
@@ -38,15 +56,15 @@ NotedThoughTorn = (u : Update) (events : List ChildEvent) (now : Folder) (log af
 -- so a step whose outputs were settled by then is fresh to the next update, wherever this one stopped, but for those that
 -- an always-step or a notfile step reaches
 abbrev pub FreshThoughStopped : Type 0
-FreshThoughStopped = (u : Update) (events : List ChildEvent) (disk : Disk) (log : List LogLine) (i : ℕ) (step : Step) (path : List ℕ) (b : IsBegun u events) → Apart u.build.steps u.build.roots → IsSound u events disk → IsNoted u b.front disk.now log
-    → Makes u.build.steps i step path → Settled u b.front path → (Restless u.build path → ⊥) → IsFreshStep (next_update u disk.now log) [] step
+FreshThoughStopped = (u : Update) (events : List ChildEvent) (disk : Disk) (log : List LogLine) (quit : Bool) (jobs : ℕ) (i : ℕ) (step : Step) (path : List ℕ) (b : IsBegun u events) → Apart u.build.steps u.build.roots → IsSound u events disk → IsNoted u b.front disk.now log
+    → Makes u.build.steps i step path → Settled u b.front path → (Restless u.build path → ⊥) → IsFreshStep (next_update u disk.now log quit jobs) [] step
 
 -- .. and the run of the next update, however far it has gone, holds no start of it
 abbrev pub NotStartedAgain : Type 0
-NotStartedAgain = (u : Update) (events later : List ChildEvent) (disk : Disk) (log : List LogLine) (i : ℕ) (step : Step) (path : List ℕ) (b : IsBegun u events) → Apart u.build.steps u.build.roots → IsSound u events disk → IsNoted u b.front disk.now log
-    → IsRunSoFar (next_update u disk.now log) later → Makes u.build.steps i step path → Settled u b.front path → (Restless u.build path → ⊥) → Contains later (Start i) → ⊥
+NotStartedAgain = (u : Update) (events later : List ChildEvent) (disk : Disk) (log : List LogLine) (quit : Bool) (jobs : ℕ) (i : ℕ) (step : Step) (path : List ℕ) (b : IsBegun u events) → Apart u.build.steps u.build.roots → IsSound u events disk → IsNoted u b.front disk.now log
+    → IsRunSoFar (next_update u disk.now log quit jobs) later → Makes u.build.steps i step path → Settled u b.front path → (Restless u.build path → ⊥) → Contains later (Start i) → ⊥
 
 -- so no work that was done by then is done again
 abbrev pub NoWorkIsLost : Type 0
-NoWorkIsLost = (u : Update) (events later : List ChildEvent) (disk : Disk) (log : List LogLine) (i : ℕ) (step : Step) (path : List ℕ) (b : IsBegun u events) → Apart u.build.steps u.build.roots → IsSound u events disk → IsNoted u b.front disk.now log
-    → IsRunSoFar (next_update u disk.now log) later → Makes u.build.steps i step path → Contains b.front (Done i true) → (Restless u.build path → ⊥) → Contains later (Start i) → ⊥
+NoWorkIsLost = (u : Update) (events later : List ChildEvent) (disk : Disk) (log : List LogLine) (quit : Bool) (jobs : ℕ) (i : ℕ) (step : Step) (path : List ℕ) (b : IsBegun u events) → Apart u.build.steps u.build.roots → IsSound u events disk → IsNoted u b.front disk.now log
+    → IsRunSoFar (next_update u disk.now log quit jobs) later → Makes u.build.steps i step path → Contains b.front (Done i true) → (Restless u.build path → ⊥) → Contains later (Start i) → ⊥

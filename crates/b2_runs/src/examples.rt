@@ -1,5 +1,5 @@
 //! Small updates for which all that the laws ask for holds, so that no law speaks of nothing.
-ghost use Rattle.b2_runs.specs.Examples.{CopyingHolds, CopyingFiled, CopyingJudged, CirclingHolds};
+ghost use Rattle.b2_runs.specs.Examples.{CopyingHolds, CopyingFiled, CopyingJudged, CirclingHolds, TailedHolds};
 ghost use Rattle.b2_runs.specs.Overlap.{OverlapHolds, FailureHolds};
 
 /// An update that copies one file: its run is a whole run in which all went well, its disk is sound, its log is true and
@@ -23,6 +23,12 @@ pub fn copying_judged()
 /// An update whose step reads what it writes: nothing can start, and the step is stuck.
 pub fn circling_holds()
     ensures { CirclingHolds }
+{}
+
+/// An update whose first step reads an output of two steps that read one another's: all are stuck, and the cycle has these
+/// two alone.
+pub fn tailed_holds()
+    ensures { TailedHolds }
 {}
 
 /// An update of three steps with two jobs: children that overlap are a whole run, and other events are none.

@@ -56,7 +56,7 @@ pub fn append_adds()
     ensures { AppendAdds }
 {}
 
-/// A file that a torn append left counts as the lines before, or as these and the whole line.
+/// A file that a torn append left counts as the lines before, and as the whole line too exactly where no byte is missing.
 pub fn torn_append_leaves()
     ensures { TornAppendLeaves }
 {}

@@ -1,22 +1,34 @@
-//! Laws of updates that stop anywhere: what was done before the last start is not done again.
-ghost use Rattle.b2_runs.specs.StopLaws.{RunIsBegun, BegunGoesOn, SoundBeforeEnds, NotedThroughEnds, NotedThoughTorn, FreshThoughStopped, NotStartedAgain, NoWorkIsLost};
+//! Laws of updates that stop anywhere: what was done in the run so far is not done again.
+ghost use Rattle.b2_runs.specs.StopLaws.{RunIsBegun, BegunGoesOn, BegunUpToStart, EndedWasStarted, EndedOnce, BegunOnce, SoundBeforeEnds, NotedThroughEnds, NotedThoughTorn, FreshThoughStopped, NotStartedAgain, NoWorkIsLost};
 
-/// A run so far is the beginning of a run without ends behind it.
+/// A run so far has begun, without ends behind it.
 pub fn run_is_begun()
     ensures { RunIsBegun }
 {}
 
-/// The beginning of a run, with ends behind it, is one where one more step ends.
+/// What has begun still has where one more step that is open ends.
 pub fn begun_goes_on()
     ensures { BegunGoesOn }
 {}
 
-/// A disk that is sound after the events is sound after those up to the last start.
+/// What has begun is, up to any start, a run so far.
+pub fn begun_up_to_start()
+    ensures { BegunUpToStart }
+{}
+
+/// In what has begun each step that is done was started and is done once, and each event is there once.
+pub fn begun_once()
+    ensures started { EndedWasStarted }
+    ensures done { EndedOnce }
+    ensures once { BegunOnce }
+{}
+
+/// A disk that is sound after the events is sound after the run so far in them.
 pub fn sound_before_ends()
     ensures { SoundBeforeEnds }
 {}
 
-/// What was noted up to the last start stays so, whatever the children do that end behind it.
+/// What was noted in the run so far stays so, whatever the children do that end behind it.
 pub fn noted_through_ends()
     ensures { NotedThroughEnds }
 {}
@@ -26,7 +38,7 @@ pub fn noted_though_torn()
     ensures { NotedThoughTorn }
 {}
 
-/// Wherever an update stopped, a step whose outputs were settled up to its last start is fresh to the next update.
+/// Wherever an update stopped, a step whose outputs were settled in its run so far is fresh to the next update.
 pub fn fresh_though_stopped()
     ensures { FreshThoughStopped }
 {}
@@ -36,7 +48,7 @@ pub fn not_started_again()
     ensures { NotStartedAgain }
 {}
 
-/// The next update starts no step that was done well before the last start.
+/// The next update starts no step that was done well in the run so far.
 pub fn no_work_is_lost()
     ensures { NoWorkIsLost }
 {}

@@ -37,6 +37,7 @@ fn each_law_can_be_called(_rt: HostRuntime) -> Result<(), Fail> {
     examples::copying_filed();
     examples::copying_judged();
     examples::circling_holds();
+    examples::tailed_holds();
     examples::overlap_holds();
     examples::failure_holds();
     log_file_laws::file_is_one_log();
@@ -107,6 +108,8 @@ fn each_law_can_be_called(_rt: HostRuntime) -> Result<(), Fail> {
     stale_laws::stale_by_point_alone();
     stop_laws::run_is_begun();
     stop_laws::begun_goes_on();
+    stop_laws::begun_up_to_start();
+    stop_laws::begun_once();
     stop_laws::sound_before_ends();
     stop_laws::noted_through_ends();
     stop_laws::noted_though_torn();
