@@ -265,6 +265,39 @@ fn a_failure_skips(rt: HostRuntime) -> Result<(), Fail> {
 }
 
 #[test]
+fn a_failure_quits(rt: HostRuntime) -> Result<(), Fail> {
+    let alloc = rt.alloc();
+    let example = Example {
+        steps: &[
+            ("cat x > bin/a", "bin/a", &["x"]),
+            ("cat x > bin/e", "bin/e", &["x"]),
+        ],
+        wanted: &["bin/a", "bin/e"],
+        files: &[("x", 1, "x")],
+        includes: &[],
+        log: "",
+    };
+    let options = Options {
+        always: false,
+        notfile: false,
+        quit: true,
+        jobs: 1,
+    };
+    let events = [ChildEvent::Start(1), ChildEvent::Done(1, false)];
+    let starts = [Some(1), None, None];
+    check_next(&rt, alloc, &example, options, &events, &starts)?;
+    let lists = Lists {
+        needed: &[1, 2],
+        failed: &[1],
+        missing: &[],
+        skipped: &[2],
+        stuck: &[],
+    };
+    check_lists(&rt, alloc, &example, options, &events, &lists)?;
+    Ok(())
+}
+
+#[test]
 fn after_a_failure(rt: HostRuntime) -> Result<(), Fail> {
     let alloc = rt.alloc();
     let example = Example {
@@ -321,6 +354,31 @@ fn children_overlap(rt: HostRuntime) -> Result<(), Fail> {
     ];
     let starts = [Some(1), Some(2), None, Some(3), None, None, None];
     check_next(&rt, alloc, &example, with_jobs(2), &events, &starts)?;
+    // with the option to quit a child that is open at a failure still ends, and its output is settled
+    let options = Options {
+        always: false,
+        notfile: false,
+        quit: true,
+        jobs: 2,
+    };
+    let events = [
+        ChildEvent::Start(1),
+        ChildEvent::Start(2),
+        ChildEvent::Done(1, false),
+        ChildEvent::Done(2, true),
+    ];
+    let starts = [Some(1), Some(2), None, None, None];
+    check_next(&rt, alloc, &example, options, &events, &starts)?;
+    for (count, skipped) in [(3, [2, 3].as_slice()), (4, &[3])] {
+        let lists = Lists {
+            needed: &[1, 2, 3],
+            failed: &[1],
+            missing: &[],
+            skipped,
+            stuck: &[],
+        };
+        check_lists(&rt, alloc, &example, options, &events[..count], &lists)?;
+    }
     Ok(())
 }
 
@@ -376,11 +434,26 @@ fn both_orders_of_a_generated_header(rt: HostRuntime) -> Result<(), Fail> {
             ("cat s.in", "bin/gcc/debug/s.cpp", &["s.in"]),
             ("g++ s.cpp", "bin/gcc/debug/s.o", &["bin/gcc/debug/s.cpp"]),
         ],
-        wanted: &["bin/gcc/debug/g.h", "bin/gcc/debug/s.o"],
+        wanted: &[
+            "bin/gcc/debug/g.h",
+            "bin/gcc/debug/s.cpp",
+            "bin/gcc/debug/s.o",
+        ],
         files: &[("g.in", 1, "g"), ("s.in", 2, "s")],
         includes: &[("bin/gcc/debug/s.cpp", &["bin/gcc/debug/g.h"])],
         log: "",
     };
+    // one child at a time
+    let events = [
+        ChildEvent::Start(1),
+        ChildEvent::Done(1, true),
+        ChildEvent::Start(2),
+        ChildEvent::Done(2, true),
+        ChildEvent::Start(3),
+        ChildEvent::Done(3, true),
+    ];
+    let starts = [Some(1), None, Some(2), None, Some(3), None, None];
+    check_next(&rt, alloc, &example, with_jobs(1), &events, &starts)?;
     for (first, second) in [(1, 2), (2, 1)] {
         let events = [
             ChildEvent::Start(1),
@@ -398,6 +471,28 @@ fn both_orders_of_a_generated_header(rt: HostRuntime) -> Result<(), Fail> {
 
 #[test]
 fn a_source_is_missing(rt: HostRuntime) -> Result<(), Fail> {
+    let alloc = rt.alloc();
+    let example = Example {
+        steps: &[("cat in.txt > bin/out.txt", "bin/out.txt", &["in.txt"])],
+        wanted: &["bin/out.txt"],
+        files: &[],
+        includes: &[],
+        log: "",
+    };
+    let lists = Lists {
+        needed: &[1],
+        failed: &[],
+        missing: &["in.txt"],
+        skipped: &[1],
+        stuck: &[],
+    };
+    check_next(&rt, alloc, &example, with_jobs(1), &[], &[None])?;
+    check_lists(&rt, alloc, &example, with_jobs(1), &[], &lists)?;
+    Ok(())
+}
+
+#[test]
+fn sources_are_missing(rt: HostRuntime) -> Result<(), Fail> {
     let alloc = rt.alloc();
     let example = Example {
         steps: &[
@@ -418,6 +513,29 @@ fn a_source_is_missing(rt: HostRuntime) -> Result<(), Fail> {
     };
     check_next(&rt, alloc, &example, with_jobs(1), &[], &[None])?;
     check_lists(&rt, alloc, &example, with_jobs(1), &[], &lists)?;
+    Ok(())
+}
+
+#[test]
+fn a_record_lists_headers_in_a_circle(rt: HostRuntime) -> Result<(), Fail> {
+    let alloc = rt.alloc();
+    let rows = [
+        (
+            "+1\tcat a.h > bin/o\t1\tbin/o\t3\t2\ta.h\t1\tb.h\t2\t.\n",
+            None,
+        ),
+        ("+1\tcat a.h > bin/o\t1\tbin/o\t3\t1\ta.h\t1\t.\n", Some(1)),
+    ];
+    for (log, start) in rows {
+        let example = Example {
+            steps: &[("cat a.h > bin/o", "bin/o", &["a.h"])],
+            wanted: &["bin/o"],
+            files: &[("a.h", 1, "a"), ("b.h", 2, "b"), ("bin/o", 3, "ab")],
+            includes: &[("a.h", &["b.h"]), ("b.h", &["a.h"])],
+            log,
+        };
+        check_next(&rt, alloc, &example, with_jobs(1), &[], &[start])?;
+    }
     Ok(())
 }
 
@@ -453,18 +571,19 @@ fn includes_in_circles(rt: HostRuntime) -> Result<(), Fail> {
     Ok(())
 }
 
-/// The first start of the example of one command, where the output stands with this stamp, by this log.
+/// The first start of the example of one command, where the output stands with this stamp and text, by this log.
 fn check_first(
     rt: &impl Abort,
     alloc: Global,
     stamp: u64,
+    text: &str,
     log: &str,
     start: Option<u32>,
 ) -> Result<(), Fail> {
     let example = Example {
         steps: &[("cat in.txt > bin/out.txt", "bin/out.txt", &["in.txt"])],
         wanted: &["bin/out.txt"],
-        files: &[("in.txt", 2, "hello"), ("bin/out.txt", stamp, "hello")],
+        files: &[("in.txt", 2, "hello\n"), ("bin/out.txt", stamp, text)],
         includes: &[],
         log,
     };
@@ -497,9 +616,9 @@ fn what_the_log_says(rt: HostRuntime) -> Result<(), Fail> {
         ),
     ];
     for (log, start) in rows {
-        check_first(&rt, alloc, 3, log, start)?;
+        check_first(&rt, alloc, 3, "hello\n", log, start)?;
         // the output is edited
-        check_first(&rt, alloc, 4, log, Some(1))?;
+        check_first(&rt, alloc, 4, "x", log, Some(1))?;
     }
     Ok(())
 }
