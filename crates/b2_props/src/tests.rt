@@ -38,7 +38,7 @@ fn pairs(alloc: Global, words: &str) -> Result<Vec<(Text, Text)>, AllocError> {
     Ok(made)
 }
 
-/// Features of a compiler and two optional ones, each with its values and attributes.
+/// The features of the gcc toolset, each with its values and attributes.
 static FEATURES: &str = "toolset: gcc: implicit propagated symmetric
 variant: debug release: implicit composite propagated symmetric
 optimization: off speed space: propagated
@@ -49,10 +49,23 @@ link: shared static: propagated
 runtime-link: shared static: propagated
 threading: single multi: propagated
 warnings: on all off: incidental
-strip: all: optional
-profile: small: composite optional
 define: : free
-include: : free path";
+cflags: : free
+cxxflags: : free
+linkflags: : free
+include: : free path
+location: : free path
+library: : free dependency
+source: : free dependency
+dependency: : free dependency
+use: : free dependency";
+
+/// Features of other kinds: optional ones, one that is symmetric and not implicit, and one that is implicit and not
+/// symmetric.
+static EXTRAS: &str = "strip: all: optional
+profile: small: composite optional
+abi: one two: symmetric propagated
+mode: fast slow: implicit propagated";
 
 fn add_feature(registry: &mut Registry, alloc: Global, line: &str) -> Result<(), AllocError> {
     if let Some((name, rest)) = line.split_once(": ") {
@@ -83,11 +96,17 @@ fn compose(
         .map_err(|_| AllocError)
 }
 
+fn declare(registry: &mut Registry, alloc: Global, features: &str) -> Result<(), AllocError> {
+    for line in features.lines() {
+        add_feature(registry, alloc, line)?;
+    }
+    Ok(())
+}
+
+/// The table of the gcc toolset.
 fn compiler(alloc: Global) -> Result<Registry, AllocError> {
     let mut registry = Registry::new(alloc);
-    for line in FEATURES.lines() {
-        add_feature(&mut registry, alloc, line)?;
-    }
+    declare(&mut registry, alloc, FEATURES)?;
     compose(
         &mut registry,
         alloc,
@@ -102,6 +121,13 @@ fn compiler(alloc: Global) -> Result<Registry, AllocError> {
         "release",
         "optimization=speed debug-symbols=off inlining=full runtime-debugging=off define=NDEBUG",
     )?;
+    Ok(registry)
+}
+
+/// The table of the gcc toolset with features of other kinds behind it.
+fn compiler_and_extras(alloc: Global) -> Result<Registry, AllocError> {
+    let mut registry = compiler(alloc)?;
+    declare(&mut registry, alloc, EXTRAS)?;
     compose(
         &mut registry,
         alloc,
@@ -126,7 +152,7 @@ fn shown(alloc: Global, set: &Props) -> Result<String, AllocError> {
     Ok(text)
 }
 
-/// Makes pairs a whole set, refines it, and tells the set, its directory, and the directory of what it hands on.
+/// Makes pairs a whole set, refines it, and tells the set, its directory, and what it hands on.
 fn told(
     registry: &Registry,
     alloc: Global,
@@ -141,50 +167,65 @@ fn told(
     let dir = dir_of(alloc, registry, &refined).map_err(|_| AllocError)?;
     let handed = propagated(alloc, registry, &refined).map_err(|_| AllocError)?;
     let set = shown(alloc, &refined)?;
+    let handed = shown(alloc, &handed)?;
     format!(in alloc;
         "{} in {} hands on {}",
         set.as_str(),
         dir.as_str(),
-        handed.pairs().len()
+        handed.as_str()
     )
 }
 
-/// Pairs, required pairs, and the set that comes of them, with its directory and how many pairs it hands on.
-static SETS: [[&str; 3]; 7] = [
+/// Pairs, required pairs, and the set that comes of them, with its directory and what it hands on.
+static SETS: [[&str; 5]; 7] = [
     [
         "variant=release",
         "link=static define=A define=B",
-        "toolset=gcc variant=release optimization=speed debug-symbols=off inlining=full runtime-debugging=off link=static runtime-link=shared threading=single warnings=on define=NDEBUG define=A define=B in gcc/release/link-static hands on 9",
+        "toolset=gcc variant=release optimization=speed debug-symbols=off inlining=full runtime-debugging=off link=static runtime-link=shared threading=single warnings=on define=NDEBUG define=A define=B",
+        "gcc/release/link-static",
+        "toolset=gcc variant=release optimization=speed debug-symbols=off inlining=full runtime-debugging=off link=static runtime-link=shared threading=single",
     ],
     [
         "",
         "",
-        "toolset=gcc variant=debug optimization=off debug-symbols=on inlining=off runtime-debugging=on link=shared runtime-link=shared threading=single warnings=on in gcc/debug hands on 9",
+        "toolset=gcc variant=debug optimization=off debug-symbols=on inlining=off runtime-debugging=on link=shared runtime-link=shared threading=single warnings=on",
+        "gcc/debug",
+        "toolset=gcc variant=debug optimization=off debug-symbols=on inlining=off runtime-debugging=on link=shared runtime-link=shared threading=single",
     ],
     [
         "variant=release optimization=space define=A define=A",
         "define=NDEBUG define=A nothing=x",
-        "toolset=gcc variant=release optimization=space debug-symbols=off inlining=full runtime-debugging=off link=shared runtime-link=shared threading=single warnings=on define=A define=NDEBUG in gcc/release/optimization-space hands on 9",
+        "toolset=gcc variant=release optimization=space debug-symbols=off inlining=full runtime-debugging=off link=shared runtime-link=shared threading=single warnings=on define=A define=NDEBUG",
+        "gcc/release/optimization-space",
+        "toolset=gcc variant=release optimization=space debug-symbols=off inlining=full runtime-debugging=off link=shared runtime-link=shared threading=single",
     ],
     [
         "variant=release",
         "variant=debug inlining=on",
-        "toolset=gcc variant=debug optimization=off debug-symbols=on inlining=on runtime-debugging=on link=shared runtime-link=shared threading=single warnings=on define=NDEBUG in gcc/debug/inlining-on hands on 9",
+        "toolset=gcc variant=debug optimization=off debug-symbols=on inlining=on runtime-debugging=on link=shared runtime-link=shared threading=single warnings=on define=NDEBUG",
+        "gcc/debug/inlining-on",
+        "toolset=gcc variant=debug optimization=off debug-symbols=on inlining=on runtime-debugging=on link=shared runtime-link=shared threading=single",
     ],
     [
         "variant=debug",
         "link=static warnings=all link=shared",
-        "toolset=gcc variant=debug optimization=off debug-symbols=on inlining=off runtime-debugging=on link=shared runtime-link=shared threading=single warnings=all in gcc/debug hands on 9",
-    ],
-    [
-        "strip=all",
-        "variant=release",
-        "toolset=gcc variant=release optimization=speed debug-symbols=off inlining=full runtime-debugging=off link=shared runtime-link=shared threading=single warnings=on strip=all define=NDEBUG in gcc/release hands on 9",
+        "toolset=gcc variant=debug optimization=off debug-symbols=on inlining=off runtime-debugging=on link=shared runtime-link=shared threading=single warnings=all",
+        "gcc/debug",
+        "toolset=gcc variant=debug optimization=off debug-symbols=on inlining=off runtime-debugging=on link=shared runtime-link=shared threading=single",
     ],
     [
         "optimization=speed variant=debug optimization=off",
         "",
-        "toolset=gcc variant=debug optimization=speed debug-symbols=on inlining=off runtime-debugging=on link=shared runtime-link=shared threading=single warnings=on in gcc/debug/optimization-speed hands on 9",
+        "toolset=gcc variant=debug optimization=speed debug-symbols=on inlining=off runtime-debugging=on link=shared runtime-link=shared threading=single warnings=on",
+        "gcc/debug/optimization-speed",
+        "toolset=gcc variant=debug optimization=speed debug-symbols=on inlining=off runtime-debugging=on link=shared runtime-link=shared threading=single",
+    ],
+    [
+        "cflags=-g location=out",
+        "include=x library=a cflags=-g include=y use=b cxxflags=-h source=s linkflags=-s dependency=d",
+        "toolset=gcc variant=debug optimization=off debug-symbols=on inlining=off runtime-debugging=on link=shared runtime-link=shared threading=single warnings=on cflags=-g location=out include=x library=a include=y use=b cxxflags=-h source=s linkflags=-s dependency=d",
+        "gcc/debug",
+        "toolset=gcc variant=debug optimization=off debug-symbols=on inlining=off runtime-debugging=on link=shared runtime-link=shared threading=single",
     ],
 ];
 
@@ -192,8 +233,82 @@ static SETS: [[&str; 3]; 7] = [
 fn sets_are_made_whole_and_refined(rt: HostRuntime) -> Result<(), Fail> {
     let alloc = rt.alloc();
     let registry = compiler(alloc)?;
-    for [given, required, want] in SETS {
-        assert_eq!(rt; told(&registry, alloc, given, required)?.as_str(), want);
+    assert_eq!(rt; registry.count(), 20);
+    for [given, required, set, dir, handed] in SETS {
+        let want = format!(in alloc; "{set} in {dir} hands on {handed}")?;
+        assert_eq!(rt;
+            told(&registry, alloc, given, required)?.as_str(),
+            want.as_str()
+        );
+    }
+    Ok(())
+}
+
+/// The same over the table with features of other kinds. A symmetric feature shows though it has its default; an implicit
+/// one that is not symmetric shows only where it has another value.
+static EXTRA_SETS: [[&str; 5]; 3] = [
+    [
+        "",
+        "",
+        "toolset=gcc variant=debug optimization=off debug-symbols=on inlining=off runtime-debugging=on link=shared runtime-link=shared threading=single warnings=on abi=one mode=fast",
+        "gcc/debug/abi-one",
+        "toolset=gcc variant=debug optimization=off debug-symbols=on inlining=off runtime-debugging=on link=shared runtime-link=shared threading=single abi=one mode=fast",
+    ],
+    [
+        "abi=two",
+        "mode=slow",
+        "toolset=gcc variant=debug optimization=off debug-symbols=on inlining=off runtime-debugging=on link=shared runtime-link=shared threading=single warnings=on abi=two mode=slow",
+        "gcc/debug/abi-two/slow",
+        "toolset=gcc variant=debug optimization=off debug-symbols=on inlining=off runtime-debugging=on link=shared runtime-link=shared threading=single abi=two mode=slow",
+    ],
+    [
+        "strip=all",
+        "variant=release",
+        "toolset=gcc variant=release optimization=speed debug-symbols=off inlining=full runtime-debugging=off link=shared runtime-link=shared threading=single warnings=on strip=all abi=one mode=fast define=NDEBUG",
+        "gcc/release/abi-one",
+        "toolset=gcc variant=release optimization=speed debug-symbols=off inlining=full runtime-debugging=off link=shared runtime-link=shared threading=single abi=one mode=fast",
+    ],
+];
+
+#[test]
+fn symmetric_features_always_show(rt: HostRuntime) -> Result<(), Fail> {
+    let alloc = rt.alloc();
+    let registry = compiler_and_extras(alloc)?;
+    for [given, required, set, dir, handed] in EXTRA_SETS {
+        let want = format!(in alloc; "{set} in {dir} hands on {handed}")?;
+        assert_eq!(rt;
+            told(&registry, alloc, given, required)?.as_str(),
+            want.as_str()
+        );
+    }
+    Ok(())
+}
+
+/// The directory of the set that some pairs make as they stand.
+fn dir_alone(registry: &Registry, alloc: Global, given: &str) -> Result<Text, AllocError> {
+    let given = pairs(alloc, given)?;
+    let set = set_of(alloc, registry, given.as_slice()).map_err(|_| AllocError)?;
+    dir_of(alloc, registry, &set).map_err(|_| AllocError)
+}
+
+/// Pairs, and the directory of the set that they make. Where nothing shows it is the empty text.
+static DIRS: [[&str; 2]; 5] = [
+    ["", ""],
+    ["link=shared warnings=all define=A", ""],
+    ["link=static warnings=all", "link-static"],
+    ["variant=release optimization=speed", "release"],
+    [
+        "toolset=gcc link=static threading=multi",
+        "gcc/link-static/threading-multi",
+    ],
+];
+
+#[test]
+fn directories_tell_what_is_not_usual(rt: HostRuntime) -> Result<(), Fail> {
+    let alloc = rt.alloc();
+    let registry = compiler(alloc)?;
+    for [given, want] in DIRS {
+        assert_eq!(rt; dir_alone(&registry, alloc, given)?.as_str(), want);
     }
     Ok(())
 }
@@ -246,7 +361,7 @@ fn asked(registry: &Registry, alloc: Global, words: &str) -> Result<String, Allo
 }
 
 /// Words, and the targets and sets that they ask for, or why they are refused.
-static REQUESTS: [[&str; 2]; 19] = [
+static REQUESTS: [[&str; 2]; 25] = [
     ["", "[]"],
     ["debug release", "[variant=debug][variant=release]"],
     ["debug/release", "conflict debug/release"],
@@ -275,12 +390,30 @@ static REQUESTS: [[&str; 2]; 19] = [
     ],
     ["link=static/link=static", "[link=static]"],
     ["link=static link=shared/debug x=y", "unknown word x=y"],
-    ["release profile=small", "conflict profile=small"],
-    [
-        "release profile=small optimization=off",
-        "[variant=release optimization=off profile=small]",
-    ],
     ["define=a/b define=", "define=a/b, [define=]"],
+    [
+        "link=static debug/link=static link=shared",
+        "conflict debug/link=static",
+    ],
+    [
+        "threading=single/link=static threading=multi/inlining=on link=shared/warnings=off",
+        "conflict link=shared/warnings=off",
+    ],
+    [
+        "link=static debug/link=static",
+        "[variant=debug link=static]",
+    ],
+    [
+        "link=static,shared debug/link=static",
+        "conflict debug/link=static",
+    ],
+    [
+        "debug/link=static link=static link=shared",
+        "conflict link=shared",
+    ],
+    ["debug variant=release", "[variant=debug][variant=release]"],
+    ["debug,link=static", "unknown word debug,link=static"],
+    ["define=A=B", "[define=A=B]"],
 ];
 
 #[test]
@@ -293,5 +426,26 @@ fn requests_are_read(rt: HostRuntime) -> Result<(), Fail> {
     let mut sets = PropsList::new(alloc);
     sets.push(Props::new(alloc))?;
     assert!(rt; sets.as_slice()[0].pairs().is_empty());
+    Ok(())
+}
+
+/// The same over the table with features of other kinds.
+static EXTRA_REQUESTS: [[&str; 2]; 4] = [
+    ["release profile=small", "conflict profile=small"],
+    [
+        "release profile=small optimization=off",
+        "[variant=release optimization=off profile=small]",
+    ],
+    ["slow fast", "[mode=slow][mode=fast]"],
+    ["one", "one, []"],
+];
+
+#[test]
+fn requests_over_more_features_are_read(rt: HostRuntime) -> Result<(), Fail> {
+    let alloc = rt.alloc();
+    let registry = compiler_and_extras(alloc)?;
+    for [words, want] in EXTRA_REQUESTS {
+        assert_eq!(rt; asked(&registry, alloc, words)?.as_str(), want);
+    }
     Ok(())
 }
