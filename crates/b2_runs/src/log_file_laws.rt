@@ -51,7 +51,8 @@ pub fn true_of_kept()
     ensures { TrueOfKept }
 {}
 
-/// Where the spelling of a good line is appended to a file all of whose bytes are good, it counts as one line more.
+/// Where the spelling of a good line is appended to a file all of whose bytes are good, and the whole is within the limit,
+/// it counts as one line more.
 pub fn append_adds()
     ensures { AppendAdds }
 {}

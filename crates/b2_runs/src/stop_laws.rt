@@ -38,7 +38,8 @@ pub fn noted_though_torn()
     ensures { NotedThoughTorn }
 {}
 
-/// Wherever an update stopped, a step whose outputs were settled in its run so far is fresh to the next update.
+/// Wherever an update stopped, a step whose outputs were settled in its run so far is fresh to the next update, where the
+/// log and the files have it noted and no always-step and no step without files reaches it.
 pub fn fresh_though_stopped()
     ensures { FreshThoughStopped }
 {}
@@ -48,7 +49,7 @@ pub fn not_started_again()
     ensures { NotStartedAgain }
 {}
 
-/// The next update starts no step that was done well in the run so far.
+/// So the next update starts no step that was done well in the run so far.
 pub fn no_work_is_lost()
     ensures { NoWorkIsLost }
 {}
