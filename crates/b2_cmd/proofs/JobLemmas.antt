@@ -5,7 +5,7 @@ use Rattle.std.proofs.lemmas.List.{map-append, take-map, drop-map}
 use Rattle.std.proofs.lemmas.Option.{slice_get-map, slice_get-get_or}
 use Rattle.b2_host.specs.declared.children.ChildEvent.{ChildEvent}
 use Rattle.b2_host.specs.declared.children.ChildEvent.TheVariants.{Done}
-use Rattle.b2_host.specs.Childhood.{Ends}
+use Rattle.b2_host.specs.ChildProcesses.{Ends}
 use Rattle.b2_cmd.specs.declared.job.Job.{Job}
 use Rattle.b2_cmd.specs.Jobs.{child_of}
 

@@ -1,6 +1,6 @@
 use Rattle.std.specs.Prelude.{None}
 use Rattle.b2_cmd.specs.declared.job.Job.{Job}
-use Rattle.b2_host.specs.Childhood.{Child}
+use Rattle.b2_host.specs.ChildProcesses.{Child}
 
 -- a process as a child: what it was given is not told
 abbrev pub child_of : Job → Child

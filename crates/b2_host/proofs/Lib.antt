@@ -4,6 +4,6 @@ pub mod ShelfLemmas
 pub mod KnownLemmas
 pub mod MadeLemmas
 pub mod WriteLemmas
-pub mod CrewLemmas
+pub mod ChildTableLemmas
 mod OrderLemmas
 mod ResultLemmas

@@ -16,7 +16,7 @@ use Rattle.std.proofs.lemmas.Grind.{flat_map-append}
 use Rattle.b2_base.specs.Segments.{texts}
 use Rattle.b2_host.specs.declared.entry.Entry.{Entry}
 use Rattle.b2_host.specs.Standing.{Folder}
-use Rattle.b2_host.specs.Childhood.{read_at, read_all}
+use Rattle.b2_host.specs.ChildProcesses.{read_at, read_all}
 use Rattle.b2_host.specs.Results.{bytes_named, joined, hexadecimal}
 use Rattle.b2_host.specs.Found.{Found, ref_cmp, bytes_found}
 use Rattle.b2_host.specs.Shelves.{write_of}

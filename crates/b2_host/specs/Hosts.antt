@@ -1,6 +1,6 @@
 use Rattle.std.specs.Prelude.{◌≡◌, ℕ, Bool, List, [], ◌∷◌, map, Some}
 use Rattle.b2_host.specs.Standing.{Disk}
-use Rattle.b2_host.specs.Childhood.{Given, Child, Family}
+use Rattle.b2_host.specs.ChildProcesses.{Given, Child, Family}
 use Rattle.b2_host.specs.Writes.{all_written, writes_of}
 use Rattle.b2_host.specs.Shelves.{disk_of}
 use Rattle.b2_host.specs.Jobs.{given_of, child_with}
@@ -15,14 +15,14 @@ told_disk host = disk_of host.store.past.items host.store.places
 -- what there is of its children
 abbrev pub told_family : MemoryHost → Family
 told_family host = record {
-  running = map (λ child. child_with (given_of child.job.value)) host.crew.running.items;
-  events = host.crew.events.items;
-  given = Some (map (λ job. given_of job.value) host.crew.given.items);
+  running = map (λ child. child_with (given_of child.job.value)) host.child_table.running.items;
+  events = host.child_table.events.items;
+  given = Some (map (λ job. given_of job.value) host.child_table.given.items);
 }
 
 -- whether each child that runs is to end well, in order of start
 abbrev pub fates : MemoryHost → List Bool
-fates host = map (λ child. child.well) host.crew.running.items
+fates host = map (λ child. child.well) host.child_table.running.items
 
 -- the calls that are listed to fail, each with its number from now on
 abbrev pub listed_calls : MemoryHost → List (CallKind × ℕ)

@@ -1,5 +1,5 @@
 use Rattle.std.specs.Prelude.{◌≡◌, Bool, List, [], ◌∷◌, ◌++◌, map, Some, string_bytes}
-use Rattle.b2_host.specs.Childhood.{Given, Child, Family, one_more}
+use Rattle.b2_host.specs.ChildProcesses.{Given, Child, Family, one_more}
 use Rattle.b2_host.specs.Writes.{writes_of}
 use Rattle.b2_host.specs.Shelves.{write_of}
 use Rattle.b2_host.specs.declared.children.ChildEvent.TheVariants as events

@@ -1,6 +1,6 @@
 pub mod Faults
 pub mod Standing
-pub mod Childhood
+pub mod ChildProcesses
 pub mod Results
 pub mod Found
 pub mod Writes

@@ -1,6 +1,6 @@
 use Rattle.std.specs.Prelude.{ℕ, ◌+◌, Bool, true, false, List, [], ◌∷◌, ◌++◌, codes, length, map, fold, take, Option, Some, None}
 use Rattle.b2_host.specs.Standing.{File, Disk, put, without}
-use Rattle.b2_host.specs.Childhood.{Given}
+use Rattle.b2_host.specs.ChildProcesses.{Given}
 use Rattle.b2_host.specs.Results.{made_of}
 
 -- The file that a write makes: its stamp is one more than the number of files that ever stood.

@@ -1,13 +1,13 @@
 //! Children that run the texts of steps.
 ghost use Rattle.std.specs.Prelude.{◌≡◌, ◌≢◌, ℕ, List, [], ◌∷◌, ◌++◌, IfOk, OnOk, OnErr};
-ghost use Rattle.b2_host.specs.Childhood.{after_start, MayStart, WorkedOn, BothTold, Ends};
+ghost use Rattle.b2_host.specs.ChildProcesses.{after_start, MayStart, WorkedOn, BothTold, Ends};
 ghost use Rattle.b2_host.specs.Faults.{FaultTold, IoFaultTold};
 
 use crate::fault::{Failed, IoFault};
 use crate::files::Files;
 use b2_base::path::Path;
 
-/// What comes to pass, by the number of the step: it started, or it is done, and whether it ended with status 0.
+/// An event of a child, by the number of its step: it started, or it is done, and whether it ended with status 0.
 #[derive(Clone, Copy, Debug, PartialEq, Eq)]
 pub enum ChildEvent {
     Start(u32),

@@ -21,7 +21,7 @@ pub enum ReadAnswer {
 /// Files by their paths. A directory is no file.
 pub trait Files {
     ghost use Rattle.b2_host.specs.Standing.{IsKept};
-    ghost use Rattle.b2_host.specs.Childhood.{Family};
+    ghost use Rattle.b2_host.specs.ChildProcesses.{Family};
 
     /// What stands and what stood, where the host tells its files.
     ghost disk: { Self → Option Disk };

@@ -1,7 +1,7 @@
 //! What a start gives a child.
 ghost use Rattle.std.specs.Prelude.{◌≡◌, ◌∷◌, [], ◌++◌, codes, map, take, IfOk, OnOk};
 ghost use Rattle.std.specs.Option.{option_to_list};
-ghost use Rattle.b2_host.specs.Childhood.{read_at, read_all, given_at};
+ghost use Rattle.b2_host.specs.ChildProcesses.{read_at, read_all, given_at};
 ghost use Rattle.b2_host.specs.Results.{made_of};
 ghost use Rattle.b2_host.specs.Shelves.{standing, disk_of, write_of};
 

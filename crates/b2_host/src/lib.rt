@@ -2,7 +2,7 @@
 #![tactic(auto)]
 
 pub mod children;
-mod crew;
+mod child_table;
 mod entry;
 mod fakes;
 pub mod fault;

@@ -7,7 +7,7 @@ ghost use Rattle.b2_host.specs.Shelves.{all_known};
 ghost use Rattle.b2_host.specs.Runnings.{promised};
 
 use crate::children::{ChildEvent, Children};
-use crate::crew::Crew;
+use crate::child_table::ChildTable;
 use crate::entry::Entry;
 pub use crate::fakes::CallKind;
 use crate::fakes::Fakes;
@@ -31,10 +31,10 @@ pub struct MemoryHost {
     alloc: Global,
     fakes: Fakes,
     store: Store,
-    crew: Crew,
+    child_table: ChildTable,
     lost: u64,
-    ghost room: { vec_len store.past + crew.pending ≤ vec_capacity store.past },
-    ghost known: { IsTrue (all_known store.places (promised crew.running.items)) },
+    ghost room: { vec_len store.past + child_table.pending ≤ vec_capacity store.past },
+    ghost known: { IsTrue (all_known store.places (promised child_table.running.items)) },
 }
 
 impl MemoryHost {
@@ -54,7 +54,7 @@ impl MemoryHost {
             alloc,
             fakes: Fakes::new(alloc),
             store: Store::new(alloc),
-            crew: Crew::new(alloc),
+            child_table: ChildTable::new(alloc),
             lost: 0,
         })
     }
@@ -112,7 +112,7 @@ impl MemoryHost {
     pub fn events(&self) -> &[ChildEvent]
         ensures { result.now ≡ (⟦<MemoryHost as Files>⟧.family self.now).events }
     {
-        self.crew.events.as_slice()
+        self.child_table.events.as_slice()
     }
 
     /// Lets a child run, whose writes are known, once the room for its end is taken.
@@ -128,12 +128,12 @@ impl MemoryHost {
         ensures faults { self.new.fakes.faults ≡ self.old.fakes.faults }
         ensures waits { self.new.lost ≡ self.old.lost }
     {
-        let pending = self.crew.pending_with(entries.len())?;
+        let pending = self.child_table.pending_with(entries.len())?;
         let job = Rc::new(self.alloc, job)?;
         let kept = job.clone()?;
-        self.crew.reserve()?;
+        self.child_table.reserve()?;
         self.store.prepare(entries.as_slice(), pending)?;
-        self.crew.add(Running { job, well, entries }, kept);
+        self.child_table.add(Running { job, well, entries }, kept);
         self.fakes.count_start();
         Ok(())
     }
@@ -206,7 +206,7 @@ impl Files for MemoryHost {
 
 impl Children for MemoryHost {
     ghost use Rattle.std.specs.Prelude.{refl};
-    ghost use Rattle.b2_host.specs.Childhood.{after_start, MayStart, WorkedOn, BothTold, Ends};
+    ghost use Rattle.b2_host.specs.ChildProcesses.{after_start, MayStart, WorkedOn, BothTold, Ends};
     ghost use Rattle.b2_host.specs.Faults.{FaultTold, IoFaultTold};
     ghost use Rattle.b2_host.specs.Results.{made_of};
     ghost use Rattle.b2_host.specs.Hosts.{told_disk, told_family, fates, listed_calls, listed_starts, FirstEnded};
@@ -254,7 +254,7 @@ impl Children for MemoryHost {
             self.lost = self.lost.saturating_add(1);
             return Err(Failed);
         }
-        let Running { job, well, entries } = self.crew.take_first();
+        let Running { job, well, entries } = self.child_table.take_first();
         self.store.put_all(entries);
         Ok((job.as_ref().step, well))
     }

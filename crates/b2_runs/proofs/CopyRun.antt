@@ -4,7 +4,7 @@ use Rattle.std.specs.Str.{bytes_eq}
 use Rattle.std.proofs.lemmas.Slice.Eq.{bytes_eq-Decides}
 use Rattle.b2_host.specs.declared.children.ChildEvent.{ChildEvent}
 use Rattle.b2_host.specs.declared.children.ChildEvent.TheVariants.{Start, Done}
-use Rattle.b2_host.specs.Childhood.{Given, WorkedOn, HasMade, Ends}
+use Rattle.b2_host.specs.ChildProcesses.{Given, WorkedOn, HasMade, Ends}
 use Rattle.b2_host.specs.Standing.{File, Past, Stood, IsKept, IsOneEach}
 use Rattle.b2_plan.specs.declared.step.Step.{Step}
 use Rattle.b2_plan.specs.Plans.{Makes, Apart}

@@ -6,7 +6,7 @@ use Rattle.std.proofs.lemmas.List.Elements.{Contains-append_left}
 use Rattle.b2_host.specs.declared.children.ChildEvent.{ChildEvent}
 use Rattle.b2_host.specs.declared.children.ChildEvent.TheVariants.{Start, Done}
 use Rattle.b2_host.specs.Standing.{File, Folder, Disk, Stood, IsKept, bytes_at}
-use Rattle.b2_host.specs.Childhood.{Child, HasMade}
+use Rattle.b2_host.specs.ChildProcesses.{Child, HasMade}
 use Rattle.b2_plan.specs.declared.step.Step.{Step}
 use Rattle.b2_plan.specs.Plans.{Apart, Makes}
 use Rattle.b2_plan.specs.Sources.{Build}

@@ -5,7 +5,7 @@ use Rattle.std.specs.Str.{bytes_eq}
 use Rattle.std.proofs.lemmas.List.Elements.{Contains-append_left}
 use Rattle.std.proofs.lemmas.Slice.Eq.{bytes_eq-Decides}
 use Rattle.b2_host.specs.Standing.{File, Folder, without}
-use Rattle.b2_host.specs.Childhood.{IsWritten}
+use Rattle.b2_host.specs.ChildProcesses.{IsWritten}
 use Rattle.b2_plan.specs.Plans.{log_path, Makes}
 use Rattle.b2_plan.specs.Closures.{Value, Before, with_bytes}
 use Rattle.b2_runs.specs.Staleness.{AreStamped, paths_with_bytes}

@@ -4,7 +4,7 @@ use Rattle.std.proofs.lemmas.List.Elements.{Contains-push_cases, Contains-append
 use Rattle.b2_host.specs.declared.children.ChildEvent.{ChildEvent}
 use Rattle.b2_host.specs.declared.children.ChildEvent.TheVariants.{Start, Done}
 use Rattle.b2_host.specs.Standing.{File, Folder, Disk, bytes_at}
-use Rattle.b2_host.specs.Childhood.{Child, read_at, read_all}
+use Rattle.b2_host.specs.ChildProcesses.{Child, read_at, read_all}
 use Rattle.b2_plan.specs.Plans.{Apart, Makes, step_at}
 use Rattle.b2_plan.specs.Closures.{Value, with_bytes}
 use Rattle.b2_runs.specs.Staleness.{Update, IsFresh, path_in, paths_with_bytes}

@@ -3,7 +3,7 @@ use Rattle.std.specs.List.{Contains}
 use Rattle.b2_host.specs.declared.files.ReadAnswer.{ReadAnswer}
 use Rattle.b2_host.specs.declared.children.ChildEvent.{ChildEvent}
 use Rattle.b2_host.specs.Standing.{Folder, Disk, Past, bytes_at, ReadTold, without}
-use Rattle.b2_host.specs.Childhood.{Child, WorkedOn}
+use Rattle.b2_host.specs.ChildProcesses.{Child, WorkedOn}
 use Rattle.b2_plan.specs.declared.step.Step.{Step}
 use Rattle.b2_plan.specs.Plans.{log_path, Apart, Makes, step_at}
 use Rattle.b2_plan.specs.Sources.{Build}

@@ -2,7 +2,7 @@ use Rattle.std.specs.Prelude.{◌≡◌, ℕ, Bool, true, List, [], ◌∷◌, �
 use Rattle.b2_host.specs.declared.children.ChildEvent.{ChildEvent}
 use Rattle.b2_host.specs.declared.children.ChildEvent.TheVariants.{Start, Done}
 use Rattle.b2_host.specs.Standing.{Folder, Disk, IsKept}
-use Rattle.b2_host.specs.Childhood.{Family, Ends}
+use Rattle.b2_host.specs.ChildProcesses.{Family, Ends}
 use Rattle.b2_plan.specs.declared.step.Step.{Step}
 use Rattle.b2_plan.specs.Plans.{Apart, step_at}
 use Rattle.b2_plan.specs.Closures.{Value, IsClose}

@@ -2,7 +2,7 @@ use Rattle.std.specs.Prelude.{◌≡◌, ℕ, ◌+◌, ◌<◌, Bool, true, fals
 use Rattle.std.specs.List.{Contains, AllZip, filter_map}
 use Rattle.b2_host.specs.declared.children.ChildEvent.{ChildEvent}
 use Rattle.b2_host.specs.declared.children.ChildEvent.TheVariants.{Start, Done}
-use Rattle.b2_host.specs.Childhood.{Given}
+use Rattle.b2_host.specs.ChildProcesses.{Given}
 use Rattle.b2_plan.specs.declared.step.Step.{Step}
 use Rattle.b2_plan.specs.Plans.{step_at, Makes}
 use Rattle.b2_plan.specs.Sources.{IsSource}

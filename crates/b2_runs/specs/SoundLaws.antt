@@ -3,7 +3,7 @@ use Rattle.std.specs.List.{Contains}
 use Rattle.b2_host.specs.declared.children.ChildEvent.{ChildEvent}
 use Rattle.b2_host.specs.declared.children.ChildEvent.TheVariants.{Start, Done}
 use Rattle.b2_host.specs.Standing.{Disk, Past, IsKept, without}
-use Rattle.b2_host.specs.Childhood.{Family, Child, WorkedOn, Ends}
+use Rattle.b2_host.specs.ChildProcesses.{Family, Child, WorkedOn, Ends}
 use Rattle.b2_plan.specs.declared.step.Step.{Step}
 use Rattle.b2_plan.specs.Plans.{Apart, Makes, log_path, step_at}
 use Rattle.b2_plan.specs.Closures.{Value, IsClose}

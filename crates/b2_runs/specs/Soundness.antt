@@ -3,7 +3,7 @@ use Rattle.std.specs.List.{Contains, AllPairs}
 use Rattle.b2_host.specs.declared.children.ChildEvent.{ChildEvent}
 use Rattle.b2_host.specs.declared.children.ChildEvent.TheVariants.{Start, Done}
 use Rattle.b2_host.specs.Standing.{File, Folder, Disk, Past, Stood, IsKept, bytes_at}
-use Rattle.b2_host.specs.Childhood.{Given, Child}
+use Rattle.b2_host.specs.ChildProcesses.{Given, Child}
 use Rattle.b2_plan.specs.declared.step.Step.{Step}
 use Rattle.b2_plan.specs.Plans.{log_path, Makes}
 use Rattle.b2_plan.specs.Closures.{Value}

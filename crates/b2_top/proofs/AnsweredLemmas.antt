@@ -6,7 +6,7 @@ use Rattle.b2_update.specs.Runs.{is_done}
 use Rattle.b2_host.specs.declared.children.ChildEvent.{ChildEvent}
 use Rattle.b2_host.specs.Standing.{Disk}
 use Rattle.b2_host.specs.Faults.{Rose}
-use Rattle.b2_host.specs.Childhood.{Family, Child, BothTold}
+use Rattle.b2_host.specs.ChildProcesses.{Family, Child, BothTold}
 use Rattle.b2_plan.specs.declared.step.Step.{Step}
 use Rattle.b2_plan.specs.declared.plan.Plan.{Plan}
 use Rattle.b2_update.specs.declared.update_answer.UpdateAnswer.{UpdateAnswer}

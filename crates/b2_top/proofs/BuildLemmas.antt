@@ -3,7 +3,7 @@ use Rattle.std.specs.List.{Contains}
 use Rattle.b2_host.specs.declared.children.ChildEvent.{ChildEvent}
 use Rattle.b2_host.specs.declared.children.ChildEvent.TheVariants.{Done}
 use Rattle.b2_host.specs.Standing.{Disk}
-use Rattle.b2_host.specs.Childhood.{Family, BothTold}
+use Rattle.b2_host.specs.ChildProcesses.{Family, BothTold}
 use Rattle.b2_plan.specs.declared.step.Step.{Step}
 use Rattle.b2_plan.specs.Plans.{step_at}
 use Rattle.b2_plan.specs.Sources.{IsGiven}

@@ -1,7 +1,7 @@
 use Rattle.std.specs.Prelude.{◌≡◌, ◌≢◌, ℕ, List, [], Option, Ok, ◌⊎◌}
 use Rattle.b2_host.specs.Standing.{Disk}
 use Rattle.b2_host.specs.Faults.{Rose}
-use Rattle.b2_host.specs.Childhood.{Family, BothTold}
+use Rattle.b2_host.specs.ChildProcesses.{Family, BothTold}
 use Rattle.b2_plan.specs.declared.step.Step.{Step}
 use Rattle.b2_plan.specs.declared.plan.Plan.{Plan}
 use Rattle.b2_update.specs.Turns.{HasTurns}

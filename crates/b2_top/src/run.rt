@@ -2,7 +2,7 @@
 ghost use Rattle.std.specs.Prelude.{◌≡◌, ◌≢◌, ℕ, List, [], ◌⊎◌};
 ghost use Rattle.std.specs.Option.{IfSome};
 ghost use Rattle.b2_host.specs.Faults.{Rose};
-ghost use Rattle.b2_host.specs.Childhood.{BothTold};
+ghost use Rattle.b2_host.specs.ChildProcesses.{BothTold};
 ghost use Rattle.jam_lexer.specs.declared.fault.LexFault.{LexFault};
 ghost use Rattle.b2_plan.specs.declared.step.Step.{Step};
 ghost use Rattle.b2_plan.specs.Plans.{Apart};

@@ -2,7 +2,7 @@ use Rattle.std.proofs.Common.{◌≡◌, ◌≢◌, ℕ, zero, suc, ◌+◌, ◌
 use Rattle.std.proofs.lemmas.Option.{slice_get_read}
 use Rattle.b2_host.specs.declared.children.ChildEvent.TheVariants.{Start, Done}
 use Rattle.b2_host.specs.Standing.{Disk, Folder}
-use Rattle.b2_host.specs.Childhood.{Family, Given}
+use Rattle.b2_host.specs.ChildProcesses.{Family, Given}
 use Rattle.b2_plan.specs.declared.step.Step.{Step}
 use Rattle.b2_plan.specs.Plans.{step_at, Apart}
 use Rattle.b2_update.specs.declared.outcome.Outcome.{Outcome}

@@ -6,7 +6,7 @@ use Rattle.std.proofs.lemmas.List.Sums.{sum_by-append}
 use Rattle.b2_host.specs.declared.children.ChildEvent.{ChildEvent}
 use Rattle.b2_host.specs.declared.children.ChildEvent.TheVariants.{Start, Done}
 use Rattle.b2_host.specs.Standing.{File, Folder, Disk}
-use Rattle.b2_host.specs.Childhood.{Family, Child, Given, read_all, given_at, one_more, WorkedOn, BothTold, HasMade, IsWritten}
+use Rattle.b2_host.specs.ChildProcesses.{Family, Child, Given, read_all, given_at, one_more, WorkedOn, BothTold, HasMade, IsWritten}
 use Rattle.b2_plan.specs.declared.step.Step.{Step}
 use Rattle.b2_plan.specs.Plans.{step_at, Makes}
 use Rattle.b2_plan.specs.Sources.{IsMissing}

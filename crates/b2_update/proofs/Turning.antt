@@ -5,7 +5,7 @@ use Rattle.std.proofs.lemmas.List.Elements.{Contains-push_cases, Contains-append
 use Rattle.b2_host.specs.declared.children.ChildEvent.{ChildEvent}
 use Rattle.b2_host.specs.declared.children.ChildEvent.TheVariants.{Start, Done}
 use Rattle.b2_host.specs.Standing.{Disk}
-use Rattle.b2_host.specs.Childhood.{Family, Child, Given, given_at}
+use Rattle.b2_host.specs.ChildProcesses.{Family, Child, Given, given_at}
 use Rattle.b2_plan.specs.declared.step.Step.{Step}
 use Rattle.b2_update.specs.declared.failed_lists.FailedLists.{FailedLists}
 use Rattle.b2_update.specs.declared.outcome.Outcome.{Outcome}

@@ -3,7 +3,7 @@ use Rattle.std.specs.List.{Contains}
 use Rattle.b2_host.specs.declared.children.ChildEvent.{ChildEvent}
 use Rattle.b2_host.specs.declared.children.ChildEvent.TheVariants.{Start, Done}
 use Rattle.b2_host.specs.Standing.{Folder, Disk, bytes_at}
-use Rattle.b2_host.specs.Childhood.{Family, Given}
+use Rattle.b2_host.specs.ChildProcesses.{Family, Given}
 use Rattle.b2_plan.specs.declared.step.Step.{Step}
 use Rattle.b2_plan.specs.Plans.{step_at, Makes, Apart}
 use Rattle.b2_plan.specs.Sources.{Build, IsSource, IsMissing}

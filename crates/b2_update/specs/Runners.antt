@@ -1,7 +1,7 @@
 use Rattle.std.specs.Prelude.{◌≡◌, ◌≢◌, ℕ, Bool, List, [], ◌∷◌, ◌++◌, Option, ◌⊎◌}
 use Rattle.std.specs.Option.{option_map}
 use Rattle.b2_host.specs.Standing.{Disk}
-use Rattle.b2_host.specs.Childhood.{Family, Child, Ends, WorkedOn, BothTold, after_start}
+use Rattle.b2_host.specs.ChildProcesses.{Family, Child, Ends, WorkedOn, BothTold, after_start}
 use Rattle.b2_plan.specs.declared.step.Step.{Step}
 use Rattle.b2_update.specs.declared.stop.Stop.{Stop}
 use Rattle.b2_update.specs.declared.stop.Stop.TheVariants as stops

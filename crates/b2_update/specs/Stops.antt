@@ -2,7 +2,7 @@ use Rattle.std.specs.Prelude.{◌≡◌, ◌≢◌, ℕ, List, [], ◌⊎◌, Re
 use Rattle.b2_host.specs.declared.fault.IoFault.{IoFault}
 use Rattle.b2_host.specs.declared.fault.IoFault.TheVariants as faults
 use Rattle.b2_host.specs.Faults.{Rose}
-use Rattle.b2_host.specs.Childhood.{Child}
+use Rattle.b2_host.specs.ChildProcesses.{Child}
 use Rattle.b2_update.specs.declared.stop.Stop.{Stop}
 use Rattle.b2_update.specs.declared.stop.Stop.TheVariants as stops
 

@@ -2,7 +2,7 @@ use Rattle.std.specs.Prelude.{◌≡◌, ◌≢◌, ℕ, true, List, [], ◌∷�
 use Rattle.std.specs.List.{AllByRecursion}
 use Rattle.b2_host.specs.declared.children.ChildEvent.{ChildEvent}
 use Rattle.b2_host.specs.Standing.{Folder, Disk}
-use Rattle.b2_host.specs.Childhood.{Family, Child, Given}
+use Rattle.b2_host.specs.ChildProcesses.{Family, Child, Given}
 use Rattle.b2_host.specs.Faults.{Rose}
 use Rattle.b2_plan.specs.declared.step.Step.{Step}
 use Rattle.b2_update.specs.declared.failed_lists.FailedLists.{FailedLists}

@@ -2,7 +2,7 @@
 ghost use Rattle.std.specs.Prelude.{◌≡◌, ◌≢◌, ◌↔◌, ℕ, List, None, IfOk, OnOk, IsTrue};
 ghost use Rattle.std.specs.Option.{IfSome};
 ghost use Rattle.std.specs.List.{Contains};
-ghost use Rattle.b2_host.specs.Childhood.{BothTold};
+ghost use Rattle.b2_host.specs.ChildProcesses.{BothTold};
 ghost use Rattle.b2_update.specs.Stops.{HostTold};
 ghost use Rattle.b2_update.specs.Outputs.{KeepsOthers, AreGone};
 

@@ -5,7 +5,7 @@ ghost use Rattle.std.specs.List.{Contains, AllPairs};
 ghost use Rattle.std.specs.Option.{IfSome};
 ghost use Rattle.b2_host.specs.Standing.{Folder};
 ghost use Rattle.b2_host.specs.Faults.{Rose};
-ghost use Rattle.b2_host.specs.Childhood.{Family, BothTold};
+ghost use Rattle.b2_host.specs.ChildProcesses.{Family, BothTold};
 ghost use Rattle.b2_plan.specs.Plans.{step_at};
 ghost use Rattle.b2_plan.specs.Closures.{Before};
 ghost use Rattle.b2_update.specs.Stops.{CountsTold, HostTold};

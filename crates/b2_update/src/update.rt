@@ -3,7 +3,7 @@ ghost use Rattle.std.specs.Prelude.{◌≡◌, ℕ, List, [], Option, Some, None
 ghost use Rattle.std.specs.List.{AllPairs};
 ghost use Rattle.b2_host.specs.Standing.{Folder, Disk};
 ghost use Rattle.b2_host.specs.Faults.{Rose};
-ghost use Rattle.b2_host.specs.Childhood.{Family, BothTold};
+ghost use Rattle.b2_host.specs.ChildProcesses.{Family, BothTold};
 ghost use Rattle.b2_plan.specs.Plans.{Apart};
 ghost use Rattle.b2_plan.specs.Closures.{Before};
 ghost use Rattle.b2_update.specs.Plain.{IsPlain, build_of, update_all};

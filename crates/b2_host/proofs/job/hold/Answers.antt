@@ -1,6 +1,6 @@
 use Rattle.std.proofs.Common.{◌++◌, ap, sym, ◌∙◌, take}
 use Rattle.std.specs.Option.{option_to_list}
-use Rattle.b2_host.specs.Childhood.{read_at, read_all}
+use Rattle.b2_host.specs.ChildProcesses.{read_at, read_all}
 use Rattle.b2_host.specs.Shelves.{standing}
 use Rattle.b2_host.proofs.MadeLemmas.{read_more}
 use Rattle.b2_host.proofs.job.hold.Goals as goal

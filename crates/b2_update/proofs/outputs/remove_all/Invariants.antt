@@ -1,5 +1,5 @@
 use Rattle.std.proofs.Common.{◌≡◌, take, IfSome}
-use Rattle.b2_host.specs.Childhood.{BothTold}
+use Rattle.b2_host.specs.ChildProcesses.{BothTold}
 use Rattle.b2_update.specs.Outputs.{KeepsOthers, AreGone}
 use Rattle.b2_update.proofs.outputs.remove_all.Given as goal
 

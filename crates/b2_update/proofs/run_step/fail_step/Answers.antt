@@ -1,6 +1,6 @@
 use Rattle.std.proofs.Common.{◌≢◌, ◌∙◌, sym, subst, false, IfSome}
 use Rattle.std.proofs.lemmas.Result.{err_from_is_err_and}
-use Rattle.b2_host.specs.Childhood.{BothTold}
+use Rattle.b2_host.specs.ChildProcesses.{BothTold}
 use Rattle.b2_update.specs.declared.stop.Stop.TheVariants as stops
 use Rattle.b2_update.specs.Outputs.{KeepsOthers, AreGone}
 use Rattle.b2_update.proofs.Beginnings.{goes_err, sink_stops, host_stops, no_sink}

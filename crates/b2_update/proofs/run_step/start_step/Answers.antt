@@ -1,7 +1,7 @@
 use Rattle.std.proofs.Common.{◌↔◌, ◌∙◌, ℕ, List, sym, subst}
 use Rattle.std.specs.List.{Contains, AllPairs}
 use Rattle.std.proofs.lemmas.Result.{err_from_is_err_and}
-use Rattle.b2_host.specs.Childhood.{Family}
+use Rattle.b2_host.specs.ChildProcesses.{Family}
 use Rattle.b2_plan.specs.Closures.{Before}
 use Rattle.b2_update.specs.Turns.{TookTurn}
 use Rattle.b2_update.specs.Runners.{HasStopped}

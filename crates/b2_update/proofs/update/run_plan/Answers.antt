@@ -15,7 +15,7 @@ use Rattle.b2_update.proofs.Nexts.{stopped_along, stands_along}
 use Rattle.b2_update.proofs.Reading.{told_at}
 use Rattle.b2_update.proofs.Steps.{stands_stopped}
 use Rattle.b2_update.proofs.Endings.{has_finished, end_stopped}
-use Rattle.b2_host.specs.Childhood.{Family}
+use Rattle.b2_host.specs.ChildProcesses.{Family}
 use Rattle.b2_update.specs.Turns.{HadTurns}
 use Rattle.b2_update.proofs.Turning.{turns_none, had_none, had_turns, had_lists}
 use Rattle.b2_update.proofs.update.run_plan.Goals as goal

@@ -2,7 +2,7 @@ use Rattle.std.proofs.Common.{ap, sym, ◌∙◌, arith}
 use Rattle.b2_host.specs.Shelves.{all_known}
 use Rattle.b2_host.specs.Runnings.{promised}
 use Rattle.b2_host.proofs.KnownLemmas.{known_stays}
-use Rattle.b2_host.proofs.CrewLemmas.{promised_push}
+use Rattle.b2_host.proofs.ChildTableLemmas.{promised_push}
 use Rattle.b2_host.proofs.memory.MemoryHost.admit.Goals as goal
 
 pub invariant_of-self-in-Break-branch-5 : goal.invariant_of-self-in-Break-branch-5
@@ -14,7 +14,7 @@ invariant_of-self-in-Break-branch-5 c =
     record {
       room = omega (arith, had, pending, len, room);
       known = ap (λ rs. all_known c.prepare.new.self.places (promised rs)) c.reserve.ensures.running
-          ∙ known_stays c.args.self.now.store.places c.prepare.new.self.places (promised c.args.self.now.crew.running.items) c.prepare.ensures.stays c.args.self.now.known;
+          ∙ known_stays c.args.self.now.store.places c.prepare.new.self.places (promised c.args.self.now.child_table.running.items) c.prepare.ensures.stays c.args.self.now.known;
     }
 
 pub invariant_of-self-2 : goal.invariant_of-self-2
@@ -26,7 +26,7 @@ invariant_of-self-2 c =
     let room = c.in_ok-prepare.ensures.ok in
     record {
       room = omega (arith, pending, more, sum, entries, room);
-      known = rw (c.add.ensures.running, c.reserve.ensures.running) (promised_push c.prepare.new.self.places c.args.self.now.crew.running.items _
-          (known_stays c.args.self.now.store.places c.prepare.new.self.places (promised c.args.self.now.crew.running.items) c.prepare.ensures.stays c.args.self.now.known)
+      known = rw (c.add.ensures.running, c.reserve.ensures.running) (promised_push c.prepare.new.self.places c.args.self.now.child_table.running.items _
+          (known_stays c.args.self.now.store.places c.prepare.new.self.places (promised c.args.self.now.child_table.running.items) c.prepare.ensures.stays c.args.self.now.known)
           (ap (all_known c.prepare.new.self.places) (sym c.as_slice.ensures.value) ∙ c.in_ok-prepare.ensures.known));
     }

@@ -1,5 +1,5 @@
 use Rattle.std.proofs.Common.{ℕ, map, Some, refl, ap, sym, ◌∙◌, subst, arith}
-use Rattle.b2_host.specs.Childhood.{Family, Ends}
+use Rattle.b2_host.specs.ChildProcesses.{Family, Ends}
 use Rattle.b2_host.specs.Results.{made_of}
 use Rattle.b2_host.specs.Writes.{all_written}
 use Rattle.b2_host.specs.Shelves.{all_known, disk_of}
@@ -8,12 +8,12 @@ use Rattle.b2_host.specs.Jobs.{given_of, child_with}
 use Rattle.b2_host.specs.Hosts.{told_disk, told_family}
 use Rattle.b2_host.specs.Runnings.{promised}
 use Rattle.b2_host.proofs.KnownLemmas.{known_stays}
-use Rattle.b2_host.proofs.CrewLemmas.{promised_first, still_works, ends_first}
+use Rattle.b2_host.proofs.ChildTableLemmas.{promised_first, still_works, ends_first}
 use Rattle.b2_host.proofs.memory.MemoryHostChildren.wait_one.Goals as goal
 
 pub invariant_of-self-2 : goal.invariant_of-self-2
 invariant_of-self-2 c =
-    let crew = c.args.self.now.crew in
+    let child_table = c.args.self.now.child_table in
     let places = c.args.self.now.store.places in
     let rest = c.take_first-job.new.self.running.items in
     let had = c.args.self.now.room in
@@ -30,11 +30,11 @@ pub returns-clause-ended : goal.returns-clause-ended
 returns-clause-ended c =
     let store = c.args.self.now.store in
     let child = c.take_first-job.result in
-    let crew = c.take_first-job.new.self in
+    let child_table = c.take_first-job.new.self in
     let given = given_of child.job.value in
     let before = told_disk c.args.self.now in
     let after = disk_of c.put_all.new.self.past.items c.put_all.new.self.places in
-    let new : Family = record { running = map (λ r. child_with (given_of r.job.value)) crew.running.items; events = crew.events.items; given = Some (map (λ j. given_of j.value) crew.given.items) } in
+    let new : Family = record { running = map (λ r. child_with (given_of r.job.value)) child_table.running.items; events = child_table.events.items; given = Some (map (λ j. given_of j.value) child_table.given.items) } in
     subst (λ (step : ℕ). Ends made_of (told_family c.args.self.now) (Some before) step child.well new (Some after)) (sym (ap (λ j. j.step) c.as_ref.ensures))
     (ends_first (told_family c.args.self.now) new before after given child.well
     (ap (map (λ r. child_with (given_of r.job.value))) c.take_first-job.ensures.running)

@@ -10,5 +10,5 @@ invariant_of-self-2 c =
     let room = c.remove.ensures.room in
     record {
       room = omega (arith, had, len, room);
-      known = known_stays c.args.self.now.store.places c.remove.new.self.places (promised c.args.self.now.crew.running.items) (λ q k. c.remove.ensures.known q ∙ k) c.args.self.now.known;
+      known = known_stays c.args.self.now.store.places c.remove.new.self.places (promised c.args.self.now.child_table.running.items) (λ q k. c.remove.ensures.known q ∙ k) c.args.self.now.known;
     }

@@ -8,7 +8,7 @@ use Rattle.b2_host.specs.declared.children.ChildEvent.TheVariants as events
 use Rattle.b2_host.specs.declared.entry.Entry.{Entry}
 use Rattle.b2_host.specs.declared.running.Running.{Running}
 use Rattle.b2_host.specs.Standing.{Past, Disk}
-use Rattle.b2_host.specs.Childhood.{Given, Child, Family, IsWritten, WorkedOn, HasMade, Ends}
+use Rattle.b2_host.specs.ChildProcesses.{Given, Child, Family, IsWritten, WorkedOn, HasMade, Ends}
 use Rattle.b2_host.specs.Results.{made_of}
 use Rattle.b2_host.specs.Writes.{all_written, writes_of}
 use Rattle.b2_host.specs.Shelves.{PlaceMap, is_known, all_known}

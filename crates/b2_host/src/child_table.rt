@@ -12,7 +12,7 @@ use std::rc::Rc;
 /// What each start gave, the children that run, and what came to pass. `pending` counts what the children are yet to
 /// write.
 #[derive(Drop)]
-pub struct Crew {
+pub struct ChildTable {
     pub given: Vec<Rc<Job>>,
     pub running: Vec<Running>,
     pub events: Vec<ChildEvent>,
@@ -21,14 +21,14 @@ pub struct Crew {
     ghost event_room: { vec_len events + vec_len running ≤ vec_capacity events },
 }
 
-impl Crew {
+impl ChildTable {
     /// No child was started.
-    pub fn new(alloc: Global) -> Crew
+    pub fn new(alloc: Global) -> ChildTable
         ensures given { result.given.items ≡ [] }
         ensures running { result.running.items ≡ [] }
         ensures events { result.events.items ≡ [] }
     {
-        Crew {
+        ChildTable {
             given: Vec::new(alloc),
             running: Vec::new(alloc),
             events: Vec::new(alloc),

@@ -1,4 +1,0 @@
-pub mod Sieving
-pub mod Needing
-pub mod Barring
-pub mod Starting

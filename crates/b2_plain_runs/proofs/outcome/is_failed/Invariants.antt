@@ -1,7 +1,0 @@
-use Rattle.std.proofs.Common.{◌≡◌, ℕ, ◌<◌, get_or, false}
-use Rattle.b2_host.specs.declared.children.ChildEvent.{ChildEvent}
-use Rattle.b2_host.specs.declared.children.ChildEvent.TheVariants.{Done}
-use Rattle.b2_plain_runs.proofs.outcome.is_failed.Given as goal
-
-abbrev pub invariant-loop-event : goal.invariant-loop-event
-invariant-loop-event l = (k : ℕ) (d : ChildEvent) → k < l.event-index → get_or l.events k d ≡ Done l.number false → ⊥
