@@ -61,7 +61,7 @@ impl<R: Disk + AllocGlobal + Processes> Files for RealHost<'_, R> {
 
     ghost failed_waits = { λ host. host.lost };
 
-    ghost kept = { λ files. tt };
+    ghost consistent = { λ files. tt };
 
     fn stat(&mut self, path: &Path) -> Result<Option<u64>, Failed> {
         self.files.stat(path)

@@ -7,8 +7,8 @@ use Rattle.std.proofs.lemmas.Option.{slice_get-get_or}
 use Rattle.b2_host.specs.declared.children.ChildEvent.TheVariants as events
 use Rattle.b2_host.specs.declared.entry.Entry.{Entry}
 use Rattle.b2_host.specs.declared.running.Running.{Running}
-use Rattle.b2_host.specs.Standing.{Past, Disk}
-use Rattle.b2_host.specs.ChildProcesses.{Given, Child, Family, IsWritten, WorkedOn, HasMade, Ends}
+use Rattle.b2_host.specs.Disks.{Past, Disk}
+use Rattle.b2_host.specs.ChildProcesses.{Given, Child, Family, IsWritten, ChangesOnlyOutputs, HasMade, Ends}
 use Rattle.b2_host.specs.Results.{made_of}
 use Rattle.b2_host.specs.Writes.{all_written, writes_of}
 use Rattle.b2_host.specs.Shelves.{PlaceMap, is_known, all_known}
@@ -35,7 +35,7 @@ promised_first m rs r h = both (all_known m r.entries.items) (all_known m (promi
 
 -- ---- no child ends
 
-pub still_works : (running : List Child) (before after : Disk) → after ≡ before → WorkedOn running before after
+pub still_works : (running : List Child) (before after : Disk) → after ≡ before → ChangesOnlyOutputs running before after
 still_works running before after same = record {
   others = λ path none. ap (λ (d : Disk). d.now path) same;
   more = [];
@@ -45,7 +45,7 @@ still_works running before after same = record {
 -- ---- the first child ends
 
 -- no other path changes
-worked_on : (running rest : List Child) (given : Given) (well : Bool) (before : Disk) → running ≡ child_with given ∷ rest → WorkedOn running before (all_written (writes_of given well) before)
+worked_on : (running rest : List Child) (given : Given) (well : Bool) (before : Disk) → running ≡ child_with given ∷ rest → ChangesOnlyOutputs running before (all_written (writes_of given well) before)
 worked_on running rest given well before e = record {
   others = λ path none. go path none (is_in (paths_of (writes_of given well)) path) refl;
   more = (more_past (writes_of given well) before).0;
@@ -77,6 +77,6 @@ ends_first old new before after given well running events given_is within wrote 
   running = sym (ap (λ cs. remove cs 0) running);
   events = events;
   given = given_is;
-  worked = subst (λ (d : Disk). WorkedOn old.running before d) (sym wrote) (worked_on old.running new.running given well before running);
+  worked = subst (λ (d : Disk). ChangesOnlyOutputs old.running before d) (sym wrote) (worked_on old.running new.running given well before running);
   made_all = λ e. subst (λ (d : Disk). HasMade made_of (child_with given) before d) (sym (wrote ∙ ap (λ w. all_written (writes_of given w) before) e)) (has_made given before within);
 }

@@ -15,7 +15,7 @@ use Rattle.std.proofs.lemmas.List.Elements.{filter_map-append}
 use Rattle.std.proofs.lemmas.Grind.{flat_map-append}
 use Rattle.b2_base.specs.Segments.{texts}
 use Rattle.b2_host.specs.declared.entry.Entry.{Entry}
-use Rattle.b2_host.specs.Standing.{Folder}
+use Rattle.b2_host.specs.Disks.{Folder}
 use Rattle.b2_host.specs.ChildProcesses.{read_at, read_all}
 use Rattle.b2_host.specs.Results.{bytes_named, joined, hexadecimal}
 use Rattle.b2_host.specs.Found.{Found, ref_cmp, bytes_found}

@@ -7,7 +7,7 @@ use Rattle.std.specs.Str.{bytes_eq}
 use Rattle.std.proofs.lemmas.Option.{slice_get_within}
 use Rattle.std.proofs.lemmas.Slice.Eq.{bytes_eq-Decides}
 use Rattle.b2_host.specs.declared.entry.Entry.{Entry}
-use Rattle.b2_host.specs.Standing.{File, put}
+use Rattle.b2_host.specs.Disks.{File, put}
 use Rattle.b2_host.specs.Writes.{written}
 use Rattle.b2_host.specs.Kept.{length-stood}
 use Rattle.b2_host.specs.Shelves.{PlaceMap, place_of, is_known, entry_path, file_of, file_at, standing, stood, disk_of, IsPlaced}

@@ -3,7 +3,7 @@ use Rattle.std.specs.Option.{option_map}
 use Rattle.std.specs.List.{Contains, filter_map}
 use Rattle.b2_host.specs.declared.children.ChildEvent.{ChildEvent}
 use Rattle.b2_host.specs.declared.children.ChildEvent.TheVariants as events
-use Rattle.b2_host.specs.Standing.{File, Folder, Disk, Past}
+use Rattle.b2_host.specs.Disks.{File, Folder, Disk, Past}
 
 -- What a child was given at its start: the bytes are those of its inputs that stood then, in the order of the inputs.
 pub record Given : Type 0 where
@@ -72,7 +72,7 @@ pub record IsWritten (running : List Child) (path : List ℕ) : Type 0 where
   pub out : Contains child.outs path
 
 -- While these children run, nothing but their outputs changes, and what stood is not forgotten.
-pub record WorkedOn (running : List Child) (before after : Disk) : Type 0 where
+pub record ChangesOnlyOutputs (running : List Child) (before after : Disk) : Type 0 where
   pub others : (path : List ℕ) → (IsWritten running path → ⊥) → after.now path ≡ before.now path
   pub more : List Past
   pub past : after.past ≡ before.past ++ more
@@ -98,5 +98,5 @@ pub record Ends (made : List ℕ → List (List ℕ × List ℕ) → List ℕ �
   pub running : new.running ≡ remove old.running place
   pub events : new.events ≡ old.events ++ events.Done step well ∷ []
   pub given : new.given ≡ old.given
-  pub worked : BothTold (WorkedOn old.running) before after
+  pub worked : BothTold (ChangesOnlyOutputs old.running) before after
   pub made_all : well ≡ true → BothTold (HasMade made child) before after

@@ -5,7 +5,7 @@ use Rattle.std.proofs.Common.{zero, suc, get_or, ap, ap₂, sym, ◌∙◌, subs
 use Rattle.std.proofs.lemmas.Option.{slice_get_within}
 use Rattle.std.proofs.lemmas.List.{get_or_default}
 use Rattle.b2_host.specs.declared.entry.Entry.{Entry}
-use Rattle.b2_host.specs.Standing.{File, Past, IsKept, IsOneEach, Stood}
+use Rattle.b2_host.specs.Disks.{File, Past, IsConsistent, IsOneEach, Stood}
 use Rattle.b2_host.specs.Shelves.{PlaceMap, place_of, entry_path, file_of, file_at, standing, stood, disk_of, IsPlaced}
 
 pub length-stood : (place : ℕ) (xs : List Entry) → length (stood place xs) ≡ length xs
@@ -68,5 +68,5 @@ stamp_within xs p a =
     omega (arith, at, low)
 
 -- what entries and places tell is among what stood, and has one content for a path and a stamp
-pub kept_disk : (xs : List Entry) (m : PlaceMap) → IsPlaced xs m → IsKept (disk_of xs m)
+pub kept_disk : (xs : List Entry) (m : PlaceMap) → IsPlaced xs m → IsConsistent (disk_of xs m)
 kept_disk xs m placed = record { one_each = one_each xs; stands = stands xs m placed }

@@ -1,5 +1,5 @@
 pub mod Faults
-pub mod Standing
+pub mod Disks
 pub mod ChildProcesses
 pub mod Results
 pub mod Found

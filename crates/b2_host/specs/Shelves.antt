@@ -5,7 +5,7 @@ use Rattle.std.specs.List.{list_all}
 use Rattle.std.specs.Ordering.{nat_cmp}
 use Rattle.std.specs.Cmp.Lexicographic.{slice_cmp}
 use Rattle.std.specs.FinMap as map
-use Rattle.b2_host.specs.Standing.{File, Folder, Past, Disk}
+use Rattle.b2_host.specs.Disks.{File, Folder, Past, Disk}
 use Rattle.b2_host.specs.declared.entry.Entry.{Entry}
 
 -- for each path that a host knows, the place of its file among all that stood, or None where none stands

@@ -1,5 +1,5 @@
 use Rattle.std.specs.Prelude.{ℕ, ◌+◌, Bool, true, false, List, [], ◌∷◌, ◌++◌, codes, length, map, fold, take, Option, Some, None}
-use Rattle.b2_host.specs.Standing.{File, Disk, put, without}
+use Rattle.b2_host.specs.Disks.{File, Disk, put, without}
 use Rattle.b2_host.specs.ChildProcesses.{Given}
 use Rattle.b2_host.specs.Results.{made_of}
 

@@ -1,6 +1,6 @@
 //! Children that run the texts of steps.
 ghost use Rattle.std.specs.Prelude.{◌≡◌, ◌≢◌, ℕ, List, [], ◌∷◌, ◌++◌, IfOk, OnOk, OnErr};
-ghost use Rattle.b2_host.specs.ChildProcesses.{after_start, MayStart, WorkedOn, BothTold, Ends};
+ghost use Rattle.b2_host.specs.ChildProcesses.{after_start, MayStart, ChangesOnlyOutputs, BothTold, Ends};
 ghost use Rattle.b2_host.specs.Faults.{FaultTold, IoFaultTold};
 
 use crate::fault::{Failed, IoFault};
@@ -36,7 +36,7 @@ pub trait Children: Files {
         ensures waits { FaultTold (Self.failed_waits self.old) (Self.failed_waits self.new) result }
         ensures ended { IfOk result (λ done. Ends made (Self.family self.old) (Self.disk self.old) done.0 done.1 (Self.family self.new) (Self.disk self.new)) }
         ensures same_run { OnErr result (Self.family self.new ≡ Self.family self.old) }
-        ensures worked { OnErr result (BothTold (WorkedOn (Self.family self.old).running) (Self.disk self.old) (Self.disk self.new)) };
+        ensures worked { OnErr result (BothTold (ChangesOnlyOutputs (Self.family self.old).running) (Self.disk self.old) (Self.disk self.new)) };
 
     ghost use Rattle.std.specs.Prelude.{is_some};
 

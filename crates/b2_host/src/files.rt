@@ -1,7 +1,7 @@
 //! Files by their paths.
 ghost use Rattle.std.specs.Prelude.{◌≡◌, ℕ, Option, IfOk, OnOk, OnErr, ◌⊎◌};
 ghost use Rattle.std.specs.Option.{IfSome, option_map};
-ghost use Rattle.b2_host.specs.Standing.{Disk, StatTold, ReadTold, without};
+ghost use Rattle.b2_host.specs.Disks.{Disk, StatTold, ReadTold, without};
 ghost use Rattle.b2_host.specs.Faults.{FaultTold, IoFaultTold};
 
 use crate::fault::{Failed, IoFault};
@@ -20,7 +20,7 @@ pub enum ReadAnswer {
 
 /// Files by their paths. A directory is no file.
 pub trait Files {
-    ghost use Rattle.b2_host.specs.Standing.{IsKept};
+    ghost use Rattle.b2_host.specs.Disks.{IsConsistent};
     ghost use Rattle.b2_host.specs.ChildProcesses.{Family};
 
     /// What stands and what stood, where the host tells its files.
@@ -59,5 +59,5 @@ pub trait Files {
         ensures removed { OnOk result (disk self.new ≡ option_map (without path.now) (disk self.old)) }
         ensures failed { OnErr result ((disk self.new ≡ disk self.old) ⊎ (disk self.new ≡ option_map (without path.now) (disk self.old))) };
 
-    ghost kept: { (files : Self) → IfSome (disk files) IsKept };
+    ghost consistent: { (files : Self) → IfSome (disk files) IsConsistent };
 }

@@ -1,8 +1,8 @@
 //! What a build needs of the outside: files, children and a place to write to.
 #![tactic(auto)]
 
-pub mod children;
 mod child_table;
+pub mod children;
 mod entry;
 mod fakes;
 pub mod fault;

@@ -6,8 +6,8 @@ ghost use Rattle.b2_host.specs.Fakes.{is_listed, all_passed, is_bad, after_one};
 ghost use Rattle.b2_host.specs.Shelves.{all_known};
 ghost use Rattle.b2_host.specs.Runnings.{promised};
 
-use crate::children::{ChildEvent, Children};
 use crate::child_table::ChildTable;
+use crate::children::{ChildEvent, Children};
 use crate::entry::Entry;
 pub use crate::fakes::CallKind;
 use crate::fakes::Fakes;
@@ -141,7 +141,7 @@ impl MemoryHost {
 
 impl Files for MemoryHost {
     ghost use Rattle.std.specs.Option.{IfSome};
-    ghost use Rattle.b2_host.specs.Standing.{StatTold, ReadTold, without};
+    ghost use Rattle.b2_host.specs.Disks.{StatTold, ReadTold, without};
     ghost use Rattle.b2_host.specs.Faults.{FaultTold, IoFaultTold};
     ghost use Rattle.b2_host.specs.Hosts.{told_disk, told_family, listed_calls, OnlyCounted};
     ghost use Rattle.b2_host.specs.Kept.{kept_disk};
@@ -201,12 +201,12 @@ impl Files for MemoryHost {
         Ok(())
     }
 
-    ghost kept = { λ host. kept_disk host.store.past.items host.store.places host.store.placed };
+    ghost consistent = { λ host. kept_disk host.store.past.items host.store.places host.store.placed };
 }
 
 impl Children for MemoryHost {
     ghost use Rattle.std.specs.Prelude.{refl};
-    ghost use Rattle.b2_host.specs.ChildProcesses.{after_start, MayStart, WorkedOn, BothTold, Ends};
+    ghost use Rattle.b2_host.specs.ChildProcesses.{after_start, MayStart, ChangesOnlyOutputs, BothTold, Ends};
     ghost use Rattle.b2_host.specs.Faults.{FaultTold, IoFaultTold};
     ghost use Rattle.b2_host.specs.Results.{made_of};
     ghost use Rattle.b2_host.specs.Hosts.{told_disk, told_family, fates, listed_calls, listed_starts, FirstEnded};
@@ -242,7 +242,7 @@ impl Children for MemoryHost {
         ensures waits { FaultTold self.old.lost self.new.lost result }
         ensures ended { IfOk result (λ done. Ends made_of (told_family self.old) (Some (told_disk self.old)) done.0 done.1 (told_family self.new) (Some (told_disk self.new))) }
         ensures same_run { OnErr result (told_family self.new ≡ told_family self.old) }
-        ensures worked { OnErr result (BothTold (WorkedOn (told_family self.old).running) (Some (told_disk self.old)) (Some (told_disk self.new))) }
+        ensures worked { OnErr result (BothTold (ChangesOnlyOutputs (told_family self.old).running) (Some (told_disk self.old)) (Some (told_disk self.new))) }
         ensures stays { OnErr result (told_disk self.new ≡ told_disk self.old) }
         ensures failed { is_err result ≡ is_listed CallKind.Wait (listed_calls self.old) }
         ensures first { IfOk result (λ done. FirstEnded self.old done.0 done.1 self.new) }

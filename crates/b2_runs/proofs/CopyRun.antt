@@ -4,8 +4,8 @@ use Rattle.std.specs.Str.{bytes_eq}
 use Rattle.std.proofs.lemmas.Slice.Eq.{bytes_eq-Decides}
 use Rattle.b2_host.specs.declared.children.ChildEvent.{ChildEvent}
 use Rattle.b2_host.specs.declared.children.ChildEvent.TheVariants.{Start, Done}
-use Rattle.b2_host.specs.ChildProcesses.{Given, WorkedOn, HasMade, Ends}
-use Rattle.b2_host.specs.Standing.{File, Past, Stood, IsKept, IsOneEach}
+use Rattle.b2_host.specs.ChildProcesses.{Given, ChangesOnlyOutputs, HasMade, Ends}
+use Rattle.b2_host.specs.Disks.{File, Past, Stood, IsConsistent, IsOneEach}
 use Rattle.b2_plan.specs.declared.step.Step.{Step}
 use Rattle.b2_plan.specs.Plans.{Makes, Apart}
 use Rattle.b2_plan.specs.Sources.{IsSource}
@@ -151,7 +151,7 @@ entry_file path file e = go (bytes_eq in_path path) refl e
         λ i. record { path = p i; file = q i }
     go false f g = absurd (let h : None ≡ Some file = g in cc)
 
-keeps_before : IsKept disk_before
+keeps_before : IsConsistent disk_before
 keeps_before = record {
   one_each = λ path stamp x y a b. sym (ap (λ (p : Past). p.file.bytes) (one_of in_past _ a)) ∙ ap (λ (p : Past). p.file.bytes) (one_of in_past _ b);
   stands = λ path file e. subst (Contains (in_past ∷ [])) (entry_file path file e) (Contains_here in_past []);
@@ -178,7 +178,7 @@ stands_after path file e = go (bytes_eq out_path path) refl e
         Contains_there in_past (record { path = path; file = file }) (out_past ∷ []) (subst (Contains (out_past ∷ [])) same (Contains_here out_past []))
     go false f g = subst (Contains (in_past ∷ out_past ∷ [])) (entry_file path file g) (Contains_here in_past (out_past ∷ []))
 
-keeps_after : IsKept disk_after
+keeps_after : IsConsistent disk_after
 keeps_after = record { one_each = one_each_after; stands = stands_after }
 
 others_after : (path : List ℕ) → (out_path ≡ path → ⊥) → disk_after.now path ≡ at_entry path
@@ -237,7 +237,7 @@ defined = record {
   outputs = λ i step path needed m. (let (value, clean, holds) = out_clean step path (subst (λ j. Makes copying.build.steps j step path) (only_number (in_path ∷ []) i step m.at) m) in (value, clean));
 }
 
-worked : WorkedOn family_before.running disk_before disk_after
+worked : ChangesOnlyOutputs family_before.running disk_before disk_after
 worked = record {
   others = λ path none. others_after path (λ e. none (record { child = copy_child; runs = Contains_here copy_child []; out = subst (Contains (out_path ∷ [])) e (Contains_here out_path []) }));
   more = out_past ∷ [];

@@ -4,7 +4,7 @@ use Rattle.std.specs.List.{Contains, AllByRecursion}
 use Rattle.std.proofs.lemmas.Bool.{cases_lt}
 use Rattle.std.proofs.lemmas.List.Concat.{flat_map-append}
 use Rattle.b2_host.specs.declared.files.ReadAnswer.TheVariants as answers
-use Rattle.b2_host.specs.Standing.{File, Past, bytes_at}
+use Rattle.b2_host.specs.Disks.{File, Past, bytes_at}
 use Rattle.b2_plan.specs.Plans.{log_path}
 use Rattle.b2_log.specs.declared.line.LogLine.{LogLine}
 use Rattle.b2_log.specs.declared.line.LogLine.TheVariants as lines

@@ -1,6 +1,6 @@
 use Rattle.std.proofs.Common.{◌≡◌, ℕ, true, false, List, [], ◌∷◌, refl, sym, ap, subst, ◌∙◌, arith, Option, Some, None, codes}
 use Rattle.b2_host.specs.declared.children.ChildEvent.TheVariants.{Done}
-use Rattle.b2_host.specs.Standing.{Folder, put}
+use Rattle.b2_host.specs.Disks.{Folder, put}
 use Rattle.b2_plan.specs.declared.step.Step.{Step}
 use Rattle.b2_plan.specs.Closures.{Value}
 use Rattle.b2_log.specs.declared.line.Record.{Record}

@@ -5,7 +5,7 @@ use Rattle.std.proofs.lemmas.Slice.Eq.{bytes_eq-Decides}
 use Rattle.std.proofs.lemmas.List.Elements.{Contains-append_left}
 use Rattle.b2_host.specs.declared.children.ChildEvent.{ChildEvent}
 use Rattle.b2_host.specs.declared.children.ChildEvent.TheVariants.{Start, Done}
-use Rattle.b2_host.specs.Standing.{File, Folder, Disk, Stood, IsKept, bytes_at}
+use Rattle.b2_host.specs.Disks.{File, Folder, Disk, Stood, IsConsistent, bytes_at}
 use Rattle.b2_host.specs.ChildProcesses.{Child, HasMade}
 use Rattle.b2_plan.specs.declared.step.Step.{Step}
 use Rattle.b2_plan.specs.Plans.{Apart, Makes}
@@ -140,7 +140,7 @@ sound_after_end u events old new before after i well apart at_work sound keeps e
     (λ good step path makes. end_clean u events apart ends.child before after a (ends.made_all good) step path (subst (λ n. Makes u.build.steps n step path) (sym ends.step_is) makes))
 
 -- the record of what stands is true
-pub record_true : (b : Build) (disk : Disk) → IsKept disk → (step : Step) (inputs : List (List ℕ × List ℕ)) (r : Record) → r.text ≡ step.text → AreStamped disk.now step.outs r.outs → AreStamped disk.now (map path_in inputs) r.ins
+pub record_true : (b : Build) (disk : Disk) → IsConsistent disk → (step : Step) (inputs : List (List ℕ × List ℕ)) (r : Record) → r.text ≡ step.text → AreStamped disk.now step.outs r.outs → AreStamped disk.now (map path_in inputs) r.ins
     → ((path bytes : List ℕ) → Contains inputs (path, bytes) → bytes_at disk.now path ≡ Some bytes)
     → ((out : List ℕ) → Contains step.outs out → bytes_at disk.now out ≡ Some (b.made step.text inputs out))
     → IsTrueRecord b.made disk.past r

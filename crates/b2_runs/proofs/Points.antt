@@ -1,5 +1,5 @@
 use Rattle.std.proofs.Common.{◌≡◌, ℕ, ◌<◌, ◌≤◌, Bool, true, false, refl, sym, ◌∙◌, arith, Option, Some, None}
-use Rattle.b2_host.specs.Standing.{File}
+use Rattle.b2_host.specs.Disks.{File}
 use Rattle.b2_runs.specs.Staleness.{StalePoint.runs_all, StalePoint.is_always, StalePoint.is_notfile, StalePoint.lacks, StalePoint.is_older, StalePoint.is_done, StalePoint.from_notfile, StalePoint.unrecorded}
 use Rattle.b2_runs.specs.StaleLaws.{StaleByPoint, StaleByPointAlone}
 

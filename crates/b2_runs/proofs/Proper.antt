@@ -4,7 +4,7 @@ use Rattle.std.specs.List.{Contains, AllPairs}
 use Rattle.std.specs.Str.{bytes_eq}
 use Rattle.std.proofs.lemmas.List.Elements.{Contains-append_left}
 use Rattle.std.proofs.lemmas.Slice.Eq.{bytes_eq-Decides}
-use Rattle.b2_host.specs.Standing.{File, Folder, without}
+use Rattle.b2_host.specs.Disks.{File, Folder, without}
 use Rattle.b2_host.specs.ChildProcesses.{IsWritten}
 use Rattle.b2_plan.specs.Plans.{log_path, Makes}
 use Rattle.b2_plan.specs.Closures.{Value, Before, with_bytes}

@@ -1,6 +1,6 @@
 use Rattle.std.proofs.Common.{◌≡◌, ℕ, zero, suc, List, [], ◌∷◌, length, inl, inr, sym, ap, ◌∙◌, Some, option_map}
 use Rattle.std.specs.List.{AllByRecursion}
-use Rattle.b2_host.specs.Standing.{File, Folder}
+use Rattle.b2_host.specs.Disks.{File, Folder}
 use Rattle.b2_plan.specs.declared.step.Step.{Step}
 use Rattle.b2_plan.specs.Sources.{Build, IsInRoots, IsSource, IsGiven, IsMissing, Includes}
 use Rattle.b2_plan.specs.Closures.{Value, Values, Known, Known.input, Known.include, IsClose}

@@ -1,6 +1,6 @@
 use Rattle.std.proofs.Common.{◌≡◌, ℕ, Bool, true, false, List, ◌⊎◌, inl, inr, refl, sym, ap, subst, ◌∙◌, Some, None, option_map, if◌then◌else◌}
 use Rattle.b2_host.specs.declared.children.ChildEvent.{ChildEvent}
-use Rattle.b2_host.specs.Standing.{File, Folder, Disk}
+use Rattle.b2_host.specs.Disks.{File, Folder, Disk}
 use Rattle.b2_plan.specs.declared.step.Step.{Step}
 use Rattle.b2_plan.specs.Plans.{Makes, Apart}
 use Rattle.b2_plan.specs.Sources.{Build, IsSource}

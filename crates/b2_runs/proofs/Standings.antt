@@ -1,6 +1,6 @@
 use Rattle.std.proofs.Common.{◌≡◌, ℕ, List, [], ◌∷◌, inl, inr, refl, sym, ap, subst, subst₂, ◌∙◌, Option, Some, None, map, option_map}
 use Rattle.std.specs.List.{Contains, AllZip}
-use Rattle.b2_host.specs.Standing.{File, Folder, Past, Stood, IsOneEach, bytes_at}
+use Rattle.b2_host.specs.Disks.{File, Folder, Past, Stood, IsOneEach, bytes_at}
 use Rattle.b2_plan.specs.Closures.{Value, with_bytes}
 use Rattle.b2_runs.specs.Logs.{InputStood}
 use Rattle.b2_runs.specs.Staleness.{stamp_at, AreStamped, path_in}

@@ -1,7 +1,7 @@
 use Rattle.std.specs.Prelude.{ℕ, Bool, List, [], ◌∷◌, ◌++◌, Some}
 use Rattle.b2_host.specs.declared.children.ChildEvent.{ChildEvent}
 use Rattle.b2_host.specs.declared.children.ChildEvent.TheVariants.{Start, Done}
-use Rattle.b2_host.specs.Standing.{Disk}
+use Rattle.b2_host.specs.Disks.{Disk}
 use Rattle.b2_host.specs.ChildProcesses.{Given, Child, Family, given_at, after_start, MayStart, Ends}
 use Rattle.b2_plan.specs.Plans.{Apart}
 use Rattle.b2_runs.specs.Staleness.{Update, paths_with_bytes}

@@ -3,7 +3,7 @@ use Rattle.std.specs.List.{flat_map}
 use Rattle.std.specs.Str.{bytes_eq}
 use Rattle.b2_host.specs.declared.children.ChildEvent.{ChildEvent}
 use Rattle.b2_host.specs.declared.children.ChildEvent.TheVariants.{Start, Done}
-use Rattle.b2_host.specs.Standing.{File, Folder, Disk, Past, put}
+use Rattle.b2_host.specs.Disks.{File, Folder, Disk, Past, put}
 use Rattle.b2_host.specs.ChildProcesses.{Given, Child, Family, Ends}
 use Rattle.b2_plan.specs.declared.step.Step.{Step}
 use Rattle.b2_plan.specs.Plans.{Apart}

@@ -2,8 +2,8 @@ use Rattle.std.specs.Prelude.{◌≡◌, ◌≢◌, ◌↔◌, ◌⊎◌, ℕ, �
 use Rattle.std.specs.List.{Contains}
 use Rattle.b2_host.specs.declared.files.ReadAnswer.{ReadAnswer}
 use Rattle.b2_host.specs.declared.children.ChildEvent.{ChildEvent}
-use Rattle.b2_host.specs.Standing.{Folder, Disk, Past, bytes_at, ReadTold, without}
-use Rattle.b2_host.specs.ChildProcesses.{Child, WorkedOn}
+use Rattle.b2_host.specs.Disks.{Folder, Disk, Past, bytes_at, ReadTold, without}
+use Rattle.b2_host.specs.ChildProcesses.{Child, ChangesOnlyOutputs}
 use Rattle.b2_plan.specs.declared.step.Step.{Step}
 use Rattle.b2_plan.specs.Plans.{log_path, Apart, Makes, step_at}
 use Rattle.b2_plan.specs.Sources.{Build}
@@ -109,7 +109,7 @@ TrueWhereStill = (made : Makings) (before after : Disk) → bytes_at after.now l
 
 -- so it does while children work, for none of them writes to the log
 abbrev pub TrueThroughWork : Type 0
-TrueThroughWork = (u : Update) (events : List ChildEvent) (running : List Child) (before after : Disk) → Apart u.build.steps u.build.roots → AreAtWork u events running → WorkedOn running before after → IsTrueOn u.build.made before → IsTrueOn u.build.made after
+TrueThroughWork = (u : Update) (events : List ChildEvent) (running : List Child) (before after : Disk) → Apart u.build.steps u.build.roots → AreAtWork u events running → ChangesOnlyOutputs running before after → IsTrueOn u.build.made before → IsTrueOn u.build.made after
 
 -- .. and where an output is removed
 abbrev pub TrueThroughRemoval : Type 0

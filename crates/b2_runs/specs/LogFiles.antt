@@ -1,7 +1,7 @@
 use Rattle.std.specs.Prelude.{◌≡◌, ℕ, ◌<◌, ◌≤◌, List, [], length, Option, Some, None}
 use Rattle.b2_host.specs.declared.files.ReadAnswer.{ReadAnswer}
 use Rattle.b2_host.specs.declared.files.ReadAnswer.TheVariants as answers
-use Rattle.b2_host.specs.Standing.{Folder, Disk, Past, bytes_at}
+use Rattle.b2_host.specs.Disks.{Folder, Disk, Past, bytes_at}
 use Rattle.b2_plan.specs.Plans.{log_path}
 use Rattle.b2_log.specs.declared.line.Record.{Record}
 use Rattle.b2_log.specs.declared.line.LogLine.{LogLine}
@@ -43,6 +43,6 @@ abbrev pub IsLogIn : Folder → List LogLine → Type 0
 IsLogIn folder log = IsLogHeld (bytes_at folder log_path) log
 
 -- The log on a disk is true. That what stood has one content for a path and a stamp is not said again here: each host that
--- tells its files promises it of every disk (`IsKept`), and `IsSound` has it of the disk of an update.
+-- tells its files promises it of every disk (`IsConsistent`), and `IsSound` has it of the disk of an update.
 abbrev pub IsTrueOn : (List ℕ → List (List ℕ × List ℕ) → List ℕ → List ℕ) → Disk → Type 0
 IsTrueOn made disk = (log : List LogLine) → IsLogIn disk.now log → LogTrue made disk.past log

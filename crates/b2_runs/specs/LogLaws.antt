@@ -1,6 +1,6 @@
 use Rattle.std.specs.Prelude.{◌≡◌, ◌⊎◌, ℕ, List, [], ◌∷◌, ◌++◌, Some, map}
 use Rattle.std.specs.List.{Contains}
-use Rattle.b2_host.specs.Standing.{Past}
+use Rattle.b2_host.specs.Disks.{Past}
 use Rattle.b2_log.specs.declared.line.Record.{Record}
 use Rattle.b2_log.specs.declared.line.LogLine.{LogLine}
 use Rattle.b2_log.specs.declared.line.LogLine.TheVariants as lines

@@ -1,7 +1,7 @@
 use Rattle.std.specs.Prelude.{◌≡◌, ℕ, Bool, true, List, [], ◌∷◌, ◌++◌, Some}
 use Rattle.b2_host.specs.declared.children.ChildEvent.{ChildEvent}
 use Rattle.b2_host.specs.declared.children.ChildEvent.TheVariants.{Start, Done}
-use Rattle.b2_host.specs.Standing.{Folder, Disk, IsKept}
+use Rattle.b2_host.specs.Disks.{Folder, Disk, IsConsistent}
 use Rattle.b2_host.specs.ChildProcesses.{Family, Ends}
 use Rattle.b2_plan.specs.declared.step.Step.{Step}
 use Rattle.b2_plan.specs.Plans.{Apart, step_at}
@@ -45,7 +45,7 @@ NotedAfterRecord = (u : Update) (events : List ChildEvent) (now : Folder) (log :
 
 -- a child that ends well leaves no output older than a member of its step's closure
 abbrev pub OutputsAreNewer : Type 0
-OutputsAreNewer = (u : Update) (events : List ChildEvent) (old new : Family) (before after : Disk) (i : ℕ) (step : Step) (members : List (List ℕ × Value)) → Apart u.build.steps u.build.roots → IsRunSoFar u events → AreAtWork u events old.running → IsKept before
+OutputsAreNewer = (u : Update) (events : List ChildEvent) (old new : Family) (before after : Disk) (i : ℕ) (step : Step) (members : List (List ℕ × Value)) → Apart u.build.steps u.build.roots → IsRunSoFar u events → AreAtWork u events old.running → IsConsistent before
     → Ends u.build.made old (Some before) i true new (Some after) → step_at u.build.steps i ≡ Some step → IsClose u.build (Clean u.build) step members → NoneOlder after.now step members
 
 -- a failed step is stale to the next update, since its outputs do not stand

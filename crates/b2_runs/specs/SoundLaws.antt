@@ -2,8 +2,8 @@ use Rattle.std.specs.Prelude.{◌≡◌, ℕ, Bool, true, false, List, [], ◌�
 use Rattle.std.specs.List.{Contains}
 use Rattle.b2_host.specs.declared.children.ChildEvent.{ChildEvent}
 use Rattle.b2_host.specs.declared.children.ChildEvent.TheVariants.{Start, Done}
-use Rattle.b2_host.specs.Standing.{Disk, Past, IsKept, without}
-use Rattle.b2_host.specs.ChildProcesses.{Family, Child, WorkedOn, Ends}
+use Rattle.b2_host.specs.Disks.{Disk, Past, IsConsistent, without}
+use Rattle.b2_host.specs.ChildProcesses.{Family, Child, ChangesOnlyOutputs, Ends}
 use Rattle.b2_plan.specs.declared.step.Step.{Step}
 use Rattle.b2_plan.specs.Plans.{Apart, Makes, log_path, step_at}
 use Rattle.b2_plan.specs.Closures.{Value, IsClose}
@@ -16,7 +16,7 @@ use Rattle.b2_runs.specs.Soundness.{IsSound, IsLoose, Drifts, AreAtWork}
 
 -- where an update begins, the disk is sound to it
 abbrev pub SoundAtEntry : Type 0
-SoundAtEntry = (u : Update) (disk : Disk) → IsKept disk → LogTrue u.build.made disk.past u.log → ((path : List ℕ) → u.build.folder path ≡ disk.now path) → IsSound u [] disk
+SoundAtEntry = (u : Update) (disk : Disk) → IsConsistent disk → LogTrue u.build.made disk.past u.log → ((path : List ℕ) → u.build.folder path ≡ disk.now path) → IsSound u [] disk
 
 -- it stays sound as a step starts
 abbrev pub SoundAfterStart : Type 0
@@ -28,20 +28,20 @@ SoundAfterDrift = (u : Update) (events : List ChildEvent) (before after : Disk) 
 
 -- it stays sound as a child ends: where it ended well, its outputs have the clean build's bytes
 abbrev pub SoundAfterEnd : Type 0
-SoundAfterEnd = (u : Update) (events : List ChildEvent) (old new : Family) (before after : Disk) (i : ℕ) (well : Bool) → Apart u.build.steps u.build.roots → AreAtWork u events old.running → IsSound u events before → IsKept after
+SoundAfterEnd = (u : Update) (events : List ChildEvent) (old new : Family) (before after : Disk) (i : ℕ) (well : Bool) → Apart u.build.steps u.build.roots → AreAtWork u events old.running → IsSound u events before → IsConsistent after
     → Ends u.build.made old (Some before) i well new (Some after) → IsSound u (events ++ Done i well ∷ []) after
 
 -- children at work change nothing but outputs of steps that run
 abbrev pub WorkDrifts : Type 0
-WorkDrifts = (u : Update) (events : List ChildEvent) (running : List Child) (before after : Disk) → AreAtWork u events running → IsKept after → WorkedOn running before after → Drifts u events before after
+WorkDrifts = (u : Update) (events : List ChildEvent) (running : List Child) (before after : Disk) → AreAtWork u events running → IsConsistent after → ChangesOnlyOutputs running before after → Drifts u events before after
 
 -- to remove an output of a step that runs or failed changes nothing else
 abbrev pub RemovalDrifts : Type 0
-RemovalDrifts = (u : Update) (events : List ChildEvent) (disk : Disk) (i : ℕ) (step : Step) (path : List ℕ) → Makes u.build.steps i step path → IsLoose events i → IsKept (without path disk) → Drifts u events disk (without path disk)
+RemovalDrifts = (u : Update) (events : List ChildEvent) (disk : Disk) (i : ℕ) (step : Step) (path : List ℕ) → Makes u.build.steps i step path → IsLoose events i → IsConsistent (without path disk) → Drifts u events disk (without path disk)
 
 -- a call that changes nothing but the log changes nothing else
 abbrev pub LogDrifts : Type 0
-LogDrifts = (u : Update) (events : List ChildEvent) (before after : Disk) → IsKept after → ((path : List ℕ) → (path ≡ log_path → ⊥) → after.now path ≡ before.now path) → ((old : Past) → Contains before.past old → Contains after.past old) → Drifts u events before after
+LogDrifts = (u : Update) (events : List ChildEvent) (before after : Disk) → IsConsistent after → ((path : List ℕ) → (path ≡ log_path → ⊥) → after.now path ≡ before.now path) → ((old : Past) → Contains before.past old → Contains after.past old) → Drifts u events before after
 
 -- the record of a step that was done well is true as soon as the step is done, before it is appended
 abbrev pub RecordIsTrue : Type 0

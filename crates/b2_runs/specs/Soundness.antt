@@ -2,7 +2,7 @@ use Rattle.std.specs.Prelude.{◌≡◌, ◌≢◌, ℕ, true, List, Some, None,
 use Rattle.std.specs.List.{Contains, AllPairs}
 use Rattle.b2_host.specs.declared.children.ChildEvent.{ChildEvent}
 use Rattle.b2_host.specs.declared.children.ChildEvent.TheVariants.{Start, Done}
-use Rattle.b2_host.specs.Standing.{File, Folder, Disk, Past, Stood, IsKept, bytes_at}
+use Rattle.b2_host.specs.Disks.{File, Folder, Disk, Past, Stood, IsConsistent, bytes_at}
 use Rattle.b2_host.specs.ChildProcesses.{Given, Child}
 use Rattle.b2_plan.specs.declared.step.Step.{Step}
 use Rattle.b2_plan.specs.Plans.{log_path, Makes}
@@ -21,7 +21,7 @@ Holds folder path (Some bytes) = bytes_at folder path ≡ Some bytes
 -- How the disk stands to an update after these events: the files at entry have stood and the log at entry is true, what
 -- was done well has the values of the clean build, and nothing else has changed but the log and outputs of started steps.
 pub record IsSound (u : Update) (events : List ChildEvent) (disk : Disk) : Type 0 where
-  pub keeps : IsKept disk
+  pub keeps : IsConsistent disk
   pub entry_stood : (path : List ℕ) (file : File) → u.build.folder path ≡ Some file → Stood disk.past path file
   pub log_true : LogTrue u.build.made disk.past u.log
   pub done_well : (i : ℕ) (step : Step) (path : List ℕ) → Makes u.build.steps i step path → Contains events (Done i true) → (value : Value) × Clean u.build path value × Holds disk.now path value
@@ -33,7 +33,7 @@ IsLoose events i = Contains events (Start i) × (Contains events (Done i true) �
 
 -- Between two events nothing changes but the log and outputs of steps that run or failed, and what stood is not forgotten.
 pub record Drifts (u : Update) (events : List ChildEvent) (before after : Disk) : Type 0 where
-  pub keeps : IsKept after
+  pub keeps : IsConsistent after
   pub others : (path : List ℕ) → (path ≡ log_path → ⊥) → ((i : ℕ) (step : Step) → Makes u.build.steps i step path → IsLoose events i → ⊥) → after.now path ≡ before.now path
   pub grows : (old : Past) → Contains before.past old → Contains after.past old
 

@@ -67,7 +67,7 @@ impl Files for SilentHost {
 
     ghost failed_waits = { λ host. ⟦<MemoryHost as Files>⟧.failed_waits host.files };
 
-    ghost kept = { λ files. tt };
+    ghost consistent = { λ files. tt };
 
     fn stat(&mut self, path: &Path) -> Result<Option<u64>, Failed> {
         self.files.stat(path)

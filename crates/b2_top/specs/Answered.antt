@@ -1,5 +1,5 @@
 use Rattle.std.specs.Prelude.{◌≡◌, ◌≢◌, ℕ, List, [], Option, Ok, ◌⊎◌}
-use Rattle.b2_host.specs.Standing.{Disk}
+use Rattle.b2_host.specs.Disks.{Disk}
 use Rattle.b2_host.specs.Faults.{Rose}
 use Rattle.b2_host.specs.ChildProcesses.{Family, BothTold}
 use Rattle.b2_plan.specs.declared.step.Step.{Step}

@@ -2,7 +2,7 @@ use Rattle.std.specs.Prelude.{◌≡◌, ◌≢◌, ℕ, List, [], ◌++◌, Opt
 use Rattle.std.specs.List.{Contains}
 use Rattle.b2_host.specs.declared.children.ChildEvent.{ChildEvent}
 use Rattle.b2_host.specs.declared.children.ChildEvent.TheVariants.{Done}
-use Rattle.b2_host.specs.Standing.{Disk}
+use Rattle.b2_host.specs.Disks.{Disk}
 use Rattle.b2_host.specs.ChildProcesses.{Family, Child}
 use Rattle.b2_host.specs.Faults.{Rose}
 use Rattle.b2_plan.specs.declared.step.Step.{Step}

@@ -1,6 +1,6 @@
 use Rattle.std.specs.Prelude.{◌≡◌, ℕ, ◌<◌, ◌≤◌, List, Option, Some, None, Err, length, codes}
 use Rattle.b2_base.specs.declared.token.Token.{Token}
-use Rattle.b2_host.specs.Standing.{Disk, bytes_at}
+use Rattle.b2_host.specs.Disks.{Disk, bytes_at}
 use Rattle.b2_plan.specs.declared.step.Step.{Step}
 use Rattle.jam_lexer.specs.declared.fault.LexFault.{LexFault}
 use Rattle.jam_lexer.specs.Tokens.{AreTokens}

@@ -1,7 +1,7 @@
 //! Reads the project's file.
 ghost use Rattle.std.specs.Prelude.{◌≡◌, IfOk, IfErr};
 ghost use Rattle.std.specs.Option.{IfSome};
-ghost use Rattle.b2_host.specs.Standing.{Disk, ReadTold};
+ghost use Rattle.b2_host.specs.Disks.{Disk, ReadTold};
 ghost use Rattle.b2_plan.specs.Plans.{Apart};
 ghost use Rattle.b2_update.specs.Plain.{IsPlain};
 ghost use Rattle.b2_top.specs.Rules.{roots};

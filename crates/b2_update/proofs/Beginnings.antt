@@ -1,7 +1,7 @@
 use Rattle.std.proofs.Common.{◌≡◌, ◌≢◌, ℕ, zero, suc, ◌+◌, ◌<◌, List, [], ◌++◌, length, get_or, refl, sym, ap, subst, arith, ◌∙◌, Option, Some, None, IfSome, append-nil, Result, Err, MatchResult}
 use Rattle.std.proofs.lemmas.Option.{slice_get_read}
 use Rattle.b2_host.specs.declared.children.ChildEvent.TheVariants.{Start, Done}
-use Rattle.b2_host.specs.Standing.{Disk, Folder}
+use Rattle.b2_host.specs.Disks.{Disk, Folder}
 use Rattle.b2_host.specs.ChildProcesses.{Family, Given}
 use Rattle.b2_plan.specs.declared.step.Step.{Step}
 use Rattle.b2_plan.specs.Plans.{step_at, Apart}

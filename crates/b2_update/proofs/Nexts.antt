@@ -1,6 +1,6 @@
 use Rattle.std.proofs.Common.{◌≡◌, ◌≢◌, ℕ, zero, suc, ◌+◌, ◌<◌, ◌↔◌, Bool, true, false, List, [], ◌∷◌, ◌++◌, length, ◌⊎◌, inl, inr, refl, sym, subst, subst₂, arith, ◌∙◌, Option, Some, None, IfSome, option_map}
 use Rattle.std.specs.List.{Contains, AllPairs}
-use Rattle.b2_host.specs.Standing.{File, Disk, bytes_at}
+use Rattle.b2_host.specs.Disks.{File, Disk, bytes_at}
 use Rattle.b2_host.specs.ChildProcesses.{Family}
 use Rattle.b2_plan.specs.declared.step.Step.{Step}
 use Rattle.b2_plan.specs.Plans.{step_at, Makes, maker_of}

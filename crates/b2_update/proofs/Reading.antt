@@ -3,7 +3,7 @@ use Rattle.std.specs.List.{Contains, AllPairs}
 use Rattle.std.proofs.lemmas.List.{take_more}
 use Rattle.std.proofs.lemmas.List.Quantifiers.{all_pairs_push}
 use Rattle.std.proofs.lemmas.List.Elements.{Contains-push_cases, Contains-append_left, Contains-append_right, Contains-append_cases, Contains-push, Contains-get_or}
-use Rattle.b2_host.specs.Standing.{File, StatTold}
+use Rattle.b2_host.specs.Disks.{File, StatTold}
 use Rattle.b2_plan.specs.declared.step.Step.{Step}
 use Rattle.b2_plan.specs.Plans.{step_at, maker_of}
 use Rattle.b2_plan.specs.Sources.{Build, IsInRoots, IsSource, IsMissing}

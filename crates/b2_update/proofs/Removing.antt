@@ -2,7 +2,7 @@ use Rattle.std.proofs.Common.{◌≡◌, ℕ, ◌+◌, ◌<◌, Bool, true, fals
 use Rattle.std.specs.List.{Contains}
 use Rattle.std.specs.Str.{bytes_eq}
 use Rattle.std.proofs.lemmas.Slice.Eq.{bytes_eq-Decides}
-use Rattle.b2_host.specs.Standing.{File, Disk, without}
+use Rattle.b2_host.specs.Disks.{File, Disk, without}
 use Rattle.b2_host.specs.ChildProcesses.{BothTold}
 use Rattle.b2_update.specs.Outputs.{KeepsOthers, AreGone}
 use Rattle.b2_update.proofs.Elements.{taken_more, taken_old, taken_new, taken_in}

@@ -5,8 +5,8 @@ use Rattle.std.proofs.lemmas.Grind.{flat_map-append}
 use Rattle.std.proofs.lemmas.List.Sums.{sum_by-append}
 use Rattle.b2_host.specs.declared.children.ChildEvent.{ChildEvent}
 use Rattle.b2_host.specs.declared.children.ChildEvent.TheVariants.{Start, Done}
-use Rattle.b2_host.specs.Standing.{File, Folder, Disk}
-use Rattle.b2_host.specs.ChildProcesses.{Family, Child, Given, read_all, given_at, one_more, WorkedOn, BothTold, HasMade, IsWritten}
+use Rattle.b2_host.specs.Disks.{File, Folder, Disk}
+use Rattle.b2_host.specs.ChildProcesses.{Family, Child, Given, read_all, given_at, one_more, ChangesOnlyOutputs, BothTold, HasMade, IsWritten}
 use Rattle.b2_plan.specs.declared.step.Step.{Step}
 use Rattle.b2_plan.specs.Plans.{step_at, Makes}
 use Rattle.b2_plan.specs.Sources.{IsMissing}
@@ -171,7 +171,7 @@ has_come u made old text list step ins line well fam fam2 disk disk2 written wri
     let g : Given = given_at i step.text ins step.outs s.now in
     let c0 : Child = record { step = i; ins = ins; outs = step.outs; given = Some g } in
     let is_child : c0 ≡ e.child = only_child fam.running c0 e.child e.place idle e.ran in
-    let (after, after_is, worked) = told_after (WorkedOn fam1.running) s.now disk2 e.worked in
+    let (after, after_is, worked) = told_after (ChangesOnlyOutputs fam1.running) s.now disk2 e.worked in
     let st = has_started u made old list step ins fam s.events s.now after.now due s.core s.even s.within rising same (outputs_change fam.running c0 s.now.now after.now idle worked.others) in
     let which : i ≡ r.ended.step = ap (λ (c : Child). c.step) is_child ∙ e.step_is in
     let events1 : List ChildEvent = s.events ++ Start i ∷ [] in
@@ -248,7 +248,7 @@ has_halted u made old text list step ins fam fam2 disk disk2 written due s idle 
     let fam1 : Family = started i step ins (Some s.now) fam in
     let g : Given = given_at i step.text ins step.outs s.now in
     let c0 : Child = record { step = i; ins = ins; outs = step.outs; given = Some g } in
-    let (after, after_is, worked) = told_after (WorkedOn fam1.running) s.now disk2 d.worked in
+    let (after, after_is, worked) = told_after (ChangesOnlyOutputs fam1.running) s.now disk2 d.worked in
     let st = has_started u made old list step ins fam s.events s.now after.now due s.core s.even s.within rising same (outputs_change fam.running c0 s.now.now after.now idle worked.others) in
     let events1 : List ChildEvent = s.events ++ Start i ∷ [] in
     elim d.ended [

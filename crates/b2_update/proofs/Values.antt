@@ -2,7 +2,7 @@ use Rattle.std.proofs.Common.{◌≡◌, ℕ, zero, suc, ◌≤◌, ◌↔◌, L
 use Rattle.std.specs.List.{Contains, AllPairs}
 use Rattle.std.proofs.lemmas.List.Elements.{All-map, All-weaker, All-contains_itself}
 use Rattle.std.proofs.lemmas.List.Kept.{AllPairs-cons}
-use Rattle.b2_host.specs.Standing.{File, Folder, bytes_at}
+use Rattle.b2_host.specs.Disks.{File, Folder, bytes_at}
 use Rattle.b2_host.specs.ChildProcesses.{read_at, read_all}
 use Rattle.b2_plan.specs.declared.step.Step.{Step}
 use Rattle.b2_plan.specs.Closures.{Known, Known.input, Known.include, Before, IsClose, named, with_bytes}

@@ -1,6 +1,6 @@
 use Rattle.std.specs.Prelude.{◌≡◌, ℕ, List, None}
 use Rattle.std.specs.List.{Contains}
-use Rattle.b2_host.specs.Standing.{Disk}
+use Rattle.b2_host.specs.Disks.{Disk}
 
 -- nothing but at these paths has changed
 abbrev pub KeepsOthers : List (List ℕ) → Disk → Disk → Type 0

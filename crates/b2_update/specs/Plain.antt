@@ -1,6 +1,6 @@
 use Rattle.std.specs.Prelude.{◌≡◌, ℕ, ◌<◌, true, false, List, [], Some}
 use Rattle.std.specs.List.{Contains}
-use Rattle.b2_host.specs.Standing.{Folder}
+use Rattle.b2_host.specs.Disks.{Folder}
 use Rattle.b2_plan.specs.declared.step.Step.{Step}
 use Rattle.b2_plan.specs.Plans.{step_at, Makes}
 use Rattle.b2_plan.specs.Sources.{Build}

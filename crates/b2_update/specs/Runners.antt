@@ -1,7 +1,7 @@
 use Rattle.std.specs.Prelude.{◌≡◌, ◌≢◌, ℕ, Bool, List, [], ◌∷◌, ◌++◌, Option, ◌⊎◌}
 use Rattle.std.specs.Option.{option_map}
-use Rattle.b2_host.specs.Standing.{Disk}
-use Rattle.b2_host.specs.ChildProcesses.{Family, Child, Ends, WorkedOn, BothTold, after_start}
+use Rattle.b2_host.specs.Disks.{Disk}
+use Rattle.b2_host.specs.ChildProcesses.{Family, Child, Ends, ChangesOnlyOutputs, BothTold, after_start}
 use Rattle.b2_plan.specs.declared.step.Step.{Step}
 use Rattle.b2_update.specs.declared.stop.Stop.{Stop}
 use Rattle.b2_update.specs.declared.stop.Stop.TheVariants as stops
@@ -29,7 +29,7 @@ pub record ChildHasEnded (made : List ℕ → List (List ℕ × List ℕ) → Li
 
 -- The child that ran was waited for: it has ended, or runs on.
 pub record IsDrained (made : List ℕ → List (List ℕ × List ℕ) → List ℕ → List ℕ) (old : Family) (before : Option Disk) (new : Family) (after : Option Disk) : Type 0 where
-  pub worked : BothTold (WorkedOn old.running) before after
+  pub worked : BothTold (ChangesOnlyOutputs old.running) before after
   pub ended : (new ≡ old) ⊎ ((middle : Option Disk) × (well : Bool) × ChildHasEnded made old middle well new after)
 
 -- what there is of children when a step has started

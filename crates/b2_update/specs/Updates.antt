@@ -1,7 +1,7 @@
 use Rattle.std.specs.Prelude.{◌≡◌, ◌≢◌, ℕ, true, List, [], ◌∷◌, ◌++◌, Option, Some, ◌⊎◌, ⊤, IfSome, count_by}
 use Rattle.std.specs.List.{AllByRecursion}
 use Rattle.b2_host.specs.declared.children.ChildEvent.{ChildEvent}
-use Rattle.b2_host.specs.Standing.{Folder, Disk}
+use Rattle.b2_host.specs.Disks.{Folder, Disk}
 use Rattle.b2_host.specs.ChildProcesses.{Family, Child, Given}
 use Rattle.b2_host.specs.Faults.{Rose}
 use Rattle.b2_plan.specs.declared.step.Step.{Step}

@@ -3,7 +3,7 @@
 ghost use Rattle.std.specs.Prelude.{◌≡◌, ◌+◌, ◌<◌, [], ◌∷◌, ◌++◌, ℕ, List, Option, Some, None, ◌≢◌, Bool, true, false, IfOk, OnOk, OnErr, IfErr, ◌⊎◌, IsTrue, length, ◌↔◌};
 ghost use Rattle.std.specs.List.{Contains, AllPairs};
 ghost use Rattle.std.specs.Option.{IfSome};
-ghost use Rattle.b2_host.specs.Standing.{Folder};
+ghost use Rattle.b2_host.specs.Disks.{Folder};
 ghost use Rattle.b2_host.specs.Faults.{Rose};
 ghost use Rattle.b2_host.specs.ChildProcesses.{Family, BothTold};
 ghost use Rattle.b2_plan.specs.Plans.{step_at};

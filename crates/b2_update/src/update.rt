@@ -1,7 +1,7 @@
 //! The update of a plan.
 ghost use Rattle.std.specs.Prelude.{◌≡◌, ℕ, List, [], Option, Some, None, ◌⊎◌, IfOk, OnOk, OnErr, IfErr, MatchResult, length};
 ghost use Rattle.std.specs.List.{AllPairs};
-ghost use Rattle.b2_host.specs.Standing.{Folder, Disk};
+ghost use Rattle.b2_host.specs.Disks.{Folder, Disk};
 ghost use Rattle.b2_host.specs.Faults.{Rose};
 ghost use Rattle.b2_host.specs.ChildProcesses.{Family, BothTold};
 ghost use Rattle.b2_plan.specs.Plans.{Apart};

@@ -1,5 +1,5 @@
 use Rattle.std.proofs.Common.{subst, ◌<◌, refl}
-use Rattle.b2_host.specs.Standing.{ReadTold}
+use Rattle.b2_host.specs.Disks.{ReadTold}
 use Rattle.b2_top.specs.ProjectFiles.{jamroot}
 use Rattle.b2_top.specs.ProjectFiles.IsNotYet.{too_large}
 use Rattle.b2_top.proofs.load.plan_of_answer.Goals as goal

@@ -1,5 +1,5 @@
 use Rattle.std.proofs.Common.{◌↔◌, ℕ, List, IsTrue, not, sym, ◌∙◌, false}
-use Rattle.b2_host.specs.Standing.{Disk}
+use Rattle.b2_host.specs.Disks.{Disk}
 use Rattle.b2_plan.specs.Sources.{IsSource, IsMissing}
 use Rattle.b2_update.specs.Plain.{build_of}
 use Rattle.b2_update.proofs.Reading.{told_all, told_map, made_given, source_given}

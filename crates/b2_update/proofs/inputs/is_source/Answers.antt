@@ -1,5 +1,5 @@
 use Rattle.std.proofs.Common.{◌≡◌, ◌↔◌, ℕ, List, IsTrue, sym, subst, ◌∙◌, true, false}
-use Rattle.b2_host.specs.Standing.{Disk, StatTold}
+use Rattle.b2_host.specs.Disks.{Disk, StatTold}
 use Rattle.b2_plan.specs.Sources.{IsInRoots, IsSource}
 use Rattle.b2_update.specs.Plain.{build_of}
 use Rattle.b2_update.proofs.Reading.{told_all, told_at, stat_source}

@@ -1,6 +1,6 @@
 use Rattle.std.proofs.Common.{◌≡◌, ◌+◌, ◌↔◌, ◌++◌, ◌∷◌, [], ℕ, List, IsTrue, cond, take, get_or, subst, ◌∙◌}
 use Rattle.std.specs.List.{Contains}
-use Rattle.b2_host.specs.Standing.{Disk}
+use Rattle.b2_host.specs.Disks.{Disk}
 use Rattle.b2_plan.specs.Sources.{IsMissing}
 use Rattle.b2_update.specs.Plain.{build_of}
 use Rattle.b2_update.proofs.Elements.{take_whole}

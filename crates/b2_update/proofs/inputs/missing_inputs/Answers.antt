@@ -1,6 +1,6 @@
 use Rattle.std.proofs.Common.{◌↔◌, ℕ, List, IfSome, sym, subst}
 use Rattle.std.specs.List.{Contains, AllPairs}
-use Rattle.b2_host.specs.Standing.{Disk}
+use Rattle.b2_host.specs.Disks.{Disk}
 use Rattle.b2_plan.specs.Closures.{Before}
 use Rattle.b2_plan.specs.Sources.{IsMissing}
 use Rattle.b2_update.specs.Inputs.{IsInput, IsMissingInput}

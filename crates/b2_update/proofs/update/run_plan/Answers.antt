@@ -1,6 +1,6 @@
 use Rattle.std.proofs.Common.{◌≡◌, ◌≢◌, [], ℕ, List, sym, subst, refl, ap, length, count_by}
 use Rattle.std.proofs.lemmas.Result.{err_from_is_err_and}
-use Rattle.b2_host.specs.Standing.{Disk}
+use Rattle.b2_host.specs.Disks.{Disk}
 use Rattle.b2_plan.specs.declared.step.Step.{Step}
 use Rattle.b2_update.specs.declared.outcome.Outcome.{Outcome}
 use Rattle.b2_update.specs.declared.stop.Stop.TheVariants as stops

@@ -1,5 +1,5 @@
 use Rattle.std.proofs.Common.{◌≡◌, [], ℕ, List, Option, None, length}
-use Rattle.b2_host.specs.Standing.{Folder}
+use Rattle.b2_host.specs.Disks.{Folder}
 use Rattle.b2_host.specs.ChildProcesses.{Family}
 use Rattle.b2_host.specs.declared.children.ChildEvent.{ChildEvent}
 use Rattle.b2_update.specs.Turns.{HadTurns}

@@ -1,5 +1,5 @@
 use Rattle.std.proofs.Common.{sym, subst, refl}
-use Rattle.b2_host.specs.Standing.{Disk}
+use Rattle.b2_host.specs.Disks.{Disk}
 use Rattle.b2_update.specs.Progress.{update_of}
 use Rattle.b2_update.specs.Updates.{HasUpdated, HasWritten}
 use Rattle.b2_update.proofs.Endings.{both_from, finished_updated, finished_written, stopped_updated, stopped_written}

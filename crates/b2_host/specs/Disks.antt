@@ -41,7 +41,7 @@ abbrev pub IsOneEach : List Past → Type 0
 IsOneEach past = (path : List ℕ) (stamp : ℕ) (x y : List ℕ) → Stood past path (record { stamp = stamp; bytes = x }) → Stood past path (record { stamp = stamp; bytes = y }) → x ≡ y
 
 -- What stands is among what stood, and there is one content for a path and a stamp.
-pub record IsKept (disk : Disk) : Type 0 where
+pub record IsConsistent (disk : Disk) : Type 0 where
   pub one_each : IsOneEach disk.past
   pub stands : (path : List ℕ) (file : File) → disk.now path ≡ Some file → Stood disk.past path file
 
