@@ -1,9 +1,13 @@
-use Rattle.std.specs.Prelude.{◌≡◌, ℕ, List, ◌∷◌, ◌++◌, Option, Some, ◌⊎◌}
+use Rattle.std.specs.Prelude.{◌≡◌, ℕ, Bool, List, ◌∷◌, ◌++◌, Option, Some, ◌⊎◌}
 use Rattle.std.specs.List.{Contains, AllByRecursion}
 use Rattle.b2_base.specs.Normal.{IsUnder}
 use Rattle.b2_host.specs.Disks.{File, bytes_at}
 use Rattle.b2_plan.specs.declared.step.Step.{Step}
 use Rattle.b2_plan.specs.Plans.{Makes}
+
+-- an include of a file: the name that is asked for, and whether it is quoted
+abbrev pub Include : Type 0
+Include = List ℕ × Bool
 
 -- All that a clean build depends on. No stamp, log, order or earlier run is here.
 pub record Build : Type 0 where
@@ -12,8 +16,10 @@ pub record Build : Type 0 where
   pub roots : List (List ℕ)
   -- the files before the build
   pub folder : List ℕ → Option File
-  -- for each include in the bytes of a file, the places where it is looked for, given the step's dirs and the file's path
-  pub places : List (List ℕ) → List ℕ → List ℕ → List (List (List ℕ))
+  -- the includes of a file, by its path and its bytes: none where it is no file that is scanned
+  pub inc : List ℕ → List ℕ → List Include
+  -- the places where an include is looked for, in order, by the step's dirs and the path of the including file
+  pub looks : List (List ℕ) → List ℕ → Include → List (List ℕ)
   -- what a text makes of named inputs, at an output
   pub made : List ℕ → List (List ℕ × List ℕ) → List ℕ → List ℕ
 
@@ -42,8 +48,8 @@ pub record IsFound (b : Build) (places : List (List ℕ)) (found : List ℕ) : T
   pub there : IsGiven b found
   pub none_before : AllByRecursion (IsMissing b) before
 
--- one of the includes of a file is this path
+-- one of the includes of the file at a path with these bytes is found at this path
 pub record Includes (b : Build) (step : Step) (path bytes found : List ℕ) : Type 0 where
-  pub places : List (List ℕ)
-  pub include : Contains (b.places step.dirs path bytes) places
-  pub first : IsFound b places found
+  pub include : Include
+  pub listed : Contains (b.inc path bytes) include
+  pub first : IsFound b (b.looks step.dirs path include) found

@@ -49,7 +49,8 @@ plan_from ins = record {
   wanted = out_path ∷ [];
   roots = codes "bin" ∷ [];
   folder = at_entry;
-  places = λ dirs path bytes. [];
+  inc = λ path bytes. [];
+  looks = λ dirs path include. [];
   made = λ text held out. flat_map (λ input. input.1) held;
 }
 
@@ -180,7 +181,8 @@ tailed_copies = record {
   wanted = a_path ∷ [];
   roots = codes "bin" ∷ [];
   folder = at_entry;
-  places = λ dirs path bytes. [];
+  inc = λ path bytes. [];
+  looks = λ dirs path include. [];
   made = λ text held out. flat_map (λ input. input.1) held;
 }
 

@@ -33,7 +33,8 @@ three_copies = record {
   wanted = a_path ∷ b_path ∷ c_path ∷ [];
   roots = codes "bin" ∷ [];
   folder = λ path. if bytes_eq x_path path then Some (record { stamp = 1; bytes = 7 ∷ [] }) else None;
-  places = λ dirs path bytes. [];
+  inc = λ path bytes. [];
+  looks = λ dirs path include. [];
   made = λ text held out. flat_map (λ input. input.1) held;
 }
 

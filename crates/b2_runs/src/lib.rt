@@ -15,5 +15,3 @@ pub mod sound_laws;
 pub mod stale_laws;
 pub mod stop_laws;
 pub mod stuck_laws;
-#[cfg(test)]
-mod tests;

@@ -1,4 +1,4 @@
-use Rattle.b2_runs.proofs.Sameness.{clean_by_sources}
+use Rattle.b2_runs.proofs.CleanBySources.{clean_by_sources}
 use Rattle.b2_runs.proofs.after_laws.clean_by_sources.Goals as goal
 
 pub returns : goal.returns

@@ -1,4 +1,4 @@
-use Rattle.b2_runs.proofs.Seeing.{seen_is_clean, closure_by_present}
+use Rattle.b2_runs.proofs.ClosureByPresent.{seen_is_clean, closure_by_present}
 use Rattle.b2_runs.proofs.after_laws.closure_by_present.Goals as goal
 
 pub returns-clause-seen : goal.returns-clause-seen

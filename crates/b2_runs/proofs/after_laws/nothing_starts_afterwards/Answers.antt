@@ -1,4 +1,4 @@
-use Rattle.b2_runs.proofs.Calmness.{none_can_start_afterwards, nothing_starts_afterwards}
+use Rattle.b2_runs.proofs.AfterLaws.{none_can_start_afterwards, nothing_starts_afterwards}
 use Rattle.b2_runs.proofs.after_laws.nothing_starts_afterwards.Goals as goal
 
 pub returns-clause-can : goal.returns-clause-can

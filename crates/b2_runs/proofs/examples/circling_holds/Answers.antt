@@ -1,4 +1,4 @@
-use Rattle.b2_runs.proofs.Circling.{circling_holds}
+use Rattle.b2_runs.proofs.CirclingHolds.{circling_holds}
 use Rattle.b2_runs.proofs.examples.circling_holds.Goals as goal
 
 pub returns : goal.returns

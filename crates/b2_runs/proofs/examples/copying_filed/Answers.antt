@@ -1,4 +1,4 @@
-use Rattle.b2_runs.proofs.Filing as lemmas
+use Rattle.b2_runs.proofs.CopyingFiled as lemmas
 use Rattle.b2_runs.proofs.examples.copying_filed.Goals as goal
 
 pub returns : goal.returns

@@ -1,4 +1,4 @@
-use Rattle.b2_runs.proofs.CopyRun.{copying_holds}
+use Rattle.b2_runs.proofs.CopyingHolds.{copying_holds}
 use Rattle.b2_runs.proofs.examples.copying_holds.Goals as goal
 
 pub returns : goal.returns

@@ -1,4 +1,4 @@
-use Rattle.b2_runs.proofs.Judging.{copying_judged}
+use Rattle.b2_runs.proofs.CopyingJudged.{copying_judged}
 use Rattle.b2_runs.proofs.examples.copying_judged.Goals as goal
 
 pub returns : goal.returns

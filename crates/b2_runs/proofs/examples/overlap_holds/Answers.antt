@@ -1,4 +1,4 @@
-use Rattle.b2_runs.proofs.Overlapping.{overlap_holds}
+use Rattle.b2_runs.proofs.OverlapHolds.{overlap_holds}
 use Rattle.b2_runs.proofs.examples.overlap_holds.Goals as goal
 
 pub returns : goal.returns

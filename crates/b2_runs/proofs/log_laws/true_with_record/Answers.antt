@@ -1,4 +1,4 @@
-use Rattle.b2_runs.proofs.Lines.{true_with_record}
+use Rattle.b2_runs.proofs.LogLaws.{true_with_record}
 use Rattle.b2_runs.proofs.log_laws.true_with_record.Goals as goal
 
 pub returns : goal.returns

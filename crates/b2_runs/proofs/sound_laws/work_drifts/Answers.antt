@@ -1,4 +1,4 @@
-use Rattle.b2_runs.proofs.Keeping.{work_drifts}
+use Rattle.b2_runs.proofs.SoundLaws.{work_drifts}
 use Rattle.b2_runs.proofs.sound_laws.work_drifts.Goals as goal
 
 pub returns : goal.returns

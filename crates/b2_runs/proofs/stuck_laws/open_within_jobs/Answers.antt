@@ -1,4 +1,4 @@
-use Rattle.b2_runs.proofs.Opens.{open_within_jobs}
+use Rattle.b2_runs.proofs.OpenSteps.{open_within_jobs}
 use Rattle.b2_runs.proofs.stuck_laws.open_within_jobs.Goals as goal
 
 pub returns : goal.returns

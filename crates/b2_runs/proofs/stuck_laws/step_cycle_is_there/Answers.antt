@@ -1,4 +1,4 @@
-use Rattle.b2_runs.proofs.Walking as lemmas
+use Rattle.b2_runs.proofs.StepCycleIsThere as lemmas
 use Rattle.b2_runs.proofs.stuck_laws.step_cycle_is_there.Goals as goal
 
 pub returns : goal.returns

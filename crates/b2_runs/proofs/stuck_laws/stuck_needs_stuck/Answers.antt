@@ -1,4 +1,4 @@
-use Rattle.b2_runs.proofs.Sticking.{stuck_needs_stuck}
+use Rattle.b2_runs.proofs.StuckNeedsStuck.{stuck_needs_stuck}
 use Rattle.b2_runs.proofs.stuck_laws.stuck_needs_stuck.Goals as goal
 
 pub returns : goal.returns

@@ -1,0 +1,261 @@
+use Rattle.std.proofs.Common.{◌≡◌, ℕ, zero, suc, Bool, true, false, List, [], ◌∷◌, ◌++◌, length, inl, inr, refl, sym, subst, subst₂, append_assoc, append-nil}
+use Rattle.std.proofs.lemmas.List.Elements.{Contains-append_left}
+use Rattle.std.specs.List.{Contains}
+use Rattle.b2_host.specs.declared.children.ChildEvent.{ChildEvent}
+use Rattle.b2_host.specs.declared.children.ChildEvent.TheVariants.{Start, Done}
+use Rattle.b2_host.specs.Disks.{Disk}
+use Rattle.b2_plan.specs.declared.step.Step.{Step}
+use Rattle.b2_plan.specs.Plans.{Makes, Apart}
+use Rattle.b2_plan.specs.Sources.{Build, IsInRoots}
+use Rattle.b2_plan.specs.Closures.{Value, Known, IsClose}
+use Rattle.b2_plan.specs.Cleans.{Val, Clean}
+use Rattle.b2_log.specs.declared.line.LogLine.{LogLine}
+use Rattle.b2_runs.specs.Staleness.{Update, IsFresh}
+use Rattle.b2_runs.specs.Runs.{Settled, Settled.source, Settled.done_well, Settled.fresh, on_settled, Needed, Needed.wanted, Needed.member, RunFrom, IsRunSoFar, CanStart}
+use Rattle.b2_runs.specs.Outcomes.{AllWent, IsSettledStep}
+use Rattle.b2_runs.specs.Soundness.{IsSound}
+use Rattle.b2_runs.specs.Afterwards.{at_present, next_update, Restless, Restless.always, Restless.notfile, Restless.through, IsNoted}
+use Rattle.b2_runs.specs.AfterLaws.{SettledAfterwards, FreshAfterwards, NoneCanStartAfterwards, NothingStartsAfterwards}
+use Rattle.b2_runs.proofs.ElementLemmas.{one_step, some_element, Contains_nil}
+use Rattle.b2_runs.proofs.ClosureLaws.{known_stays, close_has, close_is_one}
+use Rattle.b2_runs.proofs.ValueRounds.{source_not_made, maker_is_one, close_at}
+use Rattle.b2_runs.proofs.RoundsAreEnough.{rounds_enough}
+use Rattle.b2_runs.proofs.CleanLaws.{clean_is_one}
+use Rattle.b2_runs.proofs.StampedFiles.{stamp_of, stamped_file}
+use Rattle.b2_runs.proofs.RunLaws.{close_on_settled, same_members, started_has_closure, done_was_started, settled_has_value, start_in_start, done_in_start, start_in_done, done_in_done}
+use Rattle.b2_runs.proofs.CleanBySources.{SameSources, source_to, clean_close_to, clean_from, known_from}
+use Rattle.b2_runs.proofs.JudgedByPresent.{fresh_move, settled_kept}
+use Rattle.b2_runs.proofs.SettledLaws.{log_in_roots, unstarted_kept}
+
+is_false : (t : Bool) → (t ≡ true → ⊥) → t ≡ false
+is_false true no_true = absurd (no_true refl)
+is_false false no_true = refl
+
+-- the files outside the roots are as at entry
+pub same_sources : (u : Update) (events : List ChildEvent) (disk : Disk) → Apart u.build.steps u.build.roots → IsSound u events disk → SameSources u.build disk.now
+same_sources u events disk apart sound path outside =
+    sound.only_outputs path (λ e. outside (subst (IsInRoots u.build.roots) (sym e) (log_in_roots u.build apart))) (λ i step started makes. outside (apart.under_root i step path makes))
+
+-- a value by some rounds has its closure's members by one round fewer
+below : (b : Build) → Apart b.steps b.roots → (n i : ℕ) (step : Step) (path : List ℕ) (x : Value) (members : List (List ℕ × Value)) → Makes b.steps i step path → IsClose b (Clean b) step members → Val b n path x
+    → (k : ℕ) × (n ≡ suc k) × ((member : List ℕ) (value : Value) → Contains members (member, value) → Val b k member value)
+below b apart zero i step path x members makes close (bytes, s, e) = absurd (source_not_made b apart path bytes s i step makes)
+below b apart (suc n) i step path x members makes close (inl (bytes, s, e)) = absurd (source_not_made b apart path bytes s i step makes)
+below b apart (suc n) i step path x members makes close (inr s) =
+    let same : s.step ≡ step = maker_is_one b apart s.number i s.step step path s.makes makes in
+    let wide : IsClose b (Clean b) s.step s.members = close_at b apart n (length b.steps) s.step s.members s.close (λ p y c. rounds_enough b apart n p y (s.close.each p y c).1) in
+    let one : s.members ≡ members = close_is_one (Clean b) b step s.members members (clean_is_one b apart) (subst (λ z. IsClose b (Clean b) z s.members) same wide) close in
+    (n, refl, subst (λ ms. (member : List ℕ) (value : Value) → Contains ms (member, value) → Val b n member value) one (λ m y c. (s.close.each m y c).1))
+
+-- What the next update judges of a step whose outputs were settled.
+pub record Judged (u : Update) (events : List ChildEvent) (next : Update) (step : Step) : Type 0 where
+  pub members : List (List ℕ × Value)
+  pub close : IsClose u.build (Clean u.build) step members
+  pub inside : (member : List ℕ) (value : Value) → Contains members (member, value) → Settled u events member
+  pub is_fresh : IsFresh next [] step members
+
+-- a step that was done well is fresh by its record
+judge_done : (u : Update) (events : List ChildEvent) (disk : Disk) (log : List LogLine) (quit : Bool) (jobs : ℕ) → Apart u.build.steps u.build.roots → IsRunSoFar u events → IsNoted u events disk.now log
+    → (i : ℕ) (step : Step) (path : List ℕ) → Makes u.build.steps i step path → Contains events (Done i true) → (Restless u.build path → ⊥) → Judged u events (next_update u disk.now log quit jobs) step
+judge_done u events disk log quit jobs apart run noted i step path makes done calm =
+    let (members, on) = started_has_closure u events i step apart run (done_was_started u events i true run done) makes.at in
+    let (close, inside) = (close_on_settled u events step members apart).0 on in
+    let file : step.notfile ≡ false = is_false step.notfile (λ e. calm (notfile i step path makes e)) in
+    let r = noted.recorded i step members makes.at done file close in
+    record {
+      members = members;
+      close = close;
+      inside = inside;
+      is_fresh = record {
+        not_all = refl;
+        not_always = is_false step.always (λ e. calm (always i step path makes e));
+        not_notfile = file;
+        stand = λ out c. let (stamp, there, has) = stamp_of disk.now step.outs r.last.outs r.outs out c in let (f, at, e) = stamped_file disk.now out stamp has in (f, at);
+        none_older = noted.none_older i step members makes.at done file close;
+        none_done = λ m y j s w c makes_m d. Contains_nil (Done j w) d;
+        none_notfile = λ m y j s c makes_m. is_false s.notfile (λ e. calm (through i step path members m y makes close c (notfile j s m makes_m e)));
+        recorded = r;
+      };
+    }
+
+-- a step that was fresh is fresh as before
+judge_fresh : (u : Update) (events : List ChildEvent) (disk : Disk) (log : List LogLine) (quit : Bool) (jobs : ℕ) → Apart u.build.steps u.build.roots → IsSound u events disk → IsNoted u events disk.now log
+    → (i : ℕ) (step : Step) (path : List ℕ) (members : List (List ℕ × Value)) → Makes u.build.steps i step path → (Contains events (Start i) → ⊥) → IsClose u.build (Clean u.build) step members
+    → ((member : List ℕ) (value : Value) → Contains members (member, value) → Settled u events member) → IsFresh u events step members → Judged u events (next_update u disk.now log quit jobs) step
+judge_fresh u events disk log quit jobs apart sound noted i step path members makes not_started close inside f =
+    let out_same : (out : List ℕ) → Contains step.outs out → disk.now out ≡ u.build.folder out = λ out c.
+    unstarted_kept u events disk apart sound i step out (record { at = makes.at; among = c }) not_started in
+    let in_same : (m : List ℕ) (y : Value) → Contains members (m, y) → disk.now m ≡ u.build.folder m = λ m y c.
+    settled_kept u events disk apart sound m (inside m y c) (λ k s well makes_m done. f.none_done m y k s well c makes_m done) in
+    let now : IsFresh (at_present u disk.now log) events step members = fresh_move u events disk.now log step members out_same in_same (noted.not_started i step makes.at not_started) f in
+    record {
+      members = members;
+      close = close;
+      inside = inside;
+      is_fresh = record {
+        not_all = refl;
+        not_always = f.not_always;
+        not_notfile = f.not_notfile;
+        stand = now.stand;
+        none_older = now.none_older;
+        none_done = λ m y j s w c makes_m d. Contains_nil (Done j w) d;
+        none_notfile = f.none_notfile;
+        recorded = now.recorded;
+      };
+    }
+
+-- a step whose outputs were settled is fresh next time
+pub judge_next : (u : Update) (events : List ChildEvent) (disk : Disk) (log : List LogLine) (quit : Bool) (jobs : ℕ) → Apart u.build.steps u.build.roots → IsRunSoFar u events → IsSound u events disk → IsNoted u events disk.now log
+    → (i : ℕ) (step : Step) (path : List ℕ) → Makes u.build.steps i step path → Settled u events path → (Restless u.build path → ⊥) → Judged u events (next_update u disk.now log quit jobs) step
+judge_next u events disk log quit jobs apart run sound noted i step path makes (source p bytes s) calm = absurd (source_not_made u.build apart p bytes s i step makes)
+judge_next u events disk log quit jobs apart run sound noted i step path makes (done_well k s p makes_k done) calm =
+    subst (Judged u events (next_update u disk.now log quit jobs)) (maker_is_one u.build apart k i s step p makes_k makes) (judge_done u events disk log quit jobs apart run noted k s p makes_k done calm)
+judge_next u events disk log quit jobs apart run sound noted i step path makes (fresh k s p members makes_k not_started close inside f) calm =
+    subst (Judged u events (next_update u disk.now log quit jobs)) (maker_is_one u.build apart k i s step p makes_k makes) (judge_fresh u events disk log quit jobs apart sound noted k s p members makes_k not_started close inside f)
+
+-- a step that is fresh next time, and whose members are settled then, has settled outputs
+settle_step : (u : Update) (events : List ChildEvent) (disk : Disk) (log : List LogLine) (quit : Bool) (jobs : ℕ) → SameSources u.build disk.now → (i : ℕ) (step : Step) (path : List ℕ) → Makes u.build.steps i step path
+    → (j : Judged u events (next_update u disk.now log quit jobs) step) → ((member : List ℕ) (value : Value) → Contains j.members (member, value) → Settled (next_update u disk.now log quit jobs) [] member) → Settled (next_update u disk.now log quit jobs) [] path
+settle_step u events disk log quit jobs same i step path makes j inside =
+    fresh i step path j.members makes (λ c. Contains_nil (Start i) c) (clean_close_to u.build disk.now same step j.members j.close) inside j.is_fresh
+
+-- what was settled is settled next time, by the rounds of its value
+settle_next : (u : Update) (events : List ChildEvent) (disk : Disk) (log : List LogLine) (quit : Bool) (jobs : ℕ) → Apart u.build.steps u.build.roots → IsRunSoFar u events → IsSound u events disk → IsNoted u events disk.now log
+    → (n : ℕ) (path : List ℕ) (x : Value) → Val u.build n path x → Settled u events path → (Restless u.build path → ⊥) → Settled (next_update u disk.now log quit jobs) [] path
+settle_next u events disk log quit jobs apart run sound noted n path x v (source p bytes s) calm = source p bytes (source_to u.build disk.now (same_sources u events disk apart sound) p bytes s)
+settle_next u events disk log quit jobs apart run sound noted zero path x v (done_well i step p makes done) calm = absurd (source_not_made u.build apart p v.0 v.1 i step makes)
+settle_next u events disk log quit jobs apart run sound noted zero path x v (fresh i step p members makes not_started close inside f) calm = absurd (source_not_made u.build apart p v.0 v.1 i step makes)
+settle_next u events disk log quit jobs apart run sound noted (suc n) path x v (done_well i step p makes done) calm =
+    let j = judge_done u events disk log quit jobs apart run noted i step p makes done calm in
+    let (k, e, low) = below u.build apart (suc n) i step p x j.members makes j.close v in
+    let same : n ≡ k = cc in
+    settle_step u events disk log quit jobs (same_sources u events disk apart sound) i step p makes j
+    (λ m y c. settle_next u events disk log quit jobs apart run sound noted n m y (subst (λ q. Val u.build q m y) (sym same) (low m y c)) (j.inside m y c) (λ r. calm (through i step p j.members m y makes j.close c r)))
+settle_next u events disk log quit jobs apart run sound noted (suc n) path x v (fresh i step p members makes not_started close inside f) calm =
+    let j = judge_fresh u events disk log quit jobs apart sound noted i step p members makes not_started close inside f in
+    let (k, e, low) = below u.build apart (suc n) i step p x j.members makes j.close v in
+    let same : n ≡ k = cc in
+    settle_step u events disk log quit jobs (same_sources u events disk apart sound) i step p makes j
+    (λ m y c. settle_next u events disk log quit jobs apart run sound noted n m y (subst (λ q. Val u.build q m y) (sym same) (low m y c)) (j.inside m y c) (λ r. calm (through i step p j.members m y makes j.close c r)))
+
+-- what was settled is settled next time
+pub settled_afterwards : SettledAfterwards
+settled_afterwards u events disk log quit jobs path apart run sound noted settled calm =
+    let (value, clean) = settled_has_value u events path apart run settled in
+    settle_next u events disk log quit jobs apart run sound noted (length u.build.steps) path value clean settled calm
+
+-- and its step is fresh
+pub fresh_afterwards : FreshAfterwards
+fresh_afterwards u events disk log quit jobs i step path apart run sound noted makes settled calm =
+    let j = judge_next u events disk log quit jobs apart run sound noted i step path makes settled calm in
+    let inside : (m : List ℕ) (y : Value) → Contains j.members (m, y) → Settled (next_update u disk.now log quit jobs) [] m = λ m y c.
+    settled_afterwards u events disk log quit jobs m apart run sound noted (j.inside m y c) (λ r. calm (through i step path j.members m y makes j.close c r)) in
+    record {
+      members = j.members;
+      close = (close_on_settled (next_update u disk.now log quit jobs) [] step j.members apart).1 (clean_close_to u.build disk.now (same_sources u events disk apart sound) step j.members j.close) inside;
+      is_fresh = j.is_fresh;
+    }
+
+-- a settled output has its step's closure on what is settled
+settled_closure : (u : Update) (events : List ChildEvent) → Apart u.build.steps u.build.roots → IsRunSoFar u events → (i : ℕ) (step : Step) (path : List ℕ) → Makes u.build.steps i step path → Settled u events path
+    → (members : List (List ℕ × Value)) × IsClose u.build (on_settled u events) step members
+settled_closure u events apart run i step path makes (source p bytes s) = absurd (source_not_made u.build apart p bytes s i step makes)
+settled_closure u events apart run i step path makes (done_well k s p makes_k done) =
+    let (members, close) = started_has_closure u events k s apart run (done_was_started u events k true run done) makes_k.at in
+    (members, subst (λ z. IsClose u.build (on_settled u events) z members) (maker_is_one u.build apart k i s step p makes_k makes) close)
+settled_closure u events apart run i step path makes (fresh k s p members makes_k not_started close inside f) =
+    (members, subst (λ z. IsClose u.build (on_settled u events) z members) (maker_is_one u.build apart k i s step p makes_k makes) ((close_on_settled u events s members apart).1 close inside))
+
+-- where all went well, a needed step is settled
+needed_settled : (u : Update) (events : List ChildEvent) → AllWent u events → (i : ℕ) → Needed u events i → IsSettledStep u events i
+needed_settled u events went i needed = elim (went.none_stuck i needed) [
+  | inl done ↦ done
+  | inr (inl bad) ↦ absurd (went.none_failed i bad)
+  | inr (inr bad) ↦ absurd (went.none_skipped i bad)
+]
+
+-- where all went well, no more is needed next time, however far the next run has gone
+needed_later : (u : Update) (events later : List ChildEvent) (disk : Disk) (log : List LogLine) (quit : Bool) (jobs : ℕ) → Apart u.build.steps u.build.roots → IsRunSoFar u events → IsSound u events disk → AllWent u events → (i : ℕ) → Needed (next_update u disk.now log quit jobs) later i → Needed u events i
+needed_later u events later disk log quit jobs apart run sound went i (wanted k step path c makes) = wanted k step path c makes
+needed_later u events later disk log quit jobs apart run sound went i (member k step j other path needed at known makes) =
+    let needed_j = needed_later u events later disk log quit jobs apart run sound went j needed in
+    let (out, c) = some_element other.outs (apart.some_out j other at) in
+    let makes_out : Makes u.build.steps j other out = record { at = at; among = c } in
+    let (members, close) = settled_closure u events apart run j other out makes_out (needed_settled u events went j needed_j other out makes_out) in
+    let same = same_sources u events disk apart sound in
+    let wide : Known u.build (Clean u.build) other path =
+    known_from u.build disk.now same (on_settled (next_update u disk.now log quit jobs) later) (Clean u.build) (λ p x s. clean_from u.build disk.now same p x s.1) other path known in
+    let narrow : Known u.build (on_settled u events) other path =
+    known_stays u.build (on_settled u events) (Clean u.build) other (λ p x s. s.1) (clean_is_one u.build apart) (close_has u.build (on_settled u events) other members close) path wide in
+    member k step j other path needed_j at narrow makes
+
+-- no step was started whose outputs are none that an always-step or a notfile step reaches
+abbrev NoneCalm : Build → List ChildEvent → Type 0
+NoneCalm b later = (i : ℕ) (step : Step) (path : List ℕ) → Makes b.steps i step path → (Restless b path → ⊥) → Contains later (Start i) → ⊥
+
+-- each step that is done was started
+abbrev Begun : List ChildEvent → Type 0
+Begun later = (i : ℕ) (well : Bool) → Contains later (Done i well) → Contains later (Start i)
+
+-- a step that is fresh before any event is fresh while no other such step was started
+fresh_later : (next : Update) (b : Build) (later : List ChildEvent) (i : ℕ) (step : Step) (path : List ℕ) (members : List (List ℕ × Value)) → Begun later → ((k : ℕ) (other : Step) (out : List ℕ) → Makes next.build.steps k other out → (Restless b out → ⊥) → Contains later (Start k) → ⊥)
+    → ((member : List ℕ) (value : Value) → Contains members (member, value) → Restless b member → ⊥) → IsFresh next [] step members → IsFresh next later step members
+fresh_later next b later i step path members begun none calm f = record {
+  not_all = f.not_all;
+  not_always = f.not_always;
+  not_notfile = f.not_notfile;
+  stand = f.stand;
+  none_older = f.none_older;
+  none_done = λ m y k other well c makes d. none k other m makes (calm m y c) (begun k well d);
+  none_notfile = f.none_notfile;
+  recorded = f.recorded;
+}
+
+-- where none was started so far, none can start
+calm_waits : (u : Update) (events later : List ChildEvent) (disk : Disk) (log : List LogLine) (quit : Bool) (jobs : ℕ) (i : ℕ) (step : Step) (path : List ℕ) → Apart u.build.steps u.build.roots → IsRunSoFar u events → IsSound u events disk → IsNoted u events disk.now log → AllWent u events
+    → Begun later → NoneCalm u.build later → Makes u.build.steps i step path → (Restless u.build path → ⊥) → CanStart (next_update u disk.now log quit jobs) later i → ⊥
+calm_waits u events later disk log quit jobs i step path apart run sound noted went begun none makes calm can =
+    let next = next_update u disk.now log quit jobs in
+    let settled = needed_settled u events went i (needed_later u events later disk log quit jobs apart run sound went i can.needed) step path makes in
+    let j = judge_next u events disk log quit jobs apart run sound noted i step path makes settled calm in
+    let calm_members : (m : List ℕ) (y : Value) → Contains j.members (m, y) → Restless u.build m → ⊥ = λ m y c r. calm (through i step path j.members m y makes j.close c r) in
+    let f : IsFresh next later step j.members = fresh_later next u.build later i step path j.members begun none calm_members j.is_fresh in
+    let same : step ≡ can.step = one_step u.build.steps i step can.step makes.at can.at in
+    let close = clean_close_to u.build disk.now (same_sources u events disk apart sound) step j.members j.close in
+    let close_can = (close_on_settled next later can.step can.members apart).0 can.close in
+    let one : j.members ≡ can.members = same_members next apart i step can.step makes.at can.at j.members can.members close close_can.0 in
+    can.stale (subst₂ (λ s ms. IsFresh next later s ms) same one f)
+
+-- along a run none is started
+none_calm : (u : Update) (events : List ChildEvent) (disk : Disk) (log : List LogLine) (quit : Bool) (jobs : ℕ) → Apart u.build.steps u.build.roots → IsRunSoFar u events → IsSound u events disk → IsNoted u events disk.now log → AllWent u events
+    → (before later : List ChildEvent) → Begun before → NoneCalm u.build before → RunFrom (next_update u disk.now log quit jobs) before later → NoneCalm u.build (before ++ later)
+none_calm u events disk log quit jobs apart run sound noted went before [] begun none r = subst (NoneCalm u.build) (sym (append-nil before)) none
+none_calm u events disk log quit jobs apart run sound noted went before (Start i ∷ later) begun none (m, r) =
+    subst (NoneCalm u.build) (append_assoc before (Start i ∷ []) later)
+    (none_calm u events disk log quit jobs apart run sound noted went (before ++ Start i ∷ []) later
+    (λ k w d. Contains-append_left before (Start i ∷ []) (Start k) (begun k w (done_in_start before i k w d)))
+    (λ k step path makes calm c. elim (start_in_start before i k c) [
+      | inl old ↦ none k step path makes calm old
+      | inr e ↦ calm_waits u events before disk log quit jobs k step path apart run sound noted went begun none makes calm (subst (CanStart (next_update u disk.now log quit jobs) before) e m.0)
+    ])
+    r)
+none_calm u events disk log quit jobs apart run sound noted went before (Done i well ∷ later) begun none (m, r) =
+    subst (NoneCalm u.build) (append_assoc before (Done i well ∷ []) later)
+    (none_calm u events disk log quit jobs apart run sound noted went (before ++ Done i well ∷ []) later
+    (λ k w d. Contains-append_left before (Done i well ∷ []) (Start k) (elim (done_in_done before i k well w d) [
+      | inl old ↦ begun k w old
+      | inr e ↦ subst (λ j. Contains before (Start j)) e.0 m.0.0
+    ]))
+    (λ k step path makes calm c. none k step path makes calm (start_in_done before i k well c))
+    r)
+
+-- where all went well, the next run holds no start but of what an always-step or a notfile step reaches
+pub nothing_starts_afterwards : NothingStartsAfterwards
+nothing_starts_afterwards u events later disk log quit jobs i step path apart run sound noted went run_later makes calm c =
+    none_calm u events disk log quit jobs apart run sound noted went [] later (λ k w d. absurd (Contains_nil (Done k w) d)) (λ k s p makes_k calm_k d. Contains_nil (Start k) d) run_later i step path makes calm c
+
+-- and at no moment of it another can start
+pub none_can_start_afterwards : NoneCanStartAfterwards
+none_can_start_afterwards u events later disk log quit jobs i step path apart run sound noted went run_later makes calm can =
+    calm_waits u events later disk log quit jobs i step path apart run sound noted went (λ k w d. done_was_started (next_update u disk.now log quit jobs) later k w run_later d)
+    (λ k s p makes_k calm_k d. nothing_starts_afterwards u events later disk log quit jobs k s p apart run sound noted went run_later makes_k calm_k d) makes calm can

@@ -1,0 +1,65 @@
+use Rattle.std.proofs.Common.{◌≡◌, ℕ, List, subst, arith, Some, Less, nat_cmp}
+use Rattle.std.specs.List.{Contains}
+use Rattle.std.specs.Cmp.Lexicographic.{slice_cmp, nat_list_cmp_total}
+use Rattle.b2_plan.specs.declared.step.Step.{Step}
+use Rattle.b2_plan.specs.Sources.{Build}
+use Rattle.b2_plan.specs.Closures.{Value, Values, Known, Known.input, Known.include, Before, IsClose}
+use Rattle.b2_runs.specs.ClosureLaws.{Extends, IsMap, KnownGrows, CloseStays, CloseIsOne}
+use Rattle.b2_runs.proofs.ElementLemmas.{same_ordered}
+
+-- more known values leave no less known
+pub known_grows : (v more : Values) → KnownGrows v more
+known_grows v more b step path extends (input p c) = input p c
+known_grows v more b step path extends (include p bytes found k says inc) = include p bytes found (known_grows v more b step p extends k) (extends p (Some bytes) says) inc
+
+-- where each member has a value already, no more are known by more values
+pub known_stays : (b : Build) (v more : Values) (step : Step) → Extends v more → IsMap more → ((path : List ℕ) → Known b v step path → (x : Value) × v path x) → (path : List ℕ) → Known b more step path → Known b v step path
+known_stays b v more step extends one has path (input p c) = input p c
+known_stays b v more step extends one has path (include p bytes found k says inc) =
+    let before = known_stays b v more step extends one has p k in
+    let (x, here) = has p before in
+    include p bytes found before (subst (v p) (one p x (Some bytes) (extends p x here) says) here) inc
+
+-- each member of a closure has a value
+pub close_has : (b : Build) (v : Values) (step : Step) (members : List (List ℕ × Value)) → IsClose b v step members → (path : List ℕ) → Known b v step path → (x : Value) × v path x
+close_has b v step members close path k =
+    let (x, c) = close.whole path k in
+    (x, (close.each path x c).1)
+
+-- a closure stays the same where more values are known
+pub close_stays : (v more : Values) → CloseStays v more
+close_stays v more b step members extends one close = record {
+  ordered = close.ordered;
+  each = λ path x c. let (k, h) = close.each path x c in (known_grows v more b step path extends k, extends path x h);
+  whole = λ path k. close.whole path (known_stays b v more step extends one (close_has b v step members close) path k);
+}
+
+-- a closure by more values is one by fewer, where its members have them
+pub close_back : (b : Build) (v more : Values) (step : Step) (members : List (List ℕ × Value)) → Extends v more → IsMap more → IsClose b more step members → ((path : List ℕ) (x : Value) → Contains members (path, x) → v path x) → IsClose b v step members
+close_back b v more step members extends one close low =
+    let up : (path : List ℕ) → Known b v step path → Known b more step path = λ path k. known_grows v more b step path extends k in
+    let down : (path : List ℕ) → Known b more step path → Known b v step path =
+    known_stays b v more step extends one (λ path k. let (x, c) = close.whole path (up path k) in (x, low path x c)) in
+    record {
+      ordered = close.ordered;
+      each = λ path x c. (down path (close.each path x c).0, low path x c);
+      whole = λ path k. close.whole path (up path k);
+    }
+
+pub Before_irrefl : (p : List ℕ) → Before p p → ⊥
+Before_irrefl p lt = let e = nat_list_cmp_total.antisymm p p in let f : slice_cmp nat_cmp p p ≡ Less = lt in grind (arith, e)
+
+pub Before_trans : (p q r : List ℕ) → Before p q → Before q r → Before p r
+Before_trans p q r = nat_list_cmp_total.trans p q r
+
+-- the closure is one list
+pub close_is_one : (v : Values) → CloseIsOne v
+close_is_one v b step xs ys one p q =
+    same_ordered (λ x y. Before x.0 y.0) (λ x. Before_irrefl x.0) (λ x y z. Before_trans x.0 y.0 z.0) xs ys p.ordered q.ordered
+    (λ m c. moves xs ys p q m.0 m.1 c) (λ m c. moves ys xs q p m.0 m.1 c)
+  where
+    moves : (xs ys : List (List ℕ × Value)) → IsClose b v step xs → IsClose b v step ys → (path : List ℕ) (x : Value) → Contains xs (path, x) → Contains ys (path, x)
+    moves xs ys p q path x c =
+        let (k, h) = p.each path x c in
+        let (y, d) = q.whole path k in
+        subst (λ z. Contains ys (path, z)) (one path y x (q.each path y d).1 h) d

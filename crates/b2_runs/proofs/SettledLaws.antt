@@ -1,0 +1,142 @@
+use Rattle.std.proofs.Common.{◌≡◌, ℕ, zero, suc, Bool, true, false, List, [], length, ◌⊎◌, inl, inr, refl, sym, ap, ap₂, subst, arith, ◌∙◌, Some, None, codes, if◌then◌else◌, option_map}
+use Rattle.std.specs.List.{Contains}
+use Rattle.b2_host.specs.declared.children.ChildEvent.{ChildEvent}
+use Rattle.b2_host.specs.declared.children.ChildEvent.TheVariants.{Start, Done}
+use Rattle.b2_host.specs.Disks.{File, Disk, Stood, bytes_at}
+use Rattle.b2_plan.specs.declared.step.Step.{Step}
+use Rattle.b2_plan.specs.Plans.{log_path, Makes, Apart}
+use Rattle.b2_plan.specs.Sources.{Build, IsSource, IsInRoots}
+use Rattle.b2_plan.specs.Closures.{Value, with_bytes}
+use Rattle.b2_plan.specs.Cleans.{Val, Clean, value_of}
+use Rattle.b2_log.specs.declared.line.LogLine.TheVariants as lines
+use Rattle.b2_runs.specs.Logs.{IsTrueRecord}
+use Rattle.b2_runs.specs.Staleness.{Update, IsFresh}
+use Rattle.b2_runs.specs.Runs.{Settled, Settled.source, Settled.done_well, Settled.fresh, Needed.wanted}
+use Rattle.b2_runs.specs.Outcomes.{AllWent}
+use Rattle.b2_runs.specs.Soundness.{Holds, IsSound}
+use Rattle.b2_runs.specs.SettledLaws.{SettledIsClean, FreshIsClean, OutputsAreClean, WantedIsClean}
+use Rattle.b2_runs.proofs.LogLaws.{found_is_there}
+use Rattle.b2_runs.proofs.StampedFiles.{holds_same, with_bytes_in, same_held, stamp_of}
+use Rattle.b2_runs.proofs.ValueRounds.{source_not_made, val_up, maker_is_one}
+use Rattle.b2_runs.proofs.CleanLaws.{clean_is_one, clean_is_made}
+
+-- the log lies under an output root
+pub log_in_roots : (b : Build) → Apart b.steps b.roots → IsInRoots b.roots log_path
+log_in_roots b apart = (codes "bin", apart.bin, record { next = codes "b2.log"; more = []; rooted = refl; goes_on = refl; not_above = λ e. refl })
+
+-- so it is no source
+pub source_not_log : (b : Build) → Apart b.steps b.roots → (path bytes : List ℕ) → IsSource b path bytes → path ≡ log_path → ⊥
+source_not_log b apart path bytes s e = s.outside (subst (IsInRoots b.roots) (sym e) (log_in_roots b apart))
+
+-- and no output
+pub out_not_log : (b : Build) → Apart b.steps b.roots → (i : ℕ) (step : Step) (path : List ℕ) → Makes b.steps i step path → path ≡ log_path → ⊥
+out_not_log b apart i step path makes e = apart.not_log i step (subst (Makes b.steps i step) e makes)
+
+-- a source has its bytes in the clean build
+pub source_clean : (b : Build) → Apart b.steps b.roots → (path bytes : List ℕ) → IsSource b path bytes → Clean b path (Some bytes)
+source_clean b apart path bytes s = val_up b apart zero (length b.steps) (omega arith) path (Some bytes) (bytes, s, refl)
+
+-- a source stands as at entry
+pub source_kept : (u : Update) (events : List ChildEvent) (disk : Disk) → Apart u.build.steps u.build.roots → IsSound u events disk → (path bytes : List ℕ) → IsSource u.build path bytes → disk.now path ≡ u.build.folder path
+source_kept u events disk apart sound path bytes s = sound.only_outputs path (source_not_log u.build apart path bytes s) (λ i step started makes. source_not_made u.build apart path bytes s i step makes)
+
+-- an output of a step that was not started stands as at entry
+pub unstarted_kept : (u : Update) (events : List ChildEvent) (disk : Disk) → Apart u.build.steps u.build.roots → IsSound u events disk → (i : ℕ) (step : Step) (path : List ℕ) → Makes u.build.steps i step path → (Contains events (Start i) → ⊥)
+    → disk.now path ≡ u.build.folder path
+unstarted_kept u events disk apart sound i step path makes not_started =
+    sound.only_outputs path (out_not_log u.build apart i step path makes)
+    (λ k other started makes_k. not_started (subst (λ j. Contains events (Start j)) (apart.one_maker k i other step path makes_k makes) started))
+
+pub value_file : (b : Build) (step : Step) (members : List (List ℕ × Value)) (path : List ℕ) → step.notfile ≡ false → value_of b step members path ≡ Some (b.made step.text (with_bytes members) path)
+value_file b step members path e = let made = b.made step.text (with_bytes members) path in ap (λ t. if t then None else Some made) e
+
+-- A step that is fresh, and whose members stood at entry with their bytes, had the clean build's bytes at entry.
+fresh_bytes : (u : Update) (events : List ChildEvent) (disk : Disk) → IsSound u events disk → (step : Step) (members : List (List ℕ × Value))
+    → IsFresh u events step members → ((path : List ℕ) (value : Value) → Contains members (path, value) → Holds u.build.folder path value)
+    → (out : List ℕ) → Contains step.outs out → Holds u.build.folder out (Some (u.build.made step.text (with_bytes members) out))
+fresh_bytes u events disk sound step members f hold out c =
+    let last = f.recorded.last in
+    let told : IsTrueRecord u.build.made disk.past last = sound.log_true (lines.Record last) (found_is_there step.outs u.log last f.recorded.found).0 in
+    let same : told.held ≡ with_bytes members =
+    same_held disk.past u.build.folder sound.keeps.one_each sound.entry_stood (with_bytes members) last.ins told.held (λ p x d. hold p (Some x) (with_bytes_in members p x d)) f.recorded.ins told.ins in
+    let (stamp, there, has) = stamp_of u.build.folder step.outs last.outs f.recorded.outs out c in
+    let (file, at) = f.stand out c in
+    let stamp_is : file.stamp ≡ stamp = (let g : Some file.stamp ≡ Some stamp = ap (option_map (λ (x : File). x.stamp)) (sym at) ∙ has in cc) in
+    let made = u.build.made last.text told.held out in
+    let this : Stood disk.past out (record { stamp = file.stamp; bytes = made }) = subst (λ s. Stood disk.past out (record { stamp = s; bytes = made })) (sym stamp_is) (told.outs out stamp there) in
+    let content : file.bytes ≡ made = sound.keeps.one_each out file.stamp file.bytes made (sound.entry_stood out file at) this in
+    let all : file.bytes ≡ u.build.made step.text (with_bytes members) out = content ∙ ap₂ (λ t h. u.build.made t h out) f.recorded.text same in
+    ap (option_map (λ (x : File). x.bytes)) at ∙ (λ i. Some (all i))
+
+-- What is settled has a value of the clean build, and stands so; and stood so at entry, where no step that is done makes it.
+pub settled_whole : (u : Update) (events : List ChildEvent) (disk : Disk) → Apart u.build.steps u.build.roots → IsSound u events disk → (path : List ℕ) → Settled u events path
+    → (value : Value) × Clean u.build path value × Holds disk.now path value × (((i : ℕ) (step : Step) (well : Bool) → Makes u.build.steps i step path → Contains events (Done i well) → ⊥) → Holds u.build.folder path value)
+settled_whole u events disk apart sound path (source p bytes s) =
+    (Some bytes, source_clean u.build apart p bytes s, holds_same u.build.folder disk.now p (Some bytes) (source_kept u events disk apart sound p bytes s) s.stands, λ none. s.stands)
+settled_whole u events disk apart sound path (done_well i step p makes done) =
+    let (value, clean, holds) = sound.done_well i step p makes done in
+    (value, clean, holds, λ none. absurd (none i step true makes done))
+settled_whole u events disk apart sound path (fresh i step p members makes not_started close inside f) =
+    let hold : (m : List ℕ) (x : Value) → Contains members (m, x) → Holds u.build.folder m x = λ m x c.
+    let (y, clean, holds, entry) = settled_whole u events disk apart sound m (inside m x c) in
+    subst (Holds u.build.folder m) (clean_is_one u.build apart m y x clean (close.each m x c).1) (entry (λ k s well makes_m done. f.none_done m x k s well c makes_m done)) in
+    let stood = fresh_bytes u events disk sound step members f hold p makes.among in
+    let kept = unstarted_kept u events disk apart sound i step p makes not_started in
+    let made = u.build.made step.text (with_bytes members) p in
+    (Some made, subst (Clean u.build p) (value_file u.build step members p f.not_notfile) (clean_is_made u.build i step p members apart makes close), holds_same u.build.folder disk.now p (Some made) kept stood, λ none. stood)
+
+-- what is settled stands clean
+pub settled_is_clean : SettledIsClean
+settled_is_clean u events disk path apart sound settled =
+    let (value, clean, holds, entry) = settled_whole u events disk apart sound path settled in
+    (value, clean, holds)
+
+-- a value by the clean build of what is settled stands
+pub settled_holds : (u : Update) (events : List ChildEvent) (disk : Disk) → Apart u.build.steps u.build.roots → IsSound u events disk → (path : List ℕ) (value : Value) → Settled u events path → Clean u.build path value → Holds disk.now path value
+settled_holds u events disk apart sound path value settled clean =
+    let (x, is, holds) = settled_is_clean u events disk path apart sound settled in
+    subst (Holds disk.now path) (clean_is_one u.build apart path x value is clean) holds
+
+-- the outputs of a fresh step stand clean
+pub fresh_is_clean : FreshIsClean
+fresh_is_clean u events disk i step path members apart sound makes not_started close inside f =
+    let clean = clean_is_made u.build i step path members apart makes close in
+    (clean, settled_holds u events disk apart sound path (value_of u.build step members path) (fresh i step path members makes not_started close inside f) clean)
+
+-- an output that is asked for has bytes
+out_bytes : (b : Build) → Apart b.steps b.roots → (n : ℕ) (i : ℕ) (step : Step) (path : List ℕ) (value : Value) → Makes b.steps i step path → step.notfile ≡ false → Val b n path value → (bytes : List ℕ) × (value ≡ Some bytes)
+out_bytes b apart zero i step path value makes file (bytes, s, e) = (bytes, e)
+out_bytes b apart (suc n) i step path value makes file (inl (bytes, s, e)) = (bytes, e)
+out_bytes b apart (suc n) i step path value makes file (inr s) =
+    let same : s.step ≡ step = maker_is_one b apart s.number i s.step step path s.makes makes in
+    (b.made s.step.text (with_bytes s.members) path, s.is ∙ value_file b s.step s.members path (ap (λ (t : Step). t.notfile) same ∙ file))
+
+-- each settled output of a needed step stands clean
+pub outputs_are_clean : OutputsAreClean
+outputs_are_clean u events disk apart sound i step path needed makes settled file =
+    let (value, clean, holds) = settled_is_clean u events disk path apart sound settled in
+    let (bytes, e) = out_bytes u.build apart (length u.build.steps) i step path value makes file clean in
+    (bytes, subst (Clean u.build path) e clean, subst (Holds disk.now path) e holds)
+
+-- where all went well, each wanted file is settled
+pub wanted_settled : (u : Update) (events : List ChildEvent) → AllWent u events → (path : List ℕ) → Contains u.build.wanted path → Settled u events path
+wanted_settled u events went path c = elim (went.given path c) [
+  | inl (bytes, s) ↦ source path bytes s
+  | inr (i, step, makes) ↦ elim (went.none_stuck i (wanted i step path c makes)) [
+    | inl done ↦ done step path makes
+    | inr (inl bad) ↦ absurd (went.none_failed i bad)
+    | inr (inr bad) ↦ absurd (went.none_skipped i bad)
+  ]
+]
+
+-- and stands clean
+pub wanted_is_clean : WantedIsClean
+wanted_is_clean u events disk apart sound went path c = elim (went.given path c) [
+  | inl (bytes, s) ↦ inl (bytes, source_clean u.build apart path bytes s, settled_holds u events disk apart sound path (Some bytes) (source path bytes s) (source_clean u.build apart path bytes s))
+  | inr (i, step, makes) ↦ go i step makes step.notfile refl
+]
+  where
+    go : (i : ℕ) (step : Step) → Makes u.build.steps i step path → (t : Bool) → step.notfile ≡ t
+        → ((bytes : List ℕ) × Clean u.build path (Some bytes) × (bytes_at disk.now path ≡ Some bytes)) ⊎ ((k : ℕ) × (other : Step) × Makes u.build.steps k other path × (other.notfile ≡ true))
+    go i step makes true e = inr (i, step, makes, e)
+    go i step makes false e = inl (outputs_are_clean u events disk apart sound i step path (wanted i step path c makes) makes (wanted_settled u events went path c) e)

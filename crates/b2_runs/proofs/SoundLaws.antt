@@ -1,0 +1,178 @@
+use Rattle.std.proofs.Common.{◌≡◌, ℕ, Bool, true, false, zero, suc, List, [], ◌∷◌, ◌++◌, inl, inr, refl, sym, ap, subst, ◌∙◌, Some, None, map, slice_get, option_map, if◌then◌else◌}
+use Rattle.std.specs.List.{Contains, AllZip}
+use Rattle.std.specs.Str.{bytes_eq}
+use Rattle.std.proofs.lemmas.Slice.Eq.{bytes_eq-Decides}
+use Rattle.std.proofs.lemmas.List.Elements.{Contains-append_left}
+use Rattle.b2_host.specs.declared.children.ChildEvent.{ChildEvent}
+use Rattle.b2_host.specs.declared.children.ChildEvent.TheVariants.{Start, Done}
+use Rattle.b2_host.specs.Disks.{File, Folder, Disk, Stood, IsConsistent, bytes_at}
+use Rattle.b2_host.specs.ChildProcesses.{Child, HasMade}
+use Rattle.b2_plan.specs.declared.step.Step.{Step}
+use Rattle.b2_plan.specs.Plans.{Apart, Makes}
+use Rattle.b2_plan.specs.Sources.{Build}
+use Rattle.b2_plan.specs.Closures.{Value, IsClose, with_bytes}
+use Rattle.b2_plan.specs.Cleans.{Clean, value_of}
+use Rattle.b2_log.specs.declared.line.Record.{Record}
+use Rattle.b2_runs.specs.Logs.{InputStood, IsTrueRecord}
+use Rattle.b2_runs.specs.Staleness.{Update, AreStamped, path_in}
+use Rattle.b2_runs.specs.Soundness.{Holds, IsSound, IsAtWork}
+use Rattle.b2_runs.specs.SoundLaws.{SoundAtEntry, SoundAfterStart, SoundAfterDrift, SoundAfterEnd, WorkDrifts, RemovalDrifts, LogDrifts, RecordIsTrue}
+use Rattle.b2_runs.proofs.ElementLemmas.{one_step, Contains_here, Contains_there, Contains_nil}
+use Rattle.b2_runs.proofs.LogLaws.{true_as_past_grows}
+use Rattle.b2_runs.proofs.StampedFiles.{whole_file, holds_same, with_bytes_in, stamp_back}
+use Rattle.b2_runs.proofs.CleanLaws.{clean_is_one, clean_is_made}
+use Rattle.b2_runs.proofs.SettledLaws.{value_file, settled_holds}
+use Rattle.b2_runs.proofs.RunLaws.{done_in_start, done_in_done}
+
+-- where an update begins, the disk is sound
+pub sound_at_entry : SoundAtEntry
+sound_at_entry u disk keeps log_true same = record {
+  keeps = keeps;
+  entry_stood = λ path file at. keeps.stands path file (sym (same path) ∙ at);
+  log_true = log_true;
+  done_well = λ i step path makes done. absurd (Contains_nil (Done i true) done);
+  only_outputs = λ path not_log none. sym (same path);
+}
+
+-- a start changes no file
+pub sound_after_start : SoundAfterStart
+sound_after_start u events disk i s = record {
+  keeps = s.keeps;
+  entry_stood = s.entry_stood;
+  log_true = s.log_true;
+  done_well = λ k step path makes done. s.done_well k step path makes (done_in_start events i k true done);
+  only_outputs = λ path not_log none. s.only_outputs path not_log (λ k step started makes. none k step (Contains-append_left events (Start i ∷ []) (Start k) started) makes);
+}
+
+-- what steps that run or failed do leaves the disk sound
+pub sound_after_drift : SoundAfterDrift
+sound_after_drift u events before after apart s d = record {
+  keeps = d.keeps;
+  entry_stood = λ path file at. d.grows _ (s.entry_stood path file at);
+  log_true = true_as_past_grows u.build.made before.past after.past u.log d.grows s.log_true;
+  done_well = λ k step path makes done.
+      let (value, clean, holds) = s.done_well k step path makes done in
+      let same : after.now path ≡ before.now path = d.others path (λ e. apart.not_log k step (subst (Makes u.build.steps k step) e makes))
+      (λ i t makes_i loose. loose.1 (subst (λ j. Contains events (Done j true)) (apart.one_maker k i step t path makes makes_i) done)) in
+      (value, clean, holds_same before.now after.now path value same holds);
+  only_outputs = λ path not_log none. d.others path not_log (λ i t makes loose. none i t loose.0 makes) ∙ s.only_outputs path not_log none;
+}
+
+-- an end changes no file: where the step ended well, its outputs are to have the clean build's values
+pub sound_done : (u : Update) (events : List ChildEvent) (disk : Disk) (i : ℕ) (well : Bool) → IsSound u events disk
+    → (well ≡ true → (step : Step) (path : List ℕ) → Makes u.build.steps i step path → (value : Value) × Clean u.build path value × Holds disk.now path value)
+    → IsSound u (events ++ Done i well ∷ []) disk
+sound_done u events disk i well s new = record {
+  keeps = s.keeps;
+  entry_stood = s.entry_stood;
+  log_true = s.log_true;
+  done_well = λ k step path makes done. elim (done_in_done events i k well true done) [
+    | inl old ↦ s.done_well k step path makes old
+    | inr (e, w) ↦ new w step path (subst (λ n. Makes u.build.steps n step path) (sym e) makes)
+  ];
+  only_outputs = λ path not_log none. s.only_outputs path not_log (λ k step started makes. none k step (Contains-append_left events (Done i well ∷ []) (Start k) started) makes);
+}
+
+-- what a step made of its closure by the clean build is the clean build's
+pub made_clean : (b : Build) → Apart b.steps b.roots → (now : Folder) (i : ℕ) (step : Step) (members : List (List ℕ × Value)) (path : List ℕ) → Makes b.steps i step path → IsClose b (Clean b) step members
+    → Holds now path (Some (b.made step.text (with_bytes members) path)) → (value : Value) × Clean b path value × Holds now path value
+made_clean b apart now i step members path makes close holds =
+    (value_of b step members path, clean_is_made b i step path members apart makes close, go step.notfile)
+  where
+    go : (t : Bool) → Holds now path (if t then None else Some (b.made step.text (with_bytes members) path))
+    go true = tt
+    go false = holds
+
+-- children at work change outputs of their steps alone
+pub work_drifts : WorkDrifts
+work_drifts u events running before after at_work keeps worked = record {
+  keeps = keeps;
+  others = λ path not_log none. worked.others path (λ w.
+      let a = at_work.each w.child w.runs in
+      none w.child.step a.fed.step
+      (record { at = a.fed.at; among = subst (λ outs. Contains outs path) (a.outs ∙ a.fed.outs) w.out })
+      (a.is_open.0, λ d. a.is_open.1 true d));
+  grows = λ old c. subst (λ past. Contains past old) (sym worked.past) (Contains-append_left before.past worked.more old c);
+}
+
+-- a file that is removed is not another
+removed_other : (disk : Disk) (path other : List ℕ) → (path ≡ other → ⊥) → (if bytes_eq path other then None else disk.now other) ≡ disk.now other
+removed_other disk path other differ = go (bytes_eq path other) refl
+  where
+    go : (t : Bool) → bytes_eq path other ≡ t → (if t then None else disk.now other) ≡ disk.now other
+    go true e = absurd (differ ((bytes_eq-Decides path other).0 e))
+    go false e = refl
+
+-- to remove an output of a step that runs or failed is a drift
+pub removal_drifts : RemovalDrifts
+removal_drifts u events disk i step path makes loose keeps = record {
+  keeps = keeps;
+  others = λ other not_log none. removed_other disk path other (λ e. none i step (subst (Makes u.build.steps i step) e makes) loose);
+  grows = λ old c. c;
+}
+
+-- a change of the log is a drift
+pub log_drifts : LogDrifts
+log_drifts u events before after keeps same grows = record { keeps = keeps; others = λ path not_log none. same path not_log; grows = grows }
+
+pub contains_at : {X : Type 0} (xs : List X) (place : ℕ) (x : X) → slice_get xs place ≡ Some x → Contains xs x
+contains_at [] place x e = absurd (let f : None ≡ Some x = e in cc)
+contains_at (y ∷ ys) zero x e = let same : y ≡ x = (let f : Some y ≡ Some x = e in cc) in subst (λ z. Contains (y ∷ ys) z) same (Contains_here y ys)
+contains_at (y ∷ ys) (suc place) x e = Contains_there y x ys (contains_at ys place x e)
+
+-- the outputs of a child that ended well have the clean build's values
+end_clean : (u : Update) (events : List ChildEvent) → Apart u.build.steps u.build.roots → (child : Child) (before after : Disk) → IsAtWork u events child → HasMade u.build.made child before after
+    → (step : Step) (path : List ℕ) → Makes u.build.steps child.step step path → (value : Value) × Clean u.build path value × Holds after.now path value
+end_clean u events apart child before after a made step path makes =
+    let same : step ≡ a.fed.step = one_step u.build.steps child.step step a.fed.step makes.at a.fed.at in
+    let out : Contains child.outs path = subst (λ outs. Contains outs path) (ap (λ (s : Step). s.outs) same ∙ sym a.fed.outs ∙ sym a.outs) makes.among in
+    let (file, at, bytes, above) = made a.given a.told path out in
+    let what : bytes_at after.now path ≡ Some (u.build.made a.fed.step.text (with_bytes a.fed.members) path) =
+    ap (option_map (λ (x : File). x.bytes)) at ∙ (λ i. Some (bytes i)) ∙ (λ i. Some (u.build.made (a.fed.text i) (a.fed.held i) path)) in
+    made_clean u.build apart after.now child.step a.fed.step a.fed.members path (subst (λ s. Makes u.build.steps child.step s path) same makes) a.fed.close what
+
+-- an end leaves the disk sound
+pub sound_after_end : SoundAfterEnd
+sound_after_end u events old new before after i well apart at_work sound keeps ends =
+    let a : IsAtWork u events ends.child = at_work.each ends.child (contains_at old.running ends.place ends.child ends.ran) in
+    let drifted = sound_after_drift u events before after apart sound (work_drifts u events old.running before after at_work keeps ends.worked) in
+    sound_done u events after i well drifted
+    (λ good step path makes. end_clean u events apart ends.child before after a (ends.made_all good) step path (subst (λ n. Makes u.build.steps n step path) (sym ends.step_is) makes))
+
+-- the record of what stands is true
+pub record_true : (b : Build) (disk : Disk) → IsConsistent disk → (step : Step) (inputs : List (List ℕ × List ℕ)) (r : Record) → r.text ≡ step.text → AreStamped disk.now step.outs r.outs → AreStamped disk.now (map path_in inputs) r.ins
+    → ((path bytes : List ℕ) → Contains inputs (path, bytes) → bytes_at disk.now path ≡ Some bytes)
+    → ((out : List ℕ) → Contains step.outs out → bytes_at disk.now out ≡ Some (b.made step.text inputs out))
+    → IsTrueRecord b.made disk.past r
+record_true b disk keeps step inputs r text outs ins held made = record {
+  held = inputs;
+  ins = go inputs r.ins ins held;
+  outs = λ path stamp c.
+      let (there, has) = stamp_back disk.now step.outs r.outs outs path stamp c in
+      let stood = keeps.stands path _ (whole_file disk.now path stamp (b.made step.text inputs path) has (made path there)) in
+      subst (λ t. Stood disk.past path (record { stamp = stamp; bytes = b.made t inputs path })) (sym text) stood;
+}
+  where
+    go : (inputs : List (List ℕ × List ℕ)) (pairs : List (List ℕ × ℕ)) → AreStamped disk.now (map path_in inputs) pairs → ((path bytes : List ℕ) → Contains inputs (path, bytes) → bytes_at disk.now path ≡ Some bytes) → AllZip (InputStood disk.past) pairs inputs
+    go [] [] a h = tt
+    go [] (q ∷ qs) a h = absurd a
+    go (w ∷ ws) [] a h = absurd a
+    go (w ∷ ws) (q ∷ qs) (a, rest) h =
+        let stood = keeps.stands w.0 _ (whole_file disk.now w.0 q.1 w.1 a.1 (h w.0 w.1 (Contains_here w ws))) in (
+          record { path = sym a.0; stood = subst (λ p. Stood disk.past p (record { stamp = q.1; bytes = w.1 })) (sym a.0) stood },
+          go ws qs rest (λ p x c. h p x (Contains_there w (p, x) ws c)),
+        )
+
+-- the record of a step that was done well is true
+pub record_is_true : RecordIsTrue
+record_is_true u events disk i step members r apart sound at done file close inside text outs ins =
+    record_true u.build disk sound.keeps step (with_bytes members) r text outs ins
+    (λ path bytes c.
+    let m = with_bytes_in members path bytes c in
+    settled_holds u events disk apart sound path (Some bytes) (inside path (Some bytes) m) (close.each path (Some bytes) m).1)
+    (λ out c.
+    let makes : Makes u.build.steps i step out = record { at = at; among = c } in
+    let (value, clean, holds) = sound.done_well i step out makes done in
+    let is : value ≡ Some (u.build.made step.text (with_bytes members) out) =
+    clean_is_one u.build apart out value (value_of u.build step members out) clean (clean_is_made u.build i step out members apart makes close) ∙ value_file u.build step members out file in
+    subst (Holds disk.now out) is holds)
