@@ -45,7 +45,7 @@ none_skipped made steps disk events sources well i (skip_missing j step path lef
   where
     go : Known (build_at made steps disk) (on_settled (update_at made steps disk) events) step path → ⊥
     go (input p among) = missing (sources i step path at among)
-    go (include p bytes found k v includes) = not_in_nil includes.places includes.include
+    go (include p bytes found k v includes) = not_in_nil includes.include includes.listed
 none_skipped made steps disk events sources well i (skip_failed j step path k other left at known makes failed) = well k failed
 none_skipped made steps disk events sources well i (skip_skipped j step path k other left at known makes skipped) = none_skipped made steps disk events sources well k skipped
 none_skipped made steps disk events sources well i (skip_quits j k left quit failed) = absurd cc

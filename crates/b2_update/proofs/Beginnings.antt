@@ -51,7 +51,7 @@ pub whole_update : (steps : List Step) (wanted roots : List (List ℕ)) (made : 
 whole_update steps wanted roots made before apart plain = record {
   apart = apart;
   plain = plain;
-  places = λ dirs path bytes. refl;
+  inc = λ path bytes. refl;
   stale = λ events i members. refl;
   goes_on = refl;
   one = refl;

@@ -14,7 +14,7 @@ use Rattle.b2_update.proofs.Elements.{Contains-here, Contains-there, Contains-ca
 -- where no file is scanned, what a step knows is what it reads
 pub known_input : (u : Update) → IsWhole u → (v : List ℕ → Option (List ℕ) → Type 0) (step : Step) (path : List ℕ) → Known u.build v step path → Contains step.ins path
 known_input u w v step path (input p c) = c
-known_input u w v step path (include p bytes found k x inc) = absurd (Contains-nil inc.places (subst (λ l. Contains l inc.places) (w.places step.dirs p bytes) inc.include))
+known_input u w v step path (include p bytes found k x inc) = absurd (Contains-nil inc.include (subst (λ l. Contains l inc.include) (w.inc p bytes) inc.listed))
 
 -- a closure stays one where its members keep their values
 pub close_along : (u : Update) → IsWhole u → (v z : List ℕ → Option (List ℕ) → Type 0) (step : Step) (members : List (List ℕ × Option (List ℕ))) → ((path : List ℕ) (value : Option (List ℕ)) → Contains members (path, value) → v path value → z path value)

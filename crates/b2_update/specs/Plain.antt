@@ -16,7 +16,7 @@ pub record IsPlain (steps : List Step) (wanted : List (List ℕ)) : Type 0 where
 
 -- The clean build of a plan from the files at entry, whose inputs are those that the steps name: no file is scanned.
 abbrev pub build_of : List Step → List (List ℕ) → List (List ℕ) → (List ℕ → List (List ℕ × List ℕ) → List ℕ → List ℕ) → Folder → Build
-build_of steps wanted roots made folder = record { steps = steps; wanted = wanted; roots = roots; folder = folder; places = λ dirs path bytes. []; made = made }
+build_of steps wanted roots made folder = record { steps = steps; wanted = wanted; roots = roots; folder = folder; inc = λ path bytes. []; looks = λ dirs path include. []; made = made }
 
 -- the update that runs every step that it needs, one at a time
 abbrev pub update_all : Build → Update

@@ -25,7 +25,7 @@ use Rattle.b2_update.specs.Runners.{Adds}
 pub record IsWhole (u : Update) : Type 0 where
   pub apart : Apart u.build.steps u.build.roots
   pub plain : IsPlain u.build.steps u.build.wanted
-  pub places : (dirs : List (List ℕ)) (path bytes : List ℕ) → u.build.places dirs path bytes ≡ []
+  pub inc : (path bytes : List ℕ) → u.build.inc path bytes ≡ []
   pub stale : (events : List ChildEvent) (i : ℕ) (members : List (List ℕ × Option (List ℕ))) → u.stale events i members ≡ true
   pub goes_on : u.quit ≡ false
   pub one : u.jobs ≡ 1
