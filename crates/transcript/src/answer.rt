@@ -1,0 +1,95 @@
+//! The answer to a command.
+use crate::case_fault::CaseFault;
+use std::alloc::Global;
+
+/// The lines that answer a command, in order; there may be none.
+#[derive(Drop)]
+pub struct Answer {
+    /// The lines, each ended by a line feed. No other control byte stands in them.
+    text: String,
+}
+
+fn push_hexadecimal(shown: &mut String, byte: u8) -> Result<(), CaseFault> {
+    write!(shown, "\\x{byte:02x}")?;
+    Ok(())
+}
+
+fn push_char(shown: &mut String, mark: char) -> Result<(), CaseFault> {
+    match mark {
+        '\n' => shown.push_str("\\n")?,
+        '\t' => shown.push_str("\\t")?,
+        '\0'..='\x1f' => push_hexadecimal(shown, mark as u8)?,
+        '\x7f' => push_hexadecimal(shown, 127)?,
+        _ => shown.push(mark)?,
+    }
+    Ok(())
+}
+
+fn push_text(shown: &mut String, text: &str) -> Result<(), CaseFault> {
+    for mark in text.chars() {
+        push_char(shown, mark)?;
+    }
+    Ok(())
+}
+
+fn push_byte(shown: &mut String, byte: u8) -> Result<(), CaseFault> {
+    if byte < 128 {
+        push_char(shown, char::from(byte))
+    } else {
+        push_hexadecimal(shown, byte)
+    }
+}
+
+fn push_each(shown: &mut String, bytes: &[u8]) -> Result<(), CaseFault> {
+    for byte in bytes {
+        push_byte(shown, *byte)?;
+    }
+    Ok(())
+}
+
+/// Bytes as a text of one line: control bytes as `\n`, `\t` or `\xHH`, and where the bytes are no UTF-8, each byte above
+/// 127 as `\xHH`. A backslash stays as it is.
+pub fn shown(alloc: Global, bytes: &[u8]) -> Result<String, CaseFault> {
+    let mut shown = String::new(alloc);
+    match str::from_utf8(bytes) {
+        Ok(text) => push_text(&mut shown, text)?,
+        Err(_error) => push_each(&mut shown, bytes)?,
+    }
+    Ok(shown)
+}
+
+impl Answer {
+    /// An answer of no lines, which takes no memory.
+    pub fn new(alloc: Global) -> Answer {
+        Answer {
+            text: String::new(alloc),
+        }
+    }
+
+    /// An answer of one line.
+    pub fn line(alloc: Global, line: &str) -> Result<Answer, CaseFault> {
+        let mut answer = Answer::new(alloc);
+        answer.push_line(line)?;
+        Ok(answer)
+    }
+
+    /// Adds a line, whose control bytes are shown as escapes. After an error the answer may hold a part of it.
+    pub fn push_line(&mut self, line: &str) -> Result<(), CaseFault> {
+        push_text(&mut self.text, line)?;
+        self.text.push('\n')?;
+        Ok(())
+    }
+
+    /// Adds each line of a text as a line of its own. Whether the last one ends with a line feed is not shown.
+    pub fn push_text(&mut self, text: &str) -> Result<(), CaseFault> {
+        for line in text.lines() {
+            self.push_line(line)?;
+        }
+        Ok(())
+    }
+
+    /// The lines, each ended by a line feed.
+    pub fn as_str(&self) -> &str {
+        self.text.as_str()
+    }
+}
