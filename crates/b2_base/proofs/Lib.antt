@@ -1,5 +1,5 @@
 pub mod TextKeys
-pub mod Joins
+pub mod JoinedSegments
 pub mod Shapes
 pub mod Stays
 pub mod Under

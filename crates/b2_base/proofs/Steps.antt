@@ -6,7 +6,7 @@ use Rattle.std.proofs.lemmas.List.Sums.{fold-append}
 use Rattle.std.proofs.lemmas.Slice.Eq.{bytes_eq-Decides}
 use Rattle.std.specs.Str.{bytes_eq}
 use Rattle.b2_base.specs.Segments.{is_dropped, is_up, climb, step, kept}
-use Rattle.b2_base.specs.Simpler.{IsEntry, Simpler, blank, dot, back, front, Reaches, here, onward, IsSimplest}
+use Rattle.b2_base.specs.Simpler.{IsEntry, Simpler, blank, dot, back, leading, Reaches, here, onward, IsSimplest}
 use Rattle.b2_base.proofs.Shapes.{two_dots, all_climb}
 
 -- ---- the tests of a segment
@@ -59,7 +59,7 @@ fold_same rooted a b (back before name after n) =
     fold-append (step rooted) [] before (name ∷ two_dots ∷ after)
     ∙ ap (λ f. fold (step rooted) f after) (pop_name rooted (fold (step rooted) [] before) name n)
     ∙ sym (fold-append (step rooted) [] before after)
-fold_same rooted a b (front after root) = ap (λ r. fold (step rooted) (cond r [] (two_dots ∷ [])) after) root
+fold_same rooted a b (leading after root) = ap (λ r. fold (step rooted) (cond r [] (two_dots ∷ [])) after) root
 
 pub kept_same : (rooted : Bool) (a b : List (List ℕ)) → Reaches rooted a b → kept rooted a ≡ kept rooted b
 kept_same rooted a b (here segments) = refl
@@ -74,7 +74,7 @@ pub step_shortens : (rooted : Bool) (a b : List (List ℕ)) → Simpler rooted a
 step_shortens rooted a b (blank before after) = shorter_by before ([] ∷ after) after (omega arith)
 step_shortens rooted a b (dot before after) = shorter_by before (codes "." ∷ after) after (omega arith)
 step_shortens rooted a b (back before name after n) = shorter_by before (name ∷ two_dots ∷ after) after (omega arith)
-step_shortens rooted a b (front after root) = omega arith
+step_shortens rooted a b (leading after root) = omega arith
 
 climb_length : (rooted : Bool) (found : List (List ℕ)) (up : List ℕ) → length (climb rooted found up) ≤ suc (length found)
 climb_length true [] up = omega arith
@@ -117,7 +117,7 @@ no_step rooted a b to same more = subst (λ from. Reaches rooted from to) same m
 
 -- a `..` is taken in by at most one step
 climb_reaches : (rooted : Bool) (found cuts to : List (List ℕ)) → AllShown found → Reaches rooted (reverse (climb rooted found two_dots) ++ cuts) to → Reaches rooted (reverse found ++ two_dots ∷ cuts) to
-climb_reaches true [] cuts to a more = onward (two_dots ∷ cuts) cuts to (front cuts refl) more
+climb_reaches true [] cuts to a more = onward (two_dots ∷ cuts) cuts to (leading cuts refl) more
 climb_reaches false [] cuts to a more = more
 climb_reaches rooted (top ∷ below) cuts to a more = go (is_up top) refl more
   where

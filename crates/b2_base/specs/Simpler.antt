@@ -9,12 +9,12 @@ pub record IsEntry (segment : List ℕ) : Type 0 where
   pub not_up : segment ≢ codes ".."
 
 -- One step of simplification. An empty segment goes, wherever it stands, and so does a `.`. An entry goes with the `..`
--- directly behind it. A `..` at the front goes where the path is rooted.
+-- directly after it. A leading `..` goes where the path is rooted.
 pub data Simpler (rooted : Bool) : List (List ℕ) → List (List ℕ) → Type 0 where
   blank : (before after : List (List ℕ)) → Simpler rooted (before ++ [] ∷ after) (before ++ after)
   dot : (before after : List (List ℕ)) → Simpler rooted (before ++ codes "." ∷ after) (before ++ after)
   back : (before : List (List ℕ)) (name : List ℕ) (after : List (List ℕ)) → IsEntry name → Simpler rooted (before ++ name ∷ codes ".." ∷ after) (before ++ after)
-  front : (after : List (List ℕ)) → rooted ≡ true → Simpler rooted (codes ".." ∷ after) after
+  leading : (after : List (List ℕ)) → rooted ≡ true → Simpler rooted (codes ".." ∷ after) after
 
 -- some such steps, or none
 pub data Reaches (rooted : Bool) : List (List ℕ) → List (List ℕ) → Type 0 where

@@ -4,12 +4,11 @@
 pub mod expand_fault;
 pub mod fault;
 pub mod laws;
+pub mod list;
 pub mod look;
 pub mod path;
 pub mod path_list;
 mod segments;
-#[cfg(test)]
-mod tests;
 pub mod text;
 pub mod text_list;
 pub mod text_map;

@@ -70,23 +70,18 @@ pub fn keep<'a>(alloc: Global, rooted: bool, cuts: &[&'a str]) -> Result<Vec<&'a
 }
 
 /// The segments as one text.
-#[tactic(auto, using(crate::proofs::Joins::joins))]
+#[tactic(auto, using(crate::proofs::JoinedSegments::joined))]
 pub fn join(alloc: Global, rooted: bool, found: &[&str]) -> Result<String, OutOfMemory>
     ensures { IfOk result (λ text. string_bytes text ≡ written rooted (texts found.now)) }
 {
-    let mut text = String::new(alloc);
+    let names = found.join(alloc, "/")?;
     if rooted {
-        text.push('/')?;
-    } else if found.is_empty() {
-        text.push('.')?;
+        return Ok(format!(in alloc; "/{names}")?);
     }
-    for (i, segment) in found.iter().enumerate() {
-        if i > 0 {
-            text.push('/')?;
-        }
-        text.push_str(segment)?;
+    if found.is_empty() {
+        return Ok(String::from_str(alloc, ".")?);
     }
-    Ok(text)
+    Ok(names)
 }
 
 /// Whether a text in normal form begins with the segment `..`.

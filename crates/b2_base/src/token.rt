@@ -23,6 +23,6 @@ pub struct Token {
     pub line: u32,
     /// The offset of its first byte.
     pub start: u32,
-    /// The offset behind its last byte.
+    /// The offset after its last byte.
     pub end: u32,
 }

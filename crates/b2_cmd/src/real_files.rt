@@ -16,7 +16,7 @@ use std::{fs, io};
 #[derive(Drop)]
 pub struct RealFiles<'a, R: Disk + AllocGlobal> {
     rt: &'a R,
-    pub failed: u64,
+    pub faults: u64,
 }
 
 /// Whether the error says that nothing stands at the path.
@@ -36,22 +36,22 @@ fn stamp_of(metadata: &Metadata) -> Option<u64> {
 
 impl<'a, R: Disk + AllocGlobal> RealFiles<'a, R> {
     pub fn new(rt: &'a R) -> Self
-        ensures { result.failed ≡ 0 }
+        ensures { result.faults ≡ 0 }
     {
-        RealFiles { rt, failed: 0 }
+        RealFiles { rt, faults: 0 }
     }
 
     /// Counts a fault.
     pub fn fail(&mut self) -> Failed
-        ensures { Rose self.old.failed self.new.failed }
+        ensures { Rose self.old.faults self.new.faults }
     {
-        self.failed = self.failed.saturating_add(1);
+        self.faults = self.faults.saturating_add(1);
         Failed
     }
 
-    /// Counts the fault, unless it is want of memory.
+    /// Counts the fault, unless no memory was left.
     pub fn fault(&mut self, error: &io::Error) -> IoFault
-        ensures { FaultCounted self.old.failed self.new.failed result }
+        ensures { FaultCounted self.old.faults self.new.faults result }
     {
         match error.kind() {
             ErrorKind::OutOfMemory => IoFault::OutOfMemory,
@@ -113,7 +113,7 @@ impl<'a, R: Disk + AllocGlobal> RealFiles<'a, R> {
     }
 
     pub fn stat(&mut self, path: &Path) -> Result<Option<u64>, Failed>
-        ensures { FaultTold self.old.failed self.new.failed result }
+        ensures { FaultTold self.old.faults self.new.faults result }
     {
         match self.metadata(path) {
             Ok(None) => Ok(None),
@@ -126,7 +126,7 @@ impl<'a, R: Disk + AllocGlobal> RealFiles<'a, R> {
     }
 
     pub fn read(&mut self, path: &Path, most: u64) -> Result<ReadAnswer, IoFault>
-        ensures { IoFaultTold self.old.failed self.new.failed result }
+        ensures { IoFaultTold self.old.faults self.new.faults result }
     {
         match self.bytes(path, most) {
             Ok(answer) => Ok(answer),
@@ -135,7 +135,7 @@ impl<'a, R: Disk + AllocGlobal> RealFiles<'a, R> {
     }
 
     pub fn remove(&mut self, path: &Path) -> Result<(), Failed>
-        ensures { FaultTold self.old.failed self.new.failed result }
+        ensures { FaultTold self.old.faults self.new.faults result }
     {
         match fs::remove_file(self.rt, path.as_str()) {
             Ok(()) => Ok(()),

@@ -12,7 +12,7 @@ use std::io;
 use std::process::{Child, Command, Processes};
 use std::rt::Files as Disk;
 
-/// Files and processes of the system. It tells no content. A child is `sh -c TEXT`, which inherits the program's streams.
+/// Files and processes of the system. Its files are not visible. A child is `sh -c TEXT`, which inherits the program's streams.
 #[derive(Drop)]
 pub struct RealHost<'a, R: Disk + AllocGlobal + Processes> {
     rt: &'a R,
@@ -20,7 +20,7 @@ pub struct RealHost<'a, R: Disk + AllocGlobal + Processes> {
     jobs: Vec<Job>,
     processes: Vec<Child<R::Started>>,
     events: Vec<ChildEvent>,
-    lost: u64,
+    failed_waits: u64,
     ghost same_len: { vec_len processes ≡ vec_len jobs },
     ghost event_room: { vec_len events + vec_len jobs ≤ vec_capacity events },
 }
@@ -37,7 +37,7 @@ impl<'a, R: Disk + AllocGlobal + Processes> RealHost<'a, R> {
             jobs: Vec::new(rt.alloc()),
             processes: Vec::new(rt.alloc()),
             events: Vec::new(rt.alloc()),
-            lost: 0,
+            failed_waits: 0,
         }
     }
 
@@ -55,11 +55,11 @@ impl<'a, R: Disk + AllocGlobal + Processes> RealHost<'a, R> {
 impl<R: Disk + AllocGlobal + Processes> Files for RealHost<'_, R> {
     ghost disk = { λ _. None };
 
-    ghost faults = { λ host. host.files.failed };
+    ghost faults = { λ host. host.files.faults };
 
     ghost family = { λ host. record { running = map child_of host.jobs.items; events = host.events.items; given = None } };
 
-    ghost failed_waits = { λ host. host.lost };
+    ghost failed_waits = { λ host. host.failed_waits };
 
     ghost consistent = { λ files. tt };
 
@@ -104,7 +104,7 @@ impl<R: Disk + AllocGlobal + Processes> Children for RealHost<'_, R> {
         let process = &mut self.processes[0];
         match process.wait() {
             Err(_error) => {
-                self.lost = self.lost.saturating_add(1);
+                self.failed_waits = self.failed_waits.saturating_add(1);
                 Err(self.files.fail())
             }
             Ok(status) => {

@@ -30,7 +30,7 @@ fn fault_of(error: &io::Error) -> WordsFault {
     }
 }
 
-/// The words behind the program's own name, in order.
+/// The words after the program's own name, in order.
 pub fn words_of<R: Env + AllocGlobal>(rt: &R) -> Result<Vec<Text>, WordsFault> {
     let mut words = Vec::new(rt.alloc());
     let mut args = match env::args(rt) {

@@ -1,9 +1,9 @@
-pub mod FakeLemmas
-pub mod PlaceLemmas
-pub mod ShelfLemmas
-pub mod KnownLemmas
-pub mod MadeLemmas
-pub mod WriteLemmas
-pub mod ChildTableLemmas
-mod OrderLemmas
-mod ResultLemmas
+pub mod Countdowns
+pub mod PlaceMaps
+pub mod StorePut
+pub mod KnownPaths
+pub mod LoopSteps
+pub mod ChildWrites
+pub mod ChildEnds
+mod StableSort
+mod InputOrder

@@ -13,15 +13,15 @@ pub record Given : Type 0 where
   pub outs : List (List ℕ)
   pub held : List (List ℕ × List ℕ)
 
--- a child that runs; what it was given is there where the files are told
+-- a child process that runs; what it was given is there where the files are visible
 pub record Child : Type 0 where
   pub step : ℕ
   pub ins : List (List ℕ)
   pub outs : List (List ℕ)
   pub given : Option Given
 
--- What there is of children: those that run, in order of start; what came to pass; and, where the files are told,
--- what each start gave.
+-- The child processes: those that run, in order of start; what happened; and, where the files are visible, what each
+-- start gave.
 pub record Family : Type 0 where
   pub running : List Child
   pub events : List ChildEvent
@@ -39,7 +39,7 @@ read_all folder ins = filter_map (read_at folder) ins
 abbrev pub given_at : ℕ → List ℕ → List (List ℕ) → List (List ℕ) → Disk → Given
 given_at step text ins outs disk = record { step = step; text = text; ins = ins; outs = outs; held = read_all disk.now ins }
 
--- one more at the end, where both are told
+-- one more at the end, where both are visible
 abbrev pub one_more : {X : Type 0} → Option (List X) → Option X → Option (List X)
 one_more None more = None
 one_more (Some xs) None = None
@@ -71,13 +71,13 @@ pub record IsWritten (running : List Child) (path : List ℕ) : Type 0 where
   pub runs : Contains running child
   pub out : Contains child.outs path
 
--- While these children run, nothing but their outputs changes, and what stood is not forgotten.
+-- While these children run, nothing but their outputs changes, and all that stood stays among the past.
 pub record ChangesOnlyOutputs (running : List Child) (before after : Disk) : Type 0 where
   pub others : (path : List ℕ) → (IsWritten running path → ⊥) → after.now path ≡ before.now path
   pub more : List Past
   pub past : after.past ≡ before.past ++ more
 
--- where the files are told, they are told again, and stand to one another so
+-- the files are visible before and after, and stand to one another so, or neither time
 abbrev pub BothTold : (Disk → Disk → Type 0) → Option Disk → Option Disk → Type 0
 BothTold P None None = ⊤
 BothTold P None (Some after) = ⊥

@@ -19,7 +19,7 @@ pub record Past : Type 0 where
   pub path : List ℕ
   pub file : File
 
--- What the files are, where a host tells them: what stands now, and all that ever stood.
+-- The visible files of a host: what stands now, and all that ever stood.
 pub record Disk : Type 0 where
   pub now : List ℕ → Option File
   pub past : List Past
@@ -45,11 +45,11 @@ pub record IsConsistent (disk : Disk) : Type 0 where
   pub one_each : IsOneEach disk.past
   pub stands : (path : List ℕ) (file : File) → disk.now path ≡ Some file → Stood disk.past path file
 
--- what a look at a path tells: the stamp of the file there
+-- what is answered on a path: the stamp of the file there
 abbrev pub StatTold : List ℕ → Option ℕ → Folder → Type 0
 StatTold path stamp folder = stamp ≡ option_map (λ file. file.stamp) (folder path)
 
--- what a read of at most so many bytes tells
+-- what a read of at most so many bytes answers
 abbrev pub ReadTold : List ℕ → ℕ → ReadAnswer → Folder → Type 0
 ReadTold path most (answers.Bytes bytes) folder = (bytes_at folder path ≡ Some bytes.items) × (length bytes.items ≤ most)
 ReadTold path most answers.Missing folder = folder path ≡ None

@@ -13,7 +13,7 @@ abbrev pub FaultTold : {T : Type 0} → ℕ → ℕ → Result T Failed → Type
 FaultTold before after (Ok x) = after ≡ before
 FaultTold before after (Err e) = Rose before after
 
--- the same of a call that may also want memory
+-- the same of a call that may also be out of memory
 abbrev pub IoFaultTold : {T : Type 0} → ℕ → ℕ → Result T IoFault → Type 0
 IoFaultTold before after (Ok x) = after ≡ before
 IoFaultTold before after (Err faults.Failed) = Rose before after

@@ -2,20 +2,25 @@ use Rattle.std.specs.Prelude.{◌≡◌, ℕ, Bool, List, [], ◌∷◌, map, So
 use Rattle.b2_host.specs.Disks.{Disk}
 use Rattle.b2_host.specs.ChildProcesses.{Given, Child, Family}
 use Rattle.b2_host.specs.Writes.{all_written, writes_of}
-use Rattle.b2_host.specs.Shelves.{disk_of}
+use Rattle.b2_host.specs.Stores.{disk_of}
 use Rattle.b2_host.specs.Jobs.{given_of, child_with}
-use Rattle.b2_host.specs.Fakes.{all_passed}
-use Rattle.b2_host.specs.declared.fakes.CallKind.{CallKind}
+use Rattle.b2_host.specs.Scripts.{calls_after}
+use Rattle.b2_host.specs.declared.script.CallKind.{CallKind}
 use Rattle.b2_host.specs.declared.memory.MemoryHost.{MemoryHost}
+use Rattle.b2_host.specs.declared.running.Running.{Running}
 
 -- the files of a host in memory
 abbrev pub told_disk : MemoryHost → Disk
 told_disk host = disk_of host.store.past.items host.store.places
 
--- what there is of its children
+-- children that run, by what they were given
+abbrev pub running_children : List Running → List Child
+running_children running = map (λ child. child_with (given_of child.job.value)) running
+
+-- its children
 abbrev pub told_family : MemoryHost → Family
 told_family host = record {
-  running = map (λ child. child_with (given_of child.job.value)) host.child_table.running.items;
+  running = running_children host.child_table.running.items;
   events = host.child_table.events.items;
   given = Some (map (λ job. given_of job.value) host.child_table.given.items);
 }
@@ -26,19 +31,19 @@ fates host = map (λ child. child.well) host.child_table.running.items
 
 -- the calls that are listed to fail, each with its number from now on
 abbrev pub listed_calls : MemoryHost → List (CallKind × ℕ)
-listed_calls host = host.fakes.calls.items
+listed_calls host = host.script.calls.items
 
 -- the starts that are listed to end badly, by their numbers from now on
 abbrev pub listed_starts : MemoryHost → List ℕ
-listed_starts host = host.fakes.starts.items
+listed_starts host = host.script.starts.items
 
--- there is nothing of children
+-- no child was started
 abbrev pub no_family : Family
 no_family = record { running = []; events = []; given = Some [] }
 
 -- A call of a kind was counted, and the lists are else the same.
 pub record OnlyCounted (kind : CallKind) (old new : MemoryHost) : Type 0 where
-  pub calls : listed_calls new ≡ all_passed kind (listed_calls old)
+  pub calls : listed_calls new ≡ calls_after kind (listed_calls old)
   pub starts : listed_starts new ≡ listed_starts old
   pub fates : fates new ≡ fates old
 

@@ -1,7 +1,7 @@
 use Rattle.std.specs.Prelude.{◌≡◌, Bool, List, [], ◌∷◌, ◌++◌, map, Some, string_bytes}
 use Rattle.b2_host.specs.ChildProcesses.{Given, Child, Family, one_more}
 use Rattle.b2_host.specs.Writes.{writes_of}
-use Rattle.b2_host.specs.Shelves.{write_of}
+use Rattle.b2_host.specs.Stores.{write_of}
 use Rattle.b2_host.specs.declared.children.ChildEvent.TheVariants as events
 use Rattle.b2_host.specs.declared.entry.Entry.{Entry}
 use Rattle.b2_host.specs.declared.job.Job.{Job}

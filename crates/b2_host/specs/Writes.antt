@@ -29,6 +29,6 @@ abbrev pub writes_of : Given → Bool → List (List ℕ × List ℕ)
 writes_of given true = map (λ out. (out, made_of given.text given.held out)) given.outs
 writes_of given false = map (λ out. (out, codes "torn" ++ 10 ∷ [])) (take 1 given.outs)
 
--- what is told of a new disk
+-- the disk of a new host
 abbrev pub blank : Disk
 blank = record { now = λ path. None; past = [] }

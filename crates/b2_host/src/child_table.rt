@@ -1,6 +1,6 @@
 //! The children of a host in memory.
 ghost use Rattle.std.specs.Prelude.{◌≡◌, ◌≢◌, ◌+◌, ◌≤◌, ◌<◌, ◌^◌, [], ◌∷◌, ◌++◌, length, IfOk, OnOk, vec_len, vec_capacity};
-ghost use Rattle.b2_host.specs.Runnings.{promised};
+ghost use Rattle.b2_host.specs.PendingWrites.{promised};
 
 use crate::children::ChildEvent;
 use crate::job::Job;
@@ -9,8 +9,8 @@ use b2_base::fault::OutOfMemory;
 use std::alloc::Global;
 use std::rc::Rc;
 
-/// What each start gave, the children that run, and what came to pass. `pending` counts what the children are yet to
-/// write.
+/// What each start gave, the children that run, and what happened to them. `pending` counts what the children are yet
+/// to write.
 #[derive(Drop)]
 pub struct ChildTable {
     pub given: Vec<Rc<Job>>,

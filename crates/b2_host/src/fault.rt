@@ -8,7 +8,7 @@ use thiserror::Error;
 #[error("the host failed")]
 pub struct Failed;
 
-/// The outside failed, or no memory was left. After want of memory the call has changed nothing.
+/// The outside failed, or no memory was left. Where no memory was left, the call has changed nothing.
 #[derive(Clone, Copy, Debug, Error)]
 pub enum IoFault {
     #[error("the host failed")]

@@ -23,13 +23,13 @@ pub trait Files {
     ghost use Rattle.b2_host.specs.Disks.{IsConsistent};
     ghost use Rattle.b2_host.specs.ChildProcesses.{Family};
 
-    /// What stands and what stood, where the host tells its files.
+    /// The files that stand and those that stood, where they are visible.
     ghost disk: { Self → Option Disk };
 
     /// How often a call failed. It never falls.
     ghost faults: { Self → ℕ };
 
-    /// What there is of children. No call on files changes it.
+    /// The child processes. No call on files changes them.
     ghost family: { Self → Family };
 
     /// How often a wait for a child failed. It never falls, and no call on files changes it.

@@ -3,7 +3,7 @@ ghost use Rattle.std.specs.Prelude.{◌≡◌, ◌∷◌, [], ◌++◌, codes, m
 ghost use Rattle.std.specs.Option.{option_to_list};
 ghost use Rattle.b2_host.specs.ChildProcesses.{read_at, read_all, given_at};
 ghost use Rattle.b2_host.specs.Results.{made_of};
-ghost use Rattle.b2_host.specs.Shelves.{standing, disk_of, write_of};
+ghost use Rattle.b2_host.specs.Stores.{standing, disk_of, write_of};
 
 use crate::entry::Entry;
 use crate::made::make;
@@ -41,7 +41,7 @@ fn hold_one(
 }
 
 /// The inputs that stand, with their bytes.
-#[tactic(auto, using(crate::proofs::MadeLemmas::read_more))]
+#[tactic(auto, using(crate::proofs::LoopSteps::read_more))]
 fn hold(alloc: Global, store: &Store, ins: &[Path]) -> Result<Vec<Entry>, OutOfMemory>
     ensures { IfOk result (λ held. map write_of held.items ≡ read_all (standing store.now.past.items store.now.places) ins.now) }
 {

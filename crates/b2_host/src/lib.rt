@@ -3,18 +3,16 @@
 
 mod child_table;
 pub mod children;
-mod entry;
-mod fakes;
+pub mod entry;
 pub mod fault;
 pub mod files;
-mod job;
+pub mod job;
 mod made;
 pub mod memory;
 pub mod memory_sink;
 mod places;
 pub mod result_laws;
-mod running;
+pub mod running;
+mod script;
 pub mod sink;
 mod store;
-#[cfg(test)]
-mod tests;

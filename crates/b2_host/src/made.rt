@@ -3,8 +3,8 @@ ghost use Rattle.std.specs.Prelude.{◌≡◌, ℕ, List, [], ◌∷◌, ◌++�
 ghost use Rattle.std.specs.List.{flat_map};
 ghost use Rattle.b2_base.specs.Segments.{texts};
 ghost use Rattle.b2_host.specs.Results.{is_space, words_of, bytes_named, joined, hexadecimal, digest_line, input_text, by_path, whole_text, made_by, made_of};
-ghost use Rattle.b2_host.specs.Found.{bytes_found};
-ghost use Rattle.b2_host.specs.Shelves.{write_of, input_of};
+ghost use Rattle.b2_host.specs.NamedBytes.{bytes_found};
+ghost use Rattle.b2_host.specs.Stores.{write_of, input_of};
 
 use crate::entry::Entry;
 use b2_base::fault::OutOfMemory;
@@ -130,7 +130,7 @@ fn hexadecimal_pair(alloc: Global, byte: u8) -> Result<String, OutOfMemory>
     Ok(format!(in alloc; "{byte:02x}")?)
 }
 
-#[tactic(auto, using(crate::proofs::MadeLemmas::hex_more))]
+#[tactic(auto, using(crate::proofs::LoopSteps::hex_more))]
 fn hexadecimal_text(alloc: Global, bytes: &[u8]) -> Result<Vec<u8>, OutOfMemory>
     ensures { IfOk result (λ digits. digits.items ≡ hexadecimal bytes.now) }
 {

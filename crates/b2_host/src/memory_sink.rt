@@ -1,4 +1,4 @@
-//! A sink in memory, which tells everything and fails where it is told to.
+//! A sink in memory, whose bytes are visible, and whose writes fail where they are listed.
 ghost use Rattle.std.specs.Prelude.{◌≡◌, ◌-◌, ◌↔◌, [], ◌++◌, Some, OnOk, OnErr, IsErrOf};
 ghost use Rattle.b2_host.specs.Faults.{IoFaultTold};
 ghost use Rattle.b2_host.specs.Sinks.{sink_bytes, failing_write};
@@ -34,6 +34,13 @@ impl MemorySink {
         ensures { ⟦<MemorySink as Sink>⟧.written self.now ≡ Some result.now }
     {
         self.bytes.as_slice()
+    }
+
+    /// How often a write failed.
+    pub fn fault_count(&self) -> u64
+        ensures { result ≡ ⟦<MemorySink as Sink>⟧.faults self.now }
+    {
+        self.faults
     }
 
     /// Lets one write fail and leave no byte: the one with this number from now on, counted from 1. At 0 none fails. It

@@ -2,7 +2,7 @@
 ghost use Rattle.std.specs.Prelude.{◌≡◌, ℕ, List, [], None, Option, IsTrue, OnOk, OnErr, if◌then◌else◌};
 ghost use Rattle.std.specs.FinMap as map;
 ghost use Rattle.std.specs.Str.{bytes_eq};
-ghost use Rattle.b2_host.specs.Shelves.{place_of, is_known};
+ghost use Rattle.b2_host.specs.Stores.{place_of, is_known};
 
 use b2_base::fault::OutOfMemory;
 use b2_base::path::Path;

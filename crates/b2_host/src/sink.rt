@@ -7,13 +7,13 @@ use crate::fault::IoFault;
 
 /// Takes bytes, in order.
 pub trait Sink {
-    /// The bytes so far, where they are told.
+    /// The bytes so far, where they are visible.
     ghost written: { Self → Option (List ℕ) };
 
     /// How often a call failed. It never falls.
     ghost faults: { Self → ℕ };
 
-    /// Writes a piece. A failed write leaves a prefix of its piece; after want of memory nothing was written.
+    /// Writes a piece. A failed write leaves a prefix of its piece; where no memory was left, nothing was written.
     fn write(&mut self, bytes: &[u8]) -> Result<(), IoFault>
         ensures faults { IoFaultTold (faults self.old) (faults self.new) result }
         ensures ok { OnOk result (written self.new ≡ option_map (λ so_far. so_far ++ bytes.now) (written self.old)) }

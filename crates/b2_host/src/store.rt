@@ -4,7 +4,7 @@ ghost use Rattle.std.specs.FinMap as map_of;
 ghost use Rattle.std.proofs.Props.{props};
 ghost use Rattle.b2_host.specs.Disks.{bytes_at, StatTold, ReadTold, without};
 ghost use Rattle.b2_host.specs.Writes.{written, all_written};
-ghost use Rattle.b2_host.specs.Shelves.{place_of, is_known, all_known, write_of, standing, disk_of, IsPlaced};
+ghost use Rattle.b2_host.specs.Stores.{place_of, is_known, all_known, write_of, standing, disk_of, IsPlaced};
 
 use crate::entry::Entry;
 use crate::files::ReadAnswer;

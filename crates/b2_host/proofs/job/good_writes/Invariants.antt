@@ -1,6 +1,6 @@
 use Rattle.std.proofs.Common.{◌≡◌, map, take}
 use Rattle.b2_host.specs.Results.{made_of}
-use Rattle.b2_host.specs.Shelves.{write_of}
+use Rattle.b2_host.specs.Stores.{write_of}
 use Rattle.b2_host.proofs.job.good_writes.Given as goal
 
 -- the writes to the outputs so far

@@ -1,8 +1,8 @@
 use Rattle.std.proofs.Common.{◌++◌, ap, sym, ◌∙◌, take}
 use Rattle.std.specs.Option.{option_to_list}
 use Rattle.b2_host.specs.ChildProcesses.{read_at, read_all}
-use Rattle.b2_host.specs.Shelves.{standing}
-use Rattle.b2_host.proofs.MadeLemmas.{read_more}
+use Rattle.b2_host.specs.Stores.{standing}
+use Rattle.b2_host.proofs.LoopSteps.{read_more}
 use Rattle.b2_host.proofs.job.hold.Goals as goal
 
 pub loop-path-preserved : goal.loop-path-preserved

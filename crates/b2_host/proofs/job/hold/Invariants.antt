@@ -1,6 +1,6 @@
 use Rattle.std.proofs.Common.{◌≡◌, map, take}
 use Rattle.b2_host.specs.ChildProcesses.{read_all}
-use Rattle.b2_host.specs.Shelves.{standing, write_of}
+use Rattle.b2_host.specs.Stores.{standing, write_of}
 use Rattle.b2_host.proofs.job.hold.Given as goal
 
 -- the inputs so far

@@ -1,5 +1,5 @@
 use Rattle.std.proofs.Common.{◌∙◌}
-use Rattle.b2_host.proofs.MadeLemmas.{by_name_more}
+use Rattle.b2_host.proofs.LoopSteps.{by_name_more}
 use Rattle.b2_host.proofs.made.by_name.Goals as goal
 
 pub loop-input-preserved : goal.loop-input-preserved

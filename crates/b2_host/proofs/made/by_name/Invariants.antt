@@ -1,7 +1,7 @@
 use Rattle.std.proofs.Common.{◌≡◌, ℕ, List, map, take}
-use Rattle.b2_host.specs.Found.{bytes_found}
+use Rattle.b2_host.specs.NamedBytes.{bytes_found}
 use Rattle.b2_host.specs.Results.{bytes_named}
-use Rattle.b2_host.specs.Shelves.{write_of}
+use Rattle.b2_host.specs.Stores.{write_of}
 use Rattle.b2_host.proofs.made.by_name.Given as goal
 
 -- the inputs so far are found

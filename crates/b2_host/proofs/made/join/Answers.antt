@@ -2,8 +2,8 @@ use Rattle.std.proofs.Common.{◌+◌, ◌++◌, map, drop, ap, sym, ◌∙◌, 
 use Rattle.std.specs.Str.{bytes_eq}
 use Rattle.b2_base.specs.Segments.{texts}
 use Rattle.b2_host.specs.Results.{joined}
-use Rattle.b2_host.specs.Shelves.{write_of}
-use Rattle.b2_host.proofs.MadeLemmas.{join_goes_on}
+use Rattle.b2_host.specs.Stores.{write_of}
+use Rattle.b2_host.proofs.LoopSteps.{join_goes_on}
 use Rattle.b2_host.proofs.made.join.Goals as goal
 
 pub loop-name-preserved : goal.loop-name-preserved

@@ -1,4 +1,4 @@
-use Rattle.b2_host.proofs.ResultLemmas.{order_is_free}
+use Rattle.b2_host.proofs.InputOrder.{order_is_free}
 use Rattle.b2_host.proofs.result_laws.order_is_free.Goals as goal
 
 pub returns : goal.returns

@@ -1,8 +1,8 @@
 use Rattle.std.proofs.Common.{ap, sym, ◌∙◌, arith}
-use Rattle.b2_host.specs.Shelves.{all_known}
-use Rattle.b2_host.specs.Runnings.{promised}
-use Rattle.b2_host.proofs.KnownLemmas.{known_stays}
-use Rattle.b2_host.proofs.ChildTableLemmas.{promised_push}
+use Rattle.b2_host.specs.Stores.{all_known}
+use Rattle.b2_host.specs.PendingWrites.{promised}
+use Rattle.b2_host.proofs.KnownPaths.{known_stays}
+use Rattle.b2_host.proofs.ChildEnds.{promised_push}
 use Rattle.b2_host.proofs.memory.MemoryHost.admit.Goals as goal
 
 pub invariant_of-self-in-Break-branch-5 : goal.invariant_of-self-in-Break-branch-5

@@ -2,13 +2,13 @@ use Rattle.std.proofs.Common.{ℕ, map, Some, refl, ap, sym, ◌∙◌, subst, a
 use Rattle.b2_host.specs.ChildProcesses.{Family, Ends}
 use Rattle.b2_host.specs.Results.{made_of}
 use Rattle.b2_host.specs.Writes.{all_written}
-use Rattle.b2_host.specs.Shelves.{all_known, disk_of}
-use Rattle.b2_host.specs.Kept.{stamp_within}
+use Rattle.b2_host.specs.Stores.{all_known, disk_of}
+use Rattle.b2_host.specs.Consistency.{stamp_within}
 use Rattle.b2_host.specs.Jobs.{given_of, child_with}
 use Rattle.b2_host.specs.Hosts.{told_disk, told_family}
-use Rattle.b2_host.specs.Runnings.{promised}
-use Rattle.b2_host.proofs.KnownLemmas.{known_stays}
-use Rattle.b2_host.proofs.ChildTableLemmas.{promised_first, still_works, ends_first}
+use Rattle.b2_host.specs.PendingWrites.{promised}
+use Rattle.b2_host.proofs.KnownPaths.{known_stays}
+use Rattle.b2_host.proofs.ChildEnds.{promised_first, still_works, ends_first}
 use Rattle.b2_host.proofs.memory.MemoryHostChildren.wait_one.Goals as goal
 
 pub invariant_of-self-2 : goal.invariant_of-self-2

@@ -1,6 +1,6 @@
 use Rattle.std.proofs.Common.{◌∙◌, arith}
-use Rattle.b2_host.specs.Runnings.{promised}
-use Rattle.b2_host.proofs.KnownLemmas.{known_stays}
+use Rattle.b2_host.specs.PendingWrites.{promised}
+use Rattle.b2_host.proofs.KnownPaths.{known_stays}
 use Rattle.b2_host.proofs.memory.MemoryHostFiles.remove.Goals as goal
 
 pub invariant_of-self-2 : goal.invariant_of-self-2

@@ -1,8 +1,8 @@
 use Rattle.std.proofs.Common.{ap, sym, ◌∙◌}
 use Rattle.b2_base.proofs.TextKeys.{at_text}
-use Rattle.b2_host.specs.Shelves.{is_known}
+use Rattle.b2_host.specs.Stores.{is_known}
 use Rattle.b2_host.proofs.places.Places.know.Goals as goal
-use Rattle.b2_host.proofs.PlaceLemmas.{map_of, put_known, put_stays, put_places, known_from, none_from}
+use Rattle.b2_host.proofs.PlaceMaps.{map_of, put_known, put_stays, put_places, known_from, none_from}
 
 pub returns-in_ok-insert-clause-known : goal.returns-in_ok-insert-clause-known
 returns-in_ok-insert-clause-known c =

@@ -2,7 +2,7 @@ use Rattle.std.proofs.Common.{is_some, ap, sym, ◌∙◌}
 use Rattle.std.specs.Option.{option_copied_mut}
 use Rattle.b2_host.proofs.places.Places.set.Goals as goal
 use Rattle.b2_host.proofs.places.Places.set.Goals.{in-Some, in_default}
-use Rattle.b2_host.proofs.PlaceLemmas.{wrote_known, wrote_places, kept_known, kept_places}
+use Rattle.b2_host.proofs.PlaceMaps.{wrote_known, wrote_places, kept_known, kept_places}
 
 pub returns-clause-known : goal.returns-clause-known
 returns-clause-known c = λ other. elim c.match-get_mut.branch [

@@ -1,6 +1,6 @@
 use Rattle.std.proofs.Common.{ap, sym, ◌∙◌}
-use Rattle.b2_host.specs.Shelves.{is_known}
-use Rattle.b2_host.proofs.KnownLemmas.{known_more}
+use Rattle.b2_host.specs.Stores.{is_known}
+use Rattle.b2_host.proofs.KnownPaths.{known_more}
 use Rattle.b2_host.proofs.store.Store.know_all.Goals as goal
 
 pub loop-entry-preserved : goal.loop-entry-preserved

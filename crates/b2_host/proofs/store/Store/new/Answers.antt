@@ -1,4 +1,4 @@
-use Rattle.b2_host.proofs.ShelfLemmas.{placed_none}
+use Rattle.b2_host.proofs.StorePut.{placed_none}
 use Rattle.b2_host.proofs.store.Store.new.Goals as goal
 
 pub invariant_of-result : goal.invariant_of-result

@@ -1,4 +1,4 @@
-use Rattle.b2_host.proofs.ShelfLemmas.{place_within}
+use Rattle.b2_host.proofs.StorePut.{place_within}
 use Rattle.b2_host.proofs.store.Store.place.Goals as goal
 
 pub returns-clause-within : goal.returns-clause-within

@@ -1,6 +1,6 @@
 use Rattle.std.proofs.Common.{length, ◌≡◌, ℕ, ◌+◌, ◌≤◌, List, map, IsTrue, vec_len, vec_capacity}
 use Rattle.b2_host.specs.Writes.{all_written}
-use Rattle.b2_host.specs.Shelves.{is_known, all_known, write_of, disk_of}
+use Rattle.b2_host.specs.Stores.{is_known, all_known, write_of, disk_of}
 use Rattle.b2_host.proofs.store.Store.put_all.Given as goal
 
 -- the entries that are left have room, and their paths are known

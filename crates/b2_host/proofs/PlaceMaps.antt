@@ -7,7 +7,7 @@ use Rattle.std.specs.BTreeMap.{is_at}
 use Rattle.std.proofs.lemmas.Map.Text.{is_eq-slice_cmp}
 use Rattle.std.proofs.lemmas.Slice.Eq.{bytes_eq-Decides}
 use Rattle.b2_base.proofs.TextKeys.{get_text, at_text}
-use Rattle.b2_host.specs.Shelves.{PlaceMap, place_of, is_known}
+use Rattle.b2_host.specs.Stores.{PlaceMap, place_of, is_known}
 
 -- the map that entries make
 abbrev pub map_of : List (List ℕ × Option ℕ) → PlaceMap

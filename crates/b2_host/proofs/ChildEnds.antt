@@ -11,11 +11,11 @@ use Rattle.b2_host.specs.Disks.{Past, Disk}
 use Rattle.b2_host.specs.ChildProcesses.{Given, Child, Family, IsWritten, ChangesOnlyOutputs, HasMade, Ends}
 use Rattle.b2_host.specs.Results.{made_of}
 use Rattle.b2_host.specs.Writes.{all_written, writes_of}
-use Rattle.b2_host.specs.Shelves.{PlaceMap, is_known, all_known}
+use Rattle.b2_host.specs.Stores.{PlaceMap, is_known, all_known}
 use Rattle.b2_host.specs.Jobs.{child_with}
-use Rattle.b2_host.specs.Runnings.{promised}
-use Rattle.b2_host.proofs.KnownLemmas.{both, and_true}
-use Rattle.b2_host.proofs.WriteLemmas.{is_in, in_contains, paths_of, other_path, more_past, stands_at, writes_in}
+use Rattle.b2_host.specs.PendingWrites.{promised}
+use Rattle.b2_host.proofs.KnownPaths.{both, and_true}
+use Rattle.b2_host.proofs.ChildWrites.{is_in, in_contains, paths_of, other_path, more_past, stands_at, writes_in}
 
 -- ---- what is promised is known
 

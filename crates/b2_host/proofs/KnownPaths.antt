@@ -2,7 +2,7 @@ use Rattle.std.proofs.Common.{◌≡◌, ℕ, ◌+◌, ◌<◌, Bool, true, fals
 use Rattle.std.proofs.lemmas.List.{take_more}
 use Rattle.std.proofs.lemmas.List.Folds.{list_all-append}
 use Rattle.b2_host.specs.declared.entry.Entry.{Entry}
-use Rattle.b2_host.specs.Shelves.{PlaceMap, is_known, all_known}
+use Rattle.b2_host.specs.Stores.{PlaceMap, is_known, all_known}
 
 pub both : (a b : Bool) → (a && b) ≡ true → (a ≡ true) × (b ≡ true)
 both true b h = (refl, h)

@@ -9,8 +9,8 @@ use Rattle.std.proofs.lemmas.Slice.Eq.{bytes_eq-Decides}
 use Rattle.b2_host.specs.declared.entry.Entry.{Entry}
 use Rattle.b2_host.specs.Disks.{File, put}
 use Rattle.b2_host.specs.Writes.{written}
-use Rattle.b2_host.specs.Kept.{length-stood}
-use Rattle.b2_host.specs.Shelves.{PlaceMap, place_of, is_known, entry_path, file_of, file_at, standing, stood, disk_of, IsPlaced}
+use Rattle.b2_host.specs.Consistency.{length-stood}
+use Rattle.b2_host.specs.Stores.{PlaceMap, place_of, is_known, entry_path, file_of, file_at, standing, stood, disk_of, IsPlaced}
 
 -- ---- one more at the end
 

@@ -18,8 +18,8 @@ use Rattle.b2_host.specs.declared.entry.Entry.{Entry}
 use Rattle.b2_host.specs.Disks.{Folder}
 use Rattle.b2_host.specs.ChildProcesses.{read_at, read_all}
 use Rattle.b2_host.specs.Results.{bytes_named, joined, hexadecimal}
-use Rattle.b2_host.specs.Found.{Found, ref_cmp, bytes_found}
-use Rattle.b2_host.specs.Shelves.{write_of}
+use Rattle.b2_host.specs.NamedBytes.{Found, ref_cmp, bytes_found}
+use Rattle.b2_host.specs.Stores.{write_of}
 
 -- the digits of one byte more
 pub hex_more : (bytes : List ℕ) (i : ℕ) → i < length bytes → hexadecimal (take i bytes) ++ hexadecimal (get_or bytes i 0 ∷ []) ≡ hexadecimal (take (i + 1) bytes)

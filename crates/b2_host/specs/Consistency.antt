@@ -6,7 +6,7 @@ use Rattle.std.proofs.lemmas.Option.{slice_get_within}
 use Rattle.std.proofs.lemmas.List.{get_or_default}
 use Rattle.b2_host.specs.declared.entry.Entry.{Entry}
 use Rattle.b2_host.specs.Disks.{File, Past, IsConsistent, IsOneEach, Stood}
-use Rattle.b2_host.specs.Shelves.{PlaceMap, place_of, entry_path, file_of, file_at, standing, stood, disk_of, IsPlaced}
+use Rattle.b2_host.specs.Stores.{PlaceMap, place_of, entry_path, file_of, file_at, standing, stood, disk_of, IsPlaced}
 
 pub length-stood : (place : ℕ) (xs : List Entry) → length (stood place xs) ≡ length xs
 length-stood place [] = refl

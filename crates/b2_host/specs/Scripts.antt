@@ -1,7 +1,7 @@
 use Rattle.std.specs.Prelude.{ℕ, ◌-◌, ◌==◌, Bool, true, false, ◌&&◌, List, map, if◌then◌else◌}
 use Rattle.std.specs.List.{list_any}
-use Rattle.b2_host.specs.declared.fakes.CallKind.{CallKind}
-use Rattle.b2_host.specs.declared.fakes.CallKind.TheVariants as kinds
+use Rattle.b2_host.specs.declared.script.CallKind.{CallKind}
+use Rattle.b2_host.specs.declared.script.CallKind.TheVariants as kinds
 
 abbrev pub is_same : CallKind → CallKind → Bool
 is_same kinds.Stat kinds.Stat = true
@@ -16,17 +16,17 @@ abbrev pub is_listed : CallKind → List (CallKind × ℕ) → Bool
 is_listed kind calls = list_any (λ call. is_same kind call.0 && call.1 == 1) calls
 
 -- a listed call, once a call of a kind was made
-abbrev pub passed : CallKind → CallKind × ℕ → CallKind × ℕ
-passed kind call = if is_same kind call.0 then (call.0, call.1 - 1) else call
+abbrev pub call_after : CallKind → CallKind × ℕ → CallKind × ℕ
+call_after kind call = if is_same kind call.0 then (call.0, call.1 - 1) else call
 
 -- the listed calls, once a call of a kind was made
-abbrev pub all_passed : CallKind → List (CallKind × ℕ) → List (CallKind × ℕ)
-all_passed kind calls = map (passed kind) calls
+abbrev pub calls_after : CallKind → List (CallKind × ℕ) → List (CallKind × ℕ)
+calls_after kind calls = map (call_after kind) calls
 
 -- the next start is listed to end badly
 abbrev pub is_bad : List ℕ → Bool
 is_bad starts = list_any (λ start. start == 1) starts
 
 -- the listed starts, once a child was started
-abbrev pub after_one : List ℕ → List ℕ
-after_one starts = map (λ start. start - 1) starts
+abbrev pub starts_after : List ℕ → List ℕ
+starts_after starts = map (λ start. start - 1) starts

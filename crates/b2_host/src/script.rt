@@ -1,7 +1,7 @@
 //! Which calls of a host in memory fail, and which of its children end badly.
 ghost use Rattle.std.specs.Prelude.{◌≡◌, [], ◌++◌, map, MatchBool, OnOk, OnErr};
 ghost use Rattle.b2_host.specs.Faults.{Rose};
-ghost use Rattle.b2_host.specs.Fakes.{is_same, is_listed, passed, all_passed, is_bad, after_one};
+ghost use Rattle.b2_host.specs.Scripts.{is_same, is_listed, call_after, calls_after, is_bad, starts_after};
 
 use b2_base::fault::OutOfMemory;
 use std::alloc::Global;
@@ -26,7 +26,7 @@ impl CallKind {
 
 /// The calls that are to fail, each with its kind and its number from now on, and the starts that are to end badly.
 #[derive(Debug, Drop)]
-pub struct Fakes {
+pub struct Script {
     pub calls: Vec<(CallKind, u32)>,
     pub starts: Vec<u32>,
     pub faults: u64,
@@ -34,7 +34,7 @@ pub struct Fakes {
 
 /// A call of a kind was made: a listed call of that kind comes one nearer.
 fn pass(call: &mut (CallKind, u32), kind: CallKind)
-    ensures { call.new ≡ passed kind call.old }
+    ensures { call.new ≡ call_after kind call.old }
 {
     if kind.is_same(call.0) {
         call.1 = call.1.saturating_sub(1);
@@ -42,7 +42,7 @@ fn pass(call: &mut (CallKind, u32), kind: CallKind)
 }
 
 fn pass_all(calls: &mut Vec<(CallKind, u32)>, kind: CallKind)
-    ensures { calls.new.items ≡ all_passed kind calls.old.items }
+    ensures { calls.new.items ≡ calls_after kind calls.old.items }
 {
     for call in calls.iter_mut() {
         pass(call, kind);
@@ -50,21 +50,21 @@ fn pass_all(calls: &mut Vec<(CallKind, u32)>, kind: CallKind)
 }
 
 fn count_down(starts: &mut Vec<u32>)
-    ensures { starts.new.items ≡ after_one starts.old.items }
+    ensures { starts.new.items ≡ starts_after starts.old.items }
 {
     for start in starts.iter_mut() {
         *start = start.saturating_sub(1);
     }
 }
 
-impl Fakes {
+impl Script {
     /// No call and no start is listed.
-    pub fn new(alloc: Global) -> Fakes
+    pub fn new(alloc: Global) -> Script
         ensures calls { result.calls.items ≡ [] }
         ensures starts { result.starts.items ≡ [] }
         ensures faults { result.faults ≡ 0 }
     {
-        Fakes {
+        Script {
             calls: Vec::new(alloc),
             starts: Vec::new(alloc),
             faults: 0,
@@ -74,7 +74,7 @@ impl Fakes {
     /// Whether this call fails. It is counted, and so is its fault.
     pub fn fails(&mut self, kind: CallKind) -> bool
         ensures listed { result ≡ is_listed kind self.old.calls.items }
-        ensures calls { self.new.calls.items ≡ all_passed kind self.old.calls.items }
+        ensures calls { self.new.calls.items ≡ calls_after kind self.old.calls.items }
         ensures starts { self.new.starts.items ≡ self.old.starts.items }
         ensures faults { MatchBool result (Rose self.old.faults self.new.faults) (self.new.faults ≡ self.old.faults) }
     {
@@ -99,7 +99,7 @@ impl Fakes {
     /// A child was started.
     pub fn count_start(&mut self)
         ensures calls { self.new.calls.items ≡ self.old.calls.items }
-        ensures starts { self.new.starts.items ≡ after_one self.old.starts.items }
+        ensures starts { self.new.starts.items ≡ starts_after self.old.starts.items }
         ensures faults { self.new.faults ≡ self.old.faults }
     {
         count_down(&mut self.starts);

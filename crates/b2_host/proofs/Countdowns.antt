@@ -1,12 +1,12 @@
 use Rattle.std.proofs.Common.{◌≡◌, ℕ, ◌+◌, ◌-◌, ◌<◌, List, ◌++◌, map, take, drop, get_or, set, length}
 use Rattle.std.proofs.lemmas.List.{get_or_default}
 use Rattle.std.proofs.lemmas.List.Edits.{map_over_more}
-use Rattle.b2_host.specs.declared.fakes.CallKind.{CallKind}
-use Rattle.b2_host.specs.Fakes.{passed}
+use Rattle.b2_host.specs.declared.script.CallKind.{CallKind}
+use Rattle.b2_host.specs.Scripts.{call_after}
 
 -- one more call counted
-pub passed_more : (kind : CallKind) (xs ys : List (CallKind × ℕ)) (i : ℕ) (d : CallKind × ℕ) → i < length xs → i < length ys → ys ≡ map (passed kind) (take i xs) ++ drop i xs → set ys i (passed kind (get_or ys i d)) ≡ map (passed kind) (take (i + 1) xs) ++ drop (i + 1) xs
-passed_more kind xs ys i d h k e = map_over_more (passed kind) xs ys i (get_or ys i d) h e (get_or_default ys i d _ k)
+pub call_after_more : (kind : CallKind) (xs ys : List (CallKind × ℕ)) (i : ℕ) (d : CallKind × ℕ) → i < length xs → i < length ys → ys ≡ map (call_after kind) (take i xs) ++ drop i xs → set ys i (call_after kind (get_or ys i d)) ≡ map (call_after kind) (take (i + 1) xs) ++ drop (i + 1) xs
+call_after_more kind xs ys i d h k e = map_over_more (call_after kind) xs ys i (get_or ys i d) h e (get_or_default ys i d _ k)
 
 -- one more start counted
 pub down_more : (xs ys : List ℕ) (i : ℕ) → i < length xs → i < length ys → ys ≡ map (λ start. start - 1) (take i xs) ++ drop i xs → set ys i (get_or ys i 0 - 1) ≡ map (λ start. start - 1) (take (i + 1) xs) ++ drop (i + 1) xs

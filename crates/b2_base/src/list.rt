@@ -1,0 +1,64 @@
+//! A list.
+ghost use Rattle.std.specs.Prelude.{◌≡◌, [], ◌∷◌, ◌++◌, OnOk, OnErr};
+
+use crate::fault::OutOfMemory;
+use std::alloc::Global;
+use std::marker::Model;
+
+/// Values in order, seen as the list of them.
+#[derive(Debug, Drop)]
+pub struct List<T: Drop> {
+    values: Vec<T>,
+}
+
+impl<T: Drop> Model for List<T> {
+    ghost use Rattle.std.specs.Prelude.{List as Items};
+    ghost use Rattle.std.specs.Coded.{coded_list};
+
+    ghost Value = { Items T };
+
+    ghost coded = { coded_list T.code };
+
+    ghost view = { λ l. l.values.items };
+}
+
+impl<T: Drop> List<T> {
+    /// The empty list; takes no memory.
+    pub fn new(alloc: Global) -> List<T>
+        ensures { result ≡ [] }
+    {
+        List {
+            values: Vec::new(alloc),
+        }
+    }
+
+    /// The same values as a list; takes no memory.
+    pub fn from_vec(values: Vec<T>) -> List<T>
+        ensures { result ≡ values.items }
+    {
+        List { values }
+    }
+
+    /// The values again; takes no memory.
+    pub fn into_vec(self) -> Vec<T>
+        ensures { result.items ≡ self }
+    {
+        self.values
+    }
+
+    /// Adds a value at the end. After an error the list is as before.
+    pub fn push(&mut self, value: T) -> Result<(), OutOfMemory>
+        ensures ok { OnOk result (self.new ≡ self.old ++ value ∷ []) }
+        ensures err { OnErr result (self.new ≡ self.old) }
+    {
+        self.values.push(value)?;
+        Ok(())
+    }
+
+    /// The values in order.
+    pub fn as_slice(&self) -> &[T]
+        ensures { result.now ≡ self.now }
+    {
+        self.values.as_slice()
+    }
+}
