@@ -1,5 +1,5 @@
 //! A map from texts.
-ghost use Rattle.std.specs.Prelude.{◌≡◌, IfOk, OnOk, OnErr, [], None};
+ghost use Rattle.std.specs.Prelude.{◌≡◌, is_some, IfOk, OnOk, OnErr, [], None, if◌then◌else◌};
 ghost use Rattle.std.specs.Option.{option_copied};
 ghost use Rattle.std.specs.FinMap as map;
 
@@ -30,7 +30,7 @@ impl<V: Drop> Model for TextMap<V> {
 }
 
 impl<V: Drop> TextMap<V> {
-    /// The map without a value.
+    /// The empty map; takes no memory.
     pub fn new(alloc: Global) -> TextMap<V>
         ensures { result ≡ map.from_entries [] }
     {
@@ -55,5 +55,14 @@ impl<V: Drop> TextMap<V> {
         ensures absent { OnErr result (map.get self.old text ≡ None) }
     {
         Ok(self.values.insert(text, value)?)
+    }
+
+    /// Gives a text that has a value another one, and takes no memory. A text without a value gets none.
+    pub fn set(&mut self, text: &Text, value: V)
+        ensures { self.new ≡ (if is_some (map.get self.old text.now) then map.insert self.old text.now value else self.old) }
+    {
+        if let Some(found) = self.values.get_mut(text) {
+            *found = value;
+        }
     }
 }
