@@ -7,7 +7,7 @@ use b2_base::path_list::{PathList, copy_paths};
 use std::alloc::Global;
 
 /// A step that runs, with what it reads and what it writes.
-#[derive(Debug, Drop)]
+#[derive(Drop)]
 pub struct Job {
     pub step: u32,
     pub ins: PathList,

@@ -6,7 +6,7 @@ use std::env::Env;
 use std::{env, io};
 
 /// Why the words cannot be handed on.
-#[derive(Clone, Copy, Debug)]
+#[derive(Clone, Copy)]
 pub enum WordsFault {
     /// A word is no text, or holds the zero byte.
     NoText,

@@ -1,25 +1,24 @@
 use Rattle.std.proofs.Common.{◌≡◌, ℕ, Bool, true, false, cond, List, Option, Some, None, is_some, unwrap_or, refl, ap, sym, ◌∙◌}
+use Rattle.std.specs.Borrow.{Bor}
+use Rattle.std.specs.Option.{option_copied}
 use Rattle.std.specs.Ordering.{nat_cmp}
 use Rattle.std.specs.Cmp.Lexicographic.{slice_cmp}
-use Rattle.std.specs.FinMap.{get, from_entries}
+use Rattle.std.specs.FinMap.{get, insert, get-insert}
 use Rattle.std.specs.Str.{bytes_eq}
-use Rattle.std.specs.BTreeMap.{is_at}
+use Rattle.std.proofs.lemmas.Cmp.{nat_list_cmp_total, eq_by_cmp_equiv}
 use Rattle.std.proofs.lemmas.Map.Text.{is_eq-slice_cmp}
 use Rattle.std.proofs.lemmas.Slice.Eq.{bytes_eq-Decides}
-use Rattle.b2_base.proofs.TextKeys.{get_text, at_text}
 use Rattle.b2_host.specs.Stores.{PlaceMap, place_of, is_known}
-
--- the map that entries make
-abbrev pub map_of : List (List ℕ × Option ℕ) → PlaceMap
-map_of es = from_entries es
 
 -- the maps differ at one path alone
 abbrev pub Differs : List ℕ → Option (Option ℕ) → PlaceMap → PlaceMap → Type 0
 Differs path w m n = (q : List ℕ) → get n q ≡ cond (bytes_eq path q) w (get m q)
 
--- what entries that differ at one path make
-pub differs : (es fs : List (List ℕ × Option ℕ)) (path : List ℕ) (w : Option (Option ℕ)) → ((q : List ℕ) → at_text fs q ≡ cond (is_at (slice_cmp nat_cmp path) q) w (at_text es q)) → Differs path w (map_of es) (map_of fs)
-differs es fs path w h q = get_text fs q ∙ h q ∙ ap (λ b. cond b w (at_text es q)) (is_eq-slice_cmp path q) ∙ ap (cond (bytes_eq path q) w) (sym (get_text es q))
+-- the map with another place
+pub inserted : (m : PlaceMap) (path : List ℕ) (place : Option ℕ) → Differs path (Some place) m (insert m path place)
+inserted m path place q =
+    get-insert nat_list_cmp_total m path place q
+    ∙ ap (λ b. cond b (Some place) (get m q)) ((eq_by_cmp_equiv nat_list_cmp_total).symm q path ∙ is_eq-slice_cmp path q)
 
 -- the path itself
 pub at_path : (m n : PlaceMap) (path : List ℕ) (w : Option (Option ℕ)) → Differs path w m n → get n path ≡ w
@@ -57,43 +56,47 @@ no_places m path place absent q = go (bytes_eq path q) refl
     go true e = ap (place_of m) (sym ((bytes_eq-Decides path q).0 e)) ∙ ap (λ o. unwrap_or o None) absent ∙ sym (ap (λ o. cond (is_some o) place None) absent)
     go false e = refl
 
--- the map m, whose entries are es
-known_at : (m : PlaceMap) (es : List (List ℕ × Option ℕ)) (path : List ℕ) → map_of es ≡ m → get m path ≡ at_text es path
-known_at m es path e = sym (ap (λ n. get n path) e) ∙ get_text es path
-
-abbrev pub Written : List (List ℕ × Option ℕ) → List (List ℕ × Option ℕ) → List ℕ → Option ℕ → Type 0
-Written es fs path place = (q : List ℕ) → at_text fs q ≡ cond (is_at (slice_cmp nat_cmp path) q) (Some place) (at_text es q)
-
--- what a write to an entry changes
-pub wrote_differs : (m : PlaceMap) (es fs : List (List ℕ × Option ℕ)) (path : List ℕ) (place : Option ℕ) → map_of es ≡ m → Written es fs path place → Differs path (Some place) m (map_of fs)
-wrote_differs m es fs path place e h q = differs es fs path (Some place) h q ∙ ap (λ n. cond (bytes_eq path q) (Some place) (get n q)) e
-
-pub wrote_known : (m : PlaceMap) (es fs : List (List ℕ × Option ℕ)) (path : List ℕ) (place : Option ℕ) → map_of es ≡ m → is_some (at_text es path) ≡ true → Written es fs path place → (q : List ℕ) → is_known (map_of fs) q ≡ is_known m q
-wrote_known m es fs path place e k h = same_known m (map_of fs) path place (ap is_some (known_at m es path e) ∙ k) (wrote_differs m es fs path place e h)
-
-pub wrote_places : (m : PlaceMap) (es fs : List (List ℕ × Option ℕ)) (path : List ℕ) (place : Option ℕ) → map_of es ≡ m → is_some (at_text es path) ≡ true → Written es fs path place → (q : List ℕ) → place_of (map_of fs) q ≡ cond (bytes_eq path q) (cond (is_known m path) place None) (place_of m q)
-wrote_places m es fs path place e k h = new_places m (map_of fs) path place (ap is_some (known_at m es path e) ∙ k) (wrote_differs m es fs path place e h)
-
--- what no write changes
-pub kept_known : (m : PlaceMap) (es fs : List (List ℕ × Option ℕ)) → map_of es ≡ m → fs ≡ es → (q : List ℕ) → is_known (map_of fs) q ≡ is_known m q
-kept_known m es fs e same q = ap (λ n. is_known n q) (ap map_of same ∙ e)
-
-pub kept_places : (m : PlaceMap) (es fs : List (List ℕ × Option ℕ)) (path : List ℕ) (place : Option ℕ) → map_of es ≡ m → fs ≡ es → at_text es path ≡ None → (q : List ℕ) → place_of (map_of fs) q ≡ cond (bytes_eq path q) (cond (is_known m path) place None) (place_of m q)
-kept_places m es fs path place e same absent q = ap (λ n. place_of n q) (ap map_of same ∙ e) ∙ no_places m path place (known_at m es path e ∙ absent) q
-
--- what a path that was put in with no place changes
-pub put_known : (m : PlaceMap) (es fs : List (List ℕ × Option ℕ)) (path : List ℕ) → map_of es ≡ m → Written es fs path None → is_known (map_of fs) path ≡ true
-put_known m es fs path e h = ap is_some (at_path m (map_of fs) path (Some None) (wrote_differs m es fs path None e h))
-
-pub put_stays : (m : PlaceMap) (es fs : List (List ℕ × Option ℕ)) (path : List ℕ) → map_of es ≡ m → Written es fs path None → (q : List ℕ) → is_known m q ≡ true → is_known (map_of fs) q ≡ true
-put_stays m es fs path e h = stays_known m (map_of fs) path None (wrote_differs m es fs path None e h)
-
-pub put_places : (m : PlaceMap) (es fs : List (List ℕ × Option ℕ)) (path : List ℕ) → map_of es ≡ m → at_text es path ≡ None → Written es fs path None → (q : List ℕ) → place_of (map_of fs) q ≡ place_of m q
-put_places m es fs path e absent h = same_places m (map_of fs) path (known_at m es path e ∙ absent) (wrote_differs m es fs path None e h)
-
-pub known_from : (m : PlaceMap) (es : List (List ℕ × Option ℕ)) (path : List ℕ) → map_of es ≡ m → is_some (at_text es path) ≡ true → is_known m path ≡ true
-known_from m es path e k = ap is_some (known_at m es path e) ∙ k
-
 pub none_from : {X : Type 0} (o : Option X) → is_some o ≡ false → o ≡ None
 none_from None e = refl
 none_from (Some x) e = cc
+
+-- what setting a place leaves known
+pub set_known : (m : PlaceMap) (path : List ℕ) (place : Option ℕ) (q : List ℕ) → is_known (cond (is_known m path) (insert m path place) m) q ≡ is_known m q
+set_known m path place q = go (is_known m path) refl
+  where
+    go : (b : Bool) → is_known m path ≡ b → is_known (cond b (insert m path place) m) q ≡ is_known m q
+    go true known = same_known m (insert m path place) path place known (inserted m path place) q
+    go false absent = refl
+
+-- where files are once a place is set
+pub set_places : (m : PlaceMap) (path : List ℕ) (place : Option ℕ) (q : List ℕ) → place_of (cond (is_known m path) (insert m path place) m) q ≡ cond (bytes_eq path q) (cond (is_known m path) place None) (place_of m q)
+set_places m path place q = go (is_known m path) refl
+  where
+    go : (b : Bool) → is_known m path ≡ b → place_of (cond b (insert m path place) m) q ≡ cond (bytes_eq path q) (cond (is_known m path) place None) (place_of m q)
+    go true known = new_places m (insert m path place) path place known (inserted m path place) q
+    go false absent = no_places m path place (none_from (get m path) absent) q
+
+-- what setting a place in the map that a model is seen by makes of it
+pub place_set : (inside seen new : PlaceMap) (text path : List ℕ) (place : Option ℕ) → inside ≡ seen → text ≡ path → new ≡ cond (is_some (get inside text)) (insert inside text place) inside → new ≡ cond (is_known seen path) (insert seen path place) seen
+place_set inside seen new text path place same at h =
+    h ∙ ap (λ m. cond (is_known m text) (insert m text place) m) same ∙ ap (λ p. cond (is_known seen p) (insert seen p place) seen) at
+
+-- the same of a path that is made known
+pub made_known : (inside seen new : PlaceMap) (copy text path : List ℕ) → inside ≡ seen → copy ≡ text → text ≡ path → new ≡ insert inside copy None → new ≡ insert seen path None
+made_known inside seen new copy text path same copied at h = h ∙ ap (λ m. insert m copy None) same ∙ ap (λ p. insert seen p None) (copied ∙ at)
+
+pub absent_at : (inside seen : PlaceMap) (text path : List ℕ) → inside ≡ seen → text ≡ path → get inside text ≡ None → get seen path ≡ None
+absent_at inside seen text path same at h = sym (ap (λ m. get m text) same ∙ ap (get seen) at) ∙ h
+
+pub put_known : (m n : PlaceMap) (path : List ℕ) → n ≡ insert m path None → is_known n path ≡ true
+put_known m n path h = ap (λ k. is_known k path) h ∙ ap is_some (at_path m (insert m path None) path (Some None) (inserted m path None))
+
+pub put_stays : (m n : PlaceMap) (path : List ℕ) → n ≡ insert m path None → (q : List ℕ) → is_known m q ≡ true → is_known n q ≡ true
+put_stays m n path h q k = ap (λ o. is_known o q) h ∙ stays_known m (insert m path None) path None (inserted m path None) q k
+
+pub put_places : (m n : PlaceMap) (path : List ℕ) → get m path ≡ None → n ≡ insert m path None → (q : List ℕ) → place_of n q ≡ place_of m q
+put_places m n path absent h q = ap (λ k. place_of k q) h ∙ same_places m (insert m path None) path absent (inserted m path None) q
+
+pub none_copied : {X : Type 0} (o : Option (Bor X)) → is_some o ≡ false → option_copied o ≡ None
+none_copied None e = refl
+none_copied (Some x) e = cc

@@ -1,15 +1,18 @@
-use Rattle.std.specs.Prelude.{ℕ, ◌-◌, ◌==◌, Bool, true, false, ◌&&◌, List, map, if◌then◌else◌}
+use Rattle.std.specs.Prelude.{ℕ, ◌-◌, ◌==◌, Bool, ◌&&◌, List, map, if◌then◌else◌}
 use Rattle.std.specs.List.{list_any}
 use Rattle.b2_host.specs.declared.script.CallKind.{CallKind}
 use Rattle.b2_host.specs.declared.script.CallKind.TheVariants as kinds
 
+-- the kinds by numbers
+abbrev pub number_of : CallKind → ℕ
+number_of kinds.Stat = 0
+number_of kinds.Read = 1
+number_of kinds.Remove = 2
+number_of kinds.Start = 3
+number_of kinds.Wait = 4
+
 abbrev pub is_same : CallKind → CallKind → Bool
-is_same kinds.Stat kinds.Stat = true
-is_same kinds.Read kinds.Read = true
-is_same kinds.Remove kinds.Remove = true
-is_same kinds.Start kinds.Start = true
-is_same kinds.Wait kinds.Wait = true
-is_same kind other = false
+is_same kind other = number_of kind == number_of other
 
 -- the next call of the kind is listed to fail
 abbrev pub is_listed : CallKind → List (CallKind × ℕ) → Bool

@@ -8,7 +8,7 @@ use crate::fault::{Failed, IoFault};
 use b2_base::path::Path;
 
 /// What a read answers.
-#[derive(Debug, Drop)]
+#[derive(Drop)]
 pub enum ReadAnswer {
     /// The file's bytes.
     Bytes(Vec<u8>),

@@ -14,7 +14,7 @@ use b2_base::path_list::{PathList, copy_paths};
 use std::alloc::Global;
 
 /// A step's text, what it reads and writes, and the inputs that stood when it started.
-#[derive(Debug, Drop)]
+#[derive(Drop)]
 pub struct Job {
     pub step: u32,
     pub text: String,
@@ -34,8 +34,7 @@ fn hold_one(
 {
     if let Some(bytes) = store.bytes(path) {
         let bytes = Vec::from_slice(alloc, bytes)?;
-        let path = path.copy()?;
-        held.push(Entry { path, bytes })?;
+        held.push(Entry::new(path, bytes)?)?;
     }
     Ok(())
 }
@@ -64,8 +63,7 @@ fn good_writes(
     let mut entries = Vec::new(alloc);
     for out in outs {
         let bytes = make(alloc, text, held, out)?;
-        let path = out.copy()?;
-        entries.push(Entry { path, bytes })?;
+        entries.push(Entry::new(out, bytes)?)?;
     }
     Ok(entries)
 }
@@ -77,8 +75,7 @@ fn bad_writes(alloc: Global, outs: &[Path]) -> Result<Vec<Entry>, OutOfMemory>
     let mut entries = Vec::new(alloc);
     if let Some(out) = outs.first() {
         let bytes = Vec::from_slice(alloc, b"torn\n")?;
-        let path = out.copy()?;
-        entries.push(Entry { path, bytes })?;
+        entries.push(Entry::new(out, bytes)?)?;
     }
     Ok(entries)
 }

@@ -102,10 +102,9 @@ fn whole(alloc: Global, text: &str, held: &[Entry], out: &Path) -> Result<Vec<u8
 {
     let inputs = sorted(alloc, held)?;
     let mut bytes = Vec::new(alloc);
-    bytes.extend_from_slice(out.as_str().as_bytes())?;
-    bytes.push(b'\n')?;
-    bytes.extend_from_slice(text.as_bytes())?;
-    bytes.push(b'\n')?;
+    let out = out.as_str();
+    let head = format!(in alloc; "{out}\n{text}\n")?;
+    bytes.extend_from_slice(head.as_bytes())?;
     add_inputs(alloc, &mut bytes, inputs.as_slice())?;
     Ok(bytes)
 }
@@ -113,12 +112,10 @@ fn whole(alloc: Global, text: &str, held: &[Entry], out: &Path) -> Result<Vec<u8
 fn add_input(alloc: Global, bytes: &mut Vec<u8>, input: &Entry) -> Result<(), OutOfMemory>
     ensures { OnOk result (bytes.new.items ≡ bytes.old.items ++ input_text (write_of input.now)) }
 {
+    let path = input.path.as_str();
     let size = input.bytes.len();
-    let size = format!(in alloc; "{size}")?;
-    bytes.extend_from_slice(input.path.as_str().as_bytes())?;
-    bytes.push(b'\n')?;
-    bytes.extend_from_slice(size.as_bytes())?;
-    bytes.push(b'\n')?;
+    let head = format!(in alloc; "{path}\n{size}\n")?;
+    bytes.extend_from_slice(head.as_bytes())?;
     bytes.extend_from_slice(input.bytes.as_slice())?;
     Ok(())
 }

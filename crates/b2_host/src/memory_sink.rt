@@ -8,7 +8,7 @@ use crate::sink::Sink;
 use std::alloc::Global;
 
 /// Takes bytes in memory.
-#[derive(Debug, Drop)]
+#[derive(Drop)]
 pub struct MemorySink {
     bytes: Vec<u8>,
     failing: u32,

@@ -1,19 +1,19 @@
 //! Where the file of each path is.
-ghost use Rattle.std.specs.Prelude.{◌≡◌, ℕ, List, [], None, Option, IsTrue, OnOk, OnErr, if◌then◌else◌};
+ghost use Rattle.std.specs.Prelude.{◌≡◌, ℕ, List, [], None, IsTrue, OnOk, if◌then◌else◌};
 ghost use Rattle.std.specs.FinMap as map;
 ghost use Rattle.std.specs.Str.{bytes_eq};
 ghost use Rattle.b2_host.specs.Stores.{place_of, is_known};
 
 use b2_base::fault::OutOfMemory;
 use b2_base::path::Path;
+use b2_base::text_map::TextMap;
 use std::alloc::Global;
-use std::collections::BTreeMap;
 use std::marker::Model;
 
 /// For each path that was named, a place, or None.
 #[derive(Drop)]
 pub struct Places {
-    values: BTreeMap<Path, Option<usize>>,
+    values: TextMap<Option<usize>>,
 }
 
 impl Model for Places {
@@ -27,7 +27,7 @@ impl Model for Places {
 
     ghost coded = { map.code (coded_list coded_ℕ) (coded_option coded_ℕ) };
 
-    ghost view = { λ p. map.from_entries p.values.entries };
+    ghost view = { λ p. p.values };
 }
 
 impl Places {
@@ -36,7 +36,7 @@ impl Places {
         ensures { result ≡ map.from_entries [] }
     {
         Places {
-            values: BTreeMap::new(alloc),
+            values: TextMap::new(alloc),
         }
     }
 
@@ -44,7 +44,7 @@ impl Places {
     pub fn get(&self, path: &Path) -> Option<usize>
         ensures { result ≡ place_of self.now path.now }
     {
-        match self.values.get(path) {
+        match self.values.get(path.as_text()) {
             None => None,
             Some(place) => *place,
         }
@@ -56,8 +56,9 @@ impl Places {
         ensures stays { (other : List ℕ) → IsTrue (is_known self.old other) → IsTrue (is_known self.new other) }
         ensures places { (other : List ℕ) → place_of self.new other ≡ place_of self.old other }
     {
-        if !self.values.contains_key(path) {
-            self.values.insert(path.copy()?, None)?;
+        let text = path.as_text();
+        if self.values.get(text).is_none() {
+            self.values.insert(text.copy()?, None)?;
         }
         Ok(())
     }
@@ -67,8 +68,6 @@ impl Places {
         ensures known { (other : List ℕ) → is_known self.new other ≡ is_known self.old other }
         ensures places { (other : List ℕ) → place_of self.new other ≡ (if bytes_eq path.now other then (if is_known self.old path.now then place else None) else place_of self.old other) }
     {
-        if let Some(found) = self.values.get_mut(path) {
-            *found = place;
-        }
+        self.values.set(path.as_text(), place);
     }
 }

@@ -1,13 +1,13 @@
 //! Which calls of a host in memory fail, and which of its children end badly.
 ghost use Rattle.std.specs.Prelude.{◌≡◌, [], ◌++◌, map, MatchBool, OnOk, OnErr};
 ghost use Rattle.b2_host.specs.Faults.{Rose};
-ghost use Rattle.b2_host.specs.Scripts.{is_same, is_listed, call_after, calls_after, is_bad, starts_after};
+ghost use Rattle.b2_host.specs.Scripts.{number_of, is_same, is_listed, call_after, calls_after, is_bad, starts_after};
 
 use b2_base::fault::OutOfMemory;
 use std::alloc::Global;
 
 /// The kinds of calls that a host in memory can be told to fail.
-#[derive(Clone, Copy, Debug, PartialEq, Eq)]
+#[derive(Clone, Copy)]
 pub enum CallKind {
     Stat,
     Read,
@@ -17,15 +17,28 @@ pub enum CallKind {
 }
 
 impl CallKind {
+    /// The number of the kind.
+    fn number(self) -> u8
+        ensures { result ≡ number_of self }
+    {
+        match self {
+            CallKind::Stat => 0,
+            CallKind::Read => 1,
+            CallKind::Remove => 2,
+            CallKind::Start => 3,
+            CallKind::Wait => 4,
+        }
+    }
+
     fn is_same(self, other: CallKind) -> bool
         ensures { result ≡ is_same self other }
     {
-        self == other
+        self.number() == other.number()
     }
 }
 
 /// The calls that are to fail, each with its kind and its number from now on, and the starts that are to end badly.
-#[derive(Debug, Drop)]
+#[derive(Drop)]
 pub struct Script {
     pub calls: Vec<(CallKind, u32)>,
     pub starts: Vec<u32>,

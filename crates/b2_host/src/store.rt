@@ -159,10 +159,7 @@ impl Store {
         ensures room { vec_len self.new.past ≤ vec_capacity self.new.past }
     {
         let bytes = Vec::from_slice(alloc, bytes)?;
-        let entry = Entry {
-            path: path.copy()?,
-            bytes,
-        };
+        let entry = Entry::new(path, bytes)?;
         self.know(path)?;
         self.make_room(1)?;
         self.put(entry);

@@ -1,21 +1,19 @@
-use Rattle.std.proofs.Common.{ap, sym, ◌∙◌}
-use Rattle.b2_base.proofs.TextKeys.{at_text}
-use Rattle.b2_host.specs.Stores.{is_known}
+use Rattle.std.proofs.Common.{not, ap, sym, ◌∙◌}
+use Rattle.b2_host.proofs.PlaceMaps.{made_known, absent_at, put_known, put_stays, put_places, none_copied}
 use Rattle.b2_host.proofs.places.Places.know.Goals as goal
-use Rattle.b2_host.proofs.PlaceMaps.{map_of, put_known, put_stays, put_places, known_from, none_from}
 
 pub returns-in_ok-insert-clause-known : goal.returns-in_ok-insert-clause-known
 returns-in_ok-insert-clause-known c =
-    ap (is_known (map_of c.insert.new.self.entries)) (sym c.in_ok-copy.ensures)
-    ∙ put_known c.args.self.now c.self.inside.values.entries c.insert.new.self.entries c.in_ok-copy.field-0 c.self.view_is c.in_ok-insert.ensures.updates.0
+    put_known c.args.self.now c.insert.new.self c.args.path.now
+    (made_known c.self.inside.values c.args.self.now c.insert.new.self c.in_ok-copy.field-0 c.as_text-text.result.now c.args.path.now c.self.view_is c.in_ok-copy.ensures c.as_text-text.ensures.value c.in_ok-insert.ensures.ok)
 
 pub returns-in_ok-insert-clause-stays : goal.returns-in_ok-insert-clause-stays
-returns-in_ok-insert-clause-stays c = put_stays c.args.self.now c.self.inside.values.entries c.insert.new.self.entries c.in_ok-copy.field-0 c.self.view_is c.in_ok-insert.ensures.updates.0
+returns-in_ok-insert-clause-stays c =
+    put_stays c.args.self.now c.insert.new.self c.args.path.now
+    (made_known c.self.inside.values c.args.self.now c.insert.new.self c.in_ok-copy.field-0 c.as_text-text.result.now c.args.path.now c.self.view_is c.in_ok-copy.ensures c.as_text-text.ensures.value c.in_ok-insert.ensures.ok)
 
 pub returns-in_ok-insert-clause-places : goal.returns-in_ok-insert-clause-places
 returns-in_ok-insert-clause-places c =
-    let absent = none_from _ (sym c.contains_key.ensures ∙ c.if-not-contains_key.true) in
-    put_places c.args.self.now c.self.inside.values.entries c.insert.new.self.entries c.in_ok-copy.field-0 c.self.view_is (ap (at_text c.self.inside.values.entries) c.in_ok-copy.ensures ∙ absent) c.in_ok-insert.ensures.updates.0
-
-pub returns-else-not-contains_key-clause-known : goal.returns-else-not-contains_key-clause-known
-returns-else-not-contains_key-clause-known c = known_from c.args.self.now c.self.inside.values.entries c.args.path.now c.self.view_is (sym c.contains_key.ensures ∙ c.if-not-contains_key.false)
+    put_places c.args.self.now c.insert.new.self c.args.path.now
+    (absent_at c.self.inside.values c.args.self.now c.as_text-text.result.now c.args.path.now c.self.view_is c.as_text-text.ensures.value (sym c.get.ensures ∙ none_copied c.get.result (c.is_none.ensures ∙ ap not c.if-is_none.true)))
+    (made_known c.self.inside.values c.args.self.now c.insert.new.self c.in_ok-copy.field-0 c.as_text-text.result.now c.args.path.now c.self.view_is c.in_ok-copy.ensures c.as_text-text.ensures.value c.in_ok-insert.ensures.ok)
