@@ -1,12 +1,13 @@
 //! The answer to a command.
 use crate::case_fault::CaseFault;
 use std::alloc::Global;
+use std::io;
 
 /// The lines that answer a command, in order; there may be none.
 #[derive(Drop)]
 pub struct Answer {
-    /// The lines, each ended by a line feed. No other control byte stands in them.
-    text: String,
+    /// The lines as they are printed, each ended by a line feed.
+    printed: String,
 }
 
 fn push_hexadecimal(shown: &mut String, byte: u8) -> Result<(), CaseFault> {
@@ -62,7 +63,7 @@ impl Answer {
     /// An answer of no lines, which takes no memory.
     pub fn new(alloc: Global) -> Answer {
         Answer {
-            text: String::new(alloc),
+            printed: String::new(alloc),
         }
     }
 
@@ -75,8 +76,12 @@ impl Answer {
 
     /// Adds a line, whose control bytes are shown as escapes. After an error the answer may hold a part of it.
     pub fn push_line(&mut self, line: &str) -> Result<(), CaseFault> {
-        push_text(&mut self.text, line)?;
-        self.text.push('\n')?;
+        self.printed.push('=')?;
+        if !line.is_empty() {
+            self.printed.push(' ')?;
+            push_text(&mut self.printed, line)?;
+        }
+        self.printed.push('\n')?;
         Ok(())
     }
 
@@ -88,8 +93,8 @@ impl Answer {
         Ok(())
     }
 
-    /// The lines, each ended by a line feed.
-    pub fn as_str(&self) -> &str {
-        self.text.as_str()
+    pub(crate) fn print(&self, rt: &impl Print) -> io::Result<()> {
+        let printed = &self.printed;
+        print!(rt; "{printed}")
     }
 }

@@ -22,17 +22,6 @@ enum Pending {
     Refuse,
 }
 
-fn print_answer(rt: &impl Print, answer: &Answer) -> io::Result<()> {
-    for line in answer.as_str().lines() {
-        if line.is_empty() {
-            println!(rt; "=")?;
-        } else {
-            println!(rt; "= {line}")?;
-        }
-    }
-    Ok(())
-}
-
 /// Prints the answer to a refused command, and tells that something was refused.
 fn print_fault(rt: &impl Print, fault: CaseFault) -> io::Result<bool> {
     match fault {
@@ -51,7 +40,7 @@ fn carry_out<R: Print + AllocGlobal, S: Session>(
 ) -> io::Result<bool> {
     match session.carry_out(rt.alloc(), command) {
         Ok(answer) => {
-            print_answer(rt, &answer)?;
+            answer.print(rt)?;
             Ok(true)
         }
         Err(fault) => print_fault(rt, fault),
@@ -101,8 +90,10 @@ fn add_text(pending: &mut Pending, line: &str) -> Result<(), CaseFault> {
 
 /// What a text line adds to the text, where the line is one.
 fn text_line(line: &str) -> Option<&str> {
-    let text = line.strip_prefix('|')?;
-    Some(text.strip_prefix(' ').unwrap_or(text))
+    match line.strip_prefix('|') {
+        Some(text) => Some(text.strip_prefix(' ').unwrap_or(text)),
+        None => None,
+    }
 }
 
 fn out_of_memory(_fault: CaseFault) -> io::Error {
