@@ -1,15 +1,16 @@
-use Rattle.std.proofs.Common.{◌≡◌, ℕ, Bool, cond, List, [], ◌∷◌, ◌++◌, map, length, is_some, position, slice_get, Option, Some, None, refl, sym, ◌∙◌, ap, ap₂, string_bytes, true, false}
+use Rattle.std.proofs.Common.{◌≡◌, ℕ, Bool, cond, ◌&&◌, List, [], ◌∷◌, ◌++◌, map, length, is_some, position, slice_get, Option, Some, None, refl, sym, ◌∙◌, ap, ap₂, string_bytes, true, false}
 use Rattle.std.specs.Prelude.{String}
 use Rattle.std.specs.Global.{Global}
 use Rattle.std.specs.Option.{option_map, option_copied, option_or}
-use Rattle.std.specs.List.{find, AllByRecursion, IsDistinct}
+use Rattle.std.specs.List.{find, list_all, AllByRecursion, IsDistinct}
 use Rattle.std.specs.String.{string_eq}
 use Rattle.std.specs.Map.{lookup, set_value}
 use Rattle.std.specs.Str.{bytes_eq}
 use Rattle.std.proofs.lemmas.List.{map-append}
+use Rattle.std.proofs.lemmas.List.Folds.{list_all-append}
 use Rattle.b2_features.specs.declared.feature.Feature.{Feature}
 use Rattle.std.specs.Borrow.{Bor}
-use Rattle.b2_features.specs.Table.{Declared, HasDistinctNames, seen, is_named, feature_of, place_of, implicit_of, is_implicit_in, with_parts, composed}
+use Rattle.b2_features.specs.Table.{Declared, HasDistinctNames, seen, is_whole, is_named, feature_of, place_of, implicit_of, is_implicit_in, with_parts, composed}
 use Rattle.b2_features.specs.Faults.{is_taken}
 use Rattle.b2_features.specs.Index.{IsIndexed}
 use Rattle.b2_features.proofs.Lookups.{option_map-cond, position-map, find-at_position, find-none, position-push, position-none, keys-set_value, values-set_value}
@@ -80,11 +81,20 @@ same_places value es fs same =
     ∙ ap (position (is_implicit_in value)) (sym (bare_shown es) ∙ same ∙ bare_shown fs)
     ∙ position-map (is_implicit_in value) bare (shown fs)
 
+whole_bare : (fs : List Declared) → list_all is_whole fs ≡ list_all is_whole (map bare fs)
+whole_bare [] = refl
+whole_bare (f ∷ fs) = ap (λ b. is_whole f && b) (whole_bare fs)
+
+-- features that are the same but for their components are as whole
+same_whole : (es fs : List (String Global × Feature)) → map (λ e. bare (seen e.1)) es ≡ map (λ e. bare (seen e.1)) fs → list_all is_whole (shown es) ≡ list_all is_whole (shown fs)
+same_whole es fs same = whole_bare (shown es) ∙ ap (list_all is_whole) (sym (bare_shown es) ∙ same ∙ bare_shown fs) ∙ sym (whole_bare (shown fs))
+
 -- one that differs in its components alone leaves the table indexed
 pub stays_indexed : (test : String Global → Bool) (es : List (String Global × Feature)) (implicit : List (List ℕ × ℕ)) (f w : Feature) → lookup test es ≡ Some f → bare (seen w) ≡ bare (seen f) → IsIndexed es implicit → IsIndexed (set_value test es w) implicit
 stays_indexed test es implicit f w found same indexed = record {
   keys = keys-set_value string_bytes test es w ∙ indexed.keys ∙ sym (values-set_value (λ f'. f'.name) test es f w found (ap (λ d. d.name) same));
   places = λ value. indexed.places value ∙ sym (same_places value (set_value test es w) es (values-set_value (λ f'. bare (seen f')) test es f w found same));
+  whole = same_whole (set_value test es w) es (values-set_value (λ f'. bare (seen f')) test es f w found same) ∙ indexed.whole;
 }
 
 -- with more components it gives the composed table
@@ -143,12 +153,14 @@ or_none (Some x) = refl
 pub indexed_push : (es : List (String Global × Feature)) (old new : List (List ℕ × ℕ)) (k : String Global) (f : Feature) (place : ℕ) → IsIndexed es old → string_bytes k ≡ f.name → place ≡ length (shown es)
     → ((q : List ℕ) → is_implicit_in q (seen f) ≡ true → is_taken (shown es) q ≡ false)
     → ((q : List ℕ) → lookup (bytes_eq q) new ≡ cond (is_implicit_in q (seen f)) (Some place) (lookup (bytes_eq q) old))
+    → is_whole (seen f) ≡ true
     → IsIndexed (es ++ (k, f) ∷ []) new
-indexed_push es old new k f place indexed same end untaken added = record {
+indexed_push es old new k f place indexed same end untaken added valued = record {
   keys = map-append (λ e. string_bytes e.0) es ((k, f) ∷ []) ∙ ap₂ (λ xs x. xs ++ x ∷ []) indexed.keys same ∙ sym (map-append (λ e. e.1.name) es ((k, f) ∷ []));
   places = λ q.
       added q ∙ go q (is_implicit_in q (seen f)) refl
       ∙ sym (position-push (is_implicit_in q) (shown es) (seen f)) ∙ sym (ap (position (is_implicit_in q)) (shown_push es k f));
+  whole = ap (list_all is_whole) (shown_push es k f) ∙ list_all-append is_whole (shown es) (seen f ∷ []) ∙ ap₂ (λ (a b : Bool). a && (b && true)) indexed.whole valued;
 }
   where
     go : (q : List ℕ) (b : Bool) → is_implicit_in q (seen f) ≡ b → cond b (Some place) (lookup (bytes_eq q) old) ≡ option_or (position (is_implicit_in q) (shown es)) (cond b (Some (length (shown es))) None)

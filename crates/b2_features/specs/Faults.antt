@@ -1,4 +1,4 @@
-use Rattle.std.specs.Prelude.{◌≡◌, ℕ, ◌==◌, Bool, true, false, not, ◌&&◌, ◌||◌, List, [], ◌∷◌, Option, Some, None, find, option_map, is_some, length, if◌then◌else◌}
+use Rattle.std.specs.Prelude.{◌≡◌, ℕ, ◌==◌, Bool, true, false, not, ◌&&◌, ◌||◌, List, [], ◌∷◌, ◌++◌, Option, Some, None, find, option_map, is_some, length, if◌then◌else◌}
 use Rattle.std.specs.List.{list_any, list_all}
 use Rattle.std.specs.Option.{option_or, option_map_or, option_and_then}
 use Rattle.std.specs.Char.{is_ascii_alphanumeric}
@@ -14,7 +14,7 @@ use Rattle.b2_features.specs.Table.{Declared, lists, implicit_of, feature_of, pa
 abbrev pub is_name_byte : ℕ → Bool
 is_name_byte byte = is_ascii_alphanumeric byte || byte == 46 || byte == 95 || byte == 45 || byte == 43
 
--- a name, or a value that is not free: one such sign or more
+-- a name, or a value that is not free: one such character or more
 abbrev pub is_name : List ℕ → Bool
 is_name word = not (length word == 0) && list_all is_name_byte word
 
@@ -28,9 +28,14 @@ is_declared table name = is_some (feature_of table name)
 abbrev pub is_taken : List Declared → List ℕ → Bool
 is_taken table value = is_some (implicit_of table value)
 
--- the name where it is declared, else the first taken one of the values of an implicit feature
+-- the first of some values that is taken, or is one of those before it
+abbrev pub twice_value : List Declared → List (List ℕ) → List (List ℕ) → Option (List ℕ)
+twice_value table before [] = None
+twice_value table before (value ∷ more) = if is_taken table value || list_any (bytes_eq value) before then Some value else twice_value table (before ++ value ∷ []) more
+
+-- the name where it is declared, else the first value of an implicit feature that is there
 abbrev pub twice_word : List Declared → List ℕ → List (List ℕ) → List (List ℕ) → Option (List ℕ)
-twice_word table name values attributes = if is_declared table name then Some name else (if has Implicit attributes then find (is_taken table) values else None)
+twice_word table name values attributes = if is_declared table name then Some name else (if has Implicit attributes then twice_value table [] values else None)
 
 -- a name that is none, or that of a feature without values which is neither free nor optional
 abbrev pub is_bad_name : List (List ℕ) → List (List ℕ) → List ℕ → Bool
@@ -100,7 +105,7 @@ compose_fault table name value parts =
 
 -- ---- both
 
--- an answer of this kind is the one that the cause names; want of memory needs none
+-- an answer of this kind is the one that the cause names; out of memory needs none
 abbrev pub IsBy : Option FeatureFault → FeatureFault → Type 0
 IsBy cause OutOfMemory = Unit {0}
 IsBy cause fault = cause ≡ Some fault

@@ -2,3 +2,4 @@ pub mod Attributes
 pub mod Table
 pub mod Faults
 pub mod Index
+pub mod Finding

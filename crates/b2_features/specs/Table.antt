@@ -1,9 +1,9 @@
-use Rattle.std.specs.Prelude.{◌≡◌, ℕ, Bool, false, ◌&&◌, List, [], ◌∷◌, ◌++◌, Option, map, find, position, option_map, slice_get, if◌then◌else◌}
+use Rattle.std.specs.Prelude.{◌≡◌, ℕ, Bool, false, ◌&&◌, ◌||◌, List, [], ◌∷◌, ◌++◌, Option, None, map, find, position, option_map, is_some, slice_get, if◌then◌else◌}
 use Rattle.std.specs.List.{list_any, AllByRecursion}
 use Rattle.std.specs.Option.{option_and_then}
 use Rattle.std.specs.Map.{lookup}
 use Rattle.std.specs.Str.{bytes_eq}
-use Rattle.b2_features.specs.declared.attribute.Attribute.TheVariants.{Implicit}
+use Rattle.b2_features.specs.declared.attribute.Attribute.TheVariants.{Implicit, Free, Optional}
 use Rattle.b2_features.specs.declared.feature.Feature.{Feature}
 use Rattle.b2_features.specs.Attributes.{has}
 
@@ -46,9 +46,17 @@ HasDistinctNames (f ∷ more) = AllByRecursion (λ other. is_named f.name other 
 abbrev pub implicit_of : List Declared → List ℕ → Option (List ℕ)
 implicit_of table value = option_map (λ f. f.name) (find (is_implicit_in value) table)
 
--- the default of a feature is its first value
+-- the default of a feature is its first value; a free or an optional one has none
+abbrev pub default_value : Declared → Option (List ℕ)
+default_value f = if has Free f.attributes || has Optional f.attributes then None else slice_get f.values 0
+
+-- whether a feature has a value, where it is neither free nor optional
+abbrev pub is_whole : Declared → Bool
+is_whole f = has Free f.attributes || has Optional f.attributes || is_some (slice_get f.values 0)
+
+-- the default of the feature of a name
 abbrev pub default_of : List Declared → List ℕ → Option (List ℕ)
-default_of table name = option_and_then (λ f. slice_get f.values 0) (feature_of table name)
+default_of table name = option_and_then default_value (feature_of table name)
 
 -- what the call declares: values and attributes in its order, and no components
 abbrev pub declared : List ℕ → List (List ℕ) → List (List ℕ) → Declared
@@ -58,7 +66,7 @@ declared name values attributes = record { name = name; values = values; attribu
 abbrev pub parts_of : Declared → List ℕ → Option (List (List ℕ × List ℕ))
 parts_of f value = lookup (λ composed. bytes_eq composed value) f.parts
 
--- the components of a value are added behind those of the values before it
+-- the components of a value are added after those of the values before it
 abbrev pub with_parts : Declared → List ℕ → List (List ℕ × List ℕ) → Declared
 with_parts f value parts = record f { parts = f.parts ++ (value, parts) ∷ [] }
 

@@ -5,7 +5,7 @@ ghost use Rattle.b2_features.specs.Attributes.{name_of, has, is_attribute};
 use b2_base::text::Text;
 
 /// What a feature may be declared to be.
-#[derive(Clone, Copy, Debug, PartialEq, Eq)]
+#[derive(Clone, Copy)]
 pub enum Attribute {
     /// A value stands for itself, without the feature's name.
     Implicit,

@@ -7,23 +7,23 @@ ghost use Rattle.b2_features.specs.Faults.{is_name_byte, is_name, is_bad_name, i
 use crate::attribute::{Attribute, is_attribute_word};
 use b2_base::text::Text;
 
-fn is_sign(byte: u8) -> bool
+fn is_name_byte(byte: u8) -> bool
     ensures { result ≡ is_name_byte byte }
 {
     byte.is_ascii_alphanumeric() || byte == b'.' || byte == b'_' || byte == b'-' || byte == b'+'
 }
 
-fn is_made_of_signs(word: &str) -> bool
+fn has_name_bytes(word: &str) -> bool
     ensures { result ≡ list_all is_name_byte word.now }
 {
-    word.as_bytes().iter().all(|byte| is_sign(*byte))
+    word.as_bytes().iter().all(|byte| is_name_byte(*byte))
 }
 
 /// Whether a word may be a name or a value that is not free: one letter, digit, `.`, `_`, `-` or `+`, or more.
 fn is_name(word: &str) -> bool
     ensures { result ≡ is_name word.now }
 {
-    !word.is_empty() && is_made_of_signs(word)
+    !word.is_empty() && has_name_bytes(word)
 }
 
 fn is_bad_name(values: &[Text], attributes: &[Text], name: &Text) -> bool

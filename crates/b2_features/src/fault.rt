@@ -8,7 +8,7 @@ use thiserror::Error;
 /// several words with this cause the first in the order of the call.
 #[derive(Debug, Drop, Error)]
 pub enum FeatureFault {
-    /// The feature, or an implicit value, is there.
+    /// The feature, or an implicit value, is there, also where it stands twice in one declaration.
     #[error("there twice")]
     Twice { word: Text },
     /// A feature that is not there, or a value that its feature does not have.

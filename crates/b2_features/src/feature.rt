@@ -1,9 +1,9 @@
 //! A feature.
-ghost use Rattle.std.specs.Prelude.{◌≡◌, [], IfOk, OnOk, OnErr, find, slice_get};
+ghost use Rattle.std.specs.Prelude.{◌≡◌, [], IfOk, OnOk, OnErr, find};
 ghost use Rattle.std.specs.Option.{option_copied};
 ghost use Rattle.std.specs.Str.{bytes_eq};
 ghost use Rattle.b2_features.specs.Attributes.{has};
-ghost use Rattle.b2_features.specs.Table.{seen, lists, declared, parts_of, with_parts};
+ghost use Rattle.b2_features.specs.Table.{seen, lists, declared, default_value, parts_of, with_parts};
 
 use crate::attribute::Attribute;
 use b2_base::fault::OutOfMemory;
@@ -13,7 +13,7 @@ use std::alloc::Global;
 
 /// A declared feature. `values` and `attributes` stand in order of declaration, `parts` has the components of each composed
 /// value, each a feature and a value, in order of composing.
-#[derive(Debug, Drop)]
+#[derive(Drop)]
 pub struct Feature {
     pub name: Text,
     pub values: TextList,
@@ -83,11 +83,15 @@ impl Feature {
             .any(|listed| listed.as_str() == value)
     }
 
-    /// The default, which is the first value; takes no memory.
+    /// The default: the first value, but none where the feature is free or optional. Takes no memory.
     pub fn default_value(&self) -> Option<&Text>
-        ensures { option_copied result ≡ slice_get self.now.values 0 }
+        ensures { option_copied result ≡ default_value (seen self.now) }
     {
-        self.values.as_slice().first()
+        if self.is(Attribute::Free) || self.is(Attribute::Optional) {
+            None
+        } else {
+            self.values.as_slice().first()
+        }
     }
 
     /// The components of a value, where it is composed; takes no memory.

@@ -7,5 +7,3 @@ pub mod fault;
 pub mod feature;
 mod implicit;
 pub mod registry;
-#[cfg(test)]
-mod tests;

@@ -1,12 +1,14 @@
 //! The table of features.
-ghost use Rattle.std.specs.Prelude.{◌≡◌, ℕ, List, true, false, ◌<◌, ◌++◌, ◌∷◌, [], length, slice_get, Some, None, option_map, find, OnOk, OnErr, IfOk, IfErr, string_bytes, map, is_some};
-ghost use Rattle.std.specs.List.{list_any};
+ghost use Rattle.std.specs.Prelude.{◌≡◌, ℕ, List, true, false, ◌<◌, ◌++◌, ◌∷◌, [], length, slice_get, Some, None, option_map, find, OnOk, OnErr, IfOk, IfErr, string_bytes, map, is_some, ◌||◌};
+ghost use Rattle.std.specs.List.{list_any, list_all};
+ghost use Rattle.std.specs.FinMap as map;
 ghost use Rattle.std.specs.Str.{bytes_eq};
 ghost use Rattle.std.specs.Option.{option_copied, option_or};
 ghost use Rattle.b2_base.specs.Bytes.{HasNoZero};
 ghost use Rattle.b2_features.specs.Attributes.{has};
-ghost use Rattle.b2_features.specs.Table.{Declared, HasDistinctNames, seen, declared, is_implicit_in, implicit_of, default_of, place_of, feature_of, composed};
-ghost use Rattle.b2_features.specs.Faults.{is_taken, is_conflict, twice_word, unknown_in, unknown_word, is_with, bad_part, is_composed, conflict_word, feature_fault, compose_fault, IsBy};
+ghost use Rattle.b2_features.specs.Table.{Declared, HasDistinctNames, is_whole, seen, declared, is_implicit_in, implicit_of, default_of, place_of, feature_of, composed};
+ghost use Rattle.b2_features.specs.Finding.{FindsOneMore, FindsParts};
+ghost use Rattle.b2_features.specs.Faults.{is_taken, is_conflict, twice_value, twice_word, unknown_in, unknown_word, is_with, bad_part, is_composed, conflict_word, feature_fault, compose_fault, IsBy};
 
 use crate::attribute::Attribute;
 use crate::checks::{bad_word, contradicted};
@@ -15,11 +17,13 @@ use crate::feature::{Feature, copy_pairs, copy_texts};
 use crate::implicit::{ImplicitValues, implicit_values};
 use b2_base::fault::OutOfMemory;
 use b2_base::text::Text;
+use b2_base::text_map::TextMap;
 use indexmap::IndexMap;
 use std::alloc::Global;
 use std::marker::Model;
 
-/// The declared features, seen as their list in order of declaration. No two have one name.
+/// The declared features, seen as their list in order of declaration. No two have one name, and each that is neither free
+/// nor optional has a value.
 #[derive(Drop)]
 pub struct Registry {
     alloc: Global,
@@ -55,6 +59,7 @@ impl Registry {
     pub fn count(&self) -> usize
         ensures number { result ≡ length self.now }
         ensures distinct { HasDistinctNames self.now }
+        ensures whole { list_all is_whole self.now ≡ true }
     {
         self.features.len()
     }
@@ -92,7 +97,7 @@ impl Registry {
         Some(self.at(place).name.as_str())
     }
 
-    /// The default of the feature of a name, which is its first value; takes no memory.
+    /// The default of the feature of a name: its first value, but none where it is free or optional. Takes no memory.
     pub fn default_of(&self, name: &str) -> Option<&str>
         ensures { option_copied result ≡ default_of self.now name.now }
     {
@@ -106,28 +111,46 @@ impl Registry {
         self.implicit_of(value).is_some()
     }
 
-    fn first_taken<'a>(&self, values: &'a [Text]) -> Option<&'a Text>
-        ensures { option_copied result ≡ find (is_taken self.now) values.now }
+    /// Puts a value among the earlier ones, and tells whether it was taken or among them.
+    fn is_there(&self, earlier: &mut TextMap<()>, value: &Text) -> Result<bool, OutOfMemory>
+        ensures there { IfOk result (λ there. there ≡ (is_taken self.now value.now || is_some (map.get earlier.old value.now))) }
+        ensures known { OnOk result ((q : List ℕ) → is_some (map.get earlier.new q) ≡ (is_some (map.get earlier.old q) || bytes_eq q value.now)) }
     {
-        values.iter().find(|value| self.is_taken(value.as_str()))
+        let before = earlier.insert(value.copy()?, ())?;
+        Ok(self.is_taken(value.as_str()) || before.is_some())
     }
 
-    fn twice_word<'a>(
+    fn check_values(&self, values: &[Text]) -> Result<(), FeatureFault>
+        ensures ok { OnOk result (twice_value self.now [] values.now ≡ None) }
+        ensures cause { IfErr result (IsBy (option_map FeatureFault.Twice (twice_value self.now [] values.now))) }
+    {
+        let mut earlier = TextMap::new(self.alloc);
+        for value in values {
+            if self.is_there(&mut earlier, value)? {
+                return Err(FeatureFault::Twice {
+                    word: value.copy()?,
+                });
+            }
+        }
+        Ok(())
+    }
+
+    fn check_twice(
         &self,
-        name: &'a Text,
-        values: &'a [Text],
+        name: &Text,
+        values: &[Text],
         attributes: &[Text],
-    ) -> Option<&'a Text>
-        ensures { option_copied result ≡ twice_word self.now name.now values.now attributes.now }
+    ) -> Result<(), FeatureFault>
+        ensures ok { OnOk result (twice_word self.now name.now values.now attributes.now ≡ None) }
+        ensures cause { IfErr result (IsBy (option_map FeatureFault.Twice (twice_word self.now name.now values.now attributes.now))) }
     {
         if self.find(name.as_str()).is_some() {
-            return Some(name);
+            return Err(FeatureFault::Twice { word: name.copy()? });
         }
         if Attribute::Implicit.stands_in(attributes) {
-            self.first_taken(values)
-        } else {
-            None
+            return self.check_values(values);
         }
+        Ok(())
     }
 
     fn check_feature(
@@ -139,9 +162,7 @@ impl Registry {
         ensures ok { OnOk result (feature_fault self.now name.now values.now attributes.now ≡ None) }
         ensures cause { IfErr result (IsBy (feature_fault self.now name.now values.now attributes.now)) }
     {
-        if let Some(word) = self.twice_word(name, values, attributes) {
-            return Err(FeatureFault::Twice { word: word.copy()? });
-        }
+        self.check_twice(name, values, attributes)?;
         if let Some(word) = bad_word(name, values, attributes) {
             return Err(FeatureFault::BadValue { word: word.copy()? });
         }
@@ -276,6 +297,7 @@ impl Registry {
     fn put(&mut self, feature: Feature, implicit: Vec<String>) -> Result<(), OutOfMemory>
         requires absent { feature_of self.old feature.name ≡ None }
         requires implicit { (q : List ℕ) → list_any (λ value. bytes_eq q (string_bytes value)) implicit.items ≡ is_implicit_in q (seen feature) }
+        requires whole { is_whole (seen feature) ≡ true }
         requires untaken { (q : List ℕ) → is_implicit_in q (seen feature) ≡ true → is_taken self.old q ≡ false }
         ensures ok { OnOk result (self.new ≡ self.old ++ seen feature ∷ []) }
         ensures err { OnErr result (self.new ≡ self.old) }
@@ -289,8 +311,9 @@ impl Registry {
     }
 
     /// Declares a feature with its values and attributes. A name, and a value of a feature that is not free, is made of one
-    /// letter, digit, `.`, `_`, `-` or `+`, or more; a feature that is neither free nor optional has a value; `path` and
-    /// `dependency` go with `free` alone, and `composite` without it. After an error nothing has changed.
+    /// letter, digit, `.`, `_`, `-` or `+`, or more; a feature that is neither free nor optional has a value; an implicit
+    /// value is there once; `path` and `dependency` go with `free` alone, and `composite` without it. After an error nothing
+    /// has changed.
     pub fn feature(
         &mut self,
         name: &str,
@@ -299,6 +322,7 @@ impl Registry {
     ) -> Result<(), FeatureFault>
         requires { HasNoZero name.now }
         ensures ok { OnOk result (self.new ≡ self.old ++ declared name.now values.now attributes.now ∷ []) }
+        ensures found { OnOk result (FindsOneMore self.old self.new (declared name.now values.now attributes.now)) }
         ensures sound { OnOk result (feature_fault self.old name.now values.now attributes.now ≡ None) }
         ensures cause { IfErr result (IsBy (feature_fault self.old name.now values.now attributes.now)) }
         ensures err { OnErr result (self.new ≡ self.old) }
@@ -337,6 +361,7 @@ impl Registry {
         requires name { HasNoZero name.now }
         requires value { HasNoZero value.now }
         ensures ok { OnOk result (self.new ≡ composed self.old name.now value.now parts.now) }
+        ensures found { OnOk result (FindsParts self.old self.new name.now value.now parts.now) }
         ensures sound { OnOk result (compose_fault self.old name.now value.now parts.now ≡ None) }
         ensures cause { IfErr result (IsBy (compose_fault self.old name.now value.now parts.now)) }
         ensures err { OnErr result (self.new ≡ self.old) }

@@ -27,7 +27,7 @@ invariant_of-self-2 c =
     subst (λ xs. IsIndexed xs c.add.new.self) (sym pushed)
     (indexed_push es c.self.inside.implicit c.add.new.self key c.args.feature c.len-place.result c.self.invariant named end
     (λ q here. ap (λ table. is_taken table q) c.self.view_is ∙ c.requires.untaken q here)
-    (λ q. c.in_ok-add.ensures.ok q ∙ ap (λ b. cond b (Some c.len-place.result) (lookup (bytes_eq q) c.self.inside.implicit)) (c.requires.implicit q)))
+    (λ q. c.in_ok-add.ensures.ok q ∙ ap (λ b. cond b (Some c.len-place.result) (lookup (bytes_eq q) c.self.inside.implicit)) (c.requires.implicit q)) c.requires.whole)
 
 pub returns-clause-ok : goal.returns-clause-ok
 returns-clause-ok c =

@@ -1,0 +1,23 @@
+use Rattle.std.specs.Prelude.{◌≡◌, ℕ, false, List, Option, Some, length}
+use Rattle.std.specs.Option.{option_and_then}
+use Rattle.std.specs.Str.{bytes_eq}
+use Rattle.b2_features.specs.Table.{Declared, feature_of, place_of, parts_of}
+
+-- A table has one feature more, which is found by its name, at the place after all others. Every other name leads where it
+-- led before.
+pub record FindsOneMore (old new : List Declared) (f : Declared) : Type 0 where
+  pub by_name : feature_of new f.name ≡ Some f
+  pub place : place_of new f.name ≡ Some (length old)
+  pub others : (name : List ℕ) → bytes_eq name f.name ≡ false → feature_of new name ≡ feature_of old name
+  pub other_places : (name : List ℕ) → bytes_eq name f.name ≡ false → place_of new name ≡ place_of old name
+
+-- the components of a value of the feature of a name
+abbrev pub parts_at : List Declared → List ℕ → List ℕ → Option (List (List ℕ × List ℕ))
+parts_at table name value = option_and_then (λ f. parts_of f value) (feature_of table name)
+
+-- A table finds the components of one value more. Every other value of the feature has those that it had, and every other
+-- name leads where it led before.
+pub record FindsParts (old new : List Declared) (name value : List ℕ) (parts : List (List ℕ × List ℕ)) : Type 0 where
+  pub by_value : parts_at new name value ≡ Some parts
+  pub other_values : (other : List ℕ) → bytes_eq value other ≡ false → parts_at new name other ≡ parts_at old name other
+  pub others : (other : List ℕ) → bytes_eq other name ≡ false → feature_of new other ≡ feature_of old other
