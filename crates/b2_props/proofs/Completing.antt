@@ -40,7 +40,7 @@ taken_more {V} m new feature u start xs i x within is same e so_far q =
     go false o false true e = e
     go false o false false e = e
 
--- the features taken behind one more pair
+-- the features taken after one more pair
 pub seen_next : (table : List Declared) (required : List Pair) (i : ℕ) (x : Pair) → i < length required → x ≡ get_or required i x
     → required ++ components table (take (i + 1) required) ≡ (required ++ components table (take i required)) ++ parts_in table x
 seen_next table required i x within is = ap (λ ps. required ++ ps) (components_next table required i x within is) ∙ sym (append_assoc required (components table (take i required)) (parts_in table x))

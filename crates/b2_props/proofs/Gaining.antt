@@ -135,7 +135,7 @@ take_value table p old new not_free set = record {
     go true o had e = refl
     go false o had e = e
 
--- ---- one list behind another
+-- ---- one list after another
 
 pub gains_none : (table : List Declared) (d : Draft) → Gains table [] d d
 gains_none table d = record {

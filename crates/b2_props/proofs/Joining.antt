@@ -31,7 +31,7 @@ place_within key (v ∷ more) i e = go (is_key v.key key) (place_of key more) re
     go false None p e' more' = cc
     go false (Some n) p e' more' = let here : suc n ≡ i = cc in omega (arith, here, more' n p)
 
--- with none of their key ways stand behind all
+-- with none of their key ways stand after all others
 pub joined_new : (vs : List Ways) (w : Ways) → place_of w.key vs ≡ None → joined vs w ≡ vs ++ w ∷ []
 joined_new [] w none = refl
 joined_new (v ∷ more) w none = go (is_key v.key w.key) (place_of w.key more) refl none (joined_new more w)

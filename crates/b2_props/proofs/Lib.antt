@@ -7,3 +7,4 @@ pub mod Reading
 pub mod Joining
 pub mod Rows
 pub mod Requesting
+pub mod RefiningLaws

@@ -66,7 +66,7 @@ with_equals (x ∷ xs) ys = or_true (eqb x 61) (with_equals xs ys)
     or_true true e = refl
     or_true false e = e
 
--- what stands before and behind the first `=`
+-- what stands before and after the first `=`
 pub halves_of : (text : List ℕ) (r : Option (Bor (List ℕ) × Bor (List ℕ))) → IsSplitOnceResult 61 text r → HasNoZero text → MatchOption r (words.is_named text ≡ false) (λ parts. (words.is_named text ≡ true) × (parts.0.now ≡ before_first is_equals text) × (parts.1.now ≡ after_first is_equals text) × HasNoZero parts.0.now × HasNoZero parts.1.now)
 halves_of text None h zero_free = no_equals text (split_parts 61 text None h (lit< tt))
 halves_of text (Some x) h zero_free =
@@ -180,6 +180,6 @@ some_cause h g xs i x e l is so_far by = subst (λ o. IsBy o e) (sym (first_of-f
 
 -- the properties of a segment with an `=`
 pub named_are : (table : List Declared) (segment feature : List ℕ) (values : List (List ℕ)) → words.is_named segment ≡ true → feature ≡ before_first is_equals segment → values ≡ cut 44 (after_first is_equals segment) → map (λ (value : List ℕ). let p : Pair = (feature, value) in p) values ≡ words.segment_pairs table segment
-named_are table segment feature values named front behind =
-    ap₂ (λ (f : List ℕ) (vs : List (List ℕ)). map (λ (value : List ℕ). let p : Pair = (f, value) in p) vs) front behind
+named_are table segment feature values named first after =
+    ap₂ (λ (f : List ℕ) (vs : List (List ℕ)). map (λ (value : List ℕ). let p : Pair = (f, value) in p) vs) first after
     ∙ sym (ap (λ b. cond b (words.named_pairs segment) (filter_map (words.implicit_pair table) (cut 44 segment))) named)

@@ -17,16 +17,16 @@ use Rattle.b2_props.proofs.Pairs.{value_of-append, option_or-none, option_or-ass
 abbrev pub Stand : List Declared → List Declared → Type 0
 Stand table fs = AllByRecursion (λ f. feature_of table f.name ≡ Some f) fs
 
-stand_behind : (f : Declared) (table fs : List Declared) → AllByRecursion (λ other. is_named f.name other ≡ false) fs → Stand table fs → Stand (f ∷ table) fs
-stand_behind f table [] apart stand = tt
-stand_behind f table (g ∷ more) apart stand =
-    (ap (λ b. cond b (Some f) (feature_of table g.name)) (text_sym g.name f.name ∙ apart.0) ∙ stand.0, stand_behind f table more apart.1 stand.1)
+stand_after : (f : Declared) (table fs : List Declared) → AllByRecursion (λ other. is_named f.name other ≡ false) fs → Stand table fs → Stand (f ∷ table) fs
+stand_after f table [] apart stand = tt
+stand_after f table (g ∷ more) apart stand =
+    (ap (λ b. cond b (Some f) (feature_of table g.name)) (text_sym g.name f.name ∙ apart.0) ∙ stand.0, stand_after f table more apart.1 stand.1)
 
 -- in a table with distinct names each feature is found under its name
 pub all_stand : (table : List Declared) → HasDistinctNames table → Stand table table
 all_stand [] distinct = tt
 all_stand (f ∷ more) distinct =
-    (ap (λ b. cond b (Some f) (feature_of more f.name)) (text_itself f.name), stand_behind f more more distinct.0 (all_stand more distinct.1))
+    (ap (λ b. cond b (Some f) (feature_of more f.name)) (text_itself f.name), stand_after f more more distinct.0 (all_stand more distinct.1))
 
 -- what is said of a name is said of the feature
 pub has_itself : (a : Attribute) (table : List Declared) (f : Declared) → feature_of table f.name ≡ Some f → is_with a table f.name ≡ has a f.attributes
@@ -74,29 +74,29 @@ written_value (f ∷ more) v q distinct = go (written_value more v q distinct.1)
     rest : List Pair
     rest = filter_map (pair_of v) more
 
-    none_behind : q ≡ f.name → (gs : List Declared) → AllByRecursion (λ other. is_named f.name other ≡ false) gs → feature_of gs q ≡ None
-    none_behind e [] apart = refl
-    none_behind e (g ∷ gs) apart = ap (λ b. cond b (Some g) (feature_of gs q)) (ap (λ n. bytes_eq n g.name) e ∙ apart.0) ∙ none_behind e gs apart.1
+    none_after : q ≡ f.name → (gs : List Declared) → AllByRecursion (λ other. is_named f.name other ≡ false) gs → feature_of gs q ≡ None
+    none_after e [] apart = refl
+    none_after e (g ∷ gs) apart = ap (λ b. cond b (Some g) (feature_of gs q)) (ap (λ n. bytes_eq n g.name) e ∙ apart.0) ∙ none_after e gs apart.1
 
-    Behind : Type 0
-    Behind = value_of rest q ≡ option_and_then (λ g. cond (has Free g.attributes) None (v q)) (feature_of more q)
+    After : Type 0
+    After = value_of rest q ≡ option_and_then (λ g. cond (has Free g.attributes) None (v q)) (feature_of more q)
 
-    nothing : Behind → q ≡ f.name → value_of rest q ≡ None
-    nothing behind e = behind ∙ ap (option_and_then (λ g. cond (has Free g.attributes) None (v q))) (none_behind e more distinct.0)
+    nothing : After → q ≡ f.name → value_of rest q ≡ None
+    nothing after e = after ∙ ap (option_and_then (λ g. cond (has Free g.attributes) None (v q))) (none_after e more distinct.0)
 
-    here : Behind → (b : Bool) (o : Option (List ℕ)) → bytes_eq q f.name ≡ true → v f.name ≡ o → value_of (cons_option (cond {A = Option Pair} b None (option_map (λ x. (f.name, x)) o)) rest) q ≡ cond b None o
-    here behind true o t e = nothing behind (text_is q f.name t)
-    here behind false None t e = nothing behind (text_is q f.name t)
-    here behind false (Some x) t e = ap (λ c. cond c (Some x) (value_of rest q)) t
+    here : After → (b : Bool) (o : Option (List ℕ)) → bytes_eq q f.name ≡ true → v f.name ≡ o → value_of (cons_option (cond {A = Option Pair} b None (option_map (λ x. (f.name, x)) o)) rest) q ≡ cond b None o
+    here after true o t e = nothing after (text_is q f.name t)
+    here after false None t e = nothing after (text_is q f.name t)
+    here after false (Some x) t e = ap (λ c. cond c (Some x) (value_of rest q)) t
 
     skip : (b : Bool) (o : Option (List ℕ)) → bytes_eq q f.name ≡ false → value_of (cons_option (cond {A = Option Pair} b None (option_map (λ x. (f.name, x)) o)) rest) q ≡ value_of rest q
     skip true o t = refl
     skip false None t = refl
     skip false (Some x) t = ap (λ c. cond c (Some x) (value_of rest q)) t
 
-    go : Behind → (b : Bool) → bytes_eq q f.name ≡ b → value_of (cons_option (pair_of v f) rest) q ≡ option_and_then (λ g. cond (has Free g.attributes) None (v q)) (cond b (Some f) (feature_of more q))
-    go behind true t = here behind (has Free f.attributes) (v f.name) t refl ∙ ap (λ n. cond (has Free f.attributes) None (v n)) (sym (text_is q f.name t))
-    go behind false t = skip (has Free f.attributes) (v f.name) t ∙ behind
+    go : After → (b : Bool) → bytes_eq q f.name ≡ b → value_of (cons_option (pair_of v f) rest) q ≡ option_and_then (λ g. cond (has Free g.attributes) None (v q)) (cond b (Some f) (feature_of more q))
+    go after true t = here after (has Free f.attributes) (v f.name) t refl ∙ ap (λ n. cond (has Free f.attributes) None (v n)) (sym (text_is q f.name t))
+    go after false t = skip (has Free f.attributes) (v f.name) t ∙ after
 
 -- the value that a written list has of a feature that is not free, where its free pairs are free
 pub value_written : (table : List Declared) (v : List ℕ → Option (List ℕ)) (free : List Pair) → HasDistinctNames table → free_of table free ≡ free → (f : Declared) → feature_of table f.name ≡ Some f → has Free f.attributes ≡ false → value_of (written table v free) f.name ≡ v f.name
@@ -126,7 +126,7 @@ made_set table v pairs distinct = written_set table v (firsts (free_of table pai
 
 -- ---- a set of which some features are left
 
-value_of-filter : (t : List ℕ → Bool) (xs : List Pair) (q : List ℕ) → value_of (filter (λ p. t p.0) xs) q ≡ cond (t q) (value_of xs q) None
+pub value_of-filter : (t : List ℕ → Bool) (xs : List Pair) (q : List ℕ) → value_of (filter (λ p. t p.0) xs) q ≡ cond (t q) (value_of xs q) None
 value_of-filter t [] q = go (t q)
   where
     go : (b : Bool) → ◌≡◌ {A = Option (List ℕ)} None (cond b None None)

@@ -57,5 +57,5 @@ join_first pieces i x text within none is so_far =
     let taken : take i pieces ≡ [] = ap (λ n. take n pieces) at in
     ap (λ t. t ++ x) (so_far ∙ ap (join_with_byte 47) taken) ∙ sym (ap (join_with_byte 47) (next_take pieces i x within is ∙ ap (λ ps. ps ++ x ∷ []) taken))
 
-pub no_zero_behind : (text x : List ℕ) → HasNoZero text → HasNoZero x → HasNoZero ((text ++ 47 ∷ []) ++ x)
-no_zero_behind text x t h = All-append (λ byte. 0 < byte) (text ++ 47 ∷ []) x (All-push (λ byte. 0 < byte) text 47 t (omega arith)) h
+pub no_zero_joined : (text x : List ℕ) → HasNoZero text → HasNoZero x → HasNoZero ((text ++ 47 ∷ []) ++ x)
+no_zero_joined text x t h = All-append (λ byte. 0 < byte) (text ++ 47 ∷ []) x (All-push (λ byte. 0 < byte) text 47 t (omega arith)) h

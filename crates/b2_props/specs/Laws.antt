@@ -1,7 +1,10 @@
-use Rattle.std.specs.Prelude.{◌≡◌, List, []}
-use Rattle.b2_features.specs.Table.{Declared, HasDistinctNames}
-use Rattle.b2_props.specs.Sets.{Pair, IsSet}
-use Rattle.b2_props.specs.Refinement.{refined}
+use Rattle.std.specs.Prelude.{◌≡◌, Bool, true, false, not, ℕ, List, [], ◌++◌, reverse, Some}
+use Rattle.std.specs.Option.{option_map_or}
+use Rattle.b2_features.specs.declared.attribute.Attribute.TheVariants.{Free, Optional}
+use Rattle.b2_features.specs.Attributes.{has}
+use Rattle.b2_features.specs.Table.{Declared, HasDistinctNames, feature_of}
+use Rattle.b2_props.specs.Sets.{Pair, IsSet, value_of, free_of}
+use Rattle.b2_props.specs.Refinement.{names, components, refined}
 
 -- in a table with distinct names, a set that is refined twice by the same list is as it is after the first time
 abbrev pub RefiningTwice : Type 0
@@ -10,3 +13,29 @@ RefiningTwice = (table : List Declared) (set required : List Pair) → HasDistin
 -- no pairs are a set
 abbrev pub NoPairsAreSet : Type 0
 NoPairsAreSet = (table : List Declared) → IsSet table []
+
+-- whether a feature is there and is not free: a set has one value of it at most
+abbrev pub is_single : List Declared → List ℕ → Bool
+is_single table feature = option_map_or (λ f. not (has Free f.attributes)) (feature_of table feature) false
+
+-- each single feature that is required has its last required value
+abbrev pub HasRequired : List Declared → List Pair → List Pair → Type 0
+HasRequired table required made = (feature : List ℕ) → is_single table feature ≡ true → names required feature ≡ true → value_of made feature ≡ value_of (reverse required) feature
+
+-- a single feature that is neither required nor given by a required composite keeps its value
+abbrev pub KeepsOthers : List Declared → List Pair → List Pair → List Pair → Type 0
+KeepsOthers table set required made =
+    (feature : List ℕ) → is_single table feature ≡ true → names required feature ≡ false → names (components table required) feature ≡ false → value_of made feature ≡ value_of set feature
+
+-- a single feature that has a value keeps it
+abbrev pub KeepsValues : List Declared → List Pair → List Pair → Type 0
+KeepsValues table set made = (feature : List ℕ) → is_single table feature ≡ true → names set feature ≡ true → value_of made feature ≡ value_of set feature
+
+-- each feature that is neither free nor optional has a value
+abbrev pub HasAllValues : List Declared → List Pair → Type 0
+HasAllValues table made = (f : Declared) → feature_of table f.name ≡ Some f → has Free f.attributes ≡ false → has Optional f.attributes ≡ false → names made f.name ≡ true
+
+-- the free pairs are as before, with others after them
+pub record KeepsFree (table : List Declared) (set made : List Pair) : Type 0 where
+  pub others : List Pair
+  pub free : free_of table made ≡ free_of table set ++ others

@@ -1,9 +1,8 @@
-use Rattle.std.specs.Prelude.{ℕ, Bool, not, ◌||◌, List, [], ◌∷◌, ◌++◌, Option, None, option_map, filter, reverse, slice_get, is_some, unwrap_or, if◌then◌else◌}
+use Rattle.std.specs.Prelude.{ℕ, Bool, not, ◌||◌, List, [], ◌∷◌, ◌++◌, Option, option_map, filter, reverse, is_some, unwrap_or, if◌then◌else◌}
 use Rattle.std.specs.List.{filter_map, flat_map}
 use Rattle.std.specs.Option.{option_map_or, option_or}
-use Rattle.b2_features.specs.declared.attribute.Attribute.TheVariants.{Free, Optional}
-use Rattle.b2_features.specs.Attributes.{has}
-use Rattle.b2_features.specs.Table.{Declared, feature_of, parts_of}
+use Rattle.b2_features.specs.declared.attribute.Attribute.TheVariants.{Free}
+use Rattle.b2_features.specs.Table.{Declared, feature_of, parts_of, default_value}
 use Rattle.b2_features.specs.Faults.{is_with}
 use Rattle.b2_props.specs.Sets.{Pair, value_of, firsts, free_of, written, set_of}
 
@@ -15,11 +14,11 @@ parts_in table pair = option_map_or (λ f. unwrap_or (parts_of f pair.1) []) (fe
 abbrev pub components : List Declared → List Pair → List Pair
 components table pairs = flat_map (parts_in table) pairs
 
--- a feature that is neither free nor optional, with its first value
+-- a feature with its default, where it has one
 abbrev pub default_pair : Declared → Option Pair
-default_pair f = if has Free f.attributes || has Optional f.attributes then None else option_map (λ v. (f.name, v)) (slice_get f.values 0)
+default_pair f = option_map (λ v. (f.name, v)) (default_value f)
 
--- the defaults of all such features
+-- the defaults of all features
 abbrev pub defaults : List Declared → List Pair
 defaults table = filter_map default_pair table
 
@@ -35,7 +34,7 @@ names pairs feature = is_some (value_of pairs feature)
 abbrev pub brought : List Declared → List Pair → Pair → List Pair
 brought table taken pair = filter (λ part. is_with Free table part.0 || not (names taken part.0)) (parts_in table pair)
 
--- some required pairs, each with what it brings behind it; the components of each are taken for the later ones
+-- some required pairs, each followed by what it brings; the components of each are taken for the later ones
 abbrev pub completed_from : List Declared → List Pair → List Pair → List Pair
 completed_from table taken [] = []
 completed_from table taken (pair ∷ more) = pair ∷ brought table taken pair ++ completed_from table (taken ++ parts_in table pair) more

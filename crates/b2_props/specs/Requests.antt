@@ -47,7 +47,7 @@ is_key None key = false
 is_key (Some f) None = false
 is_key (Some f) (Some g) = bytes_eq f g
 
--- ways join the earlier ones with their key, else they stand behind all
+-- ways join the earlier ones with their key, else they stand after all others
 abbrev pub joined : List Ways → Ways → List Ways
 joined [] w = w ∷ []
 joined (v ∷ more) w = if is_key v.key w.key then record v { choices = v.choices ++ w.choices } ∷ more else v ∷ joined more w

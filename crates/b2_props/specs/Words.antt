@@ -14,11 +14,11 @@ use Rattle.b2_props.specs.Sets.{Pair}
 abbrev pub cut : ℕ → List ℕ → List (List ℕ)
 cut byte text = slice_split (λ b. b == byte) text
 
--- the sign `=`
+-- the character `=`
 abbrev pub is_equals : ℕ → Bool
 is_equals byte = byte == 61
 
--- whether a segment has a sign `=`
+-- whether a segment has a `=`
 abbrev pub is_named : List ℕ → Bool
 is_named segment = list_any is_equals segment
 
@@ -26,7 +26,7 @@ is_named segment = list_any is_equals segment
 abbrev pub is_implicit : List Declared → List ℕ → Bool
 is_implicit table value = is_some (implicit_of table value)
 
--- whether a segment gives properties: it has a sign `=`, or is implicit values with commas between them
+-- whether a segment gives properties: it has a `=`, or is implicit values with commas between them
 abbrev pub is_property : List Declared → List ℕ → Bool
 is_property table segment = is_named segment || list_all (is_implicit table) (cut 44 segment)
 
@@ -40,7 +40,7 @@ target_words table words = filter (λ word. not (is_property_word table word)) w
 
 -- ---- properties
 
--- what stands before the first `=` is the feature; the values behind it have commas between them
+-- what stands before the first `=` is the feature; the values after it have commas between them
 abbrev pub named_pairs : List ℕ → List Pair
 named_pairs segment = map (λ value. (before_first is_equals segment, value)) (cut 44 (after_first is_equals segment))
 
@@ -79,7 +79,7 @@ segment_fault table word segment = first_of (pair_fault table word) (segment_pai
 abbrev pub word_fault : List Declared → List ℕ → Option RequestFault
 word_fault table word = if is_property_word table word then first_of (segment_fault table word) (cut 47 word) else None
 
--- an answer of this kind is the one that the cause names; want of memory needs none
+-- an answer of this kind is the one that the cause names; out of memory needs none
 abbrev pub IsBy : Option RequestFault → RequestFault → Type 0
 IsBy cause OutOfMemory = Unit {0}
 IsBy cause fault = cause ≡ Some fault

@@ -2,14 +2,14 @@
 use b2_base::text::Text;
 
 /// A feature and a value, and the place of the word that gave them, counted from 0.
-#[derive(Debug, Drop)]
+#[derive(Drop)]
 pub struct Choice {
     pub pair: (Text, Text),
     pub word: usize,
 }
 
 /// Choices of which one goes into each set, and the feature of which they all are, where they join others of it.
-#[derive(Debug, Drop)]
+#[derive(Drop)]
 pub struct Factor {
     pub key: Option<Text>,
     pub choices: Vec<Choice>,

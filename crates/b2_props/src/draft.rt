@@ -1,9 +1,9 @@
 //! A set of properties in the making.
-ghost use Rattle.std.specs.Prelude.{◌≡◌, ℕ, List, [], ◌∷◌, ◌++◌, None, Option, option_map, OnOk, IfOk};
+ghost use Rattle.std.specs.Prelude.{◌≡◌, ℕ, true, List, [], ◌∷◌, ◌++◌, None, Option, option_map, OnOk, IfOk};
 ghost use Rattle.std.specs.Option.{option_copied, option_to_list};
-ghost use Rattle.std.specs.List.{filter_map};
+ghost use Rattle.std.specs.List.{filter_map, list_all};
 ghost use Rattle.std.specs.FinMap as map;
-ghost use Rattle.b2_features.specs.Table.{Declared, HasDistinctNames, seen};
+ghost use Rattle.b2_features.specs.Table.{Declared, HasDistinctNames, is_whole, seen};
 ghost use Rattle.b2_features.specs.Faults.{is_with};
 ghost use Rattle.b2_props.specs.Sets.{Pair, value_of, firsts, free_of, pair_of, written};
 ghost use Rattle.b2_props.specs.Refinement.{components, default_pair, defaults};
@@ -137,18 +137,16 @@ impl Draft {
     fn add_default(&mut self, registry: &Registry, feature: &Feature) -> Result<(), OutOfMemory>
         ensures { OnOk result (Gains registry.now (option_to_list (default_pair (seen feature.now))) self.old self.new) }
     {
-        if feature.is(Attribute::Free) || feature.is(Attribute::Optional) {
-            return Ok(());
+        match feature.default_value() {
+            Some(value) => self.add(registry, &feature.name, value),
+            None => Ok(()),
         }
-        if let Some(value) = feature.default_value() {
-            self.add(registry, &feature.name, value)?;
-        }
-        Ok(())
     }
 
     /// Adds the defaults of the features that are neither free nor optional.
     pub(crate) fn add_defaults(&mut self, registry: &Registry) -> Result<(), OutOfMemory>
-        ensures { OnOk result (Gains registry.now (defaults registry.now) self.old self.new) }
+        ensures gains { OnOk result (Gains registry.now (defaults registry.now) self.old self.new) }
+        ensures whole { list_all is_whole registry.now ≡ true }
     {
         for place in 0..registry.count() {
             self.add_default(registry, registry.at(place))?;

@@ -13,7 +13,5 @@ pub mod refinement;
 pub mod request;
 pub mod request_fault;
 pub mod requirement;
-#[cfg(test)]
-mod tests;
 mod ways;
 mod words;

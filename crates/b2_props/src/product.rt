@@ -16,7 +16,7 @@ fn copy(choice: &Choice) -> Result<Choice, OutOfMemory>
     })
 }
 
-/// A row with one choice more behind it.
+/// A row followed by one choice more.
 fn longer(alloc: Global, row: &[Choice], choice: &Choice) -> Result<Vec<Choice>, OutOfMemory>
     ensures { IfOk result (λ made. made.items ≡ row.now ++ choice.now ∷ []) }
 {

@@ -1,10 +1,13 @@
 //! Sets made whole, and refined.
-ghost use Rattle.std.specs.Prelude.{◌≡◌, ℕ, List, ◌++◌, ◌||◌, not, filter, is_some, OnOk, IfOk, IsTrue};
+ghost use Rattle.std.specs.Prelude.{◌≡◌, ℕ, true, List, ◌++◌, ◌||◌, not, filter, is_some, OnOk, IfOk, IsTrue};
+ghost use Rattle.std.specs.List.{list_all};
 ghost use Rattle.std.specs.FinMap as map;
 ghost use Rattle.b2_features.specs.declared.attribute.Attribute.TheVariants.{Free};
+ghost use Rattle.b2_features.specs.Table.{HasDistinctNames, is_whole};
 ghost use Rattle.b2_features.specs.Faults.{is_with};
 ghost use Rattle.b2_props.specs.Sets.{Pair, set_of, IsSet};
 ghost use Rattle.b2_props.specs.Refinement.{names, expanded, completed, refined};
+ghost use Rattle.b2_props.specs.Laws.{HasRequired, KeepsOthers, KeepsValues, HasAllValues, KeepsFree};
 
 use crate::draft::Draft;
 use crate::lookups::{is_with, parts_in};
@@ -31,18 +34,31 @@ pub fn set_of(
     draft.into_props(alloc, registry)
 }
 
-/// A set made whole: its own pairs, then the components of its composites in order, then the defaults of the features that
-/// are neither free nor optional. A feature that is not free keeps the first of its values.
-pub fn expand(alloc: Global, registry: &Registry, set: &Props) -> Result<Props, OutOfMemory>
-    requires { IsSet registry.now set.now }
+fn completed_set(alloc: Global, registry: &Registry, set: &Props) -> Result<Props, OutOfMemory>
+    ensures distinct { OnOk result (HasDistinctNames registry.now) }
+    ensures whole { OnOk result (list_all is_whole registry.now ≡ true) }
     ensures value { IfOk result (λ made. made ≡ expanded registry.now set.now) }
-    ensures set { IfOk result (λ made. IsSet registry.now made) }
 {
     let mut draft = Draft::new(alloc);
     draft.add_all(registry, set.pairs())?;
     draft.add_components(registry, set.pairs())?;
     draft.add_defaults(registry)?;
     draft.into_props(alloc, registry)
+}
+
+/// A set made whole: its own pairs, then the components of its composites in order, then the defaults of the features that
+/// are neither free nor optional. A feature that is not free keeps the first of its values.
+pub fn expand(alloc: Global, registry: &Registry, set: &Props) -> Result<Props, OutOfMemory>
+    requires { IsSet registry.now set.now }
+    ensures value { IfOk result (λ made. made ≡ expanded registry.now set.now) }
+    ensures set { IfOk result (λ made. IsSet registry.now made) }
+
+    // What follows of the value, in other words.
+    ensures kept { IfOk result (KeepsValues registry.now set.now) }
+    ensures all { IfOk result (HasAllValues registry.now) }
+    ensures free { IfOk result (KeepsFree registry.now set.now) }
+{
+    completed_set(alloc, registry, set)
 }
 
 /// Puts the features of some pairs among those that are taken.
@@ -72,7 +88,7 @@ fn bring(
     Ok(())
 }
 
-/// Required pairs made whole: each composite brings, behind it, its free components, and those of features that neither the
+/// Required pairs made whole: each composite is followed by its free components, and by those of features that neither the
 /// list names nor an earlier composite gives.
 fn complete(
     alloc: Global,
@@ -93,7 +109,23 @@ fn complete(
     Ok(whole)
 }
 
-/// A set refined by required pairs, which are made whole first: each composite brings, behind it, its free components, and
+fn refined_set(
+    alloc: Global,
+    registry: &Registry,
+    set: &Props,
+    required: &[(Text, Text)],
+) -> Result<Props, OutOfMemory>
+    ensures distinct { OnOk result (HasDistinctNames registry.now) }
+    ensures value { IfOk result (λ made. made ≡ refined registry.now set.now required.now) }
+{
+    let whole = complete(alloc, registry, required)?;
+    let mut draft = Draft::new(alloc);
+    draft.add_all(registry, set.pairs())?;
+    draft.put_all(registry, whole.as_slice())?;
+    draft.into_props(alloc, registry)
+}
+
+/// A set refined by required pairs, which are made whole first: each composite is followed by its free components, and by
 /// those of features that neither the list names nor an earlier composite gives. A feature that is not free has the last
 /// value of the list, else its own; the free pairs are the own ones, then the new ones. Pairs of features that are not
 /// there are passed over.
@@ -106,10 +138,11 @@ pub fn refine(
     requires { IsSet registry.now set.now }
     ensures value { IfOk result (λ made. made ≡ refined registry.now set.now required.now) }
     ensures set { IfOk result (λ made. IsSet registry.now made) }
+
+    // What follows of the value, in other words.
+    ensures required { IfOk result (HasRequired registry.now required.now) }
+    ensures others { IfOk result (KeepsOthers registry.now set.now required.now) }
+    ensures free { IfOk result (KeepsFree registry.now set.now) }
 {
-    let whole = complete(alloc, registry, required)?;
-    let mut draft = Draft::new(alloc);
-    draft.add_all(registry, set.pairs())?;
-    draft.put_all(registry, whole.as_slice())?;
-    draft.into_props(alloc, registry)
+    refined_set(alloc, registry, set, required)
 }

@@ -1,5 +1,5 @@
 //! Requests: the words of a command line as targets and sets of properties.
-ghost use Rattle.std.specs.Prelude.{◌≡◌, ℕ, List, [], ◌++◌, ◌∷◌, None, IfOk, IfErr, OnOk, OnErr, map, fold};
+ghost use Rattle.std.specs.Prelude.{◌≡◌, [], ◌++◌, ◌∷◌, None, IfOk, IfErr, OnOk, map, fold};
 ghost use Rattle.std.specs.List.{AllByRecursion};
 ghost use Rattle.b2_props.specs.Sets.{IsSet};
 ghost use Rattle.b2_props.specs.Words.{first_of, target_words, word_fault, IsBy};
@@ -15,56 +15,18 @@ use crate::request_fault::RequestFault;
 use crate::ways::WayList;
 use crate::words::{are_properties, read_segments, slashes};
 use b2_base::fault::OutOfMemory;
+use b2_base::list::List;
 use b2_base::text::Text;
 use b2_base::text_list::TextList;
 use b2_features::registry::Registry;
 use std::alloc::Global;
-use std::marker::Model;
 
-/// Sets in order, seen as the list of them.
-#[derive(Debug, Drop)]
-pub struct PropsList {
-    sets: Vec<Props>,
-}
-
-impl Model for PropsList {
-    ghost use Rattle.std.specs.Prelude.{ℕ, List};
-
-    ghost Value = { List (List (List ℕ × List ℕ)) };
-
-    ghost view = { λ l. l.sets.items };
-}
-
-impl PropsList {
-    /// No sets; takes no memory.
-    pub fn new(alloc: Global) -> PropsList
-        ensures { result ≡ [] }
-    {
-        PropsList {
-            sets: Vec::new(alloc),
-        }
-    }
-
-    /// Adds a set at the end. After an error the list is as before.
-    pub fn push(&mut self, set: Props) -> Result<(), OutOfMemory>
-        ensures ok { OnOk result (self.new ≡ self.old ++ set ∷ []) }
-        ensures err { OnErr result (self.new ≡ self.old) }
-    {
-        self.sets.push(set)?;
-        Ok(())
-    }
-
-    /// The sets in order; takes no memory.
-    pub fn as_slice(&self) -> &[Props]
-        ensures { result.now ≡ self.now }
-    {
-        self.sets.as_slice()
-    }
-}
+/// Sets in order.
+pub type PropsList = List<Props>;
 
 /// What a command line asks for: for each set in order each target in order. Without targets the project itself is asked
 /// for; there is always a set.
-#[derive(Debug, Drop)]
+#[derive(Drop)]
 pub struct Request {
     pub targets: TextList,
     pub sets: PropsList,
@@ -174,7 +136,7 @@ fn row_sets(
     Ok(made)
 }
 
-/// Reads the words of a request. A word is cut at its slashes; where each segment is a feature, a sign `=` and values with
+/// Reads the words of a request. A word is cut at its slashes; where each segment is a feature, `=` and values with
 /// commas between them, or implicit values with commas between them, it is a property word, else it names a target. Words
 /// of one segment with values of one feature that is not free count as one, at the place of the first. The sets are the
 /// product of the values, the leftmost varying slowest; without property words there is one empty set. The first property

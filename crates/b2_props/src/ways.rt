@@ -115,7 +115,7 @@ impl WayList {
         }
     }
 
-    /// Adds a factor behind all others, none of which has its key.
+    /// Adds a factor after all others, none of which has its key.
     fn push(&mut self, factor: Factor) -> Result<(), OutOfMemory>
         requires placed { IsPlaced self.old }
         requires absent { place_of factor.key (ways_in self.old) ≡ None }
@@ -141,7 +141,7 @@ impl WayList {
         Ok(())
     }
 
-    /// Joins a factor to the earlier one with its key, else adds it behind all.
+    /// Joins a factor to the earlier one with its key, else adds it after all others.
     fn join(&mut self, factor: Factor) -> Result<(), OutOfMemory>
         requires { IsPlaced self.old }
         ensures ways { OnOk result (ways_in self.new ≡ joined (ways_in self.old) (ways_of factor)) }

@@ -53,7 +53,7 @@ fn all_implicit(registry: &Registry, segment: &str) -> bool
     segment.split(',').all(|value| is_implicit(registry, value))
 }
 
-/// What stands before and behind the first `=`, where there is one.
+/// What stands before and after the first `=`, where there is one.
 fn halves(segment: &Text) -> Option<(&str, &str)>
     ensures { MatchOption result (is_named segment.now ≡ false) (λ parts. (is_named segment.now ≡ true) × (parts.0.now ≡ before_first is_equals segment.now) × (parts.1.now ≡ after_first is_equals segment.now) × HasNoZero parts.0.now × HasNoZero parts.1.now) }
 {

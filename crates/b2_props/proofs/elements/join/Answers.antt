@@ -2,7 +2,7 @@ use Rattle.std.proofs.Common.{◌≡◌, ◌∙◌, ◌++◌, ◌∷◌, ◌<◌
 use Rattle.std.proofs.lemmas.List.Elements.{All-append}
 use Rattle.std.proofs.lemmas.Str.{encode_ascii}
 use Rattle.b2_base.specs.Bytes.{HasNoZero}
-use Rattle.b2_props.proofs.Showing.{join_more, join_first, no_zero_behind}
+use Rattle.b2_props.proofs.Showing.{join_more, join_first, no_zero_joined}
 use Rattle.b2_props.proofs.elements.join.Goals as goal
 use Rattle.b2_props.proofs.elements.join.Goals.{then-i-gt0+in_ok-push, else-i-gt0}
 
@@ -18,7 +18,7 @@ loop-i-preserved c =
           let made : string_bytes c.push_str.new.self ≡ (string_bytes c.loop-i.text ++ 47 ∷ []) ++ x = c.in_ok-push_str.ensures.bytes ∙ ap₂ (λ (a b : List ℕ). a ++ b) before c.as_str.ensures.value in
           record {
             text = made ∙ join_more pieces i x (string_bytes c.loop-i.text) c.loop-i-test.true w.if-i-gt0.true c.index-pieces-i.is c.loop-i.invariant.text;
-            no_zero = subst HasNoZero (sym made) (no_zero_behind (string_bytes c.loop-i.text) x c.loop-i.invariant.no_zero no_zero);
+            no_zero = subst HasNoZero (sym made) (no_zero_joined (string_bytes c.loop-i.text) x c.loop-i.invariant.no_zero no_zero);
           }
       | else-i-gt0 w ↦
           let made : string_bytes c.push_str.new.self ≡ string_bytes c.loop-i.text ++ x = c.in_ok-push_str.ensures.bytes ∙ ap₂ (λ (a b : List ℕ). a ++ b) (ap string_bytes w.text-is) c.as_str.ensures.value in

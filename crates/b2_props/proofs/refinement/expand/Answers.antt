@@ -1,36 +1,30 @@
-use Rattle.std.proofs.Common.{◌++◌, [], List, None, sym, subst}
-use Rattle.std.proofs.lemmas.Result.{IfOk-weaker}
+use Rattle.std.proofs.Common.{◌++◌, List, sym, subst}
 use Rattle.b2_props.specs.Sets.{Pair, IsSet, value_of}
 use Rattle.b2_props.specs.Refinement.{components, defaults}
-use Rattle.b2_props.specs.Holding.{Gains, Holds}
-use Rattle.b2_props.proofs.Gaining.{gains_more}
+use Rattle.b2_props.specs.Laws.{KeepsValues, HasAllValues, KeepsFree}
 use Rattle.b2_props.proofs.SetLemmas.{made_set}
+use Rattle.b2_props.proofs.RefiningLaws.{if_both, if_three, expanded_values, expanded_all, expanded_free}
 use Rattle.b2_props.proofs.refinement.expand.Goals as goal
-
-pub returns-clause-value : goal.returns-clause-value
-returns-clause-value c =
-    let table = c.args.registry.now in
-    let set = c.args.set.now in
-    let whole : List Pair = set ++ components table set ++ defaults table in
-    let own : Gains table set c.new-draft.result c.add_all.new.self = subst (λ ps. Gains table ps c.new-draft.result c.add_all.new.self) c.pairs.ensures c.in_ok-add_all.ensures in
-    let parts : Gains table (components table set) c.add_all.new.self c.add_components.new.self =
-    subst (λ ps. Gains table (components table ps) c.add_all.new.self c.add_components.new.self) c.pairs-2.ensures c.in_ok-add_components.ensures in
-    let all : Gains table whole c.new-draft.result c.add_defaults.new.self =
-    gains_more table (set ++ components table set) (defaults table) c.new-draft.result c.add_components.new.self c.add_defaults.new.self
-    (gains_more table set (components table set) c.new-draft.result c.add_all.new.self c.add_components.new.self own parts) c.in_ok-add_defaults.ensures in
-    let holds : Holds table (value_of whole) whole c.add_defaults.new.self = all.holding (λ _. None) [] (c.new-draft.ensures table) in
-    IfOk-weaker c.into_props.result _ _ (λ made says. says (value_of whole) whole holds) c.into_props.ensures.value
 
 pub returns-clause-set : goal.returns-clause-set
 returns-clause-set c =
     let table = c.args.registry.now in
     let set = c.args.set.now in
     let whole : List Pair = set ++ components table set ++ defaults table in
-    let own : Gains table set c.new-draft.result c.add_all.new.self = subst (λ ps. Gains table ps c.new-draft.result c.add_all.new.self) c.pairs.ensures c.in_ok-add_all.ensures in
-    let parts : Gains table (components table set) c.add_all.new.self c.add_components.new.self =
-    subst (λ ps. Gains table (components table ps) c.add_all.new.self c.add_components.new.self) c.pairs-2.ensures c.in_ok-add_components.ensures in
-    let all : Gains table whole c.new-draft.result c.add_defaults.new.self =
-    gains_more table (set ++ components table set) (defaults table) c.new-draft.result c.add_components.new.self c.add_defaults.new.self
-    (gains_more table set (components table set) c.new-draft.result c.add_all.new.self c.add_components.new.self own parts) c.in_ok-add_defaults.ensures in
-    let holds : Holds table (value_of whole) whole c.add_defaults.new.self = all.holding (λ _. None) [] (c.new-draft.ensures table) in
-    IfOk-weaker c.into_props.result _ _ (λ made says. subst (IsSet table) (sym (says (value_of whole) whole holds)) (made_set table (value_of whole) whole c.into_props.ensures.distinct)) c.into_props.ensures.value
+    if_both c.completed_set.result c.completed_set.ensures.distinct c.completed_set.ensures.value (λ made distinct is. subst (IsSet table) (sym is) (made_set table (value_of whole) whole distinct))
+
+pub returns-clause-kept : goal.returns-clause-kept
+returns-clause-kept c =
+    let table = c.args.registry.now in
+    if_both c.completed_set.result c.completed_set.ensures.distinct c.completed_set.ensures.value (λ made distinct is. subst (KeepsValues table c.args.set.now) (sym is) (expanded_values table c.args.set.now distinct))
+
+pub returns-clause-all : goal.returns-clause-all
+returns-clause-all c =
+    let table = c.args.registry.now in
+    if_three c.completed_set.result c.completed_set.ensures.distinct c.completed_set.ensures.whole c.completed_set.ensures.value
+    (λ made distinct whole is. subst (HasAllValues table) (sym is) (expanded_all table c.args.set.now distinct whole))
+
+pub returns-clause-free : goal.returns-clause-free
+returns-clause-free c =
+    let table = c.args.registry.now in
+    if_both c.completed_set.result c.completed_set.ensures.distinct c.completed_set.ensures.value (λ made distinct is. subst (KeepsFree table c.args.set.now) (sym is) (expanded_free table c.args.set.now distinct c.requires))

@@ -1,23 +1,11 @@
-use Rattle.std.proofs.Common.{◌∙◌, ◌++◌, [], List, None, sym, subst, ℕ, Option, reverse}
+use Rattle.std.proofs.Common.{◌++◌, List, sym, subst, ℕ, Option, reverse}
 use Rattle.std.specs.Option.{option_or}
-use Rattle.std.proofs.lemmas.Result.{IfOk-weaker}
 use Rattle.b2_props.specs.Sets.{IsSet, value_of}
 use Rattle.b2_props.specs.Refinement.{completed}
-use Rattle.b2_props.specs.Holding.{Takes, Gains, Holds}
+use Rattle.b2_props.specs.Laws.{HasRequired, KeepsOthers, KeepsFree}
 use Rattle.b2_props.proofs.SetLemmas.{made_set}
+use Rattle.b2_props.proofs.RefiningLaws.{if_both, refined_required, refined_others, refined_free}
 use Rattle.b2_props.proofs.refinement.refine.Goals as goal
-
-pub returns-clause-value : goal.returns-clause-value
-returns-clause-value c =
-    let table = c.args.registry.now in
-    let set = c.args.set.now in
-    let whole = completed table c.args.required.now in
-    let value : List ℕ → Option (List ℕ) = λ feature. option_or (value_of (reverse whole) feature) (value_of set feature) in
-    let own : Gains table set c.new-draft.result c.add_all.new.self = subst (λ ps. Gains table ps c.new-draft.result c.add_all.new.self) c.pairs.ensures c.in_ok-add_all.ensures in
-    let first : Holds table (value_of set) set c.add_all.new.self = own.holding (λ _. None) [] (c.new-draft.ensures table) in
-    let more : Takes table whole c.add_all.new.self c.put_all.new.self = subst (λ ps. Takes table ps c.add_all.new.self c.put_all.new.self) (c.as_slice.ensures.value ∙ c.in_ok-whole.ensures) c.in_ok-put_all.ensures in
-    let holds : Holds table value (set ++ whole) c.put_all.new.self = more.holding (value_of set) set first in
-    IfOk-weaker c.into_props.result _ _ (λ made says. says value (set ++ whole) holds) c.into_props.ensures.value
 
 pub returns-clause-set : goal.returns-clause-set
 returns-clause-set c =
@@ -25,8 +13,21 @@ returns-clause-set c =
     let set = c.args.set.now in
     let whole = completed table c.args.required.now in
     let value : List ℕ → Option (List ℕ) = λ feature. option_or (value_of (reverse whole) feature) (value_of set feature) in
-    let own : Gains table set c.new-draft.result c.add_all.new.self = subst (λ ps. Gains table ps c.new-draft.result c.add_all.new.self) c.pairs.ensures c.in_ok-add_all.ensures in
-    let first : Holds table (value_of set) set c.add_all.new.self = own.holding (λ _. None) [] (c.new-draft.ensures table) in
-    let more : Takes table whole c.add_all.new.self c.put_all.new.self = subst (λ ps. Takes table ps c.add_all.new.self c.put_all.new.self) (c.as_slice.ensures.value ∙ c.in_ok-whole.ensures) c.in_ok-put_all.ensures in
-    let holds : Holds table value (set ++ whole) c.put_all.new.self = more.holding (value_of set) set first in
-    IfOk-weaker c.into_props.result _ _ (λ made says. subst (IsSet table) (sym (says value (set ++ whole) holds)) (made_set table value (set ++ whole) c.into_props.ensures.distinct)) c.into_props.ensures.value
+    if_both c.refined_set.result c.refined_set.ensures.distinct c.refined_set.ensures.value (λ made distinct is. subst (IsSet table) (sym is) (made_set table value (set ++ whole) distinct))
+
+pub returns-clause-required : goal.returns-clause-required
+returns-clause-required c =
+    let table = c.args.registry.now in
+    let required = c.args.required.now in
+    if_both c.refined_set.result c.refined_set.ensures.distinct c.refined_set.ensures.value (λ made distinct is. subst (HasRequired table required) (sym is) (refined_required table c.args.set.now required distinct))
+
+pub returns-clause-others : goal.returns-clause-others
+returns-clause-others c =
+    let table = c.args.registry.now in
+    let required = c.args.required.now in
+    if_both c.refined_set.result c.refined_set.ensures.distinct c.refined_set.ensures.value (λ made distinct is. subst (KeepsOthers table c.args.set.now required) (sym is) (refined_others table c.args.set.now required distinct))
+
+pub returns-clause-free : goal.returns-clause-free
+returns-clause-free c =
+    let table = c.args.registry.now in
+    if_both c.refined_set.result c.refined_set.ensures.distinct c.refined_set.ensures.value (λ made distinct is. subst (KeepsFree table c.args.set.now) (sym is) (refined_free table c.args.set.now c.args.required.now distinct c.requires))
