@@ -16,6 +16,7 @@ use Rattle.jam_expand.specs.Limits.{Answer, and_then, within}
 use Rattle.jam_expand.specs.Expansions.{expansion}
 use Rattle.jam_expand.specs.Bodies.{is_white, trimmed, words, spaces, woven, body_texts, body_expansion}
 use Rattle.jam_expand.specs.BodyCuts.{IsCut}
+use Rattle.jam_expand.proofs.LimitLemmas.{and_then_more}
 
 -- ---- texts with spaces between
 
@@ -37,7 +38,7 @@ pub ruleset joins = (join_more, join_first, append_assoc)
 
 -- ---- a cut text
 
--- the first word, the white space behind it and the rest
+-- the first word, the white space after it and the rest
 pub cut_at : (text word : List ℕ) (white : ℕ) (rest : List ℕ) (end : ℕ) → end ≡ position_or_len is_white text → end < length text → word ≡ slice_range text 0 end → white ≡ get_or text end 0 → rest ≡ drop (end + 1) text → IsCut text word white rest
 cut_at text word white rest end e h w b r =
     let n : ℕ = position_or_len is_white text in
@@ -100,13 +101,13 @@ word_boundary text end e h =
     let within : position_or_len is_white text < length text = subst (λ k. k < length text) e h in
     IsCharBoundary-before_ascii text end h (white_small (get_or text end 0) (ap (λ k. is_white (get_or text k 0)) e ∙ passes_at_first is_white text 0 within))
 
--- and behind it
+-- and after it
 pub rest_boundary : (text : List ℕ) (end : ℕ) → IsUtf8 text → end ≡ position_or_len is_white text → end < length text → IsCharBoundary text (end + 1)
 rest_boundary text end u e h =
     let within : position_or_len is_white text < length text = subst (λ k. k < length text) e h in
     IsCharBoundary-after_ascii text end u h (white_small (get_or text end 0) (ap (λ k. is_white (get_or text k 0)) e ∙ passes_at_first is_white text 0 within))
 
--- a text may be cut behind white space that comes first
+-- a text may be cut after white space that comes first
 pub front_boundary : (text : List ℕ) → IsUtf8 text → 0 < prefix_len is_white text → IsCharBoundary text (prefix_len is_white text)
 front_boundary text u some =
     let n : ℕ = prefix_len is_white text in
@@ -156,15 +157,11 @@ trimmed_no_zero text h = let P : ℕ → Type 0 = λ b. 0 < b in All-take P _ _ 
 
 -- ---- the texts of the words
 
-and_then_more : (first : Answer) (second third : List (List ℕ) → Answer) → and_then first (λ value. and_then (second value) third) ≡ and_then (and_then first second) third
-and_then_more (Ok value) second third = refl
-and_then_more (Err fault) second third = refl
-
 -- the texts with that of one more word
 abbrev pub with_word : (List ℕ → List (List ℕ)) → List (List ℕ) → List ℕ → Answer
 with_word names texts word = and_then (expansion names word) (λ elements. within (texts ++ join_with_byte 32 elements ∷ []))
 
-opened : (names : List ℕ → List (List ℕ)) (texts : List (List ℕ)) (word : List ℕ) (more : List (List ℕ)) → body_texts names texts (word ∷ more) ≡ and_then (with_word names texts word) (λ longer. body_texts names longer more)
+pub opened : (names : List ℕ → List (List ℕ)) (texts : List (List ℕ)) (word : List ℕ) (more : List (List ℕ)) → body_texts names texts (word ∷ more) ≡ and_then (with_word names texts word) (λ longer. body_texts names longer more)
 unfolding body_texts
 opened names texts word more = and_then_more (expansion names word) (λ elements. within (texts ++ join_with_byte 32 elements ∷ [])) (λ longer. body_texts names longer more)
 
@@ -199,7 +196,7 @@ expansion_fault names texts word fault (inr e) = inr (ap (λ found. and_then fou
 
 -- ---- texts and white space
 
--- one more text, and the white space behind it
+-- one more text, and the white space after it
 pub woven_more : (whole made with_text with_white : List ℕ) (texts : List (List ℕ)) (place : ℕ) (d text rest word : List ℕ) (white : ℕ) (more : List ℕ) → place < length texts → text ≡ get_or texts place d → IsCut rest word white more
     → with_text ≡ made ++ text → with_white ≡ with_text ++ white ∷ [] → made ++ woven (drop place texts) (spaces rest) ≡ whole → with_white ++ woven (drop (place + 1) texts) (spaces more) ≡ whole
 woven_more whole made with_text with_white texts place d text rest word white more inside here c a b so_far =

@@ -67,8 +67,8 @@ at_sign signs (byte ∷ bytes) all h = go (is_among signs byte) refl h (λ l. at
     go true e l more = among_ascii signs byte all e
     go false e l more = more (omega (arith, l))
 
-pub ascii_boundary : (whole behind : List ℕ) (first : ℕ) → IsUtf8 whole → whole ≡ first ∷ behind → first < 128 → IsCharBoundary whole 1
-ascii_boundary whole behind first utf8 e low =
+pub ascii_boundary : (whole after : List ℕ) (first : ℕ) → IsUtf8 whole → whole ≡ first ∷ after → first < 128 → IsCharBoundary whole 1
+ascii_boundary whole after first utf8 e low =
     let here : get_or whole 0 0 ≡ first = ap (λ s. get_or s 0 0) e in
     let room : 0 < length whole = omega (arith, ap length e) in
     IsCharBoundary-after_ascii whole 0 utf8 room (omega (arith, here, low))
@@ -84,6 +84,6 @@ up_to_no_zero signs bytes h = subst HasNoZero (taken signs bytes) (All-take (λ 
 pub from_on_no_zero : (signs bytes : List ℕ) → HasNoZero bytes → HasNoZero (from_on signs bytes)
 from_on_no_zero signs bytes h = subst HasNoZero (left signs bytes) (All-drop (λ byte. 0 < byte) (length (up_to signs bytes)) bytes h)
 
--- what is left behind a first byte
+-- what is left after a first byte
 pub rest_no_zero : (byte : ℕ) (bytes whole : List ℕ) → whole ≡ byte ∷ bytes → HasNoZero whole → HasNoZero bytes
 rest_no_zero byte bytes whole e h = All-drop (λ other. 0 < other) 1 (byte ∷ bytes) (subst HasNoZero e h)

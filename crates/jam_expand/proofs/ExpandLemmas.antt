@@ -11,52 +11,52 @@ use Rattle.b2_base.specs.Bytes.{HasNoZero}
 use Rattle.b2_base.specs.declared.expand_fault.ExpandFault.{ExpandFault}
 use Rattle.b2_base.specs.declared.expand_fault.ExpandFault.TheVariants as faults
 use Rattle.jam_expand.specs.Limits.{Answer, and_then, within}
-use Rattle.jam_expand.specs.Words.{Piece, text, part, inside_len, before_pieces, piece_at, pieces_behind, pieces_of, any_part, too_deep, bytes_of}
+use Rattle.jam_expand.specs.Words.{Piece, text, part, inside_len, before_pieces, piece_at, pieces_after, pieces_of, any_part, too_deep, bytes_of}
 use Rattle.jam_expand.specs.Products.{product}
 use Rattle.jam_expand.specs.Values.{values_of_all}
 use Rattle.jam_expand.specs.Expansions.{list_of, lists_of, product_of, elements_at}
 
 -- lists that were found before others
-pub behind_lists : List (List (List ℕ)) → Result (List (List (List ℕ))) ExpandFault → Result (List (List (List ℕ))) ExpandFault
-behind_lists found (Ok lists) = Ok (found ++ lists)
-behind_lists found (Err fault) = Err fault
+pub after_lists : List (List (List ℕ)) → Result (List (List (List ℕ))) ExpandFault → Result (List (List (List ℕ))) ExpandFault
+after_lists found (Ok lists) = Ok (found ++ lists)
+after_lists found (Err fault) = Err fault
 
-found_more : (found : List (List (List ℕ))) (list : List (List ℕ)) (rest : Result (List (List (List ℕ))) ExpandFault) → behind_lists found (and_then rest (λ lists. Ok (list ∷ lists))) ≡ behind_lists (found ++ list ∷ []) rest
-unfolding behind_lists
+found_more : (found : List (List (List ℕ))) (list : List (List ℕ)) (rest : Result (List (List (List ℕ))) ExpandFault) → after_lists found (and_then rest (λ lists. Ok (list ∷ lists))) ≡ after_lists (found ++ list ∷ []) rest
+unfolding after_lists
 found_more found list (Ok lists) = ap (λ s. Ok s) (sym (append_assoc found (list ∷ []) lists))
 found_more found list (Err fault) = refl
 
-pub found_nothing : (rest : Result (List (List (List ℕ))) ExpandFault) → behind_lists [] rest ≡ rest
-unfolding behind_lists
+pub found_nothing : (rest : Result (List (List (List ℕ))) ExpandFault) → after_lists [] rest ≡ rest
+unfolding after_lists
 found_nothing (Ok lists) = refl
 found_nothing (Err fault) = refl
 
 -- one more piece
 pub found_piece : (values : List ℕ → Answer) (found : List (List (List ℕ))) (pieces : List Piece) (place : ℕ) (piece d : Piece) (list : List (List ℕ)) → place < length pieces → piece ≡ get_or pieces place d → list_of values piece ≡ Ok list
-    → behind_lists (found ++ list ∷ []) (lists_of values (drop (place + 1) pieces)) ≡ behind_lists found (lists_of values (drop place pieces))
+    → after_lists (found ++ list ∷ []) (lists_of values (drop (place + 1) pieces)) ≡ after_lists found (lists_of values (drop place pieces))
 found_piece values found pieces place piece d list inside here e =
-    sym (ap (λ s. behind_lists found (lists_of values s)) (drop_more pieces place d inside ∙ ap (λ s. s ∷ drop (place + 1) pieces) (sym here))
-    ∙ ap (λ r. behind_lists found (and_then r (λ first. and_then (lists_of values (drop (place + 1) pieces)) (λ lists. Ok (first ∷ lists))))) e
+    sym (ap (λ s. after_lists found (lists_of values s)) (drop_more pieces place d inside ∙ ap (λ s. s ∷ drop (place + 1) pieces) (sym here))
+    ∙ ap (λ r. after_lists found (and_then r (λ first. and_then (lists_of values (drop (place + 1) pieces)) (λ lists. Ok (first ∷ lists))))) e
     ∙ found_more found list (lists_of values (drop (place + 1) pieces)))
 
 pub piece_fault : (values : List ℕ → Answer) (found : List (List (List ℕ))) (word : List ℕ) (place : ℕ) (piece d : Piece) (fault : ExpandFault) → place < length (pieces_of word) → piece ≡ get_or (pieces_of word) place d
-    → behind_lists found (lists_of values (drop place (pieces_of word))) ≡ lists_of values (pieces_of word)
+    → after_lists found (lists_of values (drop place (pieces_of word))) ≡ lists_of values (pieces_of word)
     → (fault ≡ faults.OutOfMemory) ⊎ (list_of values piece ≡ Err fault) → (fault ≡ faults.OutOfMemory) ⊎ (product_of values word ≡ Err fault)
-unfolding behind_lists
+unfolding after_lists
 piece_fault values found word place piece d fault inside here so_far (inl e) = inl e
 piece_fault values found word place piece d fault inside here so_far (inr e) =
     let pieces = pieces_of word in
     let all : lists_of values pieces ≡ Err fault =
-    sym so_far ∙ ap (λ s. behind_lists found (lists_of values s)) (drop_more pieces place d inside ∙ ap (λ s. s ∷ drop (place + 1) pieces) (sym here))
-    ∙ ap (λ r. behind_lists found (and_then r (λ first. and_then (lists_of values (drop (place + 1) pieces)) (λ lists. Ok (first ∷ lists))))) e in
+    sym so_far ∙ ap (λ s. after_lists found (lists_of values s)) (drop_more pieces place d inside ∙ ap (λ s. s ∷ drop (place + 1) pieces) (sym here))
+    ∙ ap (λ r. after_lists found (and_then r (λ first. and_then (lists_of values (drop (place + 1) pieces)) (λ lists. Ok (first ∷ lists))))) e in
     inr (ap (λ r. and_then r (λ lists. within (product lists))) all)
 
 pub found_all : (values : List ℕ → Answer) (found : List (List (List ℕ))) (word : List ℕ) (place : ℕ) → length (pieces_of word) ≤ place
-    → behind_lists found (lists_of values (drop place (pieces_of word))) ≡ lists_of values (pieces_of word) → product_of values word ≡ within (product found)
-unfolding behind_lists
+    → after_lists found (lists_of values (drop place (pieces_of word))) ≡ lists_of values (pieces_of word) → product_of values word ≡ within (product found)
+unfolding after_lists
 found_all values found word place end so_far =
     ap (λ r. and_then r (λ lists. within (product lists)))
-    (sym so_far ∙ ap (λ s. behind_lists found (lists_of values s)) (drop_of_length-le (pieces_of word) end) ∙ ap (λ s. Ok s) (append-nil found))
+    (sym so_far ∙ ap (λ s. after_lists found (lists_of values s)) (drop_of_length-le (pieces_of word) end) ∙ ap (λ s. Ok s) (append-nil found))
 
 -- what a part's elements give
 pub part_fault : (names : List ℕ → List (List ℕ)) (levels : ℕ) (inside : List ℕ) (fault : ExpandFault) → (fault ≡ faults.OutOfMemory) ⊎ (elements_at levels names inside ≡ Err fault)
@@ -73,13 +73,13 @@ no_zero_before byte [] h all = (no_zero_cons byte [] h (λ k d l. absurd (omega 
 no_zero_before byte (text bytes ∷ pieces) h all = (no_zero_cons byte bytes h all.0, all.1)
 no_zero_before byte (part inside ∷ pieces) h all = (no_zero_cons byte [] h (λ k d l. absurd (omega (arith, l))), all)
 
-no_zero_pieces : (skipped : ℕ) (bytes : List ℕ) → HasNoZero bytes → AllByRecursion (λ piece. HasNoZero (bytes_of piece)) (pieces_behind skipped bytes)
+no_zero_pieces : (skipped : ℕ) (bytes : List ℕ) → HasNoZero bytes → AllByRecursion (λ piece. HasNoZero (bytes_of piece)) (pieces_after skipped bytes)
 no_zero_pieces skipped [] h = tt
 no_zero_pieces (suc skipped) (byte ∷ bytes) h = no_zero_pieces skipped bytes (All-drop (λ other. 0 < other) 1 (byte ∷ bytes) h)
 no_zero_pieces zero (byte ∷ bytes) h = go (inside_len (byte ∷ bytes)) (λ skipped. no_zero_pieces skipped bytes (All-drop (λ other. 0 < other) 1 (byte ∷ bytes) h))
   where
-    go : (len : Option ℕ) → ((skipped : ℕ) → AllByRecursion (λ piece. HasNoZero (bytes_of piece)) (pieces_behind skipped bytes)) → AllByRecursion (λ piece. HasNoZero (bytes_of piece)) (piece_at len byte bytes (λ skipped. pieces_behind skipped bytes))
-    go None more = no_zero_before byte (pieces_behind 0 bytes) (h 0 0 (omega arith)) (more 0)
+    go : (len : Option ℕ) → ((skipped : ℕ) → AllByRecursion (λ piece. HasNoZero (bytes_of piece)) (pieces_after skipped bytes)) → AllByRecursion (λ piece. HasNoZero (bytes_of piece)) (piece_at len byte bytes (λ skipped. pieces_after skipped bytes))
+    go None more = no_zero_before byte (pieces_after 0 bytes) (h 0 0 (omega arith)) (more 0)
     go (Some len) more = (All-take (λ other. 0 < other) len (drop 1 bytes) (All-drop (λ other. 0 < other) 1 bytes (All-drop (λ other. 0 < other) 1 (byte ∷ bytes) h)), more (len + 2))
 
 at_place : (pieces : List Piece) (place : ℕ) (piece d : Piece) → AllByRecursion (λ other. HasNoZero (bytes_of other)) pieces → place < length pieces → piece ≡ get_or pieces place d → HasNoZero (bytes_of piece)
@@ -102,17 +102,17 @@ pub held_no_zero : (word : List ℕ) (items : List held.Piece) (place : ℕ) (d 
 held_no_zero word items place d h e l = piece_no_zero word place (shown (get_or items place d)) (shown d) h (held_within word items place e l) (held_at word items place d e)
 
 pub held_fault : (values : List ℕ → Answer) (found : List (List (List ℕ))) (word : List ℕ) (items : List held.Piece) (place : ℕ) (d : held.Piece) (fault : ExpandFault) → map shown items ≡ pieces_of word → place < length items
-    → behind_lists found (lists_of values (drop place (pieces_of word))) ≡ lists_of values (pieces_of word)
+    → after_lists found (lists_of values (drop place (pieces_of word))) ≡ lists_of values (pieces_of word)
     → (fault ≡ faults.OutOfMemory) ⊎ (list_of values (shown (get_or items place d)) ≡ Err fault) → (fault ≡ faults.OutOfMemory) ⊎ (product_of values word ≡ Err fault)
 held_fault values found word items place d fault e l so_far h = piece_fault values found word place (shown (get_or items place d)) (shown d) fault (held_within word items place e l) (held_at word items place d e) so_far h
 
 pub held_more : (values : List ℕ → Answer) (found : List (List (List ℕ))) (word : List ℕ) (items : List held.Piece) (place : ℕ) (d : held.Piece) (list : List (List ℕ)) → map shown items ≡ pieces_of word → place < length items
-    → behind_lists found (lists_of values (drop place (pieces_of word))) ≡ lists_of values (pieces_of word)
-    → list_of values (shown (get_or items place d)) ≡ Ok list → behind_lists (found ++ list ∷ []) (lists_of values (drop (place + 1) (pieces_of word))) ≡ lists_of values (pieces_of word)
+    → after_lists found (lists_of values (drop place (pieces_of word))) ≡ lists_of values (pieces_of word)
+    → list_of values (shown (get_or items place d)) ≡ Ok list → after_lists (found ++ list ∷ []) (lists_of values (drop (place + 1) (pieces_of word))) ≡ lists_of values (pieces_of word)
 held_more values found word items place d list e l so_far h = found_piece values found (pieces_of word) place (shown (get_or items place d)) (shown d) list (held_within word items place e l) (held_at word items place d e) h ∙ so_far
 
 pub held_all : (values : List ℕ → Answer) (found : List (List (List ℕ))) (word : List ℕ) (items : List held.Piece) (place : ℕ) → map shown items ≡ pieces_of word → length items ≤ place
-    → behind_lists found (lists_of values (drop place (pieces_of word))) ≡ lists_of values (pieces_of word) → product_of values word ≡ within (product found)
+    → after_lists found (lists_of values (drop place (pieces_of word))) ≡ lists_of values (pieces_of word) → product_of values word ≡ within (product found)
 held_all values found word items place e end so_far = found_all values found word place (subst (λ s. length s ≤ place) e (omega (arith, end, length-map items shown))) so_far
 
 part_more : (test : List ℕ → Bool) (word : List ℕ) (items : List held.Piece) (place : ℕ) (d : held.Piece) (inside : List ℕ) → map shown items ≡ pieces_of word → place < length items → shown (get_or items place d) ≡ part inside

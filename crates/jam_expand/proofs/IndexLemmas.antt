@@ -60,7 +60,7 @@ selected_slice from to texts =
     ∙ ap (λ kept. drop (min (from - 1) (min to (length texts))) kept) (take_bounded to texts)
     ∙ drop_bounded (from - 1) (take to texts) (min to (length texts)) (length-take to texts)
 
--- an index is cut behind its first byte, at a dash
+-- an index is cut after its first byte, at a dash
 pub index_cut : (byte : ℕ) (bytes : List ℕ) → span_of (take (length (up_to (45 ∷ []) bytes) + 1) (byte ∷ bytes)) (drop (length (up_to (45 ∷ []) bytes)) bytes) ≡ index_of (byte ∷ bytes)
 index_cut byte bytes =
     let e : length (up_to (45 ∷ []) bytes) + 1 ≡ suc (length (up_to (45 ∷ []) bytes)) = omega arith in

@@ -13,3 +13,7 @@ pub mod MergedLemmas
 pub mod SumLemmas
 pub mod ExpandLemmas
 pub mod BodyLemmas
+pub mod WordCutLemmas
+pub mod SizeLemmas
+pub mod PlainWordLemmas
+pub mod PlainBodyLemmas

@@ -3,11 +3,16 @@ use Rattle.std.proofs.Common.{◌≡◌, ℕ, ◌<◌, ◌≤◌, ◌+◌, Bool,
 use Rattle.std.proofs.lemmas.Bool.{ltb-false, lt-ltb}
 use Rattle.b2_base.specs.declared.expand_fault.ExpandFault.{ExpandFault}
 use Rattle.b2_base.specs.declared.expand_fault.ExpandFault.TheVariants as faults
-use Rattle.jam_expand.specs.Limits.{limit, first_above, unless_above, within, total, IsWithin, IsLeftBy}
+use Rattle.jam_expand.specs.Limits.{limit, Answer, and_then, first_above, unless_above, within, total, IsWithin, IsLeftBy}
 
-pub above_behind : (sum : ℕ) (texts more : List (List ℕ)) → first_above sum texts ≡ None → first_above sum (texts ++ more) ≡ first_above (total sum texts) more
-above_behind sum [] more h = refl
-above_behind sum (text ∷ texts) more h = go (ltb limit (sum + (length text + 1))) h (above_behind (sum + (length text + 1)) texts more)
+-- two steps after an answer
+pub and_then_more : (first : Answer) (second third : List (List ℕ) → Answer) → and_then first (λ value. and_then (second value) third) ≡ and_then (and_then first second) third
+and_then_more (Ok value) second third = refl
+and_then_more (Err fault) second third = refl
+
+pub above_after : (sum : ℕ) (texts more : List (List ℕ)) → first_above sum texts ≡ None → first_above sum (texts ++ more) ≡ first_above (total sum texts) more
+above_after sum [] more h = refl
+above_after sum (text ∷ texts) more h = go (ltb limit (sum + (length text + 1))) h (above_after (sum + (length text + 1)) texts more)
   where
     next : ℕ
     next = sum + (length text + 1)
@@ -27,9 +32,9 @@ above_stays sum (text ∷ texts) more bytes h = go (ltb limit (sum + (length tex
     go true h same = h
     go false h same = same h
 
-total_behind : (sum : ℕ) (texts more : List (List ℕ)) → total sum (texts ++ more) ≡ total (total sum texts) more
-total_behind sum [] more = refl
-total_behind sum (text ∷ texts) more = total_behind (sum + (length text + 1)) texts more
+total_after : (sum : ℕ) (texts more : List (List ℕ)) → total sum (texts ++ more) ≡ total (total sum texts) more
+total_after sum [] more = refl
+total_after sum (text ∷ texts) more = total_after (sum + (length text + 1)) texts more
 
 -- a sum that is not above the limit stays at most the limit
 total_small : (sum : ℕ) (texts : List (List ℕ)) → sum ≤ limit → first_above sum texts ≡ None → total sum texts ≤ limit
@@ -57,8 +62,8 @@ longer_within texts text sum next h e = go (ltb limit (sum + (length text + 1)))
     go false b e =
         let last : first_above sum (text ∷ []) ≡ None = rw b refl in
         record {
-          small = above_behind 0 texts (text ∷ []) h.small ∙ ap (λ n. first_above n (text ∷ [])) h.sum_is ∙ last;
-          sum_is = total_behind 0 texts (text ∷ []) ∙ ap (λ n. n + (length text + 1)) h.sum_is ∙ cc;
+          small = above_after 0 texts (text ∷ []) h.small ∙ ap (λ n. first_above n (text ∷ [])) h.sum_is ∙ last;
+          sum_is = total_after 0 texts (text ∷ []) ∙ ap (λ n. n + (length text + 1)) h.sum_is ∙ cc;
         }
 
 faulty : (a b : ExpandFault) → ◌≡◌ {A = Result ℕ ExpandFault} (Err a) (Err b) → ◌≡◌ {A = Result (List (List ℕ)) ExpandFault} (Err a) (Err b)
@@ -70,7 +75,7 @@ longer_above texts text sum fault h e = go (ltb limit (sum + (length text + 1)))
     go : (t : Bool) → ltb limit (sum + (length text + 1)) ≡ t → cond {A = Result ℕ ExpandFault} t (Err (faults.TooLarge (sum + (length text + 1)))) (Ok (sum + (length text + 1))) ≡ Err fault → within (texts ++ text ∷ []) ≡ Err fault
     go true b e =
         let last : first_above sum (text ∷ []) ≡ Some (sum + (length text + 1)) = rw b refl in
-        ap (unless_above (texts ++ text ∷ [])) (above_behind 0 texts (text ∷ []) h.small ∙ ap (λ n. first_above n (text ∷ [])) h.sum_is ∙ last) ∙ faulty (faults.TooLarge (sum + (length text + 1))) fault e
+        ap (unless_above (texts ++ text ∷ [])) (above_after 0 texts (text ∷ []) h.small ∙ ap (λ n. first_above n (text ∷ [])) h.sum_is ∙ last) ∙ faulty (faults.TooLarge (sum + (length text + 1))) fault e
     go false b e = cc
 
 -- a fault that a call hands on

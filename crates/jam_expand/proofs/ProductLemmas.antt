@@ -25,16 +25,16 @@ map_twice x y [] = refl
 map_twice x y (z ∷ zs) = ap (λ t. t ∷ map (λ w. (x ++ y) ++ w) zs) (append_assoc x y z) ∙ ap (λ ts. (x ++ (y ++ z)) ∷ ts) (map_twice x y zs)
 
 -- a text before a product
-pub cross_behind : (x : List ℕ) (ys zs : List (List ℕ)) → cross (map (λ y. x ++ y) ys) zs ≡ map (λ t. x ++ t) (cross ys zs)
-cross_behind x [] zs = refl
-cross_behind x (y ∷ ys) zs =
-    ap (λ s. s ++ cross (map (λ w. x ++ w) ys) zs) (map_twice x y zs) ∙ ap (λ s. map (λ t. x ++ t) (map (λ z. y ++ z) zs) ++ s) (cross_behind x ys zs)
+pub cross_after : (x : List ℕ) (ys zs : List (List ℕ)) → cross (map (λ y. x ++ y) ys) zs ≡ map (λ t. x ++ t) (cross ys zs)
+cross_after x [] zs = refl
+cross_after x (y ∷ ys) zs =
+    ap (λ s. s ++ cross (map (λ w. x ++ w) ys) zs) (map_twice x y zs) ∙ ap (λ s. map (λ t. x ++ t) (map (λ z. y ++ z) zs) ++ s) (cross_after x ys zs)
     ∙ sym (map-append (λ t. x ++ t) (map (λ z. y ++ z) zs) (cross ys zs))
 
 pub cross_assoc : (xs ys zs : List (List ℕ)) → cross (cross xs ys) zs ≡ cross xs (cross ys zs)
 cross_assoc [] ys zs = refl
 cross_assoc (x ∷ xs) ys zs =
-    cross_append (map (λ y. x ++ y) ys) (cross xs ys) zs ∙ ap (λ s. s ++ cross (cross xs ys) zs) (cross_behind x ys zs) ∙ ap (λ s. map (λ t. x ++ t) (cross ys zs) ++ s) (cross_assoc xs ys zs)
+    cross_append (map (λ y. x ++ y) ys) (cross xs ys) zs ∙ ap (λ s. s ++ cross (cross xs ys) zs) (cross_after x ys zs) ∙ ap (λ s. map (λ t. x ++ t) (cross ys zs) ++ s) (cross_assoc xs ys zs)
 
 map_nil : (zs : List (List ℕ)) → map (λ z. [] ++ z) zs ≡ zs
 map_nil [] = refl
@@ -94,7 +94,7 @@ any_front ((text ∷ more) ∷ lists) texts h =
     ap (λ b. b || list_any (λ list. eqb (length list) 0) lists) (is_filled text more)
     ∙ any_front lists texts (sym (ap (λ b. b || list_any (λ list. eqb (length list) 0) (lists ++ texts ∷ [])) (is_filled text more)) ∙ h)
 
--- texts behind a first one are longer
+-- texts after a first one are longer
 above_shorter : (sum more : ℕ) (first : List ℕ) (texts : List (List ℕ)) → sum ≤ more → first_above more (map (λ other. first ++ other) texts) ≡ None → first_above sum texts ≡ None
 above_shorter sum more first [] le h = refl
 above_shorter sum more first (text ∷ texts) le h =

@@ -28,7 +28,7 @@ map_longer first list texts place text inside here =
     ∙ ap (λ s. list ++ (map (λ other. first ++ other) (take place texts) ++ (first ++ s) ∷ [])) here
     ∙ ap (λ s. list ++ s) (sym (map-append (λ other. first ++ other) (take place texts) (get_or texts place text ∷ [])) ∙ ap (map (λ other. first ++ other)) (sym (take_more texts place text inside)))
 
--- one more text behind a first one
+-- one more text after a first one
 pub sum_text : (list : List (List ℕ)) (first : List ℕ) (others : List (List ℕ)) (place : ℕ) (other : List ℕ) (sum len next : ℕ) → place < length others → other ≡ get_or others place other
     → IsWithin (list ++ map (λ text. first ++ text) (take place others)) sum → len ≡ length first + length other → summed sum len ≡ Ok next
     → IsWithin (list ++ map (λ text. first ++ text) (take (place + 1) others)) next

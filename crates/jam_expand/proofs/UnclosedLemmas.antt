@@ -7,7 +7,7 @@ use Rattle.std.proofs.Math.ListN.{drop_of_length-le}
 use Rattle.std.proofs.lemmas.List.Elements.{All-nil, All-cons, All-append, All-same, All-take, All-weaker}
 use Rattle.std.proofs.lemmas.Bool.{ltb-true, ltb-false, lt-ltb, le-ltb, eqb-true, ne_eqb, eq-eqb}
 use Rattle.jam_expand.specs.Words.{closing, inside_len}
-use Rattle.jam_expand.specs.Unclosed.{spare_with, spare, opens, is_unclosed, unclosed_behind, ends_at}
+use Rattle.jam_expand.specs.Unclosed.{spare_with, spare, opens, is_unclosed, unclosed_after, ends_at}
 
 same_test : (a b c d : ℕ) → (a < b → c < d) → (c < d → a < b) → ltb a b ≡ ltb c d
 same_test a b c d f g = go (ltb a b) refl (ltb c d) refl
@@ -46,7 +46,7 @@ no_spare bytes = go (spare bytes) ∙ sym (closed_by_spare 0 0 bytes)
 -- How far a text has been read from its end.
 pub record IsRead (bytes : List ℕ) (at : ℕ) (places : List ℕ) (count : ℕ) (open_here : Bool) : Type 0 where
   pub within : at ≤ length bytes
-  pub places_are : places ≡ unclosed_behind at (drop at bytes)
+  pub places_are : places ≡ unclosed_after at (drop at bytes)
   pub spare_is : count ≡ spare (drop at bytes)
   pub opens_is : open_here ≡ opens (drop at bytes)
 
@@ -55,7 +55,7 @@ read_nothing bytes =
     let e : [] ≡ drop (length bytes) bytes = sym (drop_of_length-le bytes (omega arith)) in
     record {
       within = omega arith;
-      places_are = ap (unclosed_behind (length bytes)) e;
+      places_are = ap (unclosed_after (length bytes)) e;
       spare_is = ap spare e;
       opens_is = ap opens e;
     }
@@ -80,14 +80,14 @@ read_byte bytes at places count open_here byte more h here more_is =
     record {
       within = omega (arith, h.within);
       places_are = more_is ∙ ap (λ s. s ++ cond (open_here && eqb byte 36) (at ∷ []) []) h.places_are
-          ∙ ap (λ b. unclosed_behind (at + 1) (drop (at + 1) bytes) ++ cond (b && eqb byte 36) (at ∷ []) []) h.opens_is
-          ∙ ap (unclosed_behind at) (sym e);
+          ∙ ap (λ b. unclosed_after (at + 1) (drop (at + 1) bytes) ++ cond (b && eqb byte 36) (at ∷ []) []) h.opens_is
+          ∙ ap (unclosed_after at) (sym e);
       spare_is = ap (spare_with byte) h.spare_is ∙ ap spare (sym e);
       opens_is = ap (λ n. eqb byte 40 && eqb n 0) h.spare_is ∙ ap (λ b. eqb byte 40 && b) (no_spare (drop (at + 1) bytes)) ∙ ap opens (sym e);
     }
 
-pub read_all : (bytes : List ℕ) (at : ℕ) (places : List ℕ) (count : ℕ) (open_here : Bool) → IsRead bytes at places count open_here → at ≡ 0 → places ≡ unclosed_behind 0 bytes
-read_all bytes at places count open_here h e = h.places_are ∙ ap (λ n. unclosed_behind n (drop n bytes)) e
+pub read_all : (bytes : List ℕ) (at : ℕ) (places : List ℕ) (count : ℕ) (open_here : Bool) → IsRead bytes at places count open_here → at ≡ 0 → places ≡ unclosed_after 0 bytes
+read_all bytes at places count open_here h e = h.places_are ∙ ap (λ n. unclosed_after n (drop n bytes)) e
 
 none_is : {A : Type 0} (found : Option A) → is_none found ≡ true → found ≡ None
 none_is None h = refl
@@ -108,11 +108,11 @@ no_inside (dollar ∷ next ∷ bytes) h = go (eqb dollar 36) (eqb next 40) h
         both true h = refl
         both false h = h
 
-places_from : (at : ℕ) (bytes : List ℕ) → All (λ place. (at ≤ place) × (inside_len (drop (place - at) bytes) ≡ None)) (unclosed_behind at bytes)
+places_from : (at : ℕ) (bytes : List ℕ) → All (λ place. (at ≤ place) × (inside_len (drop (place - at) bytes) ≡ None)) (unclosed_after at bytes)
 places_from at [] = All-nil (λ place. (at ≤ place) × (inside_len (drop (place - at) []) ≡ None))
 places_from at (byte ∷ bytes) =
-    All-append P (unclosed_behind (at + 1) bytes) (cond (is_unclosed (byte ∷ bytes)) (at ∷ []) [])
-    (All-weaker (λ place. (at + 1 ≤ place) × (inside_len (drop (place - (at + 1)) bytes) ≡ None)) P later (unclosed_behind (at + 1) bytes) (places_from (at + 1) bytes))
+    All-append P (unclosed_after (at + 1) bytes) (cond (is_unclosed (byte ∷ bytes)) (at ∷ []) [])
+    (All-weaker (λ place. (at + 1 ≤ place) × (inside_len (drop (place - (at + 1)) bytes) ≡ None)) P later (unclosed_after (at + 1) bytes) (places_from (at + 1) bytes))
     (here (is_unclosed (byte ∷ bytes)) refl)
   where
     P : ℕ → Type 0
@@ -130,10 +130,10 @@ places_from at (byte ∷ bytes) =
         All-cons P at [] (omega arith, ap (λ n. inside_len (drop n (byte ∷ bytes))) n ∙ no_inside (byte ∷ bytes) e) (All-nil P)
 
 -- at each of the places no part begins
-pub no_parts : (word : List ℕ) → All (λ place. inside_len (drop place word) ≡ None) (unclosed_behind 0 word)
+pub no_parts : (word : List ℕ) → All (λ place. inside_len (drop place word) ≡ None) (unclosed_after 0 word)
 no_parts word =
     All-weaker (λ place. (0 ≤ place) × (inside_len (drop (place - 0) word) ≡ None)) (λ place. inside_len (drop place word) ≡ None)
-    (λ place h. let n : place ≡ place - 0 = omega arith in ap (λ n. inside_len (drop n word)) n ∙ h.1) (unclosed_behind 0 word) (places_from 0 word)
+    (λ place h. let n : place ≡ place - 0 = omega arith in ap (λ n. inside_len (drop n word)) n ∙ h.1) (unclosed_after 0 word) (places_from 0 word)
 
 pub kept_place : (places now : List ℕ) (at byte : ℕ) (open_here : Bool) → open_here ≡ true → byte ≡ 36 → now ≡ places ++ at ∷ [] → now ≡ places ++ cond (open_here && eqb byte 36) (at ∷ []) []
 kept_place places now at byte open_here e f now_is = now_is ∙ ap (λ b. places ++ cond b (at ∷ []) []) (sym (ap (λ b. b && eqb byte 36) e ∙ eq-eqb byte 36 f))

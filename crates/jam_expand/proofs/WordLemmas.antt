@@ -5,7 +5,7 @@ use Rattle.std.proofs.lemmas.List.{drop_more, take_more, get_or-drop, length-dro
 use Rattle.std.proofs.Math.ListN.{drop_of_length-le}
 use Rattle.std.proofs.lemmas.Bool.{eqb-true}
 use Rattle.std.proofs.lemmas.Str.{IsCharBoundary-before_ascii, IsCharBoundary-after_ascii}
-use Rattle.jam_expand.specs.Words.{Piece, part, closing, inside_len, literal_of, before_pieces, piece_at, pieces_behind, pieces_of}
+use Rattle.jam_expand.specs.Words.{Piece, part, closing, inside_len, literal_of, before_pieces, piece_at, pieces_after, pieces_of}
 use Rattle.jam_expand.specs.Shown.{IsPartAt}
 
 -- where a closing sign was found
@@ -15,8 +15,8 @@ pub record Closes (at found : ℕ) (bytes : List ℕ) : Type 0 where
   pub inside : passed < length bytes
   pub sign : get_or bytes passed 0 ≡ 41
 
-closes_behind : (at found byte : ℕ) (bytes : List ℕ) → Closes (at + 1) found bytes → Closes at found (byte ∷ bytes)
-closes_behind at found byte bytes h = record { passed = suc h.passed; place = omega (arith, h.place); inside = omega (arith, h.inside); sign = h.sign }
+closes_after : (at found byte : ℕ) (bytes : List ℕ) → Closes (at + 1) found bytes → Closes at found (byte ∷ bytes)
+closes_after at found byte bytes h = record { passed = suc h.passed; place = omega (arith, h.place); inside = omega (arith, h.inside); sign = h.sign }
 
 closes_here : (at found byte : ℕ) (bytes : List ℕ) → eqb byte 41 ≡ true → Some at ≡ Some found → Closes at found (byte ∷ bytes)
 closes_here at found byte bytes e h = let same : at ≡ found = cc in record { passed = 0; place = omega (arith, same); inside = omega arith; sign = eqb-true byte 41 e }
@@ -27,14 +27,14 @@ closes_at zero at found (byte ∷ bytes) h = go (eqb byte 41) refl (eqb byte 40)
   where
     go : (t : Bool) → eqb byte 41 ≡ t → (u : Bool) → cond t (Some at) (cond u (closing 1 (at + 1) bytes) (closing 0 (at + 1) bytes)) ≡ Some found → (closing 1 (at + 1) bytes ≡ Some found → Closes (at + 1) found bytes) → (closing 0 (at + 1) bytes ≡ Some found → Closes (at + 1) found bytes) → Closes at found (byte ∷ bytes)
     go true e u h deeper same = closes_here at found byte bytes e h
-    go false e true h deeper same = closes_behind at found byte bytes (deeper h)
-    go false e false h deeper same = closes_behind at found byte bytes (same h)
+    go false e true h deeper same = closes_after at found byte bytes (deeper h)
+    go false e false h deeper same = closes_after at found byte bytes (same h)
 closes_at (suc depth) at found (byte ∷ bytes) h = go (eqb byte 41) (eqb byte 40) h (closes_at depth (at + 1) found bytes) (closes_at (suc (suc depth)) (at + 1) found bytes) (closes_at (suc depth) (at + 1) found bytes)
   where
     go : (t u : Bool) → cond t (closing depth (at + 1) bytes) (cond u (closing (suc (suc depth)) (at + 1) bytes) (closing (suc depth) (at + 1) bytes)) ≡ Some found → (closing depth (at + 1) bytes ≡ Some found → Closes (at + 1) found bytes) → (closing (suc (suc depth)) (at + 1) bytes ≡ Some found → Closes (at + 1) found bytes) → (closing (suc depth) (at + 1) bytes ≡ Some found → Closes (at + 1) found bytes) → Closes at found (byte ∷ bytes)
-    go true u h less deeper same = closes_behind at found byte bytes (less h)
-    go false true h less deeper same = closes_behind at found byte bytes (deeper h)
-    go false false h less deeper same = closes_behind at found byte bytes (same h)
+    go true u h less deeper same = closes_after at found byte bytes (less h)
+    go false true h less deeper same = closes_after at found byte bytes (deeper h)
+    go false false h less deeper same = closes_after at found byte bytes (same h)
 
 -- the signs round the inside of a part
 pub record IsPartLen (bytes : List ℕ) (len : ℕ) : Type 0 where
@@ -84,20 +84,20 @@ put_part (byte ∷ literal) inside pieces = ap (before_pieces byte) (put_part li
     go [] = refl
     go (next ∷ more) = refl
 
-pub skip_behind : (skipped : ℕ) (bytes : List ℕ) → pieces_behind skipped bytes ≡ pieces_behind 0 (drop skipped bytes)
-skip_behind zero bytes = refl
-skip_behind (suc skipped) [] = refl
-skip_behind (suc skipped) (byte ∷ bytes) = skip_behind skipped bytes
+pub skip_after : (skipped : ℕ) (bytes : List ℕ) → pieces_after skipped bytes ≡ pieces_after 0 (drop skipped bytes)
+skip_after zero bytes = refl
+skip_after (suc skipped) [] = refl
+skip_after (suc skipped) (byte ∷ bytes) = skip_after skipped bytes
 
-pub behind_literal : (byte : ℕ) (bytes : List ℕ) → inside_len (byte ∷ bytes) ≡ None → pieces_behind 0 (byte ∷ bytes) ≡ before_pieces byte (pieces_behind 0 bytes)
-behind_literal byte bytes none = ap (λ found. piece_at found byte bytes (λ skipped. pieces_behind skipped bytes)) none
+pub after_literal : (byte : ℕ) (bytes : List ℕ) → inside_len (byte ∷ bytes) ≡ None → pieces_after 0 (byte ∷ bytes) ≡ before_pieces byte (pieces_after 0 bytes)
+after_literal byte bytes none = ap (λ found. piece_at found byte bytes (λ skipped. pieces_after skipped bytes)) none
 
-pub behind_part : (byte : ℕ) (bytes : List ℕ) (len : ℕ) → inside_len (byte ∷ bytes) ≡ Some len → pieces_behind 0 (byte ∷ bytes) ≡ part (take len (drop 1 bytes)) ∷ pieces_behind 0 (drop (len + 2) bytes)
-behind_part byte bytes len some = ap (λ found. piece_at found byte bytes (λ skipped. pieces_behind skipped bytes)) some ∙ ap (λ pieces. part (take len (drop 1 bytes)) ∷ pieces) (skip_behind (len + 2) bytes)
+pub after_part : (byte : ℕ) (bytes : List ℕ) (len : ℕ) → inside_len (byte ∷ bytes) ≡ Some len → pieces_after 0 (byte ∷ bytes) ≡ part (take len (drop 1 bytes)) ∷ pieces_after 0 (drop (len + 2) bytes)
+after_part byte bytes len some = ap (λ found. piece_at found byte bytes (λ skipped. pieces_after skipped bytes)) some ∙ ap (λ pieces. part (take len (drop 1 bytes)) ∷ pieces) (skip_after (len + 2) bytes)
 
 -- How far the pieces of a word have come: what was cut, and the literal text since the last part.
 pub record HasCut (word : List ℕ) (pieces : List Piece) (start at : ℕ) : Type 0 where
-  pub so_far : pieces ++ put (take (at - start) (drop start word)) (pieces_behind 0 (drop at word)) ≡ pieces_of word
+  pub so_far : pieces ++ put (take (at - start) (drop start word)) (pieces_after 0 (drop at word)) ≡ pieces_of word
   pub order : start ≤ at
   pub within : at ≤ length word
   pub boundary : 0 < start → IsCharBoundary word start
@@ -118,10 +118,10 @@ pub cut_literal : (word : List ℕ) (pieces : List Piece) (start at : ℕ) → H
 cut_literal word pieces start at h inside none =
     let e : drop at word ≡ get_or word at 0 ∷ drop (at + 1) word = drop_more word at 0 inside in
     let here : inside_len (get_or word at 0 ∷ drop (at + 1) word) ≡ None = ap inside_len (sym e) ∙ none in
-    let step : pieces_behind 0 (drop at word) ≡ before_pieces (get_or word at 0) (pieces_behind 0 (drop (at + 1) word)) = ap (pieces_behind 0) e ∙ behind_literal (get_or word at 0) (drop (at + 1) word) here in
+    let step : pieces_after 0 (drop at word) ≡ before_pieces (get_or word at 0) (pieces_after 0 (drop (at + 1) word)) = ap (pieces_after 0) e ∙ after_literal (get_or word at 0) (drop (at + 1) word) here in
     record {
-      so_far = ap (λ literal. pieces ++ put literal (pieces_behind 0 (drop (at + 1) word))) (literal_more word start at h.order inside)
-          ∙ ap (λ more. pieces ++ more) (put_more (take (at - start) (drop start word)) (get_or word at 0) (pieces_behind 0 (drop (at + 1) word)))
+      so_far = ap (λ literal. pieces ++ put literal (pieces_after 0 (drop (at + 1) word))) (literal_more word start at h.order inside)
+          ∙ ap (λ more. pieces ++ more) (put_more (take (at - start) (drop start word)) (get_or word at 0) (pieces_after 0 (drop (at + 1) word)))
           ∙ ap (λ more. pieces ++ put (take (at - start) (drop start word)) more) (sym step)
           ∙ h.so_far;
       order = omega (arith, h.order);
@@ -129,24 +129,24 @@ cut_literal word pieces start at h inside none =
       boundary = h.boundary;
     }
 
-pub cut_part : (word : List ℕ) (pieces longer : List Piece) (start at : ℕ) (inside : List ℕ) (behind : ℕ) → HasCut word pieces start at → IsPartAt word at inside behind → longer ≡ (pieces ++ literal_of (take (at - start) (drop start word))) ++ part inside ∷ [] → HasCut word longer behind behind
+pub cut_part : (word : List ℕ) (pieces longer : List Piece) (start at : ℕ) (inside : List ℕ) (after : ℕ) → HasCut word pieces start at → IsPartAt word at inside after → longer ≡ (pieces ++ literal_of (take (at - start) (drop start word))) ++ part inside ∷ [] → HasCut word longer after after
 unfolding put
-cut_part word pieces longer start at inside behind h p longer_is =
+cut_part word pieces longer start at inside after h p longer_is =
     let len = length inside in
-    let room : at < length word = omega (arith, p.behind_is, p.within) in
+    let room : at < length word = omega (arith, p.after_is, p.within) in
     let e : drop at word ≡ get_or word at 0 ∷ drop (at + 1) word = drop_more word at 0 room in
     let here : inside_len (get_or word at 0 ∷ drop (at + 1) word) ≡ Some len = ap inside_len (sym e) ∙ p.len in
     let to_inside : at + 1 + 1 ≡ at + 2 = omega arith in
-    let to_behind : at + 1 + (len + 2) ≡ behind = omega (arith, p.behind_is) in
+    let to_after : at + 1 + (len + 2) ≡ after = omega (arith, p.after_is) in
     let inner : take len (drop 1 (drop (at + 1) word)) ≡ inside = ap (take len) (drop-drop 1 (at + 1) word ∙ ap (λ n. drop n word) to_inside) ∙ sym p.inside_is in
-    let outer : drop (len + 2) (drop (at + 1) word) ≡ drop behind word = drop-drop (len + 2) (at + 1) word ∙ ap (λ n. drop n word) to_behind in
-    let step : pieces_behind 0 (drop at word) ≡ part inside ∷ pieces_behind 0 (drop behind word) =
-    ap (pieces_behind 0) e ∙ behind_part (get_or word at 0) (drop (at + 1) word) len here ∙ ap (λ s. part s ∷ pieces_behind 0 (drop (len + 2) (drop (at + 1) word))) inner ∙ ap (λ s. part inside ∷ pieces_behind 0 s) outer in
-    let nothing : behind - behind ≡ 0 = omega arith in
+    let outer : drop (len + 2) (drop (at + 1) word) ≡ drop after word = drop-drop (len + 2) (at + 1) word ∙ ap (λ n. drop n word) to_after in
+    let step : pieces_after 0 (drop at word) ≡ part inside ∷ pieces_after 0 (drop after word) =
+    ap (pieces_after 0) e ∙ after_part (get_or word at 0) (drop (at + 1) word) len here ∙ ap (λ s. part s ∷ pieces_after 0 (drop (len + 2) (drop (at + 1) word))) inner ∙ ap (λ s. part inside ∷ pieces_after 0 s) outer in
+    let nothing : after - after ≡ 0 = omega arith in
     let literal = take (at - start) (drop start word) in
-    let rest = pieces_behind 0 (drop behind word) in
+    let rest = pieces_after 0 (drop after word) in
     record {
-      so_far = ap (λ n. longer ++ put (take n (drop behind word)) rest) nothing
+      so_far = ap (λ n. longer ++ put (take n (drop after word)) rest) nothing
           ∙ ap (λ found. found ++ rest) longer_is
           ∙ append_assoc (pieces ++ literal_of literal) (part inside ∷ []) rest
           ∙ append_assoc pieces (literal_of literal) (part inside ∷ rest)
@@ -165,7 +165,7 @@ cut_all word pieces start at h end =
     let nothing : drop at word ≡ [] = drop_of_length-le word end in
     ap (λ more. pieces ++ more) (sym (put_end (drop start word)))
     ∙ ap (λ s. pieces ++ put s []) (sym literal)
-    ∙ ap (λ s. pieces ++ put (take (at - start) (drop start word)) (pieces_behind 0 s)) (sym nothing)
+    ∙ ap (λ s. pieces ++ put (take (at - start) (drop start word)) (pieces_after 0 s)) (sym nothing)
     ∙ h.so_far
 
 -- where the inside of a part may be cut out
@@ -196,7 +196,7 @@ part_places word at len utf8 inside h =
       is_at = record {
         len = h ∙ ap (λ n. Some n) (sym full);
         inside_is = ap (λ n. take n (drop (at + 2) word)) (sym full);
-        behind_is = ap (λ n. at + n + 3) (sym full);
+        after_is = ap (λ n. at + n + 3) (sym full);
         within = omega (arith, room);
         starts = IsCharBoundary-before_ascii word at inside (omega (arith, dollar));
         ends = ends;

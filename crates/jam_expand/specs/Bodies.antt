@@ -32,7 +32,7 @@ without_end text = take (length text - suffix_len is_white text) text
 abbrev pub trimmed : List ℕ → List ℕ
 trimmed text = without_end (drop (prefix_len is_white text) text)
 
--- The texts of the words, behind those of earlier ones: each is its word's elements with one space between them. As a
+-- The texts of the words, after those of earlier ones: each is its word's elements with one space between them. As a
 -- list they are within the limit, each time one is added.
 unfoldable pub body_texts : (List ℕ → List (List ℕ)) → List (List ℕ) → List (List ℕ) → Answer
 body_texts names texts [] = Ok texts

@@ -27,7 +27,7 @@ abbrev pub at_back : Option ℕ → Option Position
 at_back None = None
 at_back (Some number) = Some (Back number)
 
--- a number, counted from the back behind a `-` (45)
+-- a number, counted from the back after a `-` (45)
 abbrev pub position_of : List ℕ → Option Position
 position_of [] = None
 position_of (byte ∷ bytes) = if byte == 45 then at_back (number_of bytes) else at_front (number_of (byte ∷ bytes))
@@ -41,7 +41,7 @@ span None to = None
 span (Some from) None = None
 span (Some from) (Some to) = Some (record { from = from; to = to })
 
--- where the selection ends: at `n` itself, at the end behind a dash, or at `m`; `rest` is what stands from the dash on
+-- where the selection ends: at `n` itself, at the end after a dash, or at `m`; `rest` is what stands from the dash on
 abbrev pub end_of : List ℕ → List ℕ → Option Position
 end_of first [] = position_of first
 end_of first (dash ∷ []) = last_position
@@ -65,28 +65,28 @@ abbrev pub selected : Option Index → List (List ℕ) → List (List ℕ)
 selected None texts = texts
 selected (Some index) texts = drop (place_in (length texts) index.from - 1) (take (place_in (length texts) index.to) texts)
 
--- an index, if one stands, and the text of the modifiers behind it
+-- an index, if one stands, and the text of the modifiers after it
 abbrev pub Indexed : Type 0
 Indexed = Result (Option Index × List ℕ) ExpandFault
 
 abbrev pub bad_unless : List ℕ → Option Index → List ℕ → Indexed
-bad_unless text None behind = Err (faults.BadIndex text)
-bad_unless text (Some index) behind = Ok (Some index, behind)
+bad_unless text None after = Err (faults.BadIndex text)
+bad_unless text (Some index) after = Ok (Some index, after)
 
 abbrev pub closed_by : List ℕ → Option (List ℕ) → Indexed
 closed_by text None = Err (faults.BadIndex text)
-closed_by text (Some behind) = bad_unless text (index_of text) behind
+closed_by text (Some after) = bad_unless text (index_of text) after
 
--- behind a `]` (93) stands nothing or a `:` (58)
+-- after a `]` (93) stands nothing or a `:` (58)
 abbrev pub ended_by : List ℕ → Option (List ℕ)
 ended_by [] = Some []
 ended_by (byte ∷ bytes) = if byte == 58 then Some (byte ∷ bytes) else None
 
-abbrev pub behind_close : List ℕ → Option (List ℕ)
-behind_close [] = None
-behind_close (byte ∷ bytes) = if byte == 93 then ended_by bytes else None
+abbrev pub after_close : List ℕ → Option (List ℕ)
+after_close [] = None
+after_close (byte ∷ bytes) = if byte == 93 then ended_by bytes else None
 
--- Behind a name stands `[` (91), an index and `]`, or no index.
+-- After a name stands `[` (91), an index and `]`, or no index.
 abbrev pub indexed : List ℕ → Indexed
 indexed [] = Ok (None, [])
-indexed (byte ∷ bytes) = if byte == 91 then closed_by (up_to (93 ∷ []) bytes) (behind_close (from_on (93 ∷ []) bytes)) else Ok (None, byte ∷ bytes)
+indexed (byte ∷ bytes) = if byte == 91 then closed_by (up_to (93 ∷ []) bytes) (after_close (from_on (93 ∷ []) bytes)) else Ok (None, byte ∷ bytes)

@@ -15,4 +15,6 @@ pub mod Merged
 pub mod Expansions
 pub mod Bodies
 pub mod BodyCuts
-pub mod Pairs
+pub mod WordCuts
+pub mod Sizes
+pub mod PlainNames

@@ -3,7 +3,7 @@ use Rattle.std.specs.Prelude.{ℕ, zero, suc, ◌+◌, ◌==◌, Bool, true, fal
 use Rattle.std.specs.Str.{str_to_ascii_uppercase, str_to_ascii_lowercase, bytes_eq}
 use Rattle.b2_base.specs.declared.expand_fault.ExpandFault.{ExpandFault}
 use Rattle.b2_base.specs.declared.expand_fault.ExpandFault.TheVariants as faults
-use Rattle.jam_path.specs.Names.{parts_of, joined, grist_text, begins_with, closes_with}
+use Rattle.jam_path.specs.Names.{parts_of, grist_text, path_text, begins_with, closes_with}
 use Rattle.jam_path.specs.declared.name_parts.NameParts.{NameParts}
 use Rattle.jam_expand.specs.declared.modifiers.Choice.{Choice}
 use Rattle.jam_expand.specs.declared.modifiers.Choice.TheVariants.{Keep, Select, Replace}
@@ -47,28 +47,28 @@ abbrev pub next_modifier : List ℕ → Option Modifiers → (Modifiers → Modi
 next_modifier text None next = Err (faults.BadModifier text)
 next_modifier text (Some modifiers) next = next modifiers
 
--- the value behind an `=`, up to the next `:` (58) or the end
+-- the value after an `=`, up to the next `:` (58) or the end
 abbrev pub value_at : List ℕ → List ℕ
 value_at bytes = up_to (58 ∷ []) (drop 1 bytes)
 
--- one letter, with a value where `=` (61) follows; `next` reads on behind so many further bytes
+-- one letter, with a value where `=` (61) follows; `next` reads on after so many further bytes
 abbrev pub letter_at : ℕ → List ℕ → Modifiers → (ℕ → Modifiers → Modified) → Modified
 letter_at letter bytes modifiers next =
     if begins_with 61 bytes
     then next_modifier (letter ∷ bytes) (valued letter (value_at bytes) modifiers) (next (length (value_at bytes) + 1))
     else next_modifier (letter ∷ bytes) (alone letter modifiers) (next 0)
 
--- The modifiers that a text adds, behind some bytes that belong to a value and are skipped. A `:` divides.
-unfoldable pub modified_behind : ℕ → List ℕ → Modifiers → Modified
-modified_behind skipped [] modifiers = Ok modifiers
-modified_behind zero (byte ∷ bytes) modifiers =
-    if byte == 58 then modified_behind 0 bytes modifiers
-    else letter_at byte bytes modifiers (λ skipped more. modified_behind skipped bytes more)
-modified_behind (suc skipped) (byte ∷ bytes) modifiers = modified_behind skipped bytes modifiers
+-- The modifiers that a text adds, after some bytes that belong to a value and are skipped. A `:` divides.
+unfoldable pub modified_after : ℕ → List ℕ → Modifiers → Modified
+modified_after skipped [] modifiers = Ok modifiers
+modified_after zero (byte ∷ bytes) modifiers =
+    if byte == 58 then modified_after 0 bytes modifiers
+    else letter_at byte bytes modifiers (λ skipped more. modified_after skipped bytes more)
+modified_after (suc skipped) (byte ∷ bytes) modifiers = modified_after skipped bytes modifiers
 
 -- the modifiers that stand in a text
 abbrev pub modified : List ℕ → Modified
-modified text = modified_behind 0 text no_modifiers
+modified text = modified_after 0 text no_modifiers
 
 abbrev pub is_select : Choice → Bool
 is_select Keep = false
@@ -106,17 +106,22 @@ picked_parts modifiers name = record {
   member = if modifiers.parent then [] else picked (selects modifiers) modifiers.member name.member;
 }
 
--- What `R` puts before a name: nothing for an empty value, for `.` (46) or before a slash (47); else the value and a slash,
--- which a value that ends with one has already.
+-- `R` puts nothing before a name for an empty value, for `.` (46), or where the name begins with a slash (47)
+abbrev pub is_rooted : List ℕ → List ℕ → Bool
+is_rooted root name = not (bytes_eq root [] || bytes_eq root (46 ∷ []) || begins_with 47 name)
+
+-- a value and a slash, which one that ends with a slash has already
+abbrev pub folder_text : List ℕ → List ℕ
+folder_text root = if closes_with 47 root then root else root ++ 47 ∷ []
+
+-- what `R` puts before a name
 abbrev pub root_text : Option (List ℕ) → List ℕ → List ℕ
 root_text None name = []
-root_text (Some root) name =
-    if bytes_eq root [] || bytes_eq root (46 ∷ []) || begins_with 47 name then []
-    else (if closes_with 47 root then root else root ++ 47 ∷ [])
+root_text (Some root) name = if is_rooted root name then folder_text root else []
 
 -- the parts joined, with the root between the grist and the name
 abbrev pub rooted : Option (List ℕ) → NameParts → List ℕ
-rooted root name = grist_text name.grist ++ root_text root (joined (record name { grist = [] })) ++ joined (record name { grist = [] })
+rooted root name = grist_text name.grist ++ root_text root (path_text name) ++ path_text name
 
 -- `U`, then `L`
 abbrev pub cased : Modifiers → List ℕ → List ℕ

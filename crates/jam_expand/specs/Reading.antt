@@ -5,7 +5,7 @@ use Rattle.std.specs.Borrow.{Bor}
 use Rattle.b2_base.specs.declared.expand_fault.ExpandFault.{ExpandFault}
 use Rattle.b2_base.specs.declared.expand_fault.ExpandFault.TheVariants as faults
 use Rattle.jam_expand.specs.declared.modifiers.Modifiers.{Modifiers}
-use Rattle.jam_expand.specs.Modifiers.{modified_behind}
+use Rattle.jam_expand.specs.Modifiers.{modified_after}
 
 -- an end of a text, and not all of it
 pub record IsShorterEnd (rest text : List ℕ) : Type 0 where
@@ -16,5 +16,5 @@ pub record IsShorterEnd (rest text : List ℕ) : Type 0 where
 
 -- what is read of a text with the modifiers so far is what is read of the rest with those that were added
 abbrev pub IsReadOn : Result (Bor (List ℕ)) ExpandFault → List ℕ → Modifiers → Modifiers → Type 0
-IsReadOn (Ok rest) text before after = modified_behind 0 text before ≡ modified_behind 0 rest.now after
-IsReadOn (Err fault) text before after = (fault ≡ faults.OutOfMemory) ⊎ (modified_behind 0 text before ≡ Err fault)
+IsReadOn (Ok rest) text before after = modified_after 0 text before ≡ modified_after 0 rest.now after
+IsReadOn (Err fault) text before after = (fault ≡ faults.OutOfMemory) ⊎ (modified_after 0 text before ≡ Err fault)

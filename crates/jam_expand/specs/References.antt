@@ -1,4 +1,4 @@
--- What stands behind a name.
+-- What follows a name.
 use Rattle.std.specs.Prelude.{◌≡◌, ◌⊎◌, ℕ, List, Option, Some, None, Result, Ok, Err}
 use Rattle.std.specs.Borrow.{Bor}
 use Rattle.b2_base.specs.declared.expand_fault.ExpandFault.{ExpandFault}
@@ -13,7 +13,7 @@ use Rattle.jam_expand.specs.Modifiers.{modified}
 abbrev pub reference_of : List ℕ → Result Reference ExpandFault
 reference_of text = and_then (indexed text) (λ found. and_then (modified found.1) (λ modifiers. Ok (record { index = found.0; modifiers = modifiers })))
 
--- a call's result is the index and the text behind it, or the fault, unless memory ran out
+-- a call's result is the index and the text after it, or the fault, unless memory ran out
 abbrev pub IsIndexedBy : Result (Option Index × Bor (List ℕ)) ExpandFault → Indexed → Type 0
 IsIndexedBy (Ok found) answer = answer ≡ Ok (found.0, found.1.now)
 IsIndexedBy (Err fault) answer = (fault ≡ faults.OutOfMemory) ⊎ (answer ≡ Err fault)
@@ -21,4 +21,4 @@ IsIndexedBy (Err fault) answer = (fault ≡ faults.OutOfMemory) ⊎ (answer ≡ 
 -- a call's result is this text, or nothing
 abbrev pub IsClosedBy : Option (Bor (List ℕ)) → Option (List ℕ) → Type 0
 IsClosedBy None answer = answer ≡ None
-IsClosedBy (Some behind) answer = answer ≡ Some behind.now
+IsClosedBy (Some after) answer = answer ≡ Some after.now

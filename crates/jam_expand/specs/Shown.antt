@@ -10,10 +10,10 @@ shown (Literal bytes) = text bytes.now
 shown (Part inside) = part inside.now
 
 -- a part that begins at this place has this inside, and ends before that place
-pub record IsPartAt (word : List ℕ) (at : ℕ) (inside : List ℕ) (behind : ℕ) : Type 0 where
+pub record IsPartAt (word : List ℕ) (at : ℕ) (inside : List ℕ) (after : ℕ) : Type 0 where
   pub len : inside_len (drop at word) ≡ Some (length inside)
   pub inside_is : inside ≡ take (length inside) (drop (at + 2) word)
-  pub behind_is : behind ≡ at + length inside + 3
-  pub within : behind ≤ length word
+  pub after_is : after ≡ at + length inside + 3
+  pub within : after ≤ length word
   pub starts : IsCharBoundary word at
-  pub ends : IsCharBoundary word behind
+  pub ends : IsCharBoundary word after

@@ -3,7 +3,7 @@ use Rattle.std.specs.Prelude.{ℕ, ◌+◌, ◌-◌, ◌==◌, nat_lt, Bool, fal
 use Rattle.std.specs.Option.{is_none}
 use Rattle.jam_expand.specs.Words.{closing}
 
--- how many `)` (41) have no `(` (40) of their own, where so many have none in what stands behind the byte
+-- how many `)` (41) have no `(` (40) of their own, where so many have none in what stands after the byte
 abbrev pub spare_with : ℕ → ℕ → ℕ
 spare_with byte spare = if byte == 41 then spare + 1 else (if byte == 40 then spare - 1 else spare)
 
@@ -22,10 +22,10 @@ abbrev pub is_unclosed : List ℕ → Bool
 is_unclosed [] = false
 is_unclosed (byte ∷ bytes) = opens bytes && byte == 36
 
--- The places of each `$(` that nothing closes in a text which stands behind so many bytes, the last place first.
-abbrev pub unclosed_behind : ℕ → List ℕ → List ℕ
-unclosed_behind at [] = []
-unclosed_behind at (byte ∷ bytes) = unclosed_behind (at + 1) bytes ++ (if is_unclosed (byte ∷ bytes) then at ∷ [] else [])
+-- The places of each `$(` that nothing closes in a text which stands after so many bytes, the last place first.
+abbrev pub unclosed_after : ℕ → List ℕ → List ℕ
+unclosed_after at [] = []
+unclosed_after at (byte ∷ bytes) = unclosed_after (at + 1) bytes ++ (if is_unclosed (byte ∷ bytes) then at ∷ [] else [])
 
 -- the list ends with this place
 abbrev pub ends_at : ℕ → List ℕ → Bool

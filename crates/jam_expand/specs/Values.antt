@@ -11,11 +11,11 @@ abbrev pub values_of : (List ℕ → List (List ℕ)) → List ℕ → Answer
 values_of names text =
     and_then (reference_of (from_on (91 ∷ 58 ∷ []) text)) (λ found. Ok (edited found.modifiers (selected found.index (names (up_to (91 ∷ 58 ∷ []) text)))))
 
--- The values of some texts, joined behind a list. Each time they are joined the list is not too large.
-unfoldable pub joined_behind : (List ℕ → List (List ℕ)) → List (List ℕ) → List (List ℕ) → Answer
-joined_behind names list [] = Ok list
-joined_behind names list (text ∷ texts) = and_then (values_of names text) (λ values. and_then (within (list ++ values)) (λ longer. joined_behind names longer texts))
+-- The values of some texts, joined after a list. Each time they are joined the list is not too large.
+unfoldable pub joined_after : (List ℕ → List (List ℕ)) → List (List ℕ) → List (List ℕ) → Answer
+joined_after names list [] = Ok list
+joined_after names list (text ∷ texts) = and_then (values_of names text) (λ values. and_then (within (list ++ values)) (λ longer. joined_after names longer texts))
 
 -- the values of a part whose inside stands for these texts
 abbrev pub values_of_all : (List ℕ → List (List ℕ)) → List (List ℕ) → Answer
-values_of_all names texts = joined_behind names [] texts
+values_of_all names texts = joined_after names [] texts

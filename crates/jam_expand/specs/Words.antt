@@ -31,21 +31,21 @@ before_pieces byte [] = text (byte ∷ []) ∷ []
 before_pieces byte (text bytes ∷ pieces) = text (byte ∷ bytes) ∷ pieces
 before_pieces byte (part inside ∷ pieces) = text (byte ∷ []) ∷ part inside ∷ pieces
 
--- the pieces from a byte on: a part with what stands behind it, or a literal byte; `behind` gives the pieces that follow,
+-- the pieces from a byte on: a part with what stands after it, or a literal byte; `after` gives the pieces that follow,
 -- once so many more bytes are skipped
 abbrev pub piece_at : Option ℕ → ℕ → List ℕ → (ℕ → List Piece) → List Piece
-piece_at None byte bytes behind = before_pieces byte (behind 0)
-piece_at (Some len) byte bytes behind = part (take len (drop 1 bytes)) ∷ behind (len + 2)
+piece_at None byte bytes after = before_pieces byte (after 0)
+piece_at (Some len) byte bytes after = part (take len (drop 1 bytes)) ∷ after (len + 2)
 
--- The pieces of a word behind some bytes that belong to a part and are skipped.
-abbrev pub pieces_behind : ℕ → List ℕ → List Piece
-pieces_behind skipped [] = []
-pieces_behind zero (byte ∷ bytes) = piece_at (inside_len (byte ∷ bytes)) byte bytes (λ skipped. pieces_behind skipped bytes)
-pieces_behind (suc skipped) (byte ∷ bytes) = pieces_behind skipped bytes
+-- The pieces of a word after some bytes that belong to a part and are skipped.
+abbrev pub pieces_after : ℕ → List ℕ → List Piece
+pieces_after skipped [] = []
+pieces_after zero (byte ∷ bytes) = piece_at (inside_len (byte ∷ bytes)) byte bytes (λ skipped. pieces_after skipped bytes)
+pieces_after (suc skipped) (byte ∷ bytes) = pieces_after skipped bytes
 
 -- the pieces of a word
 abbrev pub pieces_of : List ℕ → List Piece
-pieces_of word = pieces_behind 0 word
+pieces_of word = pieces_after 0 word
 
 -- one of the parts passes
 abbrev pub any_part : (List ℕ → Bool) → List Piece → Bool

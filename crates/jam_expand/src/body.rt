@@ -1,5 +1,5 @@
 //! What the body of an action stands for.
-ghost use Rattle.std.specs.Prelude.{◌≡◌, ◌-◌, true, false, [], ◌∷◌, ◌++◌, MatchOption, IfSome, OnOk, All, IfOk, length, string_bytes};
+ghost use Rattle.std.specs.Prelude.{◌≡◌, ◌≢◌, ◌-◌, true, false, [], ◌∷◌, ◌++◌, MatchOption, IfSome, OnOk, All, Ok, IfOk, length, string_bytes};
 ghost use Rattle.std.specs.List.{join_with_byte, position_or_len, prefix_len, suffix_len};
 ghost use Rattle.b2_base.specs.Bytes.{HasNoZero};
 ghost use Rattle.jam_expand.specs.Bodies.{is_white, words, spaces, woven, trimmed, body_texts, body_expansion};
@@ -34,7 +34,7 @@ fn end_of_word(bytes: &[u8]) -> usize
     bytes.len()
 }
 
-/// The first word, the white space behind it, and what stands behind that; None where there is no white space.
+/// The first word, the white space after it, and what stands after that; None where there is no white space.
 fn cut_word(text: &str) -> Option<(&str, u8, &str)>
     ensures { MatchOption result (All (λ byte. is_white byte ≡ false) text.now) (λ c. IsCut text.now c.0.now c.1 c.2.now) }
 {
@@ -164,6 +164,16 @@ fn trim(text: &str) -> &str
     &rest[..length_without_end(rest.as_bytes())]
 }
 
+/// The text of a body.
+fn expanded<L: Look>(alloc: Global, body: &str, look: &L) -> Result<Text, ExpandFault>
+    requires { HasNoZero body.now }
+    ensures { IsGivenBy result (body_expansion (L.answer look.now) body.now) }
+{
+    let texts = body_texts(alloc, body, look)?;
+    let made = weave(alloc, texts.as_slice(), body)?;
+    Ok(Text::new(alloc, trim(made.as_str()))?)
+}
+
 /// What the body of an action stands for, where `look` knows the names.
 ///
 /// The body is cut into words at each byte of white space: 9 to 13 and 32. Each word stands for its elements with one
@@ -174,9 +184,10 @@ fn trim(text: &str) -> &str
 /// `TooLarge` where their lengths plus one each, added in order, come above 16,777,216; `bytes` is the first such sum.
 pub fn expand_body<L: Look>(alloc: Global, body: &str, look: &L) -> Result<Text, ExpandFault>
     requires { HasNoZero body.now }
-    ensures { IsGivenBy result (body_expansion (L.answer look.now) body.now) }
+    ensures exact { IsGivenBy result (body_expansion (L.answer look.now) body.now) }
+    // A body without a `$` (36) is itself, but for white space at its ends.
+    ensures itself { All (λ byte. byte ≢ 36) body.now → within (words body.now) ≡ Ok (words body.now) →
+        IsGivenBy result (Ok (trimmed body.now)) }
 {
-    let texts = body_texts(alloc, body, look)?;
-    let made = weave(alloc, texts.as_slice(), body)?;
-    Ok(Text::new(alloc, trim(made.as_str()))?)
+    expanded(alloc, body, look)
 }

@@ -1,13 +1,13 @@
 //! What modifiers make of one element.
 ghost use Rattle.std.specs.Prelude.{◌≡◌, ◌++◌, [], IfOk, OnOk, string_bytes, if◌then◌else◌};
 ghost use Rattle.b2_base.specs.Bytes.{HasNoZero};
-ghost use Rattle.jam_path.specs.Names.{parts_of, joined, grist_text};
-ghost use Rattle.jam_expand.specs.Modifiers.{is_select, is_keep, selects, takes_apart, picked, picked_parts, root_text, rooted, cased, changed};
+ghost use Rattle.jam_path.specs.Names.{parts_of};
+ghost use Rattle.jam_expand.specs.Modifiers.{is_select, is_keep, selects, takes_apart, picked, picked_parts, is_rooted, folder_text, root_text, rooted, cased, changed};
 
 use crate::modifiers::{Choice, Modifiers};
 use b2_base::fault::OutOfMemory;
 use b2_base::text::Text;
-use jam_path::name::{join, parts};
+use jam_path::name::{parts, push_grist, push_path};
 use jam_path::name_parts::NameParts;
 use std::alloc::Global;
 
@@ -15,19 +15,13 @@ impl Choice {
     fn is_keep(&self) -> bool
         ensures { result ≡ is_keep self.now }
     {
-        match self {
-            Choice::Keep => true,
-            Choice::Select | Choice::Replace(_) => false,
-        }
+        matches!(self, Choice::Keep)
     }
 
     fn is_select(&self) -> bool
         ensures { result ≡ is_select self.now }
     {
-        match self {
-            Choice::Select => true,
-            Choice::Keep | Choice::Replace(_) => false,
-        }
+        matches!(self, Choice::Select)
     }
 
     /// The part that stays where this is chosen for it, and `others` tells whether parts are selected.
@@ -117,18 +111,20 @@ impl Modifiers {
     }
 }
 
-/// Adds what the root puts before a name.
-fn push_root(text: &mut String, root: &Option<Text>, name: &str) -> Result<(), OutOfMemory>
-    ensures exact { OnOk result (string_bytes text.new ≡ string_bytes text.old ++ root_text root.now name.now) }
-    ensures no_zero { OnOk result (HasNoZero (root_text root.now name.now)) }
+/// Whether the root stands before a name.
+fn is_rooted(root: &str, name: &str) -> bool
+    ensures { result ≡ is_rooted root.now name.now }
 {
-    let Some(root) = root else {
-        return Ok(());
-    };
+    !(root.is_empty() || root == "." || name.starts_with('/'))
+}
+
+/// Adds a root, and a slash where it does not end with one.
+fn push_folder(text: &mut String, root: &Text) -> Result<(), OutOfMemory>
+    requires { HasNoZero (string_bytes text.old) }
+    ensures value { OnOk result (string_bytes text.new ≡ string_bytes text.old ++ folder_text root.now) }
+    ensures no_zero { OnOk result (HasNoZero (string_bytes text.new)) }
+{
     let root = root.as_str();
-    if root.is_empty() || root == "." || name.starts_with('/') {
-        return Ok(());
-    }
     text.push_str(root)?;
     if !root.ends_with('/') {
         text.push('/')?;
@@ -136,44 +132,29 @@ fn push_root(text: &mut String, root: &Option<Text>, name: &str) -> Result<(), O
     Ok(())
 }
 
-/// The text of a grist, with its signs.
-fn grist_text(alloc: Global, grist: Text) -> Result<Text, OutOfMemory>
-    ensures { IfOk result (λ made. made ≡ grist_text grist) }
+/// Adds what the root puts before a name.
+fn push_root(text: &mut String, root: &Option<Text>, name: &str) -> Result<(), OutOfMemory>
+    requires { HasNoZero (string_bytes text.old) }
+    ensures value { OnOk result (string_bytes text.new ≡ string_bytes text.old ++ root_text root.now name.now) }
+    ensures no_zero { OnOk result (HasNoZero (string_bytes text.new)) }
 {
-    let only = NameParts {
-        grist,
-        dir: Text::new(alloc, "")?,
-        base: Text::new(alloc, "")?,
-        suffix: Text::new(alloc, "")?,
-        member: Text::new(alloc, "")?,
-    };
-    join(alloc, &only)
+    match root {
+        Some(root) if is_rooted(root.as_str(), name) => push_folder(text, root),
+        _ => Ok(()),
+    }
 }
 
-/// The parts joined, with the root between the grist and the name.
-fn rooted(alloc: Global, root: &Option<Text>, parts: NameParts) -> Result<String, OutOfMemory>
-    ensures exact { IfOk result (λ made. string_bytes made ≡ rooted root.now parts) }
+/// The parts joined, with the root between the grist and the path.
+fn rooted(alloc: Global, root: &Option<Text>, parts: &NameParts) -> Result<String, OutOfMemory>
+    ensures exact { IfOk result (λ made. string_bytes made ≡ rooted root.now parts.now) }
     ensures no_zero { IfOk result (λ made. HasNoZero (string_bytes made)) }
 {
-    let NameParts {
-        grist,
-        dir,
-        base,
-        suffix,
-        member,
-    } = parts;
-    let grist = grist_text(alloc, grist)?;
-    let bare = NameParts {
-        grist: Text::new(alloc, "")?,
-        dir,
-        base,
-        suffix,
-        member,
-    };
-    let name = join(alloc, &bare)?;
-    let mut text = String::from_str(alloc, grist.as_str())?;
-    push_root(&mut text, root, name.as_str())?;
-    text.push_str(name.as_str())?;
+    let mut path = String::new(alloc);
+    push_path(&mut path, parts)?;
+    let mut text = String::new(alloc);
+    push_grist(&mut text, &parts.grist)?;
+    push_root(&mut text, root, path.as_str())?;
+    text.push_str(path.as_str())?;
     Ok(text)
 }
 
@@ -186,7 +167,7 @@ fn uncased(alloc: Global, modifiers: &Modifiers, element: &Text) -> Result<Strin
     if modifiers.takes_apart() {
         let name = parts(alloc, element)?;
         let kept = modifiers.picked_parts(alloc, name)?;
-        rooted(alloc, &modifiers.root, kept)
+        rooted(alloc, &modifiers.root, &kept)
     } else {
         Ok(String::from_str(alloc, element)?)
     }

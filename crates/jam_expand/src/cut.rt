@@ -22,13 +22,13 @@ pub fn len_up_to(bytes: &[u8], signs: &[u8]) -> usize
 pub fn split_before<'a>(text: &'a str, signs: &[u8]) -> (&'a str, &'a str)
     requires { IsTrue (list_all (λ sign. nat_lt sign 128) signs.now) }
     ensures before { result.0.now ≡ up_to signs.now text.now }
-    ensures behind { result.1.now ≡ from_on signs.now text.now }
+    ensures after { result.1.now ≡ from_on signs.now text.now }
     ensures utf8 { IsUtf8 result.1.now }
 {
     text.split_at(len_up_to(text.as_bytes(), signs))
 }
 
-/// The first character, where it is ASCII, and the text behind it.
+/// The first character, where it is ASCII, and the text after it.
 pub fn first_ascii(text: &str) -> Option<(u8, &str)>
     ensures exact { MatchOption result (BeginsWithout (λ byte. byte < 128) text.now) (λ found. text.now ≡ found.0 ∷ found.1.now) }
     ensures utf8 { IfSome result (λ found. IsUtf8 found.1.now) }
@@ -37,18 +37,18 @@ pub fn first_ascii(text: &str) -> Option<(u8, &str)>
     if *first >= 128 {
         return None;
     }
-    let (_, behind) = text.split_at(1);
-    Some((*first, behind))
+    let (_, after) = text.split_at(1);
+    Some((*first, after))
 }
 
-/// The text behind a sign that stands first; the sign is ASCII and not zero.
+/// The text after a sign that stands first; the sign is ASCII and not zero.
 #[tactic(auto, using(crate::proofs::CutLemmas::begins_not))]
-pub fn behind_sign(text: &str, sign: u8) -> Option<&str>
+pub fn after_sign(text: &str, sign: u8) -> Option<&str>
     requires positive { 0 < sign }
     requires ascii { sign < 128 }
-    ensures exact { MatchOption result (begins_with sign text.now ≡ false) (λ behind. text.now ≡ sign ∷ behind.now) }
-    ensures utf8 { IfSome result (λ behind. IsUtf8 behind.now) }
+    ensures exact { MatchOption result (begins_with sign text.now ≡ false) (λ after. text.now ≡ sign ∷ after.now) }
+    ensures utf8 { IfSome result (λ after. IsUtf8 after.now) }
 {
-    let (first, behind) = first_ascii(text)?;
-    if first == sign { Some(behind) } else { None }
+    let (first, after) = first_ascii(text)?;
+    if first == sign { Some(after) } else { None }
 }

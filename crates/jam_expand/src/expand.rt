@@ -1,5 +1,5 @@
 //! What a word stands for.
-ghost use Rattle.std.specs.Prelude.{◌≡◌, [], ◌∷◌, ◌++◌, IfOk, OnOk};
+ghost use Rattle.std.specs.Prelude.{◌≡◌, ◌≢◌, [], ◌∷◌, ◌++◌, All, IfOk, OnOk};
 ghost use Rattle.b2_base.specs.Bytes.{HasNoZero};
 ghost use Rattle.jam_expand.specs.Expansions.{list_of, elements_at, expansion};
 ghost use Rattle.jam_expand.specs.Limits.{and_then, within, IsGivenBy};
@@ -10,7 +10,7 @@ ghost use Rattle.jam_expand.specs.Words.{bytes_of, deeper, too_deep};
 use crate::gather::values_of_all;
 use crate::limit::Gathered;
 use crate::piece::{Piece, pieces_of};
-use crate::product::product;
+use crate::product::{product, single};
 pub use b2_base::expand_fault::ExpandFault;
 use b2_base::fault::OutOfMemory;
 use b2_base::look::Look;
@@ -46,16 +46,6 @@ fn is_deeper(alloc: Global, levels: usize, word: &str) -> Result<bool, OutOfMemo
         }
     }
     Ok(false)
-}
-
-/// The list of one text.
-fn single(alloc: Global, text: &str) -> Result<TextList, OutOfMemory>
-    requires { HasNoZero text.now }
-    ensures { IfOk result (λ list. list ≡ text.now ∷ []) }
-{
-    let mut list = TextList::new(alloc);
-    list.push(Text::new(alloc, text)?)?;
-    Ok(list)
 }
 
 fn push_list(lists: &mut Vec<TextList>, list: TextList) -> Result<(), OutOfMemory>
@@ -130,6 +120,17 @@ fn elements_at<L: Look>(
     product(alloc, lists)
 }
 
+/// The elements of a word, unless its parts are nested too deep.
+fn expanded<L: Look>(alloc: Global, word: &str, look: &L) -> Result<TextList, ExpandFault>
+    requires { HasNoZero word.now }
+    ensures { IsGivenBy result (expansion (L.answer look.now) word.now) }
+{
+    if is_deeper(alloc, LEVELS, word)? {
+        return Err(ExpandFault::TooDeep);
+    }
+    elements_at(alloc, LEVELS, word, look)
+}
+
 /// The elements of a word for what the names stand for.
 ///
 /// A word is cut into literal text and parts, each from a `$(` to the `)` that closes it; a `$(` that nothing closes is
@@ -144,10 +145,9 @@ fn elements_at<L: Look>(
 /// come above 16,777,216; `bytes` is the first such sum.
 pub fn expand<L: Look>(alloc: Global, word: &str, look: &L) -> Result<TextList, ExpandFault>
     requires { HasNoZero word.now }
-    ensures { IsGivenBy result (expansion (L.answer look.now) word.now) }
+    ensures exact { IsGivenBy result (expansion (L.answer look.now) word.now) }
+    // A word without a `$` (36) is its only element.
+    ensures itself { All (λ byte. byte ≢ 36) word.now → IsGivenBy result (within (word.now ∷ [])) }
 {
-    if is_deeper(alloc, LEVELS, word)? {
-        return Err(ExpandFault::TooDeep);
-    }
-    elements_at(alloc, LEVELS, word, look)
+    expanded(alloc, word, look)
 }

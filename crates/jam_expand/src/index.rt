@@ -46,13 +46,13 @@ fn number_of(digits: &[u8]) -> Option<usize>
     Some(value)
 }
 
-/// A number, counted from the back behind a `-`.
+/// A number, counted from the back after a `-`.
 fn position_of(text: &[u8]) -> Option<Position>
     ensures { result ≡ position_of text.now }
 {
-    let (first, behind) = text.split_first()?;
+    let (first, after) = text.split_first()?;
     if *first == b'-' {
-        let number = number_of(behind)?;
+        let number = number_of(after)?;
         return Some(Position::Back(number));
     }
     let number = number_of(text)?;
@@ -63,13 +63,13 @@ fn position_of(text: &[u8]) -> Option<Position>
 fn end_of(first: &[u8], rest: &[u8]) -> Option<Position>
     ensures { result ≡ end_of first.now rest.now }
 {
-    let Some((_, behind)) = rest.split_first() else {
+    let Some((_, after)) = rest.split_first() else {
         return position_of(first);
     };
-    if behind.is_empty() {
+    if after.is_empty() {
         return Some(Position::Back(1));
     }
-    position_of(behind)
+    position_of(after)
 }
 
 fn span_of(first: &[u8], rest: &[u8]) -> Option<Index>
@@ -84,9 +84,9 @@ fn span_of(first: &[u8], rest: &[u8]) -> Option<Index>
 pub fn index_of(text: &[u8]) -> Option<Index>
     ensures { result ≡ index_of text.now }
 {
-    let (_, behind) = text.split_first()?;
-    let len = len_up_to(behind, b"-");
-    let (_, rest) = behind.split_at(len);
+    let (_, after) = text.split_first()?;
+    let len = len_up_to(after, b"-");
+    let (_, rest) = after.split_at(len);
     span_of(&text[..len + 1], rest)
 }
 

@@ -2,20 +2,15 @@
 #![tactic(auto)]
 
 pub mod body;
-#[cfg(test)]
-mod body_tests;
 mod change;
 mod cut;
 pub mod expand;
 mod gather;
 mod glue;
 mod index;
+pub mod laws;
 mod limit;
 mod modifiers;
-#[cfg(test)]
-mod pairs;
 mod piece;
 mod product;
 mod reference;
-#[cfg(test)]
-mod tests;

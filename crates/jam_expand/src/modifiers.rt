@@ -6,7 +6,7 @@ ghost use Rattle.jam_expand.specs.Limits.{IsGivenBy};
 ghost use Rattle.jam_expand.specs.Modifiers.{no_modifiers, alone, valued, modified};
 ghost use Rattle.jam_expand.specs.Reading.{IsShorterEnd, IsReadOn};
 
-use crate::cut::{behind_sign, first_ascii, split_before};
+use crate::cut::{after_sign, first_ascii, split_before};
 use b2_base::expand_fault::ExpandFault;
 use b2_base::text::Text;
 use std::alloc::Global;
@@ -118,7 +118,7 @@ fn bad_modifier(alloc: Global, text: &str) -> ExpandFault
     }
 }
 
-/// Adds a letter with its value, and answers the text behind them; `text` begins at the letter.
+/// Adds a letter with its value, and answers the text after them; `text` begins at the letter.
 fn add_with_value<'a>(
     alloc: Global,
     modifiers: &mut Modifiers,
@@ -141,25 +141,25 @@ fn add_with_value<'a>(
     }
 }
 
-/// Adds the modifier that stands first, and answers the text behind it; `text` begins at its letter.
+/// Adds the modifier that stands first, and answers the text after it; `text` begins at its letter.
 fn add_modifier<'a>(
     alloc: Global,
     modifiers: &mut Modifiers,
     letter: u8,
     text: &'a str,
-    behind: &'a str,
+    after: &'a str,
 ) -> Result<&'a str, ExpandFault>
-    requires text { text.now ≡ letter ∷ behind.now }
+    requires text { text.now ≡ letter ∷ after.now }
     requires letter { letter ≢ 58 }
     requires no_zero { HasNoZero text.now }
     ensures read { IsReadOn result text.now modifiers.old modifiers.new }
     ensures rest { IfOk result (λ rest. IsShorterEnd rest.now text.now) }
 {
-    if let Some(valued) = behind_sign(behind, b'=') {
+    if let Some(valued) = after_sign(after, b'=') {
         return add_with_value(alloc, modifiers, letter, text, valued);
     }
     if modifiers.add_alone(letter) {
-        Ok(behind)
+        Ok(after)
     } else {
         Err(bad_modifier(alloc, text))
     }
@@ -172,11 +172,11 @@ pub fn read_modifiers(alloc: Global, text: &str) -> Result<Modifiers, ExpandFaul
 {
     let mut modifiers = Modifiers::new();
     let mut rest = text;
-    'letters: while let Some((letter, behind)) = first_ascii(rest) {
+    'letters: while let Some((letter, after)) = first_ascii(rest) {
         if letter == b':' {
-            rest = behind;
+            rest = after;
         } else {
-            rest = add_modifier(alloc, &mut modifiers, letter, rest, behind)?;
+            rest = add_modifier(alloc, &mut modifiers, letter, rest, after)?;
         }
     }
     if rest.is_empty() {

@@ -1,6 +1,6 @@
 //! A word, cut into literal text and parts.
 ghost use Rattle.std.specs.Prelude.{◌≡◌, ◌-◌, ◌^◌, ◌<◌, ◌++◌, length, drop, take, map, None, IfOk, OnOk, IfSome, IfNone, if◌then◌else◌};
-ghost use Rattle.jam_expand.specs.Unclosed.{spare_with, unclosed_behind, ends_at};
+ghost use Rattle.jam_expand.specs.Unclosed.{spare_with, unclosed_after, ends_at};
 ghost use Rattle.jam_expand.specs.Words.{closing, inside_len, literal_of, pieces_of};
 ghost use Rattle.jam_expand.specs.Shown.{shown, IsPartAt};
 
@@ -52,7 +52,7 @@ fn push_literal<'a>(pieces: &mut Vec<Piece<'a>>, text: &'a str) -> Result<(), Ou
     Ok(())
 }
 
-/// The inside of a part that begins at this place, and the place behind it.
+/// The inside of a part that begins at this place, and the place after it.
 fn part_at(word: &str, at: usize) -> Option<(&str, usize)>
     requires { at < length word.now }
     ensures found { IfSome result (λ part. IsPartAt word.now at part.0.now part.1) }
@@ -60,25 +60,27 @@ fn part_at(word: &str, at: usize) -> Option<(&str, usize)>
 {
     let (_, bytes) = word.as_bytes().split_at(at);
     let len = inside_len(bytes)?;
-    let behind = at + len + 3;
-    Some((&word[at + 2..behind - 1], behind))
+    let after = at + len + 3;
+    Some((&word[at + 2..after - 1], after))
 }
 
-/// How many `)` have no `(` of their own, where so many have none in what stands behind the byte.
+/// How many `)` have no `(` of their own, where so many have none in what stands after the byte.
 fn spare_with(byte: u8, spare: usize) -> usize
     requires { spare < 2 ^ 63 }
     ensures { result ≡ spare_with byte spare }
 {
-    match byte {
-        b')' => spare + 1,
-        b'(' => spare.saturating_sub(1),
-        _ => spare,
+    if byte == b')' {
+        spare + 1
+    } else if byte == b'(' {
+        spare.saturating_sub(1)
+    } else {
+        spare
     }
 }
 
 /// The places of each `$(` that nothing closes, the last first. One pass from the end finds them.
 fn unclosed_places(alloc: Global, bytes: &[u8]) -> Result<Vec<usize>, OutOfMemory>
-    ensures { IfOk result (λ places. places.items ≡ unclosed_behind 0 bytes.now) }
+    ensures { IfOk result (λ places. places.items ≡ unclosed_after 0 bytes.now) }
 {
     let mut places = Vec::new(alloc);
     let mut spare = 0;
@@ -124,11 +126,11 @@ pub fn pieces_of<'a>(alloc: Global, word: &'a str) -> Result<Vec<Piece<'a>>, Out
         }
         match part_at(word, at) {
             None => at += 1,
-            Some((inside, behind)) => {
+            Some((inside, after)) => {
                 push_literal(&mut pieces, &word[start..at])?;
                 pieces.push(Piece::Part(inside))?;
-                at = behind;
-                start = behind;
+                at = after;
+                start = after;
             }
         }
     }

@@ -4,7 +4,7 @@ ghost use Rattle.std.specs.List.{list_any};
 ghost use Rattle.b2_base.specs.Bytes.{HasNoZero};
 ghost use Rattle.jam_expand.specs.Heads.{head_of, heads, IsSumOf};
 ghost use Rattle.jam_expand.specs.Limits.{limit, within, IsWithin, IsGivenBy};
-ghost use Rattle.jam_expand.specs.Merged.{merged_behind};
+ghost use Rattle.jam_expand.specs.Merged.{merged_after};
 ghost use Rattle.jam_expand.specs.Products.{cross, product};
 
 use crate::limit::longer;
@@ -15,7 +15,7 @@ use b2_base::text_list::TextList;
 use std::alloc::Global;
 use std::mem;
 
-/// One text behind another.
+/// One text after another.
 fn joined(alloc: Global, first: &Text, second: &Text) -> Result<Text, OutOfMemory>
     ensures { IfOk result (λ made. made ≡ first.now ++ second.now) }
 {
@@ -24,8 +24,8 @@ fn joined(alloc: Global, first: &Text, second: &Text) -> Result<Text, OutOfMemor
     Ok(Text::from_string(text))
 }
 
-/// Adds each of the texts behind one.
-fn push_behind(
+/// Adds each of the texts after one.
+fn push_after(
     alloc: Global,
     made: &mut TextList,
     first: &Text,
@@ -45,13 +45,13 @@ fn cross(alloc: Global, texts: &[Text], others: &[Text]) -> Result<TextList, Out
 {
     let mut made = TextList::new(alloc);
     for text in texts {
-        push_behind(alloc, &mut made, text, others)?;
+        push_after(alloc, &mut made, text, others)?;
     }
     Ok(made)
 }
 
-/// The sum with the lengths of the texts behind one of this length.
-fn sum_behind(sum: u64, len: usize, others: &[Text]) -> Result<u64, ExpandFault>
+/// The sum with the lengths of the texts after one of this length.
+fn sum_after(sum: u64, len: usize, others: &[Text]) -> Result<u64, ExpandFault>
     requires { sum ≤ limit }
     ensures sum { (texts : List (List ℕ)) (first : List ℕ) → IsWithin texts sum → length first ≡ len → IsSumOf result (texts ++ map (λ other. first ++ other) others.now) }
     ensures small { IfOk result (λ sum. sum ≤ limit) }
@@ -66,7 +66,7 @@ fn sum_behind(sum: u64, len: usize, others: &[Text]) -> Result<u64, ExpandFault>
     Ok(sum)
 }
 
-/// The sum of the lengths of the products of two lists, each behind a text of length `len`.
+/// The sum of the lengths of the products of two lists, each after a text of length `len`.
 fn sum_of_cross(len: usize, texts: &[Text], others: &[Text]) -> Result<u64, ExpandFault>
     ensures { (first : List ℕ) → length first ≡ len → IsSumOf result (map (λ other. first ++ other) (cross texts.now others.now)) }
 {
@@ -75,7 +75,7 @@ fn sum_of_cross(len: usize, texts: &[Text], others: &[Text]) -> Result<u64, Expa
         let Some(len) = len.checked_add(text.as_str().len()) else {
             return Err(ExpandFault::OutOfMemory);
         };
-        sum = sum_behind(sum, len, others)?;
+        sum = sum_after(sum, len, others)?;
     }
     Ok(sum)
 }
@@ -104,12 +104,13 @@ fn heads_len(lists: &[TextList]) -> Result<usize, OutOfMemory>
     Ok(len)
 }
 
-/// The list of the empty text.
-fn one_empty(alloc: Global) -> Result<TextList, OutOfMemory>
-    ensures { IfOk result (λ list. list ≡ [] ∷ []) }
+/// The list of one text.
+pub fn single(alloc: Global, text: &str) -> Result<TextList, OutOfMemory>
+    requires { HasNoZero text.now }
+    ensures { IfOk result (λ list. list ≡ text.now ∷ []) }
 {
     let mut list = TextList::new(alloc);
-    list.push(Text::new(alloc, "")?)?;
+    list.push(Text::new(alloc, text)?)?;
     Ok(list)
 }
 
@@ -131,7 +132,7 @@ fn push_single(alloc: Global, lists: &mut Vec<TextList>, text: String) -> Result
     Ok(())
 }
 
-/// Adds a list. The only text of a list is put behind `run`; before another list `run` is added, and is empty then.
+/// Adds a list. The only text of a list is put after `run`; before another list `run` is added, and is empty then.
 fn add_list(
     alloc: Global,
     lists: &mut Vec<TextList>,
@@ -139,7 +140,7 @@ fn add_list(
     list: TextList,
 ) -> Result<(), OutOfMemory>
     requires { HasNoZero (string_bytes run.old) }
-    ensures merged { OnOk result ((rest : List (List (List ℕ))) → lists.new.items ++ merged_behind (string_bytes run.new) rest ≡ lists.old.items ++ merged_behind (string_bytes run.old) (list ∷ rest)) }
+    ensures merged { OnOk result ((rest : List (List (List ℕ))) → lists.new.items ++ merged_after (string_bytes run.new) rest ≡ lists.old.items ++ merged_after (string_bytes run.old) (list ∷ rest)) }
     ensures no_zero { OnOk result (HasNoZero (string_bytes run.new)) }
 {
     if let [text] = list.as_slice() {
@@ -155,7 +156,7 @@ fn add_list(
 /// The lists, of which those of one text that stand side by side are joined to one. None is empty, so every other list
 /// has several texts then, and the product at least doubles there: what is made on the way is a few times the product.
 fn merged(alloc: Global, lists: Vec<TextList>) -> Result<Vec<TextList>, OutOfMemory>
-    ensures { IfOk result (λ made. made.items ≡ merged_behind [] lists.items) }
+    ensures { IfOk result (λ made. made.items ≡ merged_after [] lists.items) }
 {
     let mut made = Vec::new(alloc);
     let mut run = String::new(alloc);
@@ -172,7 +173,7 @@ fn filled_product(alloc: Global, mut lists: Vec<TextList>) -> Result<TextList, E
     ensures { IsGivenBy result (within (product lists.items)) }
 {
     let mut before = heads_len(lists.as_slice())?;
-    let mut made = one_empty(alloc)?;
+    let mut made = single(alloc, "")?;
     'lists: while let Some(list) = lists.pop() {
         before -= head_len(&list);
         sum_of_cross(before, list.as_slice(), made.as_slice())?;

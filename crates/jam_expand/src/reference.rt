@@ -1,20 +1,20 @@
-//! What stands behind a name: an index and modifiers.
+//! What follows a name: an index and modifiers.
 ghost use Rattle.std.specs.Prelude.{◌≡◌, ◌⊎◌, None, MatchOption, IfOk, IfSome};
 ghost use Rattle.std.specs.Str.{IsUtf8};
 ghost use Rattle.b2_base.specs.Bytes.{HasNoZero};
 ghost use Rattle.b2_base.specs.declared.expand_fault.ExpandFault.TheVariants as faults;
-ghost use Rattle.jam_expand.specs.Indexes.{behind_close, indexed};
+ghost use Rattle.jam_expand.specs.Indexes.{after_close, indexed};
 ghost use Rattle.jam_expand.specs.Limits.{IsGivenBy};
 ghost use Rattle.jam_expand.specs.References.{reference_of, IsIndexedBy, IsClosedBy};
 
-use crate::cut::{behind_sign, split_before};
+use crate::cut::{after_sign, split_before};
 use crate::index::{Index, index_of};
 use crate::modifiers::{Modifiers, read_modifiers};
 use b2_base::expand_fault::ExpandFault;
 use b2_base::text::Text;
 use std::alloc::Global;
 
-/// What stands behind a name.
+/// What follows a name.
 #[derive(Drop)]
 pub struct Reference {
     /// Which elements are selected.
@@ -34,38 +34,38 @@ fn bad_index(alloc: Global, text: &str) -> ExpandFault
     }
 }
 
-/// The text behind a `]` that stands first, where it is empty or begins with `:`.
-fn behind_close(text: &str) -> Option<&str>
-    ensures { IsClosedBy result (behind_close text.now) }
+/// The text after a `]` that stands first, where it is empty or begins with `:`.
+fn after_close(text: &str) -> Option<&str>
+    ensures { IsClosedBy result (after_close text.now) }
 {
-    let behind = behind_sign(text, b']')?;
-    if behind.is_empty() || behind_sign(behind, b':').is_some() {
-        Some(behind)
+    let after = after_sign(text, b']')?;
+    if after.is_empty() || after_sign(after, b':').is_some() {
+        Some(after)
     } else {
         None
     }
 }
 
-/// The index that stands first, if one does, and the text of the modifiers behind it.
+/// The index that stands first, if one does, and the text of the modifiers after it.
 fn read_index(alloc: Global, text: &str) -> Result<(Option<Index>, &str), ExpandFault>
     requires { HasNoZero text.now }
     ensures read { IsIndexedBy result (indexed text.now) }
     ensures no_zero { IfOk result (λ found. HasNoZero found.1.now) }
 {
-    let Some(inside) = behind_sign(text, b'[') else {
+    let Some(inside) = after_sign(text, b'[') else {
         return Ok((None, text));
     };
     let (written, rest) = split_before(inside, b"]");
-    let Some(behind) = behind_close(rest) else {
+    let Some(after) = after_close(rest) else {
         return Err(bad_index(alloc, written));
     };
     match index_of(written.as_bytes()) {
         None => Err(bad_index(alloc, written)),
-        Some(index) => Ok((Some(index), behind)),
+        Some(index) => Ok((Some(index), after)),
     }
 }
 
-/// The index and the modifiers that stand behind a name. The index is read first.
+/// The index and the modifiers that follow a name. The index is read first.
 pub fn read_reference(alloc: Global, text: &str) -> Result<Reference, ExpandFault>
     requires { HasNoZero text.now }
     ensures { IsGivenBy result (reference_of text.now) }

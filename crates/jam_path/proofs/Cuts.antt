@@ -7,7 +7,7 @@ use Rattle.std.proofs.lemmas.List.{length-append, length-take, length-drop, get_
 use Rattle.std.proofs.lemmas.List.Sums.{suffix_len_is}
 use Rattle.std.proofs.lemmas.Str.Pattern.{NoCharPasses-char, drop_at_char}
 use Rattle.jam_path.specs.Patterns.{Lacks}
-use Rattle.jam_path.specs.Names.{has, before, behind, before_end, behind_end, begins_with, closes_with, grist_of, path_of, or_root, dir_of, file_of, has_member, without_last, member_of, stem_of, suffix_of, base_of}
+use Rattle.jam_path.specs.Names.{has, before, after, before_end, after_end, begins_with, closes_with, grist_of, path_of, or_root, dir_of, file_of, has_member, without_last, member_of, stem_of, suffix_of, base_of}
 
 -- ---- a sign that stands nowhere
 
@@ -52,9 +52,9 @@ pub before_at : (c : ℕ) (a b : List ℕ) → Lacks c a → before c (a ++ c �
 before_at c [] b h = rw (eq-eqb c c refl) refl
 before_at c (x ∷ xs) b h = rw (ne_eqb x c h.0) (grind (arith, before_at c xs b h.1))
 
-pub behind_at : (c : ℕ) (a b : List ℕ) → Lacks c a → behind c (a ++ c ∷ b) ≡ b
-behind_at c [] b h = rw (eq-eqb c c refl) refl
-behind_at c (x ∷ xs) b h = rw (ne_eqb x c h.0) (grind (arith, behind_at c xs b h.1))
+pub after_at : (c : ℕ) (a b : List ℕ) → Lacks c a → after c (a ++ c ∷ b) ≡ b
+after_at c [] b h = rw (eq-eqb c c refl) refl
+after_at c (x ∷ xs) b h = rw (ne_eqb x c h.0) (grind (arith, after_at c xs b h.1))
 
 tail_len : (c : ℕ) (a b : List ℕ) → Lacks c b → suffix_len (λ x. not (eqb x c)) (a ++ c ∷ b) ≡ length b
 tail_len c a b h =
@@ -66,8 +66,8 @@ tail_len c a b h =
 pub before_end_at : (c : ℕ) (a b : List ℕ) → Lacks c b → before_end c (a ++ c ∷ b) ≡ a
 before_end_at c a b h = rw (tail_len c a b h) (take_at a (c ∷ b) _ (omega (arith, length-append a (c ∷ b))))
 
-pub behind_end_at : (c : ℕ) (a b : List ℕ) → Lacks c b → behind_end c (a ++ c ∷ b) ≡ b
-behind_end_at c a b h = rw (tail_len c a b h, sym (append_assoc a (c ∷ []) b)) (drop_at (a ++ c ∷ []) b _ (omega (arith, length-append a (c ∷ []), length-append (a ++ c ∷ []) b)))
+pub after_end_at : (c : ℕ) (a b : List ℕ) → Lacks c b → after_end c (a ++ c ∷ b) ≡ b
+after_end_at c a b h = rw (tail_len c a b h, sym (append_assoc a (c ∷ []) b)) (drop_at (a ++ c ∷ []) b _ (omega (arith, length-append a (c ∷ []), length-append (a ++ c ∷ []) b)))
 
 -- ---- what the calls of `str` give
 
@@ -88,10 +88,10 @@ pub dir_at : (path a b : List ℕ) → path ≡ a ++ 47 ∷ b → Lacks 47 b →
 dir_at path a b e h = rw (e, has_at 47 a b, before_end_at 47 a b h) refl
 
 pub file_at : (path a b : List ℕ) → path ≡ a ++ 47 ∷ b → Lacks 47 b → file_of path ≡ b
-file_at path a b e h = rw (e, has_at 47 a b, behind_end_at 47 a b h) refl
+file_at path a b e h = rw (e, has_at 47 a b, after_end_at 47 a b h) refl
 
 pub suffix_at : (stem a b : List ℕ) → stem ≡ a ++ 46 ∷ b → Lacks 46 b → suffix_of stem ≡ 46 ∷ b
-suffix_at stem a b e h = rw (e, has_at 46 a b, behind_end_at 46 a b h) refl
+suffix_at stem a b e h = rw (e, has_at 46 a b, after_end_at 46 a b h) refl
 
 pub base_at : (stem a b : List ℕ) → stem ≡ a ++ 46 ∷ b → Lacks 46 b → base_of stem ≡ a
 base_at stem a b e h = rw (e, has_at 46 a b, before_end_at 46 a b h) refl
@@ -100,7 +100,7 @@ pub grist_at : (text a b : List ℕ) → text ≡ a ++ 62 ∷ b → Lacks 62 a �
 grist_at text a b e h f = rw (f, e, has_at 62 a b, before_at 62 a b h) refl
 
 pub path_at : (text a b : List ℕ) → text ≡ a ++ 62 ∷ b → Lacks 62 a → begins_with 60 text ≡ true → path_of text ≡ b
-path_at text a b e h f = rw (f, e, has_at 62 a b, behind_at 62 a b h) refl
+path_at text a b e h f = rw (f, e, has_at 62 a b, after_at 62 a b h) refl
 
 pub without_last_at : (a : List ℕ) (b : ℕ) → without_last (a ++ b ∷ []) ≡ a
 without_last_at [] b = refl
@@ -117,15 +117,15 @@ pub stem_at : (file a m : List ℕ) → file ≡ a ++ 40 ∷ (m ++ 41 ∷ []) �
 stem_at file a m e h = rw (has_member_at file a m e) (rw e (before_at 40 a (m ++ 41 ∷ []) h))
 
 pub member_at : (file a m : List ℕ) → file ≡ a ++ 40 ∷ (m ++ 41 ∷ []) → Lacks 40 a → member_of file ≡ m
-member_at file a m e h = rw (has_member_at file a m e) (rw (e, behind_at 40 a (m ++ 41 ∷ []) h) (without_last_at m 41))
+member_at file a m e h = rw (has_member_at file a m e) (rw (e, after_at 40 a (m ++ 41 ∷ []) h) (without_last_at m 41))
 
 -- no such sign stands before the first one
 pub lacks_before : (c : ℕ) (s : List ℕ) (k : ℕ) → k < length s → ((i : ℕ) → i < k → get_or s i 0 ≢ c) → Lacks c (take k s)
 lacks_before c s k l h = lacks_from_places c (take k s) (λ i m. let n : i < k = omega (arith, m, length-take k s) in rw (get_or-take k s i 0 n) (h i n))
 
--- no such sign stands behind the last one
-pub lacks_behind : (c : ℕ) (s : List ℕ) (k : ℕ) → ((i : ℕ) → k < i → i < length s → get_or s i 0 ≢ c) → Lacks c (drop (k + 1) s)
-lacks_behind c s k h = lacks_from_places c (drop (k + 1) s) (λ i m. rw (get_or-drop (k + 1) s i 0) (h (k + 1 + i) (omega arith) (omega (arith, m, length-drop (k + 1) s))))
+-- no such sign stands after the last one
+pub lacks_after : (c : ℕ) (s : List ℕ) (k : ℕ) → ((i : ℕ) → k < i → i < length s → get_or s i 0 ≢ c) → Lacks c (drop (k + 1) s)
+lacks_after c s k h = lacks_from_places c (drop (k + 1) s) (λ i m. rw (get_or-drop (k + 1) s i 0) (h (k + 1 + i) (omega arith) (omega (arith, m, length-drop (k + 1) s))))
 
 -- a text that does not end with `)` has no member
 last_byte : (a b : List ℕ) (c : ℕ) (k : ℕ) → length b ≡ k + 1 → get_or (a ++ c ∷ b) (length (a ++ c ∷ b) - 1) 0 ≡ get_or b k 0

@@ -5,8 +5,8 @@ use Rattle.std.proofs.lemmas.Bool.{ne_eqb, lt-leb, and_right}
 use Rattle.std.proofs.lemmas.List.{length-append, length-drop, nil_from_length, get_or_at, get_or-drop, take_at, drop_at, drop-drop}
 use Rattle.std.proofs.lemmas.Str.{encode_ascii, chars-nil, encodes-chars, chars-append, chars_past_char, IsUtf8-take, IsUtf8-drop, IsCharBoundary-before_ascii, IsCharBoundary-after_ascii}
 use Rattle.jam_path.specs.Patterns.{Lacks, is_member}
-use Rattle.jam_path.specs.Steps.{IsUnclosed, behind_dash, behind_exact, behind_class, behind_bracket}
-use Rattle.jam_path.proofs.Cuts.{has_not, has_at, before_at, behind_at, lacks_from_places}
+use Rattle.jam_path.specs.Steps.{IsUnclosed, after_dash, after_exact, after_class, after_bracket}
+use Rattle.jam_path.proofs.Cuts.{has_not, has_at, before_at, after_at, lacks_from_places}
 
 -- ---- members
 
@@ -18,7 +18,7 @@ no_dash dash more = go (eqb dash 45)
     go false e = refl
 
 -- a member that begins no range
-pub alone : (low c : ℕ) (rest : List ℕ) → behind_dash rest ≡ None → low ≢ c → is_member (low ∷ rest) c ≡ is_member rest c
+pub alone : (low c : ℕ) (rest : List ℕ) → after_dash rest ≡ None → low ≢ c → is_member (low ∷ rest) c ≡ is_member rest c
 alone low c [] e h = ne_eqb low c h
 alone low c (dash ∷ []) e h = rw (ne_eqb low c h) refl
 alone low c (dash ∷ high ∷ more) e h = rw (no_dash dash more e, ne_eqb low c h) refl
@@ -48,7 +48,7 @@ pub lacks_chars : (c : ℕ) (bytes : List ℕ) → c < 128 → IsUtf8 bytes → 
 lacks_chars c bytes small u h = lacks_spelled c (chars bytes) small (subst (Lacks c) (sym (encodes-chars bytes u)) h)
 
 -- without a `]` the bracket stands for itself
-pub open_bracket : (bytes : List ℕ) (c : ℕ) → IsUtf8 bytes → Lacks 93 bytes → behind_bracket (chars bytes) c ≡ behind_exact 91 (chars bytes) c
+pub open_bracket : (bytes : List ℕ) (c : ℕ) → IsUtf8 bytes → Lacks 93 bytes → after_bracket (chars bytes) c ≡ after_exact 91 (chars bytes) c
 open_bracket bytes c u h = rw (has_not 93 (chars bytes) (lacks_chars 93 bytes (omega arith) u h)) refl
 
 -- the characters of a text that is cut at a `]`
@@ -74,13 +74,13 @@ utf8_back bytes m b u e =
     subst IsUtf8 (ap (drop (length m + 1)) (e ∙ sym (append_assoc m (93 ∷ []) b)) ∙ drop_at (m ++ 93 ∷ []) b (length m + 1) (length-append m (93 ∷ []))) (IsUtf8-drop bytes (length m + 1) u (IsCharBoundary-after_ascii bytes (length m) u within (omega (arith, here))))
 
 -- a class is what stands up to the first `]`
-pub class_at : (bytes m b : List ℕ) (c : ℕ) → IsUtf8 bytes → bytes ≡ m ++ 93 ∷ b → Lacks 93 m → behind_bracket (chars bytes) c ≡ behind_class (chars m) (chars b) c
+pub class_at : (bytes m b : List ℕ) (c : ℕ) → IsUtf8 bytes → bytes ≡ m ++ 93 ∷ b → Lacks 93 m → after_bracket (chars bytes) c ≡ after_class (chars m) (chars b) c
 class_at bytes m b c u e h =
     let l : Lacks 93 (chars m) = lacks_chars 93 m (omega arith) (utf8_front bytes m b u e) h in
-    rw (chars_cut bytes m b u e, has_at 93 (chars m) (chars b), before_at 93 (chars m) (chars b) l, behind_at 93 (chars m) (chars b) l) refl
+    rw (chars_cut bytes m b u e, has_at 93 (chars m) (chars b), before_at 93 (chars m) (chars b) l, after_at 93 (chars m) (chars b) l) refl
 
-pub behind_cut : (bytes m b : List ℕ) → bytes ≡ m ++ 93 ∷ b → (k : ℕ) × (b ≡ drop k bytes)
-behind_cut bytes m b e = (length m + 1, sym (ap (drop (length m + 1)) (e ∙ sym (append_assoc m (93 ∷ []) b)) ∙ drop_at (m ++ 93 ∷ []) b (length m + 1) (length-append m (93 ∷ []))))
+pub after_cut : (bytes m b : List ℕ) → bytes ≡ m ++ 93 ∷ b → (k : ℕ) × (b ≡ drop k bytes)
+after_cut bytes m b e = (length m + 1, sym (ap (drop (length m + 1)) (e ∙ sym (append_assoc m (93 ∷ []) b)) ∙ drop_at (m ++ 93 ∷ []) b (length m + 1) (length-append m (93 ∷ []))))
 
 -- ---- the bytes at the end that hold no `]`
 
@@ -104,6 +104,6 @@ no_chars bytes e = ap chars (nil_from_length bytes e) ∙ chars-nil
 pub no_bytes : (bytes : List ℕ) → IsUtf8 bytes → chars bytes ≡ [] → length bytes ≡ 0
 no_bytes bytes u e = ap length (sym (encodes-chars bytes u) ∙ ap encode_utf8_all e)
 
--- none of the bytes behind the last `]` is one
+-- none of the bytes after the last `]` is one
 pub unclosed_last : (bytes : List ℕ) (last : ℕ) → ((i : ℕ) → last < i → i < length bytes → get_or bytes i 0 ≢ 93) → last < length bytes → IsUnclosed (length bytes - last - 1) bytes
 unclosed_last bytes last h l i m n = h i (omega (arith, l, m)) n

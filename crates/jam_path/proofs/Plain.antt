@@ -53,7 +53,7 @@ empty_both : (a b : List ℕ) → not (is_empty (a ++ b)) ≡ (not (is_empty a) 
 empty_both [] b = refl
 empty_both (x ∷ a) b = rw (not_empty x (a ++ b), not_empty x a) refl
 
--- what is written behind the grist
+-- what is written after the grist
 abbrev made : List ℕ → List ℕ → List ℕ
 made dir file = dir ++ (slash dir (stem_of file) ++ written file)
 

@@ -1,11 +1,11 @@
-use Rattle.std.proofs.Common.{◌≡◌, ◌≢◌, ◌⊎◌, inl, inr, ℕ, ◌<◌, ◌+◌, Bool, true, false, cond, eqb, List, [], ◌∷◌, ◌++◌, length, get_or, refl, ap, sym, ◌∙◌, subst, arith, append_assoc}
+use Rattle.std.proofs.Common.{◌≡◌, ◌≢◌, ◌⊎◌, inl, inr, ℕ, ◌<◌, ◌+◌, Bool, true, false, eqb, List, [], ◌∷◌, ◌++◌, length, get_or, refl, ap, sym, ◌∙◌, subst, arith, append_assoc}
 use Rattle.std.specs.List.{AllByRecursion}
 use Rattle.std.proofs.lemmas.Bool.{eqb-true, eqb-false, and_parts, true≢false, and_right}
 use Rattle.std.proofs.lemmas.List.{length-append, append-nil}
 use Rattle.std.proofs.lemmas.List.Elements.{All-from_recursion, recursion_from_All}
 use Rattle.b2_base.specs.Bytes.{HasNoZero}
 use Rattle.jam_path.specs.Patterns.{Lacks}
-use Rattle.jam_path.specs.Names.{has, begins_with, closes_with, has_grist, grist_of, path_of, or_root, dir_of, file_of, has_member, member_of, stem_of, suffix_of, base_of, grist_text, slash_text, member_text, joined}
+use Rattle.jam_path.specs.Names.{has, begins_with, closes_with, has_grist, grist_of, path_of, or_root, dir_of, file_of, has_member, member_of, stem_of, suffix_of, base_of, grist_text, slash_text, member_text, path_text, joined}
 use Rattle.jam_path.specs.declared.name_parts.NameParts.{NameParts}
 use Rattle.jam_path.proofs.Cuts.{First, Last, has_not, grist_at, path_at, dir_at, file_at, suffix_at, base_at, stem_at, member_at, no_member}
 
@@ -170,20 +170,9 @@ no_zeros text h =
       member = All-from_recursion P _ file.1;
     }
 
-no_zero_both : (a b : List ℕ) → NoZero a → NoZero b → NoZero (a ++ b)
-no_zero_both [] b h k = k
-no_zero_both (x ∷ a) b h k = (h.0, no_zero_both a b h.1 k)
+regroup : (grist dir slash base suffix member : List ℕ) → ((((grist ++ dir) ++ slash) ++ base) ++ suffix) ++ member ≡ grist ++ ((((dir ++ slash) ++ base) ++ suffix) ++ member)
+regroup grist dir slash base suffix member = simp append_assoc
 
-no_zero_if : (t : Bool) (a b : List ℕ) → NoZero a → NoZero b → NoZero (cond t a b)
-no_zero_if true a b h k = h
-no_zero_if false a b h k = k
-
--- the name that parts without a zero byte make has none
-pub no_zero_joined : (name : NameParts) → HasNoZero name.grist → HasNoZero name.dir → HasNoZero name.base → HasNoZero name.suffix → HasNoZero name.member → HasNoZero (joined name)
-no_zero_joined name grist dir base suffix member =
-    let P : ℕ → Type 0 = λ byte. 0 < byte in
-    let sign : (c : ℕ) → 0 < c → NoZero (c ∷ []) = λ c h. (h, tt) in
-    let written_grist : NoZero (grist_text name.grist) = no_zero_if _ name.grist ((60 ∷ name.grist) ++ 62 ∷ []) (recursion_from_All P _ grist) (no_zero_both (60 ∷ name.grist) (62 ∷ []) (omega arith, recursion_from_All P _ grist) (sign 62 (omega arith))) in
-    let slash : NoZero (slash_text name) = no_zero_if _ (47 ∷ []) [] (sign 47 (omega arith)) tt in
-    let written_member : NoZero (member_text name.member) = no_zero_if _ [] ((40 ∷ name.member) ++ 41 ∷ []) tt (no_zero_both (40 ∷ name.member) (41 ∷ []) (omega arith, recursion_from_All P _ member) (sign 41 (omega arith))) in
-    All-from_recursion P _ (no_zero_both _ (member_text name.member) (no_zero_both _ name.suffix (no_zero_both _ name.base (no_zero_both _ (slash_text name) (no_zero_both _ name.dir written_grist (recursion_from_All P _ dir)) slash) (recursion_from_All P _ base)) (recursion_from_All P _ suffix)) written_member)
+-- the grist, and then the rest
+pub joined_parts : (name : NameParts) → joined name ≡ grist_text name.grist ++ path_text name
+joined_parts name = regroup (grist_text name.grist) name.dir (slash_text name) name.base name.suffix (member_text name.member)

@@ -13,41 +13,41 @@ begins_with sign text = slice_index text 0 == sign
 abbrev pub closes_with : ℕ → List ℕ → Bool
 closes_with sign text = slice_index text (length text - 1) == sign
 
--- what stands before and behind the first, and the last, such sign
+-- what stands before and after the first, and the last, such sign
 abbrev pub before : ℕ → List ℕ → List ℕ
 before sign = before_first (λ byte. byte == sign)
 
-abbrev pub behind : ℕ → List ℕ → List ℕ
-behind sign = after_first (λ byte. byte == sign)
+abbrev pub after : ℕ → List ℕ → List ℕ
+after sign = after_first (λ byte. byte == sign)
 
 abbrev pub before_end : ℕ → List ℕ → List ℕ
 before_end sign = before_last (λ byte. byte == sign)
 
-abbrev pub behind_end : ℕ → List ℕ → List ℕ
-behind_end sign = after_last (λ byte. byte == sign)
+abbrev pub after_end : ℕ → List ℕ → List ℕ
+after_end sign = after_last (λ byte. byte == sign)
 
--- a leading `<` (60) with a `>` (62) somewhere behind it
+-- a leading `<` (60) with a `>` (62) somewhere after it
 abbrev pub has_grist : List ℕ → Bool
 has_grist text = begins_with 60 text && has 62 text
 
--- the grist runs up to the first `>`, with both signs; the path is what stands behind it
+-- the grist runs up to the first `>`, with both signs; the path is what stands after it
 abbrev pub grist_of : List ℕ → List ℕ
 grist_of text = if has_grist text then before 62 text ++ 62 ∷ [] else []
 
 abbrev pub path_of : List ℕ → List ℕ
-path_of text = if has_grist text then behind 62 text else text
+path_of text = if has_grist text then after 62 text else text
 
 -- the root where nothing stands before the slash (47)
 abbrev pub or_root : List ℕ → List ℕ
 or_root [] = 47 ∷ []
 or_root (byte ∷ bytes) = byte ∷ bytes
 
--- the directory stands before the last slash, and the file behind it
+-- the directory stands before the last slash, and the file after it
 abbrev pub dir_of : List ℕ → List ℕ
 dir_of path = if has 47 path then or_root (before_end 47 path) else []
 
 abbrev pub file_of : List ℕ → List ℕ
-file_of path = if has 47 path then behind_end 47 path else path
+file_of path = if has 47 path then after_end 47 path else path
 
 -- a `(` (40), and a `)` (41) at the end
 abbrev pub has_member : List ℕ → Bool
@@ -61,14 +61,14 @@ without_last (byte ∷ next ∷ bytes) = byte ∷ without_last (next ∷ bytes)
 
 -- the member stands between the first `(` and the `)` at the end; the stem stands before the `(`
 abbrev pub member_of : List ℕ → List ℕ
-member_of file = if has_member file then without_last (behind 40 file) else []
+member_of file = if has_member file then without_last (after 40 file) else []
 
 abbrev pub stem_of : List ℕ → List ℕ
 stem_of file = if has_member file then before 40 file else file
 
 -- the suffix begins at the last dot (46), and the base stands before it
 abbrev pub suffix_of : List ℕ → List ℕ
-suffix_of stem = if has 46 stem then 46 ∷ behind_end 46 stem else []
+suffix_of stem = if has 46 stem then 46 ∷ after_end 46 stem else []
 
 abbrev pub base_of : List ℕ → List ℕ
 base_of stem = if has 46 stem then before_end 46 stem else stem
@@ -100,12 +100,16 @@ slash_text name =
 abbrev pub member_text : List ℕ → List ℕ
 member_text member = if is_empty member then [] else (40 ∷ member) ++ 41 ∷ []
 
+-- what the parts make without the grist
+abbrev pub path_text : NameParts → List ℕ
+path_text name = name.dir ++ slash_text name ++ name.base ++ name.suffix ++ member_text name.member
+
 -- the name that the parts make
 abbrev pub joined : NameParts → List ℕ
 joined name = grist_text name.grist ++ name.dir ++ slash_text name ++ name.base ++ name.suffix ++ member_text name.member
 
 -- A name that joining its parts gives back: its last slash does not follow another one, something other than a member
--- stands behind it, unless the directory is the root, and parentheses at its end are not empty.
+-- stands after it, unless the directory is the root, and parentheses at its end are not empty.
 pub record IsPlain (text : List ℕ) : Type 0 where
   pub single : has 47 (path_of text) ≡ true → closes_with 47 (before_end 47 (path_of text)) ≡ false
   pub named : has 47 (path_of text) ≡ true → before_end 47 (path_of text) ≢ [] → stem_of (file_of (path_of text)) ≢ []

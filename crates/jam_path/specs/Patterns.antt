@@ -21,14 +21,14 @@ is_taken [] character = false
 is_taken (first ∷ members) character = if first == 94 then not (is_member members character) else is_member (first ∷ members) character
 
 -- A character that stands for itself: no `*` (42) and no `?` (63), a backslash (92) only at the end of the pattern, and
--- a `[` (91) only where no `]` (93) stands behind it.
+-- a `[` (91) only where no `]` (93) stands after it.
 pub record IsItself (character : ℕ) (rest : List ℕ) : Type 0 where
   pub run : character ≢ 42
   pub any : character ≢ 63
   pub escape : character ≡ 92 → rest ≡ []
   pub class : character ≡ 91 → Lacks 93 rest
 
--- The first piece of a pattern takes a character, and `rest` is the pattern behind that piece.
+-- The first piece of a pattern takes a character, and `rest` is the pattern after that piece.
 pub data Takes : List ℕ → ℕ → List ℕ → Type 0 where
   any : (character : ℕ) (rest : List ℕ) → Takes (63 ∷ rest) character rest
   escaped : (character : ℕ) (rest : List ℕ) → Takes (92 ∷ character ∷ rest) character rest

@@ -14,47 +14,47 @@ IsUnclosed count pattern = (place : ℕ) → length pattern ≤ place + count �
 abbrev pub IsLeft : List ℕ → List ℕ → Walk → Type 0
 IsLeft pattern text Fits = ⊤
 IsLeft pattern text Fails = ⊤
-IsLeft pattern text (Star rest behind) =
-    ((k : ℕ) × (rest.now ≡ drop k pattern)) × (length rest.now < length pattern) × (length behind.now ≤ length text)
-    × IsUtf8 rest.now × IsUtf8 behind.now
+IsLeft pattern text (Star rest left) =
+    ((k : ℕ) × (rest.now ≡ drop k pattern)) × (length rest.now < length pattern) × (length left.now ≤ length text)
+    × IsUtf8 rest.now × IsUtf8 left.now
 
 -- what an answer about a pattern says: the rest of the pattern, by its characters, or nothing
 abbrev pub Leads : Option (Bor (List ℕ)) → Option (List ℕ) → List ℕ → Type 0
 Leads None rest pattern = rest ≡ None
 Leads (Some found) rest pattern = (rest ≡ Some (chars found.now)) × ((k : ℕ) × (found.now ≡ drop k pattern)) × IsUtf8 found.now
 
--- the members behind a dash that stands first
-abbrev pub behind_dash : List ℕ → Option (List ℕ)
-behind_dash [] = None
-behind_dash (dash ∷ []) = None
-behind_dash (dash ∷ high ∷ more) = if dash == 45 then Some more else None
+-- the members after a dash that stands first
+abbrev pub after_dash : List ℕ → Option (List ℕ)
+after_dash [] = None
+after_dash (dash ∷ []) = None
+after_dash (dash ∷ high ∷ more) = if dash == 45 then Some more else None
 
--- what stands behind a piece that takes one given character
-abbrev pub behind_exact : ℕ → List ℕ → ℕ → Option (List ℕ)
-behind_exact exact rest character = if exact == character then Some rest else None
+-- what stands after a piece that takes one given character
+abbrev pub after_exact : ℕ → List ℕ → ℕ → Option (List ℕ)
+after_exact exact rest character = if exact == character then Some rest else None
 
-abbrev pub behind_escape : List ℕ → ℕ → Option (List ℕ)
-behind_escape [] character = behind_exact 92 [] character
-behind_escape (next ∷ rest) character = behind_exact next rest character
+abbrev pub after_escape : List ℕ → ℕ → Option (List ℕ)
+after_escape [] character = after_exact 92 [] character
+after_escape (next ∷ rest) character = after_exact next rest character
 
-abbrev pub behind_class : List ℕ → List ℕ → ℕ → Option (List ℕ)
-behind_class members rest character = if is_taken members character then Some rest else None
+abbrev pub after_class : List ℕ → List ℕ → ℕ → Option (List ℕ)
+after_class members rest character = if is_taken members character then Some rest else None
 
-abbrev pub behind_bracket : List ℕ → ℕ → Option (List ℕ)
-behind_bracket rest character =
+abbrev pub after_bracket : List ℕ → ℕ → Option (List ℕ)
+after_bracket rest character =
     if list_any (λ other. other == 93) rest
-    then behind_class (before_first (λ other. other == 93) rest) (after_first (λ other. other == 93) rest) character
-    else behind_exact 91 rest character
+    then after_class (before_first (λ other. other == 93) rest) (after_first (λ other. other == 93) rest) character
+    else after_exact 91 rest character
 
--- the pattern behind its first piece, where that piece takes the character; nothing elsewhere, and at a `*`
-abbrev pub behind_one : List ℕ → ℕ → Option (List ℕ)
-behind_one [] character = None
-behind_one (first ∷ rest) character =
+-- the pattern after its first piece, where that piece takes the character; nothing elsewhere, and at a `*`
+abbrev pub after_one : List ℕ → ℕ → Option (List ℕ)
+after_one [] character = None
+after_one (first ∷ rest) character =
     if first == 42 then None
     else (if first == 63 then Some rest
-    else (if first == 92 then behind_escape rest character
-    else (if first == 91 then behind_bracket rest character
-    else behind_exact first rest character)))
+    else (if first == 92 then after_escape rest character
+    else (if first == 91 then after_bracket rest character
+    else after_exact first rest character)))
 
 -- no `*` stands first
 abbrev pub IsStarless : List ℕ → Type 0
@@ -64,6 +64,6 @@ IsStarless pattern = (rest : List ℕ) → pattern ≢ 42 ∷ rest
 abbrev pub IsWalk : List ℕ → List ℕ → Walk → Type 0
 IsWalk pattern text Fits = Match pattern text
 IsWalk pattern text Fails = ¬ Match pattern text
-IsWalk pattern text (Star rest behind) =
-    (Match pattern text ↔ Match (42 ∷ chars rest.now) (chars behind.now))
-    × (Match (42 ∷ pattern) text ↔ Match (42 ∷ chars rest.now) (chars behind.now))
+IsWalk pattern text (Star rest left) =
+    (Match pattern text ↔ Match (42 ∷ chars rest.now) (chars left.now))
+    × (Match (42 ∷ pattern) text ↔ Match (42 ∷ chars rest.now) (chars left.now))

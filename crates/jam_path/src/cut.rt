@@ -2,7 +2,7 @@
 ghost use Rattle.std.specs.Prelude.{◌≡◌};
 ghost use Rattle.jam_path.specs.Names.{grist_of, path_of, or_root, dir_of, file_of, member_of, stem_of, suffix_of, base_of};
 
-/// The grist, and the path behind it.
+/// The grist, and the path after it.
 pub fn cut_grist(text: &str) -> (&str, &str)
     ensures grist { result.0.now ≡ grist_of text.now }
     ensures path { result.1.now ≡ path_of text.now }
@@ -39,10 +39,10 @@ pub fn cut_member(file: &str) -> (&str, &str)
     ensures stem { result.0.now ≡ stem_of file.now }
     ensures member { result.1.now ≡ member_of file.now }
 {
-    let Some((stem, behind)) = file.split_once('(') else {
+    let Some((stem, after)) = file.split_once('(') else {
         return (file, "");
     };
-    match behind.strip_suffix(')') {
+    match after.strip_suffix(')') {
         None => (file, ""),
         Some(member) => (stem, member),
     }

@@ -33,10 +33,10 @@ fn matches_end(pattern: &str, text: &str, unclosed: usize) -> bool
                 left = text;
             }
             Walk::Fails => {
-                let Some((_, behind)) = first_char(left) else {
+                let Some((_, after)) = first_char(left) else {
                     return false;
                 };
-                left = behind;
+                left = after;
             }
         }
     }
@@ -45,7 +45,7 @@ fn matches_end(pattern: &str, text: &str, unclosed: usize) -> bool
 /// Whether the pattern matches the whole text, character by character. `*` takes any run of characters, slashes too, and
 /// `?` any one character. A class as `[abc]` or `[a-c]` takes one of its members, and `[^abc]` one of all others; it ends
 /// at the first `]`, and a backslash in it is a member. Elsewhere a backslash lets the next character stand for itself,
-/// and so does every other character, a `[` without a `]` behind it, and a backslash at the end.
+/// and so does every other character, a `[` without a `]` after it, and a backslash at the end.
 ///
 /// Takes no memory, and time in proportion to the product of both lengths.
 pub fn glob_match(pattern: &str, text: &str) -> bool

@@ -7,6 +7,4 @@ pub mod laws;
 pub mod name;
 pub mod name_parts;
 mod piece;
-#[cfg(test)]
-mod tests;
 mod walk;

@@ -1,7 +1,7 @@
 //! A file name, taken apart and put together.
 ghost use Rattle.std.specs.Prelude.{◌≡◌, ◌++◌, IfOk, OnOk, string_bytes};
 ghost use Rattle.b2_base.specs.Bytes.{HasNoZero};
-ghost use Rattle.jam_path.specs.Names.{parts_of, joined, grist_text, slash_text, member_text};
+ghost use Rattle.jam_path.specs.Names.{parts_of, joined, grist_text, slash_text, member_text, path_text};
 
 use crate::cut::{cut_dir, cut_grist, cut_member, cut_suffix};
 use crate::name_parts::NameParts;
@@ -34,9 +34,13 @@ pub fn parts(alloc: Global, text: &str) -> Result<NameParts, OutOfMemory>
     })
 }
 
-fn push_grist(text: &mut String, grist: &str) -> Result<(), OutOfMemory>
-    ensures { OnOk result (string_bytes text.new ≡ string_bytes text.old ++ grist_text grist.now) }
+/// Writes a grist at the end: in `<` and `>`, unless it is empty or begins with `<`.
+pub fn push_grist(text: &mut String, grist: &Text) -> Result<(), OutOfMemory>
+    requires { HasNoZero (string_bytes text.old) }
+    ensures value { OnOk result (string_bytes text.new ≡ string_bytes text.old ++ grist_text grist.now) }
+    ensures no_zero { OnOk result (HasNoZero (string_bytes text.new)) }
 {
+    let grist = grist.as_str();
     if grist.is_empty() || grist.starts_with('<') {
         text.push_str(grist)?;
         return Ok(());
@@ -48,7 +52,9 @@ fn push_grist(text: &mut String, grist: &str) -> Result<(), OutOfMemory>
 }
 
 fn push_slash(text: &mut String, name: &NameParts) -> Result<(), OutOfMemory>
-    ensures { OnOk result (string_bytes text.new ≡ string_bytes text.old ++ slash_text name.now) }
+    requires { HasNoZero (string_bytes text.old) }
+    ensures value { OnOk result (string_bytes text.new ≡ string_bytes text.old ++ slash_text name.now) }
+    ensures no_zero { OnOk result (HasNoZero (string_bytes text.new)) }
 {
     let dir = name.dir.as_str();
     let has_file = !name.base.as_str().is_empty() || !name.suffix.as_str().is_empty();
@@ -58,9 +64,12 @@ fn push_slash(text: &mut String, name: &NameParts) -> Result<(), OutOfMemory>
     Ok(())
 }
 
-fn push_member(text: &mut String, member: &str) -> Result<(), OutOfMemory>
-    ensures { OnOk result (string_bytes text.new ≡ string_bytes text.old ++ member_text member.now) }
+fn push_member(text: &mut String, member: &Text) -> Result<(), OutOfMemory>
+    requires { HasNoZero (string_bytes text.old) }
+    ensures value { OnOk result (string_bytes text.new ≡ string_bytes text.old ++ member_text member.now) }
+    ensures no_zero { OnOk result (HasNoZero (string_bytes text.new)) }
 {
+    let member = member.as_str();
     if member.is_empty() {
         return Ok(());
     }
@@ -70,26 +79,27 @@ fn push_member(text: &mut String, member: &str) -> Result<(), OutOfMemory>
     Ok(())
 }
 
-fn joined_text(alloc: Global, name: &NameParts) -> Result<String, OutOfMemory>
-    ensures exact { IfOk result (λ made. string_bytes made ≡ joined name.now) }
-    ensures no_zero { IfOk result (λ made. HasNoZero (string_bytes made)) }
+/// Writes all parts but the grist at the end: the directory; a slash, where the directory is neither empty nor ends with
+/// one and there is a base or a suffix; the base, the suffix, and a member that is not empty in parentheses.
+pub fn push_path(text: &mut String, name: &NameParts) -> Result<(), OutOfMemory>
+    requires { HasNoZero (string_bytes text.old) }
+    ensures value { OnOk result (string_bytes text.new ≡ string_bytes text.old ++ path_text name.now) }
+    ensures no_zero { OnOk result (HasNoZero (string_bytes text.new)) }
 {
-    let mut text = String::new(alloc);
-    push_grist(&mut text, name.grist.as_str())?;
     text.push_str(name.dir.as_str())?;
-    push_slash(&mut text, name)?;
+    push_slash(text, name)?;
     text.push_str(name.base.as_str())?;
     text.push_str(name.suffix.as_str())?;
-    push_member(&mut text, name.member.as_str())?;
-    Ok(text)
+    push_member(text, &name.member)?;
+    Ok(())
 }
 
-/// The name that the parts make: the grist in `<` and `>`, unless it is empty or begins with `<`; the directory; a slash,
-/// where the directory is neither empty nor ends with one and there is a base or a suffix; the base, the suffix, and a
-/// member that is not empty in parentheses.
+/// The name that the parts make: the grist, as `push_grist` writes it, and the path, as `push_path` does.
 pub fn join(alloc: Global, name: &NameParts) -> Result<Text, OutOfMemory>
     ensures { IfOk result (λ made. made ≡ joined name.now) }
 {
-    let text = joined_text(alloc, name)?;
-    Text::new(alloc, text.as_str())
+    let mut text = String::new(alloc);
+    push_grist(&mut text, &name.grist)?;
+    push_path(&mut text, name)?;
+    Ok(Text::from_string(text))
 }

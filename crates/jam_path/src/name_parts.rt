@@ -2,7 +2,7 @@
 use b2_base::text::Text;
 
 /// The five parts of a file name; a part that the name lacks is empty.
-#[derive(Debug, Drop)]
+#[derive(Drop)]
 pub struct NameParts {
     /// Where the name belongs to, with its `<` and `>` where it was read from a name.
     pub grist: Text,

@@ -2,9 +2,9 @@
 ghost use Rattle.std.specs.Prelude.{◌≡◌, ◌≢◌, ℕ, ◌<◌, ◌≤◌, ◌+◌, [], ◌∷◌, List, ◌++◌, length, drop, slice_index, IfSome, MatchOption, IsTrue, Some, None};
 ghost use Rattle.std.specs.Str.{chars, IsUtf8};
 ghost use Rattle.jam_path.specs.Patterns.{is_member, is_taken};
-ghost use Rattle.jam_path.specs.Steps.{IsUnclosed, IsStarless, Leads, behind_one, behind_exact, behind_escape, behind_bracket, behind_class, behind_dash};
+ghost use Rattle.jam_path.specs.Steps.{IsUnclosed, IsStarless, Leads, after_one, after_exact, after_escape, after_bracket, after_class, after_dash};
 
-/// The first character of a text, and the text behind it.
+/// The first character of a text, and the text after it.
 pub fn first_char(text: &str) -> Option<(char, &str)>
     ensures exact { MatchOption result (chars text.now ≡ []) (λ found. chars text.now ≡ found.0 ∷ chars found.1.now) }
     ensures shorter { IfSome result (λ found. length found.1.now < length text.now) }
@@ -18,8 +18,8 @@ pub fn first_char(text: &str) -> Option<(char, &str)>
     }
 }
 
-/// The pattern behind a `*` that stands first.
-pub fn behind_star(pattern: &str) -> Option<&str>
+/// The pattern after a `*` that stands first.
+pub fn after_star(pattern: &str) -> Option<&str>
     ensures exact { MatchOption result (IsStarless (chars pattern.now)) (λ rest. chars pattern.now ≡ 42 ∷ chars rest.now) }
     ensures shorter { IfSome result (λ rest. length rest.now < length pattern.now) }
     ensures end { IfSome result (λ rest. (k : ℕ) × (rest.now ≡ drop k pattern.now)) }
@@ -32,16 +32,16 @@ pub fn behind_star(pattern: &str) -> Option<&str>
 }
 
 /// The upper end of a range, where a dash stands first.
-fn behind_dash(text: &str) -> Option<(char, &str)>
-    ensures exact { MatchOption result (behind_dash (chars text.now) ≡ None) (λ found. chars text.now ≡ 45 ∷ found.0 ∷ chars found.1.now) }
+fn after_dash(text: &str) -> Option<(char, &str)>
+    ensures exact { MatchOption result (after_dash (chars text.now) ≡ None) (λ found. chars text.now ≡ 45 ∷ found.0 ∷ chars found.1.now) }
     ensures shorter { IfSome result (λ found. length found.1.now < length text.now) }
     ensures utf8 { IfSome result (λ found. IsUtf8 found.1.now) }
 {
-    let (dash, behind) = first_char(text)?;
+    let (dash, after) = first_char(text)?;
     if dash != '-' {
         return None;
     }
-    first_char(behind)
+    first_char(after)
 }
 
 /// Whether one of the members is the character, where `a-c` stands for the characters from `a` to `c`.
@@ -49,13 +49,13 @@ fn is_member(members: &str, character: char) -> bool
     ensures { result ≡ is_member (chars members.now) character }
 {
     let mut rest = members;
-    while let Some((low, behind)) = first_char(rest) {
-        match behind_dash(behind) {
+    while let Some((low, more)) = first_char(rest) {
+        match after_dash(more) {
             None => {
                 if low == character {
                     return true;
                 }
-                rest = behind;
+                rest = more;
             }
             Some((high, after)) => {
                 if low <= character && character <= high {
@@ -79,36 +79,36 @@ fn is_taken(members: &str, character: char) -> bool
     }
 }
 
-/// The pattern behind a piece that takes one given character.
-fn behind_exact<'a>(exact: char, rest: &'a str, character: char) -> Option<&'a str>
-    ensures { Leads result (behind_exact exact (chars rest.now) character) rest.now }
+/// The pattern after a piece that takes one given character.
+fn after_exact<'a>(exact: char, rest: &'a str, character: char) -> Option<&'a str>
+    ensures { Leads result (after_exact exact (chars rest.now) character) rest.now }
 {
     if exact == character { Some(rest) } else { None }
 }
 
-/// The pattern behind a backslash and the character that it protects.
-fn behind_escape<'a>(rest: &'a str, character: char) -> Option<&'a str>
-    ensures { Leads result (behind_escape (chars rest.now) character) rest.now }
+/// The pattern after a backslash and the character that it protects.
+fn after_escape<'a>(rest: &'a str, character: char) -> Option<&'a str>
+    ensures { Leads result (after_escape (chars rest.now) character) rest.now }
 {
     match first_char(rest) {
-        None => behind_exact('\\', rest, character),
-        Some((next, behind)) => behind_exact(next, behind, character),
+        None => after_exact('\\', rest, character),
+        Some((next, after)) => after_exact(next, after, character),
     }
 }
 
-/// The pattern behind a `[`, and behind its class where a `]` follows.
-fn behind_bracket<'a>(rest: &'a str, character: char, unclosed: usize) -> Option<&'a str>
+/// The pattern after a `[`, and after its class where a `]` follows.
+fn after_bracket<'a>(rest: &'a str, character: char, unclosed: usize) -> Option<&'a str>
     requires { IsUnclosed unclosed rest.now }
-    ensures { Leads result (behind_bracket (chars rest.now) character) rest.now }
+    ensures { Leads result (after_bracket (chars rest.now) character) rest.now }
 {
     if rest.len() <= unclosed {
-        return behind_exact('[', rest, character);
+        return after_exact('[', rest, character);
     }
     match rest.split_once(']') {
-        None => behind_exact('[', rest, character),
-        Some((members, behind)) => {
+        None => after_exact('[', rest, character),
+        Some((members, after)) => {
             if is_taken(members, character) {
-                Some(behind)
+                Some(after)
             } else {
                 None
             }
@@ -116,17 +116,17 @@ fn behind_bracket<'a>(rest: &'a str, character: char, unclosed: usize) -> Option
     }
 }
 
-/// The pattern behind its first piece, where that piece takes the character; nothing elsewhere, and at a `*`. The last
+/// The pattern after its first piece, where that piece takes the character; nothing elsewhere, and at a `*`. The last
 /// `unclosed` bytes of the pattern have no `]`, so that none is looked for there again and again.
-pub fn behind_one<'a>(pattern: &'a str, character: char, unclosed: usize) -> Option<&'a str>
+pub fn after_one<'a>(pattern: &'a str, character: char, unclosed: usize) -> Option<&'a str>
     requires { IsUnclosed unclosed pattern.now }
-    ensures { Leads result (behind_one (chars pattern.now) character) pattern.now }
+    ensures { Leads result (after_one (chars pattern.now) character) pattern.now }
 {
     match first_char(pattern)? {
         ('*', _) => None,
         ('?', rest) => Some(rest),
-        ('\\', rest) => behind_escape(rest, character),
-        ('[', rest) => behind_bracket(rest, character, unclosed),
-        (exact, rest) => behind_exact(exact, rest, character),
+        ('\\', rest) => after_escape(rest, character),
+        ('[', rest) => after_bracket(rest, character, unclosed),
+        (exact, rest) => after_exact(exact, rest, character),
     }
 }

@@ -2,7 +2,7 @@
 ghost use Rattle.std.specs.Str.{chars};
 ghost use Rattle.jam_path.specs.Steps.{IsUnclosed, IsWalk, IsLeft};
 
-use crate::piece::{behind_one, behind_star, first_char};
+use crate::piece::{after_one, after_star, first_char};
 
 /// What a walk came to.
 pub enum Walk<'a> {
@@ -10,7 +10,7 @@ pub enum Walk<'a> {
     Fits,
     /// A piece did not take its character, or the text or the pattern ended too early.
     Fails,
-    /// A `*`, with the pattern behind it and the text that is left.
+    /// A `*`, with the pattern after it and the text that is left.
     Star { pattern: &'a str, text: &'a str },
 }
 
@@ -24,23 +24,23 @@ pub fn walk_pieces<'a>(pattern: &'a str, text: &'a str, unclosed: usize) -> Walk
     let mut rest = pattern;
     let mut left = text;
     'pieces: loop {
-        if let Some(pattern) = behind_star(rest) {
+        if let Some(pattern) = after_star(rest) {
             return Walk::Star {
                 pattern,
                 text: left,
             };
         }
-        let Some((character, behind)) = first_char(left) else {
+        let Some((character, remaining)) = first_char(left) else {
             return if rest.is_empty() {
                 Walk::Fits
             } else {
                 Walk::Fails
             };
         };
-        let Some(after) = behind_one(rest, character, unclosed) else {
+        let Some(after) = after_one(rest, character, unclosed) else {
             return Walk::Fails;
         };
         rest = after;
-        left = behind;
+        left = remaining;
     }
 }

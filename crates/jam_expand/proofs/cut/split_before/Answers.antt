@@ -15,7 +15,7 @@ returns-clause-before c =
     let e : c.len_up_to.result ≡ length (up_to c.args.signs.now c.args.text.now) = cc in
     c.split_at.ensures.front ∙ ap (λ n. take n c.args.text.now) e ∙ taken c.args.signs.now c.args.text.now
 
-pub returns-clause-behind : goal.returns-clause-behind
-returns-clause-behind c =
+pub returns-clause-after : goal.returns-clause-after
+returns-clause-after c =
     let e : c.len_up_to.result ≡ length (up_to c.args.signs.now c.args.text.now) = cc in
     c.split_at.ensures.back ∙ ap (λ n. drop n c.args.text.now) e ∙ left c.args.signs.now c.args.text.now

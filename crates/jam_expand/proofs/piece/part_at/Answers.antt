@@ -9,11 +9,11 @@ places c =
     let e : inside_len (drop c.args.at c.args.word.now) ≡ Some c.in_ok-len.len = ap inside_len (ap (drop c.args.at) (sym c.as_bytes.ensures.value) ∙ sym c.split_at.ensures.back) ∙ sym c.in_ok-len.ensures.exact in
     part_places c.args.word.now c.args.at c.in_ok-len.len c.utf8.word c.requires e
 
-pub overflow_add-behind : goal.overflow_add-behind
-overflow_add-behind c = omega (arith, (places c).room)
+pub overflow_add-after : goal.overflow_add-after
+overflow_add-after c = omega (arith, (places c).room)
 
-pub overflow_add-behind-2 : goal.overflow_add-behind-2
-overflow_add-behind-2 c = omega (arith, (places c).room)
+pub overflow_add-after-2 : goal.overflow_add-after-2
+overflow_add-after-2 c = omega (arith, (places c).room)
 
 pub range-requires-clause-start_boundary : goal.range-requires-clause-start_boundary
 range-requires-clause-start_boundary c = λ above. (places c).first

@@ -3,7 +3,7 @@ use Rattle.std.proofs.lemmas.List.{map-append}
 use Rattle.std.proofs.lemmas.List.Elements.{All-same}
 use Rattle.jam_expand.specs.Words.{Piece, part, inside_len, literal_of}
 use Rattle.jam_expand.specs.Shown.{shown}
-use Rattle.jam_expand.specs.Unclosed.{unclosed_behind}
+use Rattle.jam_expand.specs.Unclosed.{unclosed_after}
 use Rattle.jam_expand.proofs.WordLemmas.{cut_nothing, cut_literal, cut_part, cut_all}
 use Rattle.jam_expand.proofs.UnclosedLemmas.{no_parts, last_place, places_left}
 use Rattle.jam_expand.proofs.piece.pieces_of.Goals as goal
@@ -15,7 +15,7 @@ NoPart word place = inside_len (drop place word) ≡ None
 pub bytes-init : goal.bytes-init
 bytes-init c = record {
   cut = rw (c.new-pieces.ensures.items) (cut_nothing c.args.word.now);
-  unclosed = All-same (NoPart c.args.word.now) c.in_ok-unclosed.unclosed.items (unclosed_behind 0 c.args.word.now) (c.in_ok-unclosed.ensures ∙ ap (unclosed_behind 0) c.as_bytes.ensures.value) (no_parts c.args.word.now);
+  unclosed = All-same (NoPart c.args.word.now) c.in_ok-unclosed.unclosed.items (unclosed_after 0 c.args.word.now) (c.in_ok-unclosed.ensures ∙ ap (unclosed_after 0) c.as_bytes.ensures.value) (no_parts c.args.word.now);
 }
 
 pub bytes-preserved-then-take_last : goal.bytes-preserved-then-take_last

@@ -12,5 +12,5 @@ bad_index-requires-in-None c = subst HasNoZero (sym c.split_before.ensures.befor
 
 pub returns-in-Some-index_of-clause-no_zero : goal.returns-in-Some-index_of-clause-no_zero
 returns-in-Some-index_of-clause-no_zero c =
-    closed_no_zero c.split_before.result.1.now c.in-Some-behind_close.behind.now c.in-Some-behind_close.ensures
-    (subst HasNoZero (sym c.split_before.ensures.behind) (from_on_no_zero (93 ∷ []) c.in-Some.inside.now (rest_no_zero 91 c.in-Some.inside.now c.args.text.now c.in-Some.ensures.exact c.requires)))
+    closed_no_zero c.split_before.result.1.now c.in-Some-after_close.after.now c.in-Some-after_close.ensures
+    (subst HasNoZero (sym c.split_before.ensures.after) (from_on_no_zero (93 ∷ []) c.in-Some.inside.now (rest_no_zero 91 c.in-Some.inside.now c.args.text.now c.in-Some.ensures.exact c.requires)))

@@ -16,5 +16,5 @@ returns-in_default c = (
 
 pub places-preserved : goal.places-preserved
 places-preserved c =
-    let step = star_later (chars c.places.rest.now) (chars c.places.left.now) c.in-Some.field-0-0 (chars c.in-Some.behind.now) c.in-Some.ensures.exact c.in-Fails.ensures.exact in
+    let step = star_later (chars c.places.rest.now) (chars c.places.left.now) c.in-Some.field-0-0 (chars c.in-Some.after.now) c.in-Some.ensures.exact c.in-Fails.ensures.exact in
     (c.places.invariant.0, c.in-Some.ensures.utf8, (λ m. c.places.invariant.2.0 (step.1 m), λ m. step.0 (c.places.invariant.2.1 m)), c.places.invariant.3)

@@ -19,11 +19,11 @@ returns-else-is_empty-clause-exact c =
     c.in_default.ensures.exact c.in_default-first_char.ensures.exact
     (λ e. eqb-false _ _ (sym c.is_empty.ensures ∙ c.if-is_empty.false) (no_bytes c.pieces.rest.now c.pieces.invariant.0 e))
 
-pub returns-in_default-behind_one-clause-exact : goal.returns-in_default-behind_one-clause-exact
-returns-in_default-behind_one-clause-exact c =
-    fed_fails (chars c.args.pattern.now) (chars c.args.text.now) (chars c.pieces.rest.now) (chars c.pieces.left.now) c.in-Some-first_char.character (chars c.in-Some-first_char.behind.now) c.pieces.invariant.2
-    c.in_default.ensures.exact c.in-Some-first_char.ensures.exact c.in_default-behind_one.ensures
+pub returns-in_default-after_one-clause-exact : goal.returns-in_default-after_one-clause-exact
+returns-in_default-after_one-clause-exact c =
+    fed_fails (chars c.args.pattern.now) (chars c.args.text.now) (chars c.pieces.rest.now) (chars c.pieces.left.now) c.in-Some-first_char.character (chars c.in-Some-first_char.remaining.now) c.pieces.invariant.2
+    c.in_default.ensures.exact c.in-Some-first_char.ensures.exact c.in_default-after_one.ensures
 
 pub pieces-preserved : goal.pieces-preserved
-pieces-preserved c = let a = c.in-Some-behind_one.ensures in
-    (a.2, c.in-Some-first_char.ensures.utf8, fed_more (chars c.args.pattern.now) (chars c.args.text.now) (chars c.pieces.rest.now) (chars c.pieces.left.now) c.in-Some-first_char.character (chars c.in-Some-behind_one.after.now) (chars c.in-Some-first_char.behind.now) c.pieces.invariant.2 c.in-Some-first_char.ensures.exact a.0, drop_twice c.args.pattern.now c.pieces.rest.now c.in-Some-behind_one.after.now c.pieces.invariant.3 a.1, omega (arith, c.pieces.invariant.4, c.in-Some-first_char.ensures.shorter))
+pieces-preserved c = let a = c.in-Some-after_one.ensures in
+    (a.2, c.in-Some-first_char.ensures.utf8, fed_more (chars c.args.pattern.now) (chars c.args.text.now) (chars c.pieces.rest.now) (chars c.pieces.left.now) c.in-Some-first_char.character (chars c.in-Some-after_one.after.now) (chars c.in-Some-first_char.remaining.now) c.pieces.invariant.2 c.in-Some-first_char.ensures.exact a.0, drop_twice c.args.pattern.now c.pieces.rest.now c.in-Some-after_one.after.now c.pieces.invariant.3 a.1, omega (arith, c.pieces.invariant.4, c.in-Some-first_char.ensures.shorter))
