@@ -5,5 +5,3 @@ pub mod groups;
 pub mod laws;
 pub mod native_fault;
 pub mod refusal;
-#[cfg(test)]
-mod tests;

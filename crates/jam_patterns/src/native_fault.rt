@@ -3,7 +3,7 @@ use crate::refusal::Refusal;
 use b2_base::text::Text;
 
 /// Why a native rule has no answer.
-#[derive(Debug, Drop)]
+#[derive(Drop)]
 pub enum NativeFault {
     /// A pattern of MATCH was refused.
     PatternRefused { refusal: Refusal },

@@ -10,7 +10,7 @@ use std::alloc::Global;
 use std::marker::Model;
 
 /// A pattern that was refused, seen as the pattern's text. `groups` alone makes one.
-#[derive(Debug, Drop)]
+#[derive(Drop)]
 pub struct Refusal {
     pattern: Text,
     syntax: bool,
@@ -58,7 +58,7 @@ impl Refusal {
 }
 
 /// Why a pattern has no answer.
-#[derive(Debug, Drop)]
+#[derive(Drop)]
 pub enum PatternFault {
     /// The pattern was refused.
     Refused(Refusal),
