@@ -6,7 +6,7 @@ use Rattle.jam_grammar.specs.Marks.{same_mark}
 use Rattle.jam_grammar.specs.Grammar.{Part, Key, OneWord, Shut, Stmts, OneStmt, Tail, Assigned, LocalTail, ForTail, RuleTail, OneElse, ElseTail, OneBlock, CaseBlock, Cases, BodyBlock, ParamBlock, Params, MoreParams, Names, NameTail, OneArg, OneInner, InnerTail, Args, More, OneExpr, Both, Single, OrTail, AndTail, Compared, closes, opens, Line, Derives}
 use Rattle.jam_grammar.specs.Grammar as g
 use Rattle.jam_grammar.specs.Machine.{Move, Take, Room, Skip, Refuse, move, move_key, move_word, is_read, by_move, feed, may_end, may_be_empty}
-use Rattle.jam_grammar.proofs.Moves.{behind, lead, feed_lead}
+use Rattle.jam_grammar.proofs.Moves.{followed, lead, feed_lead}
 use Rattle.jam_grammar.proofs.MarkNumbers.{every_mark, at_each, both, first_true, second_true, same_mark_refl, same_mark_true}
 use Rattle.jam_grammar.proofs.Rooms.{need, Roomy, rooms, need_append, keeps}
 
@@ -19,7 +19,7 @@ abbrev pub accepts : List Mark → List Part → Bool
 accepts [] parts = may_end parts
 accepts (mark ∷ marks) parts = and_then (feed parts mark) (accepts marks)
 
--- the marks that may begin what comes behind a part only where the part cannot go on with them
+-- the marks that may begin what comes after a part only where the part cannot go on with them
 abbrev begins_arg : Mark → Bool
 begins_arg mark = is_read (move OneArg mark)
 
@@ -70,7 +70,7 @@ goes_on AndTail mark = joins mark
 goes_on Compared mark = compares mark
 goes_on _ mark = false
 
--- what comes behind a part does not begin with them
+-- what comes after a part does not begin with them
 abbrev pub Clash : Part → List Part → Type 0
 Clash part more = (mark : Mark) → goes_on part mark ≡ true → feed more mark ≡ None
 
@@ -294,7 +294,7 @@ Agrees part mark (Room n by) Refuse = ⊥
 key_agrees : (part : Part) (want : Mark) (rest : List Part) → Agrees part want (Take rest) (move part want) → (mark : Mark) → Agrees part mark (lead (Key want ∷ rest) mark) (move part mark)
 key_agrees part want rest h mark = by (same_mark want mark) refl
   where
-    by : (b : Bool) → same_mark want mark ≡ b → Agrees part mark (behind (move_key b) rest (lead rest mark)) (move part mark)
+    by : (b : Bool) → same_mark want mark ≡ b → Agrees part mark (followed (move_key b) rest (lead rest mark)) (move part mark)
     by true e = subst (λ x. Agrees part x (Take rest) (move part x)) (same_mark_true want mark e) h
     by false e = tt
 

@@ -19,12 +19,12 @@ Stuck left [] = may_end left ≡ false
 Stuck left (token ∷ tokens) = feed left (mark_of_token token) ≡ None
 
 record Found (tokens at : List Token) (parts : List Part) : Type 0 where
-  front : List Token
-  split : tokens ≡ front ++ at
+  prefix : List Token
+  split : tokens ≡ prefix ++ at
   left : List Part
   room : Roomy left
-  back : (ms : List Mark) → Derives left ms → Derives parts (marks front ++ ms)
-  forth : (ms : List Mark) → accepts (marks front ++ ms) parts ≡ accepts ms left
+  back : (ms : List Mark) → Derives left ms → Derives parts (marks prefix ++ ms)
+  forth : (ms : List Mark) → accepts (marks prefix ++ ms) parts ≡ accepts ms left
   stuck : Stuck left at
 
 found : (tokens at : List Token) (parts : List Part) → Roomy parts → run tokens parts ≡ Bad at → Found tokens at parts
@@ -34,22 +34,22 @@ found [] at parts r h = by (may_end parts) refl h
     by true e h = cc
     by false e h =
         let nil : [] ≡ at = cc in
-        record { front = []; split = nil; left = parts; room = r; back = λ ms d. d; forth = λ ms. refl; stuck = subst (Stuck parts) nil e }
+        record { prefix = []; split = nil; left = parts; room = r; back = λ ms d. d; forth = λ ms. refl; stuck = subst (Stuck parts) nil e }
 found (t ∷ tokens) at parts r h = by (feed parts (mark_of_token t)) refl h (λ next room h. found tokens at next room h)
   where
     by : (o : Option (List Part)) → feed parts (mark_of_token t) ≡ o → go_on o (run tokens) (t ∷ tokens) ≡ Bad at → ((next : List Part) → Roomy next → run tokens next ≡ Bad at → Found tokens at next) → Found (t ∷ tokens) at parts
     by None e h again =
         let here : t ∷ tokens ≡ at = cc in
-        record { front = []; split = here; left = parts; room = r; back = λ ms d. d; forth = λ ms. refl; stuck = subst (Stuck parts) here e }
+        record { prefix = []; split = here; left = parts; room = r; back = λ ms d. d; forth = λ ms. refl; stuck = subst (Stuck parts) here e }
     by (Some next) e h again =
         let f = again next (keeps parts (mark_of_token t) next e r) h in
         record {
-          front = t ∷ f.front;
+          prefix = t ∷ f.prefix;
           split = ap (λ x. t ∷ x) f.split;
           left = f.left;
           room = f.room;
-          back = λ ms d. step parts (mark_of_token t) next (marks f.front ++ ms) e r (f.back ms d);
-          forth = λ ms. ap (λ o. and_then o (accepts (marks f.front ++ ms))) e ∙ f.forth ms;
+          back = λ ms d. step parts (mark_of_token t) next (marks f.prefix ++ ms) e r (f.back ms d);
+          forth = λ ms. ap (λ o. and_then o (accepts (marks f.prefix ++ ms))) e ∙ f.forth ms;
           stuck = f.stuck;
         }
 
@@ -59,14 +59,14 @@ clear = (λ mark h. refl, tt)
 roomy : Roomy (Stmts ∷ [])
 roomy = (omega arith, tt)
 
-stops : (at : List Token) (tokens : List Token) (f : Found tokens at (Stmts ∷ [])) → Stops f.front at
+stops : (at : List Token) (tokens : List Token) (f : Found tokens at (Stmts ∷ [])) → Stops f.prefix at
 stops [] tokens f = λ d.
-    let whole = subst (λ x. accepts x (Stmts ∷ []) ≡ true) (sym (append-nil (marks f.front))) (complete d clear) in
+    let whole = subst (λ x. accepts x (Stmts ∷ []) ≡ true) (sym (append-nil (marks f.prefix))) (complete d clear) in
     let clash : false ≡ true = sym f.stuck ∙ sym (f.forth []) ∙ whole in
     cc
 stops (t ∷ at) tokens f = λ d.
     let m = mark_of_token t in
-    let whole = subst (λ x. accepts x (Stmts ∷ []) ≡ true) (append_assoc (marks f.front) (m ∷ []) d.0) (complete d.1 clear) in
+    let whole = subst (λ x. accepts x (Stmts ∷ []) ≡ true) (append_assoc (marks f.prefix) (m ∷ []) d.0) (complete d.1 clear) in
     let clash : false ≡ true = ap (λ o. and_then o (accepts d.0)) (sym f.stuck) ∙ sym (f.forth (m ∷ d.0)) ∙ whole in
     cc
 
@@ -74,7 +74,7 @@ pub first_fault : BadIsFault
 first_fault tokens at h =
     let f = found tokens at (Stmts ∷ []) roomy h in
     let end = finish f.left f.room in
-    record { front = f.front; split = f.split; begins = (end.0, f.back end.0 end.1); stops = stops at tokens f }
+    record { prefix = f.prefix; split = f.split; begins = (end.0, f.back end.0 end.1); stops = stops at tokens f }
 
 -- all was read
 ends_whole : (parts : List Part) → Roomy parts → may_end parts ≡ true → Derives parts []
@@ -131,13 +131,13 @@ begins_earlier a b d = (b ++ d.0, subst IsFile (append_assoc a b d.0) d.1)
 file_begins : (a : List Mark) → IsFile a → Begins a
 file_begins a d = ([], subst IsFile (sym (append-nil a)) d)
 
-begins_on : (front : List Token) (t : Token) (more : List Token) → Begins (marks (front ++ t ∷ more)) → Begins (marks front ++ mark_of_token t ∷ [])
-begins_on front t more d =
-    begins_earlier (marks front ++ mark_of_token t ∷ []) (marks more) (subst Begins (marks_append front (t ∷ more) ∙ sym (append_assoc (marks front) (mark_of_token t ∷ []) (marks more))) d)
+begins_on : (prefix : List Token) (t : Token) (more : List Token) → Begins (marks (prefix ++ t ∷ more)) → Begins (marks prefix ++ mark_of_token t ∷ [])
+begins_on prefix t more d =
+    begins_earlier (marks prefix ++ mark_of_token t ∷ []) (marks more) (subst Begins (marks_append prefix (t ∷ more) ∙ sym (append_assoc (marks prefix) (mark_of_token t ∷ []) (marks more))) d)
 
 not_both : (tokens at : List Token) → IsFile (marks tokens) → ¬ IsFirstFaultAt tokens at
-not_both tokens [] d = λ f. f.stops (subst (λ x. IsFile (marks x)) (f.split ∙ append-nil f.front) d)
-not_both tokens (t ∷ at) d = λ f. f.stops (begins_on f.front t at (file_begins _ (subst (λ x. IsFile (marks x)) f.split d)))
+not_both tokens [] d = λ f. f.stops (subst (λ x. IsFile (marks x)) (f.split ∙ append-nil f.prefix) d)
+not_both tokens (t ∷ at) d = λ f. f.stops (begins_on f.prefix t at (file_begins _ (subst (λ x. IsFile (marks x)) f.split d)))
 
 pub never_both : NeverBoth
 never_both tokens line text d = λ f. not_both tokens f.at d f.is
@@ -159,19 +159,19 @@ compare (t ∷ a) b (u ∷ c) d e =
     further same (inr q) = inr (q.0, (ap (λ x. x ∷ a) same ∙ ap (λ x. u ∷ x) q.1), q.2)
 
 -- a fault is not before another
-not_before : (tokens at other : List Token) (f : IsFirstFaultAt tokens at) (g : IsFirstFaultAt tokens other) → Before f.front at g.front other → at ≡ other
+not_before : (tokens at other : List Token) (f : IsFirstFaultAt tokens at) (g : IsFirstFaultAt tokens other) → Before f.prefix at g.prefix other → at ≡ other
 not_before tokens at other f g q = by q.0 q.1 q.2
   where
-    by : (x : List Token) → g.front ≡ f.front ++ x → at ≡ x ++ other → at ≡ other
+    by : (x : List Token) → g.prefix ≡ f.prefix ++ x → at ≡ x ++ other → at ≡ other
     by [] e h = h
     by (t ∷ x) e h =
-        let on = begins_on f.front t x (subst (λ y. Begins (marks y)) e g.begins) in
-        absurd (subst (Stops f.front) h f.stops on)
+        let on = begins_on f.prefix t x (subst (λ y. Begins (marks y)) e g.begins) in
+        absurd (subst (Stops f.prefix) h f.stops on)
 
 pub one_fault : OneFault
-one_fault tokens at other f g = by (compare f.front at g.front other (sym f.split ∙ g.split))
+one_fault tokens at other f g = by (compare f.prefix at g.prefix other (sym f.split ∙ g.split))
   where
-    by : Before f.front at g.front other ⊎ Before g.front other f.front at → at ≡ other
+    by : Before f.prefix at g.prefix other ⊎ Before g.prefix other f.prefix at → at ≡ other
     by (inl q) = not_before tokens at other f g q
     by (inr q) = sym (not_before tokens other at g f q)
 

@@ -80,4 +80,4 @@ pub sixty_four_begin : SixtyFourBegin
 unfolding mark_of_token mark_of_word mark_of_key mark_of_reserved
 sixty_four_begin =
     let f = first_fault (braces 64) [] refl in
-    subst (λ x. Begins (marks x)) (sym (f.split ∙ append-nil f.front)) f.begins
+    subst (λ x. Begins (marks x)) (sym (f.split ∙ append-nil f.prefix)) f.begins

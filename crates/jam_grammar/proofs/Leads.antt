@@ -24,7 +24,7 @@ pub then_ends : (parts part others : List Part) (tokens mid at : List Token) (de
 then_ends parts part others tokens mid at depth deeper l n e more h =
     l more h ∙ ap (run mid) (append_assoc part others more) ∙ n (others ++ more) (omega (arith, opens_append others more))
 
--- one spelling behind another
+-- one spelling after another
 pub spells_append : (a b c : List Token) (s r : List Sym) → Spells a s b → Spells b r c → Spells a (s ++ r) c
 spells_append a b c [] r h k = subst (λ x. Spells x r c) (sym h) k
 spells_append a b c (From n ∷ s) r h k = (h.0, spells_append a b c s r h.1 k)
@@ -92,7 +92,7 @@ token_too_deep part n by mark token tokens after depth e h t room more o =
     no : nat_le (n + opens more) 64 ≡ false
     no = let over : 64 < n + opens more = omega (arith, room, o) in grind (arith, over)
 
--- the tokens are for what comes behind the part
+-- the tokens are for what comes after the part
 abbrev pub SkipsHere : Part → List Token → Type 0
 SkipsHere part [] = may_be_empty part ≡ true
 SkipsHere part (token ∷ tokens) = move part (mark_of_token token) ≡ Skip

@@ -7,7 +7,7 @@ pub mod Stepping
 pub mod Completing
 pub mod FirstFault
 pub mod TokenTexts
-pub mod Fronts
+pub mod FirstTokens
 pub mod OneArg
 pub mod OneExpr
 pub mod OneParam

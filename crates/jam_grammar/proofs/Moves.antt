@@ -9,18 +9,18 @@ opens_append [] b = omega arith
 opens_append (part ∷ a) b = omega (arith, opens_append a b)
 
 -- a move of a part that others follow
-abbrev pub behind : Move → List Part → Move → Move
-behind (Take parts) more next = Take (parts ++ more)
-behind (Room n parts) more next = Room (n + opens more) (parts ++ more)
-behind Skip more next = next
-behind Refuse more next = Refuse
+abbrev pub followed : Move → List Part → Move → Move
+followed (Take parts) more next = Take (parts ++ more)
+followed (Room n parts) more next = Room (n + opens more) (parts ++ more)
+followed Skip more next = next
+followed Refuse more next = Refuse
 
 -- what a mark does to parts
 abbrev pub lead : List Part → Mark → Move
 lead [] mark = Skip
-lead (part ∷ parts) mark = behind (move part mark) parts (lead parts mark)
+lead (part ∷ parts) mark = followed (move part mark) parts (lead parts mark)
 
--- and so to others behind them
+-- and so to others after them
 pub feed_lead : (parts more : List Part) (mark : Mark) → feed (parts ++ more) mark ≡ by_move (lead parts mark) more (feed more) mark
 feed_lead [] more mark = refl
 feed_lead (part ∷ parts) more mark = by (feed_lead parts more mark) (move part mark)
@@ -28,7 +28,7 @@ feed_lead (part ∷ parts) more mark = by (feed_lead parts more mark) (move part
     room : (n : ℕ) → n + opens (parts ++ more) ≡ n + opens parts + opens more
     room n = omega (arith, opens_append parts more)
 
-    by : feed (parts ++ more) mark ≡ by_move (lead parts mark) more (feed more) mark → (v : Move) → by_move v (parts ++ more) (feed (parts ++ more)) mark ≡ by_move (behind v parts (lead parts mark)) more (feed more) mark
+    by : feed (parts ++ more) mark ≡ by_move (lead parts mark) more (feed more) mark → (v : Move) → by_move v (parts ++ more) (feed (parts ++ more)) mark ≡ by_move (followed v parts (lead parts mark)) more (feed more) mark
     by again (Take own) = ap Some (sym (append_assoc own parts more))
     by again (Room n own) =
         ap (λ x. if nat_le x 64 then Some (own ++ (parts ++ more)) else None) (room n)

@@ -9,7 +9,7 @@ use Rattle.jam_grammar.specs.declared.tree.Param.{Param}
 use Rattle.jam_grammar.specs.Spelling.{Sym, Key, Never, Spells, mark_syms, param_syms, no_mark, takes_all, plist_syms, further_params, params_syms}
 use Rattle.jam_grammar.proofs.Leads.{spells_split}
 use Rattle.jam_grammar.proofs.OneArg.{moved}
-use Rattle.jam_grammar.proofs.Fronts.{front, behind, key_front, key_behind, named_front, named_text, named_behind, never_spelled, clash, two_fronts, at_front, cong}
+use Rattle.jam_grammar.proofs.FirstTokens.{first_mark, tail, key_first, key_tail, named_first, named_text, named_tail, never_spelled, clash, same_first, at_first, cong}
 
 -- the marks of parameters, and how a list of them goes on
 abbrev pub marks_param : Mark → Bool
@@ -29,15 +29,15 @@ char_at (Some m.Plus) = 43
 char_at _ = 0
 
 record MarkRead (c : ℕ) (rest : List Sym) (ts u : List Token) : Type 0 where
-  marked : at_front marks_param (front ts) ≡ true
-  char : c ≡ char_at (front ts)
-  behind_it : Spells (behind ts) rest u
+  marked : at_first marks_param (first_mark ts) ≡ true
+  char : c ≡ char_at (first_mark ts)
+  after_it : Spells (tail ts) rest u
 
 mark_read : (c : ℕ) (rest : List Sym) (ts u : List Token) → Spells ts (mark_syms (Some c) ++ rest) u → MarkRead c rest ts u
 mark_read c rest ts u s = query (c == 63) refl s
   where
     read : (mark : Mark) → marks_param mark ≡ true → c ≡ char_at (Some mark) → Spells ts (Key mark ∷ rest) u → MarkRead c rest ts u
-    read mark h e s = record { marked = ap (at_front marks_param) (key_front mark rest ts u s) ∙ h; char = e ∙ ap char_at (sym (key_front mark rest ts u s)); behind_it = key_behind mark rest ts u s }
+    read mark h e s = record { marked = ap (at_first marks_param) (key_first mark rest ts u s) ∙ h; char = e ∙ ap char_at (sym (key_first mark rest ts u s)); after_it = key_tail mark rest ts u s }
 
     plus : (b : Bool) → c == 43 ≡ b → Spells ts ((if b then Key m.Plus ∷ [] else Never ∷ []) ++ rest) u → MarkRead c rest ts u
     plus true e s = read m.Plus refl (grind (arith, e)) s
@@ -52,37 +52,37 @@ mark_read c rest ts u s = query (c == 63) refl s
     query false e s = star (c == 42) refl s
 
 -- names begin with a name, or are none
-names_front : (xs : List Param) (ts u : List Token) → Spells ts (flat_map param_syms xs) u → at_front begins_param (front u) ≡ false → at_front marks_param (front ts) ≡ false
-names_front [] ts u s n = no_mark_at (front ts) (ap (λ x. at_front begins_param (front x)) s ∙ n)
+names_first : (xs : List Param) (ts u : List Token) → Spells ts (flat_map param_syms xs) u → at_first begins_param (first_mark u) ≡ false → at_first marks_param (first_mark ts) ≡ false
+names_first [] ts u s n = no_mark_at (first_mark ts) (ap (λ x. at_first begins_param (first_mark x)) s ∙ n)
   where
-    no_mark_at : (o : Option Mark) → at_front begins_param o ≡ false → at_front marks_param o ≡ false
+    no_mark_at : (o : Option Mark) → at_first begins_param o ≡ false → at_first marks_param o ≡ false
     no_mark_at None h = refl
     no_mark_at (Some m.Plain) h = refl
     no_mark_at (Some mark) h = h
-names_front (x ∷ xs) ts u s n = ap (at_front marks_param) (named_front x.name _ ts u s)
+names_first (x ∷ xs) ts u s n = ap (at_first marks_param) (named_first x.name _ ts u s)
 
-name_first : (x : Param) (xs : List Param) (ts u : List Token) → Spells ts (flat_map param_syms (x ∷ xs)) u → at_front begins_param (front ts) ≡ true
-name_first x xs ts u s = ap (at_front begins_param) (named_front x.name _ ts u s)
+name_first : (x : Param) (xs : List Param) (ts u : List Token) → Spells ts (flat_map param_syms (x ∷ xs)) u → at_first begins_param (first_mark ts) ≡ true
+name_first x xs ts u s = ap (at_first begins_param) (named_first x.name _ ts u s)
 
-mark_one : (a b : Option ℕ) (xs ys : List Param) (ts u v : List Token) → Spells ts (mark_syms a ++ flat_map param_syms xs) u → Spells ts (mark_syms b ++ flat_map param_syms ys) v → at_front begins_param (front u) ≡ false → at_front begins_param (front v) ≡ false → (a ≡ b) × ((w : List Token) × Spells w (flat_map param_syms xs) u × Spells w (flat_map param_syms ys) v)
+mark_one : (a b : Option ℕ) (xs ys : List Param) (ts u v : List Token) → Spells ts (mark_syms a ++ flat_map param_syms xs) u → Spells ts (mark_syms b ++ flat_map param_syms ys) v → at_first begins_param (first_mark u) ≡ false → at_first begins_param (first_mark v) ≡ false → (a ≡ b) × ((w : List Token) × Spells w (flat_map param_syms xs) u × Spells w (flat_map param_syms ys) v)
 mark_one None None xs ys ts u v s r n k = (refl, (ts, s, r))
-mark_one None (Some d) xs ys ts u v s r n k = clash (at_front marks_param (front ts)) ((mark_read d _ ts v r).marked) (names_front xs ts u s n)
-mark_one (Some c) None xs ys ts u v s r n k = clash (at_front marks_param (front ts)) ((mark_read c _ ts u s).marked) (names_front ys ts v r k)
+mark_one None (Some d) xs ys ts u v s r n k = clash (at_first marks_param (first_mark ts)) ((mark_read d _ ts v r).marked) (names_first xs ts u s n)
+mark_one (Some c) None xs ys ts u v s r n k = clash (at_first marks_param (first_mark ts)) ((mark_read c _ ts u s).marked) (names_first ys ts v r k)
 mark_one (Some c) (Some d) xs ys ts u v s r n k =
     let q = mark_read c _ ts u s in
     let p = mark_read d _ ts v r in
-    (ap Some (q.char ∙ sym p.char), (behind ts, q.behind_it, p.behind_it))
+    (ap Some (q.char ∙ sym p.char), (tail ts, q.after_it, p.after_it))
 
 param_is : (x y : Param) → x.name ≡ y.name → x.mark ≡ y.mark → x ≡ y
 param_is x y e h = cong (λ a b. record { name = a; mark = b }) e h
 
-names_one : (xs ys : List Param) (ts u v : List Token) → Spells ts (flat_map param_syms xs) u → Spells ts (flat_map param_syms ys) v → at_front begins_param (front u) ≡ false → at_front begins_param (front v) ≡ false → (xs ≡ ys) × (u ≡ v)
+names_one : (xs ys : List Param) (ts u v : List Token) → Spells ts (flat_map param_syms xs) u → Spells ts (flat_map param_syms ys) v → at_first begins_param (first_mark u) ≡ false → at_first begins_param (first_mark v) ≡ false → (xs ≡ ys) × (u ≡ v)
 names_one [] [] ts u v s r n k = (refl, sym s ∙ r)
-names_one [] (y ∷ ys) ts u v s r n k = clash (at_front begins_param (front ts)) (name_first y ys ts v r) (ap (λ x. at_front begins_param (front x)) s ∙ n)
-names_one (x ∷ xs) [] ts u v s r n k = clash (at_front begins_param (front ts)) (name_first x xs ts u s) (ap (λ x. at_front begins_param (front x)) r ∙ k)
+names_one [] (y ∷ ys) ts u v s r n k = clash (at_first begins_param (first_mark ts)) (name_first y ys ts v r) (ap (λ x. at_first begins_param (first_mark x)) s ∙ n)
+names_one (x ∷ xs) [] ts u v s r n k = clash (at_first begins_param (first_mark ts)) (name_first x xs ts u s) (ap (λ x. at_first begins_param (first_mark x)) r ∙ k)
 names_one (x ∷ xs) (y ∷ ys) ts u v s r n k =
     let name = sym (named_text x.name _ ts u s) ∙ named_text y.name _ ts v r in
-    let e = mark_one x.mark y.mark xs ys (behind ts) u v (named_behind x.name _ ts u s) (named_behind y.name _ ts v r) n k in
+    let e = mark_one x.mark y.mark xs ys (tail ts) u v (named_tail x.name _ ts u s) (named_tail y.name _ ts v r) n k in
     let f = names_one xs ys e.1.0 u v e.1.1 e.1.2 n k in
     (cong (λ a b. a ∷ b) (param_is x y name e.0) f.0, f.1)
 
@@ -105,55 +105,55 @@ takes_all_is (x ∷ []) h =
     ap (λ y. y ∷ []) (param_is x star_param ((bytes_eq-Decides x.name (codes "*")).0 both.0) (no_mark_is x.mark both.1))
 takes_all_is (x ∷ y ∷ xs) h = cc
 
-no_star : (xs : List Param) (ts u w : List Token) → Spells ts (flat_map param_syms xs) u → at_front begins_param (front u) ≡ false → Spells ts (Key m.Star ∷ []) w → ⊥
-no_star xs ts u w s n r = clash (at_front marks_param (front ts)) (ap (at_front marks_param) (key_front m.Star [] ts w r)) (names_front xs ts u s n)
+no_star : (xs : List Param) (ts u w : List Token) → Spells ts (flat_map param_syms xs) u → at_first begins_param (first_mark u) ≡ false → Spells ts (Key m.Star ∷ []) w → ⊥
+no_star xs ts u w s n r = clash (at_first marks_param (first_mark ts)) (ap (at_first marks_param) (key_first m.Star [] ts w r)) (names_first xs ts u s n)
 
-pub plist_one : (xs ys : List Param) (ts u v : List Token) → Spells ts (plist_syms xs) u → Spells ts (plist_syms ys) v → at_front begins_param (front u) ≡ false → at_front begins_param (front v) ≡ false → (xs ≡ ys) × (u ≡ v)
+pub plist_one : (xs ys : List Param) (ts u v : List Token) → Spells ts (plist_syms xs) u → Spells ts (plist_syms ys) v → at_first begins_param (first_mark u) ≡ false → at_first begins_param (first_mark v) ≡ false → (xs ≡ ys) × (u ≡ v)
 plist_one xs ys ts u v s r n k = by (takes_all xs) (takes_all ys) refl refl s r
   where
     by : (a b : Bool) → takes_all xs ≡ a → takes_all ys ≡ b → Spells ts (if a then Key m.Star ∷ [] else flat_map param_syms xs) u → Spells ts (if b then Key m.Star ∷ [] else flat_map param_syms ys) v → (xs ≡ ys) × (u ≡ v)
-    by true true e f s r = (takes_all_is xs e ∙ sym (takes_all_is ys f), sym (key_behind m.Star [] ts u s) ∙ key_behind m.Star [] ts v r)
+    by true true e f s r = (takes_all_is xs e ∙ sym (takes_all_is ys f), sym (key_tail m.Star [] ts u s) ∙ key_tail m.Star [] ts v r)
     by true false e f s r = absurd (no_star ys ts v u r k s)
     by false true e f s r = absurd (no_star xs ts u v s n r)
     by false false e f s r = names_one xs ys ts u v s r n k
 
--- lists behind colons
+-- lists after colons
 abbrev pub goes_params : Mark → Bool
 goes_params m.Colon = true
 goes_params mark = begins_param mark
 
-no_goes : (o : Option Mark) → at_front goes_params o ≡ false → at_front begins_param o ≡ false
+no_goes : (o : Option Mark) → at_first goes_params o ≡ false → at_first begins_param o ≡ false
 no_goes None h = refl
 no_goes (Some m.Colon) h = refl
 no_goes (Some mark) h = h
 
-further_end : (xs : List (List Param)) (ts u : List Token) → Spells ts (further_params xs) u → at_front goes_params (front u) ≡ false → at_front begins_param (front ts) ≡ false
-further_end [] ts u s n = no_goes (front ts) (ap (λ x. at_front goes_params (front x)) s ∙ n)
-further_end (x ∷ xs) ts u s n = ap (at_front begins_param) (key_front m.Colon _ ts u s)
+further_end : (xs : List (List Param)) (ts u : List Token) → Spells ts (further_params xs) u → at_first goes_params (first_mark u) ≡ false → at_first begins_param (first_mark ts) ≡ false
+further_end [] ts u s n = no_goes (first_mark ts) (ap (λ x. at_first goes_params (first_mark x)) s ∙ n)
+further_end (x ∷ xs) ts u s n = ap (at_first begins_param) (key_first m.Colon _ ts u s)
 
-further_one : (xs ys : List (List Param)) (ts u v : List Token) → Spells ts (further_params xs) u → Spells ts (further_params ys) v → at_front goes_params (front u) ≡ false → at_front goes_params (front v) ≡ false → (xs ≡ ys) × (u ≡ v)
+further_one : (xs ys : List (List Param)) (ts u v : List Token) → Spells ts (further_params xs) u → Spells ts (further_params ys) v → at_first goes_params (first_mark u) ≡ false → at_first goes_params (first_mark v) ≡ false → (xs ≡ ys) × (u ≡ v)
 further_one [] [] ts u v s r n k = (refl, sym s ∙ r)
-further_one [] (y ∷ ys) ts u v s r n k = clash (at_front goes_params (front ts)) (ap (at_front goes_params) (key_front m.Colon _ ts v r)) (ap (λ x. at_front goes_params (front x)) s ∙ n)
-further_one (x ∷ xs) [] ts u v s r n k = clash (at_front goes_params (front ts)) (ap (at_front goes_params) (key_front m.Colon _ ts u s)) (ap (λ x. at_front goes_params (front x)) r ∙ k)
+further_one [] (y ∷ ys) ts u v s r n k = clash (at_first goes_params (first_mark ts)) (ap (at_first goes_params) (key_first m.Colon _ ts v r)) (ap (λ x. at_first goes_params (first_mark x)) s ∙ n)
+further_one (x ∷ xs) [] ts u v s r n k = clash (at_first goes_params (first_mark ts)) (ap (at_first goes_params) (key_first m.Colon _ ts u s)) (ap (λ x. at_first goes_params (first_mark x)) r ∙ k)
 further_one (x ∷ xs) (y ∷ ys) ts u v s r n k =
-    let q = spells_split (behind ts) u (plist_syms x) (further_params xs) (key_behind m.Colon _ ts u s) in
-    let p = spells_split (behind ts) v (plist_syms y) (further_params ys) (key_behind m.Colon _ ts v r) in
-    let e = plist_one x y (behind ts) q.0 p.0 q.1 p.1 (further_end xs q.0 u q.2 n) (further_end ys p.0 v p.2 k) in
+    let q = spells_split (tail ts) u (plist_syms x) (further_params xs) (key_tail m.Colon _ ts u s) in
+    let p = spells_split (tail ts) v (plist_syms y) (further_params ys) (key_tail m.Colon _ ts v r) in
+    let e = plist_one x y (tail ts) q.0 p.0 q.1 p.1 (further_end xs q.0 u q.2 n) (further_end ys p.0 v p.2 k) in
     let f = further_one xs ys q.0 u v q.2 (moved (further_params ys) q.0 p.0 v e.1 p.2) n k in
     (cong (λ a b. a ∷ b) e.0 f.0, f.1)
 
 -- parameters in parentheses, or none
-pub params_one : (xs ys : List (List Param)) (ts u v : List Token) → Spells ts (params_syms xs) u → Spells ts (params_syms ys) v → front u ≡ Some m.BraceOpen → front v ≡ Some m.BraceOpen → (xs ≡ ys) × (u ≡ v)
+pub params_one : (xs ys : List (List Param)) (ts u v : List Token) → Spells ts (params_syms xs) u → Spells ts (params_syms ys) v → first_mark u ≡ Some m.BraceOpen → first_mark v ≡ Some m.BraceOpen → (xs ≡ ys) × (u ≡ v)
 params_one [] [] ts u v s r n k = (refl, sym s ∙ r)
-params_one [] (y ∷ ys) ts u v s r n k = let e = two_fronts (front ts) m.ParenOpen m.BraceOpen (key_front m.ParenOpen _ ts v r) (ap front s ∙ n) in cc
-params_one (x ∷ xs) [] ts u v s r n k = let e = two_fronts (front ts) m.ParenOpen m.BraceOpen (key_front m.ParenOpen _ ts u s) (ap front r ∙ k) in cc
+params_one [] (y ∷ ys) ts u v s r n k = let e = same_first (first_mark ts) m.ParenOpen m.BraceOpen (key_first m.ParenOpen _ ts v r) (ap first_mark s ∙ n) in cc
+params_one (x ∷ xs) [] ts u v s r n k = let e = same_first (first_mark ts) m.ParenOpen m.BraceOpen (key_first m.ParenOpen _ ts u s) (ap first_mark r ∙ k) in cc
 params_one (x ∷ xs) (y ∷ ys) ts u v s r n k =
-    let q = spells_split (behind ts) u (plist_syms x ++ further_params xs) (Key m.ParenClose ∷ []) (key_behind m.ParenOpen _ ts u s) in
-    let p = spells_split (behind ts) v (plist_syms y ++ further_params ys) (Key m.ParenClose ∷ []) (key_behind m.ParenOpen _ ts v r) in
-    let q2 = spells_split (behind ts) q.0 (plist_syms x) (further_params xs) q.1 in
-    let p2 = spells_split (behind ts) p.0 (plist_syms y) (further_params ys) p.1 in
-    let nq = ap (at_front goes_params) (key_front m.ParenClose [] q.0 u q.2) in
-    let np = ap (at_front goes_params) (key_front m.ParenClose [] p.0 v p.2) in
-    let e = plist_one x y (behind ts) q2.0 p2.0 q2.1 p2.1 (further_end xs q2.0 q.0 q2.2 nq) (further_end ys p2.0 p.0 p2.2 np) in
+    let q = spells_split (tail ts) u (plist_syms x ++ further_params xs) (Key m.ParenClose ∷ []) (key_tail m.ParenOpen _ ts u s) in
+    let p = spells_split (tail ts) v (plist_syms y ++ further_params ys) (Key m.ParenClose ∷ []) (key_tail m.ParenOpen _ ts v r) in
+    let q2 = spells_split (tail ts) q.0 (plist_syms x) (further_params xs) q.1 in
+    let p2 = spells_split (tail ts) p.0 (plist_syms y) (further_params ys) p.1 in
+    let nq = ap (at_first goes_params) (key_first m.ParenClose [] q.0 u q.2) in
+    let np = ap (at_first goes_params) (key_first m.ParenClose [] p.0 v p.2) in
+    let e = plist_one x y (tail ts) q2.0 p2.0 q2.1 p2.1 (further_end xs q2.0 q.0 q2.2 nq) (further_end ys p2.0 p.0 p2.2 np) in
     let f = further_one xs ys q2.0 q.0 p.0 q2.2 (moved (further_params ys) q2.0 p2.0 p.0 e.1 p2.2) nq np in
-    (cong (λ a b. a ∷ b) e.0 f.0, sym (key_behind m.ParenClose [] q.0 u q.2) ∙ ap behind f.1 ∙ key_behind m.ParenClose [] p.0 v p.2)
+    (cong (λ a b. a ∷ b) e.0 f.0, sym (key_tail m.ParenClose [] q.0 u q.2) ∙ ap tail f.1 ∙ key_tail m.ParenClose [] p.0 v p.2)

@@ -52,9 +52,9 @@ pub roomy_opens : (parts : List Part) → Roomy parts → opens parts ≤ 64
 roomy_opens [] r = omega arith
 roomy_opens (part ∷ parts) r = omega (arith, r.0, closes_needs part)
 
-pub roomy_behind : (parts more : List Part) → Roomy (parts ++ more) → Roomy more
-roomy_behind [] more r = r
-roomy_behind (part ∷ parts) more r = roomy_behind parts more r.1
+pub roomy_after : (parts more : List Part) → Roomy (parts ++ more) → Roomy more
+roomy_after [] more r = r
+roomy_after (part ∷ parts) more r = roomy_after parts more r.1
 
 -- the room of parts before others
 pub roomy_append : (parts more : List Part) → need parts + opens more ≤ 64 → Roomy more → Roomy (parts ++ more)
@@ -68,7 +68,7 @@ need_append (part ∷ parts) more r =
     let here : needs part + opens parts ≤ 64 - opens more = omega (arith, r.0, opens_append parts more) in
     let rest : need parts ≤ 64 - opens more = omega (arith, need_append parts more r.1) in
     let all = greater_within (needs part + opens parts) (need parts) (64 - opens more) here rest in
-    omega (arith, all, roomy_opens more (roomy_behind (part ∷ parts) more r))
+    omega (arith, all, roomy_opens more (roomy_after (part ∷ parts) more r))
 
 -- a line gives its part what it needs
 abbrev Gives : Part → List Part → Type 0
@@ -233,7 +233,7 @@ rooms (grammar.word is room d) = (omega (arith, room), rooms d)
 rooms (grammar.shut room d) = (room, rooms d)
 rooms (grammar.by_line {part} {by} {parts} l d) =
     let r = rooms d in
-    (omega (arith, need_append by parts r, line_needs l), roomy_behind by parts r)
+    (omega (arith, need_append by parts r, line_needs l), roomy_after by parts r)
 
 -- what a mark puts in a part's place needs no more than there is room for
 abbrev fits_by : Move → Part → Bool

@@ -78,8 +78,8 @@ steady_fixed (From line ∷ syms) h = absurd h
 steady_fixed (Never ∷ syms) h = steady_fixed syms h
 
 -- steady symbols before others
-fixed_behind : (a b : List Sym) → Steady a → Fixed b → Fixed (a ++ b)
-fixed_behind a b h k = fixed_append a b (steady_fixed a h) k
+fixed_after : (a b : List Sym) → Steady a → Fixed b → Fixed (a ++ b)
+fixed_after a b h k = fixed_append a b (steady_fixed a h) k
 
 fixed_braced : (syms : List Sym) → Fixed syms → Fixed (braced syms)
 fixed_braced syms h = (refl, fixed_append syms _ h (refl, tt))
@@ -96,14 +96,14 @@ mutual
   fixed_form (AssignOn target on sign value) = steady_fixed (spell_form (AssignOn target on sign value)) (steady_assign_on target on sign value)
   fixed_form (Include names) = steady_fixed (spell_form (Include names)) (steady_set m.Include (spell_args names) refl (steady_args names))
   fixed_form (Return value) = steady_fixed (spell_form (Return value)) (steady_set m.Return (spell_args value) refl (steady_args value))
-  fixed_form (If test block next) = (refl, fixed_behind (spell_expr Anywhere test) _ (steady_expr Anywhere test) (fixed_append (braced (spell_stmts block)) _ (fixed_braced (spell_stmts block) (fixed_stmts block)) (fixed_other next)))
-  fixed_form (For own name items block) = (refl, fixed_behind (local_syms own) _ (steady_local own) (refl, fixed_behind (spell_args items) _ (steady_args items) (fixed_braced (spell_stmts block) (fixed_stmts block))))
-  fixed_form (While test block) = (refl, fixed_behind (spell_expr Anywhere test) _ (steady_expr Anywhere test) (fixed_braced (spell_stmts block) (fixed_stmts block)))
-  fixed_form (Switch value cases) = (refl, fixed_behind (spell_args value) _ (steady_args value) (fixed_braced (spell_cases cases) (fixed_cases cases)))
-  fixed_form (Module name block) = (refl, fixed_behind (spell_args name) _ (steady_args name) (fixed_braced (spell_stmts block) (fixed_stmts block)))
-  fixed_form (Rule name params block) = (refl, fixed_behind (params_syms params) _ (steady_params params) (fixed_braced (spell_stmts block) (fixed_stmts block)))
+  fixed_form (If test block next) = (refl, fixed_after (spell_expr Anywhere test) _ (steady_expr Anywhere test) (fixed_append (braced (spell_stmts block)) _ (fixed_braced (spell_stmts block) (fixed_stmts block)) (fixed_other next)))
+  fixed_form (For own name items block) = (refl, fixed_after (local_syms own) _ (steady_local own) (refl, fixed_after (spell_args items) _ (steady_args items) (fixed_braced (spell_stmts block) (fixed_stmts block))))
+  fixed_form (While test block) = (refl, fixed_after (spell_expr Anywhere test) _ (steady_expr Anywhere test) (fixed_braced (spell_stmts block) (fixed_stmts block)))
+  fixed_form (Switch value cases) = (refl, fixed_after (spell_args value) _ (steady_args value) (fixed_braced (spell_cases cases) (fixed_cases cases)))
+  fixed_form (Module name block) = (refl, fixed_after (spell_args name) _ (steady_args name) (fixed_braced (spell_stmts block) (fixed_stmts block)))
+  fixed_form (Rule name params block) = (refl, fixed_after (params_syms params) _ (steady_params params) (fixed_braced (spell_stmts block) (fixed_stmts block)))
   fixed_form (Actions name body) = (refl, (refl, (refl, tt)))
-  fixed_form (On target line form) = (refl, fixed_behind (spell_arg target) _ (steady_arg target) (leads_form form, fixed_form form))
+  fixed_form (On target line form) = (refl, fixed_after (spell_arg target) _ (steady_arg target) (leads_form form, fixed_form form))
   fixed_form (Call head lists) = steady_fixed (spell_form (Call head lists)) (steady_call head lists)
 
   fixed_other : (o : OtherTree) → Fixed (spell_other o)

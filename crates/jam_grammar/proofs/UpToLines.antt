@@ -7,7 +7,7 @@ use Rattle.jam_grammar.specs.Trees.{FormTree, Braces, Local, Assign, AssignOn, I
 use Rattle.jam_grammar.specs.Spelling.{Sym, Key, Says, Named, Raw, From, Never, Spells, StartsOn, Anywhere, spell_arg, spell_args, spell_expr, params_syms, local_syms, braced, only, is_if, spell_form, spell_other, spell_stmts, spell_cases}
 use Rattle.jam_grammar.specs.Alike.{unlined, lineless, lineless_form, lineless_other, lineless_cases}
 use Rattle.jam_grammar.specs.Laws.{OneTree, OneUpToLines, SameUpToLines, ReadsAlso}
-use Rattle.jam_grammar.proofs.Fronts.{cong}
+use Rattle.jam_grammar.proofs.FirstTokens.{cong}
 use Rattle.jam_grammar.proofs.OneForm.{tree_one}
 use Rattle.jam_grammar.proofs.Steady.{Steady, steady_arg, steady_args, steady_expr, steady_params, steady_set, steady_local, steady_assign, steady_assign_on, steady_locals, steady_call}
 use Rattle.jam_grammar.proofs.SameSaying.{leads, Fixed, fixed_stmts}
@@ -44,8 +44,8 @@ both_zeroed : (a b c d : List Sym) → a ≡ zeroed b → c ≡ zeroed d → a +
 both_zeroed a b c d e h = cong (λ x y. x ++ y) e h ∙ sym (zeroed_append b d)
 
 -- steady symbols before others
-behind_zeroed : (a c d : List Sym) → Steady a → c ≡ zeroed d → a ++ c ≡ zeroed (a ++ d)
-behind_zeroed a c d s h = both_zeroed a a c d (steady_zeroed a s) h
+zeroed_after : (a c d : List Sym) → Steady a → c ≡ zeroed d → a ++ c ≡ zeroed (a ++ d)
+zeroed_after a c d s h = both_zeroed a a c d (steady_zeroed a s) h
 
 braced_zeroed : (a b : List Sym) → a ≡ zeroed b → braced a ≡ zeroed (braced b)
 braced_zeroed a b e = ap (λ x. Key m.BraceOpen ∷ x) (both_zeroed a b (Key m.BraceClose ∷ []) (Key m.BraceClose ∷ []) e refl)
@@ -61,13 +61,13 @@ if_lineless _ = refl
 mutual
   form_zeroed : (f : FormTree) → spell_form (lineless_form f) ≡ zeroed (spell_form f)
   form_zeroed (Braces block) = braced_zeroed (spell_stmts (lineless block)) (spell_stmts block) (stmts_zeroed block)
-  form_zeroed (If test block next) = ap (λ x. Key m.If ∷ x) (behind_zeroed (spell_expr Anywhere test) (braced (spell_stmts (lineless block)) ++ spell_other (lineless_other next)) (braced (spell_stmts block) ++ spell_other next) (steady_expr Anywhere test) (both_zeroed (braced (spell_stmts (lineless block))) (braced (spell_stmts block)) (spell_other (lineless_other next)) (spell_other next) (braced_zeroed (spell_stmts (lineless block)) (spell_stmts block) (stmts_zeroed block)) (other_zeroed next)))
-  form_zeroed (For own name items block) = ap (λ x. Key m.For ∷ x) (behind_zeroed (local_syms own) (Says name ∷ Key m.In ∷ (spell_args items ++ braced (spell_stmts (lineless block)))) (Says name ∷ Key m.In ∷ (spell_args items ++ braced (spell_stmts block))) (steady_local own) (ap (λ x. Says name ∷ Key m.In ∷ x) (behind_zeroed (spell_args items) (braced (spell_stmts (lineless block))) (braced (spell_stmts block)) (steady_args items) (braced_zeroed (spell_stmts (lineless block)) (spell_stmts block) (stmts_zeroed block)))))
-  form_zeroed (While test block) = ap (λ x. Key m.While ∷ x) (behind_zeroed (spell_expr Anywhere test) (braced (spell_stmts (lineless block))) (braced (spell_stmts block)) (steady_expr Anywhere test) (braced_zeroed (spell_stmts (lineless block)) (spell_stmts block) (stmts_zeroed block)))
-  form_zeroed (Switch value cases) = ap (λ x. Key m.Switch ∷ x) (behind_zeroed (spell_args value) (braced (spell_cases (lineless_cases cases))) (braced (spell_cases cases)) (steady_args value) (braced_zeroed (spell_cases (lineless_cases cases)) (spell_cases cases) (cases_zeroed cases)))
-  form_zeroed (Module name block) = ap (λ x. Key m.Module ∷ x) (behind_zeroed (spell_args name) (braced (spell_stmts (lineless block))) (braced (spell_stmts block)) (steady_args name) (braced_zeroed (spell_stmts (lineless block)) (spell_stmts block) (stmts_zeroed block)))
-  form_zeroed (Rule name params block) = ap (λ x. Key m.Rule ∷ Says name ∷ x) (behind_zeroed (params_syms params) (braced (spell_stmts (lineless block))) (braced (spell_stmts block)) (steady_params params) (braced_zeroed (spell_stmts (lineless block)) (spell_stmts block) (stmts_zeroed block)))
-  form_zeroed (On target line form) = ap (λ x. Key m.On ∷ x) (behind_zeroed (spell_arg target) (From 0 ∷ spell_form (lineless_form form)) (From line ∷ spell_form form) (steady_arg target) (ap (λ x. From 0 ∷ x) (form_zeroed form)))
+  form_zeroed (If test block next) = ap (λ x. Key m.If ∷ x) (zeroed_after (spell_expr Anywhere test) (braced (spell_stmts (lineless block)) ++ spell_other (lineless_other next)) (braced (spell_stmts block) ++ spell_other next) (steady_expr Anywhere test) (both_zeroed (braced (spell_stmts (lineless block))) (braced (spell_stmts block)) (spell_other (lineless_other next)) (spell_other next) (braced_zeroed (spell_stmts (lineless block)) (spell_stmts block) (stmts_zeroed block)) (other_zeroed next)))
+  form_zeroed (For own name items block) = ap (λ x. Key m.For ∷ x) (zeroed_after (local_syms own) (Says name ∷ Key m.In ∷ (spell_args items ++ braced (spell_stmts (lineless block)))) (Says name ∷ Key m.In ∷ (spell_args items ++ braced (spell_stmts block))) (steady_local own) (ap (λ x. Says name ∷ Key m.In ∷ x) (zeroed_after (spell_args items) (braced (spell_stmts (lineless block))) (braced (spell_stmts block)) (steady_args items) (braced_zeroed (spell_stmts (lineless block)) (spell_stmts block) (stmts_zeroed block)))))
+  form_zeroed (While test block) = ap (λ x. Key m.While ∷ x) (zeroed_after (spell_expr Anywhere test) (braced (spell_stmts (lineless block))) (braced (spell_stmts block)) (steady_expr Anywhere test) (braced_zeroed (spell_stmts (lineless block)) (spell_stmts block) (stmts_zeroed block)))
+  form_zeroed (Switch value cases) = ap (λ x. Key m.Switch ∷ x) (zeroed_after (spell_args value) (braced (spell_cases (lineless_cases cases))) (braced (spell_cases cases)) (steady_args value) (braced_zeroed (spell_cases (lineless_cases cases)) (spell_cases cases) (cases_zeroed cases)))
+  form_zeroed (Module name block) = ap (λ x. Key m.Module ∷ x) (zeroed_after (spell_args name) (braced (spell_stmts (lineless block))) (braced (spell_stmts block)) (steady_args name) (braced_zeroed (spell_stmts (lineless block)) (spell_stmts block) (stmts_zeroed block)))
+  form_zeroed (Rule name params block) = ap (λ x. Key m.Rule ∷ Says name ∷ x) (zeroed_after (params_syms params) (braced (spell_stmts (lineless block))) (braced (spell_stmts block)) (steady_params params) (braced_zeroed (spell_stmts (lineless block)) (spell_stmts block) (stmts_zeroed block)))
+  form_zeroed (On target line form) = ap (λ x. Key m.On ∷ x) (zeroed_after (spell_arg target) (From 0 ∷ spell_form (lineless_form form)) (From line ∷ spell_form form) (steady_arg target) (ap (λ x. From 0 ∷ x) (form_zeroed form)))
   form_zeroed (Local names value) = steady_zeroed (spell_form (Local names value)) (steady_locals names value)
   form_zeroed (Assign target sign value) = steady_zeroed (spell_form (Assign target sign value)) (steady_assign target sign value)
   form_zeroed (AssignOn target on sign value) = steady_zeroed (spell_form (AssignOn target on sign value)) (steady_assign_on target on sign value)

@@ -17,11 +17,11 @@ use Rattle.jam_grammar.specs.Spelling as s
 use Rattle.jam_grammar.specs.Readings.{marks}
 use Rattle.jam_grammar.specs.Laws.{FileHasTree}
 use Rattle.jam_grammar.proofs.Leads.{spells_append}
-use Rattle.jam_grammar.proofs.Fronts.{first_line, never_spelled}
+use Rattle.jam_grammar.proofs.FirstTokens.{first_line, never_spelled}
 use Rattle.jam_grammar.proofs.SameSaying.{leads, leads_form}
 use Rattle.jam_grammar.proofs.TokenTexts.{plain_no_star}
 
--- what some parts stand for: what stands behind an argument, behind `else`, behind `on arg`, and behind what is compared
+-- what some parts stand for: what stands after an argument, after `else`, after `on arg`, and after what is compared
 data TailTree : Type 0 where
   SetTail : Sign → ArgTrees → TailTree
   OnTail : ArgTrees → Sign → ArgTrees → TailTree
@@ -211,7 +211,7 @@ stmt3 p q r k ts f e w = let x = three p q r k ts w in stmt (f x.0 x.1 x.2) _ k 
 stmt4 : (p q r o : Part) (k : List Part) (ts : List Token) (f : Value p → Value q → Value r → Value o → FormTree) → ((a : Value p) (b : Value q) (c : Value r) (d : Value o) → spell_form (f a b c d) ≡ syms p a ++ (syms q b ++ (syms r c ++ syms o d))) → Values (p ∷ q ∷ r ∷ o ∷ k) ts → Values (OneStmt ∷ k) ts
 stmt4 p q r o k ts f e w = let x = four p q r o k ts w in stmt (f x.0 x.1 x.2 x.3) _ k ts x.4 (e x.0 x.1 x.2 x.3) x.5 x.6
 
--- wholes of what stands behind their first parts
+-- wholes of what stands after their first parts
 made : ArgTree → TailTree → FormTree
 made a (SetTail sign value) = Assign a sign value
 made a (OnTail on sign value) = AssignOn a on sign value
@@ -306,7 +306,7 @@ named k ts w =
 listed : (list : List Param) (further : List Sym) → takes_all list ≡ false → plist_syms list ++ further ≡ flat_map param_syms list ++ further
 listed list further h = ap (λ b. (if b then s.Key m.Star ∷ [] else flat_map param_syms list) ++ further) h
 
--- an `if` behind `else`
+-- an `if` after `else`
 else_if : (k : List Part) (ts : List Token) → Values (Key m.If ∷ OneExpr ∷ OneBlock ∷ OneElse ∷ Shut ∷ k) ts → Values (ElseTail ∷ k) ts
 else_if k ts w =
     let x = five (Key m.If) OneExpr OneBlock OneElse Shut k ts w in

@@ -61,7 +61,7 @@ OnTooDeep = IsFirstFault (nested_on 64 ++ key (codes "on") 5 ∷ []) 5 (codes "o
 abbrev pub TenListsFault : Type 0
 TenListsFault = IsFirstFault (word (codes "f") 1 ∷ (replicate 8 (key (codes ":") 1) ++ key (codes ":") 6 ∷ [])) 6 (codes ":")
 
--- behind a parameter marked `*` none follows in its list, and `*` alone is the last list
+-- after a parameter marked `*` none follows in its list, and `*` alone is the last list
 abbrev pub rule_with : List Token → List Token
 rule_with params = key (codes "rule") 1 ∷ word (codes "f") 1 ∷ key (codes "(") 1 ∷ params
 

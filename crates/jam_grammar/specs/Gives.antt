@@ -10,11 +10,11 @@ use Rattle.jam_grammar.specs.Spelling.{Sym, Spells}
 abbrev pub Leads : List Part → List Token → ℕ → List Part → List Token → Type 0
 Leads parts tokens depth others after = (more : List Part) → opens more ≡ depth → run tokens (parts ++ more) ≡ run after (others ++ more)
 
--- reading the parts ends at these tokens, whatever has to come behind them
+-- reading the parts ends at these tokens, whatever has to come after them
 abbrev pub Ends : List Part → List Token → ℕ → List Token → Type 0
 Ends parts tokens depth at = (more : List Part) → opens more ≡ depth → run tokens (parts ++ more) ≡ Bad at
 
--- the parts are read, the symbols are spelled by that, and reading goes on behind them
+-- the parts are read, the symbols are spelled by that, and reading goes on after them
 pub record ReadsPart (parts : List Part) (tokens : List Token) (depth : ℕ) (syms : List Sym) (after : List Token) : Type 0 where
   pub moves : Leads parts tokens depth [] after
   pub spells : Spells tokens syms after

@@ -12,16 +12,16 @@ pub data Part : Type 0 where
   OneWord : Part
   -- the end of what an `on`, a `!`, or an `else` before an `if` applies to, where no token stands
   Shut : Part
-  -- statements, one statement, what stands in it behind its first argument, and behind `on` there
+  -- statements, one statement, what stands in it after its first argument, and after `on` there
   Stmts : Part
   OneStmt : Part
   Tail : Part
   Assigned : Part
-  -- what may stand behind `local names`, behind `for`, and behind `rule name`
+  -- what may stand after `local names`, after `for`, and after `rule name`
   LocalTail : Part
   ForTail : Part
   RuleTail : Part
-  -- what may stand behind a block of `if`, and behind `else`
+  -- what may stand after a block of `if`, and after `else`
   OneElse : Part
   ElseTail : Part
   -- a block; cases in braces, and without them; a body in braces
@@ -29,19 +29,19 @@ pub data Part : Type 0 where
   CaseBlock : Part
   Cases : Part
   BodyBlock : Part
-  -- parameters in parentheses, without them, and behind the first list; names in a list; what may stand behind a name
+  -- parameters in parentheses, without them, and after the first list; names in a list; what may stand after a name
   ParamBlock : Part
   Params : Part
   MoreParams : Part
   Names : Part
   NameTail : Part
-  -- an argument; what stands in brackets, and there behind `on arg`; arguments; so many lists more, each behind a colon
+  -- an argument; what stands in brackets, and there after `on arg`; arguments; so many lists more, each after a colon
   OneArg : Part
   OneInner : Part
   InnerTail : Part
   Args : Part
   More : ℕ → Part
-  -- a condition, of those between `||`, of those between `&&`; what may stand behind each of these two, and behind an
+  -- a condition, of those between `||`, of those between `&&`; what may stand after each of these two, and after an
   -- argument
   OneExpr : Part
   Both : Part
@@ -70,7 +70,7 @@ pub data Line : Part → List Part → Type 0 where
   an_action : Line OneStmt (Key m.Actions ∷ OneWord ∷ BodyBlock ∷ [])
   an_on : Line OneStmt (Key m.On ∷ OneArg ∷ OneStmt ∷ Shut ∷ [])
   by_arg : Line OneStmt (OneArg ∷ Tail ∷ [])
-  -- behind the first argument: `= list ;` with one of three signs, `on list` before that, or `lists ;`
+  -- after the first argument: `= list ;` with one of three signs, `on list` before that, or `lists ;`
   set : Line Tail (Key m.Equals ∷ Args ∷ Key m.Semicolon ∷ [])
   add : Line Tail (Key m.PlusEquals ∷ Args ∷ Key m.Semicolon ∷ [])
   fill : Line Tail (Key m.QueryEquals ∷ Args ∷ Key m.Semicolon ∷ [])
@@ -104,7 +104,7 @@ pub data Line : Part → List Part → Type 0 where
   a_list : Line Params (Names ∷ MoreParams ∷ [])
   no_more_params : Line MoreParams []
   more_params : Line MoreParams (Key m.Colon ∷ Params ∷ [])
-  -- names, each with `?` behind it or not; `*` or `+` stands behind the last one alone
+  -- names, each with `?` after it or not; `*` or `+` stands after the last one alone
   no_name : Line Names []
   a_name : Line Names (Key m.Plain ∷ NameTail ∷ [])
   unmarked : Line NameTail (Names ∷ [])

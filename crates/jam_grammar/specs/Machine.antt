@@ -12,12 +12,12 @@ pub data Move : Type 0 where
   Take : List Part → Move
   -- the same, where so many more can be open
   Room : ℕ → List Part → Move
-  -- the part is empty, and the mark is for those behind it
+  -- the part is empty, and the mark is for those after it
   Skip : Move
   -- it cannot come
   Refuse : Move
 
--- a part and others behind it
+-- a part and others after it
 abbrev pub before : Move → List Part → Move
 before (Take parts) more = Take (parts ++ more)
 before (Room n parts) more = Room n (parts ++ more)
@@ -232,12 +232,12 @@ may_be_empty _ = false
 
 -- what is left to be read by a move, before these
 abbrev pub by_move : Move → List Part → (Mark → Option (List Part)) → Mark → Option (List Part)
-by_move (Take parts) more behind mark = Some (parts ++ more)
-by_move (Room n parts) more behind mark = if nat_le (n + opens more) 64 then Some (parts ++ more) else None
-by_move Skip more behind mark = behind mark
-by_move Refuse more behind mark = None
+by_move (Take parts) more skipped mark = Some (parts ++ more)
+by_move (Room n parts) more skipped mark = if nat_le (n + opens more) 64 then Some (parts ++ more) else None
+by_move Skip more skipped mark = skipped mark
+by_move Refuse more skipped mark = None
 
--- what is still to be read behind a mark, if it may come
+-- what is still to be read after a mark, if it may come
 abbrev pub feed : List Part → Mark → Option (List Part)
 feed [] mark = None
 feed (part ∷ more) mark = by_move (move part mark) more (feed more) mark

@@ -23,8 +23,8 @@ Reads tokens tree = ReadsTree tokens (whole_tree tree)
 
 -- the first of these tokens is the first with which no file goes on so; or there is none, and the file ends too early
 abbrev pub Stops : List Token → List Token → Type 0
-Stops front [] = ¬ IsFile (marks front)
-Stops front (token ∷ tokens) = ¬ Begins (marks front ++ mark_of_token token ∷ [])
+Stops prefix [] = ¬ IsFile (marks prefix)
+Stops prefix (token ∷ tokens) = ¬ Begins (marks prefix ++ mark_of_token token ∷ [])
 
 -- the line of the last token
 abbrev pub last_line : List Token → ℕ
@@ -44,10 +44,10 @@ text_at (token ∷ more) = token.text
 -- The first fault: some file begins with the tokens before it, and none with it too; or the tokens end, some file begins
 -- with all of them, and they are none.
 pub record IsFirstFaultAt (tokens at : List Token) : Type 0 where
-  pub front : List Token
-  pub split : tokens ≡ front ++ at
-  pub begins : Begins (marks front)
-  pub stops : Stops front at
+  pub prefix : List Token
+  pub split : tokens ≡ prefix ++ at
+  pub begins : Begins (marks prefix)
+  pub stops : Stops prefix at
 
 -- the same by the line and the text that are told of it
 pub record IsFirstFault (tokens : List Token) (line : ℕ) (found : List ℕ) : Type 0 where

@@ -59,7 +59,7 @@ abbrev mutual
   spell_further NoLists = []
   spell_further (ListAnd first rest) = Key m.Colon ∷ (spell_args first ++ spell_further rest)
 
--- where an expression may stand: anywhere, between two `||`, or between two `&&` and behind `!`
+-- where an expression may stand: anywhere, between two `||`, or between two `&&` and after `!`
 pub data Level : Type 0 where
   Anywhere : Level
   WithinOr : Level
@@ -139,7 +139,7 @@ sign_mark signs.Set = m.Equals
 sign_mark signs.Add = m.PlusEquals
 sign_mark signs.Fill = m.QueryEquals
 
--- a value behind its sign, up to the end of the statement
+-- a value after its sign, up to the end of the statement
 abbrev pub set_syms : Mark → List Sym → List Sym
 set_syms mark value = Key mark ∷ (value ++ Key m.Semicolon ∷ [])
 
@@ -155,7 +155,7 @@ local_syms false = []
 abbrev pub braced : List Sym → List Sym
 braced syms = Key m.BraceOpen ∷ (syms ++ Key m.BraceClose ∷ [])
 
--- an `if`, and no other form, stands behind `else` without braces
+-- an `if`, and no other form, stands after `else` without braces
 abbrev pub is_if : FormTree → Bool
 is_if (If test block next) = true
 is_if _ = false
@@ -259,7 +259,7 @@ abbrev pub StartsOn : ℕ → List Token → Type 0
 StartsOn line [] = ⊥
 StartsOn line (token ∷ tokens) = token.line ≡ line
 
--- The symbols are spelled by the first tokens, and behind those stand the others.
+-- The symbols are spelled by the first tokens, and after those stand the others.
 abbrev pub Spells : List Token → List Sym → List Token → Type 0
 Spells tokens [] after = tokens ≡ after
 Spells tokens (From line ∷ syms) after = StartsOn line tokens × Spells tokens syms after

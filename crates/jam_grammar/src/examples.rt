@@ -13,7 +13,7 @@ pub fn readings()
 {}
 
 /// Where some tokens stop being the beginning of a file: at the end; at a semicolon; at the first brace, `if`, `else if` or
-/// `on` above 64; at the tenth list; behind a parameter marked `*`, behind a list that takes all, and at a mark without name.
+/// `on` above 64; at the tenth list; after a parameter marked `*`, after a list that takes all, and at a mark without name.
 pub fn faults()
     ensures sixty_four_begin { SixtyFourBegin }
     ensures unended_faults { UnendedFaults }

@@ -18,7 +18,7 @@ pub fn machine_is_grammar()
     ensures fault { FaultIsBad }
 {}
 
-/// What is read as a part, and behind it as others, is read as both.
+/// What is read as a part, and after it as others, is read as both.
 pub fn parts_compose()
     ensures { PartsCompose }
 {}

@@ -3,7 +3,7 @@ use b2_base::text::Text;
 use std::rc::Rc;
 
 /// A whole file.
-#[derive(Debug, Drop)]
+#[derive(Drop)]
 pub struct Tree {
     /// Its statements.
     pub block: Block,
@@ -11,7 +11,7 @@ pub struct Tree {
 
 /// Statements in order.
 #[cycle(statements)]
-#[derive(Debug, Drop)]
+#[derive(Drop)]
 pub struct Block {
     /// The statements.
     pub stmts: Vec<Stmt>,
@@ -19,7 +19,7 @@ pub struct Block {
 
 /// A statement.
 #[cycle(statements)]
-#[derive(Debug, Drop)]
+#[derive(Drop)]
 pub struct Stmt {
     /// The line of its first token; the first line is 1.
     pub line: u32,
@@ -29,7 +29,7 @@ pub struct Stmt {
 
 /// What a statement says.
 #[cycle(statements)]
-#[derive(Debug, Drop)]
+#[derive(Drop)]
 pub enum Form {
     /// `{ .. }`: statements with a frame of their own.
     Braces(Block),
@@ -138,7 +138,7 @@ pub enum Form {
 }
 
 /// How a variable is set.
-#[derive(Clone, Copy, Debug, PartialEq, Eq)]
+#[derive(Clone, Copy)]
 pub enum Sign {
     /// `=` sets it.
     Set,
@@ -150,7 +150,7 @@ pub enum Sign {
 
 /// What follows on an `if`.
 #[cycle(statements)]
-#[derive(Debug, Drop)]
+#[derive(Drop)]
 pub enum Other {
     /// No `else`.
     Nothing,
@@ -162,7 +162,7 @@ pub enum Other {
 
 /// A case of a `switch`.
 #[cycle(statements)]
-#[derive(Debug, Drop)]
+#[derive(Drop)]
 pub struct Case {
     /// The pattern that the value has to match.
     pub pattern: Text,
@@ -171,17 +171,17 @@ pub struct Case {
 }
 
 /// A parameter of a rule. The name `*` without a mark stands alone in the last list, and takes all further arguments.
-#[derive(Debug, Drop)]
+#[derive(Drop)]
 pub struct Param {
     /// The name.
     pub name: Text,
-    /// `?`, `*` or `+`, if one of these stood behind it.
+    /// `?`, `*` or `+`, if one of these stood after it.
     pub mark: Option<char>,
 }
 
 /// An argument.
 #[cycle(arguments)]
-#[derive(Debug, Drop)]
+#[derive(Drop)]
 pub enum Arg {
     /// A word.
     Word(Text),
@@ -191,7 +191,7 @@ pub enum Arg {
 
 /// What stands in brackets.
 #[cycle(arguments)]
-#[derive(Debug, Drop)]
+#[derive(Drop)]
 pub enum Inner {
     /// `head lists`
     Call {
@@ -217,7 +217,7 @@ pub enum Inner {
 }
 
 /// A condition.
-#[derive(Debug, Drop)]
+#[derive(Drop)]
 pub enum Expr {
     /// Two or more, with `||` between them; none is itself an `Or`.
     Or(Vec<Expr>),

@@ -25,12 +25,12 @@ word_end_boundary bytes start end word = go (cases_lt end (length bytes)) word.e
     go (inl less) (inr white) = IsCharBoundary-before_ascii bytes end less (white_is_ascii (get_or bytes end 0) white.0)
     go (inr past) (inr white) = let last : length bytes ≡ end = omega (arith, word.within, past) in subst (IsCharBoundary bytes) last (IsCharBoundary-end bytes)
 
--- the byte before a word that begins behind a gap is white space
+-- the byte before a word that begins after a gap is white space
 pub start_boundary : (bytes : List ℕ) (from start : ℕ) → IsUtf8 bytes → IsCharBoundary bytes from → BeginsWord bytes from start → IsCharBoundary bytes start
 start_boundary bytes from start utf8 at_from begins = go (cases_lt from start)
   where
     go : (from < start) ⊎ (start ≤ from) → IsCharBoundary bytes start
-    go (inr none) = let same : from ≡ start = omega (arith, begins.behind, none) in subst (IsCharBoundary bytes) same at_from
+    go (inr none) = let same : from ≡ start = omega (arith, begins.after, none) in subst (IsCharBoundary bytes) same at_from
     go (inl less) = byte (begins.gap (start - 1) (omega arith) (omega arith))
       where
         next : (start - 1) + 1 ≡ start

@@ -9,7 +9,7 @@ use Rattle.std.proofs.lemmas.Str.{IsUtf8-take, IsUtf8-drop, IsUtf8-append, IsCha
 use Rattle.jam_lexer.specs.Tokens.{IsText}
 use Rattle.jam_lexer.specs.Answers.{BeginsNoCharacter, IsFirstBad}
 
--- no byte of a front is zero, where none before its end is
+-- no byte of a prefix is zero, where none before its end is
 no_zero_before : (bytes : List ℕ) (to : ℕ) → to ≤ length bytes → ((k : ℕ) → k < to → get_or bytes k 0 ≢ 0) → HasNoZero (take to bytes)
 no_zero_before bytes to within none k d short =
     let low : k < to = omega (arith, short, length-take to bytes) in
@@ -23,14 +23,14 @@ zero_begins_none bytes at within zero c more scalar some is_c =
     let first : get_or (drop at bytes) 0 0 ≡ 0 = get_or-drop at bytes 0 0 ∙ ap (λ i. get_or bytes i 0) (omega arith) ∙ zero in
     some (char_from_byte (drop at bytes) more c is_c (omega (arith, first)) (omega (arith, length-drop at bytes)) ∙ first)
 
--- behind the longest front that is UTF-8 no character begins
+-- after the longest prefix that is UTF-8 no character begins
 none_begins : (bytes : List ℕ) (at : ℕ) → IsValidUpTo bytes at → BeginsNoCharacter (drop at bytes)
 none_begins bytes at valid c more scalar some is_c =
-    let front : List ℕ = take at bytes ++ encode_utf8 c in
-    let whole : bytes ≡ front ++ more = sym (take-append-drop at bytes) ∙ ap (λ rest. take at bytes ++ rest) is_c ∙ sym (append_assoc (take at bytes) (encode_utf8 c) more) in
-    let longer : at < length front = omega (arith, length-append (take at bytes) (encode_utf8 c), length-take-le at bytes (omega (arith, valid.short)), length-encode c, len_utf8_bounds c) in
-    valid.longest (length front) longer
-    (subst IsUtf8 (sym (ap (take (length front)) whole ∙ take_at front more (length front) refl)) (IsUtf8-append (take at bytes) (encode_utf8 c) valid.front (IsUtf8-encode c scalar)))
+    let prefix : List ℕ = take at bytes ++ encode_utf8 c in
+    let whole : bytes ≡ prefix ++ more = sym (take-append-drop at bytes) ∙ ap (λ rest. take at bytes ++ rest) is_c ∙ sym (append_assoc (take at bytes) (encode_utf8 c) more) in
+    let longer : at < length prefix = omega (arith, length-append (take at bytes) (encode_utf8 c), length-take-le at bytes (omega (arith, valid.short)), length-encode c, len_utf8_bounds c) in
+    valid.longest (length prefix) longer
+    (subst IsUtf8 (sym (ap (take (length prefix)) whole ∙ take_at prefix more (length prefix) refl)) (IsUtf8-append (take at bytes) (encode_utf8 c) valid.front (IsUtf8-encode c scalar)))
 
 pub zero_is_bad : (bytes : List ℕ) (valid at : ℕ) → IsUtf8 (take valid bytes) → valid ≤ length bytes → at < length (take valid bytes) → get_or (take valid bytes) at 0 ≡ 0 → ((k : ℕ) → k < at → get_or (take valid bytes) k 0 ≢ 0) → IsFirstBad bytes at
 zero_is_bad bytes valid at utf8 within low zero none =
@@ -48,18 +48,18 @@ zero_is_bad bytes valid at utf8 within low zero none =
 pub invalid_is_bad : (bytes : List ℕ) (valid : ℕ) → IsValidUpTo bytes valid → HasNoZero (take valid bytes) → IsFirstBad bytes valid
 invalid_is_bad bytes valid up_to no_zero = record { within = up_to.short; good_before = (up_to.front, no_zero); bad = none_begins bytes valid up_to }
 
--- no front is text past the first byte that is none
+-- no prefix is text past the first byte that is none
 pub bad_stops : (bytes : List ℕ) (at to : ℕ) → IsFirstBad bytes at → at < to → to ≤ length bytes → IsText (take to bytes) → ⊥
-bad_stops bytes at to bad less within text = go (IsUtf8-drop front at text.0 (IsCharBoundary-from_take front at text.0 (omega (arith, size)) (subst IsUtf8 (sym (take-take at to bytes (omega arith))) bad.good_before.0)))
+bad_stops bytes at to bad less within text = go (IsUtf8-drop prefix at text.0 (IsCharBoundary-from_take prefix at text.0 (omega (arith, size)) (subst IsUtf8 (sym (take-take at to bytes (omega arith))) bad.good_before.0)))
   where
-    front : List ℕ
-    front = take to bytes
+    prefix : List ℕ
+    prefix = take to bytes
 
-    size : length front ≡ to
+    size : length prefix ≡ to
     size = length-take-le to bytes within
 
-    split : drop at bytes ≡ drop at front ++ drop to bytes
-    split = ap (drop at) (sym (take-append-drop to bytes)) ∙ drop-append-le at front (drop to bytes) (omega (arith, size))
+    split : drop at bytes ≡ drop at prefix ++ drop to bytes
+    split = ap (drop at) (sym (take-append-drop to bytes)) ∙ drop-append-le at prefix (drop to bytes) (omega (arith, size))
 
     some : (c : ℕ) (more : List ℕ) → drop at bytes ≡ encode_utf8 c ++ more → c ≢ 0
     some c more begins zero =
@@ -67,11 +67,11 @@ bad_stops bytes at to bad less within text = go (IsUtf8-drop front at text.0 (Is
         let same : get_or (drop at bytes) 0 0 ≡ get_or bytes at 0 = get_or-drop at bytes 0 0 ∙ ap (λ i. get_or bytes i 0) (omega arith) in
         omega (arith, byte, same, zero, get_or-take to bytes at 0 less, text.1 at 0 (omega (arith, size)))
 
-    go : IsUtf8 (drop at front) → ⊥
+    go : IsUtf8 (drop at prefix) → ⊥
     go (cs, (scalars_are, spelled)) = first cs scalars_are spelled
       where
-        first : (cs : List ℕ) → scalars cs ≡ true → encodes cs ≡ drop at front → ⊥
-        first [] ok spelled = omega (arith, ap length spelled, length-drop at front, size)
+        first : (cs : List ℕ) → scalars cs ≡ true → encodes cs ≡ drop at prefix → ⊥
+        first [] ok spelled = omega (arith, ap length spelled, length-drop at prefix, size)
         first (c ∷ cs) ok spelled =
             let begins : drop at bytes ≡ encode_utf8 c ++ (encodes cs ++ drop to bytes) = split ∙ ap (λ x. x ++ drop to bytes) (sym spelled) ∙ append_assoc (encode_utf8 c) (encodes cs) (drop to bytes) in
             bad.bad c (encodes cs ++ drop to bytes) (and_parts (scalar c) (scalars cs) ok).0 (some c (encodes cs ++ drop to bytes) begins) begins

@@ -69,7 +69,7 @@ find_word (suc fuel) bytes from at enough order within gap outside = go (cases_l
             last (inr feed) (inr past) = let done : end ≡ length bytes = omega (arith, past, is_end.within) in inr (subst (IsGap bytes from) done (gap_comment bytes from at end order gap hash is_end.one_line))
             last (inr feed) (inl short) = rest (end + 1) (omega (arith, is_end.past)) (omega (arith, is_end.past)) (omega arith) (gap_line bytes from at end order gap hash is_end.one_line feed) (comment_line_feed bytes from end feed)
     go (inl less) (inr other) (inl white) rest = rest (at + 1) (omega arith) (omega arith) (omega arith) (gap_white bytes from at gap white) (comment_white bytes from at outside white)
-    go (inl less) (inr other) (inr dark) rest = inl (at, record { behind = order; within = less; gap = gap; no_comment = outside; no_white = dark; no_hash = other })
+    go (inl less) (inr other) (inr dark) rest = inl (at, record { after = order; within = less; gap = gap; no_comment = outside; no_white = dark; no_hash = other })
 
 -- ---- the end of a word
 
@@ -110,20 +110,20 @@ find_body (suc fuel) bytes from at depth enough r = go (cases_lt at (length byte
 
 -- ---- which bytes are text
 
-record IsLongest (bytes : List ℕ) (most front : ℕ) : Type 0 where
-  within : front ≤ most
-  valid : IsUtf8 (take front bytes)
-  longest : (n : ℕ) → front < n → n ≤ most → IsUtf8 (take n bytes) → ⊥
+record IsLongest (bytes : List ℕ) (most prefix : ℕ) : Type 0 where
+  within : prefix ≤ most
+  valid : IsUtf8 (take prefix bytes)
+  longest : (n : ℕ) → prefix < n → n ≤ most → IsUtf8 (take n bytes) → ⊥
 
-find_longest : (bytes : List ℕ) (most : ℕ) → (front : ℕ) × IsLongest bytes most front
+find_longest : (bytes : List ℕ) (most : ℕ) → (prefix : ℕ) × IsLongest bytes most prefix
 find_longest bytes zero = (0, record { within = omega arith; valid = IsUtf8-nil; longest = λ n low high. let never : ⊥ = omega (arith, low, high) in absurd never })
 find_longest bytes (suc most) = go (is_utf8 (take (suc most) bytes)) refl (find_longest bytes most)
   where
-    go : (t : Bool) → is_utf8 (take (suc most) bytes) ≡ t → (front : ℕ) × IsLongest bytes most front → (front : ℕ) × IsLongest bytes (suc most) front
+    go : (t : Bool) → is_utf8 (take (suc most) bytes) ≡ t → (prefix : ℕ) × IsLongest bytes most prefix → (prefix : ℕ) × IsLongest bytes (suc most) prefix
     go true e rest = (suc most, record { within = omega arith; valid = IsUtf8-from_is_utf8 (take (suc most) bytes) e; longest = λ n low high. let never : ⊥ = omega (arith, low, high) in absurd never })
-    go false e (front, is) = (front, record { within = omega (arith, is.within); valid = is.valid; longest = longer })
+    go false e (prefix, is) = (prefix, record { within = omega (arith, is.within); valid = is.valid; longest = longer })
       where
-        longer : (n : ℕ) → front < n → n ≤ suc most → IsUtf8 (take n bytes) → ⊥
+        longer : (n : ℕ) → prefix < n → n ≤ suc most → IsUtf8 (take n bytes) → ⊥
         longer n low high valid = at (cases_lt n (suc most))
           where
             at : (n < suc most) ⊎ (suc most ≤ n) → ⊥
@@ -156,20 +156,20 @@ TextOrBad bytes = IsText bytes ⊎ ((at : ℕ) × IsFirstBad bytes at)
 find_bad : (bytes : List ℕ) → TextOrBad bytes
 find_bad bytes = go (find_longest bytes (length bytes))
   where
-    go : (front : ℕ) × IsLongest bytes (length bytes) front → TextOrBad bytes
-    go (front, is) = zero_or (find_zero (length (take front bytes)) (take front bytes) 0 (omega arith) (λ k low. let never : ⊥ = omega (arith, low) in absurd never)) (cases_lt front (length bytes))
+    go : (prefix : ℕ) × IsLongest bytes (length bytes) prefix → TextOrBad bytes
+    go (prefix, is) = zero_or (find_zero (length (take prefix bytes)) (take prefix bytes) 0 (omega arith) (λ k low. let never : ⊥ = omega (arith, low) in absurd never)) (cases_lt prefix (length bytes))
       where
-        zero_or : ((at : ℕ) × IsFirstZero (take front bytes) at) ⊎ HasNoZero (take front bytes) → (front < length bytes) ⊎ (length bytes ≤ front) → TextOrBad bytes
-        zero_or (inl (at, zero_is)) short = inr (at, zero_is_bad bytes front at is.valid is.within zero_is.within zero_is.zero_there zero_is.none_before)
-        zero_or (inr no_zero) (inl short) = inr (front, invalid_is_bad bytes front (record { short = short; front = is.valid; longest = longest }) no_zero)
+        zero_or : ((at : ℕ) × IsFirstZero (take prefix bytes) at) ⊎ HasNoZero (take prefix bytes) → (prefix < length bytes) ⊎ (length bytes ≤ prefix) → TextOrBad bytes
+        zero_or (inl (at, zero_is)) short = inr (at, zero_is_bad bytes prefix at is.valid is.within zero_is.within zero_is.zero_there zero_is.none_before)
+        zero_or (inr no_zero) (inl short) = inr (prefix, invalid_is_bad bytes prefix (record { short = short; front = is.valid; longest = longest }) no_zero)
           where
-            longest : (n : ℕ) → front < n → IsUtf8 (take n bytes) → ⊥
+            longest : (n : ℕ) → prefix < n → IsUtf8 (take n bytes) → ⊥
             longest n low valid = at (cases_lt (length bytes) n)
               where
                 at : (length bytes < n) ⊎ (n ≤ length bytes) → ⊥
                 at (inr high) = is.longest n low high valid
                 at (inl past) = is.longest (length bytes) short (omega arith) (subst IsUtf8 (take_all n bytes (omega arith) ∙ sym (take_all (length bytes) bytes (omega arith))) valid)
-        zero_or (inr no_zero) (inr whole) = inl (subst IsText (take_all front bytes whole) (is.valid, no_zero))
+        zero_or (inr no_zero) (inr whole) = inl (subst IsText (take_all prefix bytes whole) (is.valid, no_zero))
 
 -- ---- the answer
 
@@ -182,25 +182,25 @@ find_answer (suc fuel) bytes tokens place text enough has = word (find_word (len
   where
     word : WordOrEnd bytes place.at → ((more : List Token) (to : Place) → IsText bytes → length bytes ≤ to.at + fuel → HasRead bytes NextWord more to → Answered bytes) → Answered bytes
     word (inr gap) rest = (Ok tokens, (text, all_read bytes tokens place has gap))
-    word (inl (start, begins)) rest = behind (find_end (length bytes) bytes start start false (omega arith) (reading_start bytes start (omega (arith, begins.within))))
+    word (inl (start, begins)) rest = after (find_end (length bytes) bytes start start false (omega arith) (reading_start bytes start (omega (arith, begins.within))))
       where
         line : ℕ
         line = line_of bytes start
 
-        behind : EndOrOpen bytes start → Answered bytes
-        behind (inr unclosed) = (Err (faults.OpenQuote line), (text, (tokens, meets_open_quote bytes tokens place start line has begins unclosed refl)))
-        behind (inl (end, is_word)) = body (is_the_key (codes "{") (the_word bytes start end line) && place.awaits) refl
+        after : EndOrOpen bytes start → Answered bytes
+        after (inr unclosed) = (Err (faults.OpenQuote line), (text, (tokens, meets_open_quote bytes tokens place start line has begins unclosed refl)))
+        after (inl (end, is_word)) = body (is_the_key (codes "{") (the_word bytes start end line) && place.awaits) refl
           where
             goes : start < end
             goes = word_goes bytes place.at start end begins is_word
 
             body : (opens : Bool) → opens ≡ (is_the_key (codes "{") (the_word bytes start end line) && place.awaits) → Answered bytes
-            body false e = rest _ _ text (omega (arith, begins.behind, goes)) (word_read bytes tokens place start end line (line_of bytes end) false has begins is_word refl refl e)
+            body false e = rest _ _ text (omega (arith, begins.after, goes)) (word_read bytes tokens place start end line (line_of bytes end) false has begins is_word refl refl e)
             body true e = closes (word_opens bytes tokens place start end line (line_of bytes end) has begins is_word refl refl e) (find_body (length bytes) bytes end end 0 (omega arith) (depth_start bytes end is_word.within))
               where
                 closes : HasOpened bytes (tokens ++ the_word bytes start end line ∷ []) (record { at = end; line = line_of bytes end; awaits = is_the_key (codes "actions") (the_word bytes start end line) || (not (is_the_key (codes "{") (the_word bytes start end line)) && place.awaits) }) line → BodyOrOpen bytes end → Answered bytes
                 closes opened (inr matched) = (Err (faults.OpenActions line), (text, (tokens ++ the_word bytes start end line ∷ [], meets_open_actions bytes _ _ line opened matched)))
-                closes opened (inl (close, is_body)) = rest _ _ text (omega (arith, begins.behind, goes, is_body.order)) (body_read bytes _ _ close (line_of bytes close) text.0 opened.has_read is_body refl)
+                closes opened (inl (close, is_body)) = rest _ _ text (omega (arith, begins.after, goes, is_body.order)) (body_read bytes _ _ close (line_of bytes close) text.0 opened.has_read is_body refl)
 
 pub some_answer : (bytes : List ℕ) → (answer : Result (List Token) LexFault) × IsAnswer bytes answer
 some_answer bytes = go (find_bad bytes)

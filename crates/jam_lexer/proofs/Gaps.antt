@@ -9,7 +9,7 @@ pub gap_of_nothing : (bytes : List ℕ) (from : ℕ) → IsGap bytes from from
 gap_of_nothing bytes from k low high = let none : ⊥ = omega (arith, low, high) in absurd none
 
 pub comment_of_nothing : (bytes : List ℕ) (from : ℕ) → IsInComment bytes from from → ⊥
-comment_of_nothing bytes from c = omega (arith, c.behind, c.before)
+comment_of_nothing bytes from c = omega (arith, c.after, c.before)
 
 white_is_no_hash : (b : ℕ) → is_white b ≡ true → b ≢ 35
 white_is_no_hash b white e = true≢false (sym white ∙ ap is_white e)
@@ -27,7 +27,7 @@ pub comment_white : (bytes : List ℕ) (from at : ℕ) → (IsInComment bytes fr
 comment_white bytes from at outside white c = go (cases_lt c.sign at)
   where
     go : (c.sign < at) ⊎ (at ≤ c.sign) → ⊥
-    go (inl less) = outside (record { sign = c.sign; behind = c.behind; before = less; is_hash = c.is_hash; one_line = λ k low high. c.one_line k low (omega arith) })
+    go (inl less) = outside (record { sign = c.sign; after = c.after; before = less; is_hash = c.is_hash; one_line = λ k low high. c.one_line k low (omega arith) })
     go (inr more) =
         let high : c.sign < at + 1 = c.before in
         let same : c.sign ≡ at = omega arith in
@@ -39,7 +39,7 @@ gap_comment bytes from at end order gap is_hash one_line k low high = go (cases_
   where
     go : (k < at) ⊎ (at ≤ k) → (is_white (get_or bytes k 0) ≡ true) ⊎ IsInComment bytes from (suc k)
     go (inl less) = gap k low less
-    go (inr more) = inr (record { sign = at; behind = order; before = omega arith; is_hash = is_hash; one_line = λ i low' high'. one_line i low' (omega arith) })
+    go (inr more) = inr (record { sign = at; after = order; before = omega arith; is_hash = is_hash; one_line = λ i low' high'. one_line i low' (omega arith) })
 
 -- a line feed ends each comment
 pub comment_line_feed : (bytes : List ℕ) (from end : ℕ) → get_or bytes end 0 ≡ 10 → IsInComment bytes from (end + 1) → ⊥

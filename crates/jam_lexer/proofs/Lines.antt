@@ -9,8 +9,8 @@ use Rattle.jam_lexer.proofs.Bodies.{count_by-append}
 take_slice : (bytes : List ℕ) (from to : ℕ) → from ≤ to → take to bytes ≡ take from bytes ++ slice_range bytes from to
 take_slice bytes from to order =
     let whole : to ≡ to - 0 = omega arith in
-    let front : from - 0 ≡ from = omega arith in
-    ap (λ n. take n bytes) whole ∙ slice_split bytes 0 from to (omega arith) order ∙ ap (λ n. take n bytes ++ slice_range bytes from to) front
+    let prefix : from - 0 ≡ from = omega arith in
+    ap (λ n. take n bytes) whole ∙ slice_split bytes 0 from to (omega arith) order ∙ ap (λ n. take n bytes ++ slice_range bytes from to) prefix
 
 pub lines_more : (bytes : List ℕ) (from to : ℕ) → from ≤ to → line_of bytes to ≡ line_of bytes from + count_by (λ byte. byte == 10) (slice_range bytes from to)
 lines_more bytes from to order = omega (arith, ap (count_by (λ byte. byte == 10)) (take_slice bytes from to order) ∙ count_by-append (λ byte. byte == 10) (take from bytes) (slice_range bytes from to))

@@ -8,7 +8,7 @@ use Rattle.std.proofs.lemmas.Str.{IsCharBoundary-after_ascii, IsCharBoundary-sta
 use Rattle.b2_base.specs.declared.token.Token.{Token}
 use Rattle.jam_lexer.specs.declared.reading.Place.{Place}
 use Rattle.jam_lexer.specs.Signs.{is_white, line_of}
-use Rattle.jam_lexer.specs.Tokens.{NextWord, NextBody, NextBrace, place_behind, awaits_brace, is_the_key, is_body, IsNextToken, IsWordToken, IsBodyToken, Follows, Stand, IsEnd}
+use Rattle.jam_lexer.specs.Tokens.{NextWord, NextBody, NextBrace, place_after, awaits_brace, is_the_key, is_body, IsNextToken, IsWordToken, IsBodyToken, Follows, Stand, IsEnd}
 use Rattle.jam_lexer.specs.Gap.{IsGap, BeginsWord}
 use Rattle.jam_lexer.specs.Word.{IsWord, IsOpenWord, letters, is_lone, text_of, kind_of, is_bare, is_key_text}
 use Rattle.jam_lexer.specs.Body.{IsBody, IsMatched}
@@ -22,7 +22,7 @@ pub stand_more : (bytes : List ℕ) (read : List Token) (token : Token) → Foll
 stand_more bytes read token follows before [] stand = (subst (λ r. Follows bytes r token) (sym stand) follows, ap (λ r. token ∷ r) stand)
 stand_more bytes read token follows before (t ∷ tokens) stand = (stand.0, stand_more bytes read token follows (t ∷ before) tokens stand.1)
 
--- what holds behind the tokens that have been read
+-- what holds after the tokens that have been read
 pub stand_then : (bytes : List ℕ) (Last : List Token → Type 0) (read : List Token) → Last read → (before tokens : List Token) → Stand bytes (λ seen. seen ≡ read) before tokens → Stand bytes Last before tokens
 stand_then bytes Last read last before [] stand = subst Last (sym stand) last
 stand_then bytes Last read last before (t ∷ tokens) stand = (stand.0, stand_then bytes Last read last (t ∷ before) tokens stand.1)
@@ -50,10 +50,10 @@ word_goes bytes from start end begins word = go (cases_lt start end) word.ends
 pub word_read : (bytes : List ℕ) (tokens : List Token) (place : Place) (start end line after : ℕ) (opens : Bool) → HasRead bytes NextWord tokens place → BeginsWord bytes place.at start → IsWord bytes start end → line ≡ line_of bytes start → after ≡ line_of bytes end → opens ≡ (is_the_key (codes "{") (the_word bytes start end line) && place.awaits) → HasRead bytes (cond opens NextBody NextWord) (tokens ++ the_word bytes start end line ∷ []) (record { at = end; line = after; awaits = is_the_key (codes "actions") (the_word bytes start end line) || (not (is_the_key (codes "{") (the_word bytes start end line)) && place.awaits) })
 word_read bytes tokens place start end line after opens has begins word line_is after_is opens_is =
     let token : Token = the_word bytes start end line in
-    let is_word : IsWordToken bytes (place_behind has.read) token = record { begins = subst (λ p. BeginsWord bytes p start) (sym has.place_is) begins; word = word; has_text = refl; has_kind = refl; has_line = line_is } in
+    let is_word : IsWordToken bytes (place_after has.read) token = record { begins = subst (λ p. BeginsWord bytes p start) (sym has.place_is) begins; word = word; has_text = refl; has_kind = refl; has_line = line_is } in
     record {
       read = token ∷ has.read;
-      stand = stand_more bytes has.read token (subst (λ n. IsNextToken n bytes (place_behind has.read) token) (sym has.next_is) is_word) [] tokens has.stand;
+      stand = stand_more bytes has.read token (subst (λ n. IsNextToken n bytes (place_after has.read) token) (sym has.next_is) is_word) [] tokens has.stand;
       next_is =
           ap (λ t. cond t NextBrace (cond (is_the_key (codes "{") token && awaits_brace has.read) NextBody NextWord)) (word_is_no_body (slice_range bytes start end))
           ∙ ap (λ a. cond (is_the_key (codes "{") token && a) NextBody NextWord) has.awaits_is
@@ -83,12 +83,12 @@ the_brace at line = record { kind = kinds.Key; text = codes "}"; line = line; st
 pub body_read : (bytes : List ℕ) (tokens : List Token) (place : Place) (end line : ℕ) → IsUtf8 bytes → HasRead bytes NextBody tokens place → IsBody bytes place.at end → line ≡ line_of bytes end → HasRead bytes NextWord ((tokens ++ the_body bytes place.at end place.line ∷ []) ++ the_brace end line ∷ []) (record { at = end + 1; line = line; awaits = place.awaits })
 body_read bytes tokens place end line utf8 has body line_is =
     let first : Token = the_body bytes place.at end place.line in
-    let is_body_token : IsBodyToken bytes (place_behind has.read) first = record { begins = sym has.place_is; body = body; has_text = refl; has_kind = refl; has_line = has.line_is } in
+    let is_body_token : IsBodyToken bytes (place_after has.read) first = record { begins = sym has.place_is; body = body; has_text = refl; has_kind = refl; has_line = has.line_is } in
     record {
       read = the_brace end line ∷ first ∷ has.read;
       stand =
           stand_more bytes (first ∷ has.read) (the_brace end line) (record { begins = refl; one_byte = refl; has_text = refl; has_kind = refl; has_line = line_is }) [] (tokens ++ first ∷ [])
-          (stand_more bytes has.read first (subst (λ n. IsNextToken n bytes (place_behind has.read) first) (sym has.next_is) is_body_token) [] tokens has.stand);
+          (stand_more bytes has.read first (subst (λ n. IsNextToken n bytes (place_after has.read) first) (sym has.next_is) is_body_token) [] tokens has.stand);
       next_is = refl;
       place_is = refl;
       awaits_is = has.awaits_is;

@@ -26,7 +26,7 @@ slice_split bytes from at to low high =
     let place : from + n ≡ at = omega arith in
     ap (λ k. take k (drop from bytes)) whole
     ∙ sym (take-append-drop n (take (n + m) (drop from bytes)))
-    ∙ ap (λ front. front ++ drop n (take (n + m) (drop from bytes))) (take-take n (n + m) (drop from bytes) (omega arith))
+    ∙ ap (λ prefix. prefix ++ drop n (take (n + m) (drop from bytes))) (take-take n (n + m) (drop from bytes) (omega arith))
     ∙ ap (λ back. take n (drop from bytes) ++ back) (drop-take n m (drop from bytes) ∙ ap (take m) (drop-drop n from bytes ∙ ap (λ i. drop i bytes) place))
 
 -- a piece of a text is a text

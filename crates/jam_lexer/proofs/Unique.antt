@@ -8,7 +8,7 @@ use Rattle.jam_lexer.specs.Signs.{is_white, line_of}
 use Rattle.jam_lexer.specs.Gap.{IsGap, IsInComment, BeginsWord}
 use Rattle.jam_lexer.specs.Word.{Letter, Plain, Lone, letters, is_lone, is_space, in_quotes, IsUnbroken, IsWord, IsOpenWord, text_of, kind_of}
 use Rattle.jam_lexer.specs.Body.{IsMatched, IsBody}
-use Rattle.jam_lexer.specs.Tokens.{Next, NextWord, NextBody, NextBrace, next_behind, place_behind, IsNextToken, IsWordToken, IsBodyToken, IsBraceToken, Follows, Stand, IsEnd, AreTokens}
+use Rattle.jam_lexer.specs.Tokens.{Next, NextWord, NextBody, NextBrace, next_after, place_after, IsNextToken, IsWordToken, IsBodyToken, IsBraceToken, Follows, Stand, IsEnd, AreTokens}
 use Rattle.jam_lexer.specs.Answers.{MeetsOpenQuote, MeetsOpenActions, IsOpenQuote, IsOpenActions, IsAnswer}
 use Rattle.jam_lexer.specs.declared.fault.LexFault.{LexFault}
 use Rattle.jam_lexer.specs.declared.fault.LexFault.TheVariants as faults
@@ -27,7 +27,7 @@ begins_stops bytes from start to begins gap = go (cases_lt start to)
     comment c = at (cases_lt c.sign start)
       where
         at : (c.sign < start) ⊎ (start ≤ c.sign) → ⊥
-        at (inl less) = begins.no_comment (record { sign = c.sign; behind = c.behind; before = less; is_hash = c.is_hash; one_line = λ k low high. c.one_line k low (omega arith) })
+        at (inl less) = begins.no_comment (record { sign = c.sign; after = c.after; before = less; is_hash = c.is_hash; one_line = λ k low high. c.one_line k low (omega arith) })
         at (inr more) =
             let before : c.sign < suc start = c.before in
             let same : c.sign ≡ start = omega arith in
@@ -38,7 +38,7 @@ begins_stops bytes from start to begins gap = go (cases_lt start to)
     byte (inr c) = absurd (comment c)
 
     go : (start < to) ⊎ (to ≤ start) → to ≤ start
-    go (inl less) = byte (gap start begins.behind less)
+    go (inl less) = byte (gap start begins.after less)
     go (inr more) = more
 
 one_start : (bytes : List ℕ) (from s t : ℕ) → BeginsWord bytes from s → BeginsWord bytes from t → s ≡ t
@@ -49,17 +49,17 @@ one_start bytes from s t a b = omega (arith, begins_stops bytes from s t a b.gap
 slice_cons : (bytes : List ℕ) (from to : ℕ) → from < to → to ≤ length bytes → slice_range bytes from to ≡ get_or bytes from 0 ∷ slice_range bytes (from + 1) to
 slice_cons bytes from to less within =
     slice_split bytes from (from + 1) to (omega arith) (omega arith)
-    ∙ ap (λ front. front ++ slice_range bytes (from + 1) to) (slice_more bytes from from (omega arith) (omega arith) ∙ ap (λ front. front ++ get_or bytes from 0 ∷ []) (slice_none bytes from))
+    ∙ ap (λ prefix. prefix ++ slice_range bytes (from + 1) to) (slice_more bytes from from (omega arith) (omega arith) ∙ ap (λ prefix. prefix ++ get_or bytes from 0 ∷ []) (slice_none bytes from))
 
 white_is_no_backslash : (b : ℕ) → is_white b ≡ true → b ≢ 92
 white_is_no_backslash b white e = true≢false (sym white ∙ ap is_white e)
 
--- behind a whole word the white space is outside quotes
+-- after a whole word the white space is outside quotes
 word_stops : (bytes : List ℕ) (start end to : ℕ) → IsWord bytes start end → end < to → to ≤ length bytes → IsUnbroken (letters (slice_range bytes start to)) → ⊥
 word_stops bytes start end to word less within unbroken = go word.ends
   where
-    front : List Letter
-    front = letters (slice_range bytes start end)
+    prefix : List Letter
+    prefix = letters (slice_range bytes start end)
 
     b : ℕ
     b = get_or bytes end 0
@@ -67,16 +67,16 @@ word_stops bytes start end to word less within unbroken = go word.ends
     more : List Letter
     more = letters (slice_range bytes (end + 1) to)
 
-    go : (end ≡ length bytes) ⊎ ((is_white b ≡ true) × (list_any is_lone front ≡ false)) → ⊥
+    go : (end ≡ length bytes) ⊎ ((is_white b ≡ true) × (list_any is_lone prefix ≡ false)) → ⊥
     go (inl last) = omega (arith, last, less, within)
     go (inr white) =
-        let whole : letters (slice_range bytes start to) ≡ front ++ Plain b ∷ more =
+        let whole : letters (slice_range bytes start to) ≡ prefix ++ Plain b ∷ more =
         ap letters (slice_split bytes start end to word.order (omega arith))
         ∙ letters_append (slice_range bytes start end) (slice_range bytes end to) white.1
-        ∙ ap (λ ls. front ++ ls) (ap letters (slice_cons bytes end to less within) ∙ letters_plain b (slice_range bytes (end + 1) to) (ne_eqb b 92 (white_is_no_backslash b white.0))) in
-        let broken : IsUnbroken (front ++ Plain b ∷ more) = subst IsUnbroken whole unbroken in
-        let quoted : in_quotes (take (length front) (front ++ Plain b ∷ more)) ≡ true = broken (length front) (ap is_space (get_or_at front (Plain b) more Lone (length front) refl) ∙ white.0) in
-        true≢false (sym quoted ∙ ap in_quotes (take_at front (Plain b ∷ more) (length front) refl) ∙ word.closed)
+        ∙ ap (λ ls. prefix ++ ls) (ap letters (slice_cons bytes end to less within) ∙ letters_plain b (slice_range bytes (end + 1) to) (ne_eqb b 92 (white_is_no_backslash b white.0))) in
+        let broken : IsUnbroken (prefix ++ Plain b ∷ more) = subst IsUnbroken whole unbroken in
+        let quoted : in_quotes (take (length prefix) (prefix ++ Plain b ∷ more)) ≡ true = broken (length prefix) (ap is_space (get_or_at prefix (Plain b) more Lone (length prefix) refl) ∙ white.0) in
+        true≢false (sym quoted ∙ ap in_quotes (take_at prefix (Plain b ∷ more) (length prefix) refl) ∙ word.closed)
 
 one_end : (bytes : List ℕ) (start d e : ℕ) → IsWord bytes start d → IsWord bytes start e → d ≡ e
 one_end bytes start d e a b = go (cases_order d e)
@@ -145,7 +145,7 @@ one_next_token NextWord = one_word_token
 one_next_token NextBody = one_body_token
 one_next_token NextBrace = one_brace_token
 
--- ---- what stands behind the last token
+-- ---- what stands after the last token
 
 -- no token follows where Last holds
 abbrev Stops : List ℕ → (List Token → Type 0) → Type 0
@@ -153,19 +153,19 @@ Stops bytes Last = (read : List Token) (t : Token) → Last read → Follows byt
 
 end_stops : (bytes : List ℕ) → Stops bytes (IsEnd bytes)
 end_stops bytes read t end follows =
-    let word : IsWordToken bytes (place_behind read) t = subst (λ n. IsNextToken n bytes (place_behind read) t) end.outside follows in
-    omega (arith, begins_stops bytes (place_behind read) t.start (length bytes) word.begins end.gap, word.begins.within)
+    let word : IsWordToken bytes (place_after read) t = subst (λ n. IsNextToken n bytes (place_after read) t) end.outside follows in
+    omega (arith, begins_stops bytes (place_after read) t.start (length bytes) word.begins end.gap, word.begins.within)
 
 quote_stops : (bytes : List ℕ) (line : ℕ) → Stops bytes (MeetsOpenQuote bytes line)
 quote_stops bytes line read t meets follows =
-    let word : IsWordToken bytes (place_behind read) t = subst (λ n. IsNextToken n bytes (place_behind read) t) meets.outside follows in
-    let start : t.start ≡ meets.start = one_start bytes (place_behind read) t.start meets.start word.begins meets.begins in
+    let word : IsWordToken bytes (place_after read) t = subst (λ n. IsNextToken n bytes (place_after read) t) meets.outside follows in
+    let start : t.start ≡ meets.start = one_start bytes (place_after read) t.start meets.start word.begins meets.begins in
     word_is_not_open bytes meets.start t.end (subst (λ s. IsWord bytes s t.end) start word.word) meets.unclosed
 
 actions_stops : (bytes : List ℕ) (line : ℕ) → Stops bytes (MeetsOpenActions bytes line)
 actions_stops bytes line read t meets follows =
-    let body : IsBodyToken bytes (place_behind read) t = subst (λ n. IsNextToken n bytes (place_behind read) t) meets.inside follows in
-    body_stops bytes (place_behind read) t.end (length bytes) (subst (λ s. IsBody bytes s t.end) body.begins body.body) body.body.within meets.unclosed
+    let body : IsBodyToken bytes (place_after read) t = subst (λ n. IsNextToken n bytes (place_after read) t) meets.inside follows in
+    body_stops bytes (place_after read) t.end (length bytes) (subst (λ s. IsBody bytes s t.end) body.begins body.body) body.body.within meets.unclosed
 
 -- two readings of one text are one, and meet the same in the end
 meet : (bytes : List ℕ) (P Q : List Token → Type 0) → Stops bytes P → Stops bytes Q → (read ts us : List Token) → Stand bytes P read ts → Stand bytes Q read us → (ts ≡ us) × ((final : List Token) × P final × Q final)
@@ -173,7 +173,7 @@ meet bytes P Q p q read [] [] a b = (refl, (read, a, b))
 meet bytes P Q p q read [] (u ∷ us) a b = absurd (p read u a b.0)
 meet bytes P Q p q read (t ∷ ts) [] a b = absurd (q read t b a.0)
 meet bytes P Q p q read (t ∷ ts) (u ∷ us) a b =
-    let same : t ≡ u = one_next_token (next_behind read) bytes (place_behind read) t u a.0 b.0 in
+    let same : t ≡ u = one_next_token (next_after read) bytes (place_after read) t u a.0 b.0 in
     let rest : (ts ≡ us) × ((final : List Token) × P final × Q final) = meet bytes P Q p q (u ∷ read) ts us (subst (λ x. Stand bytes P (x ∷ read) ts) same a.1) b.1 in
     (ap (λ x. x ∷ ts) same ∙ ap (λ xs. u ∷ xs) rest.0, rest.1)
 
@@ -188,7 +188,7 @@ tokens_no_quote bytes ts line a b =
     let met : (ts ≡ b.1.0) × ((final : List Token) × IsEnd bytes final × MeetsOpenQuote bytes line final) = meet bytes (IsEnd bytes) (MeetsOpenQuote bytes line) (end_stops bytes) (quote_stops bytes line) [] ts b.1.0 a.1 b.1.1 in
     let end : IsEnd bytes met.1.0 = met.1.1 in
     let meets : MeetsOpenQuote bytes line met.1.0 = met.1.2 in
-    omega (arith, begins_stops bytes (place_behind met.1.0) meets.start (length bytes) meets.begins end.gap, meets.begins.within)
+    omega (arith, begins_stops bytes (place_after met.1.0) meets.start (length bytes) meets.begins end.gap, meets.begins.within)
 
 pub tokens_no_actions : (bytes : List ℕ) (ts : List Token) (line : ℕ) → AreTokens bytes ts → IsOpenActions bytes line → ⊥
 tokens_no_actions bytes ts line a b =
@@ -209,7 +209,7 @@ one_quote bytes line other a b =
     let met : (a.1.0 ≡ b.1.0) × ((final : List Token) × MeetsOpenQuote bytes line final × MeetsOpenQuote bytes other final) = meet bytes (MeetsOpenQuote bytes line) (MeetsOpenQuote bytes other) (quote_stops bytes line) (quote_stops bytes other) [] a.1.0 b.1.0 a.1.1 b.1.1 in
     let one : MeetsOpenQuote bytes line met.1.0 = met.1.1 in
     let two : MeetsOpenQuote bytes other met.1.0 = met.1.2 in
-    one.on_line ∙ ap (line_of bytes) (one_start bytes (place_behind met.1.0) one.start two.start one.begins two.begins) ∙ sym two.on_line
+    one.on_line ∙ ap (line_of bytes) (one_start bytes (place_after met.1.0) one.start two.start one.begins two.begins) ∙ sym two.on_line
 
 pub one_actions : (bytes : List ℕ) (line other : ℕ) → IsOpenActions bytes line → IsOpenActions bytes other → line ≡ other
 one_actions bytes line other a b =

@@ -43,7 +43,7 @@ letters_literal b c more e = ap (λ t. cond t (Literal c ∷ letters more) (Plai
 pub letters_lone : (b : ℕ) → (b == 92) ≡ true → letters (b ∷ []) ≡ Lone ∷ []
 letters_lone b e = ap (λ t. cond t Lone (Plain b) ∷ []) e
 
--- bytes behind whole letters have letters of their own
+-- bytes after whole letters have letters of their own
 pub letters_append : (xs ys : List ℕ) → list_any is_lone (letters xs) ≡ false → letters (xs ++ ys) ≡ letters xs ++ letters ys
 letters_append [] ys whole = refl
 letters_append (b ∷ []) ys whole = go (b == 92) refl
@@ -116,7 +116,7 @@ letters_two_more bytes start at order less whole =
     ap letters
     (ap (slice_range bytes start) two
     ∙ slice_more bytes start (at + 1) (omega arith) less
-    ∙ ap (λ front. front ++ get_or bytes (at + 1) 0 ∷ []) (slice_more bytes start at order (omega arith))
+    ∙ ap (λ prefix. prefix ++ get_or bytes (at + 1) 0 ∷ []) (slice_more bytes start at order (omega arith))
     ∙ append_assoc (slice_range bytes start at) (get_or bytes at 0 ∷ []) (get_or bytes (at + 1) 0 ∷ []))
     ∙ letters_append (slice_range bytes start at) (get_or bytes at 0 ∷ get_or bytes (at + 1) 0 ∷ []) whole
 

@@ -9,7 +9,7 @@ use Rattle.jam_lexer.specs.Signs.{line_of}
 use Rattle.jam_lexer.specs.Gap.{BeginsWord}
 use Rattle.jam_lexer.specs.Word.{IsOpenWord}
 use Rattle.jam_lexer.specs.Body.{IsMatched}
-use Rattle.jam_lexer.specs.Tokens.{NextWord, NextBody, next_behind, place_behind, Stand, IsText, AreTokens}
+use Rattle.jam_lexer.specs.Tokens.{NextWord, NextBody, next_after, place_after, Stand, IsText, AreTokens}
 
 -- no character but zero begins the bytes
 abbrev pub BeginsNoCharacter : List ℕ → Type 0
@@ -24,8 +24,8 @@ pub record IsFirstBad (bytes : List ℕ) (at : ℕ) : Type 0 where
 -- next stands a word whose quotes are never closed; the line is that of its first character
 pub record MeetsOpenQuote (bytes : List ℕ) (line : ℕ) (read : List Token) : Type 0 where
   pub start : ℕ
-  pub outside : next_behind read ≡ NextWord
-  pub begins : BeginsWord bytes (place_behind read) start
+  pub outside : next_after read ≡ NextWord
+  pub begins : BeginsWord bytes (place_after read) start
   pub unclosed : IsOpenWord bytes start
   pub on_line : line ≡ line_of bytes start
 
@@ -36,8 +36,8 @@ line_of_last (last ∷ earlier) = last.line
 
 -- next stands a body that never ends; the line is that of the `{` before it
 pub record MeetsOpenActions (bytes : List ℕ) (line : ℕ) (read : List Token) : Type 0 where
-  pub inside : next_behind read ≡ NextBody
-  pub unclosed : IsMatched bytes (place_behind read) (length bytes)
+  pub inside : next_after read ≡ NextBody
+  pub unclosed : IsMatched bytes (place_after read) (length bytes)
   pub on_line : line ≡ line_of_last read
 
 -- the first token that is not whole is a word in quotes

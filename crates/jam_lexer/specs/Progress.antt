@@ -6,15 +6,15 @@ use Rattle.jam_lexer.specs.declared.reading.Place.{Place}
 use Rattle.jam_lexer.specs.declared.fault.LexFault.{LexFault}
 use Rattle.jam_lexer.specs.declared.fault.LexFault.TheVariants as faults
 use Rattle.jam_lexer.specs.Signs.{line_of}
-use Rattle.jam_lexer.specs.Tokens.{Next, NextBody, next_behind, place_behind, awaits_brace, Stand}
+use Rattle.jam_lexer.specs.Tokens.{Next, NextBody, next_after, place_after, awaits_brace, Stand}
 use Rattle.jam_lexer.specs.Answers.{line_of_last, MeetsOpenQuote, MeetsOpenActions}
 
 -- these tokens have been read, up to this place, and this stands next
 pub record HasRead (bytes : List ℕ) (next : Next) (tokens : List Token) (place : Place) : Type 0 where
   pub read : List Token
   pub stand : Stand bytes (λ seen. seen ≡ read) [] tokens
-  pub next_is : next_behind read ≡ next
-  pub place_is : place_behind read ≡ place.at
+  pub next_is : next_after read ≡ next
+  pub place_is : place_after read ≡ place.at
   pub awaits_is : awaits_brace read ≡ place.awaits
   pub line_is : place.line ≡ line_of bytes place.at
   pub within : place.at ≤ length bytes

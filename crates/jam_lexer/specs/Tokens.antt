@@ -29,9 +29,9 @@ is_the_key text token = is_key token.kind && bytes_eq token.text text
 -- A list of tokens that have been read has the last one first.
 
 -- where the tokens that have been read end
-abbrev pub place_behind : List Token → ℕ
-place_behind [] = 0
-place_behind (last ∷ earlier) = last.end
+abbrev pub place_after : List Token → ℕ
+place_after [] = 0
+place_after (last ∷ earlier) = last.end
 
 -- the Key `actions` has been read, and no Key `{` since
 abbrev pub awaits_brace : List Token → Bool
@@ -44,15 +44,15 @@ pub data Next : Type 0 where
   NextBody : Next
   NextBrace : Next
 
--- behind a body its brace; behind the first Key `{` after the Key `actions` a body; else a word
-abbrev pub next_behind : List Token → Next
-next_behind [] = NextWord
-next_behind (last ∷ earlier) =
+-- after a body its brace; after the first Key `{` after the Key `actions` a body; else a word
+abbrev pub next_after : List Token → Next
+next_after [] = NextWord
+next_after (last ∷ earlier) =
     if is_body last.kind then NextBrace
     else (if is_the_key (codes "{") last && awaits_brace earlier then NextBody
     else NextWord)
 
--- a word behind a gap, with the text, kind and line that its span gives
+-- a word after a gap, with the text, kind and line that its span gives
 pub record IsWordToken (bytes : List ℕ) (from : ℕ) (token : Token) : Type 0 where
   pub begins : BeginsWord bytes from token.start
   pub word : IsWord bytes token.start token.end
@@ -82,24 +82,24 @@ IsNextToken NextWord = IsWordToken
 IsNextToken NextBody = IsBodyToken
 IsNextToken NextBrace = IsBraceToken
 
--- the token stands next behind those that have been read
+-- the token stands next after those that have been read
 abbrev pub Follows : List ℕ → List Token → Token → Type 0
-Follows bytes read token = IsNextToken (next_behind read) bytes (place_behind read) token
+Follows bytes read token = IsNextToken (next_after read) bytes (place_after read) token
 
--- behind those that have been read stand these tokens, one after the other, and then what Last says
+-- after those that have been read stand these tokens, one after the other, and then what Last says
 abbrev pub Stand : List ℕ → (List Token → Type 0) → List Token → List Token → Type 0
 Stand bytes Last read [] = Last read
 Stand bytes Last read (token ∷ more) = Follows bytes read token × Stand bytes Last (token ∷ read) more
 
 -- nothing but a gap is left
 pub record IsEnd (bytes : List ℕ) (read : List Token) : Type 0 where
-  pub outside : next_behind read ≡ NextWord
-  pub gap : IsGap bytes (place_behind read) (length bytes)
+  pub outside : next_after read ≡ NextWord
+  pub gap : IsGap bytes (place_after read) (length bytes)
 
 -- text in UTF-8 with no zero byte
 abbrev pub IsText : List ℕ → Type 0
 IsText bytes = IsUtf8 bytes × HasNoZero bytes
 
--- the tokens of the text: each stands next behind those before it, and behind the last nothing but a gap is left
+-- the tokens of the text: each stands next after those before it, and after the last nothing but a gap is left
 abbrev pub AreTokens : List ℕ → List Token → Type 0
 AreTokens bytes tokens = IsText bytes × Stand bytes (IsEnd bytes) [] tokens

@@ -6,13 +6,13 @@ use Rattle.jam_lexer.specs.Signs.{quote, backslash, is_white}
 use Rattle.b2_base.specs.declared.token.TokenKind.{TokenKind}
 use Rattle.b2_base.specs.declared.token.TokenKind.TheVariants.{Word, Key}
 
--- a byte as it stands; a byte behind a backslash; or a backslash with nothing behind it
+-- a byte as it stands; a byte after a backslash; or a backslash with nothing after it
 pub data Letter : Type 0 where
   Plain : ℕ → Letter
   Literal : ℕ → Letter
   Lone : Letter
 
--- the letters of a word: a backslash takes the byte behind it literally
+-- the letters of a word: a backslash takes the byte after it literally
 abbrev pub letters : List ℕ → List Letter
 letters [] = []
 letters (byte ∷ []) = (if byte == backslash then Lone else Plain byte) ∷ []
@@ -30,22 +30,22 @@ is_space (Plain byte) = is_white byte
 is_space (Literal byte) = false
 is_space Lone = false
 
--- a backslash with nothing behind it
+-- a backslash with nothing after it
 abbrev pub is_lone : Letter → Bool
 is_lone (Plain byte) = false
 is_lone (Literal byte) = false
 is_lone Lone = true
 
--- the quotes are open behind these letters: an odd number of quotes is among them
+-- the quotes are open after these letters: an odd number of quotes is among them
 abbrev pub in_quotes : List Letter → Bool
 in_quotes [] = false
 in_quotes (letter ∷ more) = if is_quote letter then not (in_quotes more) else in_quotes more
 
--- all white space among the letters stands in quotes or behind a backslash
+-- all white space among the letters stands in quotes or after a backslash
 abbrev pub IsUnbroken : List Letter → Type 0
 IsUnbroken word = (k : ℕ) → is_space (slice_index_or word k Lone) ≡ true → in_quotes (take k word) ≡ true
 
--- The bytes between the places are a word: no white space ends it before, its quotes are closed, and behind it stands
+-- The bytes between the places are a word: no white space ends it before, its quotes are closed, and after it stands
 -- white space, or the input ends.
 pub record IsWord (bytes : List ℕ) (start end : ℕ) : Type 0 where
   pub order : start ≤ end

@@ -1,14 +1,9 @@
 //! White space and comments between tokens.
 ghost use Rattle.std.specs.Prelude.{◌≡◌, ◌≢◌, ℕ, ◌<◌, ◌≤◌, length, slice_index, IfSome, IfNone};
-ghost use Rattle.jam_lexer.specs.Signs.{line_feed, hash, is_white};
+ghost use Rattle.jam_lexer.specs.Signs.{line_feed};
 ghost use Rattle.jam_lexer.specs.Gap.{IsGap, BeginsWord};
 
-/// Whether the byte is white space: 9 to 13, or 32.
-pub fn is_white(byte: u8) -> bool
-    ensures { result ≡ is_white byte }
-{
-    (9 <= byte && byte <= 13) || byte == b' '
-}
+use crate::signs::is_white;
 
 /// Where the comment that begins here ends: before the next line feed, or with the text.
 fn comment_end(bytes: &[u8], hash: usize) -> usize

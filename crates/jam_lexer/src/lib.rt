@@ -13,6 +13,7 @@ pub mod fault;
 mod gap;
 pub mod laws;
 mod reading;
+pub mod signs;
 mod text;
 mod word;
 
@@ -51,6 +52,3 @@ pub fn lex(alloc: Global, bytes: &[u8]) -> Result<Vec<Token>, LexFault>
     }
     read_text(alloc, bytes)
 }
-
-#[cfg(test)]
-mod tests;

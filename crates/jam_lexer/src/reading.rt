@@ -18,8 +18,8 @@ use b2_base::text::Text;
 use b2_base::token::{Token, TokenKind};
 use std::alloc::Global;
 
-/// A place behind a token.
-#[derive(Clone, Copy, Debug)]
+/// A place after a token.
+#[derive(Clone, Copy)]
 pub struct Place {
     pub at: usize,
     /// The line of the place, from 1.
@@ -55,15 +55,15 @@ fn is_the_key(token: &Token, text: &str) -> bool
     token.kind == TokenKind::Key && token.text.as_str() == text
 }
 
-/// Whether a body stands behind the token, where `awaits` says so of the tokens before it.
+/// Whether a body stands after the token, where `awaits` says so of the tokens before it.
 fn opens_body(token: &Token, awaits: bool) -> bool
     ensures { result ≡ (is_the_key (codes "{") token.now && awaits) }
 {
     is_the_key(token, "{") && awaits
 }
 
-/// Whether a Key `{` behind the token opens a body, where `awaits` says so of the tokens before it.
-fn awaits_behind(token: &Token, awaits: bool) -> bool
+/// Whether a Key `{` after the token opens a body, where `awaits` says so of the tokens before it.
+fn awaits_after(token: &Token, awaits: bool) -> bool
     ensures { result ≡ (is_the_key (codes "actions") token.now || (not (is_the_key (codes "{") token.now) && awaits)) }
 {
     is_the_key(token, "actions") || (!is_the_key(token, "{") && awaits)
@@ -121,7 +121,7 @@ fn body_token(
     })
 }
 
-/// The token of the `}` behind a body.
+/// The token of the `}` after a body.
 fn brace_token(alloc: Global, at: usize, line: u32) -> Result<Token, OutOfMemory>
     requires { at < 1048576 }
     ensures { IfOk result (λ token.
@@ -138,7 +138,7 @@ fn brace_token(alloc: Global, at: usize, line: u32) -> Result<Token, OutOfMemory
     })
 }
 
-/// Reads the body that begins here and the brace behind it. The `{` before it is on line `brace`.
+/// Reads the body that begins here and the brace after it. The `{` before it is on line `brace`.
 fn read_body(
     alloc: Global,
     bytes: &[u8],
@@ -150,7 +150,7 @@ fn read_body(
     requires text { IsText bytes.now }
     requires opened { HasOpened bytes.now tokens.old.items place brace }
     ensures ok { IfOk result (HasRead bytes.now NextWord tokens.new.items) }
-    ensures goes { IfOk result (λ behind. place.at < behind.at) }
+    ensures goes { IfOk result (λ after. place.at < after.at) }
     ensures err { IfErr result (IsMet bytes.now) }
 {
     let Some(end) = body_end(bytes, place.at) else {
@@ -181,7 +181,7 @@ fn read_word(
     requires read { HasRead bytes.now NextWord tokens.old.items place }
     requires begins { BeginsWord bytes.now place.at start }
     ensures ok { IfOk result (HasRead bytes.now NextWord tokens.new.items) }
-    ensures goes { IfOk result (λ behind. place.at < behind.at) }
+    ensures goes { IfOk result (λ after. place.at < after.at) }
     ensures err { IfErr result (IsMet bytes.now) }
 {
     let line = line_after(bytes, place.at, place.line, start);
@@ -190,17 +190,17 @@ fn read_word(
     };
     let token = word_token(alloc, bytes, start, end, line)?;
     let opens = opens_body(&token, place.awaits);
-    let awaits = awaits_behind(&token, place.awaits);
+    let awaits = awaits_after(&token, place.awaits);
     tokens.push(token)?;
-    let behind = Place {
+    let after = Place {
         at: end,
         line: line_after(bytes, start, line, end),
         awaits,
     };
     if opens {
-        read_body(alloc, bytes, tokens, behind, line)
+        read_body(alloc, bytes, tokens, after, line)
     } else {
-        Ok(behind)
+        Ok(after)
     }
 }
 

@@ -5,7 +5,7 @@ ghost use Rattle.b2_base.specs.Bytes.{HasNoZero};
 ghost use Rattle.jam_lexer.specs.Tokens.{IsText};
 ghost use Rattle.jam_lexer.specs.Answers.{IsFirstBad};
 
-/// The length of the longest front that is UTF-8.
+/// The length of the longest prefix that is UTF-8.
 fn valid_len(bytes: &[u8]) -> usize
     ensures within { result ≤ length bytes.now }
     ensures valid { IsUtf8 (take result bytes.now) }

@@ -1,29 +1,16 @@
 //! Words: where one ends, the text that it stands for, and whether it is a key.
 ghost use Rattle.std.specs.Prelude.{◌≡◌, ◌+◌, ◌^◌, ◌<◌, ◌≤◌, min, length, IfOk, IfSome, IfNone};
-ghost use Rattle.std.specs.List.{list_any};
-ghost use Rattle.std.specs.Str.{bytes_eq};
-ghost use Rattle.jam_lexer.specs.Word.{IsWord, IsOpenWord, text_of, is_key_text, is_bare, kind_of};
+ghost use Rattle.jam_lexer.specs.Word.{IsWord, IsOpenWord, text_of, is_bare, kind_of};
 ghost use Rattle.jam_lexer.specs.Tokens.{IsText};
 
-use crate::gap::is_white;
+use crate::signs::{is_key_text, is_white};
 use b2_base::fault::OutOfMemory;
 use b2_base::text::Text;
 use b2_base::token::TokenKind;
 use std::alloc::Global;
 
-/// The signs of the language.
-static SIGNS: [&str; 15] = [
-    ";", ":", "{", "}", "[", "]", "(", ")", "=", "+=", "?=", "!=", "!", "&&", "||",
-];
-
-/// The words that the language keeps for itself.
-static RESERVED: [&str; 14] = [
-    "actions", "case", "else", "for", "if", "in", "include", "local", "module", "on", "return",
-    "rule", "switch", "while",
-];
-
-/// The place behind a backslash and the byte that it makes literal, if there is one.
-fn behind_literal(backslash: usize, len: usize) -> usize
+/// The place after a backslash and the byte that it makes literal, if there is one.
+fn after_literal(backslash: usize, len: usize) -> usize
     requires order { backslash < len }
     requires small { len < 2 ^ 63 }
     ensures { result ≡ min (backslash + 2) len }
@@ -42,7 +29,7 @@ pub fn word_end(bytes: &[u8], start: usize) -> Option<usize>
     while at < bytes.len() {
         let byte = bytes[at];
         if byte == b'\\' {
-            at = behind_literal(at, bytes.len());
+            at = after_literal(at, bytes.len());
         } else if byte == b'"' {
             quoted = !quoted;
             at += 1;
@@ -95,20 +82,6 @@ pub fn word_text(alloc: Global, word: &[u8]) -> Result<Text, OutOfMemory>
     text_from(alloc, text.as_slice())
 }
 
-/// Whether the text is one of the words.
-fn is_one_of(text: &str, words: &[&str]) -> bool
-    ensures { result ≡ list_any (λ word. bytes_eq text.now word.now) words.now }
-{
-    words.iter().any(|word| text == *word)
-}
-
-/// Whether the text is that of a key.
-fn is_key(text: &str) -> bool
-    ensures { result ≡ is_key_text text.now }
-{
-    is_one_of(text, &SIGNS) || is_one_of(text, &RESERVED)
-}
-
 /// Whether neither a quote nor a backslash stands in the word.
 fn is_bare(word: &[u8]) -> bool
     ensures { result ≡ is_bare word.now }
@@ -121,7 +94,7 @@ pub fn word_kind(word: &[u8], text: &str) -> TokenKind
     requires { text.now ≡ text_of word.now }
     ensures { result ≡ kind_of word.now }
 {
-    if is_bare(word) && is_key(text) {
+    if is_bare(word) && is_key_text(text) {
         TokenKind::Key
     } else {
         TokenKind::Word

@@ -15,7 +15,7 @@ use Rattle.jam_grammar.specs.Machine.{move_key, Move, Take, Room, Skip, Refuse, 
 use Rattle.jam_grammar.specs.Spelling.{Sym, Key, Never, Spells, arg_syms, args_syms, further_syms, lists_syms}
 use Rattle.jam_grammar.specs.Gives.{Leads}
 use Rattle.jam_parser.specs.Parts.{ComesTo, IsRead}
-use Rattle.jam_parser.specs.Starts.{begins_arg, starts_arg, starts_with, StandsBehind}
+use Rattle.jam_parser.specs.Starts.{begins_arg, starts_arg, starts_with, StandsAfter}
 use Rattle.jam_parser.proofs.Sequences.{spells_append, turned, takes_past}
 
 -- parts that do the same with each mark
@@ -84,8 +84,8 @@ pub more_lists : (before after : List Token) (vs ws : List (Vec Arg Global)) (v 
 more_lists before after [] ws v s e = absurd (never before after s)
 more_lists before after (u ∷ vs) ws v s e = ap lists_syms e ∙ ap (λ x. args_syms u.items ++ x) (further_snoc vs v) ∙ sym (append_assoc (args_syms u.items) (further_syms vs) _)
 
--- a colon, and a list behind it
-pub colon_comes : (a b : List Token) (n left d : ℕ) → left ≡ suc n → StandsBehind Colon a b → ComesTo (More left ∷ []) (Args ∷ More n ∷ []) a d (Key Colon ∷ []) b
+-- a colon, and a list after it
+pub colon_comes : (a b : List Token) (n left d : ℕ) → left ≡ suc n → StandsAfter Colon a b → ComesTo (More left ∷ []) (Args ∷ More n ∷ []) a d (Key Colon ∷ []) b
 colon_comes a b n left d l h = takes_past (More left) (Args ∷ More n ∷ []) Colon a b d h (ap (λ x. move (More x) Colon) l)
 
 -- where no more lists may come or no colon does, none come
@@ -139,7 +139,7 @@ call_comes a d h = turned (OneInner ∷ []) (OneArg ∷ Args ∷ More 8 ∷ []) 
     comes [] h k o = refl
     comes (t ∷ ts) h k o = ap (λ x. go_on x (run ts) (t ∷ ts)) (same k (mark_of_token t) h)
 
--- what stands there behind `on arg` without `return` is the same as in brackets
+-- what stands there after `on arg` without `return` is the same as in brackets
 pub inner_comes : (a : List Token) (d : ℕ) → starts_with Return a ≡ false → ComesTo (InnerTail ∷ []) (OneInner ∷ []) a d [] a
 inner_comes a d h = turned (InnerTail ∷ []) (OneInner ∷ []) a d (omega arith) (comes a h)
   where
@@ -156,5 +156,5 @@ pub same_mark_refl : (m : Mark) → same_mark m m ≡ true
 same_mark_refl m = eq-eqb (number m) (number m) refl
 
 -- a key is read
-pub key_reads : (m : Mark) (a b : List Token) (d : ℕ) → StandsBehind m a b → IsRead (part.Key m ∷ []) a d (Key m ∷ []) b
+pub key_reads : (m : Mark) (a b : List Token) (d : ℕ) → StandsAfter m a b → IsRead (part.Key m ∷ []) a d (Key m ∷ []) b
 key_reads m a b d h = takes_past (part.Key m) [] m a b d h (ap move_key (same_mark_refl m))

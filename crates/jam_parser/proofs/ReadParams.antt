@@ -17,7 +17,7 @@ use Rattle.jam_grammar.specs.Grammar.{Part, Params, MoreParams, Names, NameTail}
 use Rattle.jam_grammar.specs.Spelling.{Sym, Key, Named, Never, Spells, param_syms, takes_all, no_mark, plist_syms, further_params, params_syms}
 use Rattle.jam_parser.specs.Parts.{least, ComesTo, IsRead}
 use Rattle.jam_parser.specs.Params.{after_name, after_list, lists_of, params_read}
-use Rattle.jam_parser.specs.Starts.{StandsBehind}
+use Rattle.jam_parser.specs.Starts.{StandsAfter}
 use Rattle.jam_parser.proofs.Sequences.{composed, takes, takes_past}
 use Rattle.jam_parser.proofs.ReadArgs.{never}
 
@@ -89,8 +89,8 @@ pub more_lists : (before after : List Token) (vs ws : List (Vec Param Global)) (
 more_lists before after [] ws v s e = absurd (never before after s)
 more_lists before after (u ∷ vs) ws v s e = ap (λ x. params_read (lists_of x)) e ∙ ap (λ x. plist_syms u.items ++ x) (further_snoc vs v) ∙ sym (append_assoc (plist_syms u.items) (further_params (lists_of vs)) _)
 
--- a colon behind a list that is not the last
-pub list_comes : (last : Bool) (a b : List Token) (d : ℕ) → last ≡ false → StandsBehind m.Colon a b → ComesTo (after_list last) (Params ∷ []) a d (Key m.Colon ∷ []) b
+-- a colon after a list that is not the last
+pub list_comes : (last : Bool) (a b : List Token) (d : ℕ) → last ≡ false → StandsAfter m.Colon a b → ComesTo (after_list last) (Params ∷ []) a d (Key m.Colon ∷ []) b
 list_comes last a b d open1 h = subst (λ x. ComesTo (after_list x) (Params ∷ []) a d (Key m.Colon ∷ []) b) (sym open1) (takes_past MoreParams (Params ∷ []) m.Colon a b d h refl)
 
 -- lists that were read, in parentheses

@@ -18,7 +18,7 @@ use Rattle.jam_grammar.specs.Spelling.{Sym, Key, Says, From, Spells, StartsOn, s
 use Rattle.jam_grammar.specs.Gives.{Leads}
 use Rattle.jam_grammar.proofs.Rows.{block_is}
 use Rattle.jam_parser.specs.Parts.{ComesTo, IsRead}
-use Rattle.jam_parser.specs.Starts.{begins_stmt, starts_stmt, line_first, StandsBehind}
+use Rattle.jam_parser.specs.Starts.{begins_stmt, starts_stmt, line_first, StandsAfter}
 use Rattle.jam_parser.proofs.Sequences.{turned}
 
 zero_more : (n : ℕ) → n ≡ 0 + n
@@ -77,7 +77,7 @@ case_is pattern stmts =
     ∙ ap (λ s. Key m.Case ∷ Says pattern ∷ Key m.Colon ∷ s) (append-nil _ ∙ ap spell_stmts (block_is stmts))
 
 -- what is read begins on the line of its first token
-pub lined : (p q : List Part) {s : List Sym} (want : Mark) (a b c : List Token) (d line : ℕ) → StandsBehind want a b → line ≡ line_first a → ComesTo p q a d s c → ComesTo p q a d (From line ∷ s) c
+pub lined : (p q : List Part) {s : List Sym} (want : Mark) (a b c : List Token) (d line : ℕ) → StandsAfter want a b → line ≡ line_first a → ComesTo p q a d s c → ComesTo p q a d (From line ∷ s) c
 lined p q {s} want a b c d line h e x = record {
   moves = x.moves;
   spells = (subst (StartsOn line) (sym h.split) (sym (e ∙ ap line_first h.split)), x.spells);

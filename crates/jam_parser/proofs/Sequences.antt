@@ -11,7 +11,7 @@ use Rattle.jam_grammar.specs.Spelling.{Sym, Key, Says, Named, Raw, From, Never, 
 use Rattle.jam_grammar.specs.Gives.{Leads, Ends}
 use Rattle.jam_parser.specs.declared.reading.Fault.{Fault}
 use Rattle.jam_parser.specs.declared.reading.Fault.TheVariants as faults
-use Rattle.jam_parser.specs.Starts.{StandsBehind}
+use Rattle.jam_parser.specs.Starts.{StandsAfter}
 use Rattle.jam_parser.specs.Parts.{EndsBy, least_of, least, ComesTo, IsRead, Completes}
 
 pub opens_append : (a b : List Part) → opens (a ++ b) ≡ opens a + opens b
@@ -129,10 +129,10 @@ opening p q m t a b n d room h is e = subst (λ z. ComesTo (p ∷ []) q z d (Key
     fits k o = grind arith
 
 -- the same of a mark that stands first
-pub takes_past : (p : Part) (q : List Part) (m : Mark) (a b : List Token) (d : ℕ) → StandsBehind m a b → move p m ≡ Take q → ComesTo (p ∷ []) q a d (Key m ∷ []) b
+pub takes_past : (p : Part) (q : List Part) (m : Mark) (a b : List Token) (d : ℕ) → StandsAfter m a b → move p m ≡ Take q → ComesTo (p ∷ []) q a d (Key m ∷ []) b
 takes_past p q m a b d h e = takes p q m h.first a b d h.split h.is_it e
 
-pub opens_past : (p : Part) (q : List Part) (m : Mark) (a b : List Token) (n d : ℕ) → n + d ≤ 64 → StandsBehind m a b → move p m ≡ Room n q → ComesTo (p ∷ []) q a d (Key m ∷ []) b
+pub opens_past : (p : Part) (q : List Part) (m : Mark) (a b : List Token) (n d : ℕ) → n + d ≤ 64 → StandsAfter m a b → move p m ≡ Room n q → ComesTo (p ∷ []) q a d (Key m ∷ []) b
 opens_past p q m a b n d room h e = opening p q m h.first a b n d room h.split h.is_it e
 
 -- where there is none, it is a fault
@@ -142,7 +142,7 @@ no_room p q m t a b n d room h is e = subst (λ z. Ends (p ∷ []) z d z) (sym h
     full : (k : List Part) → opens k ≡ d → nat_le (n + opens k) 64 ≡ false
     full k o = grind arith
 
-pub no_room_past : (p : Part) (q : List Part) (m : Mark) (a b : List Token) (n d : ℕ) → 64 < n + d → StandsBehind m a b → move p m ≡ Room n q → Ends (p ∷ []) a d a
+pub no_room_past : (p : Part) (q : List Part) (m : Mark) (a b : List Token) (n d : ℕ) → 64 < n + d → StandsAfter m a b → move p m ≡ Room n q → Ends (p ∷ []) a d a
 no_room_past p q m a b n d room h e = no_room p q m h.first a b n d room h.split h.is_it e
 
 -- a mark that cannot come is a fault

@@ -1,4 +1,4 @@
--- What may come behind a part of the parameters, and how they are spelled between parentheses.
+-- What may come after a part of the parameters, and how they are spelled between parentheses.
 use Rattle.std.specs.Prelude.{List, [], ◌∷◌, ◌++◌, Bool, true, false, map}
 use Rattle.std.specs.declared.vec.Vec.{Vec}
 use Rattle.std.specs.declared.alloc.Global.{Global}
@@ -6,12 +6,12 @@ use Rattle.jam_grammar.specs.declared.tree.Param.{Param}
 use Rattle.jam_grammar.specs.Grammar.{Part, Names, MoreParams}
 use Rattle.jam_grammar.specs.Spelling.{Sym, Never, plist_syms, further_params}
 
--- behind a name and its mark more names may come, if the mark does not forbid it
+-- after a name and its mark more names may come, if the mark does not forbid it
 abbrev pub after_name : Bool → List Part
 after_name true = Names ∷ []
 after_name false = []
 
--- behind a list more lists may come, if it is not the last
+-- after a list more lists may come, if it is not the last
 abbrev pub after_list : Bool → List Part
 after_list true = []
 after_list false = MoreParams ∷ []

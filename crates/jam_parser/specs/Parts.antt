@@ -7,7 +7,7 @@ use Rattle.jam_grammar.specs.Gives.{Leads, Ends}
 use Rattle.jam_parser.specs.declared.reading.Fault.{Fault}
 use Rattle.jam_parser.specs.declared.reading.Fault.TheVariants as faults
 
--- reading the parts ends here, whatever has to come behind them; nothing is said where memory runs out
+-- reading the parts ends here, whatever has to come after them; nothing is said where memory runs out
 abbrev pub EndsBy : List Part → List Token → ℕ → Fault → Type 0
 EndsBy parts tokens depth faults.Memory = Unit {0}
 EndsBy parts tokens depth (faults.At rest) = Ends parts tokens depth rest.now
@@ -39,12 +39,12 @@ pub record ComesTo (parts others : List Part) (tokens : List Token) (depth : ℕ
 abbrev pub IsRead : List Part → List Token → ℕ → List Sym → List Token → Type 0
 IsRead parts tokens depth syms after = ComesTo parts [] tokens depth syms after
 
--- The same, where what is spelled stands behind what was read before.
-pub record Continues (front : List Sym) (parts others : List Part) (tokens : List Token) (depth : ℕ) (all : List Sym) (after : List Token) : Type 0 where
+-- The same, where what is spelled stands after what was read before.
+pub record Continues (prefix : List Sym) (parts others : List Part) (tokens : List Token) (depth : ℕ) (all : List Sym) (after : List Token) : Type 0 where
   pub syms : List Sym
-  pub whole : all ≡ front ++ syms
+  pub whole : all ≡ prefix ++ syms
   pub comes : ComesTo parts others tokens depth syms after
 
 -- and nothing is left of the parts
 abbrev pub Completes : List Sym → List Part → List Token → ℕ → List Sym → List Token → Type 0
-Completes front parts tokens depth all after = Continues front parts [] tokens depth all after
+Completes prefix parts tokens depth all after = Continues prefix parts [] tokens depth all after

@@ -64,8 +64,8 @@ abbrev pub starts_with : Mark → List Token → Bool
 starts_with want [] = false
 starts_with want (token ∷ tokens) = same_mark want (mark_of_token token)
 
--- the mark stands first, and the others behind it
-pub record StandsBehind (want : Mark) (tokens after : List Token) : Type 0 where
+-- the mark stands first, and the others after it
+pub record StandsAfter (want : Mark) (tokens after : List Token) : Type 0 where
   pub first : Token
   pub split : tokens ≡ first ∷ after
   pub is_it : mark_of_token first ≡ want

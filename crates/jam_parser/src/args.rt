@@ -4,7 +4,7 @@ ghost use Rattle.jam_grammar.specs.Spelling.{arg_syms, args_syms, lists_syms, in
 ghost use Rattle.jam_grammar.specs.Spelling as spelling;
 ghost use Rattle.jam_grammar.specs.Grammar.{OneArg, Args, More, OneInner, InnerTail, Key};
 ghost use Rattle.jam_grammar.specs.declared.mark.Mark.TheVariants as marks;
-ghost use Rattle.jam_parser.specs.Starts.{starts_arg, starts_with, StandsBehind};
+ghost use Rattle.jam_parser.specs.Starts.{starts_arg, starts_with, StandsAfter};
 ghost use Rattle.jam_parser.specs.Parts.{IsRead, Completes, EndsBy};
 
 use crate::reading::{Fault, key_here, next_of, past, word_here};
@@ -46,7 +46,7 @@ pub fn arg<'a>(alloc: Global, rest: &'a [Token], depth: u8) -> Result<(Arg, &'a 
     }
 }
 
-/// Reads what stands behind an opening bracket, which is not counted in depth.
+/// Reads what stands after an opening bracket, which is not counted in depth.
 #[cycle(args)]
 fn bracket<'a>(alloc: Global, rest: &'a [Token], depth: u8) -> Result<(Arg, &'a [Token]), Fault<'a>>
     requires { depth < 64 }
@@ -90,7 +90,7 @@ fn call_inside<'a>(
     Ok((Inner::Call { head, lists }, after))
 }
 
-/// Reads what stands behind `on` in brackets.
+/// Reads what stands after `on` in brackets.
 #[cycle(args)]
 fn on_inside<'a>(
     alloc: Global,
@@ -134,9 +134,9 @@ pub fn args<'a>(
     Ok((found, left))
 }
 
-/// What stands behind the colon before one more list, if that may come and does.
+/// What stands after the colon before one more list, if that may come and does.
 fn further<'a>(rest: &'a [Token], count: usize) -> Option<&'a [Token]>
-    ensures { MatchOption result (count < 9 → starts_with marks.Colon rest.now ≡ false) (λ after. (count < 9) × StandsBehind marks.Colon rest.now after.now) }
+    ensures { MatchOption result (count < 9 → starts_with marks.Colon rest.now ≡ false) (λ after. (count < 9) × StandsAfter marks.Colon rest.now after.now) }
 {
     if count < MAX_LISTS {
         past(rest, Mark::Colon)

@@ -26,15 +26,15 @@ pub fn expr<'a>(
 {
     let (first, after) = both(alloc, rest, depth)?;
     match past(after, Mark::Or) {
-        Some(behind) => {
-            let (whole, after) = or_rest(alloc, first, behind, depth)?;
+        Some(right) => {
+            let (whole, after) = or_rest(alloc, first, right, depth)?;
             Ok((whole, after))
         }
         None => Ok((first, after)),
     }
 }
 
-/// Reads what stands behind the first `||` of a condition.
+/// Reads what stands after the first `||` of a condition.
 #[cycle(exprs)]
 fn or_rest<'a>(
     alloc: Global,
@@ -65,15 +65,15 @@ fn both<'a>(alloc: Global, rest: &'a [Token], depth: u8) -> Result<(Expr, &'a [T
 {
     let (first, after) = single(alloc, rest, depth)?;
     match past(after, Mark::And) {
-        Some(behind) => {
-            let (whole, after) = and_rest(alloc, first, behind, depth)?;
+        Some(right) => {
+            let (whole, after) = and_rest(alloc, first, right, depth)?;
             Ok((whole, after))
         }
         None => Ok((first, after)),
     }
 }
 
-/// Reads what stands behind the first `&&` of a condition.
+/// Reads what stands after the first `&&` of a condition.
 #[cycle(exprs)]
 fn and_rest<'a>(
     alloc: Global,
@@ -109,7 +109,7 @@ fn single<'a>(alloc: Global, rest: &'a [Token], depth: u8) -> Result<(Expr, &'a 
     }
 }
 
-/// Reads what stands behind `!`, which is counted in depth.
+/// Reads what stands after `!`, which is counted in depth.
 #[cycle(exprs)]
 fn negated<'a>(
     alloc: Global,
@@ -142,7 +142,7 @@ fn positive<'a>(
     }
 }
 
-/// Reads what stands behind an opening parenthesis, which is not counted in depth.
+/// Reads what stands after an opening parenthesis, which is not counted in depth.
 #[cycle(exprs)]
 fn group<'a>(alloc: Global, rest: &'a [Token], depth: u8) -> Result<(Expr, &'a [Token]), Fault<'a>>
     requires { depth < 64 }
@@ -168,7 +168,7 @@ fn operand<'a>(
     Ok((whole, after))
 }
 
-/// Reads what may stand behind an argument in a condition.
+/// Reads what may stand after an argument in a condition.
 fn compared<'a>(
     alloc: Global,
     left: Arg,

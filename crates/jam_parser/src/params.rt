@@ -4,7 +4,7 @@ ghost use Rattle.jam_grammar.specs.Spelling.{mark_syms, param_syms, plist_syms};
 ghost use Rattle.jam_grammar.specs.Grammar.{Params, Names, NameTail};
 ghost use Rattle.jam_grammar.specs.Marks.{mark_of_token};
 ghost use Rattle.jam_grammar.specs.declared.mark.Mark.TheVariants as marks;
-ghost use Rattle.jam_parser.specs.Starts.{starts_with, StandsBehind};
+ghost use Rattle.jam_parser.specs.Starts.{starts_with, StandsAfter};
 ghost use Rattle.jam_parser.specs.Parts.{IsRead, ComesTo, EndsBy};
 ghost use Rattle.jam_parser.specs.Params.{after_name, after_list, lists_of, params_read};
 
@@ -16,7 +16,7 @@ use jam_grammar::mark::Mark;
 use jam_grammar::tree::Param;
 use std::alloc::Global;
 
-/// The name that stands here, if one may come and does, and what stands behind it.
+/// The name that stands here, if one may come and does, and what stands after it.
 fn next_name<'a>(rest: &'a [Token], may_come: bool) -> Option<(&'a Token, &'a [Token])>
     ensures { MatchOption result (may_come ≡ true → starts_with marks.Plain rest.now ≡ false) (λ next. (may_come ≡ true) × (rest.now ≡ next.0.now ∷ next.1.now) × (mark_of_token next.0.now ≡ marks.Plain)) }
 {
@@ -26,8 +26,8 @@ fn next_name<'a>(rest: &'a [Token], may_come: bool) -> Option<(&'a Token, &'a [T
     }
 }
 
-/// The mark behind a name, whether more names may come, and what stands behind it.
-fn mark_behind(rest: &[Token]) -> (Option<char>, bool, &[Token])
+/// The mark after a name, whether more names may come, and what stands after it.
+fn mark_after(rest: &[Token]) -> (Option<char>, bool, &[Token])
     ensures { (depth : ℕ) → ComesTo (NameTail ∷ []) (after_name result.1) rest.now depth (mark_syms result.0) result.2.now }
 {
     match next_of(rest) {
@@ -50,7 +50,7 @@ fn names<'a>(
     let mut left = rest;
     let mut may_come = true;
     'each: while let Some((first, after)) = next_name(left, may_come) {
-        let (mark, more, after) = mark_behind(after);
+        let (mark, more, after) = mark_after(after);
         let name = first.text.copy()?;
         found.push(Param { name, mark })?;
         may_come = more;
@@ -81,9 +81,9 @@ fn list<'a>(
     }
 }
 
-/// What stands behind the colon before one more list, if that may come and does.
+/// What stands after the colon before one more list, if that may come and does.
 fn further<'a>(rest: &'a [Token], last: bool) -> Option<&'a [Token]>
-    ensures { MatchOption result (last ≡ false → starts_with marks.Colon rest.now ≡ false) (λ after. (last ≡ false) × StandsBehind marks.Colon rest.now after.now) }
+    ensures { MatchOption result (last ≡ false → starts_with marks.Colon rest.now ≡ false) (λ after. (last ≡ false) × StandsAfter marks.Colon rest.now after.now) }
 {
     if last { None } else { past(rest, Mark::Colon) }
 }

@@ -4,7 +4,7 @@ ghost use Rattle.jam_grammar.specs.Marks.{mark_of_token};
 ghost use Rattle.jam_grammar.specs.Grammar.{Key, OneWord};
 ghost use Rattle.jam_grammar.specs.Spelling as spelling;
 ghost use Rattle.jam_grammar.specs.declared.mark.Mark.TheVariants as marks;
-ghost use Rattle.jam_parser.specs.Starts.{starts_with, StandsBehind};
+ghost use Rattle.jam_parser.specs.Starts.{starts_with, StandsAfter};
 ghost use Rattle.jam_parser.specs.Parts.{IsRead, EndsBy};
 
 use b2_base::fault::OutOfMemory;
@@ -65,9 +65,9 @@ pub fn next_of(rest: &[Token]) -> Option<(Mark, &Token, &[Token])>
     }
 }
 
-/// What stands behind this mark, if it stands here.
+/// What stands after this mark, if it stands here.
 pub fn past<'a>(rest: &'a [Token], want: Mark) -> Option<&'a [Token]>
-    ensures { MatchOption result (starts_with want rest.now ≡ false) (λ after. StandsBehind want rest.now after.now) }
+    ensures { MatchOption result (starts_with want rest.now ≡ false) (λ after. StandsAfter want rest.now after.now) }
 {
     match next_of(rest) {
         Some((mark, _, after)) if mark == want => Some(after),

@@ -5,7 +5,7 @@ ghost use Rattle.jam_grammar.specs.Spelling.{form_syms, arg_syms, args_syms, val
 ghost use Rattle.jam_grammar.specs.Spelling as spelling;
 ghost use Rattle.jam_grammar.specs.Grammar.{OneStmt, Tail, Assigned, LocalTail, BodyBlock, OneWord, OneArg, Args, More, Key};
 ghost use Rattle.jam_grammar.specs.declared.mark.Mark.TheVariants as marks;
-ghost use Rattle.jam_parser.specs.Starts.{starts_with, starts_sign, StandsBehind};
+ghost use Rattle.jam_parser.specs.Starts.{starts_with, starts_sign, StandsAfter};
 ghost use Rattle.jam_parser.specs.Parts.{IsRead, ComesTo, Completes, EndsBy};
 
 use crate::args::{MAX_OPEN, arg, args, lists};
@@ -30,7 +30,7 @@ fn list_end<'a>(
     Ok((list, after))
 }
 
-/// Reads what stands behind `include`.
+/// Reads what stands after `include`.
 pub fn include<'a>(
     alloc: Global,
     rest: &'a [Token],
@@ -43,7 +43,7 @@ pub fn include<'a>(
     Ok((Form::Include(names), after))
 }
 
-/// Reads what stands behind `return`.
+/// Reads what stands after `return`.
 pub fn returned<'a>(
     alloc: Global,
     rest: &'a [Token],
@@ -56,7 +56,7 @@ pub fn returned<'a>(
     Ok((Form::Return(value), after))
 }
 
-/// Reads what stands behind `local`.
+/// Reads what stands after `local`.
 pub fn local<'a>(
     alloc: Global,
     rest: &'a [Token],
@@ -70,7 +70,7 @@ pub fn local<'a>(
     Ok((Form::Local { names, value }, after))
 }
 
-/// Reads what stands behind the names of `local`.
+/// Reads what stands after the names of `local`.
 fn local_value<'a>(
     alloc: Global,
     rest: &'a [Token],
@@ -89,7 +89,7 @@ fn local_value<'a>(
     }
 }
 
-/// Reads what stands behind `actions`.
+/// Reads what stands after `actions`.
 pub fn actions<'a>(rest: &'a [Token], depth: u8) -> Result<(Form, &'a [Token]), Fault<'a>>
     requires { depth < 64 }
     ensures { MatchResult result (λ r. Completes (spelling.Key marks.Actions ∷ []) (OneWord ∷ BodyBlock ∷ []) rest.now depth (form_syms r.0) r.1.now) (λ e. EndsBy (OneWord ∷ BodyBlock ∷ []) rest.now depth e) }
@@ -128,7 +128,7 @@ pub fn by_arg<'a>(
     Ok((form, after))
 }
 
-/// Reads what stands behind the first argument of a statement.
+/// Reads what stands after the first argument of a statement.
 fn tail<'a>(
     alloc: Global,
     head: Arg,
@@ -147,9 +147,9 @@ fn tail<'a>(
     }
 }
 
-/// The sign of an assignment that stands here, and what stands behind it.
+/// The sign of an assignment that stands here, and what stands after it.
 fn sign_here(rest: &[Token]) -> Option<(Sign, &[Token])>
-    ensures { MatchOption result (starts_sign rest.now ≡ false) (λ r. StandsBehind (sign_mark r.0) rest.now r.1.now) }
+    ensures { MatchOption result (starts_sign rest.now ≡ false) (λ r. StandsAfter (sign_mark r.0) rest.now r.1.now) }
 {
     match next_of(rest) {
         Some((Mark::Equals, _, after)) => Some((Sign::Set, after)),
@@ -159,7 +159,7 @@ fn sign_here(rest: &[Token]) -> Option<(Sign, &[Token])>
     }
 }
 
-/// Reads what stands behind the sign of an assignment.
+/// Reads what stands after the sign of an assignment.
 fn assign<'a>(
     alloc: Global,
     target: Arg,
@@ -181,7 +181,7 @@ fn assign<'a>(
     ))
 }
 
-/// Reads what stands behind `target on`.
+/// Reads what stands after `target on`.
 fn assign_on<'a>(
     alloc: Global,
     target: Arg,

@@ -7,7 +7,7 @@ use crate::reading::next_of;
 use b2_base::token::Token;
 use jam_grammar::mark::Mark;
 
-/// What a statement begins with, and what stands behind the key.
+/// What a statement begins with, and what stands after the key.
 #[derive(Drop)]
 pub enum Start<'a> {
     Argument,

@@ -111,7 +111,7 @@ fn braces<'a>(alloc: Global, rest: &'a [Token], depth: u8) -> Result<(Form, &'a 
     Ok((Form::Braces(block), after))
 }
 
-/// Reads what stands behind `if`.
+/// Reads what stands after `if`.
 #[cycle(stmts)]
 fn if_form<'a>(
     alloc: Global,
@@ -139,7 +139,7 @@ fn other<'a>(alloc: Global, rest: &'a [Token], depth: u8) -> Result<(Other, &'a 
     }
 }
 
-/// Reads what stands behind `else`.
+/// Reads what stands after `else`.
 #[cycle(stmts)]
 fn else_tail<'a>(
     alloc: Global,
@@ -159,7 +159,7 @@ fn else_tail<'a>(
     }
 }
 
-/// Reads what stands behind `else if`, of which `if` is on the line; the `else` is counted in depth.
+/// Reads what stands after `else if`, of which `if` is on the line; the `else` is counted in depth.
 #[cycle(stmts)]
 fn else_if<'a>(
     alloc: Global,
@@ -175,7 +175,7 @@ fn else_if<'a>(
     Ok((Other::If(stmt), after))
 }
 
-/// Reads what stands behind `for`.
+/// Reads what stands after `for`.
 #[cycle(stmts)]
 fn for_form<'a>(
     alloc: Global,
@@ -191,7 +191,7 @@ fn for_form<'a>(
     }
 }
 
-/// Reads what stands behind `for`, and behind `local` there.
+/// Reads what stands after `for`, and after `local` there.
 #[cycle(stmts)]
 fn for_rest<'a>(
     alloc: Global,
@@ -217,7 +217,7 @@ fn for_rest<'a>(
     ))
 }
 
-/// Reads what stands behind `while`.
+/// Reads what stands after `while`.
 #[cycle(stmts)]
 fn while_form<'a>(
     alloc: Global,
@@ -232,7 +232,7 @@ fn while_form<'a>(
     Ok((Form::While { test, block }, after))
 }
 
-/// Reads what stands behind `module`.
+/// Reads what stands after `module`.
 #[cycle(stmts)]
 fn module_form<'a>(
     alloc: Global,
@@ -247,7 +247,7 @@ fn module_form<'a>(
     Ok((Form::Module { name, block }, after))
 }
 
-/// Reads what stands behind `switch`.
+/// Reads what stands after `switch`.
 #[cycle(stmts)]
 fn switch_form<'a>(
     alloc: Global,
@@ -302,7 +302,7 @@ fn cases<'a>(
     Ok((found, left))
 }
 
-/// Reads what stands behind `case`.
+/// Reads what stands after `case`.
 #[cycle(stmts)]
 fn one_case<'a>(
     alloc: Global,
@@ -324,7 +324,7 @@ fn one_case<'a>(
     ))
 }
 
-/// Reads what stands behind `rule`.
+/// Reads what stands after `rule`.
 #[cycle(stmts)]
 fn rule_form<'a>(
     alloc: Global,
@@ -339,7 +339,7 @@ fn rule_form<'a>(
     Ok((form, after))
 }
 
-/// Reads what stands behind the name of a rule.
+/// Reads what stands after the name of a rule.
 #[cycle(stmts)]
 fn rule_tail<'a>(
     alloc: Global,
@@ -368,7 +368,7 @@ fn rule_tail<'a>(
     }
 }
 
-/// Reads what stands behind the opening parenthesis of a rule.
+/// Reads what stands after the opening parenthesis of a rule.
 #[cycle(stmts)]
 fn with_params<'a>(
     alloc: Global,
@@ -393,7 +393,7 @@ fn with_params<'a>(
     ))
 }
 
-/// Reads what stands behind `on`, which is counted in depth.
+/// Reads what stands after `on`, which is counted in depth.
 #[cycle(stmts)]
 fn on_form<'a>(
     alloc: Global,

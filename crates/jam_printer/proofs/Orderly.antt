@@ -86,7 +86,7 @@ sign_stands m.While more e stand = a_sign (codes "while") more refl refl stand
 rest_raw : (first : Lexeme) (more : List Lexeme) → All HasRaw (first ∷ more) → All HasRaw more
 rest_raw first more all = All-tail HasRaw first more all
 
--- the body of an action, and what stands behind it
+-- the body of an action, and what stands after it
 action_raw : (a b c d e : Lexeme) (more : List Lexeme) → All HasRaw (a ∷ b ∷ c ∷ d ∷ e ∷ more) → HasRaw d × All HasRaw more
 action_raw a b c d e more all =
     let at_body : All HasRaw (d ∷ e ∷ more) = rest_raw c (d ∷ e ∷ more) (rest_raw b (c ∷ d ∷ e ∷ more) (rest_raw a (b ∷ c ∷ d ∷ e ∷ more) all)) in

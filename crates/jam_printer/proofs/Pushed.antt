@@ -39,10 +39,10 @@ args_flat [] = refl
 args_flat (a ∷ args) = ap (λ s. arg_syms a ++ s) (args_flat args)
 
 -- a list with a colon before it
-abbrev pub behind_colon : Vec Arg Global → List Sym
-behind_colon list = Key marks.Colon ∷ args_syms list.items
+abbrev pub after_colon : Vec Arg Global → List Sym
+after_colon list = Key marks.Colon ∷ args_syms list.items
 
-pub further_flat : (lists : List (Vec Arg Global)) → further_syms lists ≡ flat_map behind_colon lists
+pub further_flat : (lists : List (Vec Arg Global)) → further_syms lists ≡ flat_map after_colon lists
 further_flat [] = refl
 further_flat (list ∷ lists) = ap (λ s. Key marks.Colon ∷ (args_syms list.items ++ s)) (further_flat lists)
 
@@ -58,17 +58,17 @@ second_is : (level : Level) (mark : Mark) (es : ExprTrees) → written_as (spell
 second_is level mark NoExprs = refl
 second_is level mark (ExprAnd e es) = refl
 
--- members with a mark between them: the first, and the others, each behind a mark
+-- members with a mark between them: the first, and the others, each after a mark
 pub pair_is : (level : Level) (mark : Mark) (e : Expr) (es : List Expr) → written_as (pair_syms level mark (e ∷ es)) ≡ written_as (expr_syms level e) ++ written_as (joined_syms level mark es)
 pair_is level mark e es = written_append (expr_syms level e) (spell_second level mark (exprs_tree es)) ∙ ap (λ l. written_as (expr_syms level e) ++ l) (second_is level mark (exprs_tree es))
 
 -- a member with a mark before it
-abbrev pub behind_mark : Joint → Expr → List Sym
-behind_mark joint e = Key (joint_mark joint) ∷ expr_syms (joint_level joint) e
+abbrev pub after_mark : Joint → Expr → List Sym
+after_mark joint e = Key (joint_mark joint) ∷ expr_syms (joint_level joint) e
 
-pub joined_flat : (joint : Joint) (es : List Expr) → joined_syms (joint_level joint) (joint_mark joint) es ≡ flat_map (behind_mark joint) es
+pub joined_flat : (joint : Joint) (es : List Expr) → joined_syms (joint_level joint) (joint_mark joint) es ≡ flat_map (after_mark joint) es
 joined_flat joint [] = refl
-joined_flat joint (e ∷ es) = ap (λ s. behind_mark joint e ++ s) (joined_flat joint es)
+joined_flat joint (e ∷ es) = ap (λ s. after_mark joint e ++ s) (joined_flat joint es)
 
 -- ---- statements and cases
 
@@ -89,8 +89,8 @@ cases_flat (c ∷ cases) = case_first c (cases_tree cases) ∙ ap (λ t. case_sy
 -- ---- parameters
 
 -- a list of parameters with a colon before it
-abbrev pub params_behind_colon : Vec Param Global → List Sym
-params_behind_colon list = Key marks.Colon ∷ flat_map param_syms list.items
+abbrev pub params_after_colon : Vec Param Global → List Sym
+params_after_colon list = Key marks.Colon ∷ flat_map param_syms list.items
 
 -- where one list takes all further arguments, its sign is written as its name
 one_star : (name : List ℕ) (mark : Option ℕ) → name ≡ codes "*" → no_mark mark ≡ true → written_as (Key marks.Star ∷ []) ≡ written_as ((Named name ∷ mark_syms mark) ++ [])
@@ -108,9 +108,9 @@ plist_same (first ∷ second ∷ more) true e = absurd (false≢true e)
 pub plist_flat : (list : List Param) → written_as (plist_syms list) ≡ written_as (flat_map param_syms list)
 plist_flat list = plist_same list (takes_all list) refl
 
-pub further_params_flat : (lists : List (Vec Param Global)) → written_as (further_params (map (λ list. list.items) lists)) ≡ written_as (flat_map params_behind_colon lists)
+pub further_params_flat : (lists : List (Vec Param Global)) → written_as (further_params (map (λ list. list.items) lists)) ≡ written_as (flat_map params_after_colon lists)
 further_params_flat [] = refl
-further_params_flat (list ∷ lists) = ap (λ l. lexeme_saying (mark_said marks.Colon) ∷ l) (two (plist_syms list.items) (flat_map param_syms list.items) (further_params (map (λ list. list.items) lists)) (flat_map params_behind_colon lists) (plist_flat list.items) (further_params_flat lists))
+further_params_flat (list ∷ lists) = ap (λ l. lexeme_saying (mark_said marks.Colon) ∷ l) (two (plist_syms list.items) (flat_map param_syms list.items) (further_params (map (λ list. list.items) lists)) (flat_map params_after_colon lists) (plist_flat list.items) (further_params_flat lists))
 
 -- lists of parameters in parentheses
 pub params_are : (first : List Param) (more : List (List Param)) → written_as (params_syms (first ∷ more)) ≡ lexeme_saying (mark_said marks.ParenOpen) ∷ (written_as (flat_map param_syms first) ++ (written_as (further_params more) ++ (lexeme_saying (mark_said marks.ParenClose) ∷ [])))

@@ -102,14 +102,14 @@ fn push_members(
         [] => Ok(()),
         [first, more @ ..] => {
             push_member(lexemes, first, joint)?;
-            push_behind(lexemes, more, joint)
+            push_after(lexemes, more, joint)
         }
     }
 }
 
 /// Appends conditions with a sign before each.
 #[cycle(exprs)]
-fn push_behind(lexemes: &mut Vec<Lexeme>, members: &[Expr], joint: Joint) -> Result<(), OutOfMemory>
+fn push_after(lexemes: &mut Vec<Lexeme>, members: &[Expr], joint: Joint) -> Result<(), OutOfMemory>
     ensures { IfOk result (λ _. lexemes.new.items ≡ lexemes.old.items ++ written_as (joined_syms (joint_level joint) (joint_mark joint) members.now)) }
 {
     for member in members {

@@ -26,13 +26,13 @@ use jam_spelling::spelled;
 use std::alloc::Global;
 
 /// The tree as a text: its words, signs and bodies one after the other, as [`spelled`] writes them. So one space stands
-/// between two of them, a line feed behind each `;`, `{` and `}`, a body of actions directly between its braces, and a
+/// between two of them, a line feed after each `;`, `{` and `}`, a body of actions directly between its braces, and a
 /// word in quotes where it is empty, is the text of a key, begins with `#`, or holds white space, a quote or a backslash.
 ///
 /// The text of a tree that some source reads as reads as this tree again, but for the numbers of its lines, and as no
 /// other. Other trees are written too. There a part that no source has at its place is left out: an `||` or `&&` within
-/// `&&`, an `||` within `||`, and either behind `!`, where no parentheses stand around it; a statement other than an `if`
-/// behind `else`; and a mark of a parameter that is none of the three.
+/// `&&`, an `||` within `||`, and either after `!`, where no parentheses stand around it; a statement other than an `if`
+/// after `else`; and a mark of a parameter that is none of the three.
 pub fn print(alloc: Global, tree: &Tree) -> Result<Vec<u8>, OutOfMemory>
     ensures exact { IfOk result (λ printed. printed.items ≡ bytes_of (lexemes_of tree.now)) }
     ensures reads_back { (bytes : List ℕ) (tokens : List Token) → AreTokens bytes tokens → Reads tokens tree.now → IfOk result (λ printed. ReadsBack printed.items (whole_tree tree.now)) }

@@ -43,7 +43,7 @@ fn push_further(lexemes: &mut Vec<Lexeme>, lists: &[Vec<Param>]) -> Result<(), O
     Ok(())
 }
 
-/// Appends a list of parameters and those behind it, in parentheses.
+/// Appends a list of parameters and those after it, in parentheses.
 fn push_parens(
     lexemes: &mut Vec<Lexeme>,
     first: &[Param],

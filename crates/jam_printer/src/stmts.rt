@@ -110,7 +110,7 @@ fn push_other(lexemes: &mut Vec<Lexeme>, other: &Other) -> Result<(), OutOfMemor
     }
 }
 
-/// Appends the `if` behind an `else`; no source gives another statement there.
+/// Appends the `if` after an `else`; no source gives another statement there.
 #[cycle(stmts)]
 fn push_else_if(lexemes: &mut Vec<Lexeme>, stmt: &Stmt) -> Result<(), OutOfMemory>
     ensures { IfOk result (λ _. lexemes.new.items ≡ lexemes.old.items ++ written_as (only (is_if (form_tree stmt.now.form)) (form_syms stmt.now.form))) }

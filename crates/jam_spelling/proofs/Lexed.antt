@@ -10,7 +10,7 @@ use Rattle.b2_base.specs.declared.token.Token.{Token}
 use Rattle.jam_lexer.specs.Signs.{is_white}
 use Rattle.jam_lexer.specs.Word.{letters, is_lone, text_of, is_bare, is_key_text, kind_of}
 use Rattle.jam_lexer.specs.Body.{IsBody}
-use Rattle.jam_lexer.specs.Tokens.{Next, NextWord, NextBody, NextBrace, next_behind, place_behind, awaits_brace, is_the_key, is_key, is_body, IsNextToken, IsWordToken, IsBodyToken, IsBraceToken, Follows, Stand, IsEnd, AreTokens}
+use Rattle.jam_lexer.specs.Tokens.{Next, NextWord, NextBody, NextBrace, next_after, place_after, awaits_brace, is_the_key, is_key, is_body, IsNextToken, IsWordToken, IsBodyToken, IsBraceToken, Follows, Stand, IsEnd, AreTokens}
 use Rattle.jam_spelling.specs.Standing.{count, IsRaw}
 
 -- what a token of its kind may say
@@ -47,10 +47,10 @@ opens_of true brace awaits e = cc
 opens_of false true awaits e = refl
 opens_of false false awaits e = cc
 
--- white space stands behind the key that opens a body
-white_behind : (bytes : List ℕ) (read : List Token) → IsSound bytes read → next_behind read ≡ NextBody → place_behind read < length bytes → is_white (get_or bytes (place_behind read) 0) ≡ true
-white_behind bytes [] sound next within = cc
-white_behind bytes (last ∷ earlier) sound next within = go (next_behind earlier) sound
+-- white space stands after the key that opens a body
+white_after : (bytes : List ℕ) (read : List Token) → IsSound bytes read → next_after read ≡ NextBody → place_after read < length bytes → is_white (get_or bytes (place_after read) 0) ≡ true
+white_after bytes [] sound next within = cc
+white_after bytes (last ∷ earlier) sound next within = go (next_after earlier) sound
   where
     opens : is_the_key (codes "{") last ≡ true
     opens = opens_of (is_body last.kind) (is_the_key (codes "{") last) (awaits_brace earlier) next
@@ -58,7 +58,7 @@ white_behind bytes (last ∷ earlier) sound next within = go (next_behind earlie
     parts : (is_key last.kind ≡ true) × (bytes_eq last.text (codes "{") ≡ true)
     parts = and_parts (is_key last.kind) (bytes_eq last.text (codes "{")) opens
 
-    go : (n : Next) → IsNextToken n bytes (place_behind earlier) last → is_white (get_or bytes last.end 0) ≡ true
+    go : (n : Next) → IsNextToken n bytes (place_after earlier) last → is_white (get_or bytes last.end 0) ≡ true
     go NextWord is = ends is.word.ends
       where
         ends : (last.end ≡ length bytes) ⊎ ((is_white (get_or bytes last.end 0) ≡ true) × (list_any is_lone (letters (slice_range bytes last.start last.end)) ≡ false)) → is_white (get_or bytes last.end 0) ≡ true
@@ -99,22 +99,22 @@ module _ (bytes : List ℕ) (start end : ℕ) (is : IsBody bytes start end) (whi
   unfolding text
   body_is_raw = record { white_first = ap is_white first ∙ white; matched = matched; all_closed = is.all_closed }
 
-body_right : (bytes : List ℕ) (read : List Token) (token : Token) → IsSound bytes read → next_behind read ≡ NextBody → IsBodyToken bytes (place_behind read) token → SaysRight token
+body_right : (bytes : List ℕ) (read : List Token) (token : Token) → IsSound bytes read → next_after read ≡ NextBody → IsBodyToken bytes (place_after read) token → SaysRight token
 unfolding text
 body_right bytes read token sound next is = ((λ key. let never : kinds.Body ≡ kinds.Key = sym is.has_kind ∙ key in cc), (λ body. subst IsRaw (sym is.has_text) (body_is_raw bytes token.start token.end is.body white)))
   where
     white : is_white (get_or bytes token.start 0) ≡ true
-    white = ap (λ i. is_white (get_or bytes i 0)) is.begins ∙ white_behind bytes read sound next (omega (arith, is.begins, is.body.order, is.body.within))
+    white = ap (λ i. is_white (get_or bytes i 0)) is.begins ∙ white_after bytes read sound next (omega (arith, is.begins, is.body.order, is.body.within))
 
 -- ---- all tokens
 
 right : (bytes : List ℕ) (read : List Token) (token : Token) → IsSound bytes read → Follows bytes read token → SaysRight token
-right bytes read token sound follows = go (next_behind read) refl follows
+right bytes read token sound follows = go (next_after read) refl follows
   where
-    go : (n : Next) → next_behind read ≡ n → IsNextToken n bytes (place_behind read) token → SaysRight token
-    go NextWord next is = word_right bytes (place_behind read) token is
+    go : (n : Next) → next_after read ≡ n → IsNextToken n bytes (place_after read) token → SaysRight token
+    go NextWord next is = word_right bytes (place_after read) token is
     go NextBody next is = body_right bytes read token sound next is
-    go NextBrace next is = brace_right bytes (place_behind read) token is
+    go NextBrace next is = brace_right bytes (place_after read) token is
 
 all_right : (bytes : List ℕ) (read tokens : List Token) → IsSound bytes read → Stand bytes (IsEnd bytes) read tokens → All SaysRight tokens
 all_right bytes read [] sound stand = All-nil SaysRight

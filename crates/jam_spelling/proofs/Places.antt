@@ -25,7 +25,7 @@ at_length bytes at rest is = omega (arith, is.within, ap length is.rest_is, leng
 pub at_byte : (bytes : List ℕ) (at : ℕ) (rest : List ℕ) (k : ℕ) → IsAt bytes at rest → get_or bytes (at + k) 0 ≡ get_or rest k 0
 at_byte bytes at rest k is = sym (get_or-drop at bytes k 0) ∙ ap (λ ys. get_or ys k 0) is.rest_is
 
--- behind a piece
+-- after a piece
 pub at_more : (bytes : List ℕ) (at : ℕ) (piece rest : List ℕ) → IsAt bytes at (piece ++ rest) → IsAt bytes (at + length piece) rest
 at_more bytes at piece rest is =
     record {
@@ -49,7 +49,7 @@ white_is_no_hash : (b : ℕ) → is_white b ≡ true → b ≡ 35 → ⊥
 white_is_no_hash b white e = true≢false (sym white ∙ ap is_white e)
 
 no_comment : (bytes : List ℕ) (from to : ℕ) → IsWhite bytes from to → IsInComment bytes from to → ⊥
-no_comment bytes from to white c = white_is_no_hash (get_or bytes c.sign 0) (white c.sign c.behind c.before) c.is_hash
+no_comment bytes from to white c = white_is_no_hash (get_or bytes c.sign 0) (white c.sign c.after c.before) c.is_hash
 
 pub white_gap : (bytes : List ℕ) (from to : ℕ) → IsWhite bytes from to → IsGap bytes from to
 white_gap bytes from to white k low high = inl (white k low high)
@@ -67,11 +67,11 @@ the_token bytes kind text start piece = record { kind = kind; text = text; line 
 pub word_token : (bytes : List ℕ) (from start : ℕ) (kind : TokenKind) (text piece tail : List ℕ) → from ≤ start → IsWhite bytes from start → IsAt bytes start (piece ++ tail) → IsWordOf kind text piece → EndsWord tail → IsWordToken bytes from (the_token bytes kind text start piece)
 word_token bytes from start kind text piece tail order white is word ends =
     let slice : slice_range bytes start (start + length piece) ≡ piece = at_slice bytes start piece tail is in
-    let behind : IsAt bytes (start + length piece) tail = at_more bytes start piece tail is in
+    let after : IsAt bytes (start + length piece) tail = at_more bytes start piece tail is in
     let first : get_or bytes start 0 ≡ get_or piece 0 0 = ap (λ i. get_or bytes i 0) (omega arith) ∙ at_byte bytes start (piece ++ tail) 0 is ∙ get_or_append_left piece tail 0 0 word.some in
     record {
       begins = record {
-        behind = order;
+        after = order;
         within = omega (arith, word.some, at_length bytes start (piece ++ tail) is, length-append piece tail);
         gap = white_gap bytes from start white;
         no_comment = no_comment bytes from start white;
@@ -80,10 +80,10 @@ word_token bytes from start kind text piece tail order white is word ends =
       };
       word = record {
         order = omega arith;
-        within = behind.within;
+        within = after.within;
         unbroken = subst (λ w. IsUnbroken (letters w)) (sym slice) word.unbroken;
         closed = ap (λ w. in_quotes (letters w)) slice ∙ word.closed;
-        ends = go slice behind ends;
+        ends = go slice after ends;
       };
       has_text = sym word.has_text ∙ ap text_of (sym slice);
       has_kind = sym word.has_kind ∙ ap kind_of (sym slice);
@@ -91,32 +91,32 @@ word_token bytes from start kind text piece tail order white is word ends =
     }
   where
     go : slice_range bytes start (start + length piece) ≡ piece → IsAt bytes (start + length piece) tail → EndsWord tail → (start + length piece ≡ length bytes) ⊎ ((is_white (get_or bytes (start + length piece) 0) ≡ true) × (list_any is_lone (letters (slice_range bytes start (start + length piece))) ≡ false))
-    go slice behind (inl none) = inl (omega (arith, at_length bytes (start + length piece) tail behind, ap length none))
-    go slice behind (inr some) = inr (
-      ap (λ i. is_white (get_or bytes i 0)) (omega arith) ∙ ap is_white (at_byte bytes (start + length piece) tail 0 behind) ∙ some,
+    go slice after (inl none) = inl (omega (arith, at_length bytes (start + length piece) tail after, ap length none))
+    go slice after (inr some) = inr (
+      ap (λ i. is_white (get_or bytes i 0)) (omega arith) ∙ ap is_white (at_byte bytes (start + length piece) tail 0 after) ∙ some,
       ap (λ w. list_any is_lone (letters w)) slice ∙ word.whole,
     )
 
 -- ---- the token of a body
 
--- a front of the body, counted in the text
-front_count : (bytes : List ℕ) (start : ℕ) (raw tail : List ℕ) (sign k : ℕ) → IsAt bytes start (raw ++ tail) → start ≤ k → k ≤ start + length raw → count_of sign bytes start k ≡ count sign (take (k - start) raw)
-front_count bytes start raw tail sign k is low high =
+-- a prefix of the body, counted in the text
+prefix_count : (bytes : List ℕ) (start : ℕ) (raw tail : List ℕ) (sign k : ℕ) → IsAt bytes start (raw ++ tail) → start ≤ k → k ≤ start + length raw → count_of sign bytes start k ≡ count sign (take (k - start) raw)
+prefix_count bytes start raw tail sign k is low high =
     let short : k - start ≤ length raw = omega arith in
     ap (count sign) (ap (take (k - start)) is.rest_is ∙ take-append-le (k - start) raw tail short)
 
 pub body_token : (bytes : List ℕ) (start : ℕ) (raw tail : List ℕ) → IsAt bytes start (raw ++ 125 ∷ tail) → IsRaw raw → IsBodyToken bytes start (the_token bytes kinds.Body raw start raw)
 body_token bytes start raw tail is is_raw =
     let slice : slice_range bytes start (start + length raw) ≡ raw = at_slice bytes start raw (125 ∷ tail) is in
-    let behind : IsAt bytes (start + length raw) (125 ∷ tail) = at_more bytes start raw (125 ∷ tail) is in
+    let after : IsAt bytes (start + length raw) (125 ∷ tail) = at_more bytes start raw (125 ∷ tail) is in
     record {
       begins = refl;
       body = record {
         order = omega arith;
-        within = omega (arith, at_length bytes (start + length raw) (125 ∷ tail) behind);
-        matched = λ k low high. omega (arith, front_count bytes start raw (125 ∷ tail) 125 k is low high, front_count bytes start raw (125 ∷ tail) 123 k is low high, is_raw.matched (k - start));
+        within = omega (arith, at_length bytes (start + length raw) (125 ∷ tail) after);
+        matched = λ k low high. omega (arith, prefix_count bytes start raw (125 ∷ tail) 125 k is low high, prefix_count bytes start raw (125 ∷ tail) 123 k is low high, is_raw.matched (k - start));
         all_closed = ap (count 125) slice ∙ is_raw.all_closed ∙ sym (ap (count 123) slice);
-        brace = ap (λ i. get_or bytes i 0) (omega arith) ∙ at_byte bytes (start + length raw) (125 ∷ tail) 0 behind;
+        brace = ap (λ i. get_or bytes i 0) (omega arith) ∙ at_byte bytes (start + length raw) (125 ∷ tail) 0 after;
       };
       has_text = sym slice;
       has_kind = refl;

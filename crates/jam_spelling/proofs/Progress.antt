@@ -1,11 +1,13 @@
 -- The lexemes before a place have been written.
 use Rattle.std.proofs.Common.{◌≡◌, ℕ, ◌+◌, ◌<◌, ◌≤◌, List, ◌∷◌, ◌++◌, length, get_or, take, drop, sym, ◌∙◌, ap, subst}
-use Rattle.std.proofs.lemmas.List.{append_assoc, drop_more, take_all}
+use Rattle.std.proofs.lemmas.List.{append_assoc, append-nil, drop_more, drop_all, take_all}
 use Rattle.std.proofs.lemmas.List.Elements.{All-more}
 use Rattle.jam_lexer.specs.Tokens.{IsText}
 use Rattle.jam_spelling.specs.declared.lexeme.Lexeme.{Lexeme}
 use Rattle.jam_spelling.specs.Spelling.{spelling, separator, bytes_of}
-use Rattle.jam_spelling.specs.Readings.{AreTexts}
+use Rattle.jam_spelling.specs.Standing.{CanStand}
+use Rattle.jam_spelling.specs.Readings.{ReadsAs, AreTexts}
+use Rattle.jam_spelling.proofs.Standings.{all_said}
 
 -- these bytes are the lexemes before the place, which are texts
 pub record HasWritten (lexemes : List Lexeme) (place : ℕ) (bytes : List ℕ) : Type 0 where
@@ -29,3 +31,10 @@ written_more lexemes place lexeme bytes within is text has =
 
 pub all_texts : (lexemes : List Lexeme) (place : ℕ) (bytes : List ℕ) → length lexemes ≤ place → HasWritten lexemes place bytes → AreTexts lexemes
 all_texts lexemes place bytes past has = subst AreTexts (take_all place lexemes past) has.texts
+
+pub all_written : (lexemes : List Lexeme) (place : ℕ) (bytes : List ℕ) → length lexemes ≤ place → HasWritten lexemes place bytes → bytes ≡ bytes_of lexemes
+all_written lexemes place bytes past has = sym (append-nil bytes) ∙ ap (λ ls. bytes ++ bytes_of ls) (sym (drop_all place lexemes past)) ∙ has.exact
+
+pub read_back : (lexemes : List Lexeme) (place : ℕ) (bytes : List ℕ) → length lexemes ≤ place → HasWritten lexemes place bytes → CanStand lexemes → ReadsAs bytes lexemes
+read_back lexemes place bytes past has can =
+    subst (λ b. ReadsAs b lexemes) (sym (all_written lexemes place bytes past has)) (all_said lexemes can (all_texts lexemes place bytes past has))

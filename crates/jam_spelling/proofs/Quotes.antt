@@ -60,23 +60,23 @@ inner (b ∷ text) =
 
 -- ---- letters between two quotes
 
--- the fronts of letters without a quote are outside quotes
-outside_front : (ls : List Letter) (k : ℕ) → list_any is_quote ls ≡ false → in_quotes (take k ls) ≡ false
-outside_front [] zero none = refl
-outside_front [] (suc k) none = refl
-outside_front (l ∷ ls) zero none = refl
-outside_front (l ∷ ls) (suc k) none =
+-- the prefixes of letters without a quote are outside quotes
+outside_prefix : (ls : List Letter) (k : ℕ) → list_any is_quote ls ≡ false → in_quotes (take k ls) ≡ false
+outside_prefix [] zero none = refl
+outside_prefix [] (suc k) none = refl
+outside_prefix (l ∷ ls) zero none = refl
+outside_prefix (l ∷ ls) (suc k) none =
     let parts : (is_quote l ≡ false) × (list_any is_quote ls ≡ false) = or_parts (is_quote l) (list_any is_quote ls) none in
-    ap (λ t. cond t (not (in_quotes (take k ls))) (in_quotes (take k ls))) parts.0 ∙ outside_front ls k parts.1
+    ap (λ t. cond t (not (in_quotes (take k ls))) (in_quotes (take k ls))) parts.0 ∙ outside_prefix ls k parts.1
 
--- behind the opening quote all white space stands in quotes
+-- after the opening quote all white space stands in quotes
 unbroken_in_quotes : (ls : List Letter) → list_any is_quote ls ≡ false → IsUnbroken (Plain 34 ∷ (ls ++ Plain 34 ∷ []))
 unbroken_in_quotes ls none zero space = absurd (false≢true space)
 unbroken_in_quotes ls none (suc k) space = go (cases_lt (length ls) k)
   where
     go : (length ls < k) ⊎ (k ≤ length ls) → not (in_quotes (take k (ls ++ Plain 34 ∷ []))) ≡ true
     go (inl past) = absurd (false≢true (sym (ap is_space (get_or_past (ls ++ Plain 34 ∷ []) k Lone (omega (arith, length_push ls (Plain 34))))) ∙ space))
-    go (inr within) = ap (λ t. not (in_quotes t)) (take-append-le k ls (Plain 34 ∷ []) within) ∙ ap not (outside_front ls k none)
+    go (inr within) = ap (λ t. not (in_quotes t)) (take-append-le k ls (Plain 34 ∷ []) within) ∙ ap not (outside_prefix ls k none)
 
 -- ---- a text in quotes
 

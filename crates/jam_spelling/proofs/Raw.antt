@@ -17,7 +17,7 @@ record IsClosing (depth : ℕ) (text : List ℕ) : Type 0 where
   matched : (k : ℕ) → count 125 (take k text) ≤ depth + count 123 (take k text)
   closed : count 125 text ≡ depth + count 123 text
 
--- one byte more in front
+-- one byte more before it
 module _ (b : ℕ) (text : List ℕ) (depth after : ℕ) (rest : IsClosing after text) (balance : cond (b == 125) 1 0 + after ≡ depth + cond (b == 123) 1 0) where
   closing_more : IsClosing depth (b ∷ text)
   closing_more = record { matched = at; closed = omega (arith, count_cons 125 b text, count_cons 123 b text, rest.closed, balance) }

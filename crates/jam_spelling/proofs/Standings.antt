@@ -13,7 +13,7 @@ use Rattle.jam_lexer.specs.Answers.{IsAnswer}
 use Rattle.jam_lexer.specs.declared.fault.LexFault.{LexFault}
 use Rattle.jam_lexer.proofs.Unique.{one_answer}
 use Rattle.jam_lexer.specs.Word.{is_key_text}
-use Rattle.jam_lexer.specs.Tokens.{NextWord, NextBody, next_behind, place_behind, awaits_brace, is_body, IsNextToken, Follows, Stand, IsEnd}
+use Rattle.jam_lexer.specs.Tokens.{NextWord, NextBody, next_after, place_after, awaits_brace, is_body, IsNextToken, Follows, Stand, IsEnd}
 use Rattle.jam_spelling.specs.declared.lexeme.Lexeme.{Lexeme}
 use Rattle.jam_spelling.specs.Spelling.{spelling, ends_line, begins_body, separator, bytes_of}
 use Rattle.jam_spelling.specs.Standing.{word, key, body, IsRaw, CanStand, nothing, a_word, a_key, an_action}
@@ -23,7 +23,7 @@ use Rattle.jam_spelling.proofs.Quotes.{spelled_word}
 use Rattle.jam_spelling.proofs.WrittenTexts.{text_of_lexemes}
 use Rattle.jam_spelling.proofs.Places.{IsAt, at_length, at_byte, at_more, IsWhite, white_gap, EndsWord, the_token, word_token, body_token}
 
--- ---- what stands behind a lexeme
+-- ---- what stands after a lexeme
 
 -- a separator is white space, and a word ends before it
 record Separates (sep rest : List ℕ) : Type 0 where
@@ -57,14 +57,14 @@ white_more bytes place sep rest at parts k low high =
 
 -- ---- one word more
 
--- these tokens have been read, the last one first, white space alone stands behind them up to the place, and a word may follow
+-- these tokens have been read, the last one first, white space alone stands after them up to the place, and a word may follow
 record IsReadTo (bytes : List ℕ) (read : List Token) (place : ℕ) (awaits : Bool) : Type 0 where
-  outside : next_behind read ≡ NextWord
+  outside : next_after read ≡ NextWord
   awaited : awaits_brace read ≡ awaits
-  order : place_behind read ≤ place
-  white : IsWhite bytes (place_behind read) place
+  order : place_after read ≤ place
+  white : IsWhite bytes (place_after read) place
 
--- the lexemes are what the tokens behind those that have been read say
+-- the lexemes are what the tokens after those that have been read say
 record Rest (bytes : List ℕ) (read : List Token) (lexemes : List Lexeme) : Type 0 where
   tokens : List Token
   stand : Stand bytes (IsEnd bytes) read tokens
@@ -74,23 +74,23 @@ rest_more : (bytes : List ℕ) (read : List Token) (token : Token) (lexeme : Lex
 rest_more bytes read token lexeme more follows says rest =
     record { tokens = token ∷ rest.tokens; stand = (follows, rest.stand); say = ap (λ l. l ∷ map lexeme_of rest.tokens) says ∙ ap (λ ls. lexeme ∷ ls) rest.say }
 
--- the place behind a lexeme and its separator
-abbrev behind : ℕ → Lexeme → List Lexeme → ℕ
-behind place lexeme more = place + length (spelling lexeme) + length (separator lexeme more)
+-- the place after a lexeme and its separator
+abbrev after : ℕ → Lexeme → List Lexeme → ℕ
+after place lexeme more = place + length (spelling lexeme) + length (separator lexeme more)
 
 abbrev token_of : List ℕ → ℕ → Lexeme → Token
 token_of bytes place lexeme = the_token bytes lexeme.kind lexeme.text place (spelling lexeme)
 
--- a lexeme that is a word follows, and white space behind it
+-- a lexeme that is a word follows, and white space after it
 record Goes (bytes : List ℕ) (read : List Token) (place : ℕ) (lexeme : Lexeme) (more : List Lexeme) : Type 0 where
   follows : Follows bytes read (token_of bytes place lexeme)
-  next_at : IsAt bytes (behind place lexeme more) (bytes_of more)
-  white : IsWhite bytes (place + length (spelling lexeme)) (behind place lexeme more)
+  next_at : IsAt bytes (after place lexeme more) (bytes_of more)
+  white : IsWhite bytes (place + length (spelling lexeme)) (after place lexeme more)
 
 follows_word : (bytes : List ℕ) (read : List Token) (place : ℕ) (awaits : Bool) (lexeme : Lexeme) (tail : List ℕ) → IsReadTo bytes read place awaits → IsAt bytes place (spelling lexeme ++ tail) → IsWordOf lexeme.kind lexeme.text (spelling lexeme) → EndsWord tail → Follows bytes read (token_of bytes place lexeme)
 follows_word bytes read place awaits lexeme tail has at is ends =
-    subst (λ n. IsNextToken n bytes (place_behind read) (token_of bytes place lexeme)) (sym has.outside)
-    (word_token bytes (place_behind read) place lexeme.kind lexeme.text (spelling lexeme) tail has.order has.white at is ends)
+    subst (λ n. IsNextToken n bytes (place_after read) (token_of bytes place lexeme)) (sym has.outside)
+    (word_token bytes (place_after read) place lexeme.kind lexeme.text (spelling lexeme) tail has.order has.white at is ends)
 
 goes : (bytes : List ℕ) (read : List Token) (place : ℕ) (awaits : Bool) (lexeme : Lexeme) (more : List Lexeme) → IsReadTo bytes read place awaits → IsAt bytes place (bytes_of (lexeme ∷ more)) → IsWordOf lexeme.kind lexeme.text (spelling lexeme) → is_body lexeme.kind ≡ false → begins_body more ≡ false → Goes bytes read place lexeme more
 goes bytes read place awaits lexeme more has at is no_body none_next =
@@ -105,7 +105,7 @@ goes bytes read place awaits lexeme more has at is no_body none_next =
       white = white_more bytes (place + length piece) sep (bytes_of more) next parts;
     }
 
-read_more : (bytes : List ℕ) (read : List Token) (place : ℕ) (lexeme : Lexeme) (more : List Lexeme) (awaits : Bool) → Goes bytes read place lexeme more → next_behind (token_of bytes place lexeme ∷ read) ≡ NextWord → awaits_brace (token_of bytes place lexeme ∷ read) ≡ awaits → IsReadTo bytes (token_of bytes place lexeme ∷ read) (behind place lexeme more) awaits
+read_more : (bytes : List ℕ) (read : List Token) (place : ℕ) (lexeme : Lexeme) (more : List Lexeme) (awaits : Bool) → Goes bytes read place lexeme more → next_after (token_of bytes place lexeme ∷ read) ≡ NextWord → awaits_brace (token_of bytes place lexeme ∷ read) ≡ awaits → IsReadTo bytes (token_of bytes place lexeme ∷ read) (after place lexeme more) awaits
 read_more bytes read place lexeme more awaits g outside awaited = record { outside = outside; awaited = awaited; order = omega arith; white = g.white }
 
 -- ---- words and keys
@@ -117,22 +117,22 @@ Continues bytes awaits lexemes = (read : List Token) (place : ℕ) → IsReadTo 
 word_more : (bytes : List ℕ) (awaits : Bool) (text : List ℕ) (more : List Lexeme) → begins_body more ≡ false → Continues bytes awaits more → Continues bytes awaits (word text ∷ more)
 word_more bytes awaits text more none_next rest read place has at =
     let g : Goes bytes read place (word text) more = goes bytes read place awaits (word text) more has at (spelled_word text) refl none_next in
-    rest_more bytes read (token_of bytes place (word text)) (word text) more g.follows refl (rest (token_of bytes place (word text) ∷ read) (behind place (word text) more) (read_more bytes read place (word text) more awaits g refl has.awaited) g.next_at)
+    rest_more bytes read (token_of bytes place (word text)) (word text) more g.follows refl (rest (token_of bytes place (word text) ∷ read) (after place (word text) more) (read_more bytes read place (word text) more awaits g refl has.awaited) g.next_at)
 
 key_more : (bytes : List ℕ) (text : List ℕ) (more : List Lexeme) → is_key_text text ≡ true → text ≢ codes "actions" → begins_body more ≡ false → Continues bytes false more → Continues bytes false (key text ∷ more)
 key_more bytes text more is_key other none_next rest read place has at =
     let token : Token = token_of bytes place (key text) in
     let g : Goes bytes read place (key text) more = goes bytes read place false (key text) more has at (key_word text is_key) refl none_next in
     let no_actions : bytes_eq text (codes "actions") ≡ false = false_from_ne_true (bytes_eq text (codes "actions")) (λ e. other ((bytes_eq-Decides text (codes "actions")).0 e)) in
-    let outside : next_behind (token ∷ read) ≡ NextWord = ap (λ t. cond t NextBody NextWord) (and_right (bytes_eq text (codes "{")) (awaits_brace read) has.awaited) in
+    let outside : next_after (token ∷ read) ≡ NextWord = ap (λ t. cond t NextBody NextWord) (and_right (bytes_eq text (codes "{")) (awaits_brace read) has.awaited) in
     let awaited : awaits_brace (token ∷ read) ≡ false = ap (λ t. t || (not (bytes_eq text (codes "{")) && awaits_brace read)) no_actions ∙ and_right (not (bytes_eq text (codes "{"))) (awaits_brace read) has.awaited in
-    rest_more bytes read token (key text) more g.follows refl (rest (token ∷ read) (behind place (key text) more) (read_more bytes read place (key text) more false g outside awaited) g.next_at)
+    rest_more bytes read token (key text) more g.follows refl (rest (token ∷ read) (after place (key text) more) (read_more bytes read place (key text) more false g outside awaited) g.next_at)
 
 actions_more : (bytes : List ℕ) (more : List Lexeme) → begins_body more ≡ false → Continues bytes true more → Continues bytes false (key (codes "actions") ∷ more)
 actions_more bytes more none_next rest read place has at =
     let token : Token = token_of bytes place (key (codes "actions")) in
     let g : Goes bytes read place (key (codes "actions")) more = goes bytes read place false (key (codes "actions")) more has at (key_word (codes "actions") refl) refl none_next in
-    rest_more bytes read token (key (codes "actions")) more g.follows refl (rest (token ∷ read) (behind place (key (codes "actions")) more) (read_more bytes read place (key (codes "actions")) more true g refl refl) g.next_at)
+    rest_more bytes read token (key (codes "actions")) more g.follows refl (rest (token ∷ read) (after place (key (codes "actions")) more) (read_more bytes read place (key (codes "actions")) more true g refl refl) g.next_at)
 
 begins_words : (words : List (List ℕ)) (more : List Lexeme) → begins_body more ≡ false → begins_body (map word words ++ more) ≡ false
 begins_words [] more none_next = none_next
@@ -165,7 +165,7 @@ braces_more bytes raw more is_raw none_next rest read place has at =
     let left : Token = token_of bytes place (key (codes "{")) in
     let inside : Token = token_of bytes (place + 1) (body raw) in
     let right : Token = token_of bytes (place + 1 + length raw) (key (codes "}")) in
-    let opens : next_behind (left ∷ read) ≡ NextBody = ap (λ t. cond t NextBody NextWord) has.awaited in
+    let opens : next_after (left ∷ read) ≡ NextBody = ap (λ t. cond t NextBody NextWord) has.awaited in
     let left_follows : Follows bytes read left = follows_word bytes read place true (key (codes "{")) (raw ++ closing) has here (key_word (codes "{") refl) ends in
     let body_follows : Follows bytes (left ∷ read) inside = subst (λ n. IsNextToken n bytes (place + 1) inside) (sym opens) (body_token bytes (place + 1) raw (sep ++ bytes_of more) at_body is_raw) in
     let right_follows : Follows bytes (inside ∷ left ∷ read) right = record { begins = refl; one_byte = refl; has_text = refl; has_kind = refl; has_line = refl } in
@@ -187,7 +187,7 @@ can_begin _ (an_action words raw more is_raw can) = refl
 nothing_more : (bytes : List ℕ) → Continues bytes false []
 nothing_more bytes read place has at =
     let end : place ≡ length bytes = omega (arith, at_length bytes place [] at) in
-    record { tokens = []; stand = record { outside = has.outside; gap = subst (IsGap bytes (place_behind read)) end (white_gap bytes (place_behind read) place has.white) }; say = refl }
+    record { tokens = []; stand = record { outside = has.outside; gap = subst (IsGap bytes (place_after read)) end (white_gap bytes (place_after read) place has.white) }; say = refl }
 
 continues : (bytes : List ℕ) (lexemes : List Lexeme) → CanStand lexemes → Continues bytes false lexemes
 continues bytes _ nothing = nothing_more bytes
@@ -213,8 +213,3 @@ pub all_answered : (lexemes : List Lexeme) (answer : Result (List Token) LexFaul
 all_answered lexemes answer can texts is =
     let reading : ReadsAs (bytes_of lexemes) lexemes = all_said lexemes can texts in
     subst (λ (a : Result (List Token) LexFault). IsOkAnd a (λ tokens. map lexeme_of tokens ≡ lexemes)) (sym (one_answer (bytes_of lexemes) answer (Ok reading.tokens) is reading.are_tokens)) reading.say
-
--- what is written reads as the lexemes
-pub given_back : (written : Result (Vec ℕ) OutOfMemory) (lexemes : List Lexeme) → CanStand lexemes → IfOk written (λ bytes. bytes.items ≡ bytes_of lexemes) → IfOk written (λ _. AreTexts lexemes) → IfOk written (λ bytes. ReadsAs bytes.items lexemes)
-given_back (Ok bytes) lexemes can exact texts = subst (λ b. ReadsAs b lexemes) (sym exact) (all_said lexemes can texts)
-given_back (Err error) lexemes can exact texts = tt

@@ -30,22 +30,22 @@ text_append xs ys first second = (IsUtf8-append xs ys first.0 second.0, All-appe
 -- ---- escaped texts
 
 -- what stands around an ASCII byte of a text is text
-record IsParted (front : List ℕ) (rest : List ℕ) : Type 0 where
-  before : IsUtf8 front
-  behind : IsUtf8 rest
+record IsParted (prefix : List ℕ) (rest : List ℕ) : Type 0 where
+  before : IsUtf8 prefix
+  after : IsUtf8 rest
 
-parted : (front : List ℕ) (b : ℕ) (rest : List ℕ) → b < 128 → IsUtf8 (front ++ b ∷ rest) → IsParted front rest
-parted front b rest ascii utf8 =
-    let whole : List ℕ = front ++ b ∷ rest in
-    let at : get_or whole (length front) 0 ≡ b = get_or_at front b rest 0 (length front) refl in
-    let within : length front < length whole = omega (arith, length-append front (b ∷ rest)) in
-    let low : get_or whole (length front) 0 < 128 = omega (arith, at) in
-    let split : whole ≡ (front ++ b ∷ []) ++ rest = sym (append_assoc front (b ∷ []) rest) in
+parted : (prefix : List ℕ) (b : ℕ) (rest : List ℕ) → b < 128 → IsUtf8 (prefix ++ b ∷ rest) → IsParted prefix rest
+parted prefix b rest ascii utf8 =
+    let whole : List ℕ = prefix ++ b ∷ rest in
+    let at : get_or whole (length prefix) 0 ≡ b = get_or_at prefix b rest 0 (length prefix) refl in
+    let within : length prefix < length whole = omega (arith, length-append prefix (b ∷ rest)) in
+    let low : get_or whole (length prefix) 0 < 128 = omega (arith, at) in
+    let split : whole ≡ (prefix ++ b ∷ []) ++ rest = sym (append_assoc prefix (b ∷ []) rest) in
     record {
-      before = subst IsUtf8 (take_at front (b ∷ rest) (length front) refl) (IsUtf8-take whole (length front) utf8 (IsCharBoundary-before_ascii whole (length front) within low));
-      behind =
-          subst IsUtf8 (ap (drop (length front + 1)) split ∙ drop_at (front ++ b ∷ []) rest (length front + 1) (length_push front b))
-          (IsUtf8-drop whole (length front + 1) utf8 (IsCharBoundary-after_ascii whole (length front) utf8 within low));
+      before = subst IsUtf8 (take_at prefix (b ∷ rest) (length prefix) refl) (IsUtf8-take whole (length prefix) utf8 (IsCharBoundary-before_ascii whole (length prefix) within low));
+      after =
+          subst IsUtf8 (ap (drop (length prefix + 1)) split ∙ drop_at (prefix ++ b ∷ []) rest (length prefix + 1) (length_push prefix b))
+          (IsUtf8-drop whole (length prefix + 1) utf8 (IsCharBoundary-after_ascii whole (length prefix) utf8 within low));
     }
 
 escaped_is_ascii : (b : ℕ) → is_escaped b ≡ true → b < 128
@@ -56,17 +56,17 @@ escaped_is_ascii b e = go (or_cases (b == 34) (b == 92) e)
     go (inr is) = omega (arith, eqb-true b 92 is)
 
 -- with a backslash before an ASCII byte UTF-8 stays UTF-8
-utf8_escaped : (front rest : List ℕ) → IsUtf8 (front ++ rest) → IsUtf8 (front ++ flat_map escaped rest)
-utf8_escaped front [] utf8 = utf8
-utf8_escaped front (b ∷ rest) utf8 = go (is_escaped b) refl (utf8_escaped (front ++ 92 ∷ b ∷ []) rest) (utf8_escaped (front ++ b ∷ []) rest)
+utf8_escaped : (prefix rest : List ℕ) → IsUtf8 (prefix ++ rest) → IsUtf8 (prefix ++ flat_map escaped rest)
+utf8_escaped prefix [] utf8 = utf8
+utf8_escaped prefix (b ∷ rest) utf8 = go (is_escaped b) refl (utf8_escaped (prefix ++ 92 ∷ b ∷ []) rest) (utf8_escaped (prefix ++ b ∷ []) rest)
   where
-    go : (t : Bool) → is_escaped b ≡ t → (IsUtf8 ((front ++ 92 ∷ b ∷ []) ++ rest) → IsUtf8 ((front ++ 92 ∷ b ∷ []) ++ flat_map escaped rest)) → (IsUtf8 ((front ++ b ∷ []) ++ rest) → IsUtf8 ((front ++ b ∷ []) ++ flat_map escaped rest)) → IsUtf8 (front ++ (cond t (92 ∷ b ∷ []) (b ∷ []) ++ flat_map escaped rest))
+    go : (t : Bool) → is_escaped b ≡ t → (IsUtf8 ((prefix ++ 92 ∷ b ∷ []) ++ rest) → IsUtf8 ((prefix ++ 92 ∷ b ∷ []) ++ flat_map escaped rest)) → (IsUtf8 ((prefix ++ b ∷ []) ++ rest) → IsUtf8 ((prefix ++ b ∷ []) ++ flat_map escaped rest)) → IsUtf8 (prefix ++ (cond t (92 ∷ b ∷ []) (b ∷ []) ++ flat_map escaped rest))
     go true e slash same =
         let low : b < 128 = escaped_is_ascii b e in
         let two : IsUtf8 (92 ∷ b ∷ []) = IsUtf8-append (92 ∷ []) (b ∷ []) (IsUtf8-from_ascii (92 ∷ []) (one_ascii 92 (lit< tt))) (IsUtf8-from_ascii (b ∷ []) (one_ascii b low)) in
-        let parts : IsParted front rest = parted front b rest low utf8 in
-        subst IsUtf8 (append_assoc front (92 ∷ b ∷ []) (flat_map escaped rest)) (slash (IsUtf8-append (front ++ 92 ∷ b ∷ []) rest (IsUtf8-append front (92 ∷ b ∷ []) parts.before two) parts.behind))
-    go false e slash same = subst IsUtf8 (append_assoc front (b ∷ []) (flat_map escaped rest)) (same (subst IsUtf8 (sym (append_assoc front (b ∷ []) rest)) utf8))
+        let parts : IsParted prefix rest = parted prefix b rest low utf8 in
+        subst IsUtf8 (append_assoc prefix (92 ∷ b ∷ []) (flat_map escaped rest)) (slash (IsUtf8-append (prefix ++ 92 ∷ b ∷ []) rest (IsUtf8-append prefix (92 ∷ b ∷ []) parts.before two) parts.after))
+    go false e slash same = subst IsUtf8 (append_assoc prefix (b ∷ []) (flat_map escaped rest)) (same (subst IsUtf8 (sym (append_assoc prefix (b ∷ []) rest)) utf8))
 
 no_zero_escaped : (text : List ℕ) → AllByRecursion (λ c. 0 < c) text → AllByRecursion (λ c. 0 < c) (flat_map escaped text)
 no_zero_escaped [] all = tt

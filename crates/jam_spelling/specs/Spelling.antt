@@ -32,7 +32,7 @@ is_special byte = is_white byte || is_escaped byte
 unfoldable pub needs_quotes : List ℕ → Bool
 needs_quotes text = length text == 0 || is_key_text text || slice_index text 0 == hash || list_any is_special text
 
--- a byte as it stands within quotes: behind a backslash where it means something there
+-- a byte as it stands within quotes: after a backslash where it means something there
 abbrev pub escaped : ℕ → List ℕ
 escaped byte = if is_escaped byte then backslash ∷ byte ∷ [] else byte ∷ []
 
@@ -53,8 +53,8 @@ abbrev pub begins_body : List Lexeme → Bool
 begins_body [] = false
 begins_body (first ∷ more) = is_body first.kind
 
--- what stands behind a lexeme and before those that follow it: nothing at a body, a line feed behind the end of a line,
--- nothing behind the last one, else a space
+-- what stands after a lexeme and before those that follow it: nothing at a body, a line feed after the end of a line,
+-- nothing after the last one, else a space
 abbrev pub separator : Lexeme → List Lexeme → List ℕ
 separator lexeme more =
     if is_body lexeme.kind || begins_body more then []

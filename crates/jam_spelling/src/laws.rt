@@ -17,7 +17,7 @@ pub fn read_back()
     ensures answer { (lexemes : List Lexeme) (answer : Result (List Token) LexFault) → CanStand lexemes → AreTexts lexemes → IsAnswer (bytes_of lexemes) answer → IsOkAnd answer (λ tokens. map lexeme_of tokens ≡ lexemes) }
 {}
 
-/// Two lists that can stand in a text can stand there one behind the other.
+/// Two lists that can stand in a text can stand there one after the other.
 pub fn stand_joined()
     ensures { (first second : List Lexeme) → CanStand first → CanStand second → CanStand (first ++ second) }
 {}

@@ -3,7 +3,7 @@ use b2_base::text::Text;
 use b2_base::token::TokenKind;
 
 /// What a token says, without its place.
-#[derive(Debug, Drop)]
+#[derive(Drop)]
 pub struct Lexeme {
     /// What it is.
     pub kind: TokenKind,

@@ -10,41 +10,32 @@ pub mod laws;
 pub mod lexeme;
 mod special;
 mod spelling;
-#[cfg(test)]
-mod tests;
 
 use crate::lexeme::Lexeme;
 use crate::spelling::{push_spelling, separator};
 use b2_base::fault::OutOfMemory;
 use std::alloc::Global;
 
-/// Any lexemes as a text, spelled as [`written`] says. Where they cannot stand in a text, lexing may read others.
-pub fn spelled(alloc: Global, lexemes: &[Lexeme]) -> Result<Vec<u8>, OutOfMemory>
-    ensures exact { IfOk result (λ bytes. bytes.items ≡ bytes_of lexemes.now) }
-    ensures texts { IfOk result (λ _. AreTexts lexemes.now) }
-{
-    let mut bytes = Vec::new(alloc);
-    for (place, lexeme) in lexemes.iter().enumerate() {
-        push_spelling(&mut bytes, lexeme)?;
-        let behind = separator(lexeme, &lexemes[place + 1..]);
-        bytes.extend_from_slice(behind.as_bytes())?;
-    }
-    Ok(bytes)
-}
-
-/// The lexemes as a text, with one space between two of them and a line feed behind each of the keys `;`, `{` and `}`.
+/// The lexemes as a text, with one space between two of them and a line feed after each of the keys `;`, `{` and `}`.
 ///
 /// No space follows a line feed, and none stands at the end of the text. A Word is written in quotes where it is empty,
 /// is the text of a key, begins with `#`, or holds white space, a quote or a backslash; within its quotes a backslash
 /// stands before each quote and backslash. A body is written as it is, directly between `{` and `}`.
 ///
-/// The tokens of the text are of these kinds and say these texts, in this order. The lexemes are Words of any text, Keys
-/// with the text of a key other than `actions`, and whole actions: the Key `actions`, Words, the Key `{`, a Body that
-/// begins with white space and in which the braces match, and the Key `}`.
-pub fn written(alloc: Global, lexemes: &[Lexeme]) -> Result<Vec<u8>, OutOfMemory>
-    requires { CanStand lexemes.now }
+/// The tokens of the text are of these kinds and say these texts, in this order, where the lexemes can stand in a text:
+/// Words of any text, Keys with the text of a key other than `actions`, and whole actions, which are the Key `actions`,
+/// Words, the Key `{`, a Body that begins with white space and in which the braces match, and the Key `}`. Other lexemes
+/// are spelled too, and lexing may read others from that.
+pub fn spelled(alloc: Global, lexemes: &[Lexeme]) -> Result<Vec<u8>, OutOfMemory>
     ensures exact { IfOk result (λ bytes. bytes.items ≡ bytes_of lexemes.now) }
-    ensures reads_back { IfOk result (λ bytes. ReadsAs bytes.items lexemes.now) }
+    ensures texts { IfOk result (λ _. AreTexts lexemes.now) }
+    ensures reads_back { CanStand lexemes.now → IfOk result (λ bytes. ReadsAs bytes.items lexemes.now) }
 {
-    spelled(alloc, lexemes)
+    let mut bytes = Vec::new(alloc);
+    for (place, lexeme) in lexemes.iter().enumerate() {
+        push_spelling(&mut bytes, lexeme)?;
+        let after = separator(lexeme, &lexemes[place + 1..]);
+        bytes.extend_from_slice(after.as_bytes())?;
+    }
+    Ok(bytes)
 }

@@ -1,42 +1,10 @@
 //! Which words are written in quotes.
 ghost use Rattle.std.specs.Prelude.{◌≡◌, ◌==◌, slice_index};
 ghost use Rattle.std.specs.List.{list_any};
-ghost use Rattle.std.specs.Str.{bytes_eq};
-ghost use Rattle.jam_lexer.specs.Signs.{hash, is_white};
-ghost use Rattle.jam_lexer.specs.Word.{is_key_text};
+ghost use Rattle.jam_lexer.specs.Signs.{hash};
 ghost use Rattle.jam_spelling.specs.Spelling.{is_escaped, is_special, needs_quotes};
 
-/// The signs of the language.
-static SIGNS: [&str; 15] = [
-    ";", ":", "{", "}", "[", "]", "(", ")", "=", "+=", "?=", "!=", "!", "&&", "||",
-];
-
-/// The words that the language keeps for itself.
-static RESERVED: [&str; 14] = [
-    "actions", "case", "else", "for", "if", "in", "include", "local", "module", "on", "return",
-    "rule", "switch", "while",
-];
-
-/// Whether the text is one of the words.
-fn is_one_of(text: &str, words: &[&str]) -> bool
-    ensures { result ≡ list_any (λ word. bytes_eq text.now word.now) words.now }
-{
-    words.iter().any(|word| text == *word)
-}
-
-/// Whether the text is that of a key.
-fn is_key_text(text: &str) -> bool
-    ensures { result ≡ is_key_text text.now }
-{
-    is_one_of(text, &SIGNS) || is_one_of(text, &RESERVED)
-}
-
-/// Whether the byte is white space: 9 to 13, or 32.
-fn is_white(byte: u8) -> bool
-    ensures { result ≡ is_white byte }
-{
-    (9 <= byte && byte <= 13) || byte == b' '
-}
+use jam_lexer::signs::{is_key_text, is_white};
 
 /// Whether the byte means something within quotes: a quote or a backslash.
 pub fn is_escaped(byte: u8) -> bool

@@ -1,4 +1,4 @@
-//! The spelling of one lexeme, and what stands behind it.
+//! The spelling of one lexeme, and what stands after it.
 ghost use Rattle.std.specs.Prelude.{◌≡◌, ◌++◌, IfOk};
 ghost use Rattle.jam_lexer.specs.Tokens.{IsText};
 ghost use Rattle.jam_spelling.specs.Spelling.{escaped, quoted, spelling, ends_line, begins_body, separator};
@@ -45,7 +45,7 @@ pub fn push_spelling(bytes: &mut Vec<u8>, lexeme: &Lexeme) -> Result<(), OutOfMe
     }
 }
 
-/// Whether a line ends behind the lexeme.
+/// Whether a line ends after the lexeme.
 fn ends_line(lexeme: &Lexeme) -> bool
     ensures { result ≡ ends_line lexeme.now }
 {

@@ -11,15 +11,15 @@ word_token-requires-clause-boundary c = start_boundary _ _ _ c.requires.text.0 c
 
 pub read_body-requires-clause-opened : goal.read_body-requires-clause-opened
 read_body-requires-clause-opened c =
-    rw (c.in_ok-push.ensures.items, c.awaits_behind-awaits.ensures, c.in_ok-token.ensures)
+    rw (c.in_ok-push.ensures.items, c.awaits_after-awaits.ensures, c.in_ok-token.ensures)
     (word_opens _ _ _ _ _ _ _ c.requires.read c.requires.begins c.in-Some.ensures.found c.line_after-line.ensures c.line_after.ensures (rw c.in_ok-token.ensures at c.if-opens.ensures))
 
 pub returns-else-opens-clause-ok : goal.returns-else-opens-clause-ok
 returns-else-opens-clause-ok c =
-    rw (c.in_ok-push.ensures.items, c.awaits_behind-awaits.ensures, c.in_ok-token.ensures)
+    rw (c.in_ok-push.ensures.items, c.awaits_after-awaits.ensures, c.in_ok-token.ensures)
     (word_read _ _ _ _ _ _ _ _ c.requires.read c.requires.begins c.in-Some.ensures.found c.line_after-line.ensures c.line_after.ensures (rw c.in_ok-token.ensures at c.if-opens.ensures))
 
 pub returns-else-opens-clause-goes : goal.returns-else-opens-clause-goes
 returns-else-opens-clause-goes c =
     let goes : c.args.start < c.in-Some.end = word_goes _ _ _ _ c.requires.begins c.in-Some.ensures.found in
-    omega (arith, c.requires.begins.behind)
+    omega (arith, c.requires.begins.after)

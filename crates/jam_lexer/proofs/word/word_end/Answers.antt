@@ -7,7 +7,7 @@ use Rattle.jam_lexer.proofs.word.word_end.Goals as goal
 
 pub loop-at-preserved-then-byte-eq92 : goal.loop-at-preserved-then-byte-eq92
 loop-at-preserved-then-byte-eq92 c =
-    subst (λ to. IsReading c.args.bytes.now c.args.start to c.loop-at.quoted) (sym c.behind_literal-at.ensures)
+    subst (λ to. IsReading c.args.bytes.now c.args.start to c.loop-at.quoted) (sym c.after_literal-at.ensures)
     (reading_literal _ _ _ _ c.loop-at.invariant c.loop-at-test.true c.if-byte-eq92.true)
 
 pub loop-at-preserved-then-byte-eq34 : goal.loop-at-preserved-then-byte-eq34

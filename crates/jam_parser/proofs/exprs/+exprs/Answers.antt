@@ -41,7 +41,7 @@ both-returns-in_err-whole-in-Some t c =
     let p = err_from_is_err_and from.result from.ensures.1 in
     let d = c.args.depth in
     let e = c.in_err-whole-in-Some.field-0.0 in
-    let taken = takes_past AndTail (Single ∷ AndTail ∷ []) marks.And c.in_ok-first.after.now c.in-Some.behind.now d c.in-Some.ensures refl in
+    let taken = takes_past AndTail (Single ∷ AndTail ∷ []) marks.And c.in_ok-first.after.now c.in-Some.right.now d c.in-Some.ensures refl in
     rw (p.1, p.2) (then_fault (Both ∷ []) (Single ∷ AndTail ∷ []) d e (and_comes c.args.rest.now d)
     (later_fault (Single ∷ []) (AndTail ∷ []) d d e (omega arith) c.in_ok-first.ensures
     (then_fault (AndTail ∷ []) (Single ∷ AndTail ∷ []) d e taken c.in_err-whole-in-Some.ensures)))
@@ -51,7 +51,7 @@ both-returns-in_ok-whole-in-Some t c =
     let d = c.args.depth in
     let h = c.in_ok-whole-in-Some.ensures in
     let first = chain (Both ∷ []) (Single ∷ []) (AndTail ∷ []) d d (omega arith) (and_comes c.args.rest.now d) c.in_ok-first.ensures in
-    let taken = takes_past AndTail (Single ∷ AndTail ∷ []) marks.And c.in_ok-first.after.now c.in-Some.behind.now d c.in-Some.ensures refl in
+    let taken = takes_past AndTail (Single ∷ AndTail ∷ []) marks.And c.in_ok-first.after.now c.in-Some.right.now d c.in-Some.ensures refl in
     rw h.whole (then_all (Both ∷ []) (Single ∷ AndTail ∷ []) d (composed (Both ∷ []) (AndTail ∷ []) (Single ∷ AndTail ∷ []) d first taken) h.comes)
 
 pub both-returns-in-None : goal.both-returns-in-None
@@ -84,13 +84,13 @@ and_rest-each-preserved t c =
     let one = c.in_ok-one.one in
     let inv = c.each.invariant in
     let grown = c.in_ok-push-3.ensures.items in
-    let front = expr_syms WithinAnd c.args.first ++ spelling.Key marks.And ∷ [] in
+    let prefix = expr_syms WithinAnd c.args.first ++ spelling.Key marks.And ∷ [] in
     let left = c.each.left.now in
     record {
       long = omega (arith, ap length grown, length-append old (one ∷ []), inv.long);
       continues = record {
         syms = inv.continues.syms ++ (spelling.Key marks.And ∷ expr_syms WithinAnd one);
-        whole = more_members WithinAnd marks.And old new one inv.long grown ∙ ap (λ s. s ++ (spelling.Key marks.And ∷ expr_syms WithinAnd one)) inv.continues.whole ∙ append_assoc front inv.continues.syms (spelling.Key marks.And ∷ expr_syms WithinAnd one);
+        whole = more_members WithinAnd marks.And old new one inv.long grown ∙ ap (λ s. s ++ (spelling.Key marks.And ∷ expr_syms WithinAnd one)) inv.continues.whole ∙ append_assoc prefix inv.continues.syms (spelling.Key marks.And ∷ expr_syms WithinAnd one);
         comes = composed (Single ∷ AndTail ∷ []) (AndTail ∷ []) (AndTail ∷ []) d inv.continues.comes
             (chain (AndTail ∷ []) (Single ∷ []) (AndTail ∷ []) d d (omega arith) (takes_past AndTail (Single ∷ AndTail ∷ []) marks.And left c.in-Some.after.now d c.in-Some.ensures refl) c.in_ok-one.ensures);
       };
@@ -120,7 +120,7 @@ expr-returns-in_err-whole-in-Some t c =
     let p = err_from_is_err_and from.result from.ensures.1 in
     let d = c.args.depth in
     let e = c.in_err-whole-in-Some.field-0.0 in
-    let taken = takes_past OrTail (Both ∷ OrTail ∷ []) marks.Or c.in_ok-first.after.now c.in-Some.behind.now d c.in-Some.ensures refl in
+    let taken = takes_past OrTail (Both ∷ OrTail ∷ []) marks.Or c.in_ok-first.after.now c.in-Some.right.now d c.in-Some.ensures refl in
     rw (p.1, p.2) (then_fault (OneExpr ∷ []) (Both ∷ OrTail ∷ []) d e (or_comes c.args.rest.now d)
     (later_fault (Both ∷ []) (OrTail ∷ []) d d e (omega arith) c.in_ok-first.ensures
     (then_fault (OrTail ∷ []) (Both ∷ OrTail ∷ []) d e taken c.in_err-whole-in-Some.ensures)))
@@ -130,7 +130,7 @@ expr-returns-in_ok-whole-in-Some t c =
     let d = c.args.depth in
     let h = c.in_ok-whole-in-Some.ensures in
     let first = chain (OneExpr ∷ []) (Both ∷ []) (OrTail ∷ []) d d (omega arith) (or_comes c.args.rest.now d) c.in_ok-first.ensures in
-    let taken = takes_past OrTail (Both ∷ OrTail ∷ []) marks.Or c.in_ok-first.after.now c.in-Some.behind.now d c.in-Some.ensures refl in
+    let taken = takes_past OrTail (Both ∷ OrTail ∷ []) marks.Or c.in_ok-first.after.now c.in-Some.right.now d c.in-Some.ensures refl in
     rw h.whole (then_all (OneExpr ∷ []) (Both ∷ OrTail ∷ []) d (composed (OneExpr ∷ []) (OrTail ∷ []) (Both ∷ OrTail ∷ []) d first taken) h.comes)
 
 pub expr-returns-in-None : goal.expr-returns-in-None
@@ -163,13 +163,13 @@ or_rest-each-preserved t c =
     let one = c.in_ok-one.one in
     let inv = c.each.invariant in
     let grown = c.in_ok-push-3.ensures.items in
-    let front = expr_syms WithinOr c.args.first ++ spelling.Key marks.Or ∷ [] in
+    let prefix = expr_syms WithinOr c.args.first ++ spelling.Key marks.Or ∷ [] in
     let left = c.each.left.now in
     record {
       long = omega (arith, ap length grown, length-append old (one ∷ []), inv.long);
       continues = record {
         syms = inv.continues.syms ++ (spelling.Key marks.Or ∷ expr_syms WithinOr one);
-        whole = more_members WithinOr marks.Or old new one inv.long grown ∙ ap (λ s. s ++ (spelling.Key marks.Or ∷ expr_syms WithinOr one)) inv.continues.whole ∙ append_assoc front inv.continues.syms (spelling.Key marks.Or ∷ expr_syms WithinOr one);
+        whole = more_members WithinOr marks.Or old new one inv.long grown ∙ ap (λ s. s ++ (spelling.Key marks.Or ∷ expr_syms WithinOr one)) inv.continues.whole ∙ append_assoc prefix inv.continues.syms (spelling.Key marks.Or ∷ expr_syms WithinOr one);
         comes = composed (Both ∷ OrTail ∷ []) (OrTail ∷ []) (OrTail ∷ []) d inv.continues.comes
             (chain (OrTail ∷ []) (Both ∷ []) (OrTail ∷ []) d d (omega arith) (takes_past OrTail (Both ∷ OrTail ∷ []) marks.Or left c.in-Some.after.now d c.in-Some.ensures refl) c.in_ok-one.ensures);
       };

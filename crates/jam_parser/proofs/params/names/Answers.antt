@@ -10,7 +10,7 @@ use Rattle.jam_parser.proofs.params.names.Goals as goal
 pub each-smaller : goal.each-smaller
 each-smaller c =
     let at = c.in-Some.ensures in
-    let mark = c.mark_behind-mark in
+    let mark = c.mark_after-mark in
     omega (arith, (mark.ensures 0).shorter, nothing_least mark.result.1, ap length at.1)
 
 pub each-preserved : goal.each-preserved
@@ -20,7 +20,7 @@ each-preserved c =
     let old = c.each.found.items in
     let new = c.push.new.self.items in
     let at = c.in-Some.ensures in
-    let mark = c.mark_behind-mark in
+    let mark = c.mark_after-mark in
     let name = c.in_ok-name.name in
     let first = c.in-Some.first.now in
     let inv = c.each.invariant in

@@ -1,7 +1,7 @@
 use Rattle.std.proofs.Common.{ap, ◌∙◌, arith}
 use Rattle.std.proofs.lemmas.List.{append_assoc}
 use Rattle.jam_grammar.specs.Spelling.{arg_syms, args_syms, further_syms, inner_syms, spell_inner}
-use Rattle.jam_printer.proofs.Pushed.{written_append, at_end, args_flat, behind_colon, further_flat}
+use Rattle.jam_printer.proofs.Pushed.{written_append, at_end, args_flat, after_colon, further_flat}
 use Rattle.jam_grammar.proofs.Rows.{call_is, on_return_is}
 use Rattle.jam_printer.proofs.args.+args.Goals as goal
 
@@ -9,7 +9,7 @@ pub push_args-returns : goal.push_args-returns
 push_args-returns t c = at_end arg_syms args_syms c.args.args.now c.loop-arg.arg-index _ _ (omega arith) (args_flat c.args.args.now) c.loop-arg.invariant
 
 pub push_further-returns : goal.push_further-returns
-push_further-returns t c = at_end behind_colon further_syms c.args.lists.now c.loop-list.list-index _ _ (omega arith) (further_flat c.args.lists.now) c.loop-list.invariant
+push_further-returns t c = at_end after_colon further_syms c.args.lists.now c.loop-list.list-index _ _ (omega arith) (further_flat c.args.lists.now) c.loop-list.invariant
 
 pub push_inner-returns-in_ok-push_arg-in-Call : goal.push_inner-returns-in_ok-push_arg-in-Call
 push_inner-returns-in_ok-push_arg-in-Call t c =

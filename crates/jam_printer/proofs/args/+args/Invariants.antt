@@ -1,7 +1,7 @@
 use Rattle.std.proofs.Common.{◌≡◌, ◌++◌, ◌+◌, ◌*◌, take}
 use Rattle.std.specs.List.{flat_map}
 use Rattle.jam_grammar.specs.Spelling.{arg_syms}
-use Rattle.jam_printer.proofs.Pushed.{behind_colon}
+use Rattle.jam_printer.proofs.Pushed.{after_colon}
 use Rattle.jam_printer.specs.Lexemes.{written_as}
 use Rattle.jam_printer.proofs.args.+args.Given as goal
 
@@ -9,7 +9,7 @@ abbrev pub invariant-push_args-loop-arg : goal.invariant-push_args-loop-arg
 invariant-push_args-loop-arg l = l.lexemes.items ≡ l.fn.lexemes.items ++ written_as (flat_map arg_syms (take l.arg-index l.args))
 
 abbrev pub invariant-push_further-loop-list : goal.invariant-push_further-loop-list
-invariant-push_further-loop-list l = l.lexemes.items ≡ l.fn.lexemes.items ++ written_as (flat_map behind_colon (take l.list-index l.lists))
+invariant-push_further-loop-list l = l.lexemes.items ≡ l.fn.lexemes.items ++ written_as (flat_map after_colon (take l.list-index l.lists))
 
 abbrev pub decreases-push_arg : goal.decreases-push_arg
 decreases-push_arg l = 4 * goal.size-push_arg l

@@ -3,11 +3,11 @@ use Rattle.jam_grammar.proofs.Rows.{or_is, and_is}
 use Rattle.jam_grammar.specs.Spelling.{Anywhere, spell_expr, joined_syms, expr_syms}
 use Rattle.jam_printer.specs.Joints.{joint_mark, joint_level}
 use Rattle.jam_printer.specs.Lexemes.{written_as}
-use Rattle.jam_printer.proofs.Pushed.{at_end, joined_flat, behind_mark}
+use Rattle.jam_printer.proofs.Pushed.{at_end, joined_flat, after_mark}
 use Rattle.jam_printer.proofs.exprs.+exprs.Goals as goal
 
-pub push_behind-returns : goal.push_behind-returns
-push_behind-returns t c = at_end (behind_mark c.args.joint) (joined_syms (joint_level c.args.joint) (joint_mark c.args.joint)) c.args.members.now c.loop-member.member-index _ _ (omega arith) (joined_flat c.args.joint c.args.members.now) c.loop-member.invariant
+pub push_after-returns : goal.push_after-returns
+push_after-returns t c = at_end (after_mark c.args.joint) (joined_syms (joint_level c.args.joint) (joint_mark c.args.joint)) c.args.members.now c.loop-member.member-index _ _ (omega arith) (joined_flat c.args.joint c.args.members.now) c.loop-member.invariant
 
 pub push_expr-returns-in-Or : goal.push_expr-returns-in-Or
 push_expr-returns-in-Or t c =
