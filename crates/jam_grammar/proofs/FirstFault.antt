@@ -9,9 +9,9 @@ use Rattle.jam_grammar.specs.Grammar as g
 use Rattle.jam_grammar.specs.Machine.{Outcome, Whole, Bad, ended, go_on, run, feed, may_end}
 use Rattle.jam_grammar.specs.Readings.{marks, Stops, line_at, text_at, IsFirstFaultAt, IsFirstFault}
 use Rattle.jam_grammar.specs.Laws.{FileOrFault, NeverBoth, OneFault, WholeIsFile, FileIsWhole, BadIsFault, FaultIsBad}
-use Rattle.jam_grammar.proofs.Rooms.{Roomy, keeps}
-use Rattle.jam_grammar.proofs.Stepping.{step, finish}
-use Rattle.jam_grammar.proofs.Completing.{and_then, accepts, IsClear, complete}
+use Rattle.jam_grammar.proofs.OpenParts.{Roomy, keeps}
+use Rattle.jam_grammar.proofs.GrammarOfMachine.{step, finish}
+use Rattle.jam_grammar.proofs.MachineReadsGrammar.{and_then, accepts, IsClear, complete}
 
 -- the parts that are left are not read from the tokens that are left
 abbrev Stuck : List Part → List Token → Type 0

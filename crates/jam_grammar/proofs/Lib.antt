@@ -1,10 +1,10 @@
 pub mod Moves
-pub mod Leads
-pub mod Rows
+pub mod PartsCompose
+pub mod RowTrees
 pub mod MarkNumbers
-pub mod Rooms
-pub mod Stepping
-pub mod Completing
+pub mod OpenParts
+pub mod GrammarOfMachine
+pub mod MachineReadsGrammar
 pub mod FirstFault
 pub mod TokenTexts
 pub mod FirstTokens
@@ -15,5 +15,5 @@ pub mod OneForm
 pub mod Steady
 pub mod SameSaying
 pub mod UpToLines
-pub mod Held
-pub mod Values
+pub mod ExamplesHold
+pub mod TreeOfFile

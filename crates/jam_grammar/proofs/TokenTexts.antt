@@ -1,5 +1,5 @@
 -- What tokens that spell a tree say.
-use Rattle.std.proofs.Common.{◌≡◌, ℕ, List, Bool, true, false, codes, if◌then◌else◌, refl, sym, ap, ◌∙◌, subst}
+use Rattle.std.proofs.Common.{◌≡◌, ℕ, List, [], ◌∷◌, Bool, true, false, codes, if◌then◌else◌, refl, sym, ap, ◌∙◌, subst}
 use Rattle.std.specs.Str.{bytes_eq}
 use Rattle.std.proofs.lemmas.Slice.Eq.{bytes_eq-Decides}
 use Rattle.b2_base.specs.declared.token.Token.{Token}
@@ -7,8 +7,8 @@ use Rattle.b2_base.specs.declared.token.TokenKind.{TokenKind}
 use Rattle.b2_base.specs.declared.token.TokenKind.TheVariants as kinds
 use Rattle.jam_grammar.specs.declared.mark.Mark.{Mark}
 use Rattle.jam_grammar.specs.declared.mark.Mark.TheVariants as m
-use Rattle.jam_grammar.specs.Marks.{mark_of_word, mark_of_key, mark_of_reserved, mark_by_kind, mark_of_token, is_word}
-use Rattle.jam_grammar.specs.Alike.{said_of, word_said, body_said, mark_said}
+use Rattle.jam_grammar.specs.Marks.{mark_of_word, mark_of_key, key_marks, mark_in, mark_by_kind, mark_of_token, is_word}
+use Rattle.jam_grammar.specs.Alike.{said_of, word_said, key_said, body_said, mark_said}
 
 -- the marks whose tokens say one text
 abbrev pub has_text : Mark → Bool
@@ -36,44 +36,90 @@ word_says text =
     pick kinds.Word text (codes "+") m.Plus _ refl (
     (λ h. cc))))
 
-reserved_says : (text : List ℕ) → SaidBy kinds.Key text (mark_of_reserved text)
-unfolding mark_of_reserved
-reserved_says text =
-    pick kinds.Key text (codes "actions") m.Actions _ refl (
-    pick kinds.Key text (codes "case") m.Case _ refl (
-    pick kinds.Key text (codes "else") m.Else _ refl (
-    pick kinds.Key text (codes "for") m.For _ refl (
-    pick kinds.Key text (codes "if") m.If _ refl (
-    pick kinds.Key text (codes "in") m.In _ refl (
-    pick kinds.Key text (codes "include") m.Include _ refl (
-    pick kinds.Key text (codes "local") m.Local _ refl (
-    pick kinds.Key text (codes "module") m.Module _ refl (
-    pick kinds.Key text (codes "on") m.On _ refl (
-    pick kinds.Key text (codes "return") m.Return _ refl (
-    pick kinds.Key text (codes "rule") m.Rule _ refl (
-    pick kinds.Key text (codes "switch") m.Switch _ refl (
-    pick kinds.Key text (codes "while") m.While _ refl (
-    (λ h. cc)))))))))))))))
+-- the marks of keys
+abbrev IsKeyMark : Mark → Type 0
+IsKeyMark m.Plain = ⊥
+IsKeyMark m.Query = ⊥
+IsKeyMark m.Star = ⊥
+IsKeyMark m.Plus = ⊥
+IsKeyMark m.Body = ⊥
+IsKeyMark _ = Unit {0}
+
+-- each row has a key's mark, whose tokens say the row's text
+abbrev AreKeys : List (List ℕ × Mark) → Type 0
+AreKeys [] = Unit {0}
+AreKeys (row ∷ rows) = ((key_said row.0 ≡ mark_said row.1) × IsKeyMark row.1) × AreKeys rows
+
+are_keys : AreKeys key_marks
+are_keys = (
+  (refl, tt),
+  (
+    (refl, tt),
+    (
+      (refl, tt),
+      (
+        (refl, tt),
+        (
+          (refl, tt),
+          (
+            (refl, tt),
+            (
+              (refl, tt),
+              (
+                (refl, tt),
+                (
+                  (refl, tt),
+                  (
+                    (refl, tt),
+                    (
+                      (refl, tt),
+                      (
+                        (refl, tt),
+                        (
+                          (refl, tt),
+                          (
+                            (refl, tt),
+                            (
+                              (refl, tt),
+                              (
+                                (refl, tt),
+                                (
+                                  (refl, tt),
+                                  (
+                                    (refl, tt),
+                                    (
+                                      (refl, tt),
+                                      (
+                                        (refl, tt),
+                                        ((refl, tt), ((refl, tt), ((refl, tt), ((refl, tt), ((refl, tt), ((refl, tt), ((refl, tt), ((refl, tt), ((refl, tt), tt))))))))),
+                                      ),
+                                    ),
+                                  ),
+                                ),
+                              ),
+                            ),
+                          ),
+                        ),
+                      ),
+                    ),
+                  ),
+                ),
+              ),
+            ),
+          ),
+        ),
+      ),
+    ),
+  ),
+)
+
+rows_say : (rows : List (List ℕ × Mark)) (text : List ℕ) → AreKeys rows → SaidBy kinds.Key text (mark_in rows text)
+rows_say [] text are = λ h. cc
+rows_say (row ∷ rows) text are = pick kinds.Key text row.0 row.1 (mark_in rows text) are.0.0 (rows_say rows text are.1)
 
 key_says : (text : List ℕ) → SaidBy kinds.Key text (mark_of_key text)
 unfolding mark_of_key
-key_says text =
-    pick kinds.Key text (codes ";") m.Semicolon _ refl (
-    pick kinds.Key text (codes ":") m.Colon _ refl (
-    pick kinds.Key text (codes "{") m.BraceOpen _ refl (
-    pick kinds.Key text (codes "}") m.BraceClose _ refl (
-    pick kinds.Key text (codes "[") m.SquareOpen _ refl (
-    pick kinds.Key text (codes "]") m.SquareClose _ refl (
-    pick kinds.Key text (codes "(") m.ParenOpen _ refl (
-    pick kinds.Key text (codes ")") m.ParenClose _ refl (
-    pick kinds.Key text (codes "=") m.Equals _ refl (
-    pick kinds.Key text (codes "+=") m.PlusEquals _ refl (
-    pick kinds.Key text (codes "?=") m.QueryEquals _ refl (
-    pick kinds.Key text (codes "!=") m.NotEquals _ refl (
-    pick kinds.Key text (codes "!") m.Not _ refl (
-    pick kinds.Key text (codes "&&") m.And _ refl (
-    pick kinds.Key text (codes "||") m.Or _ refl (
-    reserved_says text)))))))))))))))
+key_says text = rows_say key_marks text are_keys
 
 -- a token of a mark with one text says that
 by_kind : (kind : TokenKind) (text : List ℕ) → SaidBy kind text (mark_by_kind kind text)
@@ -85,7 +131,7 @@ pub token_says : (token : Token) (mark : Mark) → mark_of_token token ≡ mark 
 unfolding mark_of_token
 token_says token mark e h = by_kind token.kind token.text (subst (λ x. has_text x ≡ true) (sym e) h) ∙ ap mark_said e
 
--- the marks of words, bodies and keys
+-- the marks of words and of keys
 choose : (P : Mark → Type 0) (b : Bool) (x y : Mark) → P x → P y → P (if b then x else y)
 choose P true x y p q = p
 choose P false x y p q = q
@@ -98,52 +144,13 @@ unfolding mark_of_word
 word_mark text =
     choose IsWordMark (bytes_eq text (codes "?")) m.Query _ refl (choose IsWordMark (bytes_eq text (codes "*")) m.Star _ refl (choose IsWordMark (bytes_eq text (codes "+")) m.Plus m.Plain refl refl))
 
-abbrev IsKeyMark : Mark → Type 0
-IsKeyMark m.Plain = ⊥
-IsKeyMark m.Query = ⊥
-IsKeyMark m.Star = ⊥
-IsKeyMark m.Plus = ⊥
-IsKeyMark m.Body = ⊥
-IsKeyMark _ = Unit {0}
-
-reserved_mark : (text : List ℕ) → IsKeyMark (mark_of_reserved text)
-unfolding mark_of_reserved
-reserved_mark text =
-    choose IsKeyMark (bytes_eq text (codes "actions")) m.Actions _ tt (
-    choose IsKeyMark (bytes_eq text (codes "case")) m.Case _ tt (
-    choose IsKeyMark (bytes_eq text (codes "else")) m.Else _ tt (
-    choose IsKeyMark (bytes_eq text (codes "for")) m.For _ tt (
-    choose IsKeyMark (bytes_eq text (codes "if")) m.If _ tt (
-    choose IsKeyMark (bytes_eq text (codes "in")) m.In _ tt (
-    choose IsKeyMark (bytes_eq text (codes "include")) m.Include _ tt (
-    choose IsKeyMark (bytes_eq text (codes "local")) m.Local _ tt (
-    choose IsKeyMark (bytes_eq text (codes "module")) m.Module _ tt (
-    choose IsKeyMark (bytes_eq text (codes "on")) m.On _ tt (
-    choose IsKeyMark (bytes_eq text (codes "return")) m.Return _ tt (
-    choose IsKeyMark (bytes_eq text (codes "rule")) m.Rule _ tt (
-    choose IsKeyMark (bytes_eq text (codes "switch")) m.Switch _ tt (
-    choose IsKeyMark (bytes_eq text (codes "while")) m.While _ tt (
-    tt))))))))))))))
+rows_mark : (rows : List (List ℕ × Mark)) (text : List ℕ) → AreKeys rows → IsKeyMark (mark_in rows text)
+rows_mark [] text are = tt
+rows_mark (row ∷ rows) text are = choose IsKeyMark (bytes_eq text row.0) row.1 (mark_in rows text) are.0.1 (rows_mark rows text are.1)
 
 key_mark : (text : List ℕ) → IsKeyMark (mark_of_key text)
 unfolding mark_of_key
-key_mark text =
-    choose IsKeyMark (bytes_eq text (codes ";")) m.Semicolon _ tt (
-    choose IsKeyMark (bytes_eq text (codes ":")) m.Colon _ tt (
-    choose IsKeyMark (bytes_eq text (codes "{")) m.BraceOpen _ tt (
-    choose IsKeyMark (bytes_eq text (codes "}")) m.BraceClose _ tt (
-    choose IsKeyMark (bytes_eq text (codes "[")) m.SquareOpen _ tt (
-    choose IsKeyMark (bytes_eq text (codes "]")) m.SquareClose _ tt (
-    choose IsKeyMark (bytes_eq text (codes "(")) m.ParenOpen _ tt (
-    choose IsKeyMark (bytes_eq text (codes ")")) m.ParenClose _ tt (
-    choose IsKeyMark (bytes_eq text (codes "=")) m.Equals _ tt (
-    choose IsKeyMark (bytes_eq text (codes "+=")) m.PlusEquals _ tt (
-    choose IsKeyMark (bytes_eq text (codes "?=")) m.QueryEquals _ tt (
-    choose IsKeyMark (bytes_eq text (codes "!=")) m.NotEquals _ tt (
-    choose IsKeyMark (bytes_eq text (codes "!")) m.Not _ tt (
-    choose IsKeyMark (bytes_eq text (codes "&&")) m.And _ tt (
-    choose IsKeyMark (bytes_eq text (codes "||")) m.Or _ tt (
-    reserved_mark text)))))))))))))))
+key_mark text = rows_mark key_marks text are_keys
 
 no_key_word : (mark : Mark) → IsKeyMark mark → is_word mark ≡ true → ⊥
 no_key_word m.Plain k h = k

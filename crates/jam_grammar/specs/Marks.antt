@@ -1,5 +1,5 @@
 -- What the grammar sees of a token.
-use Rattle.std.specs.Prelude.{ℕ, ◌==◌, List, Bool, true, false, if◌then◌else◌, codes}
+use Rattle.std.specs.Prelude.{ℕ, ◌==◌, List, [], ◌∷◌, Bool, true, false, if◌then◌else◌, codes}
 use Rattle.std.specs.Str.{bytes_eq}
 use Rattle.b2_base.specs.declared.token.TokenKind.{TokenKind}
 use Rattle.b2_base.specs.declared.token.TokenKind.TheVariants as kinds
@@ -15,44 +15,24 @@ mark_of_word text =
     else if bytes_eq text (codes "+") then Plus
     else Plain
 
--- the mark of a key that is a word of the language
-unfoldable pub mark_of_reserved : List ℕ → Mark
-mark_of_reserved text =
-    if bytes_eq text (codes "actions") then Actions
-    else if bytes_eq text (codes "case") then Case
-    else if bytes_eq text (codes "else") then Else
-    else if bytes_eq text (codes "for") then For
-    else if bytes_eq text (codes "if") then If
-    else if bytes_eq text (codes "in") then In
-    else if bytes_eq text (codes "include") then Include
-    else if bytes_eq text (codes "local") then Local
-    else if bytes_eq text (codes "module") then Module
-    else if bytes_eq text (codes "on") then On
-    else if bytes_eq text (codes "return") then Return
-    else if bytes_eq text (codes "rule") then Rule
-    else if bytes_eq text (codes "switch") then Switch
-    else if bytes_eq text (codes "while") then While
-    else Unknown
+-- the keys of the language with their marks
+abbrev pub key_marks : List (List ℕ × Mark)
+key_marks =
+    (codes ";", Semicolon) ∷ (codes ":", Colon) ∷ (codes "{", BraceOpen) ∷ (codes "}", BraceClose) ∷ (codes "[", SquareOpen) ∷
+    (codes "]", SquareClose) ∷ (codes "(", ParenOpen) ∷ (codes ")", ParenClose) ∷ (codes "=", Equals) ∷ (codes "+=", PlusEquals) ∷
+    (codes "?=", QueryEquals) ∷ (codes "!=", NotEquals) ∷ (codes "!", Not) ∷ (codes "&&", And) ∷ (codes "||", Or) ∷
+    (codes "actions", Actions) ∷ (codes "case", Case) ∷ (codes "else", Else) ∷ (codes "for", For) ∷ (codes "if", If) ∷
+    (codes "in", In) ∷ (codes "include", Include) ∷ (codes "local", Local) ∷ (codes "module", Module) ∷ (codes "on", On) ∷
+    (codes "return", Return) ∷ (codes "rule", Rule) ∷ (codes "switch", Switch) ∷ (codes "while", While) ∷ []
+
+-- the mark of the first row with this text
+abbrev pub mark_in : List (List ℕ × Mark) → List ℕ → Mark
+mark_in [] text = Unknown
+mark_in (row ∷ rows) text = if bytes_eq text row.0 then row.1 else mark_in rows text
 
 -- the mark of a key
 unfoldable pub mark_of_key : List ℕ → Mark
-mark_of_key text =
-    if bytes_eq text (codes ";") then Semicolon
-    else if bytes_eq text (codes ":") then Colon
-    else if bytes_eq text (codes "{") then BraceOpen
-    else if bytes_eq text (codes "}") then BraceClose
-    else if bytes_eq text (codes "[") then SquareOpen
-    else if bytes_eq text (codes "]") then SquareClose
-    else if bytes_eq text (codes "(") then ParenOpen
-    else if bytes_eq text (codes ")") then ParenClose
-    else if bytes_eq text (codes "=") then Equals
-    else if bytes_eq text (codes "+=") then PlusEquals
-    else if bytes_eq text (codes "?=") then QueryEquals
-    else if bytes_eq text (codes "!=") then NotEquals
-    else if bytes_eq text (codes "!") then Not
-    else if bytes_eq text (codes "&&") then And
-    else if bytes_eq text (codes "||") then Or
-    else mark_of_reserved text
+mark_of_key text = mark_in key_marks text
 
 -- the mark of a text of this kind
 abbrev pub mark_by_kind : TokenKind → List ℕ → Mark

@@ -4,6 +4,4 @@
 pub mod examples;
 pub mod laws;
 pub mod mark;
-#[cfg(test)]
-mod tests;
 pub mod tree;

@@ -1,11 +1,11 @@
 //! What the grammar sees of a token.
-ghost use Rattle.std.specs.Prelude.{◌≡◌};
-ghost use Rattle.jam_grammar.specs.Marks.{mark_of_word, mark_of_reserved, mark_of_key, mark_of_token};
+ghost use Rattle.std.specs.Prelude.{◌≡◌, map};
+ghost use Rattle.jam_grammar.specs.Marks.{mark_of_word, mark_in, mark_of_key, mark_of_token};
 
 use b2_base::token::{Token, TokenKind};
 
 /// What the grammar sees of a token: which key it is, or that it is a word or a body.
-#[derive(Clone, Copy, Debug, PartialEq, Eq)]
+#[derive(Clone, Copy, PartialEq, Eq)]
 pub enum Mark {
     /// A word other than the three that mark parameters.
     Plain,
@@ -108,80 +108,59 @@ fn mark_of_word(text: &str) -> Mark
     }
 }
 
+/// The keys of the language with their marks.
+static KEYS: [(&str, Mark); 29] = [
+    (";", Mark::Semicolon),
+    (":", Mark::Colon),
+    ("{", Mark::BraceOpen),
+    ("}", Mark::BraceClose),
+    ("[", Mark::SquareOpen),
+    ("]", Mark::SquareClose),
+    ("(", Mark::ParenOpen),
+    (")", Mark::ParenClose),
+    ("=", Mark::Equals),
+    ("+=", Mark::PlusEquals),
+    ("?=", Mark::QueryEquals),
+    ("!=", Mark::NotEquals),
+    ("!", Mark::Not),
+    ("&&", Mark::And),
+    ("||", Mark::Or),
+    ("actions", Mark::Actions),
+    ("case", Mark::Case),
+    ("else", Mark::Else),
+    ("for", Mark::For),
+    ("if", Mark::If),
+    ("in", Mark::In),
+    ("include", Mark::Include),
+    ("local", Mark::Local),
+    ("module", Mark::Module),
+    ("on", Mark::On),
+    ("return", Mark::Return),
+    ("rule", Mark::Rule),
+    ("switch", Mark::Switch),
+    ("while", Mark::While),
+];
+
+/// The mark of the first row with this text.
+fn mark_in(rows: &[(&str, Mark)], text: &str) -> Mark
+    ensures { result ≡ mark_in (map (λ row. (row.0.now, row.1)) rows.now) text.now }
+{
+    match rows {
+        [] => Mark::Unknown,
+        [first, more @ ..] => {
+            if text == first.0 {
+                first.1
+            } else {
+                mark_in(more, text)
+            }
+        }
+    }
+}
+
 /// The mark of a key.
 #[tactic(auto, unfolding(crate::specs::Marks::mark_of_key))]
 fn mark_of_key(text: &str) -> Mark
     ensures { result ≡ mark_of_key text.now }
 {
-    if text == ";" {
-        Mark::Semicolon
-    } else if text == ":" {
-        Mark::Colon
-    } else if text == "{" {
-        Mark::BraceOpen
-    } else if text == "}" {
-        Mark::BraceClose
-    } else if text == "[" {
-        Mark::SquareOpen
-    } else if text == "]" {
-        Mark::SquareClose
-    } else if text == "(" {
-        Mark::ParenOpen
-    } else if text == ")" {
-        Mark::ParenClose
-    } else if text == "=" {
-        Mark::Equals
-    } else if text == "+=" {
-        Mark::PlusEquals
-    } else if text == "?=" {
-        Mark::QueryEquals
-    } else if text == "!=" {
-        Mark::NotEquals
-    } else if text == "!" {
-        Mark::Not
-    } else if text == "&&" {
-        Mark::And
-    } else if text == "||" {
-        Mark::Or
-    } else {
-        mark_of_reserved(text)
-    }
-}
-
-/// The mark of a key that is a word of the language.
-#[tactic(auto, unfolding(crate::specs::Marks::mark_of_reserved))]
-fn mark_of_reserved(text: &str) -> Mark
-    ensures { result ≡ mark_of_reserved text.now }
-{
-    if text == "actions" {
-        Mark::Actions
-    } else if text == "case" {
-        Mark::Case
-    } else if text == "else" {
-        Mark::Else
-    } else if text == "for" {
-        Mark::For
-    } else if text == "if" {
-        Mark::If
-    } else if text == "in" {
-        Mark::In
-    } else if text == "include" {
-        Mark::Include
-    } else if text == "local" {
-        Mark::Local
-    } else if text == "module" {
-        Mark::Module
-    } else if text == "on" {
-        Mark::On
-    } else if text == "return" {
-        Mark::Return
-    } else if text == "rule" {
-        Mark::Rule
-    } else if text == "switch" {
-        Mark::Switch
-    } else if text == "while" {
-        Mark::While
-    } else {
-        Mark::Unknown
-    }
+    mark_in(&KEYS, text)
 }

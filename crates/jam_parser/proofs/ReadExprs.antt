@@ -54,6 +54,10 @@ more_members level mark (y ∷ z ∷ xs) ys x h e =
     ∙ ap (λ s. expr_syms level y ++ (Key mark ∷ s)) (sym (append_assoc (expr_syms level z) (joined_syms level mark xs) (Key mark ∷ expr_syms level x)))
     ∙ sym (append_assoc (expr_syms level y) (Key mark ∷ (expr_syms level z ++ joined_syms level mark xs)) (Key mark ∷ expr_syms level x))
 
+-- two members, one after the other
+pub two_pushed : {none one two : List Expr} (y z : Expr) → none ≡ [] → one ≡ none ++ y ∷ [] → two ≡ one ++ z ∷ [] → two ≡ y ∷ z ∷ []
+two_pushed y z e f g = g ∙ ap (λ xs. xs ++ z ∷ []) (f ∙ ap (λ xs. xs ++ y ∷ []) e)
+
 -- two members
 pub two_members : (level : Level) (mark : Mark) (ys : List Expr) (y z : Expr) → ys ≡ y ∷ z ∷ [] → pair_syms level mark ys ≡ (expr_syms level y ++ Key mark ∷ []) ++ expr_syms level z
 two_members level mark ys y z e =

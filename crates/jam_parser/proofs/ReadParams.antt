@@ -1,17 +1,15 @@
 -- Reading parameters.
-use Rattle.std.proofs.Common.{◌≡◌, ℕ, ◌+◌, ◌≤◌, List, [], ◌∷◌, ◌++◌, Bool, true, false, ◌&&◌, Option, Some, None, if◌then◌else◌, flat_map, refl, sym, ap, ◌∙◌, subst, arith, append_assoc}
+use Rattle.std.proofs.Common.{◌≡◌, ℕ, ◌+◌, ◌≤◌, List, [], ◌∷◌, ◌++◌, Bool, true, false, ◌&&◌, flat_map, refl, sym, ap, ◌∙◌, subst, arith, append_assoc}
 use Rattle.std.specs.Prelude.{codes}
 use Rattle.std.specs.Str.{bytes_eq}
 use Rattle.std.proofs.lemmas.List.{append-nil}
 use Rattle.std.specs.declared.vec.Vec.{Vec}
 use Rattle.std.specs.declared.alloc.Global.{Global}
-use Rattle.b2_base.specs.declared.token.TokenKind.{TokenKind}
-use Rattle.b2_base.specs.declared.token.TokenKind.TheVariants as kinds
 use Rattle.b2_base.specs.declared.token.Token.{Token}
 use Rattle.jam_grammar.specs.declared.tree.Param.{Param}
 use Rattle.jam_grammar.specs.declared.mark.Mark.{Mark}
 use Rattle.jam_grammar.specs.declared.mark.Mark.TheVariants as m
-use Rattle.jam_grammar.specs.Marks.{mark_of_token, mark_by_kind, mark_of_word, mark_of_key, mark_of_reserved, is_word}
+use Rattle.jam_grammar.specs.Marks.{mark_of_token}
 use Rattle.jam_grammar.specs.Grammar as part
 use Rattle.jam_grammar.specs.Grammar.{Part, Params, MoreParams, Names, NameTail}
 use Rattle.jam_grammar.specs.Spelling.{Sym, Key, Named, Never, Spells, param_syms, takes_all, no_mark, plist_syms, further_params, params_syms}
@@ -20,35 +18,6 @@ use Rattle.jam_parser.specs.Params.{after_name, after_list, lists_of, params_rea
 use Rattle.jam_parser.specs.Starts.{StandsAfter}
 use Rattle.jam_parser.proofs.Sequences.{composed, takes, takes_past}
 use Rattle.jam_parser.proofs.ReadArgs.{never}
-
-no : (b : Bool) (x y : Mark) → is_word x ≡ false → is_word y ≡ false → is_word (if b then x else y) ≡ false
-no true x y p q = p
-no false x y p q = q
-
-no_reserved : (text : List ℕ) → is_word (mark_of_reserved text) ≡ false
-unfolding mark_of_reserved
-no_reserved text = no (bytes_eq text (codes "actions")) m.Actions _ refl (no (bytes_eq text (codes "case")) m.Case _ refl (no (bytes_eq text (codes "else")) m.Else _ refl (no (bytes_eq text (codes "for")) m.For _ refl (no (bytes_eq text (codes "if")) m.If _ refl (no (bytes_eq text (codes "in")) m.In _ refl (no (bytes_eq text (codes "include")) m.Include _ refl (no (bytes_eq text (codes "local")) m.Local _ refl (no (bytes_eq text (codes "module")) m.Module _ refl (no (bytes_eq text (codes "on")) m.On _ refl (no (bytes_eq text (codes "return")) m.Return _ refl (no (bytes_eq text (codes "rule")) m.Rule _ refl (no (bytes_eq text (codes "switch")) m.Switch _ refl (no (bytes_eq text (codes "while")) m.While _ refl refl)))))))))))))
-
--- a key is no word
-no_key : (text : List ℕ) → is_word (mark_of_key text) ≡ false
-unfolding mark_of_key
-no_key text = no (bytes_eq text (codes ";")) m.Semicolon _ refl (no (bytes_eq text (codes ":")) m.Colon _ refl (no (bytes_eq text (codes "{")) m.BraceOpen _ refl (no (bytes_eq text (codes "}")) m.BraceClose _ refl (no (bytes_eq text (codes "[")) m.SquareOpen _ refl (no (bytes_eq text (codes "]")) m.SquareClose _ refl (no (bytes_eq text (codes "(")) m.ParenOpen _ refl (no (bytes_eq text (codes ")")) m.ParenClose _ refl (no (bytes_eq text (codes "=")) m.Equals _ refl (no (bytes_eq text (codes "+=")) m.PlusEquals _ refl (no (bytes_eq text (codes "?=")) m.QueryEquals _ refl (no (bytes_eq text (codes "!=")) m.NotEquals _ refl (no (bytes_eq text (codes "!")) m.Not _ refl (no (bytes_eq text (codes "&&")) m.And _ refl (no (bytes_eq text (codes "||")) m.Or _ refl (no_reserved text)))))))))))))))
-
-word : (a b c : Bool) → (if a then m.Query else if b then m.Star else if c then m.Plus else m.Plain) ≡ m.Plain → b ≡ false
-word true b c h = cc
-word false true c h = cc
-word false false c h = refl
-
-by_kind : (k : TokenKind) (text : List ℕ) → mark_by_kind k text ≡ m.Plain → bytes_eq text (codes "*") ≡ false
-unfolding mark_of_word
-by_kind kinds.Word text h = word (bytes_eq text (codes "?")) (bytes_eq text (codes "*")) (bytes_eq text (codes "+")) h
-by_kind kinds.Key text h = let clash : false ≡ true = sym (no_key text) ∙ ap is_word h in cc
-by_kind kinds.Body text h = cc
-
--- a word that is no mark of parameters is not `*`
-pub plain_is_no_star : (t : Token) → mark_of_token t ≡ m.Plain → bytes_eq t.text (codes "*") ≡ false
-unfolding mark_of_token
-plain_is_no_star t h = by_kind t.kind t.text h
 
 -- one more parameter, which is no `*` alone
 pub still_names : (xs ys : List Param) (x : Param) → ys ≡ xs ++ x ∷ [] → bytes_eq x.name (codes "*") ≡ false → takes_all ys ≡ false

@@ -16,7 +16,7 @@ use Rattle.jam_grammar.specs.Machine.{feed, go_on, run}
 use Rattle.jam_grammar.specs.Trees.{block_tree}
 use Rattle.jam_grammar.specs.Spelling.{Sym, Key, Says, From, Spells, StartsOn, spell_stmts, block_syms, stmt_syms, stmts_syms, case_syms, cases_syms}
 use Rattle.jam_grammar.specs.Gives.{Leads}
-use Rattle.jam_grammar.proofs.Rows.{block_is}
+use Rattle.jam_grammar.proofs.RowTrees.{block_is}
 use Rattle.jam_parser.specs.Parts.{ComesTo, IsRead}
 use Rattle.jam_parser.specs.Starts.{begins_stmt, starts_stmt, line_first, StandsAfter}
 use Rattle.jam_parser.proofs.Sequences.{turned}

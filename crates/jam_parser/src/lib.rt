@@ -10,5 +10,3 @@ mod reading;
 mod simple;
 mod start;
 mod stmts;
-#[cfg(test)]
-mod tests;

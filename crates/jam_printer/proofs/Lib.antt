@@ -1,3 +1,3 @@
 pub mod Pushed
-pub mod Orderly
-pub mod Back
+pub mod LexemesCanStand
+pub mod PrintReadsBack

@@ -19,7 +19,7 @@ use Rattle.jam_grammar.specs.declared.tree.Case.{Case, Case'}
 use Rattle.jam_grammar.specs.Trees.{ExprTrees, NoExprs, ExprAnd, CaseTrees, case_before, cases_tree, exprs_tree, block_tree}
 use Rattle.jam_grammar.specs.Spelling.{Sym, Key, Says, Named, Level, spell_second, spell_joined, spell_cases, spell_stmts, arg_syms, args_syms, further_syms, expr_syms, joined_syms, pair_syms, block_syms, param_syms, plist_syms, takes_all, no_mark, further_params, params_syms, mark_syms, stmt_syms, stmts_syms, case_syms, cases_syms}
 use Rattle.jam_grammar.specs.Alike.{mark_said, word_said}
-use Rattle.jam_grammar.proofs.Rows.{block_is}
+use Rattle.jam_grammar.proofs.RowTrees.{block_is}
 use Rattle.jam_spelling.specs.declared.lexeme.Lexeme.{Lexeme}
 use Rattle.jam_printer.specs.declared.exprs.Joint.{Joint}
 use Rattle.jam_printer.specs.Joints.{joint_mark, joint_level}

@@ -16,8 +16,6 @@ mod lexemes;
 mod params;
 mod simple;
 mod stmts;
-#[cfg(test)]
-mod tests;
 
 use crate::stmts::push_stmts;
 use b2_base::fault::OutOfMemory;

@@ -1,7 +1,7 @@
 use Rattle.std.proofs.Common.{ap, ◌∙◌, ◌++◌}
 use Rattle.jam_grammar.specs.Trees.{whole_tree}
 use Rattle.jam_printer.specs.Lexemes.{lexemes_of}
-use Rattle.jam_printer.proofs.Back.{given_back}
+use Rattle.jam_printer.proofs.PrintReadsBack.{given_back}
 use Rattle.jam_printer.proofs.print.Goals as goal
 
 pub returns-clause-reads_back : goal.returns-clause-reads_back

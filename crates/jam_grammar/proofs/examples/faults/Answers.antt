@@ -1,4 +1,4 @@
-use Rattle.jam_grammar.proofs.Held.{sixty_four_begin, unended_faults, semicolon_faults, one_more_faults, if_too_deep, else_if_too_deep, on_too_deep, ten_lists_fault, marked_is_last, star_is_last, mark_is_no_name}
+use Rattle.jam_grammar.proofs.ExamplesHold.{sixty_four_begin, unended_faults, semicolon_faults, one_more_faults, if_too_deep, else_if_too_deep, on_too_deep, ten_lists_fault, marked_is_last, star_is_last, mark_is_no_name}
 use Rattle.jam_grammar.proofs.examples.faults.Goals as goal
 
 pub returns-clause-sixty_four_begin : goal.returns-clause-sixty_four_begin

@@ -1,4 +1,4 @@
-use Rattle.jam_grammar.proofs.Held.{assignment_reads, one_empty_list, no_params, two_params, condition_reads, actions_read}
+use Rattle.jam_grammar.proofs.ExamplesHold.{assignment_reads, one_empty_list, no_params, two_params, condition_reads, actions_read}
 use Rattle.jam_grammar.proofs.examples.readings.Goals as goal
 
 pub returns-clause-assignment_reads : goal.returns-clause-assignment_reads

@@ -1,5 +1,5 @@
 use Rattle.jam_grammar.proofs.FirstFault.{file_or_fault, never_both, one_fault}
-use Rattle.jam_grammar.proofs.Values.{file_has_tree}
+use Rattle.jam_grammar.proofs.TreeOfFile.{file_has_tree}
 use Rattle.jam_grammar.proofs.laws.first_fault_or_tree.Goals as goal
 
 pub returns-clause-either : goal.returns-clause-either

@@ -1,4 +1,4 @@
-use Rattle.jam_grammar.proofs.Leads.{both_read}
+use Rattle.jam_grammar.proofs.PartsCompose.{both_read}
 use Rattle.jam_grammar.proofs.laws.parts_compose.Goals as goal
 
 pub returns : goal.returns

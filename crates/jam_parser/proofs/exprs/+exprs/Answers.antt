@@ -5,9 +5,9 @@ use Rattle.jam_grammar.specs.Trees.{expr_tree}
 use Rattle.jam_grammar.specs.Spelling as spelling
 use Rattle.jam_grammar.specs.Spelling.{Anywhere, WithinOr, WithinAnd, spell_expr, expr_syms, pair_syms}
 use Rattle.jam_grammar.specs.Grammar.{OneExpr, Both, OrTail, Single, AndTail, Compared, OneArg, Shut, Key}
-use Rattle.jam_grammar.proofs.Rows.{or_is, and_is}
+use Rattle.jam_grammar.proofs.RowTrees.{or_is, and_is}
 use Rattle.jam_parser.proofs.Sequences.{chain, chain_fault, then_all, then_fault, composed, led, in_order, first_fault, later_fault, shut, shut_fault, takes_past, opens_past, stay}
-use Rattle.jam_parser.proofs.ReadExprs.{raise_and, raise_or, more_members, two_members, or_comes, and_comes, no_or_comes, no_and_comes}
+use Rattle.jam_parser.proofs.ReadExprs.{raise_and, raise_or, more_members, two_members, two_pushed, or_comes, and_comes, no_or_comes, no_and_comes}
 use Rattle.jam_parser.proofs.exprs.+exprs.Goals as goal
 
 pub single-returns-in-Some : goal.single-returns-in-Some
@@ -66,11 +66,11 @@ pub and_rest-each-init : goal.and_rest-each-init
 and_rest-each-init t c =
     let d = c.args.depth in
     let items = c.push-2.new.self.items in
-    let two = c.in_ok-push-2.ensures.items ∙ ap (λ x. x ++ c.in_ok-second.second ∷ []) (c.in_ok-push.ensures.items ∙ ap (λ x. x ++ c.args.first ∷ []) c.new-members.ensures.items) in
+    let two = two_pushed c.args.first c.in_ok-second.second c.new-members.ensures.items c.in_ok-push.ensures.items c.in_ok-push-2.ensures.items in
     record {
       long = omega (arith, ap length two);
       continues = record {
-        syms = _;
+        syms = expr_syms WithinAnd c.in_ok-second.second;
         whole = two_members WithinAnd marks.And items c.args.first c.in_ok-second.second two;
         comes = chain (Single ∷ AndTail ∷ []) (Single ∷ []) (AndTail ∷ []) d d (omega arith) (stay (Single ∷ AndTail ∷ []) c.args.rest.now d) c.in_ok-second.ensures;
       };
@@ -145,11 +145,11 @@ pub or_rest-each-init : goal.or_rest-each-init
 or_rest-each-init t c =
     let d = c.args.depth in
     let items = c.push-2.new.self.items in
-    let two = c.in_ok-push-2.ensures.items ∙ ap (λ x. x ++ c.in_ok-second.second ∷ []) (c.in_ok-push.ensures.items ∙ ap (λ x. x ++ c.args.first ∷ []) c.new-members.ensures.items) in
+    let two = two_pushed c.args.first c.in_ok-second.second c.new-members.ensures.items c.in_ok-push.ensures.items c.in_ok-push-2.ensures.items in
     record {
       long = omega (arith, ap length two);
       continues = record {
-        syms = _;
+        syms = expr_syms WithinOr c.in_ok-second.second;
         whole = two_members WithinOr marks.Or items c.args.first c.in_ok-second.second two;
         comes = chain (Both ∷ OrTail ∷ []) (Both ∷ []) (OrTail ∷ []) d d (omega arith) (stay (Both ∷ OrTail ∷ []) c.args.rest.now d) c.in_ok-second.ensures;
       };

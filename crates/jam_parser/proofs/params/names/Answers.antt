@@ -2,9 +2,10 @@ use Rattle.std.proofs.Common.{◌≡◌, ◌∷◌, [], length, sym, ap, ◌∙�
 use Rattle.std.specs.Prelude.{codes}
 use Rattle.std.specs.Str.{bytes_eq}
 use Rattle.jam_grammar.specs.Grammar.{Names, NameTail}
+use Rattle.jam_grammar.proofs.TokenTexts.{plain_no_star}
 use Rattle.jam_parser.specs.Params.{after_name}
 use Rattle.jam_parser.proofs.Sequences.{composed}
-use Rattle.jam_parser.proofs.ReadParams.{plain_is_no_star, still_names, more_names, name_comes, nothing_least}
+use Rattle.jam_parser.proofs.ReadParams.{still_names, more_names, name_comes, nothing_least}
 use Rattle.jam_parser.proofs.params.names.Goals as goal
 
 pub each-smaller : goal.each-smaller
@@ -30,5 +31,5 @@ each-preserved c =
           (composed (Names ∷ []) (after_name c.each.may_come) (after_name mark.result.1) d inv.comes
           (composed (after_name c.each.may_come) (NameTail ∷ []) (after_name mark.result.1) d
           (name_comes c.each.may_come first left c.in-Some.after.now name d at.0 at.1 at.2 c.in_ok-name.ensures) (mark.ensures d)));
-      named = still_names old new record { name = name; mark = mark.result.0 } grown (ap (λ x. bytes_eq x (codes "*")) c.in_ok-name.ensures ∙ plain_is_no_star first at.2);
+      named = still_names old new record { name = name; mark = mark.result.0 } grown (ap (λ x. bytes_eq x (codes "*")) c.in_ok-name.ensures ∙ plain_no_star first at.2);
     }

@@ -1,5 +1,5 @@
 use Rattle.std.proofs.Common.{ap, ◌∙◌, arith}
-use Rattle.jam_grammar.proofs.Rows.{or_is, and_is}
+use Rattle.jam_grammar.proofs.RowTrees.{or_is, and_is}
 use Rattle.jam_grammar.specs.Spelling.{Anywhere, spell_expr, joined_syms, expr_syms}
 use Rattle.jam_printer.specs.Joints.{joint_mark, joint_level}
 use Rattle.jam_printer.specs.Lexemes.{written_as}

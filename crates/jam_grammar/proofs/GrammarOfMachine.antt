@@ -7,7 +7,7 @@ use Rattle.jam_grammar.specs.Grammar.{Part, Key, OneWord, Shut, Stmts, OneStmt, 
 use Rattle.jam_grammar.specs.Grammar as g
 use Rattle.jam_grammar.specs.Machine.{Move, Take, Room, Skip, Refuse, move, before, or_skip, move_key, move_word, move_arg, move_inner, move_inner_tail, move_colon, move_block, move_stmt, move_assigned, move_tail, move_for_tail, move_else_tail, move_rule_tail, move_name_tail, move_single, by_move, feed}
 use Rattle.jam_grammar.proofs.MarkNumbers.{same_mark_true}
-use Rattle.jam_grammar.proofs.Rooms.{needs, Roomy, rooms, roomy_opens}
+use Rattle.jam_grammar.proofs.OpenParts.{needs, Roomy, rooms, roomy_opens}
 
 -- a key that closes nothing, and a word
 pub read_key : {parts : List Part} {marks : List Mark} (mark : Mark) → closes (Key mark) ≡ 0 → Derives parts marks → Derives (Key mark ∷ parts) (mark ∷ marks)

@@ -8,7 +8,7 @@ use Rattle.jam_grammar.specs.Grammar as g
 use Rattle.jam_grammar.specs.Machine.{Move, Take, Room, Skip, Refuse, move, move_key, move_word, is_read, by_move, feed, may_end, may_be_empty}
 use Rattle.jam_grammar.proofs.Moves.{followed, lead, feed_lead}
 use Rattle.jam_grammar.proofs.MarkNumbers.{every_mark, at_each, both, first_true, second_true, same_mark_refl, same_mark_true}
-use Rattle.jam_grammar.proofs.Rooms.{need, Roomy, rooms, need_append, keeps}
+use Rattle.jam_grammar.proofs.OpenParts.{need, Roomy, rooms, need_append, keeps}
 
 -- whether marks are read, whole
 abbrev pub and_then : Option (List Part) → (List Part → Bool) → Bool

@@ -16,7 +16,7 @@ use Rattle.jam_grammar.specs.Spelling.{Sym, Says, Named, Raw, From, Never, Spell
 use Rattle.jam_grammar.specs.Spelling as s
 use Rattle.jam_grammar.specs.Readings.{marks}
 use Rattle.jam_grammar.specs.Laws.{FileHasTree}
-use Rattle.jam_grammar.proofs.Leads.{spells_append}
+use Rattle.jam_grammar.proofs.PartsCompose.{spells_append}
 use Rattle.jam_grammar.proofs.FirstTokens.{first_line, never_spelled}
 use Rattle.jam_grammar.proofs.SameSaying.{leads, leads_form}
 use Rattle.jam_grammar.proofs.TokenTexts.{plain_no_star}

@@ -17,11 +17,11 @@ use Rattle.jam_spelling.specs.declared.lexeme.Lexeme.{Lexeme}
 use Rattle.jam_spelling.specs.Spelling.{bytes_of}
 use Rattle.jam_spelling.specs.Standing.{CanStand}
 use Rattle.jam_spelling.specs.Readings.{lexeme_of, ReadsAs, AreTexts}
-use Rattle.jam_spelling.proofs.Lexed.{SaysRight, lexed_right}
-use Rattle.jam_spelling.proofs.Standings.{all_said}
+use Rattle.jam_spelling.proofs.LexedTexts.{SaysRight, lexed_right}
+use Rattle.jam_spelling.proofs.SpelledReadsBack.{all_said}
 use Rattle.jam_printer.specs.Lexemes.{lexeme_saying, written_as}
 use Rattle.jam_printer.specs.ReadsBack.{ReadsBack}
-use Rattle.jam_printer.proofs.Orderly.{HasRaw, orderly_stands, of_stmts}
+use Rattle.jam_printer.proofs.LexemesCanStand.{HasRaw, orderly_stands, of_stmts}
 
 -- what is written is what the symbols ask for
 written_is : (syms : List Sym) → written_as syms ≡ map lexeme_saying (asked syms)
