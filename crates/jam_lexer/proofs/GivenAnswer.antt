@@ -8,7 +8,7 @@ use Rattle.jam_lexer.specs.declared.fault.LexFault.TheVariants as faults
 use Rattle.jam_lexer.specs.Tokens.{Stand, IsEnd, IsText}
 use Rattle.jam_lexer.specs.Answers.{IsFirstBad, IsAnswer, IsGivenBy}
 use Rattle.jam_lexer.specs.Progress.{IsMet}
-use Rattle.jam_lexer.proofs.Unique.{one_answer, refused}
+use Rattle.jam_lexer.proofs.OneAnswer.{one_answer, refused}
 
 -- bytes that are no text have one fault
 pub bad_given : (bytes : List ℕ) (at : ℕ) → IsFirstBad bytes at → (answer : Result (List Token) LexFault) → IsAnswer bytes answer → answer ≡ refused (faults.NotUtf8 at)

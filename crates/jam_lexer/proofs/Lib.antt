@@ -7,6 +7,6 @@ pub mod Lines
 pub mod FirstBad
 pub mod Boundaries
 pub mod Progress
-pub mod Unique
-pub mod Given
-pub mod Found
+pub mod OneAnswer
+pub mod GivenAnswer
+pub mod SomeAnswer

@@ -48,7 +48,7 @@ IsOpenQuote bytes line = IsText bytes × ((tokens : List Token) × Stand bytes (
 abbrev pub IsOpenActions : List ℕ → ℕ → Type 0
 IsOpenActions bytes line = IsText bytes × ((tokens : List Token) × Stand bytes (MeetsOpenActions bytes line) [] tokens)
 
--- the answer to the bytes; want of memory is never one
+-- the answer to the bytes; out of memory is never one
 abbrev pub IsAnswer : List ℕ → Result (List Token) LexFault → Type 0
 IsAnswer bytes (Ok tokens) = AreTokens bytes tokens
 IsAnswer bytes (Err (faults.NotUtf8 at)) = IsFirstBad bytes at

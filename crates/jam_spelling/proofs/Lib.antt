@@ -1,8 +1,8 @@
-pub mod Bare
-pub mod Quotes
+pub mod BareWords
+pub mod QuotedWords
 pub mod Places
 pub mod WrittenTexts
-pub mod Standings
-pub mod Raw
-pub mod Lexed
+pub mod SpelledReadsBack
+pub mod RawBodies
+pub mod LexedTexts
 pub mod Progress

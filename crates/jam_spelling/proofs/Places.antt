@@ -12,7 +12,7 @@ use Rattle.jam_lexer.specs.Word.{letters, is_lone, in_quotes, IsUnbroken, text_o
 use Rattle.jam_lexer.specs.Body.{count_of}
 use Rattle.jam_lexer.specs.Tokens.{IsWordToken, IsBodyToken}
 use Rattle.jam_spelling.specs.Standing.{count, IsRaw}
-use Rattle.jam_spelling.proofs.Bare.{IsWordOf}
+use Rattle.jam_spelling.proofs.BareWords.{IsWordOf}
 
 -- these bytes stand from the place on, up to the end
 pub record IsAt (bytes : List ℕ) (at : ℕ) (rest : List ℕ) : Type 0 where

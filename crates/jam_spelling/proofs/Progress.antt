@@ -7,7 +7,7 @@ use Rattle.jam_spelling.specs.declared.lexeme.Lexeme.{Lexeme}
 use Rattle.jam_spelling.specs.Spelling.{spelling, separator, bytes_of}
 use Rattle.jam_spelling.specs.Standing.{CanStand}
 use Rattle.jam_spelling.specs.Readings.{ReadsAs, AreTexts}
-use Rattle.jam_spelling.proofs.Standings.{all_said}
+use Rattle.jam_spelling.proofs.SpelledReadsBack.{all_said}
 
 -- these bytes are the lexemes before the place, which are texts
 pub record HasWritten (lexemes : List Lexeme) (place : ℕ) (bytes : List ℕ) : Type 0 where

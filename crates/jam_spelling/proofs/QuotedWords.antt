@@ -9,7 +9,7 @@ use Rattle.jam_lexer.specs.Word.{Letter, Plain, Literal, Lone, letters, is_quote
 use Rattle.jam_lexer.proofs.Words.{letters_plain, letters_literal, letters_append, lone_append, in_quotes_push}
 use Rattle.jam_spelling.specs.Spelling.{is_escaped, is_special, needs_quotes, escaped, quoted, spelling}
 use Rattle.jam_spelling.specs.Standing.{word}
-use Rattle.jam_spelling.proofs.Bare.{IsWordOf, outside_without_quote, some_of, bare_word}
+use Rattle.jam_spelling.proofs.BareWords.{IsWordOf, outside_without_quote, some_of, bare_word}
 
 -- ---- the letters within quotes
 

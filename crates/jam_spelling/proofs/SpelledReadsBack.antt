@@ -11,15 +11,15 @@ use Rattle.jam_lexer.specs.Signs.{is_white}
 use Rattle.jam_lexer.specs.Gap.{IsGap}
 use Rattle.jam_lexer.specs.Answers.{IsAnswer}
 use Rattle.jam_lexer.specs.declared.fault.LexFault.{LexFault}
-use Rattle.jam_lexer.proofs.Unique.{one_answer}
+use Rattle.jam_lexer.proofs.OneAnswer.{one_answer}
 use Rattle.jam_lexer.specs.Word.{is_key_text}
 use Rattle.jam_lexer.specs.Tokens.{NextWord, NextBody, next_after, place_after, awaits_brace, is_body, IsNextToken, Follows, Stand, IsEnd}
 use Rattle.jam_spelling.specs.declared.lexeme.Lexeme.{Lexeme}
 use Rattle.jam_spelling.specs.Spelling.{spelling, ends_line, begins_body, separator, bytes_of}
 use Rattle.jam_spelling.specs.Standing.{word, key, body, IsRaw, CanStand, nothing, a_word, a_key, an_action}
 use Rattle.jam_spelling.specs.Readings.{lexeme_of, ReadsAs, AreTexts}
-use Rattle.jam_spelling.proofs.Bare.{IsWordOf, key_word}
-use Rattle.jam_spelling.proofs.Quotes.{spelled_word}
+use Rattle.jam_spelling.proofs.BareWords.{IsWordOf, key_word}
+use Rattle.jam_spelling.proofs.QuotedWords.{spelled_word}
 use Rattle.jam_spelling.proofs.WrittenTexts.{text_of_lexemes}
 use Rattle.jam_spelling.proofs.Places.{IsAt, at_length, at_byte, at_more, IsWhite, white_gap, EndsWord, the_token, word_token, body_token}
 

@@ -1,4 +1,4 @@
-use Rattle.jam_lexer.proofs.Unique.{one_answer}
+use Rattle.jam_lexer.proofs.OneAnswer.{one_answer}
 use Rattle.jam_lexer.proofs.laws.one_answer.Goals as goal
 
 pub returns : goal.returns

@@ -1,4 +1,4 @@
-use Rattle.jam_spelling.proofs.Standings.{all_said, all_answered}
+use Rattle.jam_spelling.proofs.SpelledReadsBack.{all_said, all_answered}
 use Rattle.jam_spelling.proofs.laws.read_back.Goals as goal
 
 pub returns-clause-tokens : goal.returns-clause-tokens

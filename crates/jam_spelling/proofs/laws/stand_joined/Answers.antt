@@ -1,4 +1,4 @@
-use Rattle.jam_spelling.proofs.Standings.{can_join}
+use Rattle.jam_spelling.proofs.SpelledReadsBack.{can_join}
 use Rattle.jam_spelling.proofs.laws.stand_joined.Goals as goal
 
 pub returns : goal.returns
