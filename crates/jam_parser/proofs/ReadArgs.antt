@@ -7,15 +7,15 @@ use Rattle.std.specs.declared.alloc.Global.{Global}
 use Rattle.b2_base.specs.declared.token.Token.{Token}
 use Rattle.jam_grammar.specs.declared.tree.Arg.{Arg}
 use Rattle.jam_grammar.specs.declared.mark.Mark.{Mark}
-use Rattle.jam_grammar.specs.declared.mark.Mark.TheVariants.{Plain, Query, Star, Plus, SquareOpen, SquareClose, Colon, On, Return}
-use Rattle.jam_grammar.specs.Marks.{mark_of_token, same_mark, number}
+use Rattle.jam_grammar.specs.declared.mark.Mark.TheVariants.{Plain, Query, Star, Plus, Body, SquareOpen, SquareClose, Colon, On, Return}
+use Rattle.jam_grammar.specs.Marks.{mark_of_token, is_word, same_mark, number}
 use Rattle.jam_grammar.specs.Grammar.{Part, OneArg, OneWord, OneInner, InnerTail, Args, More, opens}
 use Rattle.jam_grammar.specs.Grammar as part
 use Rattle.jam_grammar.specs.Machine.{move_key, Move, Take, Room, Skip, Refuse, move, by_move, feed, move_arg, or_skip, before, go_on, run}
-use Rattle.jam_grammar.specs.Spelling.{Sym, Key, Never, Spells, arg_syms, args_syms, further_syms, lists_syms}
-use Rattle.jam_grammar.specs.Gives.{Leads}
+use Rattle.jam_grammar.specs.Spelling.{Sym, Key, Says, Raw, Never, Spells, arg_syms, args_syms, further_syms, lists_syms}
+use Rattle.jam_grammar.specs.Gives.{Leads, Ends}
 use Rattle.jam_parser.specs.Parts.{ComesTo, IsRead}
-use Rattle.jam_parser.specs.Starts.{begins_arg, starts_arg, starts_with, StandsAfter}
+use Rattle.jam_parser.specs.Starts.{begins_arg, starts_arg, starts_word, starts_with, StandsAfter}
 use Rattle.jam_parser.proofs.Sequences.{spells_append, turned, takes_past}
 
 -- parts that do the same with each mark
@@ -158,3 +158,36 @@ same_mark_refl m = eq-eqb (number m) (number m) refl
 -- a key is read
 pub key_reads : (m : Mark) (a b : List Token) (d : ℕ) → StandsAfter m a b → IsRead (part.Key m ∷ []) a d (Key m ∷ []) b
 key_reads m a b d h = takes_past (part.Key m) [] m a b d h (ap move_key (same_mark_refl m))
+
+-- a body is read
+pub body_reads : (t : Token) (a b : List Token) (text : List ℕ) (d : ℕ) → a ≡ t ∷ b → mark_of_token t ≡ Body → text ≡ t.text → IsRead (part.Key Body ∷ []) a d (Raw text ∷ []) b
+body_reads t a b text d split is e =
+    let key : IsRead (part.Key Body ∷ []) a d (Key Body ∷ []) b = key_reads Body a b d (record { first = t; split = split; is_it = is }) in
+    record { moves = key.moves; spells = subst (λ x. Spells x (Raw text ∷ []) b) (sym split) ((is, sym e), refl); shorter = key.shorter }
+
+-- a word is read
+pub word_reads : (t : Token) (a b : List Token) (text : List ℕ) (d : ℕ) → a ≡ t ∷ b → is_word (mark_of_token t) ≡ true → text ≡ t.text → IsRead (OneWord ∷ []) a d (Says text ∷ []) b
+word_reads t a b text d split is e = subst (λ x. IsRead (OneWord ∷ []) x d (Says text ∷ []) b) (sym split) record {
+  moves = λ k o. ap (λ x. go_on x (run b) (t ∷ b)) (takes_word k (mark_of_token t) is);
+  spells = ((is, sym e), refl);
+  shorter = omega arith;
+}
+  where
+    takes_word : (k : List Part) (m : Mark) → is_word m ≡ true → feed (OneWord ∷ k) m ≡ Some k
+    takes_word k Plain h = refl
+    takes_word k Query h = refl
+    takes_word k Star h = refl
+    takes_word k Plus h = refl
+    takes_word k _ h = cc
+
+-- where no word begins, none is read
+pub no_word : (a : List Token) (d : ℕ) → starts_word a ≡ false → Ends (OneWord ∷ []) a d a
+no_word [] d h k o = refl
+no_word (t ∷ ts) d h k o = ap (λ x. go_on x (run ts) (t ∷ ts)) (refuses_other (mark_of_token t) h)
+  where
+    refuses_other : (m : Mark) → is_word m ≡ false → feed (OneWord ∷ k) m ≡ None
+    refuses_other Plain h = cc
+    refuses_other Query h = cc
+    refuses_other Star h = cc
+    refuses_other Plus h = cc
+    refuses_other _ h = refl

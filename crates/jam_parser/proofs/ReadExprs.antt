@@ -114,3 +114,17 @@ no_and_comes a d h = turned (AndTail ∷ []) [] a d (omega arith) (comes a h)
     comes : (a : List Token) → starts_with m.And a ≡ false → Leads (AndTail ∷ []) a d [] a
     comes [] h k o = refl
     comes (t ∷ ts) h k o = ap (λ x. go_on x (run ts) (t ∷ ts)) (same k (mark_of_token t) h)
+
+-- an argument that nothing follows which compares it stands alone
+pub bare_comes : (a : List Token) (d : ℕ) → starts_with m.Equals a ≡ false → starts_with m.NotEquals a ≡ false → starts_with m.In a ≡ false → ComesTo (Compared ∷ []) [] a d [] a
+bare_comes a d e n i = turned (Compared ∷ []) [] a d (omega arith) (comes a e n i)
+  where
+    same : (k : List Part) (x : Mark) → same_mark m.Equals x ≡ false → same_mark m.NotEquals x ≡ false → same_mark m.In x ≡ false → feed (Compared ∷ k) x ≡ feed k x
+    same k m.Equals e n i = cc
+    same k m.NotEquals e n i = cc
+    same k m.In e n i = cc
+    same k _ e n i = refl
+
+    comes : (a : List Token) → starts_with m.Equals a ≡ false → starts_with m.NotEquals a ≡ false → starts_with m.In a ≡ false → Leads (Compared ∷ []) a d [] a
+    comes [] e n i k o = refl
+    comes (t ∷ ts) e n i k o = ap (λ x. go_on x (run ts) (t ∷ ts)) (same k (mark_of_token t) e n i)

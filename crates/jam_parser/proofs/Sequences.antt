@@ -156,3 +156,11 @@ turned p q a d h l = record { moves = l; spells = refl; shorter = omega arith }
 -- nothing is read
 pub stay : (p : List Part) (a : List Token) (d : ℕ) → ComesTo p p a d [] a
 stay p a d = record { moves = λ k o. refl; spells = refl; shorter = omega arith }
+
+-- what is read after a mark stands after what was read before it
+pub continued : (p : Part) (q : List Part) (m : Mark) (read all : List Sym) (a b c : List Token) (d : ℕ) → StandsAfter m a b → move p m ≡ Take q → Completes (read ++ Key m ∷ []) q b d all c → Completes read (p ∷ []) a d all c
+continued p q m read all a b c d stands e h = record {
+  syms = Key m ∷ h.syms;
+  whole = h.whole ∙ append_assoc read (Key m ∷ []) h.syms;
+  comes = then_all (p ∷ []) q d (takes_past p q m a b d stands e) h.comes;
+}

@@ -3,7 +3,7 @@ use Rattle.std.specs.Prelude.{◌≡◌, ℕ, List, [], ◌∷◌, Bool, true, f
 use Rattle.b2_base.specs.declared.token.Token.{Token}
 use Rattle.jam_grammar.specs.declared.mark.Mark.{Mark}
 use Rattle.jam_grammar.specs.declared.mark.Mark.TheVariants.{Plain, Query, Star, Plus, SquareOpen, BraceOpen, Local, Include, Return, If, For, While, Switch, Module, Rule, Actions, On, Equals, PlusEquals, QueryEquals}
-use Rattle.jam_grammar.specs.Marks.{mark_of_token, same_mark}
+use Rattle.jam_grammar.specs.Marks.{mark_of_token, is_word, same_mark}
 
 -- an argument
 abbrev pub begins_arg : Mark → Bool
@@ -17,6 +17,11 @@ begins_arg _ = false
 abbrev pub starts_arg : List Token → Bool
 starts_arg [] = false
 starts_arg (token ∷ tokens) = begins_arg (mark_of_token token)
+
+-- a word
+abbrev pub starts_word : List Token → Bool
+starts_word [] = false
+starts_word (token ∷ tokens) = is_word (mark_of_token token)
 
 -- a statement
 abbrev pub begins_stmt : Mark → Bool

@@ -2,7 +2,7 @@
 ghost use Rattle.std.specs.Prelude.{◌≡◌, ◌<◌, ◌≤◌, ◌∷◌, ◌++◌, [], false, MatchResult};
 ghost use Rattle.jam_grammar.specs.Spelling.{Anywhere, WithinOr, WithinAnd, expr_syms, arg_syms};
 ghost use Rattle.jam_grammar.specs.Spelling as spelling;
-ghost use Rattle.jam_grammar.specs.Grammar.{OneExpr, Both, Single, OrTail, AndTail, OneArg, Compared, Key};
+ghost use Rattle.jam_grammar.specs.Grammar.{OneExpr, Both, Single, OrTail, AndTail, OneArg, Compared, Args, Key};
 ghost use Rattle.jam_grammar.specs.declared.mark.Mark.TheVariants as marks;
 ghost use Rattle.jam_parser.specs.Starts.{starts_with};
 ghost use Rattle.jam_parser.specs.Parts.{IsRead, Completes, EndsBy};
@@ -179,18 +179,55 @@ fn compared<'a>(
     ensures { MatchResult result (λ r. Completes (arg_syms left) (Compared ∷ []) rest.now depth (expr_syms WithinAnd r.0) r.1.now) (λ e. EndsBy (Compared ∷ []) rest.now depth e) }
 {
     if let Some(after) = past(rest, Mark::Equals) {
-        let (right, after) = arg(alloc, after, depth)?;
-        return Ok((Expr::Equal(left, right), after));
+        return equal(alloc, left, after, depth);
     }
     if let Some(after) = past(rest, Mark::NotEquals) {
-        let (right, after) = arg(alloc, after, depth)?;
-        return Ok((Expr::Differ(left, right), after));
+        return differ(alloc, left, after, depth);
     }
     match past(rest, Mark::In) {
-        Some(after) => {
-            let (list, after) = args(alloc, after, depth)?;
-            Ok((Expr::Within(left, list), after))
-        }
+        Some(after) => within(alloc, left, after, depth),
         None => Ok((Expr::Bare(left), rest)),
     }
+}
+
+/// Reads what stands after `left =`.
+fn equal<'a>(
+    alloc: Global,
+    left: Arg,
+    rest: &'a [Token],
+    depth: u8,
+) -> Result<(Expr, &'a [Token]), Fault<'a>>
+    requires { depth ≤ 64 }
+    ensures { MatchResult result (λ r. Completes (arg_syms left ++ spelling.Key marks.Equals ∷ []) (OneArg ∷ []) rest.now depth (expr_syms WithinAnd r.0) r.1.now) (λ e. EndsBy (OneArg ∷ []) rest.now depth e) }
+{
+    let (right, after) = arg(alloc, rest, depth)?;
+    Ok((Expr::Equal(left, right), after))
+}
+
+/// Reads what stands after `left !=`.
+fn differ<'a>(
+    alloc: Global,
+    left: Arg,
+    rest: &'a [Token],
+    depth: u8,
+) -> Result<(Expr, &'a [Token]), Fault<'a>>
+    requires { depth ≤ 64 }
+    ensures { MatchResult result (λ r. Completes (arg_syms left ++ spelling.Key marks.NotEquals ∷ []) (OneArg ∷ []) rest.now depth (expr_syms WithinAnd r.0) r.1.now) (λ e. EndsBy (OneArg ∷ []) rest.now depth e) }
+{
+    let (right, after) = arg(alloc, rest, depth)?;
+    Ok((Expr::Differ(left, right), after))
+}
+
+/// Reads what stands after `left in`.
+fn within<'a>(
+    alloc: Global,
+    left: Arg,
+    rest: &'a [Token],
+    depth: u8,
+) -> Result<(Expr, &'a [Token]), Fault<'a>>
+    requires { depth ≤ 64 }
+    ensures { MatchResult result (λ r. Completes (arg_syms left ++ spelling.Key marks.In ∷ []) (Args ∷ []) rest.now depth (expr_syms WithinAnd r.0) r.1.now) (λ e. EndsBy (Args ∷ []) rest.now depth e) }
+{
+    let (list, after) = args(alloc, rest, depth)?;
+    Ok((Expr::Within(left, list), after))
 }

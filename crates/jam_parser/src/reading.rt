@@ -1,10 +1,10 @@
 //! The next token, and what reading answers.
-ghost use Rattle.std.specs.Prelude.{◌≡◌, [], ◌∷◌, false, MatchOption, MatchResult};
-ghost use Rattle.jam_grammar.specs.Marks.{mark_of_token};
+ghost use Rattle.std.specs.Prelude.{◌≡◌, [], ◌∷◌, false, IsTrue, MatchOption, MatchResult};
+ghost use Rattle.jam_grammar.specs.Marks.{mark_of_token, is_word};
 ghost use Rattle.jam_grammar.specs.Grammar.{Key, OneWord};
 ghost use Rattle.jam_grammar.specs.Spelling as spelling;
 ghost use Rattle.jam_grammar.specs.declared.mark.Mark.TheVariants as marks;
-ghost use Rattle.jam_parser.specs.Starts.{starts_with, StandsAfter};
+ghost use Rattle.jam_parser.specs.Starts.{starts_with, starts_word, StandsAfter};
 ghost use Rattle.jam_parser.specs.Parts.{IsRead, EndsBy};
 
 use b2_base::fault::OutOfMemory;
@@ -65,12 +65,34 @@ pub fn next_of(rest: &[Token]) -> Option<(Mark, &Token, &[Token])>
     }
 }
 
+/// The first token, if it has this mark, and those after it.
+pub fn first_of<'a>(rest: &'a [Token], want: Mark) -> Option<(&'a Token, &'a [Token])>
+    ensures { MatchOption result (starts_with want rest.now ≡ false) (λ next. (rest.now ≡ next.0.now ∷ next.1.now) × (mark_of_token next.0.now ≡ want)) }
+{
+    match next_of(rest) {
+        Some((mark, first, after)) if mark == want => Some((first, after)),
+        _ => None,
+    }
+}
+
 /// What stands after this mark, if it stands here.
 pub fn past<'a>(rest: &'a [Token], want: Mark) -> Option<&'a [Token]>
     ensures { MatchOption result (starts_with want rest.now ≡ false) (λ after. StandsAfter want rest.now after.now) }
 {
+    match first_of(rest, want) {
+        Some((_, after)) => Some(after),
+        None => None,
+    }
+}
+
+/// The first token, if it is a word, and those after it.
+fn word_of(rest: &[Token]) -> Option<(&Token, &[Token])>
+    ensures { MatchOption result (starts_word rest.now ≡ false) (λ next. (rest.now ≡ next.0.now ∷ next.1.now) × IsTrue (is_word (mark_of_token next.0.now))) }
+{
     match next_of(rest) {
-        Some((mark, _, after)) if mark == want => Some(after),
+        Some((Mark::Plain | Mark::Query | Mark::Star | Mark::Plus, first, after)) => Some((
+            first, after,
+        )),
         _ => None,
     }
 }
@@ -89,12 +111,9 @@ pub fn key_here<'a>(rest: &'a [Token], want: Mark, depth: u8) -> Result<&'a [Tok
 pub fn word_here<'a>(rest: &'a [Token], depth: u8) -> Result<(Text, &'a [Token]), Fault<'a>>
     ensures { MatchResult result (λ r. IsRead (OneWord ∷ []) rest.now depth (spelling.Says r.0 ∷ []) r.1.now) (λ e. EndsBy (OneWord ∷ []) rest.now depth e) }
 {
-    match next_of(rest) {
-        Some((Mark::Plain | Mark::Query | Mark::Star | Mark::Plus, first, after)) => Ok((
-            first.text.copy()?,
-            after,
-        )),
-        _ => Err(Fault::At(rest)),
+    match word_of(rest) {
+        Some((first, after)) => Ok((first.text.copy()?, after)),
+        None => Err(Fault::At(rest)),
     }
 }
 
@@ -102,8 +121,8 @@ pub fn word_here<'a>(rest: &'a [Token], depth: u8) -> Result<(Text, &'a [Token])
 pub fn body_here<'a>(rest: &'a [Token], depth: u8) -> Result<(Text, &'a [Token]), Fault<'a>>
     ensures { MatchResult result (λ r. IsRead (Key marks.Body ∷ []) rest.now depth (spelling.Raw r.0 ∷ []) r.1.now) (λ e. EndsBy (Key marks.Body ∷ []) rest.now depth e) }
 {
-    match next_of(rest) {
-        Some((Mark::Body, first, after)) => Ok((first.text.copy()?, after)),
-        _ => Err(Fault::At(rest)),
+    match first_of(rest, Mark::Body) {
+        Some((first, after)) => Ok((first.text.copy()?, after)),
+        None => Err(Fault::At(rest)),
     }
 }

@@ -1,0 +1,45 @@
+//! The command `spelled`.
+use crate::shown::{kind_named, push_quoted};
+use jam_spelling::lexeme::Lexeme;
+use jam_spelling::spelled;
+use std::alloc::Global;
+use transcript::answer::Answer;
+use transcript::case_fault::CaseFault;
+use transcript::command::{Command, Word};
+
+/// The lexeme of a kind and a text.
+fn lexeme_of(alloc: Global, kind: &Word, text: &Word) -> Result<Lexeme, CaseFault> {
+    let kind = kind_named(kind.as_str()?)?;
+    let text = text.as_text(alloc)?;
+    Ok(Lexeme { kind, text })
+}
+
+/// The lexemes of words that are kinds and texts by turns.
+fn lexemes_of(alloc: Global, words: &[Word]) -> Result<Vec<Lexeme>, CaseFault> {
+    let mut lexemes = Vec::new(alloc);
+    for pair in words.chunks(2) {
+        match pair {
+            [kind, text] => lexemes.push(lexeme_of(alloc, kind, text)?)?,
+            _ => return Err(CaseFault::WrongWords),
+        }
+    }
+    Ok(lexemes)
+}
+
+/// The text in quotes.
+fn spelled_answer(alloc: Global, words: &[Word]) -> Result<Answer, CaseFault> {
+    let lexemes = lexemes_of(alloc, words)?;
+    let bytes = spelled(alloc, lexemes.as_slice())?;
+    let text = String::from_utf8_lossy(alloc, bytes.as_slice())?;
+    let mut line = String::new(alloc);
+    push_quoted(&mut line, text.as_str())?;
+    Answer::line(alloc, line.as_str())
+}
+
+/// Answers `spelled`; nothing where it is another command.
+pub fn answer_lexemes(alloc: Global, command: &Command) -> Result<Option<Answer>, CaseFault> {
+    match command.name() {
+        "spelled" => Ok(Some(spelled_answer(alloc, command.words())?)),
+        _ => Ok(None),
+    }
+}

@@ -1,0 +1,89 @@
+//! The command `mark_of`.
+use crate::shown::kind_named;
+use b2_base::token::{Token, TokenKind};
+use jam_grammar::mark::{Mark, mark_of};
+use std::alloc::Global;
+use transcript::answer::Answer;
+use transcript::case_fault::CaseFault;
+use transcript::command::{Command, Word};
+
+/// The name of a sign, or of what is neither a sign nor a reserved word.
+fn sign_name(mark: Mark) -> &'static str {
+    match mark {
+        Mark::Plain => "Plain",
+        Mark::Query => "Query",
+        Mark::Star => "Star",
+        Mark::Plus => "Plus",
+        Mark::Body => "Body",
+        Mark::Semicolon => "Semicolon",
+        Mark::Colon => "Colon",
+        Mark::BraceOpen => "BraceOpen",
+        Mark::BraceClose => "BraceClose",
+        Mark::SquareOpen => "SquareOpen",
+        Mark::SquareClose => "SquareClose",
+        Mark::ParenOpen => "ParenOpen",
+        Mark::ParenClose => "ParenClose",
+        Mark::Equals => "Equals",
+        Mark::PlusEquals => "PlusEquals",
+        Mark::QueryEquals => "QueryEquals",
+        Mark::NotEquals => "NotEquals",
+        Mark::Not => "Not",
+        Mark::And => "And",
+        Mark::Or => "Or",
+        _ => "Unknown",
+    }
+}
+
+/// The name of a mark.
+fn mark_name(mark: Mark) -> &'static str {
+    match mark {
+        Mark::Actions => "Actions",
+        Mark::Case => "Case",
+        Mark::Else => "Else",
+        Mark::For => "For",
+        Mark::If => "If",
+        Mark::In => "In",
+        Mark::Include => "Include",
+        Mark::Local => "Local",
+        Mark::Module => "Module",
+        Mark::On => "On",
+        Mark::Return => "Return",
+        Mark::Rule => "Rule",
+        Mark::Switch => "Switch",
+        Mark::While => "While",
+        _ => sign_name(mark),
+    }
+}
+
+/// The name of the mark of a token of this kind and text.
+fn token_mark(alloc: Global, kind: TokenKind, text: &Word) -> Result<&'static str, CaseFault> {
+    Ok(mark_name(mark_of(&Token {
+        kind,
+        text: text.as_text(alloc)?,
+        line: 1,
+        start: 0,
+        end: 0,
+    })))
+}
+
+/// The names of the marks of texts of one kind.
+fn marks_answer(alloc: Global, words: &[Word]) -> Result<Answer, CaseFault> {
+    let Some((kind, texts)) = words.split_first() else {
+        return Err(CaseFault::WrongWords);
+    };
+    let kind = kind_named(kind.as_str()?)?;
+    let mut line = String::new(alloc);
+    for text in texts {
+        line.push_str(token_mark(alloc, kind, text)?)?;
+        line.push(' ')?;
+    }
+    Answer::line(alloc, line.as_str().trim_end())
+}
+
+/// Answers `mark_of`; nothing where it is another command.
+pub fn answer_marks(alloc: Global, command: &Command) -> Result<Option<Answer>, CaseFault> {
+    match command.name() {
+        "mark_of" => Ok(Some(marks_answer(alloc, command.words())?)),
+        _ => Ok(None),
+    }
+}
