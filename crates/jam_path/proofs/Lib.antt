@@ -1,5 +1,5 @@
-pub mod Cuts
-pub mod Shapes
-pub mod Plain
-pub mod Pieces
-pub mod Walks
+pub mod CutLemmas
+pub mod PartsLemmas
+pub mod JoinGivesBack
+pub mod PieceLemmas
+pub mod WalkLemmas

@@ -1,4 +1,4 @@
-use Rattle.jam_path.proofs.Plain.{gives_back}
+use Rattle.jam_path.proofs.JoinGivesBack.{gives_back}
 use Rattle.jam_path.proofs.laws.join_gives_back.Goals as goal
 
 pub returns : goal.returns
