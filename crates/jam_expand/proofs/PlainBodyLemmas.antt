@@ -56,9 +56,9 @@ none_above texts h = go (first_above 0 texts) refl
     go None e = refl
     go (Some bytes) e = absurd (not_ok texts bytes (sym (ap (unless_above texts) e) ∙ h))
 
--- the front of a list
-front_within : (texts more : List (List ℕ)) → within (texts ++ more) ≡ Ok (texts ++ more) → first_above 0 texts ≡ None
-front_within texts more h = go (first_above 0 texts) refl
+-- no sum of a prefix is above the limit where none of the whole is
+prefix_within : (texts more : List (List ℕ)) → within (texts ++ more) ≡ Ok (texts ++ more) → first_above 0 texts ≡ None
+prefix_within texts more h = go (first_above 0 texts) refl
   where
     go : (found : Option ℕ) → first_above 0 texts ≡ found → found ≡ None
     go None e = refl
@@ -76,7 +76,7 @@ one_small sum text more h = go (ltb limit (sum + (length text + 1))) refl h
 one_within : (texts : List (List ℕ)) (text : List ℕ) (more : List (List ℕ)) → within (texts ++ text ∷ more) ≡ Ok (texts ++ text ∷ more) → within (text ∷ []) ≡ Ok (text ∷ [])
 one_within texts text more h =
     ap (unless_above (text ∷ []))
-    (one_small (total 0 texts) text more (sym (above_after 0 texts (text ∷ more) (front_within texts (text ∷ more) h)) ∙ none_above (texts ++ text ∷ more) h))
+    (one_small (total 0 texts) text more (sym (above_after 0 texts (text ∷ more) (prefix_within texts (text ∷ more) h)) ∙ none_above (texts ++ text ∷ more) h))
 
 -- ---- each word is itself
 
@@ -87,7 +87,7 @@ plain_texts names texts (word ∷ more) plain h =
     let whole : (texts ++ word ∷ []) ++ more ≡ texts ++ word ∷ more = append_assoc texts (word ∷ []) more in
     let longer : within ((texts ++ word ∷ []) ++ more) ≡ Ok ((texts ++ word ∷ []) ++ more) = ap within whole ∙ h ∙ ap (λ s. Ok s) (sym whole) in
     let elements : expansion names word ≡ Ok (word ∷ []) = plain_expansion names word plain.0 ∙ one_within texts word more h in
-    let front : within (texts ++ word ∷ []) ≡ Ok (texts ++ word ∷ []) = ap (unless_above (texts ++ word ∷ [])) (front_within (texts ++ word ∷ []) more longer) in
+    let front : within (texts ++ word ∷ []) ≡ Ok (texts ++ word ∷ []) = ap (unless_above (texts ++ word ∷ [])) (prefix_within (texts ++ word ∷ []) more longer) in
     opened names texts word more
     ∙ ap (λ found. and_then (and_then found (λ elements. within (texts ++ join_with_byte 32 elements ∷ []))) (λ list. body_texts names list more)) elements
     ∙ ap (λ found. and_then found (λ list. body_texts names list more)) front
