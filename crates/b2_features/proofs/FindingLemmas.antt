@@ -1,16 +1,14 @@
-use Rattle.std.proofs.Common.{◌≡◌, ℕ, Bool, true, false, cond, ◌||◌, List, [], ◌∷◌, ◌++◌, length, Option, Some, None, is_some, position, refl, sym, ◌∙◌, ap}
+use Rattle.std.proofs.Common.{◌≡◌, ℕ, Bool, true, false, cond, List, [], ◌∷◌, ◌++◌, length, Option, Some, None, is_some, refl, sym, ◌∙◌, ap}
 use Rattle.std.specs.Option.{option_or, option_map, option_map_or, option_and_then}
 use Rattle.std.specs.List.{find}
 use Rattle.std.specs.Map.{lookup}
 use Rattle.std.specs.Str.{bytes_eq}
 use Rattle.std.specs.Cmp.Lexicographic.{nat_list_eq_equiv}
 use Rattle.std.proofs.lemmas.Slice.Eq.{bytes_eq-Decides}
-use Rattle.b2_features.specs.declared.attribute.Attribute.TheVariants.{Free}
-use Rattle.b2_features.specs.Attributes.{has}
-use Rattle.b2_features.specs.Table.{Declared, is_named, lists, feature_of, place_of, parts_of, with_parts, composed}
+use Rattle.b2_features.specs.Table.{Declared, is_named, feature_of, place_of, parts_of, with_parts, composed}
 use Rattle.b2_features.specs.Faults.{is_declared, is_composed, unknown_in, unknown_word, bad_part, conflict_word, feature_fault, compose_fault, twice_word, bad_word}
 use Rattle.b2_features.specs.declared.fault.FeatureFault.TheVariants.{Twice, Unknown, BadValue, ComposeConflict}
-use Rattle.b2_features.specs.Finding.{FindsOneMore, FindsParts, parts_at}
+use Rattle.b2_features.specs.Finding.{FindsOneMore, FindsParts}
 use Rattle.b2_features.proofs.Lookups.{position-push, position-none}
 
 text_itself : (x : List ℕ) → bytes_eq x x ≡ true

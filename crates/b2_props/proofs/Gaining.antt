@@ -1,5 +1,5 @@
 use Rattle.std.proofs.Common.{◌≡◌, ℕ, Bool, true, false, cond, ◌||◌, ◌&&◌, List, [], ◌∷◌, ◌++◌, Option, Some, None, reverse, is_some, take, get_or, length, ◌+◌, ◌<◌, refl, subst, sym, ◌∙◌, ap, ap₂, append_assoc}
-use Rattle.std.specs.List.{filter, list_any, filter_map, flat_map, slice_get}
+use Rattle.std.specs.List.{list_any, filter_map, slice_get}
 use Rattle.std.specs.Option.{option_or, option_copied, option_to_list}
 use Rattle.std.specs.Borrow.{Bor}
 use Rattle.std.specs.Ordering.{nat_cmp, is_eq, ordering_then}

@@ -1,6 +1,6 @@
 use Rattle.std.proofs.Common.{◌≡◌, ℕ, Bool, true, false, cond, not, ◌&&◌, ◌||◌, List, [], ◌∷◌, ◌++◌, Option, Some, None, Ok, Err, reverse, is_some, slice_get, append_assoc, refl, sym, ◌∙◌, ap, ap₂, subst}
 use Rattle.std.specs.Prelude.{Result, OnOk, IfOk}
-use Rattle.std.specs.List.{filter, filter_map, list_all, cons_option}
+use Rattle.std.specs.List.{filter, list_all, cons_option}
 use Rattle.std.specs.Option.{option_or, option_map, option_map_or}
 use Rattle.std.specs.Str.{bytes_eq}
 use Rattle.std.proofs.lemmas.List.{reverse-append}
@@ -12,7 +12,7 @@ use Rattle.b2_features.specs.Faults.{is_with}
 use Rattle.b2_props.specs.Sets.{Pair, same, value_of, firsts, free_of, written, IsSet}
 use Rattle.b2_props.specs.Refinement.{names, parts_in, components, brought, completed_from, completed, default_pair, defaults, expanded, refined}
 use Rattle.b2_props.specs.Laws.{is_single, HasRequired, KeepsOthers, KeepsValues, HasAllValues, KeepsFree}
-use Rattle.b2_props.proofs.Pairs.{value_of-append, option_or-none, option_or-assoc, text_is}
+use Rattle.b2_props.proofs.Pairs.{value_of-append, option_or-none}
 use Rattle.b2_props.proofs.Completing.{names-append}
 use Rattle.b2_props.proofs.Reading.{name_of_found}
 use Rattle.b2_props.proofs.SetLemmas.{value_of-filter, value_written, free_written, once_free}

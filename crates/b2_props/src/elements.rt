@@ -100,8 +100,8 @@ fn join(alloc: Global, pieces: &[Text]) -> Result<Text, OutOfMemory>
 
 /// The part of a path that tells a set: an element for each feature that shows, in order, with slashes between them. Free
 /// and incidental features never show, symmetric ones always, and any other where its value is not the one that the
-/// composites of the set give, or, where they give none, the default. An element is the value of an implicit feature, else
-/// the feature, a dash and the value.
+/// composites of the set give, or, where they give none, the default; so an optional feature, which has no default, shows
+/// with its first value too. An element is the value of an implicit feature, else the feature, a dash and the value.
 pub fn dir_of(alloc: Global, registry: &Registry, set: &Props) -> Result<Text, OutOfMemory>
     requires { IsSet registry.now set.now }
     ensures { IfOk result (λ made. made ≡ dir_text registry.now set.now) }

@@ -1,10 +1,7 @@
-use Rattle.std.proofs.Common.{◌≡◌, ◌&&◌, List, map, string_bytes, sym, ◌∙◌, ap}
+use Rattle.std.proofs.Common.{◌&&◌, sym, ◌∙◌, ap}
 use Rattle.std.specs.List.{list_any}
 use Rattle.std.specs.Str.{bytes_eq}
 use Rattle.std.proofs.lemmas.Result.{IfOk-weaker}
-use Rattle.b2_features.specs.declared.attribute.Attribute.TheVariants.{Implicit}
-use Rattle.b2_features.specs.Attributes.{has}
-use Rattle.b2_features.specs.Table.{declared, is_implicit_in}
 use Rattle.b2_features.proofs.TextTests.{among_strings}
 use Rattle.b2_features.proofs.implicit.implicit_values.Goals as goal
 

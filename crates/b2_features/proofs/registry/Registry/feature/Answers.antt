@@ -1,4 +1,4 @@
-use Rattle.std.proofs.Common.{◌≡◌, ◌∙◌, ◌++◌, ◌∷◌, [], sym, ap, subst, true}
+use Rattle.std.proofs.Common.{◌≡◌, ◌∙◌, ◌++◌, ◌∷◌, [], sym, ap, subst}
 use Rattle.b2_features.specs.Table.{declared, is_implicit_in, is_whole}
 use Rattle.b2_features.specs.Finding.{FindsOneMore}
 use Rattle.b2_features.proofs.FaultLemmas.{untaken, whole_declared}
