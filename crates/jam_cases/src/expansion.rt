@@ -1,0 +1,238 @@
+//! Commands on the expansion of words and of bodies of actions.
+//!
+//! - `set NAME : ELEMENTS`: the variable stands for the elements.
+//! - `add_expansion NAME WORD`: the elements of the word are added to those of the variable.
+//! - `expand WORD`: the elements of the word, each on a line.
+//! - `expand_size WORD`: how many elements the word has, and how many bytes these have together.
+//! - `expand_body BODY`: the text of the body, on one line; without a word the body is the text below the command.
+//! - `expand_body_size BODY`: how many bytes that text has.
+ghost use Rattle.std.specs.Prelude.{◌≡◌};
+
+use crate::words::{one_word, two_words};
+use b2_base::expand_fault::ExpandFault;
+use b2_base::look::Look;
+use b2_base::text::{Text, has_no_zero};
+use b2_base::text_list::TextList;
+use jam_expand::body::expand_body;
+use jam_expand::expand::expand;
+use std::alloc::Global;
+use std::collections::BTreeMap;
+use transcript::answer::Answer;
+use transcript::case_fault::CaseFault;
+use transcript::command::{Command, Word};
+
+/// The variables that were set, each with its texts; every other one has none.
+#[derive(Drop)]
+pub struct Variables {
+    lists: BTreeMap<String, TextList>,
+}
+
+impl Variables {
+    /// No variable.
+    pub fn new(alloc: Global) -> Variables {
+        Variables {
+            lists: BTreeMap::new(alloc),
+        }
+    }
+
+    fn set(&mut self, alloc: Global, name: &str, texts: TextList) -> Result<(), CaseFault> {
+        self.lists.insert(String::from_str(alloc, name)?, texts)?;
+        Ok(())
+    }
+
+    /// Adds texts to those of a variable.
+    fn add(&mut self, alloc: Global, name: &str, texts: &[Text]) -> Result<(), CaseFault> {
+        let mut longer = TextList::new(alloc);
+        push_copies(&mut longer, self.look(name))?;
+        push_copies(&mut longer, texts)?;
+        self.set(alloc, name, longer)
+    }
+}
+
+impl Look for Variables {
+    ghost use Rattle.std.specs.BTreeMap.{get_by_text};
+    ghost use Rattle.jam_cases.specs.Variables.{texts_of};
+
+    ghost answer = { λ variables name. texts_of (get_by_text variables.lists name) };
+
+    fn look(&self, name: &str) -> &[Text] {
+        match self.lists.get(name) {
+            Some(texts) => texts.as_slice(),
+            None => &[],
+        }
+    }
+}
+
+/// Adds a copy of each of the texts.
+fn push_copies(texts: &mut TextList, more: &[Text]) -> Result<(), CaseFault> {
+    for text in more {
+        texts.push(text.copy()?)?;
+    }
+    Ok(())
+}
+
+fn texts_of_words(alloc: Global, words: &[Word]) -> Result<TextList, CaseFault> {
+    let mut texts = TextList::new(alloc);
+    for word in words {
+        texts.push(word.as_text(alloc)?)?;
+    }
+    Ok(texts)
+}
+
+fn answer_set(
+    alloc: Global,
+    variables: &mut Variables,
+    words: &[Word],
+) -> Result<Answer, CaseFault> {
+    let [name, colon, elements @ ..] = words else {
+        return Err(CaseFault::WrongWords);
+    };
+    if colon.as_str()? != ":" {
+        return Err(CaseFault::WrongWords);
+    }
+    variables.set(alloc, name.as_str()?, texts_of_words(alloc, elements)?)?;
+    Ok(Answer::new(alloc))
+}
+
+/// The text of a fault.
+fn fault_text(alloc: Global, fault: &ExpandFault) -> Result<String, CaseFault> {
+    match fault {
+        ExpandFault::BadIndex { text } => labelled(alloc, "bad index ", text),
+        ExpandFault::BadModifier { text } => labelled(alloc, "bad modifier ", text),
+        ExpandFault::TooDeep => Ok(String::from_str(alloc, "expansion too deep")?),
+        ExpandFault::TooLarge { bytes } => Ok(format!(in alloc; "expansion of {bytes} bytes")?),
+        ExpandFault::OutOfMemory => Err(CaseFault::OutOfMemory),
+    }
+}
+
+fn labelled(alloc: Global, label: &str, text: &Text) -> Result<String, CaseFault> {
+    let mut line = String::from_str(alloc, label)?;
+    line.push_str(text.as_str())?;
+    Ok(line)
+}
+
+fn fault_answer(alloc: Global, fault: &ExpandFault) -> Result<Answer, CaseFault> {
+    Answer::line(alloc, fault_text(alloc, fault)?.as_str())
+}
+
+fn answer_add_expansion(
+    alloc: Global,
+    variables: &mut Variables,
+    words: &[Word],
+) -> Result<Answer, CaseFault> {
+    let (name, word) = two_words(words)?;
+    let word = word.as_text(alloc)?;
+    match expand(alloc, word.as_str(), variables) {
+        Ok(elements) => {
+            variables.add(alloc, name.as_str()?, elements.as_slice())?;
+            Ok(Answer::new(alloc))
+        }
+        Err(fault) => fault_answer(alloc, &fault),
+    }
+}
+
+fn elements_answer(alloc: Global, elements: &TextList) -> Result<Answer, CaseFault> {
+    let mut answer = Answer::new(alloc);
+    for element in elements.as_slice() {
+        answer.push_line(element.as_str())?;
+    }
+    Ok(answer)
+}
+
+fn answer_expand(
+    alloc: Global,
+    variables: &Variables,
+    words: &[Word],
+) -> Result<Answer, CaseFault> {
+    let word = one_word(words)?.as_text(alloc)?;
+    match expand(alloc, word.as_str(), variables) {
+        Ok(elements) => elements_answer(alloc, &elements),
+        Err(fault) => fault_answer(alloc, &fault),
+    }
+}
+
+fn size_answer(alloc: Global, elements: &[Text]) -> Result<Answer, CaseFault> {
+    let count = elements.len();
+    let mut bytes = 0usize;
+    for element in elements {
+        bytes = bytes.saturating_add(element.as_str().len());
+    }
+    let size = format!(in alloc; "elements {count}, bytes {bytes}")?;
+    Answer::line(alloc, size.as_str())
+}
+
+fn answer_expand_size(
+    alloc: Global,
+    variables: &Variables,
+    words: &[Word],
+) -> Result<Answer, CaseFault> {
+    let word = one_word(words)?.as_text(alloc)?;
+    match expand(alloc, word.as_str(), variables) {
+        Ok(elements) => size_answer(alloc, elements.as_slice()),
+        Err(fault) => fault_answer(alloc, &fault),
+    }
+}
+
+/// The body that a command has: its one word, or its text.
+fn body_of(alloc: Global, command: &Command) -> Result<Text, CaseFault> {
+    match command.words() {
+        [] => text_of(alloc, command.text()),
+        [word] => word.as_text(alloc),
+        _ => Err(CaseFault::WrongWords),
+    }
+}
+
+/// A text with no zero byte; others are no words of a case.
+fn text_of(alloc: Global, text: &str) -> Result<Text, CaseFault> {
+    if has_no_zero(text) {
+        Ok(Text::new(alloc, text)?)
+    } else {
+        Err(CaseFault::WrongWords)
+    }
+}
+
+fn answer_expand_body(
+    alloc: Global,
+    variables: &Variables,
+    command: &Command,
+) -> Result<Answer, CaseFault> {
+    let body = body_of(alloc, command)?;
+    match expand_body(alloc, body.as_str(), variables) {
+        Ok(text) => Answer::line(alloc, text.as_str()),
+        Err(fault) => fault_answer(alloc, &fault),
+    }
+}
+
+fn answer_expand_body_size(
+    alloc: Global,
+    variables: &Variables,
+    command: &Command,
+) -> Result<Answer, CaseFault> {
+    let body = body_of(alloc, command)?;
+    match expand_body(alloc, body.as_str(), variables) {
+        Ok(text) => {
+            let bytes = text.as_str().len();
+            Answer::line(alloc, format!(in alloc; "bytes {bytes}")?.as_str())
+        }
+        Err(fault) => fault_answer(alloc, &fault),
+    }
+}
+
+/// The answer to a command on expansion; none where it is another command.
+pub fn answer_expansion(
+    alloc: Global,
+    command: &Command,
+    variables: &mut Variables,
+) -> Result<Option<Answer>, CaseFault> {
+    let words = command.words();
+    let answer = match command.name() {
+        "set" => answer_set(alloc, variables, words)?,
+        "add_expansion" => answer_add_expansion(alloc, variables, words)?,
+        "expand" => answer_expand(alloc, variables, words)?,
+        "expand_size" => answer_expand_size(alloc, variables, words)?,
+        "expand_body" => answer_expand_body(alloc, variables, command)?,
+        "expand_body_size" => answer_expand_body_size(alloc, variables, command)?,
+        _ => return Ok(None),
+    };
+    Ok(Some(answer))
+}

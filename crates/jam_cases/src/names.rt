@@ -1,0 +1,80 @@
+//! Commands on file names.
+//!
+//! - `parts NAME`: the five parts of the name, each with its label.
+//! - `join GRIST DIR BASE SUFFIX MEMBER`: the name that these parts make.
+//! - `glob_match PATTERN TEXT`: whether the pattern matches the text.
+use crate::words::{one_word, two_words};
+use b2_base::text::Text;
+use jam_path::glob::glob_match;
+use jam_path::name::{join, parts};
+use jam_path::name_parts::NameParts;
+use std::alloc::Global;
+use transcript::answer::Answer;
+use transcript::case_fault::CaseFault;
+use transcript::command::{Command, Word};
+
+/// Adds a label and the part, which may be empty.
+fn push_part(
+    alloc: Global,
+    answer: &mut Answer,
+    label: &str,
+    part: &Text,
+) -> Result<(), CaseFault> {
+    let mut line = String::from_str(alloc, label)?;
+    if !part.as_str().is_empty() {
+        line.push(' ')?;
+        line.push_str(part.as_str())?;
+    }
+    answer.push_line(line.as_str())
+}
+
+fn parts_answer(alloc: Global, name: &NameParts) -> Result<Answer, CaseFault> {
+    let mut answer = Answer::new(alloc);
+    push_part(alloc, &mut answer, "grist", &name.grist)?;
+    push_part(alloc, &mut answer, "dir", &name.dir)?;
+    push_part(alloc, &mut answer, "base", &name.base)?;
+    push_part(alloc, &mut answer, "suffix", &name.suffix)?;
+    push_part(alloc, &mut answer, "member", &name.member)?;
+    Ok(answer)
+}
+
+fn answer_parts(alloc: Global, words: &[Word]) -> Result<Answer, CaseFault> {
+    let name = one_word(words)?.as_text(alloc)?;
+    parts_answer(alloc, &parts(alloc, name.as_str())?)
+}
+
+fn name_parts(alloc: Global, words: &[Word]) -> Result<NameParts, CaseFault> {
+    match words {
+        [grist, dir, base, suffix, member] => Ok(NameParts {
+            grist: grist.as_text(alloc)?,
+            dir: dir.as_text(alloc)?,
+            base: base.as_text(alloc)?,
+            suffix: suffix.as_text(alloc)?,
+            member: member.as_text(alloc)?,
+        }),
+        _ => Err(CaseFault::WrongWords),
+    }
+}
+
+fn answer_join(alloc: Global, words: &[Word]) -> Result<Answer, CaseFault> {
+    let name = name_parts(alloc, words)?;
+    Answer::line(alloc, join(alloc, &name)?.as_str())
+}
+
+fn answer_glob_match(alloc: Global, words: &[Word]) -> Result<Answer, CaseFault> {
+    let (pattern, text) = two_words(words)?;
+    let is_match = glob_match(pattern.as_str()?, text.as_str()?);
+    Answer::line(alloc, if is_match { "true" } else { "false" })
+}
+
+/// The answer to a command on file names; none where it is another command.
+pub fn answer_names(alloc: Global, command: &Command) -> Result<Option<Answer>, CaseFault> {
+    let words = command.words();
+    let answer = match command.name() {
+        "parts" => answer_parts(alloc, words)?,
+        "join" => answer_join(alloc, words)?,
+        "glob_match" => answer_glob_match(alloc, words)?,
+        _ => return Ok(None),
+    };
+    Ok(Some(answer))
+}
