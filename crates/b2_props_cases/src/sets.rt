@@ -1,0 +1,114 @@
+//! Commands to sets of properties. The set at hand is made again of its pairs, since the table may have changed.
+ghost use Rattle.std.specs.Prelude.{IfOk};
+ghost use Rattle.b2_props.specs.Sets.{IsSet};
+
+use crate::shown::{push_sets, push_targets, refusal, set_line, truth};
+use crate::words::{no_words, only, pair, pairs, texts};
+use b2_base::fault::OutOfMemory;
+use b2_base::text::Text;
+use b2_features::registry::Registry;
+use b2_props::elements;
+use b2_props::props::Props;
+use b2_props::refinement::{expand, refine, set_of};
+use b2_props::request::{Request, read_request};
+use b2_props::request_fault::RequestFault;
+use std::alloc::Global;
+use transcript::answer::Answer;
+use transcript::case_fault::CaseFault;
+use transcript::command::Word;
+
+/// The set that pairs make.
+pub fn made(
+    alloc: Global,
+    registry: &Registry,
+    pairs: &[(Text, Text)],
+) -> Result<Props, OutOfMemory>
+    ensures { IfOk result (λ made. IsSet registry.now made) }
+{
+    set_of(alloc, registry, pairs)
+}
+
+pub fn given(alloc: Global, registry: &Registry, words: &[Word]) -> Result<Props, CaseFault> {
+    let pairs = pairs(alloc, words)?;
+    Ok(made(alloc, registry, pairs.as_slice())?)
+}
+
+pub fn expanded(
+    alloc: Global,
+    registry: &Registry,
+    set: &Props,
+    words: &[Word],
+) -> Result<Props, CaseFault> {
+    no_words(words)?;
+    let own = made(alloc, registry, set.pairs())?;
+    Ok(expand(alloc, registry, &own)?)
+}
+
+pub fn refined(
+    alloc: Global,
+    registry: &Registry,
+    set: &Props,
+    words: &[Word],
+) -> Result<Props, CaseFault> {
+    let required = pairs(alloc, words)?;
+    let own = made(alloc, registry, set.pairs())?;
+    Ok(refine(alloc, registry, &own, required.as_slice())?)
+}
+
+pub fn handed(
+    alloc: Global,
+    registry: &Registry,
+    set: &Props,
+    words: &[Word],
+) -> Result<Answer, CaseFault> {
+    no_words(words)?;
+    let own = made(alloc, registry, set.pairs())?;
+    let handed = elements::propagated(alloc, registry, &own)?;
+    set_line(alloc, &handed)
+}
+
+pub fn dir_of(
+    alloc: Global,
+    registry: &Registry,
+    set: &Props,
+    words: &[Word],
+) -> Result<Answer, CaseFault> {
+    no_words(words)?;
+    let own = made(alloc, registry, set.pairs())?;
+    let dir = elements::dir_of(alloc, registry, &own)?;
+    Answer::line(alloc, dir.as_str())
+}
+
+pub fn contains(alloc: Global, set: &Props, words: &[Word]) -> Result<Answer, CaseFault> {
+    let (feature, value) = pair(alloc, only(words)?)?;
+    truth(alloc, set.contains(feature.as_str(), value.as_str()))
+}
+
+fn word_of(fault: &RequestFault) -> Result<&Text, CaseFault> {
+    match fault {
+        RequestFault::UnknownWord { word } => Ok(word),
+        RequestFault::UnknownValue { word } => Ok(word),
+        RequestFault::Conflict { word } => Ok(word),
+        RequestFault::OutOfMemory => Err(CaseFault::OutOfMemory),
+    }
+}
+
+fn refused(alloc: Global, fault: &RequestFault) -> Result<Answer, CaseFault> {
+    let kind = format!(in alloc; "{fault}")?;
+    refusal(alloc, kind.as_str(), word_of(fault)?)
+}
+
+fn asked(alloc: Global, request: &Request) -> Result<Answer, CaseFault> {
+    let mut answer = Answer::new(alloc);
+    push_targets(&mut answer, alloc, request.targets.as_slice())?;
+    push_sets(&mut answer, alloc, &request.sets)?;
+    Ok(answer)
+}
+
+pub fn request(alloc: Global, registry: &Registry, words: &[Word]) -> Result<Answer, CaseFault> {
+    let words = texts(alloc, words)?;
+    match read_request(alloc, registry, words.as_slice()) {
+        Ok(request) => asked(alloc, &request),
+        Err(fault) => refused(alloc, &fault),
+    }
+}
