@@ -14,7 +14,7 @@ use Rattle.b2_update.specs.declared.update_answer.UpdateAnswer.TheVariants as en
 use Rattle.b2_update.specs.Plain.{IsPlain}
 use Rattle.b2_update.specs.Updates.{BeginsWith, FaultsTold, HasUpdated, HasWritten}
 use Rattle.b2_update.specs.Turns.{HasTurns, failed_of}
-use Rattle.b2_update.proofs.Turning.{turns_none}
+use Rattle.b2_update.proofs.TurnLemmas.{turns_none}
 use Rattle.jam_lexer.specs.declared.fault.LexFault.{LexFault}
 use Rattle.b2_top.specs.declared.refusal.Fault.{Fault}
 use Rattle.b2_top.specs.declared.refusal.Fault.TheVariants as faults
@@ -28,16 +28,16 @@ use Rattle.b2_top.specs.declared.load.LoadEnd.TheVariants as ends_of_load
 use Rattle.b2_top.specs.Loads.{LoadCounted, EndNamesText, EndTold, IsExactLoad}
 use Rattle.b2_top.specs.Jamroots.{outs_of}
 use Rattle.b2_top.specs.ProjectFiles.{jamroot, jamroot_of, IsNotYet, HasLexFault, HasPlan}
-use Rattle.b2_top.specs.Refusals.{fault_line, HoldsNoWant, no_tokens, host_fault_line, usage_line}
+use Rattle.b2_top.specs.Refusals.{fault_line, IsNotOutOfMemory, no_tokens, host_fault_line, usage_line}
 use Rattle.b2_top.specs.Tells.{Tells, TellsFault, IsFaultOf, TellsStop}
 use Rattle.b2_top.specs.Tells.Tells.{told, failed, no_memory}
 use Rattle.b2_top.specs.Tells.TellsFault.{told as fault_told, failed as fault_failed, no_memory as fault_no_memory}
 use Rattle.b2_top.specs.Stops.{NamesText, IsStop, IsExact, IsStoppedBy}
-use Rattle.b2_top.specs.Builds.{update_at, IsCutShort, IsOfWords, StartsNone, RefusesNoWant, failed_in, CountsTold, HasCause, CameToPass, LeavesClean, ShouldEndWell, TellsHostFault, FailsAtWrite, BeginsSome, ReportedBy, HasReported}
+use Rattle.b2_top.specs.Builds.{update_at, IsCutShort, IsOfWords, StartsNone, RefusalIsNotOutOfMemory, failed_in, CountsTold, HasCause, HasHappened, LeavesClean, ShouldEndWell, TellsHostFault, FailsAtWrite, BeginsSome, ReportedBy, HasReported}
 use Rattle.b2_top.specs.Builds.BeginsSome.{nothing}
 use Rattle.b2_top.specs.Builds.FailsAtWrite.{usage as fails_usage, refusal as fails_refusal}
 use Rattle.b2_top.specs.Answered.{IsAnswered, IsThePlan}
-use Rattle.b2_top.proofs.BuildLemmas.{top_of, came_of, clean_of, complete_of, began, at_plan}
+use Rattle.b2_top.proofs.BuildLemmas.{top_of, happened_of, clean_of, complete_of, began, at_plan}
 use Rattle.b2_top.proofs.ReportLemmas.{reported_plain, reported_fault, no_event}
 
 -- what follows where the files are told
@@ -104,7 +104,7 @@ none_of ends.HostFault old new = tt
 none_of ends.SinkFault old new = tt
 none_of ends.OutOfMemory old new = tt
 
-no_refusal : (r : UpdateAnswer) → RefusesNoWant (top_of r)
+no_refusal : (r : UpdateAnswer) → RefusalIsNotOutOfMemory (top_of r)
 no_refusal ends.Done = tt
 no_refusal (ends.Failed lists) = tt
 no_refusal ends.HostFault = tt
@@ -141,13 +141,13 @@ pub answered_plain : (made : List ℕ → List (List ℕ × List ℕ) → List �
     → IfSome d (IsThePlan plan) → IsUpdated made plan.steps old new d e f g s t text text_after r → (r ≡ ends.HostFault → ⊥) → IsAnswered made [] old new d e f g s t text text_after (top_of r)
 answered_plain made plan old new d e f g s t text text_after r the u other = record {
   clean = clean_at made plan.steps old new d e r u.plain (has_plan plan d the) u.done;
-  came = came_of made plan.steps old new d e r (has_plan plan d the) u.done;
+  happened = happened_of made plan.steps old new d e r (has_plan plan d the) u.done;
   counts = counts_of f g new.running s t r u.counts;
   usage = λ h. absurd (h refl);
   alone = λ h. absurd (h refl);
   turns = turns_of r old.events new.events u.turns;
   starts_none = none_of r old new;
-  no_want = no_refusal r;
+  not_out_of_memory = no_refusal r;
   no_usage = λ h. absurd (not_usage r h);
   not_yet = both_with (IsThePlan plan) d e the (λ b a is h line should. no_stop plan _ (is.1.not_yet line should.1)) u.done;
   without_tokens = both_with (IsThePlan plan) d e the (λ b a is h fault should. no_stop plan _ (is.1.no_tokens fault should.1)) u.done;
@@ -163,7 +163,7 @@ data IsFaultAnswer (result : Answer) : Type 0 where
 
 fault_answer : (line : List ℕ) (f g : ℕ) (before after : Option (List ℕ)) (result : Answer) → TellsFault line f g before after result → IsFaultAnswer result
 fault_answer line f g before after result (fault_told is count taken) = is_host is
-fault_answer line f g before after result (fault_failed part is rose front taken) = is_host is
+fault_answer line f g before after result (fault_failed part is rose prefix taken) = is_host is
 fault_answer line f g before after result (fault_no_memory is count taken) = is_memory is
 
 cut_fault : (result : Answer) → IsFaultAnswer result → IsCutShort result
@@ -173,12 +173,12 @@ cut_fault result (is_memory e) = inr (inr e)
 -- the host failed, and then its line was written, or not
 fault_counts : (line : List ℕ) (f g : ℕ) (left : List Child) (s t v : ℕ) (before after : Option (List ℕ)) (result : Answer) → Rose f g → t ≡ s → TellsFault line t v before after result → CountsTold f g left s v result
 fault_counts line f g left s t v before after result rose same (fault_told is count taken) = subst (CountsTold f g left s v) (sym is) rose
-fault_counts line f g left s t v before after result rose same (fault_failed part is higher front taken) = subst (CountsTold f g left s v) (sym is) rose
+fault_counts line f g left s t v before after result rose same (fault_failed part is higher prefix taken) = subst (CountsTold f g left s v) (sym is) rose
 fault_counts line f g left s t v before after result rose same (fault_no_memory is count taken) = subst (CountsTold f g left s v) (sym is) (count ∙ same)
 
-fault_came : (made : List ℕ → List (List ℕ × List ℕ) → List ℕ → List ℕ) (words : List (List ℕ)) (old new : Family) (d e : Option Disk) (result : Answer) → IsFaultAnswer result → BothTold (CameToPass made words answers.HostFault old new) d e → BothTold (CameToPass made words result old new) d e
-fault_came made words old new d e result (is_host same) h = subst (λ r. BothTold (CameToPass made words r old new) d e) (sym same) h
-fault_came made words old new d e result (is_memory same) h = subst (λ r. BothTold (CameToPass made words r old new) d e) (sym same) (both_map d e (λ b a c. c) h)
+fault_happened : (made : List ℕ → List (List ℕ × List ℕ) → List ℕ → List ℕ) (words : List (List ℕ)) (old new : Family) (d e : Option Disk) (result : Answer) → IsFaultAnswer result → BothTold (HasHappened made words answers.HostFault old new) d e → BothTold (HasHappened made words result old new) d e
+fault_happened made words old new d e result (is_host same) h = subst (λ r. BothTold (HasHappened made words r old new) d e) (sym same) h
+fault_happened made words old new d e result (is_memory same) h = subst (λ r. BothTold (HasHappened made words r old new) d e) (sym same) (both_map d e (λ b a c. c) h)
 
 none_fault : (old new : Family) (result : Answer) → IsFaultAnswer result → StartsNone result old new
 none_fault old new result (is_host e) = subst (λ r. StartsNone r old new) (sym e) tt
@@ -188,9 +188,9 @@ turns_fault : (old new : List ChildEvent) (result : Answer) → HasTurns [] old 
 turns_fault old new result h (is_host e) = subst (λ r. HasTurns (failed_in r) old new) (sym e) h
 turns_fault old new result h (is_memory e) = subst (λ r. HasTurns (failed_in r) old new) (sym e) h
 
-want_fault : (result : Answer) → IsFaultAnswer result → RefusesNoWant result
-want_fault result (is_host e) = subst RefusesNoWant (sym e) tt
-want_fault result (is_memory e) = subst RefusesNoWant (sym e) tt
+fault_not_out_of_memory : (result : Answer) → IsFaultAnswer result → RefusalIsNotOutOfMemory result
+fault_not_out_of_memory result (is_host e) = subst RefusalIsNotOutOfMemory (sym e) tt
+fault_not_out_of_memory result (is_memory e) = subst RefusalIsNotOutOfMemory (sym e) tt
 
 not_ok : (result : Answer) → IsFaultAnswer result → result ≡ answers.Ok → ⊥
 not_ok result (is_host e) ok = absurd cc
@@ -207,13 +207,13 @@ answered_fault made plan old new d e f g s t v text mid text_after result the u 
     let is : IsFaultAnswer result = fault_answer host_fault_line t v mid text_after result tells in
     record {
       clean = λ ok. absurd (not_ok result is ok);
-      came = fault_came made [] old new d e result is (came_of made plan.steps old new d e ends.HostFault (has_plan plan d the) u.done);
+      happened = fault_happened made [] old new d e result is (happened_of made plan.steps old new d e ends.HostFault (has_plan plan d the) u.done);
       counts = fault_counts host_fault_line f g new.running s t v mid text_after result u.counts.0 u.counts.1 tells;
       usage = λ h. absurd (h refl);
       alone = λ h. absurd (h refl);
       turns = turns_fault old.events new.events result u.turns is;
       starts_none = none_fault old new result is;
-      no_want = want_fault result is;
+      not_out_of_memory = fault_not_out_of_memory result is;
       no_usage = λ h. absurd (not_used result is h);
       not_yet = both_map d e (λ b a h line should. inr (cut_fault result is)) u.done;
       without_tokens = both_map d e (λ b a h fault should. inr (cut_fault result is)) u.done;
@@ -232,13 +232,13 @@ any_some : (d : Option Disk) → IfSome d Anything
 any_some None = tt
 any_some (Some b) = tt
 
--- the report of one line, where nothing came to pass
+-- the report of one line, where nothing happened
 line_reported : (made : List ℕ → List (List ℕ × List ℕ) → List ℕ → List ℕ) (words : List (List ℕ)) (answer : Answer) (line : List ℕ) (f g : ℕ) (family : Family) (text text_after : Option (List ℕ)) (disk : Disk) (result : Answer)
     → ((events : List ChildEvent) → ReportedBy made words f g answer disk events line) → ((events : List ChildEvent) (part : List ℕ) → BeginsWith line part → FailsAtWrite made words disk events part)
     → Tells answer line f g text text_after result → HasReported made words f g result family family text text_after disk
 line_reported made words answer line f g family None text_after disk result whole begins tells = λ events are. tt
 line_reported made words answer line f g family (Some so_far) text_after disk result whole begins (told is count taken) = λ events are. (line, taken, subst (λ r. ReportedBy made words f g r disk events line) (sym is) (whole events))
-line_reported made words answer line f g family (Some so_far) text_after disk result whole begins (failed part is rose front taken) = λ events are. (part, taken, subst (λ r. ReportedBy made words f g r disk events part) (sym is) (begins events part front))
+line_reported made words answer line f g family (Some so_far) text_after disk result whole begins (failed part is rose prefix taken) = λ events are. (part, taken, subst (λ r. ReportedBy made words f g r disk events part) (sym is) (begins events part prefix))
 line_reported made words answer line f g family (Some so_far) text_after disk result whole begins (no_memory is count taken) = λ events are. ([], taken, subst (λ r. ReportedBy made words f g r disk events []) (sym is) (nothing (no_event family.events events are) refl))
 
 -- the answer that a line was told for, or one that cuts it short
@@ -249,7 +249,7 @@ data IsLineAnswer (answer result : Answer) (f g : ℕ) : Type 0 where
 
 line_answer : (answer : Answer) (line : List ℕ) (f g : ℕ) (before after : Option (List ℕ)) (result : Answer) → Tells answer line f g before after result → IsLineAnswer answer result f g
 line_answer answer line f g before after result (told is count taken) = is_told is count
-line_answer answer line f g before after result (failed part is rose front taken) = is_sink is rose
+line_answer answer line f g before after result (failed part is rose prefix taken) = is_sink is rose
 line_answer answer line f g before after result (no_memory is count taken) = is_short is
 
 -- what holds of the told answer and of those that cut it short holds of the result
@@ -261,7 +261,7 @@ by_line P answer result f g a b c (is_short is) = subst P (sym is) c
 -- a line was told, or cut short
 line_counts : (answer : Answer) (line : List ℕ) (f : ℕ) (left : List Child) (s t : ℕ) (before after : Option (List ℕ)) (result : Answer) → (t ≡ s → CountsTold f f left s t answer) → Tells answer line s t before after result → CountsTold f f left s t result
 line_counts answer line f left s t before after result whole (told is count taken) = subst (CountsTold f f left s t) (sym is) (whole count)
-line_counts answer line f left s t before after result whole (failed part is rose front taken) = subst (CountsTold f f left s t) (sym is) (rose, inl refl)
+line_counts answer line f left s t before after result whole (failed part is rose prefix taken) = subst (CountsTold f f left s t) (sym is) (rose, inl refl)
 line_counts answer line f left s t before after result whole (no_memory is count taken) = subst (CountsTold f f left s t) (sym is) count
 
 -- the usage line was told
@@ -271,18 +271,18 @@ answered_usage made words family d f s t text text_after result some idle tells 
     let is : IsLineAnswer answers.Usage result s t = line_answer answers.Usage usage_line s t text text_after result tells in
     record {
       clean = by_line (λ r. r ≡ answers.Ok → BothTold (LeavesClean made) d d) answers.Usage result s t (λ c ok. absurd cc) (λ rose ok. absurd cc) (λ ok. absurd cc) is;
-      came = both_same (CameToPass made words result family family) Anything d (any_some d) (λ b x. by_line (λ r. CameToPass made words r family family b b) answers.Usage result s t (λ c. (record { family = refl; disk = refl }, some)) (λ rose. inl (record { family = refl; disk = refl })) (inl (record { family = refl; disk = refl })) is);
+      happened = both_same (HasHappened made words result family family) Anything d (any_some d) (λ b x. by_line (λ r. HasHappened made words r family family b b) answers.Usage result s t (λ c. (record { family = refl; disk = refl }, some)) (λ rose. inl (record { family = refl; disk = refl })) (inl (record { family = refl; disk = refl })) is);
       counts = line_counts answers.Usage usage_line f family.running s t text text_after result (λ c. (refl, c)) tells;
       usage = λ h. by_line IsOfWords answers.Usage result s t (λ c. inl refl) (λ rose. inr (inl refl)) (inr (inr refl)) is;
       alone = λ h. record { family = refl; disk = refl; count = refl };
       turns = by_line (λ r. HasTurns (failed_in r) family.events family.events) answers.Usage result s t (λ c. turns_none family.events family.events refl) (λ rose. turns_none family.events family.events refl) (turns_none family.events family.events refl) is;
       starts_none = by_line (λ r. StartsNone r family family) answers.Usage result s t (λ c. refl) (λ rose. tt) tt is;
-      no_want = by_line RefusesNoWant answers.Usage result s t (λ c. tt) (λ rose. tt) tt is;
+      not_out_of_memory = by_line RefusalIsNotOutOfMemory answers.Usage result s t (λ c. tt) (λ rose. tt) tt is;
       no_usage = λ h. some;
       not_yet = both_same _ Anything d (any_some d) (λ b x line should. absurd (some should.0));
       without_tokens = both_same _ Anything d (any_some d) (λ b x fault should. absurd (some should.0));
       complete = both_same _ Anything d (any_some d) (λ b x steps should c1 c2. absurd (some should.no_word));
-      reported = both_same (λ b a. HasReported made words s t result family family text text_after b) Anything d (any_some d) (λ b x. line_reported made words answers.Usage usage_line s t family text text_after b result (λ events. refl) (λ events part front. fails_usage some front) tells);
+      reported = both_same (λ b a. HasReported made words s t result family family text text_after b) Anything d (any_some d) (λ b x. line_reported made words answers.Usage usage_line s t family text text_after b result (λ events. refl) (λ events part prefix. fails_usage some prefix) tells);
       none_left = inl idle;
     }
 
@@ -290,9 +290,9 @@ answered_usage made words family d f s t text text_after result some idle tells 
 abbrev HasTaken_of : List ℕ → Option (List ℕ) → Option (List ℕ)
 HasTaken_of bytes before = option_map (λ so_far. so_far ++ bytes) before
 
--- where no event came, the refusal is the whole report
+-- where no event happened, the refusal is the whole report
 at_start : (s t : ℕ) (b : Disk) (events : List ChildEvent) (part : List ℕ) → events ≡ [] → ((part ≡ host_fault_line) × (t ≡ s)) ⊎ (Rose s t × BeginsWith host_fault_line part) → TellsHostFault s t b events part
-at_start s t b events part none ended = record { steps = []; lines = []; planned = inr none; tells = record { front = []; rest = events; whole = refl; only_ends = subst (λ (e : List ChildEvent). AllByRecursion (λ event. is_done event ≡ true) e) (sym none) tt; lines = refl }; refusal = part; written_is = refl; ended = ended }
+at_start s t b events part none ended = record { steps = []; lines = []; planned = inr none; tells = record { prefix = []; rest = events; whole = refl; only_ends = subst (λ (e : List ChildEvent). AllByRecursion (λ event. is_done event ≡ true) e) (sym none) tt; lines = refl }; refusal = part; written_is = refl; ended = ended }
 
 -- the host failed before anything was started
 pub answered_unread : (made : List ℕ → List (List ℕ × List ℕ) → List ℕ → List ℕ) (family : Family) (d : Option Disk) (f g s t : ℕ) (text text_after : Option (List ℕ)) (result : Answer)
@@ -301,13 +301,13 @@ answered_unread made family d f g s t text text_after result rose idle tells =
     let is : IsFaultAnswer result = fault_answer host_fault_line s t text text_after result tells in
     record {
       clean = λ ok. absurd (not_ok result is ok);
-      came = both_same (CameToPass made [] result family family) Anything d (any_some d) (λ b x. came b is);
+      happened = both_same (HasHappened made [] result family family) Anything d (any_some d) (λ b x. happened b is);
       counts = fault_counts host_fault_line f g family.running s s t text text_after result rose refl tells;
       usage = λ h. absurd (h refl);
       alone = λ h. absurd (h refl);
       turns = turns_fault family.events family.events result (turns_none family.events family.events refl) is;
       starts_none = none_fault family family result is;
-      no_want = want_fault result is;
+      not_out_of_memory = fault_not_out_of_memory result is;
       no_usage = λ h. absurd (not_used result is h);
       not_yet = both_same _ Anything d (any_some d) (λ b x line should. inr (cut_fault result is));
       without_tokens = both_same _ Anything d (any_some d) (λ b x fault should. inr (cut_fault result is));
@@ -316,15 +316,15 @@ answered_unread made family d f g s t text text_after result rose idle tells =
       none_left = inl idle;
     }
   where
-    came : (b : Disk) → IsFaultAnswer result → CameToPass made [] result family family b b
-    came b (is_host e) = subst (λ r. CameToPass made [] r family family b b) (sym e) (inl (record { family = refl; disk = refl }))
-    came b (is_memory e) = subst (λ r. CameToPass made [] r family family b b) (sym e) (inl (record { family = refl; disk = refl }))
+    happened : (b : Disk) → IsFaultAnswer result → HasHappened made [] result family family b b
+    happened b (is_host e) = subst (λ r. HasHappened made [] r family family b b) (sym e) (inl (record { family = refl; disk = refl }))
+    happened b (is_memory e) = subst (λ r. HasHappened made [] r family family b b) (sym e) (inl (record { family = refl; disk = refl }))
 
     told_fault : (b : Disk) (events : List ChildEvent) (written : List ℕ) → events ≡ [] → TellsFault host_fault_line s t text text_after result → written ≡ [] → (so_far : List ℕ) → text ≡ Some so_far → (all : List ℕ) × (text_after ≡ Some (so_far ++ all)) × ReportedBy made [] s t result b events all
     told_fault b events written none (fault_told is count taken) nil so_far e =
         (host_fault_line, taken ∙ ap (λ x. HasTaken_of host_fault_line x) e, subst (λ r. ReportedBy made [] s t r b events host_fault_line) (sym is) (at_start s t b events host_fault_line none (inl (refl, count))))
-    told_fault b events written none (fault_failed part is rose front taken) nil so_far e =
-        (part, taken ∙ ap (λ x. HasTaken_of part x) e, subst (λ r. ReportedBy made [] s t r b events part) (sym is) (at_start s t b events part none (inr (rose, front))))
+    told_fault b events written none (fault_failed part is rose prefix taken) nil so_far e =
+        (part, taken ∙ ap (λ x. HasTaken_of part x) e, subst (λ r. ReportedBy made [] s t r b events part) (sym is) (at_start s t b events part none (inr (rose, prefix))))
     told_fault b events written none (fault_no_memory is count taken) nil so_far e =
         ([], taken ∙ ap (λ x. HasTaken_of [] x) e, subst (λ r. ReportedBy made [] s t r b events []) (sym is) (nothing none refl))
 
@@ -382,30 +382,30 @@ the_fault_told : (stop : Stop) (fault : Fault) (d : Option Disk) → IsFaultOf s
 the_fault_told stop fault None is the = tt
 the_fault_told stop fault (Some b) is the = the_fault stop fault b is the
 
--- what is refused for a stop holds no want of memory
-holds_no_want : (stop : Stop) (fault : Fault) → IsFaultOf stop fault → NamesText stop → HoldsNoWant fault
-holds_no_want (stops.NotYet line) fault is names = subst HoldsNoWant (sym is) tt
-holds_no_want (stops.Lex cause) fault is names = subst HoldsNoWant (sym is) names
+-- what is refused for a stop does not stand for running out of memory
+holds_no_want : (stop : Stop) (fault : Fault) → IsFaultOf stop fault → NamesText stop → IsNotOutOfMemory fault
+holds_no_want (stops.NotYet line) fault is names = subst IsNotOutOfMemory (sym is) tt
+holds_no_want (stops.Lex cause) fault is names = subst IsNotOutOfMemory (sym is) names
 holds_no_want stops.OutOfMemory fault is names = absurd is
 
 answered_refused : (made : List ℕ → List (List ℕ × List ℕ) → List ℕ → List ℕ) (family : Family) (d : Option Disk) (f s t : ℕ) (text text_after : Option (List ℕ)) (result : Answer) (fault : Fault)
-    → HoldsNoWant fault → IfSome d (IsTheFault fault) → family.running ≡ [] → Tells (answers.Refused fault) (fault_line fault) s t text text_after result → IsAnswered made [] family family d d f f s t text text_after result
+    → IsNotOutOfMemory fault → IfSome d (IsTheFault fault) → family.running ≡ [] → Tells (answers.Refused fault) (fault_line fault) s t text text_after result → IsAnswered made [] family family d d f f s t text text_after result
 answered_refused made family d f s t text text_after result fault holds the idle tells =
     let is : IsLineAnswer (answers.Refused fault) result s t = line_answer (answers.Refused fault) (fault_line fault) s t text text_after result tells in
     record {
       clean = by_line (λ r. r ≡ answers.Ok → BothTold (LeavesClean made) d d) (answers.Refused fault) result s t (λ c ok. absurd cc) (λ rose ok. absurd cc) (λ ok. absurd cc) is;
-      came = both_same (CameToPass made [] result family family) (IsTheFault fault) d the (λ b x. by_line (λ r. CameToPass made [] r family family b b) (answers.Refused fault) result s t (λ c. (record { family = refl; disk = refl }, x.cause)) (λ rose. inl (record { family = refl; disk = refl })) (inl (record { family = refl; disk = refl })) is);
+      happened = both_same (HasHappened made [] result family family) (IsTheFault fault) d the (λ b x. by_line (λ r. HasHappened made [] r family family b b) (answers.Refused fault) result s t (λ c. (record { family = refl; disk = refl }, x.cause)) (λ rose. inl (record { family = refl; disk = refl })) (inl (record { family = refl; disk = refl })) is);
       counts = line_counts (answers.Refused fault) (fault_line fault) f family.running s t text text_after result (λ c. (refl, c)) tells;
       usage = λ h. absurd (h refl);
       alone = λ h. absurd (h refl);
       turns = by_line (λ r. HasTurns (failed_in r) family.events family.events) (answers.Refused fault) result s t (λ c. turns_none family.events family.events refl) (λ rose. turns_none family.events family.events refl) (turns_none family.events family.events refl) is;
       starts_none = by_line (λ r. StartsNone r family family) (answers.Refused fault) result s t (λ c. refl) (λ rose. tt) tt is;
-      no_want = by_line RefusesNoWant (answers.Refused fault) result s t (λ c. holds) (λ rose. tt) tt is;
+      not_out_of_memory = by_line RefusalIsNotOutOfMemory (answers.Refused fault) result s t (λ c. holds) (λ rose. tt) tt is;
       no_usage = λ e. absurd (by_line (λ r. r ≡ answers.Usage → ⊥) (answers.Refused fault) result s t (λ c e. cc) (λ rose e. cc) (λ e. cc) is e);
       not_yet = both_same _ (IsTheFault fault) d the (λ b x line should. by_line (λ r. (r ≡ answers.Refused (faults.NotYet jamroot line)) ⊎ IsCutShort r) (answers.Refused fault) result s t (λ c. inl (ap answers.Refused (x.not_yet line should.1))) (λ rose. inr cut_sink) (inr cut_memory) is);
       without_tokens = both_same _ (IsTheFault fault) d the (λ b x cause should. by_line (λ r. (r ≡ answers.Refused (no_tokens cause)) ⊎ IsCutShort r) (answers.Refused fault) result s t (λ c. inl (ap answers.Refused (x.without_tokens cause should.1))) (λ rose. inr cut_sink) (inr cut_memory) is);
       complete = both_same _ (IsTheFault fault) d the (λ b x steps should c1 c2. absurd (x.no_plan steps should.plan));
-      reported = both_same (λ b a. HasReported made [] s t result family family text text_after b) (IsTheFault fault) d the (λ b x. line_reported made [] (answers.Refused fault) (fault_line fault) s t family text text_after b result (λ events. refl) (λ events part front. fails_refusal fault x.cause front) tells);
+      reported = both_same (λ b a. HasReported made [] s t result family family text text_after b) (IsTheFault fault) d the (λ b x. line_reported made [] (answers.Refused fault) (fault_line fault) s t family text text_after b result (λ events. refl) (λ events part prefix. fails_refusal fault x.cause prefix) tells);
       none_left = inl idle;
     }
 
@@ -414,13 +414,13 @@ answered_memory : (made : List ℕ → List (List ℕ × List ℕ) → List ℕ 
     → family.running ≡ [] → result ≡ answers.OutOfMemory → t ≡ s → text_after ≡ text → IsAnswered made [] family family d d f f s t text text_after result
 answered_memory made family d f s t text text_after result idle is count same = subst (IsAnswered made [] family family d d f f s t text text_after) (sym is) (record {
   clean = λ ok. absurd cc;
-  came = both_same (CameToPass made [] answers.OutOfMemory family family) Anything d (any_some d) (λ b x. inl (record { family = refl; disk = refl }));
+  happened = both_same (HasHappened made [] answers.OutOfMemory family family) Anything d (any_some d) (λ b x. inl (record { family = refl; disk = refl }));
   counts = count;
   usage = λ h. absurd (h refl);
   alone = λ h. absurd (h refl);
   turns = turns_none family.events family.events refl;
   starts_none = tt;
-  no_want = tt;
+  not_out_of_memory = tt;
   no_usage = λ e. absurd cc;
   not_yet = both_same _ Anything d (any_some d) (λ b x line should. inr cut_memory);
   without_tokens = both_same _ Anything d (any_some d) (λ b x fault should. inr cut_memory);

@@ -1,6 +1,6 @@
-use Rattle.std.proofs.Common.{◌≡◌, ◌≢◌, ℕ, ◌+◌, ◌-◌, ◌<◌, ◌≤◌, Bool, true, false, cond, suc, zero, List, [], ◌∷◌, ◌++◌, map, filter, length, take, drop, get_or, reverse, slice_range, ◌⊎◌, ◌↔◌, inl, inr, not, IsTrue, string_bytes, refl, ap, sym, ◌∙◌, subst, append_assoc, arith}
+use Rattle.std.proofs.Common.{◌≡◌, ◌≢◌, ℕ, ◌+◌, ◌-◌, ◌<◌, ◌≤◌, Bool, true, false, cond, zero, List, [], ◌∷◌, ◌++◌, map, filter, length, take, drop, get_or, reverse, slice_range, ◌↔◌, inl, inr, not, IsTrue, refl, ap, sym, ◌∙◌, subst, append_assoc, arith}
 use Rattle.std.specs.List.{All, AllByRecursion, position_or_len, prefix_len, suffix_len, join_with_byte}
-use Rattle.std.proofs.lemmas.List.{take_more, length-append, length-take, get_or-take, drop_at, get_or_at, get_or-reverse, length-reverse, take-append-drop}
+use Rattle.std.proofs.lemmas.List.{take_more, length-append, length-take, get_or-take, drop_at, get_or_at, get_or-reverse}
 use Rattle.std.proofs.lemmas.List.Elements.{All-cons, All-head, All-tail, All-nil, All-take, All-drop, recursion_from_All, All-from_recursion, filter-append}
 use Rattle.std.proofs.lemmas.List.Splits.{slice_split_at, slice_split_none}
 use Rattle.std.proofs.lemmas.List.Sums.{split_at_first, fails_before_first, passes_at_first, prefix_len-le-length, prefix_len_passes, suffix_len-le-length}
@@ -32,7 +32,7 @@ pub ruleset joins = (join_more, join_first, append_assoc)
 
 -- ---- a cut text
 
--- the first word, the white space behind it and the rest
+-- the first word, the white space after it and the rest
 pub cut_at : (text word : List ℕ) (white : ℕ) (rest : List ℕ) (end : ℕ) → end ≡ position_or_len is_white text → end < length text → word ≡ slice_range text 0 end → white ≡ get_or text end 0 → rest ≡ drop (end + 1) text → IsCut text word white rest
 cut_at text word white rest end e h w b r =
     let n : ℕ = position_or_len is_white text in
@@ -105,15 +105,15 @@ word_boundary text end e h =
     let within : position_or_len is_white text < length text = subst (λ k. k < length text) e h in
     IsCharBoundary-before_ascii text end h (white_small (get_or text end 0) (ap (λ k. is_white (get_or text k 0)) e ∙ passes_at_first is_white text 0 within))
 
--- and behind it
+-- and after it
 pub rest_boundary : (text : List ℕ) (end : ℕ) → IsUtf8 text → end ≡ position_or_len is_white text → end < length text → IsCharBoundary text (end + 1)
 rest_boundary text end u e h =
     let within : position_or_len is_white text < length text = subst (λ k. k < length text) e h in
     IsCharBoundary-after_ascii text end u h (white_small (get_or text end 0) (ap (λ k. is_white (get_or text k 0)) e ∙ passes_at_first is_white text 0 within))
 
--- a text may be cut behind white space that comes first
-pub front_boundary : (text : List ℕ) → IsUtf8 text → 0 < prefix_len is_white text → IsCharBoundary text (prefix_len is_white text)
-front_boundary text u some =
+-- a text may be cut after white space that comes first
+pub start_boundary : (text : List ℕ) → IsUtf8 text → 0 < prefix_len is_white text → IsCharBoundary text (prefix_len is_white text)
+start_boundary text u some =
     let n : ℕ = prefix_len is_white text in
     let within : n ≤ length text = prefix_len-le-length is_white text in
     let last : n - 1 < length text = omega (arith, within, some) in

@@ -23,7 +23,7 @@ use Rattle.b2_top.specs.declared.answer.Answer.TheVariants as answers
 use Rattle.b2_top.specs.Rules.{roots}
 use Rattle.b2_top.specs.Jamroots.{outs_of}
 use Rattle.b2_top.specs.ProjectFiles.{jamroot_of, HasPlan}
-use Rattle.b2_top.specs.Builds.{build_at, update_at, HasBuilt, CameToPass, LeavesClean, ShouldEndWell}
+use Rattle.b2_top.specs.Builds.{build_at, update_at, HasBuilt, HasHappened, LeavesClean, ShouldEndWell}
 
 -- nothing is in the empty list
 pub not_in_nil : {X Y : Type 0} (x : X) → Contains [] x → Y
@@ -47,7 +47,7 @@ none_skipped made steps disk events sources well i (skip_missing j step path lef
     go (input p among) = missing (sources i step path at among)
     go (include p bytes found k v includes) = not_in_nil includes.include includes.listed
 none_skipped made steps disk events sources well i (skip_failed j step path k other left at known makes failed) = well k failed
-none_skipped made steps disk events sources well i (skip_skipped j step path k other left at known makes skipped) = none_skipped made steps disk events sources well k skipped
+none_skipped made steps disk events sources well i (skip_skipped j step path k other left at known makes was) = none_skipped made steps disk events sources well k was
 none_skipped made steps disk events sources well i (skip_quits j k left quit failed) = absurd cc
 
 -- nothing lacks where all sources stand and no step failed
@@ -81,7 +81,7 @@ clean_build made steps before after events plain ended path is_wanted =
       | inl settled ↦ inl (ended.clean maker.0 maker.1 path needed maker.2 (settled maker.1 path maker.2) (plain.leaves_files maker.0 maker.1 maker.2.at))
       | inr other ↦ elim other [
         | inl failed ↦ not_in_nil maker.0 (ended.lacking.failed.whole maker.0 failed)
-        | inr skipped ↦ not_in_nil maker.0 (ended.lacking.skipped.whole maker.0 skipped)
+        | inr was ↦ not_in_nil maker.0 (ended.lacking.skipped.whole maker.0 was)
       ]
     ]
 
@@ -101,18 +101,18 @@ began made steps wants folders disk = update_all (build_of steps wants folders m
 pub at_plan : (P : (Disk → Update) → Type 0) (made : List ℕ → List (List ℕ × List ℕ) → List ℕ → List ℕ) (steps : List Step) (wants folders : List (List ℕ)) → wants ≡ outs_of steps → folders ≡ roots → P (began made steps wants folders) → P (update_at made steps)
 at_plan P made steps wants folders w r h = subst (λ x. P (began made steps x roots)) w (subst (λ x. P (began made steps wants x)) r h)
 
--- what came to pass in an update is what came to pass in the call
-pub came_of : (made : List ℕ → List (List ℕ × List ℕ) → List ℕ → List ℕ) (steps : List Step) (old new : Family) (d e : Option Disk) (r : UpdateAnswer)
-    → IfSome d (λ before. HasPlan (jamroot_of before) steps) → BothTold (λ before after. HasUpdated (update_at made steps before) old new r before after) d e → BothTold (CameToPass made [] (top_of r) old new) d e
-came_of made steps old new None None r plan told = tt
-came_of made steps old new None (Some after) r plan told = told
-came_of made steps old new (Some before) None r plan told = told
-came_of made steps old new (Some before) (Some after) r plan told = go r told
+-- what happened in an update is what happened in the call
+pub happened_of : (made : List ℕ → List (List ℕ × List ℕ) → List ℕ → List ℕ) (steps : List Step) (old new : Family) (d e : Option Disk) (r : UpdateAnswer)
+    → IfSome d (λ before. HasPlan (jamroot_of before) steps) → BothTold (λ before after. HasUpdated (update_at made steps before) old new r before after) d e → BothTold (HasHappened made [] (top_of r) old new) d e
+happened_of made steps old new None None r plan told = tt
+happened_of made steps old new None (Some after) r plan told = told
+happened_of made steps old new (Some before) None r plan told = told
+happened_of made steps old new (Some before) (Some after) r plan told = go r told
   where
     built : (q : UpdateAnswer) → (u : HasUpdated (update_at made steps before) old new q before after) → HasBuilt made [] steps u.events old new before after
     built q u = record { no_word = refl; plan = plan; ran = u.ran }
 
-    go : (q : UpdateAnswer) → HasUpdated (update_at made steps before) old new q before after → CameToPass made [] (top_of q) old new before after
+    go : (q : UpdateAnswer) → HasUpdated (update_at made steps before) old new q before after → HasHappened made [] (top_of q) old new before after
     go ends.Done u = (steps, u.events, built ends.Done u, u.told)
     go (ends.Failed lists) u = (steps, u.events, built (ends.Failed lists) u, u.told.0, u.told.1)
     go ends.HostFault u = inr (steps, u.events, built ends.HostFault u)

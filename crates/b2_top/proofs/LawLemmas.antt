@@ -9,7 +9,7 @@ use Rattle.b2_top.specs.Readings.{line_at}
 use Rattle.b2_top.specs.Rules.{KeepsRules}
 use Rattle.b2_top.specs.Bodies.{is_white, words, spaces, woven}
 use Rattle.b2_top.specs.Jamroots.{PlanOf, FirstBad, BreaksFirst, StopsFirst, step_of}
-use Rattle.b2_top.proofs.WholeLemmas.{one_reading}
+use Rattle.b2_top.proofs.StatementLemmas.{one_reading}
 use Rattle.b2_top.proofs.PlanLemmas.{lower}
 
 same_reading : (tokens : List Token) (read other : List Statement) (rest left : List Token) → IsRead tokens read rest → IsRead tokens other left → (read ≡ other) × (rest ≡ left)

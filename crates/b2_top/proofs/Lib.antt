@@ -1,13 +1,14 @@
 pub mod NameLemmas
 pub mod ReadLemmas
-pub mod WholeLemmas
+pub mod StatementLemmas
 pub mod BodyLemmas
 pub mod NormalLemmas
 pub mod RuleLemmas
 pub mod StepLemmas
 pub mod PlanLemmas
+pub mod KindLemmas
 pub mod LawLemmas
-pub mod Exactly
+pub mod ExactLemmas
 pub mod BuildLemmas
 pub mod ReportLemmas
 pub mod AnsweredLemmas

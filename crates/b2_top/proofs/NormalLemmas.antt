@@ -1,9 +1,10 @@
-use Rattle.std.proofs.Common.{◌≡◌, ◌≢◌, ℕ, Bool, true, false, ◌||◌, List, [], ◌∷◌, codes, IsTrue, refl, ap, sym, ◌∙◌}
+use Rattle.std.proofs.Common.{◌≡◌, ◌≢◌, ℕ, ◌<◌, Bool, true, false, ◌||◌, List, [], ◌∷◌, codes, IsTrue, refl, ap, sym, ◌∙◌, lit<}
 use Rattle.std.specs.List.{AllByRecursion}
 use Rattle.std.proofs.lemmas.Bool.{true≢false}
-use Rattle.std.proofs.lemmas.List.Elements.{recursion_from_All}
+use Rattle.std.proofs.lemmas.List.Elements.{recursion_from_All, All-cons}
 use Rattle.std.proofs.lemmas.Slice.Eq.{bytes_eq-Decides}
 use Rattle.std.specs.Str.{bytes_eq}
+use Rattle.b2_base.specs.Bytes.{HasNoZero}
 use Rattle.b2_base.specs.Normal.{IsName, IsNormal}
 use Rattle.b2_top.specs.Rules.{is_name_byte, IsMakeName}
 use Rattle.b2_top.specs.Jamroots.{out_of}
@@ -28,6 +29,9 @@ normal_stage = record { rooted = false; ups = 0; names = codes "stage" ∷ []; t
 
 pub normal_dist : IsNormal (codes "dist")
 normal_dist = record { rooted = false; ups = 0; names = codes "dist" ∷ []; text_is = refl; at_root = λ _. refl; each = (record { shown = refl; name = refl; whole = whole (codes "dist") (refl, (refl, (refl, (refl, tt)))) }, tt) }
+
+pub normal_jamroot : IsNormal (codes "Jamroot")
+normal_jamroot = record { rooted = false; ups = 0; names = codes "Jamroot" ∷ []; text_is = refl; at_root = λ _. refl; each = (record { shown = refl; name = refl; whole = whole (codes "Jamroot") (refl, (refl, (refl, (refl, (refl, (refl, (refl, tt))))))) }, tt) }
 
 -- ---- the name of a `make`
 
@@ -56,6 +60,10 @@ normal_name name m = record { rooted = false; ups = 0; names = name ∷ []; text
 -- so is the output
 pub normal_out : (name : List ℕ) → IsMakeName name → IsNormal (out_of name)
 normal_out name m = record { rooted = false; ups = 0; names = codes "bin" ∷ name ∷ []; text_is = refl; at_root = λ _. refl; each = (name_bin, (is_name name m, tt)) }
+
+-- and it has no zero byte
+pub no_zero_out : (name : List ℕ) → HasNoZero name → HasNoZero (out_of name)
+no_zero_out name some = let P : ℕ → Type 0 = λ byte. 0 < byte in All-cons P 98 (105 ∷ 110 ∷ 47 ∷ name) (lit< tt) (All-cons P 105 (110 ∷ 47 ∷ name) (lit< tt) (All-cons P 110 (47 ∷ name) (lit< tt) (All-cons P 47 name (lit< tt) some)))
 
 -- so is the log
 pub normal_log : IsNormal (out_of (codes "b2.log"))

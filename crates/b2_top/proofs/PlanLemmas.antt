@@ -10,16 +10,34 @@ use Rattle.std.proofs.lemmas.List.Elements.{filter_map-append, Contains-append_l
 use Rattle.b2_base.specs.Normal.{IsNormal, IsUnder}
 use Rattle.b2_base.proofs.Under.{under_on, on_under}
 use Rattle.b2_plan.specs.declared.step.Step.{Step}
-use Rattle.b2_plan.specs.Plans.{step_at, Apart, log_path}
+use Rattle.b2_plan.specs.declared.plan.Plan.{Plan}
+use Rattle.b2_plan.specs.Plans.{step_at, Makes, Apart, log_path}
+use Rattle.b2_update.specs.Plain.{IsPlain}
 use Rattle.b2_top.specs.declared.statement.Make.{Make}
 use Rattle.b2_top.specs.declared.statement.Statement.{Statement}
 use Rattle.b2_top.specs.declared.statement.Statement.TheVariants as forms
 use Rattle.b2_top.specs.Statements.{make_in, makes_of, make_names}
 use Rattle.b2_top.specs.Rules.{is_name_byte, IsGoodMake, IsGoodSource, IsMakeName, IsSourcePath, KeepsRules, roots}
-use Rattle.b2_top.specs.Jamroots.{step_of, input_of, out_of, outs_of, IsInOrder, WantsAll, WantsOutputs, LeavesFiles}
+use Rattle.b2_top.specs.Jamroots.{step_of, input_of, out_of, outs_of, IsReady}
 use Rattle.b2_top.proofs.NormalLemmas.{whole, normal_bin, normal_out, normal_log}
 use Rattle.b2_top.proofs.RuleLemmas.{split_here, if_contains}
-use Rattle.b2_top.proofs.StepLemmas.{names_in_front}
+use Rattle.b2_top.proofs.StepLemmas.{names_before}
+
+-- a step reads outputs of earlier steps alone
+abbrev IsInOrder : List Step → Type 0
+IsInOrder steps = (i k : ℕ) (step other : Step) (path : List ℕ) → step_at steps i ≡ Some step → Contains step.ins path → Makes steps k other path → k < i
+
+-- each output is wanted
+abbrev WantsAll : List Step → List (List ℕ) → Type 0
+WantsAll steps wanted = (i : ℕ) (step : Step) (path : List ℕ) → Makes steps i step path → Contains wanted path
+
+-- nothing else is wanted
+abbrev WantsOutputs : List Step → List (List ℕ) → Type 0
+WantsOutputs steps wanted = (path : List ℕ) → Contains wanted path → (i : ℕ) × (step : Step) × Makes steps i step path
+
+-- each step owes a file at each output
+abbrev LeavesFiles : List Step → Type 0
+LeavesFiles steps = (i : ℕ) (step : Step) → step_at steps i ≡ Some step → step.notfile ≡ false
 
 -- ---- outputs
 
@@ -38,9 +56,9 @@ bin_not_root e = cc
 pub out_under_bin : (name : List ℕ) → IsMakeName name → IsUnder (out_of name) (codes "bin")
 out_under_bin name m = under_on (out_of name) (codes "bin") (normal_out name m) normal_bin bin_not_dot bin_not_root name refl
 
-slash_in : (front rest : List ℕ) → AllByRecursion (λ byte. byte ≢ 47) (front ++ 47 ∷ rest) → ⊥
+slash_in : (prefix rest : List ℕ) → AllByRecursion (λ byte. byte ≢ 47) (prefix ++ 47 ∷ rest) → ⊥
 slash_in [] rest a = a.0 refl
-slash_in (b ∷ front) rest a = slash_in front rest a.1
+slash_in (b ∷ prefix) rest a = slash_in prefix rest a.1
 
 -- no output lies below another path of `bin`
 out_under_none : (name other : List ℕ) → IsMakeName name → IsNormal (out_of other) → IsUnder (out_of name) (out_of other) → ⊥
@@ -54,7 +72,7 @@ same_name name other e = append_cancel_left (codes "bin/") name other e
 
 -- ---- makes and their places
 
--- a `make` stands behind some makes and before others
+-- a `make` follows some makes and precedes others
 record IsMakeAt (xs : List Statement) (number : ℕ) (m : Make) : Type 0 where
   place : ℕ
   there : slice_get xs place ≡ Some (forms.Make m)
@@ -78,11 +96,11 @@ make_place xs number m e =
     let p : PlaceOf xs number m = place_of xs number m e in
     record { place = p.place; there = p.there; number_is = p.number_is; makes_are = ap makes_of (split_here xs p.place (forms.Make m) p.there) ∙ filter_map-append make_in (take p.place xs) (forms.Make m ∷ drop (p.place + 1) xs) }
 
--- an element before or behind a place
-at_front : {A : Type 0} (xs ys : List A) (k : ℕ) → k < length xs → slice_get (xs ++ ys) k ≡ slice_get xs k
-at_front [] ys k h = absurd (omega (arith, h))
-at_front (x ∷ xs) ys zero h = refl
-at_front (x ∷ xs) ys (suc k) h = at_front xs ys k (omega (arith, h))
+-- an element before or after a place
+at_prefix : {A : Type 0} (xs ys : List A) (k : ℕ) → k < length xs → slice_get (xs ++ ys) k ≡ slice_get xs k
+at_prefix [] ys k h = absurd (omega (arith, h))
+at_prefix (x ∷ xs) ys zero h = refl
+at_prefix (x ∷ xs) ys (suc k) h = at_prefix xs ys k (omega (arith, h))
 
 at_back : {A : Type 0} (xs : List A) (x : A) (ys : List A) (k : ℕ) → length xs < k → slice_get (xs ++ x ∷ ys) k ≡ slice_get ys (k - length xs - 1)
 at_back [] x ys zero h = absurd (omega (arith, h))
@@ -106,12 +124,12 @@ map_get f (x ∷ xs) (suc k) y e = map_get f xs k y e
 -- a `make` of a lower number stands before
 name_before : (xs : List Statement) (number : ℕ) (m : Make) (at : IsMakeAt xs number m) (k : ℕ) (other : Make) → slice_get (makes_of xs) k ≡ Some other → k < number → Contains (make_names (take at.place xs)) other.name
 name_before xs number m at k other e h =
-    let front : slice_get (makes_of (take at.place xs)) k ≡ Some other = sym (at_front (makes_of (take at.place xs)) (m ∷ makes_of (drop (at.place + 1) xs)) k (subst (λ n. k < n) (sym at.number_is) h)) ∙ sym (ap (λ ms. slice_get ms k) at.makes_are) ∙ e in
-    contains_get (make_names (take at.place xs)) k other.name (get_map (λ (x : Make). x.name) (makes_of (take at.place xs)) k other front)
+    let prefix : slice_get (makes_of (take at.place xs)) k ≡ Some other = sym (at_prefix (makes_of (take at.place xs)) (m ∷ makes_of (drop (at.place + 1) xs)) k (subst (λ n. k < n) (sym at.number_is) h)) ∙ sym (ap (λ ms. slice_get ms k) at.makes_are) ∙ e in
+    contains_get (make_names (take at.place xs)) k other.name (get_map (λ (x : Make). x.name) (makes_of (take at.place xs)) k other prefix)
 
--- a `make` of a higher number stands behind
-name_behind : (xs : List Statement) (number : ℕ) (m : Make) (at : IsMakeAt xs number m) (k : ℕ) (other : Make) → slice_get (makes_of xs) k ≡ Some other → number < k → Contains (make_names (drop (at.place + 1) xs)) other.name
-name_behind xs number m at k other e h =
+-- a `make` of a higher number comes later
+name_after : (xs : List Statement) (number : ℕ) (m : Make) (at : IsMakeAt xs number m) (k : ℕ) (other : Make) → slice_get (makes_of xs) k ≡ Some other → number < k → Contains (make_names (drop (at.place + 1) xs)) other.name
+name_after xs number m at k other e h =
     let j : ℕ = k - length (makes_of (take at.place xs)) - 1 in
     let back : slice_get (makes_of (drop (at.place + 1) xs)) j ≡ Some other = sym (at_back (makes_of (take at.place xs)) m (makes_of (drop (at.place + 1) xs)) k (subst (λ n. n < k) (sym at.number_is) h)) ∙ sym (ap (λ ms. slice_get ms k) at.makes_are) ∙ e in
     contains_get (make_names (drop (at.place + 1) xs)) j other.name (get_map (λ (x : Make). x.name) (makes_of (drop (at.place + 1) xs)) j other back)
@@ -189,7 +207,7 @@ few xs good = subst (λ n. n ≤ 65536) (sym (length-map (makes_of xs) (step_of 
 name_good : (xs : List Statement) → ((k : ℕ) → KeepsRules xs k) → (i : ℕ) (step : Step) (s : StepMake xs i step) → IsMakeName s.make.name
 name_good xs good i step s = (good_make xs good s.number s.make (make_place xs s.number s.make s.there)).name
 
-pub apart : (xs : List Statement) → ((k : ℕ) → KeepsRules xs k) → Apart (steps_for xs) roots
+apart : (xs : List Statement) → ((k : ℕ) → KeepsRules xs k) → Apart (steps_for xs) roots
 apart xs good = record {
   under_root = λ i step path m.
       let s : StepMake xs i step = step_make xs i step m.at in
@@ -238,7 +256,7 @@ input_cases names source path e = go (list_any (bytes_eq source) names) refl
     go true h = inl (h, sym (ap (λ b. cond b (out_of source) source) h) ∙ e)
     go false h = inr (h, sym (ap (λ b. cond b (out_of source) source) h) ∙ e)
 
-pub in_order : (xs : List Statement) → ((k : ℕ) → KeepsRules xs k) → IsInOrder (steps_for xs)
+in_order : (xs : List Statement) → ((k : ℕ) → KeepsRules xs k) → IsInOrder (steps_for xs)
 in_order xs good i k step other path e c o =
     let s : StepMake xs i step = step_make xs i step e in
     let t : StepMake xs k other = step_make xs k other o.at in
@@ -257,7 +275,7 @@ in_order xs good i k step other path e c o =
 
         by_name : (t.number < s.number) ⊎ ((s.number < t.number) ⊎ (t.number ≡ s.number)) → t.number < s.number
         by_name (inl less) = less
-        by_name (inr (inl more)) = absurd (g.not_later (subst (Contains (make_names (drop (at.place + 1) xs))) (sym same) (name_behind xs s.number s.make at t.number t.make t.there more)))
+        by_name (inr (inl more)) = absurd (g.not_later (subst (Contains (make_names (drop (at.place + 1) xs))) (sym same) (name_after xs s.number s.make at t.number t.make t.there more)))
         by_name (inr (inr equal)) =
             let one : Some t.make ≡ Some s.make = sym t.there ∙ ap (slice_get (makes_of xs)) equal ∙ s.there in
             let own : t.make ≡ s.make = cc in
@@ -268,7 +286,7 @@ in_order xs good i k step other path e c o =
         is_out = h.1 ∙ sym (out_is xs k other path t o.among)
 
         no_path : Contains (make_names (take at.place xs)) f.source ⊎ IsSourcePath f.source → ⊥
-        no_path (inl c) = true≢false (sym (if_contains f.source (make_names xs) (names_in_front xs at.place f.source c)) ∙ h.0)
+        no_path (inl c) = true≢false (sym (if_contains f.source (make_names xs) (names_before xs at.place f.source c)) ∙ h.0)
         no_path (inr p) = p.no_output (codes "bin", (0, lit< tt, refl), subst (λ r. IsUnder r (codes "bin")) (sym is_out) (out_under_bin t.make.name (name_good xs good k other t)))
 
 -- ---- wanted files
@@ -278,7 +296,7 @@ outs_contain [] number step path e c = let bad : None ≡ Some step = e in cc
 outs_contain (s ∷ steps) zero step path e c = let one : Some s ≡ Some step = e in let same : step ≡ s = cc in Contains-append_left s.outs (outs_of steps) path (subst (λ (t : Step). Contains t.outs path) same c)
 outs_contain (s ∷ steps) (suc number) step path e c = Contains-append_right s.outs (outs_of steps) path (outs_contain steps number step path e c)
 
-pub wants_all : (steps : List Step) → WantsAll steps (outs_of steps)
+wants_all : (steps : List Step) → WantsAll steps (outs_of steps)
 wants_all steps zero step path m = let bad : None ≡ Some step = m.at in cc
 wants_all steps (suc number) step path m = outs_contain steps number step path m.at m.among
 
@@ -297,8 +315,25 @@ out_at (s ∷ steps) path c = go (out_at steps path) (Contains-append_cases s.ou
     go later (inl h) = record { number = 0; step = s; there = refl; among = h }
     go later (inr h) = let o : OutAt steps path = later h in record { number = suc o.number; step = o.step; there = o.there; among = o.among }
 
-pub wants_outputs : (steps : List Step) → WantsOutputs steps (outs_of steps)
+wants_outputs : (steps : List Step) → WantsOutputs steps (outs_of steps)
 wants_outputs steps path c = let o : OutAt steps path = out_at steps path c in (suc o.number, o.step, record { at = o.there; among = o.among })
 
-pub leaves_files : (xs : List Statement) → LeavesFiles (steps_for xs)
+leaves_files : (xs : List Statement) → LeavesFiles (steps_for xs)
 leaves_files xs i step e = let s : StepMake xs i step = step_make xs i step e in ap (λ (t : Step). t.notfile) s.step_is
+
+plain : (xs : List Statement) → ((k : ℕ) → KeepsRules xs k) → (steps : List Step) (wanted : List (List ℕ)) → steps ≡ steps_for xs → wanted ≡ outs_of steps → IsPlain steps wanted
+plain xs good steps wanted s w = record {
+  in_order = subst IsInOrder (sym s) (in_order xs good);
+  all_wanted = subst (WantsAll steps) (sym w) (wants_all steps);
+  wanted_made = subst (WantsOutputs steps) (sym w) (wants_outputs steps);
+  leaves_files = subst LeavesFiles (sym s) (leaves_files xs);
+}
+
+-- the plan of statements that keep the rules can be run
+pub ready : (xs : List Statement) → ((k : ℕ) → KeepsRules xs k) → (plan : Plan) → plan.steps ≡ steps_for xs → plan.wanted ≡ outs_of plan.steps → plan.roots ≡ roots → IsReady plan
+ready xs good plan s w r = record {
+  wanted = w;
+  roots = r;
+  apart = subst (λ (d : List (List ℕ)). Apart plan.steps d) (sym r) (subst (λ (l : List Step). Apart l roots) (sym s) (apart xs good));
+  plain = plain xs good plan.steps plan.wanted s w;
+}

@@ -1,9 +1,10 @@
-use Rattle.std.proofs.Common.{◌≡◌, ◌≢◌, ℕ, ◌+◌, Bool, true, false, cond, eqb, suc, List, [], ◌∷◌, ◌++◌, ◌⊎◌, inl, inr, map, length, take, drop, codes, Option, Some, None, option_map, option_and_then, MatchOption, refl, ap, sym, ◌∙◌, subst, append_assoc, arith}
+use Rattle.std.proofs.Common.{◌≡◌, ◌≢◌, ℕ, ◌+◌, Bool, true, false, cond, eqb, suc, List, [], ◌∷◌, ◌++◌, ◌⊎◌, inl, inr, map, length, take, drop, slice_get, codes, Option, Some, None, option_map, option_and_then, MatchOption, refl, ap, sym, ◌∙◌, subst, append_assoc, arith}
 use Rattle.std.specs.Borrow.{Bor}
 use Rattle.std.specs.Option.{option_or}
 use Rattle.std.specs.Str.{bytes_eq}
 use Rattle.std.proofs.lemmas.Bool.{eqb-true, true≢false}
-use Rattle.std.proofs.lemmas.List.{take-append-drop, map-append}
+use Rattle.std.proofs.lemmas.List.{take-append-drop, map-append, take_more}
+use Rattle.std.proofs.lemmas.Option.{slice_get_within, get_or_from_slice_get}
 use Rattle.std.proofs.lemmas.Slice.Eq.{bytes_eq-Decides}
 use Rattle.b2_base.specs.declared.token.Token.{Token}
 use Rattle.b2_base.specs.declared.token.TokenKind.{TokenKind}
@@ -11,7 +12,7 @@ use Rattle.b2_base.specs.declared.token.TokenKind.TheVariants.{Word, Key, Body}
 use Rattle.b2_top.specs.declared.statement.Statement.{Statement}
 use Rattle.b2_top.specs.declared.statement.Statement.TheVariants as forms
 use Rattle.b2_top.specs.Statements.{seen, first_line, Leads}
-use Rattle.b2_top.specs.Readings.{is_kind, first_of, behind, after, is_word, word_count, texts_of, rule_in, close_rest, body_rest, actions_first, end_rest, word_rest, rule_rest, source_rest, name_rest, make_first, statement_first}
+use Rattle.b2_top.specs.Readings.{is_kind, first_of, after_text, after, is_word, word_count, texts_of, rule_in, close_rest, body_rest, actions_first, end_rest, word_rest, rule_rest, source_rest, name_rest, make_first, statement_first}
 
 -- ---- options
 
@@ -67,7 +68,7 @@ kind_same Word = refl
 kind_same Key = refl
 kind_same Body = refl
 
--- the first of the tokens is this one, and the others stand behind it
+-- the first of the tokens is this one, and the others follow
 record Begins (kind : TokenKind) (text : List ℕ) (tokens more : List Token) : Type 0 where
   token : Token
   tokens_are : tokens ≡ token ∷ more
@@ -84,7 +85,7 @@ first_some kind (t ∷ more) f e = go (is_kind kind t.kind) refl
     go false h = let none : None ≡ Some f = sym (ap (λ b. cond b (Some (t.text, more)) None) h) ∙ e in cc
 
 after_some : (kind : TokenKind) (text : List ℕ) (tokens more : List Token) → after kind text tokens ≡ Some more → Begins kind text tokens more
-after_some kind text tokens more e = go (and_then_some (behind text) (first_of kind tokens) more e)
+after_some kind text tokens more e = go (and_then_some (after_text text) (first_of kind tokens) more e)
   where
     at : (f : List ℕ × List Token) → first_of kind tokens ≡ Some f → (b : Bool) → bytes_eq f.0 text ≡ b → cond b (Some f.1) None ≡ Some more → Begins kind text tokens more
     at f h true t r = subst (λ g. Begins kind g.0 tokens g.1) (pair_same ((bytes_eq-Decides f.0 text).0 t) (same_some f.1 more r)) (first_some kind tokens f h)
@@ -93,7 +94,7 @@ after_some kind text tokens more e = go (and_then_some (behind text) (first_of k
         pair_same p q = ap (λ (a : List ℕ). (a, f.1)) p ∙ ap (λ (b : List Token). (text, b)) q
     at f h false t r = let none : None ≡ Some more = r in cc
 
-    go : (f : List ℕ × List Token) × (first_of kind tokens ≡ Some f) × (behind text f ≡ Some more) → Begins kind text tokens more
+    go : (f : List ℕ × List Token) × (first_of kind tokens ≡ Some f) × (after_text text f ≡ Some more) → Begins kind text tokens more
     go x = at x.0 x.1 (bytes_eq x.0.0 text) refl x.2
 
 pub first_here : (kind : TokenKind) (t : Token) (text : List ℕ) (more : List Token) → seen t ≡ (kind, text) → first_of kind (t ∷ more) ≡ Some (text, more)
@@ -103,7 +104,7 @@ first_here kind t text more e =
     ap (λ b. cond b (Some (t.text, more)) None) (ap (is_kind kind) k ∙ kind_same kind) ∙ ap (λ s. Some (s, more)) x
 
 pub after_here : (kind : TokenKind) (t : Token) (text : List ℕ) (more : List Token) → seen t ≡ (kind, text) → after kind text (t ∷ more) ≡ Some more
-after_here kind t text more e = ap (option_and_then (behind text)) (first_here kind t text more e) ∙ ap (λ b. cond b (Some more) None) ((bytes_eq-Decides text text).1 refl)
+after_here kind t text more e = ap (option_and_then (after_text text)) (first_here kind t text more e) ∙ ap (λ b. cond b (Some more) None) ((bytes_eq-Decides text text).1 refl)
 
 pub not_here : (kind other : TokenKind) (t : Token) (text : List ℕ) (more : List Token) → seen t ≡ (other, text) → is_kind kind other ≡ false → first_of kind (t ∷ more) ≡ None
 not_here kind other t text more e h = ap (λ b. cond b (Some (t.text, more)) None) (ap (λ s. is_kind kind s.0) e ∙ h)
@@ -158,17 +159,17 @@ split (t ∷ own) x xs e = record { token = t; others = own; own_is = refl; seen
 -- some tokens, and then others
 pub record Parted (own : List Token) (xs ys : List (TokenKind × List ℕ)) : Type 0 where
   pub before : List Token
-  pub behind : List Token
-  pub own_is : own ≡ before ++ behind
+  pub later : List Token
+  pub own_is : own ≡ before ++ later
   pub before_seen : map seen before ≡ xs
-  pub behind_seen : map seen behind ≡ ys
+  pub after_seen : map seen later ≡ ys
 
 pub part : (own : List Token) (xs ys : List (TokenKind × List ℕ)) → map seen own ≡ xs ++ ys → Parted own xs ys
-part own [] ys e = record { before = []; behind = own; own_is = refl; before_seen = refl; behind_seen = e }
+part own [] ys e = record { before = []; later = own; own_is = refl; before_seen = refl; after_seen = e }
 part own (x ∷ xs) ys e =
     let s : Split own x (xs ++ ys) = split own x (xs ++ ys) e in
     let p : Parted s.others xs ys = part s.others xs ys s.others_seen in
-    record { before = s.token ∷ p.before; behind = p.behind; own_is = s.own_is ∙ ap (λ r. s.token ∷ r) p.own_is; before_seen = ap (λ r. seen s.token ∷ r) p.before_seen ∙ ap (λ r. r ∷ xs) s.seen_is; behind_seen = p.behind_seen }
+    record { before = s.token ∷ p.before; later = p.later; own_is = s.own_is ∙ ap (λ r. s.token ∷ r) p.own_is; before_seen = ap (λ r. seen s.token ∷ r) p.before_seen ∙ ap (λ r. r ∷ xs) s.seen_is; after_seen = p.after_seen }
 
 actions_lead : (tokens : List Token) (f : Statement × List Token) → actions_first tokens ≡ Some f → Leads tokens f.0 f.1
 actions_lead tokens f e =
@@ -246,3 +247,11 @@ read_leads tokens f e = go (or_cases (actions_first tokens) (make_first tokens) 
     go : (actions_first tokens ≡ Some f) ⊎ (make_first tokens ≡ Some f) → Leads tokens f.0 f.1
     go (inl h) = actions_lead tokens f h
     go (inr h) = make_lead tokens f h
+
+-- the text of one more token
+pub texts_more : (tokens : List Token) (place : ℕ) (token : Token) (text : List ℕ) (made more : List (List ℕ)) → slice_get tokens place ≡ Some token → text ≡ token.text → more ≡ made ++ text ∷ [] → made ≡ texts_of (take place tokens) → more ≡ texts_of (take (place + 1) tokens)
+texts_more tokens place token text made more there same e so_far =
+    let text_in : Token → List ℕ = λ t. t.text in
+    e ∙ ap (λ (t : List ℕ). made ++ t ∷ []) same ∙ ap (λ (r : List (List ℕ)). r ++ token.text ∷ []) so_far
+    ∙ sym (map-append text_in (take place tokens) (token ∷ []))
+    ∙ sym (ap (map text_in) (take_more tokens place token (slice_get_within tokens place token there) ∙ ap (λ (x : Token). take place tokens ++ x ∷ []) (get_or_from_slice_get tokens place token token there)))

@@ -19,11 +19,11 @@ use Rattle.b2_top.specs.Builds.BeginsSome.{update}
 use Rattle.b2_top.specs.Builds.FailsAtWrite.{update as fails_update}
 use Rattle.b2_top.proofs.BuildLemmas.{top_of}
 
--- bytes that were taken behind others
+-- bytes that were taken after others
 taken_more : (so_far written part : List ℕ) (mid after : Option (List ℕ)) → mid ≡ Some (so_far ++ written) → HasTaken part mid after → after ≡ Some (so_far ++ (written ++ part))
 taken_more so_far written part mid after e taken = taken ∙ ap (option_map (λ t. t ++ part)) e ∙ ap Some (append_assoc so_far written part)
 
--- no event came where nothing changed
+-- no event happened where nothing changed
 pub no_event : (old events : List ChildEvent) → old ≡ old ++ events → events ≡ []
 no_event [] events e = sym e
 no_event (x ∷ old) events e = no_event old events (tail_same old (old ++ events) x e)
@@ -58,10 +58,10 @@ fault_by made steps f g h disk events so_far written mid after result plan begin
   taken_more so_far written host_fault_line mid after e taken,
   subst (λ r. ReportedBy made [] f h r disk events (written ++ host_fault_line)) (sym is) (record { steps = steps; lines = written; planned = plan; tells = starts; refusal = host_fault_line; written_is = refl; ended = inl (refl, count ∙ same) }),
 )
-fault_by made steps f g h disk events so_far written mid after result plan begins starts same e (fault_failed part is rose front taken) = (
+fault_by made steps f g h disk events so_far written mid after result plan begins starts same e (fault_failed part is rose prefix taken) = (
   written ++ part,
   taken_more so_far written part mid after e taken,
-  subst (λ r. ReportedBy made [] f h r disk events (written ++ part)) (sym is) (record { steps = steps; lines = written; planned = plan; tells = starts; refusal = part; written_is = refl; ended = inr (subst (λ n. Rose n h) same rose, front) }),
+  subst (λ r. ReportedBy made [] f h r disk events (written ++ part)) (sym is) (record { steps = steps; lines = written; planned = plan; tells = starts; refusal = part; written_is = refl; ended = inr (subst (λ n. Rose n h) same rose, prefix) }),
 )
 fault_by made steps f g h disk events so_far written mid after result plan begins starts same e (fault_no_memory is count taken) = (
   written,

@@ -99,8 +99,8 @@ good_name xs name good c =
     let g : IsGoodMake (take m.place xs) m.make (drop (m.place + 1) xs) = good m.place (forms.Make m.make) m.there in
     subst IsMakeName m.name_is g.name
 
-pub names_in_front : (xs : List Statement) (place : ℕ) (name : List ℕ) → Contains (make_names (take place xs)) name → Contains (make_names xs) name
-names_in_front xs place name c =
+pub names_before : (xs : List Statement) (place : ℕ) (name : List ℕ) → Contains (make_names (take place xs)) name → Contains (make_names xs) name
+names_before xs place name c =
     subst (λ ys. Contains (make_names ys) name) (take-append-drop place xs)
     (subst (λ ns. Contains ns name) (sym (make_names_on (take place xs) (drop place xs))) (Contains-append_left (make_names (take place xs)) (make_names (drop place xs)) name c))
 
@@ -108,7 +108,7 @@ source_written : (xs : List Statement) (place : ℕ) (m : Make) (source : List �
 source_written xs place m source good g = record { normal = normal g.known; named = good_name xs source good }
   where
     normal : Contains (make_names (take place xs)) source ⊎ IsSourcePath source → IsNormal source
-    normal (inl c) = normal_name source (good_name xs source good (names_in_front xs place source c))
+    normal (inl c) = normal_name source (good_name xs source good (names_before xs place source c))
     normal (inr p) = p.normal
 
 pub can_be_made : (xs : List Statement) (place : ℕ) (s : Statement) → ((k : ℕ) → KeepsRules xs k) → slice_get xs place ≡ Some s → CanBeMade xs s

@@ -12,19 +12,19 @@ use Rattle.b2_top.specs.declared.answer.Answer.TheVariants as answers
 use Rattle.b2_top.specs.ProjectFiles.{jamroot, jamroot_of, HasPlan}
 use Rattle.b2_top.specs.Stops.{IsExact}
 use Rattle.b2_top.specs.Refusals.{no_tokens}
-use Rattle.b2_top.specs.Builds.{IsCutShort, IsOfWords, IsLeftAlone, StartsNone, RefusesNoWant, failed_in, CountsTold, ShouldBeNotYet, ShouldHaveNoTokens, CameToPass, LeavesClean, ShouldEndWell, HasReported}
+use Rattle.b2_top.specs.Builds.{IsCutShort, IsOfWords, IsLeftAlone, StartsNone, RefusalIsNotOutOfMemory, failed_in, CountsTold, ShouldBeNotYet, ShouldHaveNoTokens, HasHappened, LeavesClean, ShouldEndWell, HasReported}
 
--- All that a call of the build command promises: with these words, what there was of children before and after, the
+-- All that a call of the build command promises: with these words, the child processes before and after, the
 -- files, the counts of faults of host and sink, and what was written.
 pub record IsAnswered (made : List ℕ → List (List ℕ × List ℕ) → List ℕ → List ℕ) (words : List (List ℕ)) (old new : Family) (before after : Option Disk) (host host_after sink sink_after : ℕ) (text text_after : Option (List ℕ)) (result : Answer) : Type 0 where
   pub clean : result ≡ answers.Ok → BothTold (LeavesClean made) before after
-  pub came : BothTold (CameToPass made words result old new) before after
+  pub happened : BothTold (HasHappened made words result old new) before after
   pub counts : CountsTold host host_after new.running sink sink_after result
   pub usage : words ≢ [] → IsOfWords result
   pub alone : words ≢ [] → IsLeftAlone old new before after host host_after
   pub turns : HasTurns (failed_in result) old.events new.events
   pub starts_none : StartsNone result old new
-  pub no_want : RefusesNoWant result
+  pub not_out_of_memory : RefusalIsNotOutOfMemory result
   pub no_usage : result ≡ answers.Usage → words ≢ []
   pub not_yet : BothTold (λ b a. (line : ℕ) → ShouldBeNotYet words b line → (result ≡ answers.Refused (faults.NotYet jamroot line)) ⊎ IsCutShort result) before after
   pub without_tokens : BothTold (λ b a. (fault : LexFault) → ShouldHaveNoTokens words b fault → (result ≡ answers.Refused (no_tokens fault)) ⊎ IsCutShort result) before after

@@ -22,7 +22,7 @@ use Rattle.b2_top.specs.declared.answer.Answer.TheVariants as answers
 use Rattle.b2_top.specs.Rules.{roots}
 use Rattle.b2_top.specs.Jamroots.{outs_of}
 use Rattle.b2_top.specs.ProjectFiles.{jamroot, jamroot_of, IsNotYet, HasLexFault, HasPlan}
-use Rattle.b2_top.specs.Refusals.{fault_line, HoldsNoWant, no_tokens, host_fault_line, usage_line}
+use Rattle.b2_top.specs.Refusals.{fault_line, IsNotOutOfMemory, no_tokens, host_fault_line, usage_line}
 
 -- what a text makes of named inputs, at an output
 abbrev pub Made : Type 0
@@ -36,13 +36,13 @@ build_at made steps disk = build_of steps (outs_of steps) roots made disk.now
 abbrev pub update_at : (List ℕ → List (List ℕ × List ℕ) → List ℕ → List ℕ) → List Step → Disk → Update
 update_at made steps disk = update_all (build_at made steps disk)
 
--- an answer that may take the place of any other: a fault of the host or of the sink, or want of memory
+-- an answer that may take the place of any other: a fault of the host or of the sink, or OutOfMemory
 abbrev pub IsCutShort : Answer → Type 0
 IsCutShort answer = (answer ≡ answers.HostFault) ⊎ (answer ≡ answers.SinkFault) ⊎ (answer ≡ answers.OutOfMemory)
 
 -- How the counts of faults stand to an answer: Ok, Failed, Refused and Usage come only where both are as at entry, and a
 -- fault only where its count rose. The first fault decides: with SinkFault the host's count is as at entry, unless the wait
--- for the child that ran failed behind it, so that the child is left; with HostFault the sink may have failed at its line.
+-- for the child that ran failed after it, so that the child is left; with HostFault the sink may have failed at its line.
 abbrev pub CountsTold : ℕ → ℕ → List Child → ℕ → ℕ → Answer → Type 0
 CountsTold host host_after left sink sink_after answers.Ok = (host_after ≡ host) × (sink_after ≡ sink)
 CountsTold host host_after left sink sink_after (answers.Failed lists) = (host_after ≡ host) × (sink_after ≡ sink)
@@ -72,15 +72,15 @@ StartsNone answers.HostFault old new = ⊤
 StartsNone answers.OutOfMemory old new = ⊤
 StartsNone answers.SinkFault old new = ⊤
 
--- a refusal is never for want of memory
-abbrev pub RefusesNoWant : Answer → Type 0
-RefusesNoWant answers.Ok = ⊤
-RefusesNoWant (answers.Failed lists) = ⊤
-RefusesNoWant (answers.Refused fault) = HoldsNoWant fault
-RefusesNoWant answers.Usage = ⊤
-RefusesNoWant answers.HostFault = ⊤
-RefusesNoWant answers.OutOfMemory = ⊤
-RefusesNoWant answers.SinkFault = ⊤
+-- a refusal never stands for running out of memory
+abbrev pub RefusalIsNotOutOfMemory : Answer → Type 0
+RefusalIsNotOutOfMemory answers.Ok = ⊤
+RefusalIsNotOutOfMemory (answers.Failed lists) = ⊤
+RefusalIsNotOutOfMemory (answers.Refused fault) = IsNotOutOfMemory fault
+RefusalIsNotOutOfMemory answers.Usage = ⊤
+RefusalIsNotOutOfMemory answers.HostFault = ⊤
+RefusalIsNotOutOfMemory answers.OutOfMemory = ⊤
+RefusalIsNotOutOfMemory answers.SinkFault = ⊤
 
 -- the steps that an answer names as failed
 abbrev pub failed_in : Answer → List ℕ
@@ -105,7 +105,7 @@ abbrev pub HasCause : List (List ℕ) → Disk → Fault → Type 0
 HasCause words disk (faults.NotYet path line) = (path ≡ jamroot) × ShouldBeNotYet words disk line
 HasCause words disk (faults.Load fault) = (cause : LexFault) × (faults.Load fault ≡ no_tokens cause) × ShouldHaveNoTokens words disk cause
 
--- The project has this plan, and its update came to pass so.
+-- The project has this plan, and its update happened so.
 pub record HasBuilt (made : List ℕ → List (List ℕ × List ℕ) → List ℕ → List ℕ) (words : List (List ℕ)) (steps : List Step) (events : List ChildEvent) (old new : Family) (before after : Disk) : Type 0 where
   pub no_word : words ≡ []
   pub plan : HasPlan (jamroot_of before) steps
@@ -116,16 +116,16 @@ pub record IsUntouched (old new : Family) (before after : Disk) : Type 0 where
   pub family : new ≡ old
   pub disk : after ≡ before
 
--- What came to pass, by the answer: a run that has ended where the answer is Ok or Failed; nothing where it is Refused or
+-- What happened, by the answer: a run that has ended where the answer is Ok or Failed; nothing where it is Refused or
 -- Usage; and with any other answer nothing, or the beginning of a run.
-abbrev pub CameToPass : (List ℕ → List (List ℕ × List ℕ) → List ℕ → List ℕ) → List (List ℕ) → Answer → Family → Family → Disk → Disk → Type 0
-CameToPass made words answers.Ok old new before after = (steps : List Step) × (events : List ChildEvent) × HasBuilt made words steps events old new before after × HasEnded (update_at made steps before) events after.now nothing_lacks
-CameToPass made words (answers.Failed lists) old new before after = (steps : List Step) × (events : List ChildEvent) × HasBuilt made words steps events old new before after × HasEnded (update_at made steps before) events after.now lists × SomethingLacks lists
-CameToPass made words (answers.Refused fault) old new before after = IsUntouched old new before after × HasCause words before fault
-CameToPass made words answers.Usage old new before after = IsUntouched old new before after × (words ≢ [])
-CameToPass made words answers.HostFault old new before after = IsUntouched old new before after ⊎ ((steps : List Step) × (events : List ChildEvent) × HasBuilt made words steps events old new before after)
-CameToPass made words answers.OutOfMemory old new before after = IsUntouched old new before after ⊎ ((steps : List Step) × (events : List ChildEvent) × HasBuilt made words steps events old new before after)
-CameToPass made words answers.SinkFault old new before after = IsUntouched old new before after ⊎ ((steps : List Step) × (events : List ChildEvent) × HasBuilt made words steps events old new before after)
+abbrev pub HasHappened : (List ℕ → List (List ℕ × List ℕ) → List ℕ → List ℕ) → List (List ℕ) → Answer → Family → Family → Disk → Disk → Type 0
+HasHappened made words answers.Ok old new before after = (steps : List Step) × (events : List ChildEvent) × HasBuilt made words steps events old new before after × HasEnded (update_at made steps before) events after.now nothing_lacks
+HasHappened made words (answers.Failed lists) old new before after = (steps : List Step) × (events : List ChildEvent) × HasBuilt made words steps events old new before after × HasEnded (update_at made steps before) events after.now lists × SomethingLacks lists
+HasHappened made words (answers.Refused fault) old new before after = IsUntouched old new before after × HasCause words before fault
+HasHappened made words answers.Usage old new before after = IsUntouched old new before after × (words ≢ [])
+HasHappened made words answers.HostFault old new before after = IsUntouched old new before after ⊎ ((steps : List Step) × (events : List ChildEvent) × HasBuilt made words steps events old new before after)
+HasHappened made words answers.OutOfMemory old new before after = IsUntouched old new before after ⊎ ((steps : List Step) × (events : List ChildEvent) × HasBuilt made words steps events old new before after)
+HasHappened made words answers.SinkFault old new before after = IsUntouched old new before after ⊎ ((steps : List Step) × (events : List ChildEvent) × HasBuilt made words steps events old new before after)
 
 -- each wanted file of the project's plan has the bytes of the clean build of the sources at entry
 abbrev pub LeavesClean : (List ℕ → List (List ℕ × List ℕ) → List ℕ → List ℕ) → Disk → Disk → Type 0

@@ -2,7 +2,7 @@
 use Rattle.std.specs.Prelude.{◌≡◌, ℕ, true, false, List, ◌∷◌, ◌++◌, All}
 use Rattle.b2_top.specs.Bodies.{is_white}
 
--- a word, the white space behind it, and the rest
+-- a word, the white space after it, and the rest
 pub record IsCut (text word : List ℕ) (white : ℕ) (rest : List ℕ) : Type 0 where
   pub text_is : text ≡ word ++ white ∷ rest
   pub is_space : is_white white ≡ true

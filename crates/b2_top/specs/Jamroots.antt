@@ -1,16 +1,18 @@
 -- The plan of a file, or the line of the first statement that is not as it should be.
 use Rattle.std.specs.Prelude.{◌≡◌, ℕ, ◌<◌, false, List, [], ◌∷◌, ◌++◌, ◌⊎◌, Option, Some, None, map, unwrap_or, slice_get, codes, if◌then◌else◌}
-use Rattle.std.specs.List.{Contains, list_any, flat_map}
+use Rattle.std.specs.List.{list_any, flat_map}
 use Rattle.std.specs.Str.{bytes_eq}
 use Rattle.b2_base.specs.declared.token.Token.{Token}
 use Rattle.b2_plan.specs.declared.step.Step.{Step}
-use Rattle.b2_plan.specs.Plans.{step_at, Makes}
+use Rattle.b2_plan.specs.declared.plan.Plan.{Plan}
+use Rattle.b2_plan.specs.Plans.{Apart}
+use Rattle.b2_update.specs.Plain.{IsPlain}
 use Rattle.b2_top.specs.declared.statement.Action.{Action}
 use Rattle.b2_top.specs.declared.statement.Make.{Make}
 use Rattle.b2_top.specs.declared.statement.Statement.{Statement}
 use Rattle.b2_top.specs.Statements.{IsRead, line_of, actions_of, makes_of, make_names}
 use Rattle.b2_top.specs.Bodies.{expanded}
-use Rattle.b2_top.specs.Rules.{KeepsRules}
+use Rattle.b2_top.specs.Rules.{KeepsRules, roots}
 
 -- the output of a `make`
 abbrev pub out_of : List ℕ → List ℕ
@@ -71,18 +73,10 @@ pub record FirstBad (tokens : List Token) (line : ℕ) : Type 0 where
 abbrev pub outs_of : List Step → List (List ℕ)
 outs_of = flat_map (λ step. step.outs)
 
--- a step reads outputs of earlier steps alone
-abbrev pub IsInOrder : List Step → Type 0
-IsInOrder steps = (i k : ℕ) (step other : Step) (path : List ℕ) → step_at steps i ≡ Some step → Contains step.ins path → Makes steps k other path → k < i
-
--- each output is wanted
-abbrev pub WantsAll : List Step → List (List ℕ) → Type 0
-WantsAll steps wanted = (i : ℕ) (step : Step) (path : List ℕ) → Makes steps i step path → Contains wanted path
-
--- nothing else is wanted
-abbrev pub WantsOutputs : List Step → List (List ℕ) → Type 0
-WantsOutputs steps wanted = (path : List ℕ) → Contains wanted path → (i : ℕ) × (step : Step) × Makes steps i step path
-
--- each step owes a file at each output
-abbrev pub LeavesFiles : List Step → Type 0
-LeavesFiles steps = (i : ℕ) (step : Step) → step_at steps i ≡ Some step → step.notfile ≡ false
+-- The plan can be run: all outputs are wanted, they lie below the folders for outputs, and no two steps share one; and its
+-- steps are such as an update asks for.
+pub record IsReady (plan : Plan) : Type 0 where
+  pub wanted : plan.wanted ≡ outs_of plan.steps
+  pub roots : plan.roots ≡ roots
+  pub apart : Apart plan.steps plan.roots
+  pub plain : IsPlain plan.steps plan.wanted

@@ -20,7 +20,7 @@ abbrev pub IsUnread : LoadEnd → Type 0
 IsUnread (ends.Stopped stop) = stop ≡ stops.OutOfMemory
 IsUnread ends.Host = ⊤
 
--- the end of a load never tells a file without tokens by want of memory
+-- the end of a load never tells a file without tokens by OutOfMemory
 abbrev pub EndNamesText : LoadEnd → Type 0
 EndNamesText (ends.Stopped stop) = NamesText stop
 EndNamesText ends.Host = ⊤

@@ -36,10 +36,10 @@ host_fault_line = refusal_line (codes "host fault")
 abbrev pub usage_line : List ℕ
 usage_line = refusal_line (codes "usage: b2 [-jN] [-a] [-q] [-n or --show] [word ..], or b2 --drill=N")
 
--- a refusal holds no want of memory inside
-abbrev pub HoldsNoWant : Fault → Type 0
-HoldsNoWant (faults.NotYet path number) = ⊤
-HoldsNoWant (faults.Load (load.Lex path fault)) = fault ≢ lex.OutOfMemory
+-- the refusal does not stand for running out of memory
+abbrev pub IsNotOutOfMemory : Fault → Type 0
+IsNotOutOfMemory (faults.NotYet path number) = ⊤
+IsNotOutOfMemory (faults.Load (load.Lex path fault)) = fault ≢ lex.OutOfMemory
 
 -- the refusal of a project's file that has no tokens
 abbrev pub no_tokens : LexFault → Fault

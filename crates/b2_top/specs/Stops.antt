@@ -14,7 +14,7 @@ stop_of_lex (lex.OpenQuote line) = stops.Lex (lex.OpenQuote line)
 stop_of_lex (lex.OpenActions line) = stops.Lex (lex.OpenActions line)
 stop_of_lex lex.OutOfMemory = stops.OutOfMemory
 
--- a file without tokens is told by a fault of its text, never by want of memory
+-- a file without tokens is told by a fault of its text, never by OutOfMemory
 abbrev pub NamesText : Stop → Type 0
 NamesText (stops.NotYet line) = ⊤
 NamesText (stops.Lex fault) = fault ≢ lex.OutOfMemory

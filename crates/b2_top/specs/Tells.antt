@@ -15,7 +15,7 @@ use Rattle.b2_top.specs.declared.answer.Answer.TheVariants as answers
 abbrev pub HasTaken : List ℕ → Option (List ℕ) → Option (List ℕ) → Type 0
 HasTaken bytes before after = after ≡ option_map (λ so_far. so_far ++ bytes) before
 
--- The line was written and the answer given; or the sink failed behind a beginning of it; or memory ran out before it.
+-- The line was written and the answer given; or the sink failed after a beginning of it; or memory ran out before it.
 pub data Tells (answer : Answer) (line : List ℕ) (faults faults_after : ℕ) (before after : Option (List ℕ)) (result : Answer) : Type 0 where
   told : result ≡ answer → faults_after ≡ faults → HasTaken line before after → Tells answer line faults faults_after before after result
   failed : (part : List ℕ) → result ≡ answers.SinkFault → Rose faults faults_after → BeginsWith line part → HasTaken part before after → Tells answer line faults faults_after before after result

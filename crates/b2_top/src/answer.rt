@@ -6,7 +6,7 @@ use crate::refusal::Fault;
 use b2_update::failed_lists::FailedLists;
 
 /// How a call of the program ended.
-#[derive(Debug, Drop)]
+#[derive(Drop)]
 pub enum Answer {
     /// Each requested file is up to date: status 0.
     Ok,

@@ -28,7 +28,7 @@ fn end_of_word(bytes: &[u8]) -> usize
     bytes.len()
 }
 
-/// The first word, the white space behind it, and what stands behind that; None where there is no white space.
+/// The first word, the white space after it, and what follows that; None where there is no white space.
 fn cut(text: &str) -> Option<(&str, u8, &str)>
     ensures { MatchOption result (All (λ byte. is_white byte ≡ false) text.now) (λ c. IsCut text.now c.0.now c.1 c.2.now) }
 {

@@ -1,14 +1,11 @@
 //! Why a Jamroot has no plan.
 use b2_base::fault::OutOfMemory;
-use thiserror::Error;
 
 /// Why a Jamroot has no plan.
-#[derive(Clone, Copy, Debug, Error)]
+#[derive(Clone, Copy)]
 pub enum ReadFault {
     /// The statement that begins on this line is of neither form, or breaks a rule.
-    #[error("line {line}: not yet")]
     NotYet { line: u32 },
-    #[error("out of memory")]
     OutOfMemory,
 }
 

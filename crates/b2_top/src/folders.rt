@@ -4,6 +4,7 @@ ghost use Rattle.b2_base.specs.Bytes.{HasNoZero};
 ghost use Rattle.b2_base.specs.Normal.{IsNormal, IsUnder};
 ghost use Rattle.b2_base.specs.Segments.{normal_of};
 ghost use Rattle.b2_plan.specs.Sources.{IsInRoots};
+ghost use Rattle.b2_top.specs.ProjectFiles.{jamroot};
 ghost use Rattle.b2_top.specs.Rules.{roots, is_path_byte, IsSourcePath};
 
 use b2_base::fault::OutOfMemory;
@@ -33,6 +34,13 @@ pub fn path_of(alloc: Global, text: &str) -> Result<Path, OutOfMemory>
         Err(PathFault::Empty) => unreachable!(),
         Err(PathFault::Nul) => unreachable!(),
     }
+}
+
+/// The path of the project's file.
+pub fn jamroot_path(alloc: Global) -> Result<Path, OutOfMemory>
+    ensures { IfOk result (λ path. path ≡ jamroot) }
+{
+    path_of(alloc, "Jamroot")
 }
 
 /// The folders that hold outputs: `bin`, `stage` and `dist`.

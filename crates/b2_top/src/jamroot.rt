@@ -1,11 +1,8 @@
 //! The project's file, from its bytes to its plan.
 ghost use Rattle.std.specs.Prelude.{◌≡◌, ◌≤◌, length, Some, IfOk, IfErr};
-ghost use Rattle.b2_plan.specs.Plans.{Apart};
-ghost use Rattle.b2_top.specs.Rules.{roots};
-ghost use Rattle.b2_top.specs.Jamroots.{outs_of};
+ghost use Rattle.b2_top.specs.Jamroots.{IsReady};
 ghost use Rattle.b2_top.specs.ProjectFiles.{HasPlan};
 ghost use Rattle.b2_top.specs.Stops.{stop_of_lex, NamesText, IsStop, IsExact};
-ghost use Rattle.b2_update.specs.Plain.{IsPlain};
 
 use crate::fault::ReadFault;
 use crate::reader::read_plan;
@@ -15,11 +12,11 @@ use jam_lexer::lex;
 use std::alloc::Global;
 
 /// Why the bytes of a project's file have no plan. Lines are counted from 1.
-#[derive(Debug, Drop)]
+#[derive(Drop)]
 pub enum Stop {
     /// What stands on this line is not built yet.
     NotYet { line: u32 },
-    /// The file has no tokens. The fault is never want of memory.
+    /// The file has no tokens. The fault is never `OutOfMemory`.
     Lex(LexFault),
     OutOfMemory,
 }
@@ -41,10 +38,7 @@ fn stop_of_lex(fault: LexFault) -> Stop
 pub fn plan_of(alloc: Global, bytes: &[u8]) -> Result<Plan, Stop>
     requires { length bytes.now ≤ 1048576 }
     ensures plan { IfOk result (λ plan. HasPlan (Some bytes.now) plan.steps) }
-    ensures wanted { IfOk result (λ plan. plan.wanted ≡ outs_of plan.steps) }
-    ensures roots { IfOk result (λ plan. plan.roots ≡ roots) }
-    ensures apart { IfOk result (λ plan. Apart plan.steps plan.roots) }
-    ensures plain { IfOk result (λ plan. IsPlain plan.steps plan.wanted) }
+    ensures ready { IfOk result IsReady }
     ensures stop { IfErr result (IsStop (Some bytes.now)) }
     ensures names { IfErr result NamesText }
     ensures exact { IsExact (Some bytes.now) result }

@@ -3,18 +3,18 @@
 
 pub mod answer;
 mod body;
-pub mod fault;
+mod fault;
 mod folders;
-pub mod jamroot;
+mod jamroot;
 pub mod laws;
-pub mod load;
+mod load;
 mod names;
 mod parts;
 mod read;
-pub mod reader;
+mod reader;
 pub mod refusal;
 mod rules;
 pub mod run;
-pub mod statement;
+mod statement;
 mod steps;
 mod tell;

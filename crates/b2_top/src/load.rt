@@ -2,16 +2,13 @@
 ghost use Rattle.std.specs.Prelude.{◌≡◌, IfOk, IfErr};
 ghost use Rattle.std.specs.Option.{IfSome};
 ghost use Rattle.b2_host.specs.Disks.{Disk, ReadTold};
-ghost use Rattle.b2_plan.specs.Plans.{Apart};
-ghost use Rattle.b2_update.specs.Plain.{IsPlain};
-ghost use Rattle.b2_top.specs.Rules.{roots};
-ghost use Rattle.b2_top.specs.Jamroots.{outs_of};
+ghost use Rattle.b2_top.specs.Jamroots.{IsReady};
 ghost use Rattle.b2_top.specs.ProjectFiles.{jamroot, jamroot_of, HasPlan};
 ghost use Rattle.b2_top.specs.Stops.{NamesText, IsStop, IsExact};
 ghost use Rattle.b2_top.specs.Loads.{LoadCounted, IsUnread, EndNamesText, EndTold, IsExactLoad};
 
+use crate::folders::jamroot_path;
 use crate::jamroot::{Stop, plan_of};
-use b2_base::path::Path;
 use b2_host::fault::IoFault;
 use b2_host::files::{Files, ReadAnswer};
 use b2_plan::plan::Plan;
@@ -21,7 +18,7 @@ use std::alloc::Global;
 const MOST: u64 = 1_048_576;
 
 /// Why no plan was loaded.
-#[derive(Debug, Drop)]
+#[derive(Drop)]
 pub enum LoadEnd {
     /// The project's file has no plan.
     Stopped(Stop),
@@ -39,9 +36,8 @@ fn read_jamroot<F: Files>(alloc: Global, files: &mut F) -> Result<ReadAnswer, Lo
     ensures unread { IfErr result IsUnread }
     ensures names { IfErr result EndNamesText }
 {
-    let path = match Path::normal(alloc, "Jamroot") {
-        Ok(path) => path,
-        Err(_fault) => return Err(LoadEnd::Stopped(Stop::OutOfMemory)),
+    let Ok(path) = jamroot_path(alloc) else {
+        return Err(LoadEnd::Stopped(Stop::OutOfMemory));
     };
     match files.read(&path, MOST) {
         Ok(answer) => Ok(answer),
@@ -53,10 +49,7 @@ fn read_jamroot<F: Files>(alloc: Global, files: &mut F) -> Result<ReadAnswer, Lo
 /// The plan of what a read of the project's file answered.
 fn plan_of_answer(alloc: Global, answer: &ReadAnswer) -> Result<Plan, Stop>
     ensures plan { IfOk result (λ plan. (disk : Disk) → ReadTold jamroot 1048576 answer.now disk.now → HasPlan (jamroot_of disk) plan.steps) }
-    ensures wanted { IfOk result (λ plan. plan.wanted ≡ outs_of plan.steps) }
-    ensures roots { IfOk result (λ plan. plan.roots ≡ roots) }
-    ensures apart { IfOk result (λ plan. Apart plan.steps plan.roots) }
-    ensures plain { IfOk result (λ plan. IsPlain plan.steps plan.wanted) }
+    ensures ready { IfOk result IsReady }
     ensures names { IfErr result NamesText }
     ensures stop { IfErr result (λ stop. (disk : Disk) → ReadTold jamroot 1048576 answer.now disk.now → IsStop (jamroot_of disk) stop) }
     ensures exact { (disk : Disk) → ReadTold jamroot 1048576 answer.now disk.now → IsExact (jamroot_of disk) result }
@@ -80,10 +73,7 @@ pub fn load<F: Files>(alloc: Global, files: &mut F) -> Result<Plan, LoadEnd>
     ensures family { F.family files.new ≡ F.family files.old }
     ensures waits { F.failed_waits files.new ≡ F.failed_waits files.old }
     ensures plan { IfOk result (λ plan. IfSome (F.disk files.old) (λ before. HasPlan (jamroot_of before) plan.steps)) }
-    ensures wanted { IfOk result (λ plan. plan.wanted ≡ outs_of plan.steps) }
-    ensures roots { IfOk result (λ plan. plan.roots ≡ roots) }
-    ensures apart { IfOk result (λ plan. Apart plan.steps plan.roots) }
-    ensures plain { IfOk result (λ plan. IsPlain plan.steps plan.wanted) }
+    ensures ready { IfOk result IsReady }
     ensures names { IfErr result EndNamesText }
     ensures stop { IfErr result (EndTold (F.disk files.old)) }
     ensures exact { IfSome (F.disk files.old) (λ before. IsExactLoad (jamroot_of before) result) }

@@ -31,7 +31,7 @@ pub fn is_before(places: &TextMap<usize>, name: &Text, place: usize) -> bool
     }
 }
 
-/// Whether a name has this place or one behind it.
+/// Whether a name has this place or a later one.
 pub fn is_from(places: &TextMap<usize>, name: &Text, place: usize) -> bool
     ensures { let found = map.get places.now name.now in result ≡ spec.is_from found place }
 {

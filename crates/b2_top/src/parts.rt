@@ -48,7 +48,7 @@ fn first_of(tokens: &[Token], kind: TokenKind) -> Option<(&Text, &[Token])>
     }
 }
 
-fn behind<'a>(tokens: &'a [Token], kind: TokenKind, text: &str) -> Option<&'a [Token]>
+fn after_token<'a>(tokens: &'a [Token], kind: TokenKind, text: &str) -> Option<&'a [Token]>
     ensures { option_map (λ r. r.now) result ≡ after kind text.now tokens.now }
 {
     let Some((found, more)) = first_of(tokens, kind) else {
@@ -74,7 +74,7 @@ fn count_words(tokens: &[Token]) -> usize
     tokens.len()
 }
 
-/// The name behind an `@`.
+/// The name after an `@`.
 fn rule_of(word: &Text) -> Option<&str>
     ensures rule { option_map (λ r. r.now) result ≡ rule_in word.now }
     ensures no_zero { IfSome result (λ r. HasNoZero r.now) }
@@ -86,7 +86,7 @@ fn rule_end(tokens: &[Token]) -> Option<(&str, &[Token])>
     ensures rule { option_map (λ f. (f.0.now, f.1.now)) result ≡ rule_rest tokens.now }
     ensures no_zero { IfSome result (λ f. HasNoZero f.0.now) }
 {
-    let Some(rest) = behind(tokens, TokenKind::Key, ":") else {
+    let Some(rest) = after_token(tokens, TokenKind::Key, ":") else {
         return None;
     };
     let Some((word, rest)) = first_of(rest, TokenKind::Word) else {
@@ -95,7 +95,7 @@ fn rule_end(tokens: &[Token]) -> Option<(&str, &[Token])>
     let Some(rule) = rule_of(word) else {
         return None;
     };
-    let Some(rest) = behind(rest, TokenKind::Key, ";") else {
+    let Some(rest) = after_token(rest, TokenKind::Key, ";") else {
         return None;
     };
     Some((rule, rest))
@@ -105,19 +105,19 @@ fn actions_parts(tokens: &[Token]) -> Option<(Parts<'_>, &[Token])>
     ensures parts { option_map (λ f. (stated (first_line tokens.now) f.0, f.1.now)) result ≡ actions_first tokens.now }
     ensures texts { IfSome result (λ f. AreTexts f.0) }
 {
-    let Some(rest) = behind(tokens, TokenKind::Key, "actions") else {
+    let Some(rest) = after_token(tokens, TokenKind::Key, "actions") else {
         return None;
     };
     let Some((name, rest)) = first_of(rest, TokenKind::Word) else {
         return None;
     };
-    let Some(rest) = behind(rest, TokenKind::Key, "{") else {
+    let Some(rest) = after_token(rest, TokenKind::Key, "{") else {
         return None;
     };
     let Some((body, rest)) = first_of(rest, TokenKind::Body) else {
         return None;
     };
-    let Some(rest) = behind(rest, TokenKind::Key, "}") else {
+    let Some(rest) = after_token(rest, TokenKind::Key, "}") else {
         return None;
     };
     Some((Parts::Actions { name, body }, rest))
@@ -127,13 +127,13 @@ fn make_parts(tokens: &[Token]) -> Option<(Parts<'_>, &[Token])>
     ensures parts { option_map (λ f. (stated (first_line tokens.now) f.0, f.1.now)) result ≡ make_first tokens.now }
     ensures texts { IfSome result (λ f. AreTexts f.0) }
 {
-    let Some(rest) = behind(tokens, TokenKind::Word, "make") else {
+    let Some(rest) = after_token(tokens, TokenKind::Word, "make") else {
         return None;
     };
     let Some((name, rest)) = first_of(rest, TokenKind::Word) else {
         return None;
     };
-    let Some(rest) = behind(rest, TokenKind::Key, ":") else {
+    let Some(rest) = after_token(rest, TokenKind::Key, ":") else {
         return None;
     };
     let (sources, rest) = rest.split_at(count_words(rest));
@@ -148,7 +148,7 @@ fn make_parts(tokens: &[Token]) -> Option<(Parts<'_>, &[Token])>
     Some((parts, rest))
 }
 
-/// The parts of the statement that comes first, and the tokens behind it; None where no statement comes first.
+/// The parts of the statement that comes first, and the tokens after it; None where no statement comes first.
 pub fn parts_first(tokens: &[Token]) -> Option<(Parts<'_>, &[Token])>
     ensures parts { option_map (λ f. (stated (first_line tokens.now) f.0, f.1.now)) result ≡ statement_first tokens.now }
     ensures texts { IfSome result (λ f. AreTexts f.0) }

@@ -1,10 +1,9 @@
 //! From the tokens of a Jamroot to its plan.
 ghost use Rattle.std.specs.Prelude.{◌≡◌, ℕ, map, IfOk, IsErrOf};
-ghost use Rattle.b2_plan.specs.Plans.{Apart};
 ghost use Rattle.b2_top.specs.Statements.{makes_of};
 ghost use Rattle.b2_top.specs.Places.{AreNames};
-ghost use Rattle.b2_top.specs.Rules.{roots, KeepsRules};
-ghost use Rattle.b2_top.specs.Jamroots.{PlanOf, FirstBad, step_of, outs_of, IsInOrder, WantsAll, WantsOutputs, LeavesFiles};
+ghost use Rattle.b2_top.specs.Rules.{KeepsRules};
+ghost use Rattle.b2_top.specs.Jamroots.{PlanOf, FirstBad, IsReady, step_of};
 
 use crate::fault::ReadFault;
 use crate::folders::output_folders;
@@ -23,13 +22,7 @@ fn plan_of(alloc: Global, statements: &[Statement], names: &Names) -> Result<Pla
     requires names { AreNames names.now 0 statements.now }
     requires good { (place : ℕ) → KeepsRules statements.now place }
     ensures steps { IfOk result (λ plan. plan.steps ≡ map (step_of statements.now) (makes_of statements.now)) }
-    ensures wanted { IfOk result (λ plan. plan.wanted ≡ outs_of plan.steps) }
-    ensures roots { IfOk result (λ plan. plan.roots ≡ roots) }
-    ensures apart { IfOk result (λ plan. Apart plan.steps plan.roots) }
-    ensures in_order { IfOk result (λ plan. IsInOrder plan.steps) }
-    ensures all_wanted { IfOk result (λ plan. WantsAll plan.steps plan.wanted) }
-    ensures wanted_made { IfOk result (λ plan. WantsOutputs plan.steps plan.wanted) }
-    ensures leaves_files { IfOk result (λ plan. LeavesFiles plan.steps) }
+    ensures ready { IfOk result IsReady }
 {
     let steps = steps_of(alloc, statements, names)?;
     let wanted = outputs_of(alloc, steps.as_slice())?;
@@ -42,15 +35,9 @@ fn plan_of(alloc: Global, statements: &[Statement], names: &Names) -> Result<Pla
 /// `NotYet` has the line of the first statement that is of neither form or breaks a rule.
 pub fn read_plan(alloc: Global, tokens: &[Token]) -> Result<Plan, ReadFault>
     ensures steps { IfOk result (λ plan. PlanOf tokens.now plan.steps) }
-    ensures wanted { IfOk result (λ plan. plan.wanted ≡ outs_of plan.steps) }
-    ensures roots { IfOk result (λ plan. plan.roots ≡ roots) }
+    ensures ready { IfOk result IsReady }
     ensures not_yet { (line : ℕ) → IsErrOf result (ReadFault.NotYet line) → FirstBad tokens.now line }
     ensures none_bad { IfOk result (λ _. (line : ℕ) → FirstBad tokens.now line → ⊥) }
-    ensures apart { IfOk result (λ plan. Apart plan.steps plan.roots) }
-    ensures in_order { IfOk result (λ plan. IsInOrder plan.steps) }
-    ensures all_wanted { IfOk result (λ plan. WantsAll plan.steps plan.wanted) }
-    ensures wanted_made { IfOk result (λ plan. WantsOutputs plan.steps plan.wanted) }
-    ensures leaves_files { IfOk result (λ plan. LeavesFiles plan.steps) }
 {
     let reading = read_statements(alloc, tokens)?;
     let names = names_of(alloc, reading.statements.as_slice())?;

@@ -4,14 +4,14 @@ use b2_base::text::Text;
 use jam_lexer::fault::LexFault;
 
 /// Why a project cannot be loaded.
-#[derive(Debug, Drop)]
+#[derive(Drop)]
 pub enum LoadFault {
-    /// The file at this path has no tokens. The fault is never want of memory.
+    /// The file at this path has no tokens. The fault is never `OutOfMemory`.
     Lex { path: Path, fault: LexFault },
 }
 
 /// Why the program refuses a project.
-#[derive(Debug, Drop)]
+#[derive(Drop)]
 pub enum Fault {
     /// What stands on this line is not built yet; line 0 is the file as a whole.
     NotYet { path: Text, line: u32 },

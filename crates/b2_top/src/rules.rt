@@ -1,5 +1,5 @@
 //! The rules that each statement of a Jamroot keeps.
-ghost use Rattle.std.specs.Prelude.{◌≡◌, ◌↔◌, ◌≤◌, ◌<◌, ℕ, [], ◌∷◌, All, IfOk, IsTrue, MatchOption, length, take, map, get_or};
+ghost use Rattle.std.specs.Prelude.{◌≡◌, ◌↔◌, ◌≤◌, ◌<◌, ℕ, [], ◌∷◌, All, IfOk, IsTrue, MatchOption, length, map};
 ghost use Rattle.b2_top.specs.Statements.{line_of, make_names};
 ghost use Rattle.b2_top.specs.Places.{AreNames};
 ghost use Rattle.b2_top.specs.Rules.{is_name_byte, EndsWithOne, IsScanned, IsMakeName, KeepsRules};
@@ -112,7 +112,7 @@ fn are_good_sources(
     Ok(true)
 }
 
-/// Whether one more `make` may stand behind so many.
+/// Whether one more `make` may follow so many.
 fn has_room(makes: usize) -> bool
     ensures { IsTrue result ↔ (makes < 65536) }
 {

@@ -5,14 +5,11 @@ ghost use Rattle.b2_host.specs.Faults.{Rose};
 ghost use Rattle.b2_host.specs.ChildProcesses.{BothTold};
 ghost use Rattle.jam_lexer.specs.declared.fault.LexFault.{LexFault};
 ghost use Rattle.b2_plan.specs.declared.step.Step.{Step};
-ghost use Rattle.b2_plan.specs.Plans.{Apart};
-ghost use Rattle.b2_update.specs.Plain.{IsPlain};
 ghost use Rattle.b2_update.specs.Turns.{HasTurns};
-ghost use Rattle.b2_top.specs.Rules.{roots};
-ghost use Rattle.b2_top.specs.Jamroots.{outs_of};
+ghost use Rattle.b2_top.specs.Jamroots.{IsReady};
 ghost use Rattle.b2_top.specs.ProjectFiles.{jamroot};
 ghost use Rattle.b2_top.specs.Refusals.{no_tokens};
-ghost use Rattle.b2_top.specs.Builds.{IsCutShort, IsOfWords, IsLeftAlone, StartsNone, RefusesNoWant, failed_in, CountsTold, ShouldBeNotYet, ShouldHaveNoTokens, CameToPass, LeavesClean, ShouldEndWell, HasReported};
+ghost use Rattle.b2_top.specs.Builds.{IsCutShort, IsOfWords, IsLeftAlone, StartsNone, RefusalIsNotOutOfMemory, failed_in, CountsTold, ShouldBeNotYet, ShouldHaveNoTokens, HasHappened, LeavesClean, ShouldEndWell, HasReported};
 ghost use Rattle.b2_top.specs.Answered.{IsAnswered, IsThePlan};
 
 use crate::answer::Answer;
@@ -30,10 +27,7 @@ use std::alloc::Global;
 /// Runs the plan that was read, and tells a fault of the host.
 fn build<H: Children, S: Sink>(alloc: Global, plan: &Plan, host: &mut H, out: &mut S) -> Answer
     requires idle { (H.family host.old).running ≡ [] }
-    requires apart { Apart plan.now.steps plan.now.roots }
-    requires plain { IsPlain plan.now.steps plan.now.wanted }
-    requires wanted { plan.now.wanted ≡ outs_of plan.now.steps }
-    requires roots { plan.now.roots ≡ roots }
+    requires ready { IsReady plan.now }
     requires read { IfSome (H.disk host.old) (IsThePlan plan.now) }
     ensures answered { IsAnswered H.made [] (H.family host.old) (H.family host.new) (H.disk host.old) (H.disk host.new) (H.faults host.old) (H.faults host.new) (S.faults out.old) (S.faults out.new) (S.written out.old) (S.written out.new) result }
     ensures waited { ((H.family host.new).running ≡ []) ⊎ Rose (H.failed_waits host.old) (H.failed_waits host.new) }
@@ -75,8 +69,8 @@ pub fn run_b2<H: Children, S: Sink>(
 
     // The headline: after Ok each wanted file has the bytes of the clean build of the sources at entry.
     ensures clean { result ≡ Answer.Ok → BothTold (LeavesClean H.made) (H.disk host.old) (H.disk host.new) }
-    // What came to pass, by the answer: a whole run, nothing, or the beginning of a run.
-    ensures came { BothTold (CameToPass H.made words.now result (H.family host.old) (H.family host.new)) (H.disk host.old) (H.disk host.new) }
+    // What happened, by the answer: a whole run, nothing, or the beginning of a run.
+    ensures happened { BothTold (HasHappened H.made words.now result (H.family host.old) (H.family host.new)) (H.disk host.old) (H.disk host.new) }
     // Ok, Failed, Refused and Usage come only where nothing failed; a fault comes only where its count rose, and the first
     // one decides.
     ensures counts { CountsTold (H.faults host.old) (H.faults host.new) (H.family host.new).running (S.faults out.old) (S.faults out.new) result }
@@ -86,13 +80,13 @@ pub fn run_b2<H: Children, S: Sink>(
     ensures no_usage { result ≡ Answer.Usage → words.now ≢ [] }
     // A call that is refused has started nothing.
     ensures starts_none { StartsNone result (H.family host.old) (H.family host.new) }
-    // A refusal holds no want of memory inside.
-    ensures no_want { RefusesNoWant result }
+    // A refusal never stands for running out of memory.
+    ensures not_out_of_memory { RefusalIsNotOutOfMemory result }
     // A Jamroot that has no tokens is refused by the name of its fault, and one that is not as it should be at its first
     // bad line.
     ensures not_yet { BothTold (λ before after. (line : ℕ) → ShouldBeNotYet words.now before line → (result ≡ Answer.Refused (Fault.NotYet jamroot line)) ⊎ IsCutShort result) (H.disk host.old) (H.disk host.new) }
     ensures without_tokens { BothTold (λ before after. (fault : LexFault) → ShouldHaveNoTokens words.now before fault → (result ≡ Answer.Refused (no_tokens fault)) ⊎ IsCutShort result) (H.disk host.old) (H.disk host.new) }
-    // Where all sources stand, no child ends badly and nothing fails, the answer is Ok, or want of memory.
+    // Where all sources stand, no child ends badly and nothing fails, the answer is Ok, or OutOfMemory.
     ensures complete { BothTold (λ before after. (steps : List Step) → ShouldEndWell H.made words.now steps (H.family host.old) (H.family host.new) before → H.faults host.new ≡ H.faults host.old → S.faults out.new ≡ S.faults out.old → (result ≡ Answer.Ok) ⊎ IsCutShort result) (H.disk host.old) (H.disk host.new) }
     // What was written is the report.
     ensures reported { BothTold (λ before after. HasReported H.made words.now (S.faults out.old) (S.faults out.new) result (H.family host.old) (H.family host.new) (S.written out.old) (S.written out.new) before) (H.disk host.old) (H.disk host.new) }

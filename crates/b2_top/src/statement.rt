@@ -3,7 +3,7 @@ use b2_base::text::Text;
 use b2_base::text_list::TextList;
 
 /// `actions NAME { BODY }`: the command of a rule.
-#[derive(Debug, Drop)]
+#[derive(Drop)]
 pub struct Action {
     pub name: Text,
     pub body: Text,
@@ -12,7 +12,7 @@ pub struct Action {
 }
 
 /// `make NAME : SOURCES : @RULE ;`: a file that a rule makes of its sources.
-#[derive(Debug, Drop)]
+#[derive(Drop)]
 pub struct Make {
     pub name: Text,
     pub sources: TextList,
@@ -23,7 +23,7 @@ pub struct Make {
 }
 
 /// One statement.
-#[derive(Debug, Drop)]
+#[derive(Drop)]
 pub enum Statement {
     Actions(Action),
     Make(Make),

@@ -1,13 +1,13 @@
 //! What the program writes of itself.
 ghost use Rattle.std.specs.Prelude.{◌≡◌, IfOk, string_bytes};
 ghost use Rattle.b2_top.specs.Tells.{Tells, TellsFault, IsFaultOf, TellsStop};
-ghost use Rattle.b2_top.specs.Refusals.{refusal_line, lex_text, fault_line, usage_line, host_fault_line};
+ghost use Rattle.b2_top.specs.Refusals.{refusal_line, at_line, lex_text, fault_line, usage_line, host_fault_line};
 
 use crate::answer::Answer;
+use crate::folders::jamroot_path;
 use crate::jamroot::Stop;
 use crate::refusal::{Fault, LoadFault};
 use b2_base::fault::OutOfMemory;
-use b2_base::path::Path;
 use b2_base::text::Text;
 use b2_host::fault::IoFault;
 use b2_host::sink::Sink;
@@ -20,17 +20,25 @@ const USAGE: &str = "b2: usage: b2 [-jN] [-a] [-q] [-n or --show] [word ..], or 
 /// The line of a fault of the host.
 const HOST_FAULT: &str = "b2: host fault\n";
 
-/// The line of a refusal.
-fn fault_text(alloc: Global, fault: &Fault) -> Result<String, OutOfMemory>
-    ensures { IfOk result (λ text. string_bytes text ≡ fault_line fault.now) }
+/// The line of a refusal that a line of a file causes.
+fn line_text(alloc: Global, path: &str, line: u32, what: &str) -> Result<String, OutOfMemory>
+    ensures { IfOk result (λ text. string_bytes text ≡ refusal_line (at_line path.now line what.now)) }
 {
-    match fault {
-        Fault::NotYet { path, line } => {
-            let path = path.as_str();
-            Ok(format!(in alloc; "b2: {path}:{line}: not yet\n")?)
-        }
-        Fault::Load(LoadFault::Lex { path, fault }) => lex_fault_text(alloc, path.as_str(), fault),
-    }
+    Ok(format!(in alloc; "b2: {path}:{line}: {what}\n")?)
+}
+
+/// The line of a refusal that a byte of a file causes.
+fn byte_text(alloc: Global, path: &str, at: u32) -> Result<String, OutOfMemory>
+    ensures { IfOk result (λ text. string_bytes text ≡ refusal_line (lex_text path.now (LexFault.NotUtf8 at))) }
+{
+    Ok(format!(in alloc; "b2: {path}: byte {at} is not text\n")?)
+}
+
+/// The line of a file that could not be read for lack of memory.
+fn memory_text(alloc: Global, path: &str) -> Result<String, OutOfMemory>
+    ensures { IfOk result (λ text. string_bytes text ≡ refusal_line (lex_text path.now LexFault.OutOfMemory)) }
+{
+    Ok(format!(in alloc; "b2: {path}: out of memory\n")?)
 }
 
 /// The line of a file that has no tokens.
@@ -38,12 +46,20 @@ fn lex_fault_text(alloc: Global, path: &str, fault: &LexFault) -> Result<String,
     ensures { IfOk result (λ text. string_bytes text ≡ refusal_line (lex_text path.now fault.now)) }
 {
     match fault {
-        LexFault::NotUtf8 { at } => Ok(format!(in alloc; "b2: {path}: byte {at} is not text\n")?),
-        LexFault::OpenQuote { line } => Ok(format!(in alloc; "b2: {path}:{line}: open quote\n")?),
-        LexFault::OpenActions { line } => {
-            Ok(format!(in alloc; "b2: {path}:{line}: open actions\n")?)
-        }
-        LexFault::OutOfMemory => Ok(format!(in alloc; "b2: {path}: out of memory\n")?),
+        LexFault::NotUtf8 { at } => byte_text(alloc, path, *at),
+        LexFault::OpenQuote { line } => line_text(alloc, path, *line, "open quote"),
+        LexFault::OpenActions { line } => line_text(alloc, path, *line, "open actions"),
+        LexFault::OutOfMemory => memory_text(alloc, path),
+    }
+}
+
+/// The line of a refusal.
+fn fault_text(alloc: Global, fault: &Fault) -> Result<String, OutOfMemory>
+    ensures { IfOk result (λ text. string_bytes text ≡ fault_line fault.now) }
+{
+    match fault {
+        Fault::NotYet { path, line } => line_text(alloc, path.as_str(), *line, "not yet"),
+        Fault::Load(LoadFault::Lex { path, fault }) => lex_fault_text(alloc, path.as_str(), fault),
     }
 }
 
@@ -86,7 +102,7 @@ pub fn tell_host_fault<S: Sink>(out: &mut S) -> Answer
     }
 }
 
-/// The refusal of a stop; want of memory has none.
+/// The refusal of a stop; running out of memory has none.
 fn fault_of(alloc: Global, stop: Stop) -> Result<Fault, OutOfMemory>
     ensures { IfOk result (IsFaultOf stop) }
 {
@@ -95,10 +111,10 @@ fn fault_of(alloc: Global, stop: Stop) -> Result<Fault, OutOfMemory>
             let path = Text::new(alloc, "Jamroot")?;
             Ok(Fault::NotYet { path, line })
         }
-        Stop::Lex(fault) => match Path::normal(alloc, "Jamroot") {
-            Ok(path) => Ok(Fault::Load(LoadFault::Lex { path, fault })),
-            Err(_fault) => Err(OutOfMemory),
-        },
+        Stop::Lex(fault) => {
+            let path = jamroot_path(alloc)?;
+            Ok(Fault::Load(LoadFault::Lex { path, fault }))
+        }
         Stop::OutOfMemory => Err(OutOfMemory),
     }
 }

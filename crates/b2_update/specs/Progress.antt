@@ -102,18 +102,18 @@ pub record Stands (u : Update) (old : Family) (text : Option (List ℕ)) (list :
   pub lines : Adds (event_lines u.build.steps events) text written
 
 -- What holds when the next step has ended, and its line, where it failed, is still to be written.
-pub record HasCome (u : Update) (old : Family) (text : Option (List ℕ)) (list : List Outcome) (well : Bool) (new : Family) (disk : Option Disk) (written : Option (List ℕ)) : Type 0 where
+pub record HasEndedChild (u : Update) (old : Family) (text : Option (List ℕ)) (list : List Outcome) (well : Bool) (new : Family) (disk : Option Disk) (written : Option (List ℕ)) : Type 0 where
   pub now : Disk
   pub now_is : disk ≡ Some now
-  pub front : List ChildEvent
-  pub core : IsUnderWay u old list (front ++ Done (length list + 1) well ∷ []) new now.now
-  pub even : count_by is_start (front ++ Done (length list + 1) well ∷ []) ≡ count_by is_done (front ++ Done (length list + 1) well ∷ [])
-  pub within : (i : ℕ) → Contains front (Start i) → i ≤ length list + 1
-  pub started : Contains front (Start (length list + 1))
-  pub first : (other : Bool) → Contains front (Done (length list + 1) other) → ⊥
-  pub settled : count_by is_good_end front ≡ count_by is_settled list
+  pub prefix : List ChildEvent
+  pub core : IsUnderWay u old list (prefix ++ Done (length list + 1) well ∷ []) new now.now
+  pub even : count_by is_start (prefix ++ Done (length list + 1) well ∷ []) ≡ count_by is_done (prefix ++ Done (length list + 1) well ∷ [])
+  pub within : (i : ℕ) → Contains prefix (Start i) → i ≤ length list + 1
+  pub started : Contains prefix (Start (length list + 1))
+  pub first : (other : Bool) → Contains prefix (Done (length list + 1) other) → ⊥
+  pub settled : count_by is_good_end prefix ≡ count_by is_settled list
   pub left : well ≡ true → (step : Step) (path : List ℕ) → Makes u.build.steps (length list + 1) step path → IsMade u.build now.now (length list + 1) path
-  pub lines : Adds (event_lines u.build.steps front) text written
+  pub lines : Adds (event_lines u.build.steps prefix) text written
 
 -- what was written before a stop
 abbrev pub ToldBy : Update → List ChildEvent → Stop → List ℕ → Type 0

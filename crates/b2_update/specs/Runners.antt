@@ -32,7 +32,7 @@ pub record IsDrained (made : List ℕ → List (List ℕ × List ℕ) → List �
   pub worked : BothTold (ChangesOnlyOutputs old.running) before after
   pub ended : (new ≡ old) ⊎ ((middle : Option Disk) × (well : Bool) × ChildHasEnded made old middle well new after)
 
--- what there is of children when a step has started
+-- the child processes when a step has started
 abbrev pub started : ℕ → Step → List (List ℕ) → Option Disk → Family → Family
 started number step ins before old = after_start number step.text ins step.outs before old
 

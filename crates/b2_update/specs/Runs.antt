@@ -77,10 +77,10 @@ pub record IsRun (u : Update) (events : List ChildEvent) : Type 0 where
 
 -- the beginning of a run up to a start, and after it ends of steps alone
 pub record IsBegun (u : Update) (events : List ChildEvent) : Type 0 where
-  pub front : List ChildEvent
+  pub prefix : List ChildEvent
   pub rest : List ChildEvent
-  pub whole : events ≡ front ++ rest
-  pub run : RunFrom u [] front
+  pub whole : events ≡ prefix ++ rest
+  pub run : RunFrom u [] prefix
   pub only_ends : AllByRecursion (λ event. is_done event ≡ true) rest
 
 -- the number of the step that an event starts

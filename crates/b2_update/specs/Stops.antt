@@ -16,13 +16,13 @@ abbrev pub sink_stop_of : IoFault → Stop
 sink_stop_of faults.Failed = stops.Sink
 sink_stop_of faults.OutOfMemory = stops.OutOfMemory
 
--- What the host's count of faults may do behind another fault: it is as it was, or the wait for the child that ran failed,
+-- What the host's count of faults may do after another fault: it is as it was, or the wait for the child that ran failed,
 -- so that a child is left.
 abbrev pub IsQuietHost : ℕ → ℕ → List Child → Type 0
 IsQuietHost host host_after left = (host_after ≡ host) ⊎ (left ≢ [])
 
 -- How the two counts of faults stand to a stop, which is the first fault: a fault of the host comes where the sink's count
--- is as it was, and one of the sink, or want of memory, where the host's is, but for the wait that follows it.
+-- is as it was, and one of the sink, or OutOfMemory, where the host's is, but for the wait that follows it.
 abbrev pub StopTold : ℕ → ℕ → List Child → ℕ → ℕ → Stop → Type 0
 StopTold host host_after left sink sink_after stops.Host = Rose host host_after × (sink_after ≡ sink)
 StopTold host host_after left sink sink_after stops.Sink = Rose sink sink_after × IsQuietHost host host_after left

@@ -14,14 +14,14 @@ use Rattle.b2_update.specs.Inputs.{outcome_at}
 -- The events are in turn: after each of their beginnings at most one step is open, and the steps start in rising order, so
 -- that none starts twice.
 pub record AreInTurn (events : List ChildEvent) : Type 0 where
-  pub one_open : (front rest : List ChildEvent) (i k : ℕ) → events ≡ front ++ rest → IsOpen front i → IsOpen front k → i ≡ k
+  pub one_open : (prefix rest : List ChildEvent) (i k : ℕ) → events ≡ prefix ++ rest → IsOpen prefix i → IsOpen prefix k → i ≡ k
   pub rising : AllPairs (λ i k. i < k) (filter_map started events)
 
 -- the step was done
 abbrev pub WasDone : List ChildEvent → ℕ → Type 0
 WasDone events i = (well : Bool) × Contains events (Done i well)
 
--- Between two moments of any host events came in turn, and each of these steps was done.
+-- Between two moments of any host events happened in turn, and each of these steps was done.
 pub record HasTurns (numbers : List ℕ) (old new : List ChildEvent) : Type 0 where
   pub events : List ChildEvent
   pub are : new ≡ old ++ events

@@ -16,7 +16,7 @@ use Rattle.b2_update.specs.Outcomes.{NoneStuck, AreLists, nothing_lacks, HasClea
 use Rattle.b2_update.specs.Reports.{event_line, event_lines, is_good_end, end_lines, report}
 
 -- How the two counts of faults stand to an answer: an answer that is no fault comes only where both are as at entry, and
--- a fault only where its count rose and the other's is as at entry. Behind a fault of the sink, or want of memory, the wait
+-- a fault only where its count rose and the other's is as at entry. After a fault of the sink, or where memory ran out, the wait
 -- for the child that ran may fail, so that the child is left.
 abbrev pub FaultsTold : ℕ → ℕ → List Child → ℕ → ℕ → UpdateAnswer → Type 0
 FaultsTold host host_after left sink sink_after answers.Done = (host_after ≡ host) × (sink_after ≡ sink)
@@ -46,7 +46,7 @@ AnswerTold u events now answers.HostFault = ⊤
 AnswerTold u events now answers.SinkFault = ⊤
 AnswerTold u events now answers.OutOfMemory = ⊤
 
--- What came to pass between two moments of a host that tells its files: these events, each start with what it was given,
+-- What happened between two moments of a host that tells its files: these events, each start with what it was given,
 -- are the beginning of a run, and nothing but outputs of started steps has changed.
 pub record HasRun (u : Update) (events : List ChildEvent) (old new : Family) (before after : Folder) : Type 0 where
   pub events_are : new.events ≡ old.events ++ events
@@ -58,30 +58,30 @@ pub record HasRun (u : Update) (events : List ChildEvent) (old new : Family) (be
 
 -- the one text begins with the other
 abbrev pub BeginsWith : List ℕ → List ℕ → Type 0
-BeginsWith whole front = (rest : List ℕ) × (whole ≡ front ++ rest)
+BeginsWith whole prefix = (rest : List ℕ) × (whole ≡ prefix ++ rest)
 
 -- the lines of a prefix of the events that holds every start
 pub record TellsStarts (steps : List Step) (events : List ChildEvent) (written : List ℕ) : Type 0 where
-  pub front : List ChildEvent
+  pub prefix : List ChildEvent
   pub rest : List ChildEvent
-  pub whole : events ≡ front ++ rest
+  pub whole : events ≡ prefix ++ rest
   pub only_ends : AllByRecursion (λ event. is_done event ≡ true) rest
-  pub lines : written ≡ event_lines steps front
+  pub lines : written ≡ event_lines steps prefix
 
 -- The writing stopped at the line of an event: the lines of the events before it were written, and a beginning of its own.
 -- After it nothing was started.
 pub record StopsAtEvent (steps : List Step) (events : List ChildEvent) (written : List ℕ) : Type 0 where
-  pub front : List ChildEvent
+  pub prefix : List ChildEvent
   pub event : ChildEvent
   pub rest : List ChildEvent
-  pub whole : events ≡ front ++ event ∷ rest
+  pub whole : events ≡ prefix ++ event ∷ rest
   pub only_ends : AllByRecursion (λ event. is_done event ≡ true) rest
   pub has_line : event_line steps event ≢ []
   pub part : List ℕ
   pub begins : BeginsWith (event_line steps event) part
-  pub lines : written ≡ event_lines steps front ++ part
+  pub lines : written ≡ event_lines steps prefix ++ part
 
--- The writing stopped behind the events of a whole run, in the end of its report.
+-- The writing stopped after the events of a whole run, in the end of its report.
 pub record StopsAtEnd (u : Update) (events : List ChildEvent) (written : List ℕ) : Type 0 where
   pub run : IsRun u events
   pub lists : FailedLists
@@ -94,7 +94,7 @@ pub record StopsAtEnd (u : Update) (events : List ChildEvent) (written : List �
 abbrev pub StopsAtWrite : Update → List ChildEvent → List ℕ → Type 0
 StopsAtWrite u events written = StopsAtEvent u.build.steps events written ⊎ StopsAtEnd u events written
 
--- where want of memory stops an update: between two lines, or in the writing
+-- where running out of memory stops an update: between two lines, or in the writing
 abbrev pub StopsSomewhere : Update → List ChildEvent → List ℕ → Type 0
 StopsSomewhere u events written = TellsStarts u.build.steps events written ⊎ StopsAtWrite u events written
 

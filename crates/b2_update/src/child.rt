@@ -1,5 +1,5 @@
 //! One child at a time: its start, its line, and its end.
-ghost use Rattle.std.specs.Prelude.{◌≡◌, [], None, IfOk, OnOk, OnErr, ◌⊎◌, IfErr, string_bytes};
+ghost use Rattle.std.specs.Prelude.{◌≡◌, [], None, IfOk, OnOk, OnErr, ◌⊎◌, IfErr};
 ghost use Rattle.b2_host.specs.Faults.{Rose};
 ghost use Rattle.b2_update.specs.Stops.{IsQuietHost, HostTold, SinkTold, CountsTold};
 ghost use Rattle.b2_update.specs.Runners.{RunsOne, ChildHasEnded, IsDrained, Adds, AddsPart, HasRunChild, HasStopped};

@@ -4,7 +4,7 @@ use b2_base::path_list::PathList;
 
 /// The steps that failed and those that were skipped, by their numbers in rising order, and the missing files in byte
 /// order.
-#[derive(Debug, Drop)]
+#[derive(Drop)]
 pub struct FailedLists {
     pub failed: NumberList,
     pub skipped: NumberList,

@@ -1,5 +1,5 @@
 //! The lines of the report.
-ghost use Rattle.std.specs.Prelude.{◌≡◌, ℕ, IfOk, string_bytes, length};
+ghost use Rattle.std.specs.Prelude.{◌≡◌, IfOk, string_bytes};
 ghost use Rattle.b2_update.specs.Reports.{first_out, start_line, failed_line, missing_line, skipped_line, summary_line};
 
 use crate::failed_lists::FailedLists;

@@ -1,6 +1,6 @@
 //! What an update that ended names, and the end of its report.
-ghost use Rattle.std.specs.Prelude.{◌≡◌, ◌≤◌, [], ◌∷◌, ◌++◌, if◌then◌else◌, ℕ, List, Some, Bool, false, IfOk, OnOk, OnErr, length, count_by, IsTrue, ◌↔◌};
-ghost use Rattle.std.specs.List.{Contains, flat_map};
+ghost use Rattle.std.specs.Prelude.{◌≡◌, ◌≤◌, [], ◌∷◌, ◌++◌, if◌then◌else◌, Some, false, IfOk, OnOk, OnErr, length, count_by, IsTrue, ◌↔◌};
+ghost use Rattle.std.specs.List.{flat_map};
 ghost use Rattle.std.specs.Option.{option_copied};
 ghost use Rattle.b2_plan.specs.Plans.{step_at};
 ghost use Rattle.b2_update.specs.Stops.{SinkTold};

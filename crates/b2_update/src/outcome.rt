@@ -1,7 +1,7 @@
 //! What became of a step.
 
 /// What became of a step.
-#[derive(Clone, Copy, Debug, PartialEq, Eq)]
+#[derive(Clone, Copy, PartialEq, Eq)]
 pub enum Outcome {
     /// It ran and ended well, and each of its outputs stands.
     Settled,

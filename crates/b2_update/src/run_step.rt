@@ -1,6 +1,6 @@
 //! One step of an update. A clause `told` says what holds over a host that tells its files; `untold` says that a host which
 //! does not tell them tells none afterwards.
-ghost use Rattle.std.specs.Prelude.{◌≡◌, ◌+◌, ◌<◌, [], ◌∷◌, ◌++◌, ℕ, List, Option, Some, None, ◌≢◌, Bool, true, false, IfOk, OnOk, OnErr, IfErr, ◌⊎◌, IsTrue, length, ◌↔◌};
+ghost use Rattle.std.specs.Prelude.{◌≡◌, ◌+◌, ◌<◌, [], ℕ, List, Option, Some, None, ◌≢◌, true, false, IfOk, OnOk, OnErr, ◌⊎◌, IsTrue, length, ◌↔◌};
 ghost use Rattle.std.specs.List.{Contains, AllPairs};
 ghost use Rattle.std.specs.Option.{IfSome};
 ghost use Rattle.b2_host.specs.Disks.{Folder};
@@ -10,7 +10,7 @@ ghost use Rattle.b2_plan.specs.Plans.{step_at};
 ghost use Rattle.b2_plan.specs.Closures.{Before};
 ghost use Rattle.b2_update.specs.Stops.{CountsTold, HostTold};
 ghost use Rattle.b2_update.specs.Inputs.{IsReadable, outcome_at};
-ghost use Rattle.b2_update.specs.Progress.{IsWhole, IsPrepared, IsDue, Stands, HasCome, GoesOn, update_of};
+ghost use Rattle.b2_update.specs.Progress.{IsWhole, IsPrepared, IsDue, Stands, HasEndedChild, GoesOn, update_of};
 ghost use Rattle.b2_update.specs.Runs.{Update};
 ghost use Rattle.b2_update.specs.Turns.{HadTurns, TurnsOn};
 ghost use Rattle.b2_host.specs.declared.children.ChildEvent.{ChildEvent};
@@ -82,7 +82,7 @@ fn fail_step<H: Children, S: Sink>(
     ensures family { H.family host.new ≡ H.family host.old }
     ensures waits { H.failed_waits host.new ≡ H.failed_waits host.old }
     ensures untold { H.disk host.old ≡ None → H.disk host.new ≡ None }
-    ensures told { (u : Update) (old : Family) (text : Option (List ℕ)) (list : List Outcome) → IsWhole u → step_at u.build.steps (length list + 1) ≡ Some step.now → HasCome u old text list false (H.family host.old) (H.disk host.old) (S.written out.old) → GoesOn u old text list result (H.family host.new) (H.disk host.new) (S.written out.new) }
+    ensures told { (u : Update) (old : Family) (text : Option (List ℕ)) (list : List Outcome) → IsWhole u → step_at u.build.steps (length list + 1) ≡ Some step.now → HasEndedChild u old text list false (H.family host.old) (H.disk host.old) (S.written out.old) → GoesOn u old text list result (H.family host.new) (H.disk host.new) (S.written out.new) }
 {
     remove_all(host, step.outs.as_slice())?;
     let line = failed_text(alloc, step)?;
@@ -117,7 +117,7 @@ fn finish_step<H: Children, S: Sink>(
     ensures family { H.family host.new ≡ H.family host.old }
     ensures waits { H.failed_waits host.new ≡ H.failed_waits host.old }
     ensures untold { H.disk host.old ≡ None → H.disk host.new ≡ None }
-    ensures told { (u : Update) (old : Family) (text : Option (List ℕ)) (list : List Outcome) → IsWhole u → step_at u.build.steps (length list + 1) ≡ Some step.now → HasCome u old text list well (H.family host.old) (H.disk host.old) (S.written out.old) → GoesOn u old text list result (H.family host.new) (H.disk host.new) (S.written out.new) }
+    ensures told { (u : Update) (old : Family) (text : Option (List ℕ)) (list : List Outcome) → IsWhole u → step_at u.build.steps (length list + 1) ≡ Some step.now → HasEndedChild u old text list well (H.family host.old) (H.disk host.old) (S.written out.old) → GoesOn u old text list result (H.family host.new) (H.disk host.new) (S.written out.new) }
 {
     let left = has_left(host, step.outs.as_slice(), well)?;
     if left {

@@ -1,4 +1,4 @@
-//! Why an update came to no end.
+//! Why an update stopped.
 ghost use Rattle.std.specs.Prelude.{◌≡◌};
 ghost use Rattle.b2_update.specs.Stops.{host_stop_of, sink_stop_of};
 
@@ -6,8 +6,8 @@ use b2_base::fault::OutOfMemory;
 use b2_host::fault::{Failed, IoFault};
 use std::alloc::{AllocError, AllocFailed};
 
-/// Why an update came to no end.
-#[derive(Clone, Copy, Debug)]
+/// Why an update stopped.
+#[derive(Clone, Copy)]
 pub enum Stop {
     /// The host failed.
     Host,

@@ -1,5 +1,5 @@
 //! The update of a plan.
-ghost use Rattle.std.specs.Prelude.{◌≡◌, ℕ, List, [], Option, Some, None, ◌⊎◌, IfOk, OnOk, OnErr, IfErr, MatchResult, length};
+ghost use Rattle.std.specs.Prelude.{◌≡◌, ℕ, List, [], Option, Some, None, ◌⊎◌, IfOk, OnOk, OnErr, MatchResult, length};
 ghost use Rattle.std.specs.List.{AllPairs};
 ghost use Rattle.b2_host.specs.Disks.{Folder, Disk};
 ghost use Rattle.b2_host.specs.Faults.{Rose};

@@ -2,7 +2,7 @@
 use crate::failed_lists::FailedLists;
 
 /// How an update ended.
-#[derive(Debug, Drop)]
+#[derive(Drop)]
 pub enum UpdateAnswer {
     /// Each wanted file is up to date.
     Done,

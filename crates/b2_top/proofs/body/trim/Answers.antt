@@ -2,14 +2,14 @@ use Rattle.std.proofs.Common.{◌≡◌, ◌<◌, ◌-◌, length, ap, sym, ◌�
 use Rattle.std.specs.List.{prefix_len, suffix_len}
 use Rattle.std.specs.Str.{IsCharBoundary}
 use Rattle.b2_top.specs.Bodies.{is_white}
-use Rattle.b2_top.proofs.BodyLemmas.{front_boundary, end_boundary}
+use Rattle.b2_top.proofs.BodyLemmas.{start_boundary, end_boundary}
 use Rattle.b2_top.proofs.body.trim.Goals as goal
 
 pub range_from-rest-requires : goal.range_from-rest-requires
 range_from-rest-requires c = λ some.
     let text = c.args.text.now in
     let same : c.white_before.result ≡ prefix_len is_white text = c.white_before.ensures ∙ ap (prefix_len is_white) c.as_bytes.ensures.value in
-    subst (IsCharBoundary text) (sym same) (front_boundary text c.utf8.text (subst (λ n. 0 < n) same some))
+    subst (IsCharBoundary text) (sym same) (start_boundary text c.utf8.text (subst (λ n. 0 < n) same some))
 
 pub range-requires-clause-end_boundary : goal.range-requires-clause-end_boundary
 range-requires-clause-end_boundary c =

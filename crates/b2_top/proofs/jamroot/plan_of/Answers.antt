@@ -2,7 +2,7 @@ use Rattle.std.proofs.Common.{subst, List, ap, Err, ◌∙◌}
 use Rattle.b2_base.specs.declared.token.Token.{Token}
 use Rattle.b2_top.specs.Jamroots.{FirstBad}
 use Rattle.b2_top.specs.ProjectFiles.IsNotYet.{bad_statement}
-use Rattle.b2_top.proofs.Exactly.{exact_read, exact_fault, fault_stops, short_text, stop_of_read, only_bad, only_plan, OnlyBad, OnlyPlan}
+use Rattle.b2_top.proofs.ExactLemmas.{exact_read, exact_fault, fault_stops, short_text, stop_of_read, only_bad, only_plan, OnlyBad, OnlyPlan}
 use Rattle.b2_top.proofs.jamroot.plan_of.Goals as goal
 
 pub returns-in-Err-NotYet-clause-stop : goal.returns-in-Err-NotYet-clause-stop

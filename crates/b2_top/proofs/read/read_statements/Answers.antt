@@ -4,7 +4,7 @@ use Rattle.b2_top.specs.declared.statement.Statement.{Statement}
 use Rattle.b2_top.specs.Statements.{first_line, Reads}
 use Rattle.b2_top.specs.Readings.{stated}
 use Rattle.b2_top.proofs.ReadLemmas.{read_leads}
-use Rattle.b2_top.proofs.WholeLemmas.{leads_shorter, reads_more, nothing_leads}
+use Rattle.b2_top.proofs.StatementLemmas.{leads_shorter, reads_more, nothing_leads}
 use Rattle.b2_top.proofs.read.read_statements.Goals as goal
 
 pub loop-parts-smaller : goal.loop-parts-smaller

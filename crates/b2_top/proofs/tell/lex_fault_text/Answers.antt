@@ -1,14 +1,13 @@
-use Rattle.std.proofs.Common.{append_assoc}
 use Rattle.b2_top.proofs.tell.lex_fault_text.Goals as goal
 
-pub returns-in_ok-format-in-NotUtf8 : goal.returns-in_ok-format-in-NotUtf8
-returns-in_ok-format-in-NotUtf8 c = rw c.in-NotUtf8.is (simp append_assoc c.in_ok-format-in-NotUtf8.ensures.ok)
+pub returns-in-NotUtf8 : goal.returns-in-NotUtf8
+returns-in-NotUtf8 c = rw c.in-NotUtf8.is c.byte_text.ensures
 
-pub returns-in_ok-format-in-OpenQuote : goal.returns-in_ok-format-in-OpenQuote
-returns-in_ok-format-in-OpenQuote c = rw c.in-OpenQuote.is (simp append_assoc c.in_ok-format-in-OpenQuote.ensures.ok)
+pub returns-in-OpenQuote : goal.returns-in-OpenQuote
+returns-in-OpenQuote c = rw c.in-OpenQuote.is c.line_text.ensures
 
-pub returns-in_ok-format-in-OpenActions : goal.returns-in_ok-format-in-OpenActions
-returns-in_ok-format-in-OpenActions c = rw c.in-OpenActions.is (simp append_assoc c.in_ok-format-in-OpenActions.ensures.ok)
+pub returns-in-OpenActions : goal.returns-in-OpenActions
+returns-in-OpenActions c = rw c.in-OpenActions.is c.line_text-in-OpenActions.ensures
 
-pub returns-in_ok-format-in-OutOfMemory : goal.returns-in_ok-format-in-OutOfMemory
-returns-in_ok-format-in-OutOfMemory c = rw c.in-OutOfMemory.is (simp append_assoc c.in_ok-format-in-OutOfMemory.ensures.ok)
+pub returns-in-OutOfMemory : goal.returns-in-OutOfMemory
+returns-in-OutOfMemory c = rw c.in-OutOfMemory.is c.memory_text.ensures

@@ -1,6 +1,6 @@
 use Rattle.std.proofs.Common.{subst, ap, Err}
 use Rattle.b2_update.specs.Runners.{AddsPart}
-use Rattle.b2_update.proofs.Writing.{part_of_write}
+use Rattle.b2_update.proofs.WritingLemmas.{part_of_write}
 use Rattle.b2_update.proofs.child.write_line.Goals as goal
 
 pub returns-in-Err-clause-err : goal.returns-in-Err-clause-err

@@ -2,8 +2,8 @@ use Rattle.std.proofs.Common.{◌↔◌, ◌++◌, ℕ, List, sym, subst₂, ap,
 use Rattle.std.specs.List.{Contains}
 use Rattle.b2_plan.specs.declared.step.Step.{Step}
 use Rattle.b2_update.specs.Inputs.{IsInput}
-use Rattle.b2_update.proofs.Elements.{take_whole}
-use Rattle.b2_update.proofs.Reading.{input_more, if_ok_map}
+use Rattle.b2_update.proofs.ListLemmas.{take_whole}
+use Rattle.b2_update.proofs.InputLemmas.{input_more, if_ok_map}
 use Rattle.b2_update.proofs.inputs.all_inputs.Goals as goal
 
 pub loop-step-preserved : goal.loop-step-preserved

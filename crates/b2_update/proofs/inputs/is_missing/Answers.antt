@@ -2,7 +2,7 @@ use Rattle.std.proofs.Common.{◌↔◌, ℕ, List, IsTrue, not, sym, ◌∙◌,
 use Rattle.b2_host.specs.Disks.{Disk}
 use Rattle.b2_plan.specs.Sources.{IsSource, IsMissing}
 use Rattle.b2_update.specs.Plain.{build_of}
-use Rattle.b2_update.proofs.Reading.{told_all, told_map, made_given, source_given}
+use Rattle.b2_update.proofs.InputLemmas.{told_all, told_map, made_given, source_given}
 use Rattle.b2_update.proofs.inputs.is_missing.Goals as goal
 
 pub returns-then-is_some-clause-told : goal.returns-then-is_some-clause-told

@@ -3,8 +3,8 @@ use Rattle.std.specs.List.{Contains}
 use Rattle.b2_host.specs.Disks.{Disk}
 use Rattle.b2_plan.specs.Sources.{IsMissing}
 use Rattle.b2_update.specs.Plain.{build_of}
-use Rattle.b2_update.proofs.Elements.{take_whole}
-use Rattle.b2_update.proofs.Reading.{told_all, told_at, told_map, missing_more, within_more, rising_next}
+use Rattle.b2_update.proofs.ListLemmas.{take_whole}
+use Rattle.b2_update.proofs.InputLemmas.{told_all, told_at, told_map, missing_more, within_more, rising_next}
 use Rattle.b2_update.proofs.inputs.missing_among.Goals as goal
 
 pub loop-path-preserved : goal.loop-path-preserved

@@ -6,7 +6,7 @@ use Rattle.b2_plan.specs.Sources.{IsMissing}
 use Rattle.b2_update.specs.Inputs.{IsInput, IsMissingInput}
 use Rattle.b2_update.specs.Outcomes.{ArePathsOf}
 use Rattle.b2_update.specs.Plain.{build_of}
-use Rattle.b2_update.proofs.Reading.{if_ok_both, told_map, are_missing}
+use Rattle.b2_update.proofs.InputLemmas.{if_ok_both, told_map, are_missing}
 use Rattle.b2_update.proofs.inputs.missing_inputs.Goals as goal
 
 pub returns-clause-told : goal.returns-clause-told

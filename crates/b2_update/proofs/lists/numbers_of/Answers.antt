@@ -2,8 +2,8 @@ use Rattle.std.proofs.Common.{◌≡◌, ℕ, List, Some, subst, refl}
 use Rattle.b2_update.specs.declared.outcome.Outcome.{Outcome}
 use Rattle.b2_update.specs.Inputs.{outcome_at}
 use Rattle.b2_update.specs.Outcomes.{IsListOf}
-use Rattle.b2_update.proofs.Elements.{take_whole}
-use Rattle.b2_update.proofs.Numbers.{numbers_more}
+use Rattle.b2_update.proofs.ListLemmas.{take_whole}
+use Rattle.b2_update.proofs.NumberLemmas.{numbers_more}
 use Rattle.b2_update.proofs.lists.numbers_of.Goals as goal
 
 pub loop-place-preserved : goal.loop-place-preserved

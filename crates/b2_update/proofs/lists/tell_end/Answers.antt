@@ -3,7 +3,7 @@ use Rattle.std.specs.List.{flat_map}
 use Rattle.b2_plan.specs.Plans.{step_at}
 use Rattle.b2_update.specs.Reports.{missing_line, skipped_line, said_of, summary_line, end_lines}
 use Rattle.b2_update.specs.Runners.{Adds, AddsPart}
-use Rattle.b2_update.proofs.Writing.{on_err, on_ok_map, on_err_map, part_of_more, part_whole, adds_both, adds_then_part}
+use Rattle.b2_update.proofs.WritingLemmas.{on_err, on_ok_map, on_err_map, part_of_more, part_whole, adds_both, adds_then_part}
 use Rattle.b2_update.proofs.lists.tell_end.Goals as goal
 
 pub returns-in_err-tell_missing-clause-err : goal.returns-in_err-tell_missing-clause-err

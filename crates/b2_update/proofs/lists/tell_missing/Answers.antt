@@ -1,7 +1,7 @@
 use Rattle.std.proofs.Common.{subst, ap, ◌∙◌}
 use Rattle.b2_update.specs.Reports.{missing_line}
 use Rattle.b2_update.specs.Runners.{Adds, AddsPart}
-use Rattle.b2_update.proofs.Writing.{on_err, part_taken, part_more, adds_more}
+use Rattle.b2_update.proofs.WritingLemmas.{on_err, part_taken, part_more, adds_more}
 use Rattle.b2_update.proofs.lists.tell_missing.Goals as goal
 
 pub returns-in_err-line-clause-err : goal.returns-in_err-line-clause-err

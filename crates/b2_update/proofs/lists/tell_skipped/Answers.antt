@@ -1,7 +1,7 @@
 use Rattle.std.proofs.Common.{ℕ}
 use Rattle.b2_plan.specs.Plans.{step_at}
 use Rattle.b2_update.specs.Reports.{skipped_line, said_of}
-use Rattle.b2_update.proofs.Writing.{on_err, part_more}
+use Rattle.b2_update.proofs.WritingLemmas.{on_err, part_more}
 use Rattle.b2_update.proofs.lists.tell_skipped.Goals as goal
 
 pub returns-in_err-tell_one_skipped-clause-err : goal.returns-in_err-tell_one_skipped-clause-err

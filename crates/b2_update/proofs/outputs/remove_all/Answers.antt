@@ -1,7 +1,7 @@
 use Rattle.std.proofs.Common.{◌≡◌, ◌+◌, ◌⊎◌, get_or, subst, ◌∙◌, inr}
 use Rattle.std.specs.Option.{option_map}
 use Rattle.b2_host.specs.Disks.{without}
-use Rattle.b2_update.proofs.Removing.{kept_more, kept_all, gone_more}
+use Rattle.b2_update.proofs.OutputLemmas.{kept_more, kept_all, gone_more}
 use Rattle.b2_update.proofs.outputs.remove_all.Goals as goal
 
 pub returns-in_err-remove-clause-others : goal.returns-in_err-remove-clause-others

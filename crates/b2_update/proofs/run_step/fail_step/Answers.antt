@@ -3,8 +3,8 @@ use Rattle.std.proofs.lemmas.Result.{err_from_is_err_and}
 use Rattle.b2_host.specs.ChildProcesses.{BothTold}
 use Rattle.b2_update.specs.declared.stop.Stop.TheVariants as stops
 use Rattle.b2_update.specs.Outputs.{KeepsOthers, AreGone}
-use Rattle.b2_update.proofs.Beginnings.{goes_err, sink_stops, host_stops, no_sink}
-use Rattle.b2_update.proofs.Steps.{came_stopped, came_kept, came_part, came_failed}
+use Rattle.b2_update.proofs.StopLemmas.{goes_err, sink_stops, host_stops, no_sink}
+use Rattle.b2_update.proofs.StepLemmas.{ended_stopped, ended_kept, ended_part, ended_failed}
 use Rattle.b2_update.proofs.run_step.fail_step.Goals as goal
 
 pub returns-in_err-remove_all-clause-told : goal.returns-in_err-remove_all-clause-told
@@ -17,7 +17,7 @@ returns-in_err-remove_all-clause-told g c = λ u old text list w at come.
     let wr = g.S.Sink.written c.args.out.now in
     let kept = subst (λ l. BothTold (KeepsOthers l) d0 d1) c.as_slice.ensures c.in_err-remove_all.ensures.others in
     let other : y ≢ stops.Sink = subst (λ z. z ≢ stops.Sink) (sym q) (host_stops (g.H.Files.faults c.args.host.now) (g.H.Files.faults c.remove_all.new.host) c.in_err-remove_all.field-0.0 c.in_err-remove_all.ensures.faults) in
-    goes_err u old text list c.from_residual.result f1 d1 wr y e (came_stopped u old text list false f1 d1 wr y other (came_kept u old text list c.args.step.now f0 f1 d0 d1 wr w at come c.in_err-remove_all.ensures.family kept))
+    goes_err u old text list c.from_residual.result f1 d1 wr y e (ended_stopped u old text list false f1 d1 wr y other (ended_kept u old text list c.args.step.now f0 f1 d0 d1 wr w at come c.in_err-remove_all.ensures.family kept))
 
 pub returns-in_err-line-clause-told : goal.returns-in_err-line-clause-told
 returns-in_err-line-clause-told g c = λ u old text list w at come.
@@ -28,7 +28,7 @@ returns-in_err-line-clause-told g c = λ u old text list w at come.
     let d1 = g.H.Files.disk c.remove_all.new.host in
     let wr = g.S.Sink.written c.args.out.now in
     let kept = subst (λ l. BothTold (KeepsOthers l) d0 d1) c.as_slice.ensures c.in_ok-remove_all.ensures.others in
-    goes_err u old text list c.from_residual-in_err-line.result f1 d1 wr y e (came_stopped u old text list false f1 d1 wr y (no_sink y q) (came_kept u old text list c.args.step.now f0 f1 d0 d1 wr w at come c.in_ok-remove_all.ensures.family kept))
+    goes_err u old text list c.from_residual-in_err-line.result f1 d1 wr y e (ended_stopped u old text list false f1 d1 wr y (no_sink y q) (ended_kept u old text list c.args.step.now f0 f1 d0 d1 wr w at come c.in_ok-remove_all.ensures.family kept))
 
 pub returns-in_err-write_line-clause-told : goal.returns-in_err-write_line-clause-told
 returns-in_err-write_line-clause-told g c = λ u old text list w at come.
@@ -44,7 +44,7 @@ returns-in_err-write_line-clause-told g c = λ u old text list w at come.
     let other : c.in_err-write_line.field-0.0 ≢ stops.Host = sink_stops (g.S.Sink.faults c.args.out.now) (g.S.Sink.faults c.write_line.new.out) c.in_err-write_line.field-0.0 c.in_err-write_line.ensures.faults in
     let not_host : y ≢ stops.Host = subst (λ z. z ≢ stops.Host) (sym q) other in
     goes_err u old text list c.from_residual-in_err-write_line.result f1 d1 w1 y e
-    (came_part u old text list c.args.step.now f1 d1 w0 w1 y at (came_kept u old text list c.args.step.now f0 f1 d0 d1 w0 w at come c.in_ok-remove_all.ensures.family kept) not_host c.as_str.result.now line c.in_err-write_line.ensures.err)
+    (ended_part u old text list c.args.step.now f1 d1 w0 w1 y at (ended_kept u old text list c.args.step.now f0 f1 d0 d1 w0 w at come c.in_ok-remove_all.ensures.family kept) not_host c.as_str.result.now line c.in_err-write_line.ensures.err)
 
 pub returns-clause-told : goal.returns-clause-told
 returns-clause-told g c = λ u old text list w at come.
@@ -57,4 +57,4 @@ returns-clause-told g c = λ u old text list w at come.
     let kept = subst (λ l. BothTold (KeepsOthers l) d0 d1) c.as_slice.ensures c.in_ok-remove_all.ensures.others in
     let gone = subst (λ l. IfSome d1 (AreGone l)) c.as_slice.ensures c.in_ok-remove_all.ensures.gone in
     let line = c.as_str.ensures.value ∙ c.in_ok-line.ensures in
-    came_failed u old text list c.args.step.now f1 d1 w0 w1 at (came_kept u old text list c.args.step.now f0 f1 d0 d1 w0 w at come c.in_ok-remove_all.ensures.family kept) gone c.as_str.result.now line c.in_ok-write_line.ensures.ok
+    ended_failed u old text list c.args.step.now f1 d1 w0 w1 at (ended_kept u old text list c.args.step.now f0 f1 d0 d1 w0 w at come c.in_ok-remove_all.ensures.family kept) gone c.as_str.result.now line c.in_ok-write_line.ensures.ok

@@ -1,4 +1,4 @@
-use Rattle.b2_update.proofs.Orders.{searched}
+use Rattle.b2_update.proofs.OrderLemmas.{searched}
 use Rattle.b2_update.proofs.run_step.is_among.Goals as goal
 
 pub returns : goal.returns

@@ -1,8 +1,8 @@
 use Rattle.std.proofs.Common.{◌+◌, ℕ, List, sym, subst, refl, arith, length}
 use Rattle.std.specs.List.{Contains}
 use Rattle.b2_update.specs.Progress.{update_of}
-use Rattle.b2_update.proofs.Nexts.{skip_next, readable_input}
-use Rattle.b2_update.proofs.Turning.{turn_skipped}
+use Rattle.b2_update.proofs.NextStepLemmas.{skip_next, readable_input}
+use Rattle.b2_update.proofs.TurnLemmas.{turn_skipped}
 use Rattle.b2_update.proofs.run_step.run_step.Goals as goal
 
 pub returns-then-not-is_ready-clause-told : goal.returns-then-not-is_ready-clause-told

@@ -5,9 +5,9 @@ use Rattle.b2_host.specs.ChildProcesses.{Family}
 use Rattle.b2_plan.specs.Closures.{Before}
 use Rattle.b2_update.specs.Turns.{TookTurn}
 use Rattle.b2_update.specs.Runners.{HasStopped}
-use Rattle.b2_update.proofs.Beginnings.{goes_err}
-use Rattle.b2_update.proofs.Nexts.{come_at, stopped_at, due_at}
-use Rattle.b2_update.proofs.Turning.{turns_halt, turns_on, turn_any, ran_turn, stop_turn}
+use Rattle.b2_update.proofs.StopLemmas.{goes_err}
+use Rattle.b2_update.proofs.NextStepLemmas.{come_at, stopped_at, due_at}
+use Rattle.b2_update.proofs.TurnLemmas.{turns_halt, turns_on, turn_any, ran_turn, stop_turn}
 use Rattle.b2_update.proofs.run_step.start_step.Goals as goal
 
 pub returns-in_err-well-clause-told : goal.returns-in_err-well-clause-told

@@ -10,14 +10,14 @@ use Rattle.b2_update.specs.Plain.{build_of}
 use Rattle.b2_update.specs.Reports.{end_lines}
 use Rattle.b2_update.specs.Runners.{Adds, AddsPart}
 use Rattle.b2_update.specs.Progress.{Stopped, IsPrepared, update_of}
-use Rattle.b2_update.proofs.Beginnings.{match_err, stands_begin, whole_update, sink_stops, host_stops, no_sink}
-use Rattle.b2_update.proofs.Nexts.{stopped_along, stands_along}
-use Rattle.b2_update.proofs.Reading.{told_at}
-use Rattle.b2_update.proofs.Steps.{stands_stopped}
-use Rattle.b2_update.proofs.Endings.{has_finished, end_stopped}
+use Rattle.b2_update.proofs.StopLemmas.{match_err, stands_begin, whole_update, sink_stops, host_stops, no_sink}
+use Rattle.b2_update.proofs.NextStepLemmas.{stopped_along, stands_along}
+use Rattle.b2_update.proofs.InputLemmas.{told_at}
+use Rattle.b2_update.proofs.StepLemmas.{stands_stopped}
+use Rattle.b2_update.proofs.EndLemmas.{has_finished, end_stopped}
 use Rattle.b2_host.specs.ChildProcesses.{Family}
 use Rattle.b2_update.specs.Turns.{HadTurns}
-use Rattle.b2_update.proofs.Turning.{turns_none, had_none, had_turns, had_lists}
+use Rattle.b2_update.proofs.TurnLemmas.{turns_none, had_none, had_turns, had_lists}
 use Rattle.b2_update.proofs.update.run_plan.Goals as goal
 
 pub returns-in_err-missing-clause-told : goal.returns-in_err-missing-clause-told

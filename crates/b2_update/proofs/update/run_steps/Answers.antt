@@ -2,10 +2,10 @@ use Rattle.std.proofs.Common.{List, sym, subst}
 use Rattle.std.proofs.lemmas.Result.{err_from_is_err_and}
 use Rattle.b2_update.specs.declared.outcome.Outcome.{Outcome}
 use Rattle.b2_update.specs.Progress.{Stands, update_of}
-use Rattle.b2_update.proofs.Beginnings.{match_err, no_sink}
-use Rattle.b2_update.proofs.Steps.{stands_stopped}
+use Rattle.b2_update.proofs.StopLemmas.{match_err, no_sink}
+use Rattle.b2_update.proofs.StepLemmas.{stands_stopped}
 use Rattle.b2_update.specs.Turns.{HadTurns}
-use Rattle.b2_update.proofs.Turning.{had_turns}
+use Rattle.b2_update.proofs.TurnLemmas.{had_turns}
 use Rattle.b2_update.proofs.update.run_steps.Goals as goal
 
 pub returns-in_err-push-clause-told : goal.returns-in_err-push-clause-told

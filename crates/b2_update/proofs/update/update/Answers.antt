@@ -2,8 +2,8 @@ use Rattle.std.proofs.Common.{sym, subst, refl}
 use Rattle.b2_host.specs.Disks.{Disk}
 use Rattle.b2_update.specs.Progress.{update_of}
 use Rattle.b2_update.specs.Updates.{HasUpdated, HasWritten}
-use Rattle.b2_update.proofs.Endings.{both_from, finished_updated, finished_written, stopped_updated, stopped_written}
-use Rattle.b2_update.proofs.Turning.{turns_end, turns_stop}
+use Rattle.b2_update.proofs.EndLemmas.{both_from, finished_updated, finished_written, stopped_updated, stopped_written}
+use Rattle.b2_update.proofs.TurnLemmas.{turns_end, turns_stop}
 use Rattle.b2_update.proofs.update.update.Goals as goal
 
 pub returns-in-Ok-clause-updated : goal.returns-in-Ok-clause-updated
