@@ -1,0 +1,115 @@
+//! Commands on the child processes of the host in memory, and on the calls that are to fail.
+use crate::args::{io_answer, number, paths};
+use crate::free::may_start;
+use b2_base::path::Path;
+use b2_base::path_list::PathList;
+use b2_host::children::Children;
+use b2_host::fault::Failed;
+use b2_host::memory::{CallKind, MemoryHost};
+use std::alloc::Global;
+use transcript::answer::Answer;
+use transcript::case_fault::CaseFault;
+use transcript::command::{Command, Word};
+
+/// What a child reads and writes: the paths before the first word `>`, and those after it.
+fn ins_and_outs(alloc: Global, words: &[Word]) -> Result<(PathList, PathList), CaseFault> {
+    match words
+        .iter()
+        .position(|word| word.bytes() == b">".as_slice())
+    {
+        None => Err(CaseFault::WrongWords),
+        Some(place) => {
+            let ins = paths(alloc, &words[..place])?;
+            let outs = paths(alloc, &words[place + 1..])?;
+            Ok((ins, outs))
+        }
+    }
+}
+
+fn start_child(
+    alloc: Global,
+    host: &mut MemoryHost,
+    step: u32,
+    text: &str,
+    ins: &[Path],
+    outs: &[Path],
+) -> Result<Answer, CaseFault> {
+    if !may_start(host.running(), ins, outs) {
+        return Answer::line(alloc, "a child that runs is in the way");
+    }
+    io_answer(alloc, host.start(step, text, ins, outs))
+}
+
+/// `start STEP TEXT IN .. > OUT ..`: starts a child. It needs that no running child is in the way.
+fn start(alloc: Global, host: &mut MemoryHost, words: &[Word]) -> Result<Answer, CaseFault> {
+    let [step, text, more @ ..] = words else {
+        return Err(CaseFault::WrongWords);
+    };
+    let step = number(step)?;
+    let text = text.as_str()?;
+    let (ins, outs) = ins_and_outs(alloc, more)?;
+    start_child(alloc, host, step, text, ins.as_slice(), outs.as_slice())
+}
+
+/// `wait_one`: which child has ended, and how. It needs that one runs.
+fn wait_one(alloc: Global, host: &mut MemoryHost, words: &[Word]) -> Result<Answer, CaseFault> {
+    if !words.is_empty() {
+        return Err(CaseFault::WrongWords);
+    }
+    if host.running().is_empty() {
+        return Answer::line(alloc, "no child runs");
+    }
+    match host.wait_one() {
+        Ok((step, true)) => Answer::line(alloc, format!(in alloc; "{step} well")?.as_str()),
+        Ok((step, false)) => Answer::line(alloc, format!(in alloc; "{step} badly")?.as_str()),
+        Err(Failed) => Answer::line(alloc, "Failed"),
+    }
+}
+
+fn call_kind(word: &Word) -> Result<CallKind, CaseFault> {
+    match word.as_str()? {
+        "Stat" => Ok(CallKind::Stat),
+        "Read" => Ok(CallKind::Read),
+        "Remove" => Ok(CallKind::Remove),
+        "Start" => Ok(CallKind::Start),
+        "Wait" => Ok(CallKind::Wait),
+        _ => Err(CaseFault::WrongWords),
+    }
+}
+
+/// `fail_calls KIND NUMBER`: lets a call of that kind fail, by its number from now on.
+fn fail_calls(alloc: Global, host: &mut MemoryHost, words: &[Word]) -> Result<Answer, CaseFault> {
+    let [kind, place] = words else {
+        return Err(CaseFault::WrongWords);
+    };
+    let calls = [(call_kind(kind)?, number(place)?)];
+    host.fail_calls(calls.as_slice())?;
+    Ok(Answer::new(alloc))
+}
+
+/// `child_fails NUMBER ..`: lets children end badly, by the numbers of their starts from now on.
+fn child_fails(alloc: Global, host: &mut MemoryHost, words: &[Word]) -> Result<Answer, CaseFault> {
+    let mut starts = Vec::new(alloc);
+    for word in words {
+        starts.push(number(word)?)?;
+    }
+    host.child_fails(starts.as_slice())?;
+    Ok(Answer::new(alloc))
+}
+
+/// Carries out a command on children; None where it is none.
+pub fn child_command(
+    alloc: Global,
+    host: &mut MemoryHost,
+    command: &Command,
+) -> Result<Option<Answer>, CaseFault> {
+    let words = command.words();
+    let answer = match command.name() {
+        "start" => start(alloc, host, words)?,
+        "wait_one" => wait_one(alloc, host, words)?,
+        "fail_calls" => fail_calls(alloc, host, words)?,
+        "child_fails" => child_fails(alloc, host, words)?,
+        _ => return Ok(None),
+    };
+    Ok(Some(answer))
+}

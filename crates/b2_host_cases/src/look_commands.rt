@@ -1,0 +1,138 @@
+//! Commands that look at the host in memory.
+use b2_base::path::Path;
+use b2_host::children::ChildEvent;
+use b2_host::entry::Entry;
+use b2_host::job::Job;
+use b2_host::memory::MemoryHost;
+use std::alloc::Global;
+use transcript::answer::{Answer, shown};
+use transcript::case_fault::CaseFault;
+use transcript::command::Command;
+
+fn push_event(alloc: Global, answer: &mut Answer, event: ChildEvent) -> Result<(), CaseFault> {
+    let line = match event {
+        ChildEvent::Start(step) => format!(in alloc; "Start {step}")?,
+        ChildEvent::Done(step, true) => format!(in alloc; "Done {step} well")?,
+        ChildEvent::Done(step, false) => format!(in alloc; "Done {step} badly")?,
+    };
+    answer.push_line(line.as_str())
+}
+
+/// `events`: what happened to the children.
+fn events(alloc: Global, host: &MemoryHost) -> Result<Answer, CaseFault> {
+    let mut answer = Answer::new(alloc);
+    for event in host.events() {
+        push_event(alloc, &mut answer, *event)?;
+    }
+    Ok(answer)
+}
+
+fn push_file(
+    alloc: Global,
+    answer: &mut Answer,
+    stamp: u64,
+    entry: &Entry,
+) -> Result<(), CaseFault> {
+    let path = entry.path.as_str();
+    let bytes = shown(alloc, entry.bytes.as_slice())?;
+    let bytes = bytes.as_str();
+    answer.push_line(format!(in alloc; "{stamp} {path} \"{bytes}\"")?.as_str())
+}
+
+/// `files`: the files that stand, in order of stamps.
+fn files(alloc: Global, host: &MemoryHost) -> Result<Answer, CaseFault> {
+    let mut answer = Answer::new(alloc);
+    for (place, entry) in host.past().iter().enumerate() {
+        let stamp = place as u64 + 1;
+        if host.stamp_of(&entry.path) == Some(stamp) {
+            push_file(alloc, &mut answer, stamp, entry)?;
+        }
+    }
+    Ok(answer)
+}
+
+/// `past`: the files that stood or stand, in order of stamps.
+fn past(alloc: Global, host: &MemoryHost) -> Result<Answer, CaseFault> {
+    let mut answer = Answer::new(alloc);
+    for (place, entry) in host.past().iter().enumerate() {
+        push_file(alloc, &mut answer, place as u64 + 1, entry)?;
+    }
+    Ok(answer)
+}
+
+fn push_paths(line: &mut String, paths: &[Path]) -> Result<(), CaseFault> {
+    for path in paths {
+        line.push(' ')?;
+        line.push_str(path.as_str())?;
+    }
+    Ok(())
+}
+
+/// What a start gave, as the words of a `start`.
+fn job_line(alloc: Global, job: &Job) -> Result<String, CaseFault> {
+    let step = job.step;
+    let text = shown(alloc, job.text.as_bytes())?;
+    let text = text.as_str();
+    let mut line = format!(in alloc; "{step} \"{text}\"")?;
+    push_paths(&mut line, job.ins.as_slice())?;
+    line.push_str(" >")?;
+    push_paths(&mut line, job.outs.as_slice())?;
+    Ok(line)
+}
+
+/// `running`: the children that run, in order of start, each with how it is to end.
+fn running(alloc: Global, host: &MemoryHost) -> Result<Answer, CaseFault> {
+    let mut answer = Answer::new(alloc);
+    for child in host.running() {
+        let mut line = job_line(alloc, child.job.as_ref())?;
+        line.push_str(if child.well { ", well" } else { ", badly" })?;
+        answer.push_line(line.as_str())?;
+    }
+    Ok(answer)
+}
+
+/// What a start gave, and below it the inputs that stood then, with their bytes.
+fn push_given(alloc: Global, answer: &mut Answer, job: &Job) -> Result<(), CaseFault> {
+    answer.push_line(job_line(alloc, job)?.as_str())?;
+    for entry in &job.held {
+        let path = entry.path.as_str();
+        let bytes = shown(alloc, entry.bytes.as_slice())?;
+        let bytes = bytes.as_str();
+        answer.push_line(format!(in alloc; "held {path} \"{bytes}\"")?.as_str())?;
+    }
+    Ok(())
+}
+
+/// `given`: what each start gave.
+fn given(alloc: Global, host: &MemoryHost) -> Result<Answer, CaseFault> {
+    let mut answer = Answer::new(alloc);
+    for job in host.given() {
+        push_given(alloc, &mut answer, job.as_ref())?;
+    }
+    Ok(answer)
+}
+
+/// `faults`: how often a call failed, and how often a wait did.
+fn faults(alloc: Global, host: &MemoryHost) -> Result<Answer, CaseFault> {
+    let calls = host.fault_count();
+    let waits = host.failed_wait_count();
+    Answer::line(alloc, format!(in alloc; "{calls}, waits {waits}")?.as_str())
+}
+
+/// Carries out a command that looks at the host; None where it is none.
+pub fn look_command(
+    alloc: Global,
+    host: &MemoryHost,
+    command: &Command,
+) -> Result<Option<Answer>, CaseFault> {
+    let answer = match command.name() {
+        "events" => events(alloc, host)?,
+        "files" => files(alloc, host)?,
+        "past" => past(alloc, host)?,
+        "running" => running(alloc, host)?,
+        "given" => given(alloc, host)?,
+        "faults" => faults(alloc, host)?,
+        _ => return Ok(None),
+    };
+    Ok(Some(answer))
+}
