@@ -1,8 +1,8 @@
 -- The end of a file.
-use Rattle.std.proofs.Common.{◌≡◌, ℕ, List, [], ◌∷◌, ◌++◌, refl}
+use Rattle.std.proofs.Common.{◌≡◌, List, [], ◌∷◌, ◌++◌, refl}
 use Rattle.b2_base.specs.declared.token.Token.{Token}
 use Rattle.jam_grammar.specs.Grammar.{Stmts}
-use Rattle.jam_grammar.specs.Readings.{last_line, line_at, text_at, IsFirstFaultAt, IsFirstFault}
+use Rattle.jam_grammar.specs.Readings.{last_line, IsFirstFaultAt}
 use Rattle.jam_grammar.proofs.FirstFault.{first_fault}
 use Rattle.jam_parser.specs.declared.reading.Fault.{Fault}
 use Rattle.jam_parser.specs.declared.reading.Fault.TheVariants as here

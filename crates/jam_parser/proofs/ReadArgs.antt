@@ -1,5 +1,5 @@
 -- Reading arguments.
-use Rattle.std.proofs.Common.{eq-eqb, inl, inr, ◌≡◌, ℕ, suc, ◌+◌, ◌<◌, ◌≤◌, ◌-◌, List, [], ◌∷◌, ◌++◌, Bool, true, false, Option, Some, None, nat_le, if◌then◌else◌, length, refl, sym, ap, ◌∙◌, subst, arith, append_assoc}
+use Rattle.std.proofs.Common.{eq-eqb, inl, inr, ◌≡◌, ℕ, suc, ◌+◌, ◌<◌, ◌-◌, List, [], ◌∷◌, ◌++◌, true, false, Some, None, nat_le, if◌then◌else◌, refl, sym, ap, ◌∙◌, subst, arith, append_assoc}
 use Rattle.std.proofs.lemmas.List.{append-nil}
 use Rattle.std.proofs.lemmas.Bool.{cases_lt}
 use Rattle.std.specs.declared.vec.Vec.{Vec}
@@ -11,12 +11,12 @@ use Rattle.jam_grammar.specs.declared.mark.Mark.TheVariants.{Plain, Query, Star,
 use Rattle.jam_grammar.specs.Marks.{mark_of_token, is_word, same_mark, number}
 use Rattle.jam_grammar.specs.Grammar.{Part, OneArg, OneWord, OneInner, InnerTail, Args, More, opens}
 use Rattle.jam_grammar.specs.Grammar as part
-use Rattle.jam_grammar.specs.Machine.{move_key, Move, Take, Room, Skip, Refuse, move, by_move, feed, move_arg, or_skip, before, go_on, run}
-use Rattle.jam_grammar.specs.Spelling.{Sym, Key, Says, Raw, Never, Spells, arg_syms, args_syms, further_syms, lists_syms}
+use Rattle.jam_grammar.specs.Machine.{move_key, move, feed, before, go_on, run}
+use Rattle.jam_grammar.specs.Spelling.{Key, Says, Raw, Never, Spells, arg_syms, args_syms, further_syms, lists_syms}
 use Rattle.jam_grammar.specs.Gives.{Leads, Ends}
 use Rattle.jam_parser.specs.Parts.{ComesTo, IsRead}
 use Rattle.jam_parser.specs.Starts.{begins_arg, starts_arg, starts_word, starts_with, StandsAfter}
-use Rattle.jam_parser.proofs.Sequences.{spells_append, turned, takes_past}
+use Rattle.jam_parser.proofs.Sequences.{turned, takes_past}
 
 -- parts that do the same with each mark
 same_moves : (p q : List Part) (a : List Token) (k : List Part) → (run [] (p ++ k) ≡ run [] (q ++ k)) → ((m : Mark) → feed (p ++ k) m ≡ feed (q ++ k) m) → run a (p ++ k) ≡ run a (q ++ k)

@@ -1,5 +1,5 @@
 -- Reading conditions.
-use Rattle.std.proofs.Common.{◌≡◌, ℕ, suc, ◌+◌, ◌≤◌, List, [], ◌∷◌, ◌++◌, Bool, true, false, Option, Some, None, nat_le, if◌then◌else◌, length, refl, sym, ap, ◌∙◌, subst, arith, append_assoc}
+use Rattle.std.proofs.Common.{◌≡◌, ℕ, ◌+◌, ◌≤◌, List, [], ◌∷◌, ◌++◌, false, Some, None, nat_le, if◌then◌else◌, length, refl, sym, ap, ◌∙◌, arith, append_assoc}
 use Rattle.std.proofs.lemmas.List.{append-nil}
 use Rattle.b2_base.specs.declared.token.Token.{Token}
 use Rattle.jam_grammar.specs.declared.tree.Expr.{Expr}
@@ -11,9 +11,9 @@ use Rattle.jam_grammar.specs.Grammar.{Part, Both, Single, OneExpr, OrTail, AndTa
 use Rattle.jam_grammar.specs.Machine.{feed, go_on, run}
 use Rattle.jam_grammar.specs.Trees as trees
 use Rattle.jam_grammar.specs.Trees.{ExprTree, exprs_tree}
-use Rattle.jam_grammar.specs.Spelling.{Sym, Key, Never, Spells, Level, Anywhere, WithinOr, WithinAnd, spell_expr, spell_joined, expr_syms, pair_syms, joined_syms}
+use Rattle.jam_grammar.specs.Spelling.{Key, Spells, Level, Anywhere, WithinOr, WithinAnd, spell_expr, expr_syms, pair_syms, joined_syms}
 use Rattle.jam_grammar.specs.Gives.{Leads}
-use Rattle.jam_parser.specs.Parts.{ComesTo, IsRead}
+use Rattle.jam_parser.specs.Parts.{ComesTo}
 use Rattle.jam_parser.specs.Starts.{starts_with}
 use Rattle.jam_parser.proofs.Sequences.{turned}
 use Rattle.jam_parser.proofs.ReadArgs.{never}

@@ -1,5 +1,5 @@
 -- Reading parameters.
-use Rattle.std.proofs.Common.{◌≡◌, ℕ, ◌+◌, ◌≤◌, List, [], ◌∷◌, ◌++◌, Bool, true, false, ◌&&◌, flat_map, refl, sym, ap, ◌∙◌, subst, arith, append_assoc}
+use Rattle.std.proofs.Common.{◌≡◌, ℕ, List, [], ◌∷◌, ◌++◌, Bool, true, false, ◌&&◌, flat_map, refl, sym, ap, ◌∙◌, subst, append_assoc}
 use Rattle.std.specs.Prelude.{codes}
 use Rattle.std.specs.Str.{bytes_eq}
 use Rattle.std.proofs.lemmas.List.{append-nil}
@@ -7,16 +7,14 @@ use Rattle.std.specs.declared.vec.Vec.{Vec}
 use Rattle.std.specs.declared.alloc.Global.{Global}
 use Rattle.b2_base.specs.declared.token.Token.{Token}
 use Rattle.jam_grammar.specs.declared.tree.Param.{Param}
-use Rattle.jam_grammar.specs.declared.mark.Mark.{Mark}
 use Rattle.jam_grammar.specs.declared.mark.Mark.TheVariants as m
 use Rattle.jam_grammar.specs.Marks.{mark_of_token}
-use Rattle.jam_grammar.specs.Grammar as part
-use Rattle.jam_grammar.specs.Grammar.{Part, Params, MoreParams, Names, NameTail}
-use Rattle.jam_grammar.specs.Spelling.{Sym, Key, Named, Never, Spells, param_syms, takes_all, no_mark, plist_syms, further_params, params_syms}
-use Rattle.jam_parser.specs.Parts.{least, ComesTo, IsRead}
+use Rattle.jam_grammar.specs.Grammar.{Params, MoreParams, Names, NameTail}
+use Rattle.jam_grammar.specs.Spelling.{Key, Named, Spells, param_syms, takes_all, no_mark, plist_syms, further_params, params_syms}
+use Rattle.jam_parser.specs.Parts.{least, ComesTo}
 use Rattle.jam_parser.specs.Params.{after_name, after_list, lists_of, params_read}
 use Rattle.jam_parser.specs.Starts.{StandsAfter}
-use Rattle.jam_parser.proofs.Sequences.{composed, takes, takes_past}
+use Rattle.jam_parser.proofs.Sequences.{takes, takes_past}
 use Rattle.jam_parser.proofs.ReadArgs.{never}
 
 -- one more parameter, which is no `*` alone

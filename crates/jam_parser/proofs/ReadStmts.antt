@@ -1,11 +1,11 @@
 -- Reading statements and cases.
-use Rattle.std.proofs.Common.{◌≡◌, ℕ, ◌+◌, List, [], ◌∷◌, ◌++◌, Bool, true, false, Option, Some, None, nat_le, if◌then◌else◌, refl, sym, ap, ◌∙◌, subst, arith, append_assoc}
+use Rattle.std.proofs.Common.{◌≡◌, ℕ, ◌+◌, List, [], ◌∷◌, ◌++◌, true, Some, None, nat_le, if◌then◌else◌, refl, sym, ap, ◌∙◌, subst, arith, append_assoc}
 use Rattle.std.proofs.lemmas.List.{append-nil}
 use Rattle.std.specs.declared.vec.Vec.{Vec}
 use Rattle.std.specs.declared.alloc.Global.{Global}
 use Rattle.b2_base.specs.declared.token.Token.{Token}
 use Rattle.jam_grammar.specs.declared.tree.Stmt.{Stmt}
-use Rattle.jam_grammar.specs.declared.tree.Block.{Block, roll-Block}
+use Rattle.jam_grammar.specs.declared.tree.Block.{roll-Block}
 use Rattle.jam_grammar.specs.declared.tree.Case.{Case, Case', roll-Case, rolls-Case'}
 use Rattle.jam_grammar.specs.declared.mark.Mark.{Mark}
 use Rattle.jam_grammar.specs.declared.mark.Mark.TheVariants as m
@@ -13,11 +13,10 @@ use Rattle.jam_grammar.specs.Marks.{mark_of_token}
 use Rattle.jam_grammar.specs.Grammar as part
 use Rattle.jam_grammar.specs.Grammar.{Part, Stmts, OneStmt, OneBlock, Tail, opens}
 use Rattle.jam_grammar.specs.Machine.{feed, go_on, run}
-use Rattle.jam_grammar.specs.Trees.{block_tree}
-use Rattle.jam_grammar.specs.Spelling.{Sym, Key, Says, From, Spells, StartsOn, spell_stmts, block_syms, stmt_syms, stmts_syms, case_syms, cases_syms}
+use Rattle.jam_grammar.specs.Spelling.{Sym, Key, Says, From, StartsOn, spell_stmts, block_syms, stmt_syms, stmts_syms, case_syms, cases_syms}
 use Rattle.jam_grammar.specs.Gives.{Leads}
 use Rattle.jam_grammar.proofs.RowTrees.{block_is}
-use Rattle.jam_parser.specs.Parts.{ComesTo, IsRead}
+use Rattle.jam_parser.specs.Parts.{ComesTo}
 use Rattle.jam_parser.specs.Starts.{begins_stmt, starts_stmt, line_first, StandsAfter}
 use Rattle.jam_parser.proofs.Sequences.{turned}
 

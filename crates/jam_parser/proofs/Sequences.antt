@@ -1,12 +1,12 @@
 -- How parts that are read one after another make a whole.
-use Rattle.std.proofs.Common.{◌≡◌, ℕ, suc, ◌+◌, ◌<◌, ◌≤◌, List, [], ◌∷◌, ◌++◌, Bool, true, false, Option, Some, None, nat_le, if◌then◌else◌, length, refl, sym, ap, ◌∙◌, subst, arith, append_assoc}
+use Rattle.std.proofs.Common.{◌≡◌, ℕ, ◌+◌, ◌<◌, ◌≤◌, List, [], ◌∷◌, ◌++◌, true, false, Some, None, nat_le, if◌then◌else◌, refl, sym, ap, ◌∙◌, subst, arith, append_assoc}
 use Rattle.std.proofs.lemmas.List.{append-nil}
 use Rattle.b2_base.specs.declared.token.Token.{Token}
 use Rattle.jam_grammar.specs.declared.mark.Mark.{Mark}
 use Rattle.jam_grammar.specs.Marks.{mark_of_token}
 use Rattle.jam_grammar.specs.Grammar as part
 use Rattle.jam_grammar.specs.Grammar.{Part, closes, opens}
-use Rattle.jam_grammar.specs.Machine.{Move, Take, Room, Skip, Refuse, move, by_move, feed, Outcome, Bad, go_on, run}
+use Rattle.jam_grammar.specs.Machine.{Take, Room, Refuse, move, by_move, feed, go_on, run}
 use Rattle.jam_grammar.specs.Spelling.{Sym, Key, Says, Named, Raw, From, Never, Spells}
 use Rattle.jam_grammar.specs.Gives.{Leads, Ends}
 use Rattle.jam_parser.specs.declared.reading.Fault.{Fault}

@@ -1,7 +1,7 @@
 -- What reading a part answers.
 use Rattle.std.specs.Prelude.{◌≡◌, ℕ, ◌+◌, ◌≤◌, List, [], ◌∷◌, ◌++◌, length}
 use Rattle.b2_base.specs.declared.token.Token.{Token}
-use Rattle.jam_grammar.specs.Grammar.{Part, Key, OneWord, OneStmt, OneBlock, CaseBlock, OneArg, OneInner, OneExpr, Both, Single}
+use Rattle.jam_grammar.specs.Grammar.{Part, Key, OneWord, OneStmt, OneBlock, OneArg, OneInner, OneExpr, Both, Single}
 use Rattle.jam_grammar.specs.Spelling.{Sym, Spells}
 use Rattle.jam_grammar.specs.Gives.{Leads, Ends}
 use Rattle.jam_parser.specs.declared.reading.Fault.{Fault}

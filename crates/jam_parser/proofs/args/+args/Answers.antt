@@ -1,13 +1,12 @@
-use Rattle.std.proofs.Common.{length-append, suc, ◌≡◌, ◌∷◌, [], ◌++◌, ◌+◌, ◌-◌, length, sym, ap, ◌∙◌, subst, arith, refl}
+use Rattle.std.proofs.Common.{length-append, suc, ◌≡◌, ◌∷◌, [], ◌++◌, ◌+◌, ◌-◌, length, sym, ap, ◌∙◌, arith, refl}
 use Rattle.std.proofs.lemmas.Result.{MatchResult-weaker, err_from_is_err_and}
 use Rattle.jam_grammar.specs.declared.mark.Mark.TheVariants as marks
 use Rattle.jam_grammar.specs.Spelling as spelling
 use Rattle.jam_grammar.specs.Spelling.{spell_inner, arg_syms, args_syms, lists_syms, inner_syms}
-use Rattle.jam_grammar.specs.Grammar.{OneArg, Args, More, OneInner, InnerTail, Shut, Key, OneWord}
-use Rattle.jam_parser.specs.Parts.{IsRead, EndsBy, ComesTo}
-use Rattle.jam_parser.proofs.Sequences.{chain, chain_fault, then_all, then_fault, composed, led, in_order, shut, shut_fault, takes_past, opens_past, no_room_past, turned}
+use Rattle.jam_grammar.specs.Grammar.{OneArg, Args, More, OneInner, InnerTail, Shut, Key}
+use Rattle.jam_parser.proofs.Sequences.{chain, chain_fault, then_all, then_fault, composed, led, in_order, shut, shut_fault, takes_past, opens_past}
 use Rattle.jam_grammar.proofs.RowTrees.{call_is, on_return_is}
-use Rattle.jam_parser.proofs.ReadArgs.{arg_comes, no_arg_comes, more_args, word_comes, call_comes, inner_comes, more_lists, colon_comes, lists_stop}
+use Rattle.jam_parser.proofs.ReadArgs.{arg_comes, more_args, call_comes, inner_comes, more_lists, colon_comes, lists_stop}
 use Rattle.jam_parser.proofs.args.+args.Goals as goal
 
 pub arg-returns-in-Some : goal.arg-returns-in-Some

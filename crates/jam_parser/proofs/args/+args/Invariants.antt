@@ -1,4 +1,4 @@
-use Rattle.std.proofs.Common.{◌∷◌, [], ◌++◌, length, ◌+◌, ◌-◌, ◌*◌}
+use Rattle.std.proofs.Common.{◌∷◌, [], length, ◌+◌, ◌-◌, ◌*◌}
 use Rattle.jam_grammar.specs.Spelling.{args_syms, lists_syms}
 use Rattle.jam_grammar.specs.Grammar.{Args, More}
 use Rattle.jam_parser.specs.Parts.{ComesTo}

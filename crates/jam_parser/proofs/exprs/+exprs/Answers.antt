@@ -1,12 +1,12 @@
-use Rattle.std.proofs.Common.{◌≡◌, ◌≤◌, ◌∷◌, [], ◌++◌, ◌+◌, length, length-append, append_assoc, sym, ap, ◌∙◌, subst, arith, refl}
+use Rattle.std.proofs.Common.{◌∷◌, [], ◌++◌, ◌+◌, length, length-append, append_assoc, ap, ◌∙◌, arith, refl}
 use Rattle.std.proofs.lemmas.Result.{MatchResult-weaker, err_from_is_err_and}
 use Rattle.jam_grammar.specs.declared.mark.Mark.TheVariants as marks
 use Rattle.jam_grammar.specs.Trees.{expr_tree}
 use Rattle.jam_grammar.specs.Spelling as spelling
 use Rattle.jam_grammar.specs.Spelling.{Anywhere, WithinOr, WithinAnd, spell_expr, expr_syms, pair_syms}
-use Rattle.jam_grammar.specs.Grammar.{OneExpr, Both, OrTail, Single, AndTail, Compared, OneArg, Shut, Key}
+use Rattle.jam_grammar.specs.Grammar.{OneExpr, Both, OrTail, Single, AndTail, Shut, Key}
 use Rattle.jam_grammar.proofs.RowTrees.{or_is, and_is}
-use Rattle.jam_parser.proofs.Sequences.{chain, chain_fault, then_all, then_fault, composed, led, in_order, first_fault, later_fault, shut, shut_fault, takes_past, opens_past, stay}
+use Rattle.jam_parser.proofs.Sequences.{chain, then_all, then_fault, composed, led, in_order, first_fault, later_fault, shut, shut_fault, takes_past, opens_past, stay}
 use Rattle.jam_parser.proofs.ReadExprs.{raise_and, raise_or, more_members, two_members, two_pushed, or_comes, and_comes, no_or_comes, no_and_comes}
 use Rattle.jam_parser.proofs.exprs.+exprs.Goals as goal
 

@@ -1,4 +1,4 @@
-use Rattle.std.proofs.Common.{◌∷◌, [], ◌++◌, ◌+◌, append_assoc, sym, ap, ◌∙◌, subst, arith, refl}
+use Rattle.std.proofs.Common.{◌∷◌, [], ◌++◌, ◌+◌, append_assoc, sym, ap, ◌∙◌, arith, refl}
 use Rattle.std.proofs.lemmas.Result.{MatchResult-weaker, err_from_is_err_and}
 use Rattle.jam_grammar.specs.declared.mark.Mark.TheVariants as marks
 use Rattle.jam_grammar.specs.Trees.{params_of}
@@ -6,7 +6,7 @@ use Rattle.jam_grammar.specs.Spelling as spelling
 use Rattle.jam_grammar.specs.Spelling.{spell_stmts, spell_form, arg_syms, block_syms, stmt_syms, stmts_syms, cases_syms, params_syms, braced}
 use Rattle.jam_grammar.specs.Grammar.{Stmts, OneStmt, OneBlock, OneExpr, OneElse, ElseTail, CaseBlock, Cases, OneWord, OneArg, Args, Params, Shut, Key}
 use Rattle.jam_grammar.proofs.RowTrees.{block_is, switch_is}
-use Rattle.jam_parser.specs.Params.{params_read, lists_of}
+use Rattle.jam_parser.specs.Params.{params_read}
 use Rattle.jam_parser.proofs.Sequences.{chain, chain_fault, then_all, then_fault, composed, led, in_order, shut, shut_fault, takes_past, opens_past}
 use Rattle.jam_parser.proofs.ReadParams.{in_parens}
 use Rattle.jam_parser.proofs.ReadStmts.{stmt_comes, more_stmts, more_cases, case_is, lined}
