@@ -2,8 +2,8 @@
 use Rattle.std.proofs.Common.{◌≡◌, ℕ, false, cond, eqb, List, [], ◌∷◌, ◌++◌, Option, Some, None, refl, sym, ap, ◌∙◌, append_assoc, inl, inr}
 use Rattle.std.specs.List.{flat_map}
 use Rattle.std.proofs.lemmas.Bool.Decides.{eqb_tells}
-use Rattle.b2_log.specs.Lines.{escaped, front_bytes, field}
-use Rattle.b2_log.specs.Readings.{HasNoFront}
+use Rattle.b2_log.specs.Lines.{escaped, next_bytes, field}
+use Rattle.b2_log.specs.Readings.{HasNoNext}
 
 -- how a byte is written
 pub data EscapeOf (b : ℕ) : Type 0 where
@@ -24,15 +24,15 @@ escape_of b = elim (eqb_tells b 92) [
   ]
 ]
 
--- the sign behind a backslash
+-- the sign after a backslash
 abbrev sign_first : List ℕ → Option (Option ℕ × List ℕ)
 sign_first [] = None
 sign_first (s ∷ rest) = cond (eqb s 92) (Some (Some 92, rest)) (cond (eqb s 116) (Some (Some 9, rest)) (cond (eqb s 110) (Some (Some 10, rest)) None))
 
--- what stands first in what is left of a field
-abbrev front_first : List ℕ → Option (Option ℕ × List ℕ)
-front_first [] = None
-front_first (b ∷ rest) = cond (eqb b 92) (sign_first rest) (cond (eqb b 9) (Some (None, rest)) (cond (eqb b 10) None (Some (Some b, rest))))
+-- what stands next in what is left of a field
+abbrev next_first : List ℕ → Option (Option ℕ × List ℕ)
+next_first [] = None
+next_first (b ∷ rest) = cond (eqb b 92) (sign_first rest) (cond (eqb b 9) (Some (None, rest)) (cond (eqb b 10) None (Some (Some b, rest))))
 
 abbrev found : Option ℕ × List ℕ → Option (Option ℕ × List ℕ)
 found pair = Some pair
@@ -40,62 +40,62 @@ found pair = Some pair
 found_is : (p q : Option ℕ × List ℕ) → found p ≡ found q → p ≡ q
 found_is p q e = cc
 
-front_back : (a : Option ℕ) (u : List ℕ) → front_first (front_bytes a ++ u) ≡ Some (a, u)
-front_back None u = refl
-front_back (Some b) u = elim (escape_of b) [
+next_back : (a : Option ℕ) (u : List ℕ) → next_first (next_bytes a ++ u) ≡ Some (a, u)
+next_back None u = refl
+next_back (Some b) u = elim (escape_of b) [
   | of_backslash e w ↦ rw (w, e) refl
   | of_tab e w ↦ rw (w, e) refl
   | of_line_feed e w ↦ rw (w, e) refl
   | as_it_is p q r w ↦ rw (w, p, q, r) refl
 ]
 
-pub front_free : (a b : Option ℕ) (u v : List ℕ) → front_bytes a ++ u ≡ front_bytes b ++ v → (a ≡ b) × (u ≡ v)
-front_free a b u v e =
-    let both = found_is (a, u) (b, v) (sym (front_back a u) ∙ ap front_first e ∙ front_back b v) in
+pub next_free : (a b : Option ℕ) (u v : List ℕ) → next_bytes a ++ u ≡ next_bytes b ++ v → (a ≡ b) × (u ≡ v)
+next_free a b u v e =
+    let both = found_is (a, u) (b, v) (sym (next_back a u) ∙ ap next_first e ∙ next_back b v) in
     (ap (λ (p : Option ℕ × List ℕ). p.0) both, ap (λ (p : Option ℕ × List ℕ). p.1) both)
 
-field_cons : (b : ℕ) (t v : List ℕ) → field (b ∷ t) ++ v ≡ front_bytes (Some b) ++ (field t ++ v)
+field_cons : (b : ℕ) (t v : List ℕ) → field (b ∷ t) ++ v ≡ next_bytes (Some b) ++ (field t ++ v)
 unfolding field
 field_cons b t v = simp append_assoc
 
-field_nil : (v : List ℕ) → field [] ++ v ≡ front_bytes None ++ v
+field_nil : (v : List ℕ) → field [] ++ v ≡ next_bytes None ++ v
 unfolding field
 field_nil v = refl
 
 -- a field is read in one way
 pub field_free : (s t u v : List ℕ) → field s ++ u ≡ field t ++ v → (s ≡ t) × (u ≡ v)
-field_free [] [] u v e = let p = front_free None None u v (sym (field_nil u) ∙ e ∙ field_nil v) in (refl, p.1)
+field_free [] [] u v e = let p = next_free None None u v (sym (field_nil u) ∙ e ∙ field_nil v) in (refl, p.1)
 field_free [] (y ∷ t) u v e =
-    let p = front_free None (Some y) u (field t ++ v) (sym (field_nil u) ∙ e ∙ field_cons y t v) in
+    let p = next_free None (Some y) u (field t ++ v) (sym (field_nil u) ∙ e ∙ field_cons y t v) in
     let no : None ≡ Some y = p.0 in absurd cc
 field_free (x ∷ s) [] u v e =
-    let p = front_free (Some x) None (field s ++ u) v (sym (field_cons x s u) ∙ e ∙ field_nil v) in
+    let p = next_free (Some x) None (field s ++ u) v (sym (field_cons x s u) ∙ e ∙ field_nil v) in
     let no : Some x ≡ None = p.0 in absurd cc
 field_free (x ∷ s) (y ∷ t) u v e =
-    let p = front_free (Some x) (Some y) (field s ++ u) (field t ++ v) (sym (field_cons x s u) ∙ e ∙ field_cons y t v) in
+    let p = next_free (Some x) (Some y) (field s ++ u) (field t ++ v) (sym (field_cons x s u) ∙ e ∙ field_cons y t v) in
     let first : Some x ≡ Some y = p.0 in
     let q = field_free s t u v p.1 in
     let more : s ≡ t = q.0 in
     (cc, q.1)
 
--- where nothing that can stand first is left, no field was there
-pub field_none : (s t u v : List ℕ) → flat_map escaped s ++ u ≡ field t ++ v → HasNoFront u → ⊥
+-- where nothing that can stand next is left, no field was there
+pub field_none : (s t u v : List ℕ) → flat_map escaped s ++ u ≡ field t ++ v → HasNoNext u → ⊥
 field_none [] [] u v e none = none None v (e ∙ field_nil v)
 field_none [] (y ∷ t) u v e none = none (Some y) (field t ++ v) (e ∙ field_cons y t v)
 field_none (x ∷ s) [] u v e none =
-    let p = front_free (Some x) None (flat_map escaped s ++ u) v (sym (append_assoc (escaped x) (flat_map escaped s) u) ∙ e ∙ field_nil v) in
+    let p = next_free (Some x) None (flat_map escaped s ++ u) v (sym (append_assoc (escaped x) (flat_map escaped s) u) ∙ e ∙ field_nil v) in
     let no : Some x ≡ None = p.0 in absurd cc
 field_none (x ∷ s) (y ∷ t) u v e none =
-    let p = front_free (Some x) (Some y) (flat_map escaped s ++ u) (field t ++ v) (sym (append_assoc (escaped x) (flat_map escaped s) u) ∙ e ∙ field_cons y t v) in
+    let p = next_free (Some x) (Some y) (flat_map escaped s ++ u) (field t ++ v) (sym (append_assoc (escaped x) (flat_map escaped s) u) ∙ e ∙ field_cons y t v) in
     field_none s t u v p.1 none
 
 -- the bytes so far, and one more
-pub escaped_more : (bytes s rest behind : List ℕ) (b : ℕ) → bytes ≡ flat_map escaped s ++ rest → rest ≡ front_bytes (Some b) ++ behind → bytes ≡ flat_map escaped (s ++ b ∷ []) ++ behind
-escaped_more bytes [] rest behind b e f = e ∙ f ∙ simp append_assoc
-escaped_more bytes (x ∷ s) rest behind b e f =
-    e ∙ append_assoc (escaped x) (flat_map escaped s) rest ∙ ap (λ (w : List ℕ). escaped x ++ w) (escaped_more (flat_map escaped s ++ rest) s rest behind b refl f) ∙ sym (append_assoc (escaped x) (flat_map escaped (s ++ b ∷ [])) behind)
+pub escaped_more : (bytes s rest after : List ℕ) (b : ℕ) → bytes ≡ flat_map escaped s ++ rest → rest ≡ next_bytes (Some b) ++ after → bytes ≡ flat_map escaped (s ++ b ∷ []) ++ after
+escaped_more bytes [] rest after b e f = e ∙ f ∙ simp append_assoc
+escaped_more bytes (x ∷ s) rest after b e f =
+    e ∙ append_assoc (escaped x) (flat_map escaped s) rest ∙ ap (λ (w : List ℕ). escaped x ++ w) (escaped_more (flat_map escaped s ++ rest) s rest after b refl f) ∙ sym (append_assoc (escaped x) (flat_map escaped (s ++ b ∷ [])) after)
 
 -- the field ends
-pub field_ends : (bytes s rest behind : List ℕ) → bytes ≡ flat_map escaped s ++ rest → rest ≡ front_bytes None ++ behind → bytes ≡ field s ++ behind
+pub field_ends : (bytes s rest after : List ℕ) → bytes ≡ flat_map escaped s ++ rest → rest ≡ next_bytes None ++ after → bytes ≡ field s ++ after
 unfolding field
-field_ends bytes s rest behind e f = rw (e, f) (sym (append_assoc (flat_map escaped s) (9 ∷ []) behind))
+field_ends bytes s rest after e f = rw (e, f) (sym (append_assoc (flat_map escaped s) (9 ∷ []) after))

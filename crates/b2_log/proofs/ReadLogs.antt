@@ -9,7 +9,7 @@ use Rattle.b2_log.specs.Good.{IsGood}
 use Rattle.b2_log.specs.Readings.{BeginsNone, IsReading}
 use Rattle.b2_log.proofs.Parts.{ReadSo, list_within}
 use Rattle.b2_log.specs.Laws.{OneSpelling, OneReading, ReadBack, TornLine}
-use Rattle.b2_log.proofs.Wholes.{line_is_free, line_long, line_shorter}
+use Rattle.b2_log.proofs.WholeLines.{line_is_free, line_long, line_shorter}
 
 -- lines that were read one after the other, up to where no good line stands
 pub reading_ends : (bytes : List ℕ) (lines : List LogLine) (rest : List ℕ) (i good : ℕ) → ReadSo spelling IsGood bytes lines rest i → BeginsNone spelling IsGood rest → good ≡ length bytes - length rest → IsReading bytes lines good
@@ -18,8 +18,8 @@ reading_ends bytes lines rest i good r none e = record {
   split = r.split;
   each = r.each;
   measure = omega (arith, e, ap length r.split, length-append (log_bytes lines) rest);
-  longest = λ others behind each split.
-      let w = list_within spelling IsGood line_is_free lines others rest behind r.each each (sym r.split ∙ split) none in
+  longest = λ others after each split.
+      let w = list_within spelling IsGood line_is_free lines others rest after r.each each (sym r.split ∙ split) none in
       omega (arith, w.size, e, ap length r.split, length-append (log_bytes lines) rest);
 }
 

@@ -1,20 +1,24 @@
--- The laws of written lines.
-use Rattle.std.specs.Prelude.{◌≡◌, ℕ, ◌+◌, ◌<◌, List, [], ◌∷◌, ◌++◌, length}
+-- The laws of written lines, and of what a log tells.
+use Rattle.std.specs.Prelude.{◌≡◌, ◌≢◌, ◌↔◌, ℕ, ◌+◌, ◌<◌, List, [], ◌∷◌, ◌++◌, length, Some}
+use Rattle.std.specs.List.{Contains}
 use Rattle.b2_log.specs.declared.line.LogLine.{LogLine}
+use Rattle.b2_log.specs.declared.subject.Subject.{Subject}
 use Rattle.b2_log.specs.Lines.{spelling, log_bytes}
 use Rattle.b2_log.specs.Good.{IsGood}
 use Rattle.b2_log.specs.Readings.{IsReading}
-use Rattle.b2_log.specs.Finding.{find_record, kept}
+use Rattle.b2_log.specs.Finding.{subject_of, told_by, told, kept}
+
+-- ---- the bytes
 
 -- two good lines of one spelling are the same, and none is the beginning of another
 abbrev pub OneSpelling : Type 0
-OneSpelling = (a b : LogLine) (behind_a behind_b : List ℕ) → IsGood a → IsGood b → spelling a ++ behind_a ≡ spelling b ++ behind_b → (a ≡ b) × (behind_a ≡ behind_b)
+OneSpelling = (a b : LogLine) (after_a after_b : List ℕ) → IsGood a → IsGood b → spelling a ++ after_a ≡ spelling b ++ after_b → (a ≡ b) × (after_a ≡ after_b)
 
 -- bytes have one reading
 abbrev pub OneReading : Type 0
 OneReading = (bytes : List ℕ) (lines others : List LogLine) (good also : ℕ) → IsReading bytes lines good → IsReading bytes others also → (lines ≡ others) × (good ≡ also)
 
--- a good line that is written at the end of a good log is read back, behind the lines of the log
+-- a good line that is written at the end of a good log is read back, after the lines of the log
 abbrev pub ReadBack : Type 0
 ReadBack = (bytes : List ℕ) (lines : List LogLine) (line : LogLine) → IsReading bytes lines (length bytes) → IsGood line → IsReading (bytes ++ spelling line) (lines ++ line ∷ []) (length bytes + length (spelling line))
 
@@ -22,7 +26,25 @@ ReadBack = (bytes : List ℕ) (lines : List LogLine) (line : LogLine) → IsRead
 abbrev pub TornLine : Type 0
 TornLine = (bytes : List ℕ) (lines : List LogLine) (line : LogLine) (part missing : List ℕ) → IsReading bytes lines (length bytes) → IsGood line → spelling line ≡ part ++ missing → 0 < length missing → IsReading (bytes ++ part) lines (length bytes)
 
--- the kept lines of a good log are read back, and they give each record that the log gives, and no other
-pub record KeptAgain (lines : List LogLine) : Type 0 where
-  pub read : IsReading (log_bytes (kept lines)) (kept lines) (length (log_bytes (kept lines)))
-  pub found : (outs : List (List ℕ)) → find_record outs (kept lines) ≡ find_record outs lines
+-- ---- what is told
+
+-- what a log tells of a subject is a line of it about this subject
+abbrev pub ToldIsThere : Type 0
+ToldIsThere = (subject : Subject) (log : List LogLine) (line : LogLine) → told subject log ≡ Some line → Contains log line × (subject_of line ≡ subject)
+
+-- a line at the end has the last word on its subject
+abbrev pub LastWord : Type 0
+LastWord = (log : List LogLine) (line : LogLine) → told (subject_of line) (log ++ line ∷ []) ≡ told_by line
+
+-- a line says nothing of other subjects
+abbrev pub OthersUnsaid : Type 0
+OthersUnsaid = (subject : Subject) (log : List LogLine) (line : LogLine) → subject_of line ≢ subject → told subject (log ++ line ∷ []) ≡ told subject log
+
+-- the kept lines are those that the log tells of their subjects
+abbrev pub KeptIsTold : Type 0
+KeptIsTold = (log : List LogLine) (line : LogLine) → Contains (kept log) line ↔ (told (subject_of line) log ≡ Some line)
+
+-- the kept lines tell of each subject what the log tells, and all of them are kept again
+pub record KeptAgain (log : List LogLine) : Type 0 where
+  pub told_same : (subject : Subject) → told subject (kept log) ≡ told subject log
+  pub kept_same : kept (kept log) ≡ kept log

@@ -1,32 +1,36 @@
 -- The places of lines in a log.
-use Rattle.std.specs.Prelude.{◌≡◌, ℕ, ◌==◌, Bool, false, map, List, [], ◌∷◌, length, reverse, Option, Some, None, if◌then◌else◌}
-use Rattle.std.specs.Global.{Vec}
+use Rattle.std.specs.Prelude.{◌≡◌, ℕ, ◌==◌, Bool, false, not, ◌&&◌, List, [], ◌∷◌, length, reverse, Option, Some, None, if◌then◌else◌}
+use Rattle.std.specs.List.{AllByRecursion}
 use Rattle.std.specs.Ordering.{nat_cmp}
 use Rattle.std.specs.Cmp.Lexicographic.{slice_cmp}
-use Rattle.std.specs.BTreeMap.{BTreeMap, get_by}
+use Rattle.std.specs.BTreeMap.{get_by}
 use Rattle.b2_log.specs.declared.line.LogLine.{LogLine}
-use Rattle.b2_log.specs.declared.line.LogLine.TheVariants as lines
-use Rattle.b2_log.specs.Finding.{path_of, is_about}
+use Rattle.b2_log.specs.declared.latest.Latest.{Latest}
+use Rattle.b2_log.specs.declared.subject.Subject.{Subject}
+use Rattle.b2_log.specs.declared.subject.Subject.TheVariants as subjects
+use Rattle.b2_log.specs.Good.{IsProper}
+use Rattle.b2_log.specs.Finding.{subject_of, is_about, is_drop}
 
--- the place of the last line about these outputs, where the lines are listed with the last one first
-abbrev pub place_of : List (List ℕ) → List LogLine → Option ℕ
-place_of outs [] = None
-place_of outs (line ∷ before) = if is_about outs line then Some (length before) else place_of outs before
+-- the place of the last line about a subject, where the lines are listed with the last one first
+abbrev pub place_of : Subject → List LogLine → Option ℕ
+place_of subject [] = None
+place_of subject (line ∷ before) = if is_about subject line then Some (length before) else place_of subject before
 
--- what a map from lists of paths has at one
-abbrev pub place_in : List (List ℕ) → BTreeMap (Vec (List ℕ)) ℕ → Option ℕ
-place_in outs latest = get_by (λ key. slice_cmp (slice_cmp nat_cmp) outs key.items) latest
+-- the place that two maps have for a subject: the one for lists of outputs, the other for paths that were scanned
+abbrev pub place_in : Latest → Subject → Option ℕ
+place_in latest (subjects.Outputs outs) = get_by (λ key. slice_cmp (slice_cmp nat_cmp) outs key.items) latest.steps
+place_in latest (subjects.Scanned path) = get_by (λ key. slice_cmp nat_cmp path key) latest.scans
 
--- the map has the place of the last line about each list of outputs
-pub record IsLatest (lines : List LogLine) (latest : BTreeMap (Vec (List ℕ)) ℕ) : Type 0 where
-  pub place : (outs : List (List ℕ)) → place_in outs latest ≡ place_of outs (reverse lines)
+-- the lines of a log: each is proper, and the places are those of the last line about each subject
+pub record IsIndexed (lines : List LogLine) (places : Subject → Option ℕ) : Type 0 where
+  pub place : (subject : Subject) → places subject ≡ place_of subject (reverse lines)
+  pub proper : AllByRecursion IsProper lines
 
 -- whether a place is this one
 abbrev pub option_is : Option ℕ → ℕ → Bool
 option_is None place = false
 option_is (Some found) place = found == place
 
--- what is kept of the line at a place: a record, where the map has this very place for its outputs
-abbrev pub kept_at : BTreeMap (Vec (List ℕ)) ℕ → ℕ → LogLine → List LogLine
-kept_at latest place (lines.Record r) = if option_is (place_in (map path_of r.outs) latest) place then lines.Record r ∷ [] else []
-kept_at latest place (lines.Drop outs) = []
+-- what is kept of the line at a place: the line, where it is no drop and this very place is that of its subject
+abbrev pub kept_at : (Subject → Option ℕ) → ℕ → LogLine → List LogLine
+kept_at places place line = if not (is_drop line) && option_is (places (subject_of line)) place then line ∷ [] else []

@@ -1,11 +1,13 @@
 //! Reads fields.
 ghost use Rattle.std.specs.Prelude.{◌≡◌, ◌≢◌, ℕ, ◌^◌, ◌<◌, List, [], ◌∷◌, ◌++◌, length, IfOk, IfSome, IsErrOf, IsTrue, MatchOption, ◌↔◌};
 ghost use Rattle.std.specs.Fmt.{decimal};
-ghost use Rattle.b2_log.specs.Lines.{backslash, escaped, front_bytes, field, number};
-ghost use Rattle.b2_log.specs.Good.{IsText, IsPath, IsNumber};
-ghost use Rattle.b2_log.specs.Readings.{Begins, BeginsNone, HasNoFront, IsNoEscape, has_lead};
+ghost use Rattle.b2_log.specs.Lines.{backslash, escaped, next_bytes, field, number};
+ghost use Rattle.b2_log.specs.Good.{IsText, IsPath, IsNumber, IsDigest};
+ghost use Rattle.b2_log.specs.Readings.{Begins, BeginsNone, HasNoNext, IsNoEscape, HasNoMark, mark_field, HasNoTag, tag_field, has_lead};
 
+use crate::proper::is_digest;
 use crate::refusal::Refusal;
+use crate::tag::Tag;
 use b2_base::path::{Path, PathFault};
 use b2_base::text::{Text, has_no_zero};
 use std::alloc::Global;
@@ -22,9 +24,9 @@ fn unescaped(sign: u8) -> Option<u8>
     }
 }
 
-/// The first byte of what is left of a field, or nothing at the tab that ends it, and what stands behind.
-fn front(bytes: &[u8]) -> Option<(Option<u8>, &[u8])>
-    ensures exact { MatchOption result (HasNoFront bytes.now) (λ found. bytes.now ≡ front_bytes found.0 ++ found.1.now) }
+/// The next byte of what is left of a field, or nothing at the tab that ends it, and what follows.
+fn next_byte(bytes: &[u8]) -> Option<(Option<u8>, &[u8])>
+    ensures exact { MatchOption result (HasNoNext bytes.now) (λ found. bytes.now ≡ next_bytes found.0 ++ found.1.now) }
     ensures shorter { IfSome result (λ found. length found.1.now < length bytes.now) }
 {
     match bytes {
@@ -38,19 +40,19 @@ fn front(bytes: &[u8]) -> Option<(Option<u8>, &[u8])>
     }
 }
 
-/// The bytes of the first field, and what stands behind its tab.
+/// The bytes of the first field, and what follows its tab.
 fn bytes_at(alloc: Global, bytes: &[u8]) -> Result<(Vec<u8>, &[u8]), Refusal>
     ensures found { IfOk result (λ read. bytes.now ≡ field read.0.items ++ read.1.now) }
     ensures refused { IsErrOf result Refusal.NotGood → (text rest : List ℕ) → bytes.now ≢ field text ++ rest }
 {
     let mut text = Vec::new(alloc);
     let mut rest = bytes;
-    while let Some((first, behind)) = front(rest) {
-        match first {
-            None => return Ok((text, behind)),
+    while let Some((next, after)) = next_byte(rest) {
+        match next {
+            None => return Ok((text, after)),
             Some(byte) => text.push(byte)?,
         }
-        rest = behind;
+        rest = after;
     }
     Err(Refusal::NotGood)
 }
@@ -69,7 +71,7 @@ fn text_of(bytes: Vec<u8>) -> Result<Text, Refusal>
     Ok(Text::from_string(text))
 }
 
-/// The text of the first field, and what stands behind its tab.
+/// The text of the first field, and what follows its tab.
 pub fn text_at(alloc: Global, bytes: &[u8]) -> Result<(Text, &[u8]), Refusal>
     ensures found { IfOk result (λ read. Begins field IsText bytes.now read.0 read.1.now) }
     ensures refused { IsErrOf result Refusal.NotGood → BeginsNone field IsText bytes.now }
@@ -104,7 +106,7 @@ fn path_of(alloc: Global, text: &str) -> Result<Path, Refusal>
     }
 }
 
-/// The path of the first field, and what stands behind its tab.
+/// The path of the first field, and what follows its tab.
 pub fn path_at(alloc: Global, bytes: &[u8]) -> Result<(Path, &[u8]), Refusal>
     ensures found { IfOk result (λ read. Begins field IsPath bytes.now read.0 read.1.now) }
     ensures refused { IsErrOf result Refusal.NotGood → BeginsNone field IsPath bytes.now }
@@ -114,14 +116,14 @@ pub fn path_at(alloc: Global, bytes: &[u8]) -> Result<(Path, &[u8]), Refusal>
     Ok((path, rest))
 }
 
-/// Whether a sign stands in front, or a zero that the number does not need.
+/// Whether a sign stands first, or a zero that the number does not need.
 fn has_lead(digits: &[u8]) -> bool
     ensures { result ≡ has_lead digits.now }
 {
     matches!(digits, [b'+', ..] | [b'0', _, ..])
 }
 
-/// The number that a text is written for: decimal digits without a sign and without a zero in front.
+/// The number that a text is written for: decimal digits without a sign and without a leading zero.
 fn number_of(text: &str) -> Option<u64>
     ensures { MatchOption result ((n : ℕ) → n < 2 ^ 64 → text.now ≢ decimal n) (λ n. text.now ≡ decimal n) }
 {
@@ -131,7 +133,7 @@ fn number_of(text: &str) -> Option<u64>
     text.parse::<u64>().ok()
 }
 
-/// The number of the first field, and what stands behind its tab.
+/// The number of the first field, and what follows its tab.
 pub fn number_at(alloc: Global, bytes: &[u8]) -> Result<(u64, &[u8]), Refusal>
     ensures found { IfOk result (λ read. Begins number IsNumber bytes.now read.0 read.1.now) }
     ensures refused { IsErrOf result Refusal.NotGood → BeginsNone number IsNumber bytes.now }
@@ -140,5 +142,41 @@ pub fn number_at(alloc: Global, bytes: &[u8]) -> Result<(u64, &[u8]), Refusal>
     match number_of(text.as_str()) {
         Some(n) => Ok((n, rest)),
         None => Err(Refusal::NotGood),
+    }
+}
+
+/// The digest of the first field, and what follows its tab.
+pub fn digest_at(alloc: Global, bytes: &[u8]) -> Result<(Text, &[u8]), Refusal>
+    ensures found { IfOk result (λ read. Begins field IsDigest bytes.now read.0 read.1.now) }
+    ensures refused { IsErrOf result Refusal.NotGood → BeginsNone field IsDigest bytes.now }
+{
+    let (text, rest) = text_at(alloc, bytes)?;
+    if !is_digest(text.as_str()) {
+        return Err(Refusal::NotGood);
+    }
+    Ok((text, rest))
+}
+
+/// Whether the first field is the mark of a name in quotes or in angle brackets, and what follows its tab.
+pub fn mark_at(bytes: &[u8]) -> Option<(bool, &[u8])>
+    ensures { MatchOption result (HasNoMark bytes.now) (λ read. bytes.now ≡ mark_field read.0 ++ read.1.now) }
+{
+    match bytes {
+        [b'q', b'\t', rest @ ..] => Some((true, rest)),
+        [b'a', b'\t', rest @ ..] => Some((false, rest)),
+        _ => None,
+    }
+}
+
+/// The kind of line that the first field tells, and what follows its tab.
+pub fn tag_at(bytes: &[u8]) -> Option<(Tag, &[u8])>
+    ensures { MatchOption result (HasNoTag bytes.now) (λ read. bytes.now ≡ tag_field read.0 ++ read.1.now) }
+{
+    match bytes {
+        [b'+', b'1', b'\t', rest @ ..] => Some((Tag::Record, rest)),
+        [b'+', b'2', b'\t', rest @ ..] => Some((Tag::Digested, rest)),
+        [b'-', b'1', b'\t', rest @ ..] => Some((Tag::Drop, rest)),
+        [b's', b'1', b'\t', rest @ ..] => Some((Tag::Scan, rest)),
+        _ => None,
     }
 }

@@ -1,9 +1,7 @@
-//! Laws of written lines.
+//! Laws of written lines, and of what a log tells.
 ghost use Rattle.std.specs.Prelude.{List};
-ghost use Rattle.std.specs.List.{AllByRecursion};
 ghost use Rattle.b2_log.specs.declared.line.LogLine.{LogLine};
-ghost use Rattle.b2_log.specs.Good.{IsGood};
-ghost use Rattle.b2_log.specs.Laws.{OneSpelling, OneReading, ReadBack, TornLine, KeptAgain};
+ghost use Rattle.b2_log.specs.Laws.{OneSpelling, OneReading, ReadBack, TornLine, ToldIsThere, LastWord, OthersUnsaid, KeptIsTold, KeptAgain};
 
 /// A good line has one spelling, and no other good line has it or begins it.
 pub fn one_spelling()
@@ -25,7 +23,27 @@ pub fn torn_line()
     ensures { TornLine }
 {}
 
-/// The kept lines of a good log are read back, and the same records are found in them.
+/// What a log tells of a subject is a line of it about this subject.
+pub fn told_is_there()
+    ensures { ToldIsThere }
+{}
+
+/// A line at the end has the last word on its subject.
+pub fn last_word()
+    ensures { LastWord }
+{}
+
+/// A line says nothing of other subjects.
+pub fn others_unsaid()
+    ensures { OthersUnsaid }
+{}
+
+/// The kept lines are those that the log tells of their subjects.
+pub fn kept_is_told()
+    ensures { KeptIsTold }
+{}
+
+/// The kept lines tell of each subject what the log tells, and all of them are kept again.
 pub fn kept_again()
-    ensures { (lines : List LogLine) → AllByRecursion IsGood lines → KeptAgain lines }
+    ensures { (log : List LogLine) → KeptAgain log }
 {}

@@ -2,13 +2,16 @@
 #![tactic(auto)]
 
 mod field;
+pub mod include_list;
+mod latest;
 pub mod laws;
 pub mod line;
 mod list;
 pub mod log;
+pub mod proper;
 mod read;
 mod refusal;
 pub mod stamped;
-#[cfg(test)]
-mod tests;
+pub mod subject;
+pub mod tag;
 pub mod write;

@@ -1,10 +1,22 @@
 //! The lines of the log as data.
+use crate::include_list::IncludeList;
 use crate::stamped::StampedPaths;
+use b2_base::path::Path;
 use b2_base::path_list::PathList;
 use b2_base::text::Text;
+use b2_base::text_list::TextList;
+
+/// The digests of what a record names, each as 64 lower-case hexadecimal digits.
+#[derive(Drop)]
+pub struct Digests {
+    /// Those of the outputs, in the order of the outputs.
+    pub outs: TextList,
+    /// Those of the inputs, in the order of the inputs.
+    pub ins: TextList,
+}
 
 /// What a step read and wrote.
-#[derive(Debug, Drop)]
+#[derive(Drop)]
 pub struct Record {
     /// The step's text.
     pub text: Text,
@@ -12,13 +24,28 @@ pub struct Record {
     pub outs: StampedPaths,
     /// The inputs in byte order of path, each with the stamp that it had then.
     pub ins: StampedPaths,
+    /// The digests of outputs and inputs, if they were taken.
+    pub digests: Option<Digests>,
+}
+
+/// What was found in a file that was scanned.
+#[derive(Drop)]
+pub struct ScanLine {
+    /// The file.
+    pub path: Path,
+    /// The stamp that it had then.
+    pub stamp: u64,
+    /// Its includes in order.
+    pub includes: IncludeList,
 }
 
 /// A line of the log.
-#[derive(Debug, Drop)]
+#[derive(Drop)]
 pub enum LogLine {
     /// The step with these outputs was run.
     Record(Record),
     /// What is recorded of these outputs holds no longer.
     Drop(PathList),
+    /// The file was scanned.
+    Scan(ScanLine),
 }

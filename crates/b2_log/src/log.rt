@@ -1,27 +1,30 @@
-//! A log: its lines, and the last one about each list of outputs.
-ghost use Rattle.std.specs.Prelude.{◌≡◌, ◌+◌, ◌∷◌, ◌++◌, [], map, IfOk, OnOk, OnErr};
+//! A log: its lines, and the last one about each subject.
+ghost use Rattle.std.specs.Prelude.{◌≡◌, ◌+◌, ◌∷◌, ◌++◌, [], length, IfOk, OnOk, OnErr, IfSome, IsTrue};
+ghost use Rattle.std.specs.List.{AllByRecursion};
 ghost use Rattle.std.specs.Option.{option_copied};
+ghost use Rattle.b2_log.specs.declared.line.LogLine.TheVariants as lines;
 ghost use Rattle.b2_log.specs.Lines.{log_bytes};
+ghost use Rattle.b2_log.specs.Good.{IsProper, IsGood};
 ghost use Rattle.b2_log.specs.Readings.{IsReading};
 ghost use Rattle.b2_log.specs.Places.{place_in, option_is, kept_at};
-ghost use Rattle.b2_log.specs.Finding.{outs_of, path_of, find_record, kept};
+ghost use Rattle.b2_log.specs.Finding.{subject_of, is_drop, record_in, scan_in, find_record, find_scan, kept};
 
-use crate::line::{LogLine, Record};
+use crate::latest::Latest;
+use crate::line::{LogLine, Record, ScanLine};
 use crate::read::next_line;
-use crate::write::push_record;
+use crate::subject::subject_of;
+use crate::write::push_line;
 use b2_base::fault::OutOfMemory;
 use b2_base::path::Path;
-use b2_base::path_list::copy_paths;
 use std::alloc::Global;
-use std::collections::BTreeMap;
 use std::marker::Model;
 
-/// The lines of a log in order, seen as these lines and the number of bytes that they were read from.
+/// The lines of a log in order, each of them proper, seen as these lines and the number of bytes that they were read from.
 #[derive(Drop)]
 pub struct Log {
     alloc: Global,
     lines: Vec<LogLine>,
-    latest: BTreeMap<Vec<Path>, usize>,
+    latest: Latest,
     good: usize,
 }
 
@@ -30,65 +33,74 @@ impl Model for Log {
 
     ghost Value = { Contents };
 
-    ghost use Rattle.b2_log.specs.Places.{IsLatest};
+    ghost use Rattle.b2_log.specs.Places.{place_in, IsIndexed};
 
     ghost view = { λ l. record { lines = l.lines.items; good = l.good } };
 
-    ghost invariant = { λ l. IsLatest l.lines.items l.latest };
+    ghost invariant = { λ l. IsIndexed l.lines.items (place_in l.latest) };
 }
 
-/// The paths of files with stamps.
-fn paths_of(alloc: Global, files: &[(Path, u64)]) -> Result<Vec<Path>, OutOfMemory>
-    ensures { IfOk result (λ paths. paths.items ≡ map path_of files.now) }
+/// Whether a line is a drop.
+fn is_drop(line: &LogLine) -> bool
+    ensures { result ≡ is_drop line.now }
 {
-    let mut paths = Vec::new(alloc);
-    for file in files {
-        paths.push(file.0.copy()?)?;
-    }
-    Ok(paths)
+    matches!(line, LogLine::Drop(_))
 }
 
-/// The outputs of a line.
-fn line_outs(alloc: Global, line: &LogLine) -> Result<Vec<Path>, OutOfMemory>
-    ensures { IfOk result (λ paths. paths.items ≡ outs_of line.now) }
+/// Whether a place is this one.
+fn is_place(found: Option<usize>, place: usize) -> bool
+    ensures { result ≡ option_is found place }
 {
-    match line {
-        LogLine::Record(record) => paths_of(alloc, record.outs.as_slice()),
-        LogLine::Drop(outs) => {
-            let outs = copy_paths(alloc, outs.as_slice())?;
-            Ok(outs.into_vec())
-        }
-    }
-}
-
-/// Whether the last line about these outputs stands at this place.
-fn stands_at(latest: &BTreeMap<Vec<Path>, usize>, outs: &[Path], place: usize) -> bool
-    ensures { result ≡ option_is (place_in outs.now latest.now) place }
-{
-    match latest.get(outs) {
+    match found {
         None => false,
-        Some(last) => *last == place,
+        Some(found) => found == place,
     }
 }
 
-/// Appends a line at a place where it is kept: where it is a record, and no later line is about its outputs.
+/// Whether the last line about the subject of a line stands at this place.
+fn is_last(alloc: Global, latest: &Latest, place: usize, line: &LogLine) -> Result<bool, OutOfMemory>
+    ensures { IfOk result (λ last. last ≡ option_is (place_in latest.now (subject_of line.now)) place) }
+{
+    let subject = subject_of(alloc, line)?;
+    Ok(is_place(latest.of(&subject), place))
+}
+
+/// Appends a line at a place where it is kept: where it is no drop, and no later line is about its subject.
 fn push_kept(
     alloc: Global,
     bytes: &mut Vec<u8>,
-    latest: &BTreeMap<Vec<Path>, usize>,
+    latest: &Latest,
     place: usize,
     line: &LogLine,
 ) -> Result<(), OutOfMemory>
-    ensures { OnOk result (bytes.new.items ≡ bytes.old.items ++ log_bytes (kept_at latest.now place line.now)) }
+    ensures pushes { OnOk result (bytes.new.items ≡ bytes.old.items ++ log_bytes (kept_at (place_in latest.now) place line.now)) }
+    ensures good { OnOk result (IsProper line.now → AllByRecursion IsGood (kept_at (place_in latest.now) place line.now)) }
 {
-    let LogLine::Record(record) = line else {
-        return Ok(());
-    };
-    let outs = paths_of(alloc, record.outs.as_slice())?;
-    if !stands_at(latest, outs.as_slice(), place) {
+    if is_drop(line) || !is_last(alloc, latest, place, line)? {
         return Ok(());
     }
-    push_record(alloc, bytes, record)
+    push_line(alloc, bytes, line)
+}
+
+/// The record that a line is.
+fn record_in(line: &LogLine) -> Option<&Record>
+    ensures exact { option_copied result ≡ record_in line.now }
+    ensures proper { IsProper line.now → IfSome result (λ rec. IsProper (lines.Record rec.now)) }
+{
+    match line {
+        LogLine::Record(record) => Some(record),
+        LogLine::Drop(_) | LogLine::Scan(_) => None,
+    }
+}
+
+/// The scan that a line is, where it was made at this stamp.
+fn scan_in(line: &LogLine, stamp: u64) -> Option<&ScanLine>
+    ensures { option_copied result ≡ scan_in stamp line.now }
+{
+    match line {
+        LogLine::Scan(scan) if scan.stamp == stamp => Some(scan),
+        _ => None,
+    }
 }
 
 impl Log {
@@ -99,7 +111,7 @@ impl Log {
         Log {
             alloc,
             lines: Vec::new(alloc),
-            latest: BTreeMap::new(alloc),
+            latest: Latest::new(alloc),
             good: 0,
         }
     }
@@ -111,28 +123,35 @@ impl Log {
         self.good
     }
 
-    /// The record of the last line with exactly these outputs in this order. There is none where that line is a drop or
-    /// no line has them. Takes no memory.
+    /// The record of the last line about exactly these outputs in this order. There is none where that line is a drop or
+    /// there is no such line. Takes no memory.
     pub fn find(&self, outs: &[Path]) -> Option<&Record>
-        ensures { option_copied result ≡ find_record outs.now self.now.lines }
+        ensures exact { option_copied result ≡ find_record outs.now self.now.lines }
+        ensures proper { IfSome result (λ rec. IsProper (lines.Record rec.now)) }
     {
-        let place = *self.latest.get(outs)?;
-        match &self.lines[place] {
-            LogLine::Record(record) => Some(record),
-            LogLine::Drop(_) => None,
-        }
+        let place = self.latest.of_outputs(outs)?;
+        record_in(&self.lines[place])
     }
 
-    /// Adds a line behind the others. After an error the log is as before.
+    /// The last scan of a path, where it was made at this stamp. Takes no memory.
+    pub fn scan(&self, path: &Path, stamp: u64) -> Option<&ScanLine>
+        ensures { option_copied result ≡ find_scan path.now stamp self.now.lines }
+    {
+        let place = self.latest.of_scanned(path)?;
+        scan_in(&self.lines[place], stamp)
+    }
+
+    /// Adds a proper line after the others. After an error the log is as before.
     pub fn add(&mut self, line: LogLine) -> Result<(), OutOfMemory>
+        requires { IsProper line }
         ensures ok { OnOk result (self.new ≡ record { lines = self.old.lines ++ line ∷ []; good = self.old.good }) }
         ensures err { OnErr result (self.new ≡ self.old) }
     {
-        let outs = line_outs(self.alloc, &line)?;
+        let subject = subject_of(self.alloc, &line)?;
         let place = self.lines.as_slice().len();
         self.lines.push(line)?;
-        match self.latest.insert(outs, place) {
-            Ok(_) => Ok(()),
+        match self.latest.put(subject, place) {
+            Ok(()) => Ok(()),
             Err(_) => {
                 self.lines.pop();
                 Err(OutOfMemory)
@@ -140,9 +159,11 @@ impl Log {
         }
     }
 
-    /// The lines of the records that can still be found, in order: each record whose outputs no later line has.
+    /// The lines of all that can still be found, in order: each record and each scan whose subject no later line has. They
+    /// are read back as these lines.
     pub fn kept(&self) -> Result<Vec<u8>, OutOfMemory>
-        ensures { IfOk result (λ bytes. bytes.items ≡ log_bytes (kept self.now.lines)) }
+        ensures exact { IfOk result (λ bytes. bytes.items ≡ log_bytes (kept self.now.lines)) }
+        ensures read { IfOk result (λ bytes. IsReading bytes.items (kept self.now.lines) (length bytes.items)) }
     {
         let mut bytes = Vec::new(self.alloc);
         for (place, line) in self.lines.iter().enumerate() {
@@ -152,17 +173,17 @@ impl Log {
     }
 }
 
-/// The longest front of the bytes that is made of good lines, as a log. What stands behind it is left out, be it a line
-/// without its end or of another form; so it never answers anything but want of memory. Takes time in proportion to the
-/// length, times its logarithm for the look-ups.
+/// The longest prefix of the bytes that is made of good lines, as a log. What follows it is left out, be it a line without
+/// its end or of another form; so it never answers anything but out of memory. Takes time in proportion to the length,
+/// times its logarithm for the look-ups.
 pub fn read_log(alloc: Global, bytes: &[u8]) -> Result<Log, OutOfMemory>
     ensures { IfOk result (λ log. IsReading bytes.now log.lines log.good) }
 {
     let mut log = Log::new(alloc);
     let mut rest = bytes;
-    while let Some((line, behind)) = next_line(alloc, rest)? {
+    while let Some((line, after)) = next_line(alloc, rest)? {
         log.add(line)?;
-        rest = behind;
+        rest = after;
     }
     log.good = bytes.len() - rest.len();
     Ok(log)

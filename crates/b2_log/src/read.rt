@@ -1,113 +1,122 @@
 //! Reads a line.
-ghost use Rattle.std.specs.Prelude.{◌≡◌, ◌≢◌, ℕ, ◌+◌, ◌<◌, List, ◌++◌, length, IfOk, IfSome, IsErrOf, IsTrue, ◌↔◌, MatchOption};
-ghost use Rattle.b2_log.specs.Lines.{line_end, record_fields, drop_fields, spelling};
-ghost use Rattle.b2_log.specs.Good.{IsGood, IsGoodRecord, IsGoodDrop, IsRising, RisesAt};
-ghost use Rattle.b2_log.specs.Readings.{Begins, BeginsNone};
+ghost use Rattle.std.specs.Prelude.{◌≡◌, ◌≢◌, ℕ, ◌<◌, List, ◌++◌, length, IfOk, IfSome, IsErrOf, MatchOption};
+ghost use Rattle.b2_log.specs.Lines.{line_end, fields_of, spelling};
+ghost use Rattle.b2_log.specs.Good.{IsGood};
+ghost use Rattle.b2_log.specs.Readings.{Begins, BeginsNone, IsReadAs};
 
-use crate::field::text_at;
-use crate::line::{LogLine, Record};
-use crate::list::{paths_at, stamped_at};
+use crate::field::{number_at, path_at, tag_at, text_at};
+use crate::line::{Digests, LogLine, Record, ScanLine};
+use crate::list::{digested_at, includes_at, paths_at, stamped_at};
+use crate::proper::is_proper;
 use crate::refusal::Refusal;
+use crate::tag::Tag;
 use b2_base::fault::OutOfMemory;
-use b2_base::path::Path;
-use b2_base::path_list::PathList;
-use b2_base::text::Text;
 use std::alloc::Global;
 
-/// What stands behind the end of a line.
-fn behind_end(bytes: &[u8]) -> Option<&[u8]>
-    ensures { MatchOption result ((rest : List ℕ) → bytes.now ≢ line_end ++ rest) (λ behind. bytes.now ≡ line_end ++ behind.now) }
+/// What follows the end of a line.
+fn after_end(bytes: &[u8]) -> Option<&[u8]>
+    ensures { MatchOption result ((rest : List ℕ) → bytes.now ≢ line_end ++ rest) (λ after. bytes.now ≡ line_end ++ after.now) }
 {
     match bytes {
-        [b'.', b'\n', behind @ ..] => Some(behind),
+        [b'.', b'\n', after @ ..] => Some(after),
         _ => None,
     }
 }
 
-/// Whether the path at a place stands before the next one in byte order.
-fn rises_at(files: &[(Path, u64)], place: usize) -> bool
-    requires { place + 1 < length files.now }
-    ensures { IsTrue result ↔ RisesAt files.now place }
-{
-    files[place].0.cmp(&files[place + 1].0).is_lt()
-}
-
-/// Whether the paths stand in byte order, and none of them twice.
-fn is_rising(files: &[(Path, u64)]) -> bool
-    ensures { IsTrue result ↔ IsRising files.now }
-{
-    for place in 1..files.len() {
-        if !rises_at(files, place - 1) {
-            return false;
-        }
-    }
-    true
-}
-
-/// Whether there is an output and the inputs are in order.
-fn is_proper(outs: &[(Path, u64)], ins: &[(Path, u64)]) -> bool
-    ensures { IsTrue result ↔ ((0 < length outs.now) × IsRising ins.now) }
-{
-    !outs.is_empty() && is_rising(ins)
-}
-
-/// The record whose fields stand first, and what is behind its line.
-fn record_at(alloc: Global, bytes: &[u8]) -> Result<(Record, &[u8]), Refusal>
-    ensures found { IfOk result (λ read. Begins record_fields IsGoodRecord bytes.now read.0 read.1.now) }
-    ensures refused { IsErrOf result Refusal.NotGood → BeginsNone record_fields IsGoodRecord bytes.now }
+/// The record without digests whose fields stand first, and what follows them.
+fn record_at(alloc: Global, bytes: &[u8]) -> Result<(LogLine, &[u8]), Refusal>
+    ensures found { IfOk result (λ read. Begins fields_of (IsReadAs Tag.Record) bytes.now read.0 read.1.now) }
+    ensures refused { IsErrOf result Refusal.NotGood → BeginsNone fields_of (IsReadAs Tag.Record) bytes.now }
 {
     let (text, rest) = text_at(alloc, bytes)?;
     let (outs, rest) = stamped_at(alloc, rest)?;
     let (ins, rest) = stamped_at(alloc, rest)?;
-    let Some(behind) = behind_end(rest) else {
-        return Err(Refusal::NotGood);
+    let record = Record {
+        text,
+        outs,
+        ins,
+        digests: None,
     };
-    if !is_proper(outs.as_slice(), ins.as_slice()) {
-        return Err(Refusal::NotGood);
-    }
-    Ok((Record { text, outs, ins }, behind))
+    Ok((LogLine::Record(record), rest))
 }
 
-/// The outputs of the drop whose fields stand first, and what is behind its line.
-fn drop_at(alloc: Global, bytes: &[u8]) -> Result<(PathList, &[u8]), Refusal>
-    ensures found { IfOk result (λ read. Begins drop_fields IsGoodDrop bytes.now read.0 read.1.now) }
-    ensures refused { IsErrOf result Refusal.NotGood → BeginsNone drop_fields IsGoodDrop bytes.now }
+/// The record with digests whose fields stand first, and what follows them.
+fn digested_record_at(alloc: Global, bytes: &[u8]) -> Result<(LogLine, &[u8]), Refusal>
+    ensures found { IfOk result (λ read. Begins fields_of (IsReadAs Tag.Digested) bytes.now read.0 read.1.now) }
+    ensures refused { IsErrOf result Refusal.NotGood → BeginsNone fields_of (IsReadAs Tag.Digested) bytes.now }
+{
+    let (text, rest) = text_at(alloc, bytes)?;
+    let (outs, rest) = digested_at(alloc, rest)?;
+    let (ins, rest) = digested_at(alloc, rest)?;
+    let record = Record {
+        text,
+        outs: outs.files,
+        ins: ins.files,
+        digests: Some(Digests {
+            outs: outs.digests,
+            ins: ins.digests,
+        }),
+    };
+    Ok((LogLine::Record(record), rest))
+}
+
+/// The drop whose outputs stand first, and what follows them.
+fn drop_at(alloc: Global, bytes: &[u8]) -> Result<(LogLine, &[u8]), Refusal>
+    ensures found { IfOk result (λ read. Begins fields_of (IsReadAs Tag.Drop) bytes.now read.0 read.1.now) }
+    ensures refused { IsErrOf result Refusal.NotGood → BeginsNone fields_of (IsReadAs Tag.Drop) bytes.now }
 {
     let (outs, rest) = paths_at(alloc, bytes)?;
-    let Some(behind) = behind_end(rest) else {
-        return Err(Refusal::NotGood);
-    };
-    if outs.as_slice().is_empty() {
-        return Err(Refusal::NotGood);
-    }
-    Ok((outs, behind))
+    Ok((LogLine::Drop(outs), rest))
 }
 
-/// Whether the text is this one.
-fn is_tag(text: &Text, tag: &str) -> bool
-    ensures { IsTrue result ↔ (text.now ≡ tag.now) }
+/// The scan whose fields stand first, and what follows them.
+fn scan_at(alloc: Global, bytes: &[u8]) -> Result<(LogLine, &[u8]), Refusal>
+    ensures found { IfOk result (λ read. Begins fields_of (IsReadAs Tag.Scan) bytes.now read.0 read.1.now) }
+    ensures refused { IsErrOf result Refusal.NotGood → BeginsNone fields_of (IsReadAs Tag.Scan) bytes.now }
 {
-    text.as_str() == tag
+    let (path, rest) = path_at(alloc, bytes)?;
+    let (stamp, rest) = number_at(alloc, rest)?;
+    let (includes, rest) = includes_at(alloc, rest)?;
+    let scan = ScanLine {
+        path,
+        stamp,
+        includes,
+    };
+    Ok((LogLine::Scan(scan), rest))
 }
 
-/// The good line that stands first, and what is behind it.
+/// The line of this kind whose fields stand first, and what follows them.
+fn fields_at(alloc: Global, tag: Tag, bytes: &[u8]) -> Result<(LogLine, &[u8]), Refusal>
+    ensures found { IfOk result (λ read. Begins fields_of (IsReadAs tag) bytes.now read.0 read.1.now) }
+    ensures refused { IsErrOf result Refusal.NotGood → BeginsNone fields_of (IsReadAs tag) bytes.now }
+{
+    match tag {
+        Tag::Record => record_at(alloc, bytes),
+        Tag::Digested => digested_record_at(alloc, bytes),
+        Tag::Drop => drop_at(alloc, bytes),
+        Tag::Scan => scan_at(alloc, bytes),
+    }
+}
+
+/// The good line that stands first, and what follows it.
 fn line_at(alloc: Global, bytes: &[u8]) -> Result<(LogLine, &[u8]), Refusal>
     ensures found { IfOk result (λ read. Begins spelling IsGood bytes.now read.0 read.1.now) }
     ensures refused { IsErrOf result Refusal.NotGood → BeginsNone spelling IsGood bytes.now }
 {
-    let (tag, rest) = text_at(alloc, bytes)?;
-    if is_tag(&tag, "+1") {
-        let (record, behind) = record_at(alloc, rest)?;
-        return Ok((LogLine::Record(record), behind));
+    let Some((tag, rest)) = tag_at(bytes) else {
+        return Err(Refusal::NotGood);
+    };
+    let (line, rest) = fields_at(alloc, tag, rest)?;
+    let Some(after) = after_end(rest) else {
+        return Err(Refusal::NotGood);
+    };
+    if !is_proper(&line) {
+        return Err(Refusal::NotGood);
     }
-    if is_tag(&tag, "-1") {
-        let (outs, behind) = drop_at(alloc, rest)?;
-        return Ok((LogLine::Drop(outs), behind));
-    }
-    Err(Refusal::NotGood)
+    Ok((line, after))
 }
 
-/// The next good line and what is behind it, or nothing where no good line stands first. Takes time in proportion to the
+/// The next good line and what follows it, or nothing where no good line stands first. Takes time in proportion to the
 /// length of that line, or to what stands before the next line feed.
 pub fn next_line(alloc: Global, bytes: &[u8]) -> Result<Option<(LogLine, &[u8])>, OutOfMemory>
     ensures exact { IfOk result (λ next. MatchOption next (BeginsNone spelling IsGood bytes.now) (λ read. Begins spelling IsGood bytes.now read.0 read.1.now)) }

@@ -6,7 +6,7 @@ use b2_base::fault::OutOfMemory;
 use std::alloc::{AllocError, AllocFailed};
 
 /// Why bytes give no line, or no part of one.
-#[derive(Debug, Drop)]
+#[derive(Drop)]
 pub enum Refusal {
     /// No good line has these bytes.
     NotGood,

@@ -7,7 +7,7 @@ use std::alloc::Global;
 use std::marker::Model;
 
 /// Paths with their stamps, in order, seen as the list of these pairs.
-#[derive(Debug, Drop)]
+#[derive(Drop)]
 pub struct StampedPaths {
     files: Vec<(Path, u64)>,
 }

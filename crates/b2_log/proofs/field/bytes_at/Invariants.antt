@@ -4,8 +4,8 @@ use Rattle.b2_log.specs.Lines.{escaped}
 use Rattle.b2_log.proofs.field.bytes_at.Given as goal
 
 -- the bytes so far stand escaped before what is left
-abbrev pub invariant-loop-first : goal.invariant-loop-first
-invariant-loop-first l = l.bytes ≡ flat_map escaped l.text.items ++ l.rest
+abbrev pub invariant-loop-next : goal.invariant-loop-next
+invariant-loop-next l = l.bytes ≡ flat_map escaped l.text.items ++ l.rest
 
-abbrev pub decreases-loop-first : goal.decreases-loop-first
-decreases-loop-first l = length l.rest
+abbrev pub decreases-loop-next : goal.decreases-loop-next
+decreases-loop-next l = length l.rest

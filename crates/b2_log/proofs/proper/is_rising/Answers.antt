@@ -1,6 +1,6 @@
 use Rattle.std.proofs.Common.{refl, arith}
-use Rattle.b2_log.proofs.Wholes.{rising_from}
-use Rattle.b2_log.proofs.read.is_rising.Goals as goal
+use Rattle.b2_log.proofs.Rising.{rising_from}
+use Rattle.b2_log.proofs.proper.is_rising.Goals as goal
 
 pub returns : goal.returns
 returns c = (λ _. rising_from _ (λ k lt. c.loop-place.invariant k (omega arith)), λ _. refl)

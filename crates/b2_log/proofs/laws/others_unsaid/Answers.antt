@@ -1,0 +1,5 @@
+use Rattle.b2_log.proofs.LastLines as lemmas
+use Rattle.b2_log.proofs.laws.others_unsaid.Goals as goal
+
+pub returns : goal.returns
+returns c = lemmas.others_unsaid

@@ -1,0 +1,5 @@
+use Rattle.b2_log.proofs.LastLines as lemmas
+use Rattle.b2_log.proofs.laws.told_is_there.Goals as goal
+
+pub returns : goal.returns
+returns c = lemmas.told_is_there

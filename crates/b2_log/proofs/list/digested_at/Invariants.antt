@@ -1,0 +1,9 @@
+use Rattle.std.proofs.Common.{◌≡◌, length}
+use Rattle.std.specs.List.{zip}
+use Rattle.b2_log.specs.Lines.{digested}
+use Rattle.b2_log.specs.Good.{IsDigested}
+use Rattle.b2_log.proofs.Digesting.{ReadBoth}
+use Rattle.b2_log.proofs.list.digested_at.Given as goal
+
+abbrev pub invariant-loop : goal.invariant-loop
+invariant-loop l = ReadBoth l.initial.rest l.list.files l.list.digests l.rest l.counter

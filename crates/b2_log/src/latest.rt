@@ -1,0 +1,70 @@
+//! The place of the last line about each subject.
+ghost use Rattle.std.specs.Prelude.{◌≡◌, Option, Some, None, if◌then◌else◌, OnOk, OnErr};
+ghost use Rattle.b2_log.specs.declared.subject.Subject.{Subject};
+ghost use Rattle.b2_log.specs.Finding.{subject_eq};
+ghost use Rattle.b2_log.specs.Places.{place_in};
+
+use crate::subject::Subject;
+use b2_base::fault::OutOfMemory;
+use b2_base::path::Path;
+use std::alloc::Global;
+use std::collections::BTreeMap;
+
+/// The place of the last line about each subject, by outputs and by scanned paths.
+#[derive(Drop)]
+pub struct Latest {
+    steps: BTreeMap<Vec<Path>, usize>,
+    scans: BTreeMap<Path, usize>,
+}
+
+impl Latest {
+    /// No place for any subject.
+    pub fn new(alloc: Global) -> Latest
+        ensures { (subject : Subject) → place_in result subject ≡ None }
+    {
+        Latest {
+            steps: BTreeMap::new(alloc),
+            scans: BTreeMap::new(alloc),
+        }
+    }
+
+    /// The place for the outputs of a step.
+    pub fn of_outputs(&self, outs: &[Path]) -> Option<usize>
+        ensures { result ≡ place_in self.now (Subject.Outputs outs.now) }
+    {
+        self.steps.get(outs).copied()
+    }
+
+    /// The place for a file that was scanned.
+    pub fn of_scanned(&self, path: &Path) -> Option<usize>
+        ensures { result ≡ place_in self.now (Subject.Scanned path.now) }
+    {
+        self.scans.get(path).copied()
+    }
+
+    /// The place for a subject.
+    pub fn of(&self, subject: &Subject) -> Option<usize>
+        ensures { result ≡ place_in self.now subject.now }
+    {
+        match subject {
+            Subject::Outputs(outs) => self.of_outputs(outs.as_slice()),
+            Subject::Scanned(path) => self.of_scanned(path),
+        }
+    }
+
+    /// Puts a place for a subject. After an error all is as before.
+    pub fn put(&mut self, subject: Subject, place: usize) -> Result<(), OutOfMemory>
+        ensures ok { OnOk result ((other : Subject) → place_in self.new other ≡ (if subject_eq subject other then Some place else place_in self.old other)) }
+        ensures err { OnErr result ((other : Subject) → place_in self.new other ≡ place_in self.old other) }
+    {
+        match subject {
+            Subject::Outputs(outs) => {
+                let _ = self.steps.insert(outs.into_vec(), place)?;
+            }
+            Subject::Scanned(path) => {
+                let _ = self.scans.insert(path, place)?;
+            }
+        }
+        Ok(())
+    }
+}
