@@ -1,6 +1,7 @@
 -- Digests beside the paths that they belong to.
 use Rattle.std.proofs.Common.{◌≡◌, ℕ, ◌+◌, ◌<◌, ◌≤◌, Bool, true, false, List, [], ◌∷◌, ◌++◌, length, get_or, refl, sym, ap, subst, ◌∙◌, length-append, arith}
 use Rattle.std.specs.List.{AllByRecursion, zip}
+use Rattle.std.proofs.lemmas.Slice.Zip.{length-zip, get_or-zip}
 use Rattle.b2_log.specs.Good.{IsStamped, IsDigest, IsDigested, IsCounted, AreDigests}
 use Rattle.b2_log.specs.Lines.{digested}
 use Rattle.b2_log.specs.Readings.{Begins}
@@ -61,10 +62,20 @@ both_more bytes files more_files digests more_digests rest i file digest after r
 
 -- ---- lists that are written
 
-each_named : (files : List (List ℕ × ℕ)) (digests : List (List ℕ)) → length digests ≡ length files → AllByRecursion (λ (p : (List ℕ × ℕ) × List ℕ). IsStamped p.0) (zip files digests) → AllByRecursion IsStamped files
+-- the path and the stamp of a file with a digest are so
+abbrev pub IsNamed : (List ℕ × ℕ) × List ℕ → Type 0
+IsNamed file = IsStamped file.0
+
+each_named : (files : List (List ℕ × ℕ)) (digests : List (List ℕ)) → length digests ≡ length files → AllByRecursion IsNamed (zip files digests) → AllByRecursion IsStamped files
 each_named [] digests e p = tt
 each_named (f ∷ files) [] e p = absurd (omega arith)
 each_named (f ∷ files) (d ∷ digests) e p = (p.0, each_named files digests (omega arith) p.1)
 
-pub named_files : (files : List (List ℕ × ℕ)) (digests : List (List ℕ)) → IsCounted (λ (p : (List ℕ × ℕ) × List ℕ). IsStamped p.0) (zip files digests) → length digests ≡ length files → IsCounted IsStamped files
+pub named_files : (files : List (List ℕ × ℕ)) (digests : List (List ℕ)) → IsCounted IsNamed (zip files digests) → length digests ≡ length files → IsCounted IsStamped files
 named_files files digests p e = record { each = each_named files digests e p.each; count = subst (λ (n : ℕ). n < 18446744073709551616) (zip_long files digests e) p.count }
+
+pub pair_at : {A B : Type 0} (xs : List A) (ys : List B) (i : ℕ) (x : A) (y : B) → i < length (zip xs ys) → x ≡ get_or xs i x → y ≡ get_or ys i y → (x, y) ≡ get_or (zip xs ys) i (x, y)
+pair_at {A} {B} xs ys i x y lt e f =
+    let short : i < length xs = omega (arith, length-zip xs ys) in
+    let also : i < length ys = omega (arith, length-zip xs ys) in
+    ap (λ (a : A). (a, y)) e ∙ ap (λ (b : B). (get_or xs i x, b)) f ∙ sym (get_or-zip xs ys i (x, y) short also)

@@ -7,7 +7,7 @@ use Rattle.b2_log.specs.declared.tag.Tag.{Tag}
 use Rattle.b2_log.specs.declared.tag.Tag.TheVariants as tags
 use Rattle.b2_log.specs.Lines.{field, fields_of, tag_of, tag_text, line_end, spelling}
 use Rattle.b2_log.specs.Good.{IsProper, IsGood}
-use Rattle.b2_log.specs.Readings.{Begins, BeginsNone, HasNoTag, tag_field, IsRead, IsReadAs}
+use Rattle.b2_log.specs.Readings.{Begins, BeginsNone, HasNoTag, tag_field, IsRead, IsReadAs, Ends}
 use Rattle.b2_log.proofs.Fields.{field_free}
 use Rattle.b2_log.proofs.Parts.{IsFree}
 use Rattle.b2_log.proofs.LineFields.{fields_are_free}
@@ -72,16 +72,16 @@ tag_written tags.Digested = refl
 tag_written tags.Drop = refl
 tag_written tags.Scan = refl
 
-pub tag_is_read : (bytes : List ℕ) (tag : Tag) (rest : List ℕ) → bytes ≡ tag_field tag ++ rest → bytes ≡ field (tag_text tag) ++ rest
+tag_is_read : (bytes : List ℕ) (tag : Tag) (rest : List ℕ) → bytes ≡ tag_field tag ++ rest → bytes ≡ field (tag_text tag) ++ rest
 tag_is_read bytes tag rest e = e ∙ ap (λ (w : List ℕ). w ++ rest) (sym (tag_written tag))
 
 pub line_tagless : (bytes : List ℕ) → HasNoTag bytes → BeginsNone spelling IsGood bytes
 line_tagless bytes none line after b =
     no_tag bytes none (tag_of line) (fields_of line ++ (line_end ++ after)) (b.split ∙ line_cut (tag_text (tag_of line)) (fields_of line) after ∙ ap (λ (w : List ℕ). w ++ (fields_of line ++ (line_end ++ after))) (tag_written (tag_of line)))
 
-pub line_fieldless : (bytes : List ℕ) (tag : Tag) (rest : List ℕ) → bytes ≡ field (tag_text tag) ++ rest → BeginsNone fields_of (IsReadAs tag) rest → BeginsNone spelling IsGood bytes
+pub line_fieldless : (bytes : List ℕ) (tag : Tag) (rest : List ℕ) → bytes ≡ tag_field tag ++ rest → BeginsNone fields_of (IsReadAs tag) rest → BeginsNone spelling IsGood bytes
 line_fieldless bytes tag rest e none line after b =
-    let h = has_tag bytes tag rest line after e b.split in
+    let h = has_tag bytes tag rest line after (tag_is_read bytes tag rest e) b.split in
     none line (line_end ++ after) (record { so = record { fields = read_of line b.so; tagged = h.tagged }; split = h.fields })
 
 -- the line that stands first is the one whose fields were read
@@ -95,17 +95,16 @@ is_that bytes tag rest read_line more line after e p b =
     let both = (fields_are_free tag).one read_line line more (line_end ++ after) p.so (record { fields = read_of line b.so; tagged = h.tagged }) (sym p.split ∙ h.fields) in
     record { same = both.0; ends = both.1 }
 
-pub line_endless : (bytes : List ℕ) (tag : Tag) (rest : List ℕ) (line : LogLine) (more : List ℕ) → bytes ≡ field (tag_text tag) ++ rest → Begins fields_of (IsReadAs tag) rest line more → ((after : List ℕ) → more ≢ line_end ++ after) → BeginsNone spelling IsGood bytes
-line_endless bytes tag rest line more e p none other after b = none after (is_that bytes tag rest line more other after e p b).ends
+pub line_unended : (bytes : List ℕ) (tag : Tag) (rest : List ℕ) (line : LogLine) (more : List ℕ) → bytes ≡ tag_field tag ++ rest → Begins fields_of (IsReadAs tag) rest line more → ((after : List ℕ) → ¬ Ends line more after) → BeginsNone spelling IsGood bytes
+line_unended bytes tag rest line more e p none other after b =
+    let that = is_that bytes tag rest line more other after (tag_is_read bytes tag rest e) p b in
+    none after (record { proper = subst IsProper (sym that.same) (proper_of other b.so); split = that.ends })
 
-pub line_improper : (bytes : List ℕ) (tag : Tag) (rest : List ℕ) (line : LogLine) (more : List ℕ) → bytes ≡ field (tag_text tag) ++ rest → Begins fields_of (IsReadAs tag) rest line more → (IsProper line → ⊥) → BeginsNone spelling IsGood bytes
-line_improper bytes tag rest line more e p improper other after b = improper (subst IsProper (sym (is_that bytes tag rest line more other after e p b).same) (proper_of other b.so))
-
-pub line_found : (bytes : List ℕ) (tag : Tag) (rest : List ℕ) (line : LogLine) (more after : List ℕ) → bytes ≡ field (tag_text tag) ++ rest → Begins fields_of (IsReadAs tag) rest line more → more ≡ line_end ++ after → IsProper line → Begins spelling IsGood bytes line after
-line_found bytes tag rest line more after e p ends proper = record {
-  so = good_of line p.so.fields proper;
-  split = e
-      ∙ ap (λ (w : List ℕ). field (tag_text tag) ++ w) (p.split ∙ ap (λ (w : List ℕ). fields_of line ++ w) ends)
+pub line_found : (bytes : List ℕ) (tag : Tag) (rest : List ℕ) (line : LogLine) (more after : List ℕ) → bytes ≡ tag_field tag ++ rest → Begins fields_of (IsReadAs tag) rest line more → Ends line more after → Begins spelling IsGood bytes line after
+line_found bytes tag rest line more after e p ends = record {
+  so = good_of line p.so.fields ends.proper;
+  split = tag_is_read bytes tag rest e
+      ∙ ap (λ (w : List ℕ). field (tag_text tag) ++ w) (p.split ∙ ap (λ (w : List ℕ). fields_of line ++ w) ends.split)
       ∙ ap (λ (t : Tag). field (tag_text t) ++ (fields_of line ++ (line_end ++ after))) (sym p.so.tagged)
       ∙ sym (line_cut (tag_text (tag_of line)) (fields_of line) after);
 }

@@ -6,8 +6,8 @@ use Rattle.b2_log.specs.declared.line.LogLine.{LogLine}
 use Rattle.b2_log.specs.declared.line.LogLine.TheVariants as lines
 use Rattle.b2_log.specs.declared.tag.Tag.{Tag}
 use Rattle.b2_log.specs.declared.tag.Tag.TheVariants as tags
-use Rattle.b2_log.specs.Lines.{tab, backslash, next_bytes, mark, tag_text, tag_of, log_bytes}
-use Rattle.b2_log.specs.Good.{IsText, IsPath, IsStamped, IsCounted, HasDigests, IsGoodScan, IsGood}
+use Rattle.b2_log.specs.Lines.{tab, backslash, next_bytes, mark, tag_text, tag_of, line_end, log_bytes}
+use Rattle.b2_log.specs.Good.{IsText, IsPath, IsStamped, IsCounted, HasDigests, IsProper, IsGoodScan, IsGood}
 
 -- The bytes begin with the spelling of x, which is so, and the rest follows.
 pub record Begins {X : Type 0} (spell : X → List ℕ) (IsSo : X → Type 0) (bytes : List ℕ) (x : X) (rest : List ℕ) : Type 0 where
@@ -69,6 +69,11 @@ IsRead (lines.Scan s) = IsGoodScan s
 pub record IsReadAs (tag : Tag) (line : LogLine) : Type 0 where
   pub fields : IsRead line
   pub tagged : tag_of line ≡ tag
+
+-- a line is proper, and its end stands first in the bytes
+pub record Ends (line : LogLine) (bytes after : List ℕ) : Type 0 where
+  pub proper : IsProper line
+  pub split : bytes ≡ line_end ++ after
 
 -- The lines stand first in the bytes and are good, they have this length, and no longer prefix is made of good lines.
 pub record IsReading (bytes : List ℕ) (lines : List LogLine) (good : ℕ) : Type 0 where

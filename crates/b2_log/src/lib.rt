@@ -2,7 +2,6 @@
 #![tactic(auto)]
 
 mod field;
-pub mod include_list;
 mod latest;
 pub mod laws;
 pub mod line;
@@ -11,7 +10,6 @@ pub mod log;
 pub mod proper;
 mod read;
 mod refusal;
-pub mod stamped;
 pub mod subject;
 pub mod tag;
 pub mod write;

@@ -1,10 +1,15 @@
 //! The lines of the log as data.
-use crate::include_list::IncludeList;
-use crate::stamped::StampedPaths;
+use b2_base::list::List;
 use b2_base::path::Path;
 use b2_base::path_list::PathList;
 use b2_base::text::Text;
 use b2_base::text_list::TextList;
+
+/// Paths with their stamps, in order, seen as the list of these pairs.
+pub type StampedPaths = List<(Path, u64)>;
+
+/// The includes of a file in order, seen as the list of these pairs: each is a name, and whether it stands in quotes.
+pub type IncludeList = List<(Text, bool)>;
 
 /// The digests of what a record names, each as 64 lower-case hexadecimal digits.
 #[derive(Drop)]

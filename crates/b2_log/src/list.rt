@@ -6,9 +6,8 @@ ghost use Rattle.b2_log.specs.Good.{IsPath, IsStamped, IsDigested, IsIncluded, I
 ghost use Rattle.b2_log.specs.Readings.{Begins, BeginsNone};
 
 use crate::field::{digest_at, mark_at, number_at, path_at, text_at};
-use crate::include_list::IncludeList;
+use crate::line::{IncludeList, StampedPaths};
 use crate::refusal::Refusal;
-use crate::stamped::StampedPaths;
 use b2_base::fault::OutOfMemory;
 use b2_base::path::Path;
 use b2_base::path_list::PathList;
@@ -37,7 +36,7 @@ pub fn stamped_at(alloc: Global, bytes: &[u8]) -> Result<(StampedPaths, &[u8]), 
     let mut rest = start;
     for _ in 0..count {
         let ((path, stamp), after) = file_at(alloc, rest)?;
-        files.push(path, stamp)?;
+        files.push((path, stamp))?;
         rest = after;
     }
     Ok((files, rest))
@@ -58,7 +57,14 @@ fn digested_file_at(alloc: Global, bytes: &[u8]) -> Result<(DigestedFile, &[u8])
 {
     let ((path, stamp), rest) = file_at(alloc, bytes)?;
     let (digest, rest) = digest_at(alloc, rest)?;
-    Ok((DigestedFile { path, stamp, digest }, rest))
+    Ok((
+        DigestedFile {
+            path,
+            stamp,
+            digest,
+        },
+        rest,
+    ))
 }
 
 /// Paths with their stamps, and as many digests.
@@ -75,7 +81,7 @@ fn push_digested(list: &mut DigestedFiles, file: DigestedFile) -> Result<(), Out
     ensures files { OnOk result (list.new.files ≡ list.old.files ++ (file.path, file.stamp) ∷ []) }
     ensures digests { OnOk result (list.new.digests ≡ list.old.digests ++ file.digest ∷ []) }
 {
-    list.files.push(file.path, file.stamp)?;
+    list.files.push((file.path, file.stamp))?;
     list.digests.push(file.digest)
 }
 
@@ -137,7 +143,7 @@ pub fn includes_at(alloc: Global, bytes: &[u8]) -> Result<(IncludeList, &[u8]), 
     let mut rest = start;
     for _ in 0..count {
         let ((name, quoted), after) = include_at(alloc, rest)?;
-        includes.push(name, quoted)?;
+        includes.push((name, quoted))?;
         rest = after;
     }
     Ok((includes, rest))

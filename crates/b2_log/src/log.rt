@@ -58,7 +58,12 @@ fn is_place(found: Option<usize>, place: usize) -> bool
 }
 
 /// Whether the last line about the subject of a line stands at this place.
-fn is_last(alloc: Global, latest: &Latest, place: usize, line: &LogLine) -> Result<bool, OutOfMemory>
+fn is_last(
+    alloc: Global,
+    latest: &Latest,
+    place: usize,
+    line: &LogLine,
+) -> Result<bool, OutOfMemory>
     ensures { IfOk result (λ last. last ≡ option_is (place_in latest.now (subject_of line.now)) place) }
 {
     let subject = subject_of(alloc, line)?;

@@ -2,7 +2,7 @@
 ghost use Rattle.std.specs.Prelude.{◌≡◌, ◌≢◌, ℕ, ◌<◌, List, ◌++◌, length, IfOk, IfSome, IsErrOf, MatchOption};
 ghost use Rattle.b2_log.specs.Lines.{line_end, fields_of, spelling};
 ghost use Rattle.b2_log.specs.Good.{IsGood};
-ghost use Rattle.b2_log.specs.Readings.{Begins, BeginsNone, IsReadAs};
+ghost use Rattle.b2_log.specs.Readings.{Begins, BeginsNone, Ends, IsReadAs};
 
 use crate::field::{number_at, path_at, tag_at, text_at};
 use crate::line::{Digests, LogLine, Record, ScanLine};
@@ -21,6 +21,16 @@ fn after_end(bytes: &[u8]) -> Option<&[u8]>
         [b'.', b'\n', after @ ..] => Some(after),
         _ => None,
     }
+}
+
+/// What follows the end of this line, where it is proper and its end stands first.
+fn after_line<'a>(line: &LogLine, bytes: &'a [u8]) -> Option<&'a [u8]>
+    ensures { MatchOption result ((after : List ℕ) → ¬ Ends line.now bytes.now after) (λ after. Ends line.now bytes.now after.now) }
+{
+    if !is_proper(line) {
+        return None;
+    }
+    after_end(bytes)
 }
 
 /// The record without digests whose fields stand first, and what follows them.
@@ -107,12 +117,9 @@ fn line_at(alloc: Global, bytes: &[u8]) -> Result<(LogLine, &[u8]), Refusal>
         return Err(Refusal::NotGood);
     };
     let (line, rest) = fields_at(alloc, tag, rest)?;
-    let Some(after) = after_end(rest) else {
+    let Some(after) = after_line(&line, rest) else {
         return Err(Refusal::NotGood);
     };
-    if !is_proper(&line) {
-        return Err(Refusal::NotGood);
-    }
     Ok((line, after))
 }
 

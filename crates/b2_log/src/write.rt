@@ -1,5 +1,5 @@
 //! Writes lines.
-ghost use Rattle.std.specs.Prelude.{◌≡◌, ◌++◌, length, IfOk, OnOk};
+ghost use Rattle.std.specs.Prelude.{◌≡◌, ◌≤◌, ◌++◌, length, IfOk, OnOk};
 ghost use Rattle.std.specs.List.{zip, AllByRecursion};
 ghost use Rattle.b2_log.specs.declared.line.LogLine.TheVariants as lines;
 ghost use Rattle.b2_log.specs.Lines.{escaped, field, number, stamped, digested, mark, included, counted, file_fields, line_end, tag_text, spelling};
@@ -97,6 +97,19 @@ fn push_digested_file(
     push_text(line, digest)
 }
 
+/// How many paths there are with a digest beside them.
+fn pair_count(files: &[(Path, u64)], digests: &[Text]) -> usize
+    ensures count { result ≡ length (zip files.now digests.now) }
+    ensures in_files { result ≤ length files.now }
+    ensures in_digests { result ≤ length digests.now }
+{
+    if digests.len() < files.len() {
+        digests.len()
+    } else {
+        files.len()
+    }
+}
+
 /// Appends how many paths there are, and each with its stamp and its digest. Where there are more of the ones than of the
 /// others, those that are too many are left out.
 fn push_digested(
@@ -108,7 +121,7 @@ fn push_digested(
     ensures pushes { OnOk result (line.new.items ≡ line.old.items ++ counted digested (zip files.now digests.now)) }
     ensures held { OnOk result (length digests.now ≡ length files.now → IsCounted IsStamped files.now) }
 {
-    let count = files.len().min(digests.len());
+    let count = pair_count(files, digests);
     push_number(alloc, line, count as u64)?;
     for place in 0..count {
         push_digested_file(alloc, line, &files[place], &digests[place])?;
@@ -145,7 +158,11 @@ fn push_include(line: &mut Vec<u8>, include: &(Text, bool)) -> Result<(), OutOfM
 }
 
 /// Appends how many includes there are, and each of them.
-fn push_includes(alloc: Global, line: &mut Vec<u8>, includes: &[(Text, bool)]) -> Result<(), OutOfMemory>
+fn push_includes(
+    alloc: Global,
+    line: &mut Vec<u8>,
+    includes: &[(Text, bool)],
+) -> Result<(), OutOfMemory>
     ensures pushes { OnOk result (line.new.items ≡ line.old.items ++ counted included includes.now) }
     ensures held { OnOk result (IsCounted IsIncluded includes.now) }
 {

@@ -1,5 +1,6 @@
 use Rattle.std.proofs.Common.{sym, ap, ◌∙◌, arith}
 use Rattle.std.specs.Prelude.{option_and_then}
+use Rattle.b2_log.specs.declared.subject.Subject.TheVariants as subjects
 use Rattle.b2_log.specs.Finding.{find_scan, scan_in}
 use Rattle.b2_log.proofs.Places.{untold, found_at, scan_told}
 use Rattle.b2_log.proofs.log.Log.scan.Goals as goal
@@ -10,5 +11,9 @@ returns-in_err-place c =
 
 pub index-requires : goal.index-requires
 index-requires c =
-    let f = found_at _ _ _ _ c.self.invariant (sym c.in_ok-place.ensures) in
+    let f = found_at (subjects.Scanned c.args.path.now) _ _ _ c.self.invariant (sym c.in_ok-place.ensures) in
     omega (arith, f.2.within, c.self.inside.lines.ok.0)
+
+pub returns : goal.returns
+returns c =
+    c.scan_in.ensures ∙ sym (sym (ap (λ v. find_scan c.args.path.now c.args.stamp v.lines) c.self.view_is) ∙ scan_told _ _ _ _ _ _ c.self.invariant (sym c.in_ok-place.ensures) c.index.ensures)
