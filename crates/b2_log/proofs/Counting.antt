@@ -8,7 +8,7 @@ use Rattle.std.proofs.lemmas.List.Elements.{recursion_from_All}
 use Rattle.b2_log.specs.Lines.{number}
 use Rattle.b2_log.specs.Good.{IsNumber, IsCounted}
 
--- what stands behind the line while elements are written, and that each so far is so
+-- what a line has while elements are written at its end, and that each so far is so
 pub record WrittenSo {X : Type 0} (spell : X → List ℕ) (IsSo : X → Type 0) (xs : List X) (before line : List ℕ) (i : ℕ) : Type 0 where
   pub bytes : line ≡ before ++ number (length xs) ++ flat_map spell (take i xs)
   pub each : (k : ℕ) (d : X) → k < i → IsSo (get_or xs k d)

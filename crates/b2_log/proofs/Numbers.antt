@@ -31,7 +31,7 @@ no_zero_first n first second more lt e z = elim (cases_lt 0 n) [
       omega (arith, one)
 ]
 
--- a number's text has no sign and no needless zero in front
+-- a number's text has no sign and no leading zero
 no_lead : (n : ℕ) (text : List ℕ) → n < 2 ^ 64 → text ≡ decimal n → has_lead text ≡ true → ⊥
 no_lead n [] lt e lead = false_true lead
 no_lead n (first ∷ []) lt e lead = elim (eqb_tells first 43) [

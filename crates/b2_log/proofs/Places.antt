@@ -247,11 +247,11 @@ kept_by_place log places k line indexed lt at =
     whole : log ≡ take k log ++ line ∷ drop (k + 1) log
     whole = sym (take-append-drop k log) ∙ ap (λ (w : List LogLine). take k log ++ w) (around ∙ ap (λ (l : LogLine). l ∷ drop (k + 1) log) (sym at))
 
-    front_long : length (take k log) ≡ k
-    front_long = omega (arith, length-take k log)
+    first_lines : length (take k log) ≡ k
+    first_lines = omega (arith, length-take k log)
 
     last : option_is (places (subject_of line)) k ≡ not (list_any (is_about (subject_of line)) (drop (k + 1) log))
-    last = ap (λ (n : ℕ). option_is (places (subject_of line)) n) (sym front_long) ∙ last_by_place (take k log) line (drop (k + 1) log) places (subst (λ (ls : List LogLine). IsIndexed ls places) whole indexed)
+    last = ap (λ (n : ℕ). option_is (places (subject_of line)) n) (sym first_lines) ∙ last_by_place (take k log) line (drop (k + 1) log) places (subst (λ (ls : List LogLine). IsIndexed ls places) whole indexed)
 
     same : is_kept line (drop (k + 1) log) ≡ (not (is_drop line) && option_is (places (subject_of line)) k)
     same = ap (λ (b : Bool). not (is_drop line) && b) (sym last)

@@ -1,4 +1,25 @@
-//! The lines of the action log: how they are written, and which of them a log gives back.
+//! The log of actions: how its lines are written and read, and what it tells.
+//!
+//! # The lines
+//!
+//! A line is a list of fields. A tab stands between two of them, and a line feed at the end. In a field a backslash, a tab
+//! and a line feed are written `\\`, `\t` and `\n`, and no other backslash stands. Numbers are decimal, below 2^64, without
+//! leading zeros. Paths are in normal form. Texts are UTF-8 without zero bytes.
+//!
+//! | Line | Fields |
+//! |---|---|
+//! | a record | `+1`, text, number of outputs, path and stamp of each, number of inputs, path and stamp of each, `.` |
+//! | a record with digests | `+2`, text, number of outputs, path, stamp and digest of each, number of inputs, path, stamp and digest of each, `.` |
+//! | a drop | `-1`, number of outputs, their paths, `.` |
+//! | a scan | `s1`, path, stamp, number of includes, for each of them `q` (in quotes) or `a` and its name, `.` |
+//!
+//! There is at least one output. Outputs stand in the step's order, inputs in byte order of path, each once. A digest is 64
+//! lower-case hexadecimal digits. A log is read up to its first line of another form, or without its line feed.
+//!
+//! # What a log tells
+//!
+//! The subject of a line is its list of outputs, or the path that was scanned. Of each subject the last line counts, and
+//! where that line is a drop, the log tells nothing of it. The kept lines are, in order, those that the log tells.
 #![tactic(auto)]
 
 mod field;
