@@ -1,20 +1,21 @@
-use Rattle.std.proofs.Common.{◌≡◌, ℕ, zero, suc, Bool, true, false, List, [], ◌∷◌, ◌++◌, length, inl, inr, refl, sym, subst, subst₂, append_assoc, append-nil}
+use Rattle.std.proofs.Common.{◌≡◌, ℕ, zero, suc, Bool, true, false, List, [], ◌∷◌, ◌++◌, length, inl, inr, refl, sym, subst, subst₂, ◌∙◌, Some, ◌⊎◌, append_assoc, append-nil}
 use Rattle.std.proofs.lemmas.List.Elements.{Contains-append_left}
 use Rattle.std.specs.List.{Contains}
 use Rattle.b2_host.specs.declared.children.ChildEvent.{ChildEvent}
 use Rattle.b2_host.specs.declared.children.ChildEvent.TheVariants.{Start, Done}
-use Rattle.b2_host.specs.Disks.{Disk}
+use Rattle.b2_host.specs.Disks.{Folder, Disk}
 use Rattle.b2_plan.specs.declared.step.Step.{Step}
 use Rattle.b2_plan.specs.Plans.{Makes, Apart}
 use Rattle.b2_plan.specs.Sources.{Build, IsInRoots}
 use Rattle.b2_plan.specs.Closures.{Value, Known, IsClose}
 use Rattle.b2_plan.specs.Cleans.{Val, Clean}
 use Rattle.b2_log.specs.declared.line.LogLine.{LogLine}
-use Rattle.b2_runs.specs.Staleness.{Update, IsFresh}
+use Rattle.b2_log.specs.Finding.{find_record}
+use Rattle.b2_runs.specs.Staleness.{Update, Agrees, Agrees.by_stamps, Agrees.by_digests, IsRecorded, IsFresh}
 use Rattle.b2_runs.specs.Runs.{Settled, Settled.source, Settled.done_well, Settled.fresh, on_settled, Needed, Needed.wanted, Needed.member, RunFrom, IsRunSoFar, CanStart}
 use Rattle.b2_runs.specs.Outcomes.{AllWent, IsSettledStep}
 use Rattle.b2_runs.specs.Soundness.{IsSound}
-use Rattle.b2_runs.specs.Afterwards.{at_present, next_update, Restless, Restless.always, Restless.notfile, Restless.through, IsNoted}
+use Rattle.b2_runs.specs.Afterwards.{at_present, next_update, Restless, Restless.always, Restless.notfile, Restless.through, IsNotedStep, IsMigrated, IsNoted}
 use Rattle.b2_runs.specs.AfterLaws.{SettledAfterwards, FreshAfterwards, NoneCanStartAfterwards, NothingStartsAfterwards}
 use Rattle.b2_runs.proofs.ElementLemmas.{one_step, some_element, Contains_nil}
 use Rattle.b2_runs.proofs.ClosureLaws.{known_stays, close_has, close_is_one}
@@ -22,7 +23,8 @@ use Rattle.b2_runs.proofs.ValueRounds.{source_not_made, maker_is_one, close_at}
 use Rattle.b2_runs.proofs.RoundsAreEnough.{rounds_enough}
 use Rattle.b2_runs.proofs.CleanLaws.{clean_is_one}
 use Rattle.b2_runs.proofs.StampedFiles.{stamp_of, stamped_file}
-use Rattle.b2_runs.proofs.RunLaws.{close_on_settled, same_members, started_has_closure, done_was_started, settled_has_value, start_in_start, done_in_start, start_in_done, done_in_done}
+use Rattle.b2_runs.proofs.EventLaws.{start_in_start, done_in_start, start_in_done, done_in_done}
+use Rattle.b2_runs.proofs.RunLaws.{fresh_events, close_on_settled, same_members, started_has_closure, done_was_started, settled_has_value}
 use Rattle.b2_runs.proofs.CleanBySources.{SameSources, source_to, clean_close_to, clean_from, known_from}
 use Rattle.b2_runs.proofs.JudgedByPresent.{fresh_move, settled_kept}
 use Rattle.b2_runs.proofs.SettledLaws.{log_in_roots, unstarted_kept}
@@ -54,6 +56,14 @@ pub record Judged (u : Update) (events : List ChildEvent) (next : Update) (step 
   pub inside : (member : List ℕ) (value : Value) → Contains members (member, value) → Settled u events member
   pub is_fresh : IsFresh next [] step members
 
+-- a record of the files as they stand agrees with them next time
+pub recorded_next : (u : Update) (now : Folder) (log : List LogLine) (quit : Bool) (jobs : ℕ) (step : Step) (members : List (List ℕ × Value)) → IsNotedStep u now log step members → IsRecorded (next_update u now log quit jobs) [] step members
+recorded_next u now log quit jobs step members n = record {
+  last = n.last;
+  found = n.found;
+  agrees = by_stamps (record { text = n.is_record.text; outs = n.is_record.outs; ins = n.is_record.ins; none_done = λ m y j s w c makes d. Contains_nil (Done j w) d });
+}
+
 -- a step that was done well is fresh by its record
 judge_done : (u : Update) (events : List ChildEvent) (disk : Disk) (log : List LogLine) (quit : Bool) (jobs : ℕ) → Apart u.build.steps u.build.roots → IsRunSoFar u events → IsNoted u events disk.now log
     → (i : ℕ) (step : Step) (path : List ℕ) → Makes u.build.steps i step path → Contains events (Done i true) → (Restless u.build path → ⊥) → Judged u events (next_update u disk.now log quit jobs) step
@@ -61,7 +71,7 @@ judge_done u events disk log quit jobs apart run noted i step path makes done ca
     let (members, on) = started_has_closure u events i step apart run (done_was_started u events i true run done) makes.at in
     let (close, inside) = (close_on_settled u events step members apart).0 on in
     let file : step.notfile ≡ false = is_false step.notfile (λ e. calm (notfile i step path makes e)) in
-    let r = noted.recorded i step members makes.at done file close in
+    let n = noted.recorded i step members makes.at done file close in
     record {
       members = members;
       close = close;
@@ -70,39 +80,61 @@ judge_done u events disk log quit jobs apart run noted i step path makes done ca
         not_all = refl;
         not_always = is_false step.always (λ e. calm (always i step path makes e));
         not_notfile = file;
-        stand = λ out c. let (stamp, there, has) = stamp_of disk.now step.outs r.last.outs r.outs out c in let (f, at, e) = stamped_file disk.now out stamp has in (f, at);
-        none_older = noted.none_older i step members makes.at done file close;
-        none_done = λ m y j s w c makes_m d. Contains_nil (Done j w) d;
+        stand = λ out c. let (stamp, there, has) = stamp_of disk.now step.outs n.last.outs n.is_record.outs out c in let (f, at, e) = stamped_file disk.now out stamp has in (f, at);
+        none_older = λ off. noted.none_older i step members makes.at done file close;
         none_notfile = λ m y j s c makes_m. is_false s.notfile (λ e. calm (through i step path members m y makes close c (notfile j s m makes_m e)));
-        recorded = r;
+        none_done = λ off m y j s w c makes_m d. Contains_nil (Done j w) d;
+        recorded = recorded_next u disk.now log quit jobs step members n;
       };
     }
 
--- a step that was fresh is fresh as before
+-- where no event has come yet, a step is fresh that was fresh as some came
+fresh_anew : (next : Update) (events : List ChildEvent) (step : Step) (members : List (List ℕ × Value)) → IsFresh next events step members → IsFresh next [] step members
+fresh_anew next events step members f = fresh_events next events [] step members (λ none m y j s w c makes d. absurd (Contains_nil (Done j w) d)) f
+
+-- the next update is the one by the present files, but for options that the verdict on a step which is fresh does not see
+fresh_next : (u : Update) (now : Folder) (log : List LogLine) (quit : Bool) (jobs : ℕ) (step : Step) (members : List (List ℕ × Value)) → IsFresh (at_present u now log) [] step members → IsFresh (next_update u now log quit jobs) [] step members
+fresh_next u now log quit jobs step members f = record {
+  not_all = refl;
+  not_always = f.not_always;
+  not_notfile = f.not_notfile;
+  stand = f.stand;
+  none_older = f.none_older;
+  none_notfile = f.none_notfile;
+  none_done = f.none_done;
+  recorded = record { last = f.recorded.last; found = f.recorded.found; agrees = go f.recorded.agrees };
+}
+  where
+    go : Agrees (at_present u now log) [] step members f.recorded.last → Agrees (next_update u now log quit jobs) [] step members f.recorded.last
+    go (by_stamps a) = by_stamps (record { text = a.text; outs = a.outs; ins = a.ins; none_done = a.none_done })
+    go (by_digests on a) = by_digests on (record { text = a.text; digests = a.digests; has = a.has; outs = a.outs; paths = a.paths; ins = a.ins })
+
+-- a step that was fresh is fresh as before, or by the record with digests that it got
 judge_fresh : (u : Update) (events : List ChildEvent) (disk : Disk) (log : List LogLine) (quit : Bool) (jobs : ℕ) → Apart u.build.steps u.build.roots → IsSound u events disk → IsNoted u events disk.now log
     → (i : ℕ) (step : Step) (path : List ℕ) (members : List (List ℕ × Value)) → Makes u.build.steps i step path → (Contains events (Start i) → ⊥) → IsClose u.build (Clean u.build) step members
     → ((member : List ℕ) (value : Value) → Contains members (member, value) → Settled u events member) → IsFresh u events step members → Judged u events (next_update u disk.now log quit jobs) step
 judge_fresh u events disk log quit jobs apart sound noted i step path members makes not_started close inside f =
-    let out_same : (out : List ℕ) → Contains step.outs out → disk.now out ≡ u.build.folder out = λ out c.
-    unstarted_kept u events disk apart sound i step out (record { at = makes.at; among = c }) not_started in
-    let in_same : (m : List ℕ) (y : Value) → Contains members (m, y) → disk.now m ≡ u.build.folder m = λ m y c.
-    settled_kept u events disk apart sound m (inside m y c) (λ k s well makes_m done. f.none_done m y k s well c makes_m done) in
-    let now : IsFresh (at_present u disk.now log) events step members = fresh_move u events disk.now log step members out_same in_same (noted.not_started i step makes.at not_started) f in
-    record {
-      members = members;
-      close = close;
-      inside = inside;
-      is_fresh = record {
-        not_all = refl;
-        not_always = f.not_always;
-        not_notfile = f.not_notfile;
-        stand = now.stand;
-        none_older = now.none_older;
-        none_done = λ m y j s w c makes_m d. Contains_nil (Done j w) d;
-        none_notfile = f.none_notfile;
-        recorded = now.recorded;
-      };
-    }
+    record { members = members; close = close; inside = inside; is_fresh = go (noted.not_started i step makes.at not_started) }
+  where
+    out_same : (out : List ℕ) → Contains step.outs out → disk.now out ≡ u.build.folder out
+    out_same out c = unstarted_kept u events disk apart sound i step out (record { at = makes.at; among = c }) not_started
+
+    go : (find_record step.outs log ≡ find_record step.outs u.log) ⊎ IsMigrated u events disk.now log step → IsFresh (next_update u disk.now log quit jobs) [] step members
+    go (inl says) = fresh_next u disk.now log quit jobs step members (fresh_anew (at_present u disk.now log) events step members
+        (fresh_move u events disk.now log step members out_same
+        (λ none m y c. settled_kept u events disk apart sound m (inside m y c) (λ k s well makes_m done. none m y k s well c makes_m done)) says f))
+    go (inr g) =
+        let one : g.members ≡ members = close_is_one (Clean u.build) u.build step g.members members (clean_is_one u.build apart) g.close close in
+        record {
+          not_all = refl;
+          not_always = f.not_always;
+          not_notfile = f.not_notfile;
+          stand = λ out c. let (file, at) = f.stand out c in (file, out_same out c ∙ at);
+          none_older = λ off. absurd (let e : true ≡ false = sym g.by_digest ∙ off in cc);
+          none_notfile = f.none_notfile;
+          none_done = λ off m y j s w c makes_m d. Contains_nil (Done j w) d;
+          recorded = subst (λ ms. IsRecorded (next_update u disk.now log quit jobs) [] step ms) one (recorded_next u disk.now log quit jobs step g.members g.noted);
+        }
 
 -- a step whose outputs were settled is fresh next time
 pub judge_next : (u : Update) (events : List ChildEvent) (disk : Disk) (log : List LogLine) (quit : Bool) (jobs : ℕ) → Apart u.build.steps u.build.roots → IsRunSoFar u events → IsSound u events disk → IsNoted u events disk.now log
@@ -157,7 +189,7 @@ fresh_afterwards u events disk log quit jobs i step path apart run sound noted m
     }
 
 -- a settled output has its step's closure on what is settled
-settled_closure : (u : Update) (events : List ChildEvent) → Apart u.build.steps u.build.roots → IsRunSoFar u events → (i : ℕ) (step : Step) (path : List ℕ) → Makes u.build.steps i step path → Settled u events path
+pub settled_closure : (u : Update) (events : List ChildEvent) → Apart u.build.steps u.build.roots → IsRunSoFar u events → (i : ℕ) (step : Step) (path : List ℕ) → Makes u.build.steps i step path → Settled u events path
     → (members : List (List ℕ × Value)) × IsClose u.build (on_settled u events) step members
 settled_closure u events apart run i step path makes (source p bytes s) = absurd (source_not_made u.build apart p bytes s i step makes)
 settled_closure u events apart run i step path makes (done_well k s p makes_k done) =
@@ -167,7 +199,7 @@ settled_closure u events apart run i step path makes (fresh k s p members makes_
     (members, subst (λ z. IsClose u.build (on_settled u events) z members) (maker_is_one u.build apart k i s step p makes_k makes) ((close_on_settled u events s members apart).1 close inside))
 
 -- where all went well, a needed step is settled
-needed_settled : (u : Update) (events : List ChildEvent) → AllWent u events → (i : ℕ) → Needed u events i → IsSettledStep u events i
+pub needed_settled : (u : Update) (events : List ChildEvent) → AllWent u events → (i : ℕ) → Needed u events i → IsSettledStep u events i
 needed_settled u events went i needed = elim (went.none_stuck i needed) [
   | inl done ↦ done
   | inr (inl bad) ↦ absurd (went.none_failed i bad)
@@ -200,16 +232,7 @@ Begun later = (i : ℕ) (well : Bool) → Contains later (Done i well) → Conta
 -- a step that is fresh before any event is fresh while no other such step was started
 fresh_later : (next : Update) (b : Build) (later : List ChildEvent) (i : ℕ) (step : Step) (path : List ℕ) (members : List (List ℕ × Value)) → Begun later → ((k : ℕ) (other : Step) (out : List ℕ) → Makes next.build.steps k other out → (Restless b out → ⊥) → Contains later (Start k) → ⊥)
     → ((member : List ℕ) (value : Value) → Contains members (member, value) → Restless b member → ⊥) → IsFresh next [] step members → IsFresh next later step members
-fresh_later next b later i step path members begun none calm f = record {
-  not_all = f.not_all;
-  not_always = f.not_always;
-  not_notfile = f.not_notfile;
-  stand = f.stand;
-  none_older = f.none_older;
-  none_done = λ m y k other well c makes d. none k other m makes (calm m y c) (begun k well d);
-  none_notfile = f.none_notfile;
-  recorded = f.recorded;
-}
+fresh_later next b later i step path members begun none calm f = fresh_events next [] later step members (λ was m y k other well c makes d. none k other m makes (calm m y c) (begun k well d)) f
 
 -- where none was started so far, none can start
 calm_waits : (u : Update) (events later : List ChildEvent) (disk : Disk) (log : List LogLine) (quit : Bool) (jobs : ℕ) (i : ℕ) (step : Step) (path : List ℕ) → Apart u.build.steps u.build.roots → IsRunSoFar u events → IsSound u events disk → IsNoted u events disk.now log → AllWent u events

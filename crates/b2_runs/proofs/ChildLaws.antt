@@ -8,13 +8,15 @@ use Rattle.b2_host.specs.ChildProcesses.{Child, read_at, read_all}
 use Rattle.b2_plan.specs.Plans.{Apart, Makes, step_at}
 use Rattle.b2_plan.specs.Closures.{Value, with_bytes}
 use Rattle.b2_runs.specs.Staleness.{Update, IsFresh, path_in, paths_with_bytes}
-use Rattle.b2_runs.specs.Runs.{Settled, Settled.source, Settled.done_well, Settled.fresh, IsOpen, CanStart, IsRunSoFar, started, IsFed}
+use Rattle.b2_runs.specs.Events.{IsOpen, started}
+use Rattle.b2_runs.specs.Runs.{Settled, Settled.source, Settled.done_well, Settled.fresh, CanStart, IsRunSoFar, IsFed}
 use Rattle.b2_runs.specs.Soundness.{IsAtWork}
 use Rattle.b2_runs.specs.ChildLaws.{start_gives, StartIsFed, StartMayBegin, AtWorkAtEntry, AtWorkAfterStart, AtWorkAfterEnd, EndIsOpen, FedAfterStart, FedAfterEnd}
 use Rattle.b2_runs.proofs.ElementLemmas.{one_step, Contains_here, Contains_there, Contains_nil}
 use Rattle.b2_runs.proofs.StampedFiles.{with_bytes_in, path_in_back}
 use Rattle.b2_runs.proofs.SettledLaws.{settled_holds}
-use Rattle.b2_runs.proofs.RunLaws.{start_in_start, done_in_start, start_in_done, done_in_done, close_on_settled, started_has_closure, done_was_started, open_not_settled, same_members}
+use Rattle.b2_runs.proofs.EventLaws.{start_in_start, done_in_start, start_in_done, done_in_done}
+use Rattle.b2_runs.proofs.RunLaws.{close_on_settled, started_has_closure, done_was_started, open_not_settled, same_members}
 use Rattle.b2_runs.proofs.SoundLaws.{contains_at}
 use Rattle.b2_runs.proofs.TakenOut.{pairs_append, TakenOut, removed_at}
 

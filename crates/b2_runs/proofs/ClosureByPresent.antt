@@ -9,12 +9,12 @@ use Rattle.b2_plan.specs.Cleans.{Clean, value_of}
 use Rattle.b2_runs.specs.Staleness.{Update}
 use Rattle.b2_runs.specs.Runs.{Settled, Settled.source, Settled.done_well, Settled.fresh, on_settled, IsRunSoFar}
 use Rattle.b2_runs.specs.Soundness.{Holds, IsSound}
-use Rattle.b2_runs.specs.AfterLaws.{seen, seen_settled, SeenIsClean, ClosureByPresent}
+use Rattle.b2_runs.specs.AfterLaws.{seen, seen_settled, SeenIsClean, ClosureByPresent, KnownByPresent}
 use Rattle.b2_runs.proofs.ValueRounds.{source_not_made, maker_is_one}
 use Rattle.b2_runs.proofs.CleanLaws.{clean_is_one, clean_is_made}
 use Rattle.b2_runs.proofs.SettledLaws.{source_clean, source_kept, settled_holds}
 use Rattle.b2_runs.proofs.RunLaws.{close_on_settled, started_has_closure, done_was_started, settled_has_value}
-use Rattle.b2_runs.proofs.CleanBySources.{close_to}
+use Rattle.b2_runs.proofs.CleanBySources.{known_to, close_to}
 use Rattle.b2_runs.proofs.AfterLaws.{same_sources}
 
 -- A settled path that a step makes has the value that the step makes of its closure.
@@ -85,4 +85,13 @@ closure_by_present u events disk step members apart run sound =
     let here : (path : List ℕ) (value : Value) → seen_settled u events disk.now path value → on_settled u events path value = λ p x. (seen_is_clean u events disk p x apart run sound).1 in (
       λ close. close_to (record u.build { folder = disk.now }) u.build.folder (λ path outside. sym (same path outside)) (seen_settled u events disk.now) (on_settled u events) here there step members close,
       λ close. close_to u.build disk.now same (on_settled u events) (seen_settled u events disk.now) there here step members close,
+    )
+
+pub known_by_present : KnownByPresent
+known_by_present u events disk step path apart run sound =
+    let same = same_sources u events disk apart sound in
+    let there : (path : List ℕ) (value : Value) → on_settled u events path value → seen_settled u events disk.now path value = λ p x. (seen_is_clean u events disk p x apart run sound).0 in
+    let here : (path : List ℕ) (value : Value) → seen_settled u events disk.now path value → on_settled u events path value = λ p x. (seen_is_clean u events disk p x apart run sound).1 in (
+      λ known. known_to (record u.build { folder = disk.now }) u.build.folder (λ path outside. sym (same path outside)) (seen_settled u events disk.now) (on_settled u events) here step path known,
+      λ known. known_to u.build disk.now same (on_settled u events) (seen_settled u events disk.now) there step path known,
     )

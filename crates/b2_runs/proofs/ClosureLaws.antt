@@ -4,7 +4,7 @@ use Rattle.std.specs.Cmp.Lexicographic.{slice_cmp, nat_list_cmp_total}
 use Rattle.b2_plan.specs.declared.step.Step.{Step}
 use Rattle.b2_plan.specs.Sources.{Build}
 use Rattle.b2_plan.specs.Closures.{Value, Values, Known, Known.input, Known.include, Before, IsClose}
-use Rattle.b2_runs.specs.ClosureLaws.{Extends, IsMap, KnownGrows, CloseStays, CloseIsOne}
+use Rattle.b2_runs.specs.ClosureLaws.{Extends, IsMap, KnownGrows, CloseStays, CloseIsOne, KnownIsLocal, CloseIsLocal}
 use Rattle.b2_runs.proofs.ElementLemmas.{same_ordered}
 
 -- more known values leave no less known
@@ -63,3 +63,30 @@ close_is_one v b step xs ys one p q =
         let (k, h) = p.each path x c in
         let (y, d) = q.whole path k in
         subst (λ z. Contains ys (path, z)) (one path y x (q.each path y d).1 h) d
+
+-- what is known by values that agree on it
+known_there : (v other : Values) (b : Build) (step : Step) → ((p : List ℕ) (value : Value) → Known b v step p → v p value → other p value) → (path : List ℕ) → Known b v step path → Known b other step path
+known_there v other b step there path (input p c) = input p c
+known_there v other b step there path (include p bytes found k says inc) = include p bytes found (known_there v other b step there p k) (there p (Some bytes) k says) inc
+
+known_here : (v other : Values) (b : Build) (step : Step) → ((p : List ℕ) (value : Value) → Known b v step p → other p value → v p value) → (path : List ℕ) → Known b other step path → Known b v step path
+known_here v other b step here path (input p c) = input p c
+known_here v other b step here path (include p bytes found k says inc) = let known = known_here v other b step here p k in include p bytes found known (here p (Some bytes) known says) inc
+
+-- what is known depends on the values of what is known alone
+pub known_is_local : (v other : Values) → KnownIsLocal v other
+known_is_local v other b step path agree = (known_there v other b step (λ p x k. (agree p x k).0) path, known_here v other b step (λ p x k. (agree p x k).1) path)
+
+pub close_is_local : (v other : Values) → CloseIsLocal v other
+close_is_local v other b step members agree = (
+  λ close. record {
+    ordered = close.ordered;
+    each = λ path x c. let (k, h) = close.each path x c in (known_there v other b step (λ p y j. (agree p y j).0) path k, (agree path x k).0 h);
+    whole = λ path k. close.whole path (known_here v other b step (λ p y j. (agree p y j).1) path k);
+  },
+  λ close. record {
+    ordered = close.ordered;
+    each = λ path x c. let (k, h) = close.each path x c in let known = known_here v other b step (λ p y j. (agree p y j).1) path k in (known, (agree path x known).1 h);
+    whole = λ path k. close.whole path (known_there v other b step (λ p y j. (agree p y j).0) path k);
+  },
+)

@@ -21,7 +21,7 @@ record Inserted (path : List ℕ) (value : Value) (members : List (List ℕ × V
   kept : (p : List ℕ) (x : Value) → Contains members (p, x) → Contains list (p, x)
   inside : (x : Value) × Contains list (path, x)
 
-pairs_cons : (m : List ℕ × Value) (ms : List (List ℕ × Value)) → ((n : List ℕ × Value) → Contains ms n → Sooner m n) → AllPairs Sooner ms → AllPairs Sooner (m ∷ ms)
+pub pairs_cons : (m : List ℕ × Value) (ms : List (List ℕ × Value)) → ((n : List ℕ × Value) → Contains ms n → Sooner m n) → AllPairs Sooner ms → AllPairs Sooner (m ∷ ms)
 pairs_cons m ms first rest = AllPairs-cons Sooner m ms (All-weaker (Contains ms) (Sooner m) first ms (All-contains_itself ms)) rest
 
 insert_into : (path : List ℕ) (value : Value) (members : List (List ℕ × Value)) → AllPairs Sooner members → Inserted path value members

@@ -8,34 +8,23 @@ use Rattle.b2_plan.specs.Plans.{Makes, Apart}
 use Rattle.b2_plan.specs.Closures.{Value, with_bytes}
 use Rattle.b2_log.specs.declared.line.LogLine.{LogLine}
 use Rattle.b2_log.specs.Finding.{find_record}
-use Rattle.b2_runs.specs.Staleness.{Update, IsRecorded, NoneOlder, IsFresh, paths_with_bytes}
+use Rattle.b2_runs.specs.Staleness.{Update, NoneOlder, NoneDone, Agrees, Agrees.by_stamps, Agrees.by_digests, IsFresh, paths_with_bytes}
 use Rattle.b2_runs.specs.Runs.{Settled, Settled.source, Settled.done_well, Settled.fresh}
 use Rattle.b2_runs.specs.Soundness.{IsSound}
 use Rattle.b2_runs.specs.Afterwards.{at_present}
 use Rattle.b2_runs.specs.AfterLaws.{JudgedByPresent}
-use Rattle.b2_runs.proofs.StampedFiles.{stamped_move, path_in_back, with_bytes_in}
+use Rattle.b2_runs.proofs.StampedFiles.{stamped_move, digested_move, path_in_back, with_bytes_in}
 use Rattle.b2_runs.proofs.SettledLaws.{source_kept, unstarted_kept}
-
--- a record of files that stand as before is one still, by a log that says the same
-pub recorded_move : (old new : Folder) (log later : List LogLine) (step : Step) (members : List (List ℕ × Value)) → ((out : List ℕ) → Contains step.outs out → new out ≡ old out) → ((member : List ℕ) (value : Value) → Contains members (member, value) → new member ≡ old member)
-    → find_record step.outs later ≡ find_record step.outs log → IsRecorded old log step members → IsRecorded new later step members
-recorded_move old new log later step members outs ins says r = record {
-  last = r.last;
-  found = says ∙ r.found;
-  text = r.text;
-  outs = stamped_move old new step.outs r.last.outs outs r.outs;
-  ins = stamped_move old new (paths_with_bytes members) r.last.ins
-      (λ p c. let (bytes, d) = path_in_back (with_bytes members) p c in ins p (Some bytes) (with_bytes_in members p bytes d)) r.ins;
-}
 
 pub none_older_move : (old new : Folder) (step : Step) (members : List (List ℕ × Value)) → ((out : List ℕ) → Contains step.outs out → new out ≡ old out) → ((member : List ℕ) (value : Value) → Contains members (member, value) → new member ≡ old member)
     → NoneOlder old step members → NoneOlder new step members
 none_older_move old new step members outs ins n out m x p q co cm at_p at_q = n out m x p q co cm (sym (outs out co) ∙ at_p) (sym (ins m x cm) ∙ at_q)
 
--- a step is judged alike where its outputs and members stand as before, and the log says the same of it
+-- a step is judged alike where its outputs stand as before, its members too unless a step that is done makes one, and the log
+-- says the same of it
 pub fresh_move : (u : Update) (events : List ChildEvent) (new : Folder) (later : List LogLine) (step : Step) (members : List (List ℕ × Value))
     → ((out : List ℕ) → Contains step.outs out → new out ≡ u.build.folder out)
-    → ((member : List ℕ) (value : Value) → Contains members (member, value) → new member ≡ u.build.folder member)
+    → (NoneDone u events members → (member : List ℕ) (value : Value) → Contains members (member, value) → new member ≡ u.build.folder member)
     → find_record step.outs later ≡ find_record step.outs u.log
     → IsFresh u events step members → IsFresh (at_present u new later) events step members
 fresh_move u events new later step members outs ins says f = record {
@@ -43,11 +32,28 @@ fresh_move u events new later step members outs ins says f = record {
   not_always = f.not_always;
   not_notfile = f.not_notfile;
   stand = λ out c. let (file, at) = f.stand out c in (file, outs out c ∙ at);
-  none_older = none_older_move u.build.folder new step members outs ins f.none_older;
-  none_done = f.none_done;
+  none_older = λ off. none_older_move u.build.folder new step members outs (ins (f.none_done off)) (f.none_older off);
   none_notfile = f.none_notfile;
-  recorded = recorded_move u.build.folder new u.log later step members outs ins says f.recorded;
+  none_done = f.none_done;
+  recorded = record { last = f.recorded.last; found = says ∙ f.recorded.found; agrees = go f.recorded.agrees };
 }
+  where
+    go : Agrees u events step members f.recorded.last → Agrees (at_present u new later) events step members f.recorded.last
+    go (by_stamps a) = by_stamps (record {
+      text = a.text;
+      outs = stamped_move u.build.folder new step.outs f.recorded.last.outs outs a.outs;
+      ins = stamped_move u.build.folder new (paths_with_bytes members) f.recorded.last.ins
+          (λ p c. let (bytes, d) = path_in_back (with_bytes members) p c in ins a.none_done p (Some bytes) (with_bytes_in members p bytes d)) a.ins;
+      none_done = a.none_done;
+    })
+    go (by_digests on a) = by_digests on (record {
+      text = a.text;
+      digests = a.digests;
+      has = a.has;
+      outs = digested_move u.digest u.build.folder new step.outs a.digests.outs outs a.outs;
+      paths = a.paths;
+      ins = a.ins;
+    })
 
 -- a settled path that no step which is done makes stands as at entry
 pub settled_kept : (u : Update) (events : List ChildEvent) (disk : Disk) → Apart u.build.steps u.build.roots → IsSound u events disk → (path : List ℕ) → Settled u events path
@@ -59,13 +65,12 @@ settled_kept u events disk apart sound path (fresh i step p members makes not_st
 -- judging by the present files is judging by those at entry
 pub judged_by_present : JudgedByPresent
 judged_by_present u events disk log i step members apart sound says at not_started settled = (
-  λ f. fresh_move (at_present u disk.now log) events u.build.folder u.log step members (λ out c. sym (out_same out c)) (λ m x c. sym (in_same f.none_done m x c)) (sym says) f,
-  λ f. fresh_move u events disk.now log step members out_same (in_same f.none_done) says f,
+  λ f. fresh_move (at_present u disk.now log) events u.build.folder u.log step members (λ out c. sym (out_same out c)) (λ none m x c. sym (in_same none m x c)) (sym says) f,
+  λ f. fresh_move u events disk.now log step members out_same in_same says f,
 )
   where
     out_same : (out : List ℕ) → Contains step.outs out → disk.now out ≡ u.build.folder out
     out_same out c = unstarted_kept u events disk apart sound i step out (record { at = at; among = c }) not_started
 
-    in_same : ((member : List ℕ) (value : Value) (k : ℕ) (other : Step) (well : Bool) → Contains members (member, value) → Makes u.build.steps k other member → Contains events (Done k well) → ⊥)
-        → (member : List ℕ) (value : Value) → Contains members (member, value) → disk.now member ≡ u.build.folder member
-    in_same none_done m x c = settled_kept u events disk apart sound m (settled m x c) (λ k s well makes done. none_done m x k s well c makes done)
+    in_same : NoneDone u events members → (member : List ℕ) (value : Value) → Contains members (member, value) → disk.now member ≡ u.build.folder member
+    in_same none m x c = settled_kept u events disk apart sound m (settled m x c) (λ k s well makes done. none m x k s well c makes done)

@@ -1,4 +1,4 @@
-use Rattle.std.proofs.Common.{◌≡◌, ◌⊎◌, ℕ, zero, suc, ◌+◌, ◌-◌, ◌<◌, ◌≤◌, Bool, true, false, cond, List, [], ◌∷◌, ◌++◌, length, inl, inr, refl, sym, ap, subst, ◌∙◌, append_assoc, append-nil, length-append, arith, None}
+use Rattle.std.proofs.Common.{◌≡◌, ◌⊎◌, ℕ, zero, suc, ◌+◌, ◌-◌, ◌<◌, ◌≤◌, Bool, true, false, cond, List, [], ◌∷◌, ◌++◌, length, inl, inr, refl, sym, ap, subst, ◌∙◌, append_assoc, append-nil, length-append, arith, None, option_and_then}
 use Rattle.std.specs.Prelude.{option_map}
 use Rattle.std.specs.List.{Contains, AllByRecursion}
 use Rattle.std.proofs.lemmas.Bool.{cases_lt}
@@ -11,14 +11,15 @@ use Rattle.b2_log.specs.declared.line.LogLine.TheVariants as lines
 use Rattle.b2_log.specs.Lines.{spelling, log_bytes}
 use Rattle.b2_log.specs.Good.{IsGood}
 use Rattle.b2_log.specs.Readings.{Begins, IsReading}
-use Rattle.b2_log.specs.Finding.{is_kept, find_record, kept}
-use Rattle.b2_log.proofs.Wholes.{line_long, line_shorter}
+use Rattle.b2_log.specs.declared.subject.Subject.{Subject}
+use Rattle.b2_log.specs.declared.subject.Subject.TheVariants as subjects
+use Rattle.b2_log.specs.Finding.{is_kept, told, record_in, find_record, kept}
+use Rattle.b2_log.proofs.WholeLines.{line_long, line_shorter}
 use Rattle.b2_log.proofs.Parts.{ReadSo}
 use Rattle.b2_log.proofs.ReadLogs.{one_spelling, one_reading, read_back, torn_line, reading_whole, reading_ends}
-use Rattle.b2_log.proofs.KeptLogs as kept_logs
-use Rattle.b2_runs.specs.Logs.{LogTrue}
+use Rattle.b2_log.proofs.KeptLines.{kept_again}
+use Rattle.b2_runs.specs.Logs.{Making, LogTrue}
 use Rattle.b2_runs.specs.LogFiles.{log_limit, IsLogOf, IsLogOf.is_read, IsLogOf.is_large, IsLogHeld}
-use Rattle.b2_runs.specs.LogLaws.{Makings}
 use Rattle.b2_runs.specs.LogFileLaws.{FileIsOneLog, FileIsSomeLog, ReadFileTells, TrueFileTells, EmptyFileIsTrue, FileTrueAsPastGrows, TrueFront, TrueWithSpelling, TrueWithTornSpelling, TrueOfKept, AppendAdds, TornAppendLeaves, TornTellsOthers, KeptTellsSame, ReadTellsLog, TrueByFile, TrueWhereMissing, TrueWhereStill}
 use Rattle.b2_runs.proofs.ElementLemmas.{Contains_here, Contains_there, Contains_cases, Contains_nil}
 use Rattle.b2_runs.proofs.LogLaws as logs
@@ -43,9 +44,9 @@ file_is_one_log bytes log other (is_large above e) (is_read m within s) = absurd
 file_is_one_log bytes log other (is_large above e) (is_large more f) = e ∙ sym f
 
 -- good lines that were read, and one more
-one_more : (bytes : List ℕ) (log : List LogLine) (line : LogLine) (rest behind : List ℕ) → ReadSo spelling IsGood bytes log rest (length log) → Begins spelling IsGood rest line behind → ReadSo spelling IsGood bytes (log ++ line ∷ []) behind (length (log ++ line ∷ []))
-one_more bytes log line rest behind r b = record {
-  split = r.split ∙ ap (λ (w : List ℕ). log_bytes log ++ w) b.split ∙ sym (append_assoc (log_bytes log) (spelling line) behind) ∙ ap (λ (w : List ℕ). w ++ behind) (sym whole);
+one_more : (bytes : List ℕ) (log : List LogLine) (line : LogLine) (rest after : List ℕ) → ReadSo spelling IsGood bytes log rest (length log) → Begins spelling IsGood rest line after → ReadSo spelling IsGood bytes (log ++ line ∷ []) after (length (log ++ line ∷ []))
+one_more bytes log line rest after r b = record {
+  split = r.split ∙ ap (λ (w : List ℕ). log_bytes log ++ w) b.split ∙ sym (append_assoc (log_bytes log) (spelling line) after) ∙ ap (λ (w : List ℕ). w ++ after) (sym whole);
   each = more_good log r.each;
   count = refl;
 }
@@ -62,7 +63,7 @@ some_reading : (bytes : List ℕ) → ((log : List LogLine) (good : ℕ) → IsR
 some_reading bytes none zero log rest short r = omega (arith, short)
 some_reading bytes none (suc n) log rest short r =
     none log (length bytes - length rest)
-    (reading_ends bytes log rest (length log) (length bytes - length rest) r (λ line behind b. some_reading bytes none n (log ++ line ∷ []) behind (omega (arith, short, line_shorter rest line behind b)) (one_more bytes log line rest behind r b)) refl)
+    (reading_ends bytes log rest (length log) (length bytes - length rest) r (λ line after b. some_reading bytes none n (log ++ line ∷ []) after (omega (arith, short, line_shorter rest line after b)) (one_more bytes log line rest after r b)) refl)
 
 pub file_is_some_log : FileIsSomeLog
 file_is_some_log bytes none = elim (cases_lt log_limit (length bytes)) [
@@ -74,41 +75,41 @@ pub read_file_tells : ReadFileTells
 read_file_tells bytes log outs told is = (λ t. ap (find_record outs) (file_is_one_log bytes log t.0 is t.1) ∙ t.2, λ e. (log, is, e))
 
 pub true_file_tells : TrueFileTells
-true_file_tells made past bytes outs r whole t =
+true_file_tells m past bytes outs r whole t =
     let there = logs.found_is_there outs t.0 r t.2 in
     (whole t.0 t.1 (lines.Record r) there.0, there.1)
 
 -- no lines are true
-none_true : (made : Makings) (past : List Past) (log : List LogLine) → log ≡ [] → LogTrue made past log
-none_true made past log e = subst (LogTrue made past) (sym e) (logs.empty_is_true made past)
+none_true : (m : Making) (past : List Past) (log : List LogLine) → log ≡ [] → LogTrue m past log
+none_true m past log e = subst (LogTrue m past) (sym e) (logs.empty_is_true m past)
 
 -- any first bytes of a file whose lines are true are a true file
 pub true_front : TrueFront
-true_front made past front rest log good r whole xs (is_large above e) = none_true made past xs e
-true_front made past front rest log good r whole xs (is_read n within f) = λ line c.
+true_front m past front rest log good r whole xs (is_large above e) = none_true m past xs e
+true_front m past front rest log good r whole xs (is_read n within f) = λ line c.
     let split : front ++ rest ≡ log_bytes xs ++ (f.rest ++ rest) = ap (λ (w : List ℕ). w ++ rest) f.split ∙ append_assoc (log_bytes xs) f.rest rest in
     let long = r.longest xs (f.rest ++ rest) f.each split in
     whole line (lines_among xs log (f.rest ++ rest) r.rest f.each r.each (sym split ∙ r.split) (omega (arith, long, r.measure)) line c)
 
 pub empty_file_is_true : EmptyFileIsTrue
-empty_file_is_true made past = true_front made past [] [] [] 0 (reading_whole [] tt) (logs.empty_is_true made past)
+empty_file_is_true m past = true_front m past [] [] [] 0 (reading_whole [] tt) (logs.empty_is_true m past)
 
 pub file_true_as_past_grows : FileTrueAsPastGrows
-file_true_as_past_grows made past more bytes grows whole log is = logs.true_as_past_grows made past more log grows (whole log is)
+file_true_as_past_grows m past more bytes grows whole log is = logs.true_as_past_grows m past more log grows (whole log is)
 
 -- what a torn append leaves of a true file is true
 pub true_with_torn_spelling : TrueWithTornSpelling
-true_with_torn_spelling made past bytes log line part missing r whole good t split xs (is_large above e) = none_true made past xs e
-true_with_torn_spelling made past bytes log line part missing r whole good t split xs (is_read n within f) =
+true_with_torn_spelling m past bytes log line part missing r whole good t split xs (is_large above e) = none_true m past xs e
+true_with_torn_spelling m past bytes log line part missing r whole good t split xs (is_read n within f) =
     let before : length bytes ≤ log_limit = omega (arith, within, length-append bytes part) in
     let all : bytes ++ spelling line ≡ (bytes ++ part) ++ missing = ap (λ (w : List ℕ). bytes ++ w) split ∙ sym (append_assoc bytes part missing) in
-    true_front made past (bytes ++ part) missing (log ++ line ∷ []) (length bytes + length (spelling line))
+    true_front m past (bytes ++ part) missing (log ++ line ∷ []) (length bytes + length (spelling line))
     (subst (λ (w : List ℕ). IsReading w (log ++ line ∷ []) (length bytes + length (spelling line))) all (read_back bytes log line r good))
-    (logs.true_with_line made past log line (whole log (is_read (length bytes) before r)) t)
+    (logs.true_with_line m past log line (whole log (is_read (length bytes) before r)) t)
     xs (is_read n within f)
 
 pub true_with_spelling : TrueWithSpelling
-true_with_spelling made past bytes log line r whole good t = true_with_torn_spelling made past bytes log line (spelling line) [] r whole good t (sym (append-nil (spelling line)))
+true_with_spelling m past bytes log line r whole good t = true_with_torn_spelling m past bytes log line (spelling line) [] r whole good t (sym (append-nil (spelling line)))
 
 -- what is kept is among the lines
 kept_if : (b : Bool) (line : LogLine) (later : List LogLine) (x : LogLine) → Contains (cond b (line ∷ kept later) (kept later)) x → (line ≡ x) ⊎ Contains (kept later) x
@@ -122,11 +123,24 @@ kept_among (line ∷ later) x c = elim (kept_if (is_kept line later) line later 
   | inr d ↦ Contains_there line x later (kept_among later x d)
 ]
 
+-- good lines that are kept are good
+kept_good_if : (b : Bool) (line : LogLine) (later : List LogLine) → IsGood line → AllByRecursion IsGood (kept later) → AllByRecursion IsGood (cond b (line ∷ kept later) (kept later))
+kept_good_if true line later g rest = (g, rest)
+kept_good_if false line later g rest = rest
+
+pub kept_good : (log : List LogLine) → AllByRecursion IsGood log → AllByRecursion IsGood (kept log)
+kept_good [] each = each
+kept_good (line ∷ later) each = kept_good_if (is_kept line later) line later each.0 (kept_good later each.1)
+
+-- what is kept tells the same
+pub kept_told : (log : List LogLine) (subject : Subject) → told subject (kept log) ≡ told subject log
+kept_told log subject = (kept_again log).told_same subject
+
 pub true_of_kept : TrueOfKept
-true_of_kept made past bytes log good part missing r whole split =
-    true_front made past part missing (kept log) (length (log_bytes (kept log)))
-    (subst (λ (w : List ℕ). IsReading w (kept log) (length (log_bytes (kept log)))) split (kept_logs.kept_again log r.each).read)
-    (logs.true_with_fewer made past log (kept log) (kept_among log) whole)
+true_of_kept m past bytes log good part missing r whole split =
+    true_front m past part missing (kept log) (length (log_bytes (kept log)))
+    (subst (λ (w : List ℕ). IsReading w (kept log) (length (log_bytes (kept log)))) split (reading_whole (kept log) (kept_good log r.each)))
+    (logs.true_with_fewer m past log (kept log) (kept_among log) whole)
 
 -- one line more
 pub append_adds : AppendAdds
@@ -164,7 +178,7 @@ torn_tells_others bytes log line part missing outs told r good split within diff
     same lines_after is = logs.others_unsaid_though_torn outs log lines_after line (elim (torn_append_leaves bytes log lines_after line part missing r good split within is) [ inl whole ↦ inr whole.1 | inr torn ↦ inl torn.1 ]) differ
 
 -- the kept lines are no longer than all
-kept_shorter : (log : List LogLine) → length (log_bytes (kept log)) ≤ length (log_bytes log)
+pub kept_shorter : (log : List LogLine) → length (log_bytes (kept log)) ≤ length (log_bytes log)
 kept_shorter [] = omega arith
 kept_shorter (line ∷ later) = go (is_kept line later) (kept_shorter later)
   where
@@ -173,11 +187,11 @@ kept_shorter (line ∷ later) = go (is_kept line later) (kept_shorter later)
     go false less = omega (arith, less, length-append (spelling line) (log_bytes later))
 
 -- the lines that a file counts as are good, and within the limit
-record IsWithin (log : List LogLine) : Type 0 where
-  each : AllByRecursion IsGood log
-  size : length (log_bytes log) ≤ log_limit
+pub record IsWithin (log : List LogLine) : Type 0 where
+  pub each : AllByRecursion IsGood log
+  pub size : length (log_bytes log) ≤ log_limit
 
-within_limit : (bytes : List ℕ) (log : List LogLine) → IsLogOf bytes log → IsWithin log
+pub within_limit : (bytes : List ℕ) (log : List LogLine) → IsLogOf bytes log → IsWithin log
 within_limit bytes log (is_read good within r) = record { each = r.each; size = omega (arith, within, ap length r.split, length-append (log_bytes log) r.rest) }
 within_limit bytes log (is_large above e) = subst IsWithin (sym e) (record { each = tt; size = omega arith })
 
@@ -185,7 +199,7 @@ within_limit bytes log (is_large above e) = subst IsWithin (sym e) (record { eac
 kept_log : (bytes : List ℕ) (log : List LogLine) → IsLogOf bytes log → IsLogOf (log_bytes (kept log)) (kept log)
 kept_log bytes log is =
     let w = within_limit bytes log is in
-    is_read (length (log_bytes (kept log))) (omega (arith, w.size, kept_shorter log)) (kept_logs.kept_again log w.each).read
+    is_read (length (log_bytes (kept log))) (omega (arith, w.size, kept_shorter log)) (reading_whole (kept log) (kept_good log w.each))
 
 pub kept_tells_same : KeptTellsSame
 kept_tells_same bytes log outs told is = (
@@ -194,7 +208,7 @@ kept_tells_same bytes log outs told is = (
 )
   where
     found : find_record outs (kept log) ≡ find_record outs log
-    found = (kept_logs.kept_again log (within_limit bytes log is).each).found outs
+    found = ap (option_and_then record_in) (kept_told log (subjects.Outputs outs))
 
 -- what a read tells of the log's lines
 pub read_tells_log : ReadTellsLog
@@ -220,10 +234,10 @@ read_tells_log folder (answers.TooBig size) log told = (
 
 -- the log on a disk
 pub true_by_file : TrueByFile
-true_by_file made disk bytes at = (λ t log is. t log (subst (λ o. IsLogHeld o log) (sym at) is), λ t log is. t log (subst (λ o. IsLogHeld o log) at is))
+true_by_file m disk bytes at = (λ t log is. t log (subst (λ o. IsLogHeld o log) (sym at) is), λ t log is. t log (subst (λ o. IsLogHeld o log) at is))
 
 pub true_where_missing : TrueWhereMissing
-true_where_missing made disk none log is = none_true made disk.past log (subst (λ o. IsLogHeld o log) none is)
+true_where_missing m disk none log is = none_true m disk.past log (subst (λ o. IsLogHeld o log) none is)
 
 pub true_where_still : TrueWhereStill
-true_where_still made before after still grows t log is = logs.true_as_past_grows made before.past after.past log grows (t log (subst (λ o. IsLogHeld o log) still is))
+true_where_still m before after still grows t log is = logs.true_as_past_grows m before.past after.past log grows (t log (subst (λ o. IsLogHeld o log) still is))

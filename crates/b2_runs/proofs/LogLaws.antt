@@ -1,121 +1,141 @@
-use Rattle.std.proofs.Common.{◌≡◌, ℕ, Bool, true, false, List, [], ◌∷◌, ◌++◌, inl, inr, refl, sym, ap, subst, ◌∙◌, Option, Some, None, map, reverse, find, option_and_then, cond}
+use Rattle.std.proofs.Common.{◌≡◌, ◌==◌, ℕ, Bool, true, false, List, [], ◌∷◌, ◌++◌, inl, inr, refl, sym, ap, subst, ◌∙◌, Option, Some, None, map, option_and_then, if◌then◌else◌, eqb-true}
 use Rattle.std.specs.List.{Contains, AllZip}
-use Rattle.std.proofs.lemmas.List.{reverse-append}
 use Rattle.std.proofs.lemmas.List.Elements.{Contains-push_cases, Contains-append_left}
-use Rattle.std.proofs.lemmas.Slice.Eq.{slice_eq-Decides, bytes_eq-Decides}
 use Rattle.b2_host.specs.Disks.{Past}
 use Rattle.b2_log.specs.declared.line.Record.{Record}
+use Rattle.b2_log.specs.declared.line.ScanLine.{ScanLine}
 use Rattle.b2_log.specs.declared.line.LogLine.{LogLine}
 use Rattle.b2_log.specs.declared.line.LogLine.TheVariants as lines
-use Rattle.b2_log.specs.Finding.{path_of, outs_of, paths_eq, record_in, last_line, find_record}
-use Rattle.b2_runs.specs.Logs.{InputStood, IsTrueRecord, IsTrueLine, LogTrue}
-use Rattle.b2_runs.specs.LogLaws.{Makings, FoundIsThere, LastWord, OthersUnsaid, OthersUnsaidThoughTorn, EmptyIsTrue, TrueAsPastGrows, TrueWithRecord, TrueWithDrop, TruePrefix, TrueAfterTornAppend, TrueWithFewer}
-use Rattle.b2_runs.proofs.ElementLemmas.{Contains_here, Contains_there, Contains_nil}
+use Rattle.b2_log.specs.declared.subject.Subject.{Subject}
+use Rattle.b2_log.specs.declared.subject.Subject.TheVariants as subjects
+use Rattle.b2_log.specs.Finding.{path_of, subject_of, told, record_in, scan_in, find_record}
+use Rattle.b2_log.proofs.LastLines as telling
+use Rattle.b2_runs.specs.Logs.{Making, InputStood, IsTrueRecord, IsTrueScan, IsTrueLine, LogTrue}
+use Rattle.b2_runs.specs.LogLaws.{FoundIsThere, ScanIsThere, LastRecord, LastDrop, OthersUnsaid, OthersUnsaidThoughTorn, TrueByKind, EmptyIsTrue, LineTrueAsPastGrows, TrueAsPastGrows, TrueWithLine, TruePrefix, TrueAfterTornAppend, TrueWithFewer, ScansTrueWithLine, ScansTrueAsPastGrows, ScansTrueWithFewer}
+use Rattle.b2_runs.proofs.ElementLemmas.{Contains_nil}
 
--- what stands in a list read backwards stands in it
-from_reverse : {X : Type 0} (xs : List X) (y : X) → Contains (reverse xs) y → Contains xs y
-from_reverse [] y c = c
-from_reverse (x ∷ xs) y c = elim (Contains-push_cases (reverse xs) x y (subst (λ l. Contains l y) (reverse-append (x ∷ []) xs) c)) [
-  | inl d ↦ Contains_there x y xs (from_reverse xs y d)
-  | inr e ↦ subst (λ z. Contains (x ∷ xs) z) e (Contains_here x xs)
-]
+-- the outputs of a subject
+outs_in : Subject → List (List ℕ)
+outs_in (subjects.Outputs outs) = outs
+outs_in (subjects.Scanned path) = []
 
--- what is found is an element, and passes
-found_in : {X : Type 0} (p : X → Bool) (xs : List X) (x : X) → find p xs ≡ Some x → Contains xs x × (p x ≡ true)
-found_in p [] x e = absurd (let f : None ≡ Some x = e in cc)
-found_in p (y ∷ ys) x e = go (p y) refl e (found_in p ys x)
-  where
-    go : (t : Bool) → p y ≡ t → cond t (Some y) (find p ys) ≡ Some x → (find p ys ≡ Some x → Contains ys x × (p x ≡ true)) → Contains (y ∷ ys) x × (p x ≡ true)
-    go true pass f later = let same : y ≡ x = (let g : Some y ≡ Some x = f in cc) in (subst (λ z. Contains (y ∷ ys) z) same (Contains_here y ys), ap p (sym same) ∙ pass)
-    go false pass f later = let (c, t) = later f in (Contains_there y x ys c, t)
+pub outs_same : (outs others : List (List ℕ)) → subjects.Outputs outs ≡ subjects.Outputs others → outs ≡ others
+unfolding outs_in
+outs_same outs others e = ap outs_in e
 
-paths_eq_true : (xs ys : List (List ℕ)) → paths_eq xs ys ≡ true → xs ≡ ys
-paths_eq_true xs ys e = (slice_eq-Decides bytes_eq-Decides xs ys (paths_eq xs ys) refl).0 e
+-- the path of a subject
+path_seen : Subject → List ℕ
+path_seen (subjects.Outputs outs) = []
+path_seen (subjects.Scanned path) = path
 
-paths_eq_refl : (xs : List (List ℕ)) → paths_eq xs xs ≡ true
-paths_eq_refl xs = (slice_eq-Decides bytes_eq-Decides xs xs (paths_eq xs xs) refl).1 refl
+path_same : (path other : List ℕ) → subjects.Scanned path ≡ subjects.Scanned other → path ≡ other
+unfolding path_seen
+path_same path other e = ap path_seen e
 
-paths_eq_false : (xs ys : List (List ℕ)) → (xs ≡ ys → ⊥) → paths_eq xs ys ≡ false
-paths_eq_false xs ys differ = go (paths_eq xs ys) refl
-  where
-    go : (t : Bool) → paths_eq xs ys ≡ t → paths_eq xs ys ≡ false
-    go true e = absurd (differ (paths_eq_true xs ys e))
-    go false e = e
-
-record_from : (line : LogLine) (r : Record) → record_in line ≡ Some r → line ≡ lines.Record r
-record_from (lines.Record s) r e = ap lines.Record (let f : Some s ≡ Some r = e in let g : s ≡ r = cc in g)
-record_from (lines.Drop outs) r e = absurd (let f : None ≡ Some r = e in cc)
-
--- what is found is in the log, and has these outputs
+-- a record that is found is in the log, and has these outputs
 pub found_is_there : FoundIsThere
-found_is_there outs log r e = go (last_line outs log) refl e
+found_is_there outs log r e = go (told (subjects.Outputs outs) log) refl e
   where
-    go : (o : Option LogLine) → last_line outs log ≡ o → option_and_then record_in o ≡ Some r → Contains log (lines.Record r) × (map path_of r.outs ≡ outs)
+    go : (o : Option LogLine) → told (subjects.Outputs outs) log ≡ o → option_and_then record_in o ≡ Some r → Contains log (lines.Record r) × (map path_of r.outs ≡ outs)
     go None is f = absurd (let g : None ≡ Some r = f in cc)
-    go (Some line) is f =
-        let same = record_from line r f in
-        let (c, pass) = found_in (λ l. paths_eq (outs_of l) outs) (reverse log) line is in
-        let eq = paths_eq_true (outs_of line) outs pass in
-        (subst (λ l. Contains log l) same (from_reverse log line c), ap outs_of (sym same) ∙ eq)
+    go (Some (lines.Drop others)) is f = absurd (let g : None ≡ Some r = f in cc)
+    go (Some (lines.Scan s)) is f = absurd (let g : None ≡ Some r = f in cc)
+    go (Some (lines.Record q)) is f =
+        let same : q ≡ r = (let g : Some q ≡ Some r = f in cc) in
+        let (c, s) = telling.told_is_there (subjects.Outputs outs) log (lines.Record q) is in
+        subst (λ (z : Record). Contains log (lines.Record z) × (map path_of z.outs ≡ outs)) same (c, outs_same (map path_of q.outs) outs s)
 
-last_pushed : (outs : List (List ℕ)) (log : List LogLine) (line : LogLine) → last_line outs (log ++ line ∷ []) ≡ cond (paths_eq (outs_of line) outs) (Some line) (last_line outs log)
-last_pushed outs log line = ap (find (λ l. paths_eq (outs_of l) outs)) (reverse-append log (line ∷ []))
+-- a scan that is found is in the log, of this path and at this stamp
+pub scan_is_there : ScanIsThere
+scan_is_there path stamp log s e = go (told (subjects.Scanned path) log) refl e
+  where
+    at : (q : ScanLine) (t : Bool) → (q.stamp == stamp) ≡ t → (if t then Some q else None) ≡ Some s → (q ≡ s) × (q.stamp ≡ stamp)
+    at q true f g = ((let h : Some q ≡ Some s = g in cc), eqb-true q.stamp stamp f)
+    at q false f g = absurd (let h : None ≡ Some s = g in cc)
 
--- a line at the end has the last word on its outputs
-pub last_word : LastWord
-last_word log line =
-    ap (option_and_then record_in) (last_pushed (outs_of line) log line ∙ ap (λ t. cond t (Some line) (last_line (outs_of line) log)) (paths_eq_refl (outs_of line)))
+    go : (o : Option LogLine) → told (subjects.Scanned path) log ≡ o → option_and_then (scan_in stamp) o ≡ Some s → Contains log (lines.Scan s) × (s.path ≡ path) × (s.stamp ≡ stamp)
+    go None is f = absurd (let g : None ≡ Some s = f in cc)
+    go (Some (lines.Record r)) is f = absurd (let g : None ≡ Some s = f in cc)
+    go (Some (lines.Drop others)) is f = absurd (let g : None ≡ Some s = f in cc)
+    go (Some (lines.Scan q)) is f =
+        let (same, has) = at q (q.stamp == stamp) refl f in
+        let (c, p) = telling.told_is_there (subjects.Scanned path) log (lines.Scan q) is in
+        subst (λ (z : ScanLine). Contains log (lines.Scan z) × (z.path ≡ path) × (z.stamp ≡ stamp)) same (c, path_same q.path path p, has)
+
+-- a record at the end has the last word on its outputs
+pub last_record : LastRecord
+last_record log r = ap (option_and_then record_in) (telling.last_word log (lines.Record r))
+
+pub last_drop : LastDrop
+last_drop log outs = ap (option_and_then record_in) (telling.last_word log (lines.Drop outs))
 
 -- a line says nothing of other outputs
 pub others_unsaid : OthersUnsaid
-others_unsaid outs log line differ =
-    ap (option_and_then record_in) (last_pushed outs log line ∙ ap (λ t. cond t (Some line) (last_line outs log)) (paths_eq_false (outs_of line) outs differ))
+others_unsaid outs log line differ = ap (option_and_then record_in) (telling.others_unsaid (subjects.Outputs outs) log line differ)
 
 pub others_unsaid_though_torn : OthersUnsaidThoughTorn
 others_unsaid_though_torn outs log after line (inl same) differ = ap (find_record outs) same
 others_unsaid_though_torn outs log after line (inr whole) differ = ap (find_record outs) whole ∙ others_unsaid outs log line differ
 
-pub empty_is_true : EmptyIsTrue
-empty_is_true made past line c = absurd (Contains_nil line c)
+-- a scan is about no outputs
+pub scan_is_other : (outs : List (List ℕ)) (s : ScanLine) → subject_of (lines.Scan s) ≡ subjects.Outputs outs → ⊥
+scan_is_other outs s e = let f : subjects.Scanned s.path ≡ subjects.Outputs outs = e in cc
 
--- a record stays true where more has stood
-record_grows : (made : Makings) (past more : List Past) (r : Record) → ((old : Past) → Contains past old → Contains more old) → IsTrueRecord made past r → IsTrueRecord made more r
-record_grows made past more r grows t = record { held = t.held; ins = go r.ins t.held t.ins; outs = λ path stamp o. grows _ (t.outs path stamp o) }
+-- ---- truth
+
+pub true_by_kind : TrueByKind
+true_by_kind m past log = (λ t. (λ r c. t (lines.Record r) c, λ s c. t (lines.Scan s) c), back)
   where
-    go : (ins : List (List ℕ × ℕ)) (held : List (List ℕ × List ℕ)) → AllZip (InputStood past) ins held → AllZip (InputStood more) ins held
+    back : ((r : Record) → Contains log (lines.Record r) → IsTrueRecord m past r) × ((s : ScanLine) → Contains log (lines.Scan s) → IsTrueScan m past s) → LogTrue m past log
+    back t (lines.Record r) c = t.0 r c
+    back t (lines.Drop outs) c = tt
+    back t (lines.Scan s) c = t.1 s c
+
+pub empty_is_true : EmptyIsTrue
+empty_is_true m past line c = absurd (Contains_nil line c)
+
+pub record_grows : (m : Making) (past more : List Past) (r : Record) → ((old : Past) → Contains past old → Contains more old) → IsTrueRecord m past r → IsTrueRecord m more r
+record_grows m past more r grows t = record { held = t.held; ins = go r.ins t.held t.ins; outs = λ path stamp c. grows _ (t.outs path stamp c); digests = t.digests }
+  where
+    go : (pairs : List (List ℕ × ℕ)) (held : List (List ℕ × List ℕ)) → AllZip (InputStood past) pairs held → AllZip (InputStood more) pairs held
     go [] [] a = a
     go [] (h ∷ hs) a = a
     go (q ∷ qs) [] a = a
     go (q ∷ qs) (h ∷ hs) (a, more_a) = (record { path = a.path; stood = grows _ a.stood }, go qs hs more_a)
 
-line_grows : (made : Makings) (past more : List Past) (line : LogLine) → ((old : Past) → Contains past old → Contains more old) → IsTrueLine made past line → IsTrueLine made more line
-line_grows made past more (lines.Record r) grows t = record_grows made past more r grows t
-line_grows made past more (lines.Drop outs) grows t = tt
+pub scan_grows : (m : Making) (past more : List Past) (s : ScanLine) → ((old : Past) → Contains past old → Contains more old) → IsTrueScan m past s → IsTrueScan m more s
+scan_grows m past more s grows t = record { bytes = t.bytes; stood = grows _ t.stood; includes = t.includes }
+
+pub line_grows : LineTrueAsPastGrows
+line_grows m past more (lines.Record r) grows t = record_grows m past more r grows t
+line_grows m past more (lines.Drop outs) grows t = tt
+line_grows m past more (lines.Scan s) grows t = scan_grows m past more s grows t
 
 -- more that stood leaves a true log true
 pub true_as_past_grows : TrueAsPastGrows
-true_as_past_grows made past more log grows old line c = line_grows made past more line grows (old line c)
+true_as_past_grows m past more log grows old line c = line_grows m past more line grows (old line c)
 
 -- so does a true line at the end
-pub true_with_line : (made : Makings) (past : List Past) (log : List LogLine) (new : LogLine) → LogTrue made past log → IsTrueLine made past new → LogTrue made past (log ++ new ∷ [])
-true_with_line made past log new old t line c = elim (Contains-push_cases log new line c) [ inl d ↦ old line d | inr e ↦ subst (IsTrueLine made past) e t ]
-
--- a record
-pub true_with_record : TrueWithRecord
-true_with_record made past log r old new = true_with_line made past log (lines.Record r) old new
-
--- or a drop
-pub true_with_drop : TrueWithDrop
-true_with_drop made past log outs old = true_with_line made past log (lines.Drop outs) old tt
+pub true_with_line : TrueWithLine
+true_with_line m past log new old t line c = elim (Contains-push_cases log new line c) [ inl d ↦ old line d | inr e ↦ subst (IsTrueLine m past) e t ]
 
 -- any first lines of a true log are true
 pub true_prefix : TruePrefix
-true_prefix made past front rest whole line c = whole line (Contains-append_left front rest line c)
+true_prefix m past front rest whole line c = whole line (Contains-append_left front rest line c)
 
 -- what a torn append leaves is true
 pub true_after_torn_append : TrueAfterTornAppend
-true_after_torn_append made past log front rest r old new e = true_prefix made past front rest (subst (LogTrue made past) e (true_with_record made past log r old new))
+true_after_torn_append m past log front rest line old new e = true_prefix m past front rest (subst (LogTrue m past) e (true_with_line m past log line old new))
 
 -- any lines of a true log are true
 pub true_with_fewer : TrueWithFewer
-true_with_fewer made past log kept among whole line c = whole line (among line c)
+true_with_fewer m past log kept among whole line c = whole line (among line c)
+
+pub scans_true_with_line : ScansTrueWithLine
+scans_true_with_line m past log line old t s c = elim (Contains-push_cases log line (lines.Scan s) c) [ inl d ↦ old s d | inr e ↦ subst (IsTrueLine m past) e t ]
+
+pub scans_true_as_past_grows : ScansTrueAsPastGrows
+scans_true_as_past_grows m past more log grows old s c = scan_grows m past more s grows (old s c)
+
+pub scans_true_with_fewer : ScansTrueWithFewer
+scans_true_with_fewer m past log kept among whole s c = whole s (among (lines.Scan s) c)

@@ -4,14 +4,13 @@ use Rattle.std.proofs.lemmas.List.Sums.{sum_by-append}
 use Rattle.std.proofs.lemmas.List.Elements.{Contains-append_left, Contains-push}
 use Rattle.b2_host.specs.declared.children.ChildEvent.{ChildEvent}
 use Rattle.b2_host.specs.declared.children.ChildEvent.TheVariants.{Start, Done}
-use Rattle.b2_runs.specs.Staleness.{Update}
-use Rattle.b2_runs.specs.Runs.{IsOpen, CanStart, RunFrom, is_start, is_done}
-use Rattle.b2_runs.specs.StuckLaws.{StartsAreDone, OpenWithinJobs}
+use Rattle.b2_runs.specs.Events.{IsOpen, is_start, is_done, FollowFrom, AreInOrder}
+use Rattle.b2_runs.specs.StuckLaws.{StartsAreDone}
 use Rattle.b2_runs.proofs.ElementLemmas.{Contains_here, Contains_there, Contains_cases, Contains_nil}
-use Rattle.b2_runs.proofs.RunLaws.{start_in_start, done_in_start, start_in_done, done_in_done}
+use Rattle.b2_runs.proofs.EventLaws.{count_one, run_is_in_order, start_in_start, done_in_start, start_in_done, done_in_done}
 
 -- no number stands twice
-abbrev AreApart : List ℕ → Type 0
+abbrev pub AreApart : List ℕ → Type 0
 AreApart [] = Unit {0}
 AreApart (x ∷ xs) = (Contains xs x → ⊥) × AreApart xs
 
@@ -53,21 +52,18 @@ without (x ∷ xs) i (new, a) c = go (Contains_cases x i xs c) (without xs i a)
         }
 
 -- These are the open steps, each once.
-record AreOpens (events : List ChildEvent) (opens : List ℕ) : Type 0 where
-  apart : AreApart opens
-  each : (k : ℕ) → Contains opens k → IsOpen events k
-  whole : (k : ℕ) → IsOpen events k → Contains opens k
-  count : count_by is_start events ≡ count_by is_done events + length opens
-  begun : (k : ℕ) (well : Bool) → Contains events (Done k well) → Contains events (Start k)
+pub record AreOpens (events : List ChildEvent) (opens : List ℕ) : Type 0 where
+  pub apart : AreApart opens
+  pub each : (k : ℕ) → Contains opens k → IsOpen events k
+  pub whole : (k : ℕ) → IsOpen events k → Contains opens k
+  pub count : count_by is_start events ≡ count_by is_done events + length opens
+  pub begun : (k : ℕ) (well : Bool) → Contains events (Done k well) → Contains events (Start k)
 
-count_one : (p : ChildEvent → Bool) (events : List ChildEvent) (e : ChildEvent) → count_by p (events ++ e ∷ []) ≡ count_by p events + cond (p e) 1 0
-count_one p events e = let f = sum_by-append (λ x. cond (p x) 1 0) events (e ∷ []) in omega arith
-
-opens_start : (u : Update) (events : List ChildEvent) (i : ℕ) (opens : List ℕ) → AreOpens events opens → CanStart u events i → AreOpens (events ++ Start i ∷ []) (i ∷ opens)
-opens_start u events i opens o can = record {
-  apart = ((λ c. can.not_started (o.each i c).0), o.apart);
+opens_start : (events : List ChildEvent) (i : ℕ) (opens : List ℕ) → AreOpens events opens → (Contains events (Start i) → ⊥) → AreOpens (events ++ Start i ∷ []) (i ∷ opens)
+opens_start events i opens o new = record {
+  apart = ((λ c. new (o.each i c).0), o.apart);
   each = λ k c. elim (Contains_cases i k opens c) [
-    | inl e ↦ subst (IsOpen (events ++ Start i ∷ [])) e (Contains-push events (Start i), λ w d. can.not_started (o.begun i w (done_in_start events i i w d)))
+    | inl e ↦ subst (IsOpen (events ++ Start i ∷ [])) e (Contains-push events (Start i), λ w d. new (o.begun i w (done_in_start events i i w d)))
     | inr old ↦ (Contains-append_left events (Start i ∷ []) (Start k) (o.each k old).0, λ w d. (o.each k old).1 w (done_in_start events i k w d))
   ];
   whole = λ k opened. elim (start_in_start events i k opened.0) [
@@ -96,14 +92,14 @@ opens_done events i well opens o opened w = record {
   ];
 }
 
-opens_along : (u : Update) (before events : List ChildEvent) (opens : List ℕ) → AreOpens before opens → RunFrom u before events → (later : List ℕ) × AreOpens (before ++ events) later
-opens_along u before [] opens o r = (opens, subst (λ es. AreOpens es opens) (sym (append-nil before)) o)
-opens_along u before (Start i ∷ events) opens o (m, r) =
-    let (later, all) = opens_along u (before ++ Start i ∷ []) events (i ∷ opens) (opens_start u before i opens o m.0) r in
+opens_along : (jobs : ℕ) (before events : List ChildEvent) (opens : List ℕ) → AreOpens before opens → FollowFrom jobs before events → (later : List ℕ) × AreOpens (before ++ events) later
+opens_along jobs before [] opens o r = (opens, subst (λ es. AreOpens es opens) (sym (append-nil before)) o)
+opens_along jobs before (Start i ∷ events) opens o (m, r) =
+    let (later, all) = opens_along jobs (before ++ Start i ∷ []) events (i ∷ opens) (opens_start before i opens o m.0) r in
     (later, subst (λ es. AreOpens es later) (append_assoc before (Start i ∷ []) events) all)
-opens_along u before (Done i well ∷ events) opens o (m, r) =
-    let w = without opens i o.apart (o.whole i m.0) in
-    let (later, all) = opens_along u (before ++ Done i well ∷ []) events w.rest (opens_done before i well opens o m.0 w) r in
+opens_along jobs before (Done i well ∷ events) opens o (m, r) =
+    let w = without opens i o.apart (o.whole i m) in
+    let (later, all) = opens_along jobs (before ++ Done i well ∷ []) events w.rest (opens_done before i well opens o m w) r in
     (later, subst (λ es. AreOpens es later) (append_assoc before (Done i well ∷ []) events) all)
 
 no_opens : AreOpens [] []
@@ -115,26 +111,14 @@ no_opens = record {
   begun = λ k w d. absurd (Contains_nil (Done k w) d);
 }
 
+-- the steps that are open after events in order
+pub opens_of : (jobs : ℕ) (events : List ChildEvent) → AreInOrder jobs events → (opens : List ℕ) × AreOpens events opens
+opens_of jobs events r = opens_along jobs [] events [] no_opens r
+
 -- where nothing is open, as many are done as were started
 pub starts_are_done : StartsAreDone
-starts_are_done u events run none = let (opens, o) = opens_along u [] events [] no_opens run in go opens o
+starts_are_done u events run none = let (opens, o) = opens_of u.jobs events (run_is_in_order u events run) in go opens o
   where
     go : (opens : List ℕ) → AreOpens events opens → count_by is_start events ≡ count_by is_done events
     go [] o = let h = o.count in omega arith
     go (x ∷ xs) o = absurd (none x (o.each x (Contains_here x xs)))
-
-within_along : (u : Update) (before events : List ChildEvent) → RunFrom u before events → count_by is_start before ≤ count_by is_done before + u.jobs → count_by is_start (before ++ events) ≤ count_by is_done (before ++ events) + u.jobs
-within_along u before [] r h = subst (λ es. count_by is_start es ≤ count_by is_done es + u.jobs) (sym (append-nil before)) h
-within_along u before (Start i ∷ events) (m, r) h =
-    let room = m.0.room in
-    let f = count_one is_start before (Start i) in
-    let g = count_one is_done before (Start i) in
-    subst (λ es. count_by is_start es ≤ count_by is_done es + u.jobs) (append_assoc before (Start i ∷ []) events) (within_along u (before ++ Start i ∷ []) events r (omega arith))
-within_along u before (Done i well ∷ events) (m, r) h =
-    let f = count_one is_start before (Done i well) in
-    let g = count_one is_done before (Done i well) in
-    subst (λ es. count_by is_start es ≤ count_by is_done es + u.jobs) (append_assoc before (Done i well ∷ []) events) (within_along u (before ++ Done i well ∷ []) events r (omega arith))
-
--- no more steps are open than there are jobs
-pub open_within_jobs : OpenWithinJobs
-open_within_jobs u events run = within_along u [] events run (omega arith)

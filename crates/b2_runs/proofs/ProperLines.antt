@@ -1,6 +1,6 @@
-use Rattle.std.proofs.Common.{◌≡◌, ◌≢◌, ℕ, ◌<◌, Bool, true, false, cond, List, [], ◌∷◌, length, refl, sym, ap, subst, ◌∙◌, arith, Some, None}
+use Rattle.std.proofs.Common.{◌≡◌, ◌≢◌, ℕ, suc, ◌<◌, Bool, true, false, cond, List, [], ◌∷◌, length, refl, sym, ap, subst, ◌∙◌, arith, Option, Some, None}
 use Rattle.std.specs.Prelude.{option_map}
-use Rattle.std.specs.List.{Contains, AllPairs}
+use Rattle.std.specs.List.{Contains, AllPairs, AllByRecursion}
 use Rattle.std.specs.Str.{bytes_eq}
 use Rattle.std.proofs.lemmas.List.Elements.{Contains-append_left}
 use Rattle.std.proofs.lemmas.Slice.Eq.{bytes_eq-Decides}
@@ -8,7 +8,12 @@ use Rattle.b2_host.specs.Disks.{File, Folder, without}
 use Rattle.b2_host.specs.ChildProcesses.{IsWritten}
 use Rattle.b2_plan.specs.Plans.{log_path, Makes}
 use Rattle.b2_plan.specs.Closures.{Value, Before, with_bytes}
-use Rattle.b2_runs.specs.Staleness.{AreStamped, paths_with_bytes}
+use Rattle.b2_plan.specs.declared.step.Step.{Step}
+use Rattle.b2_log.specs.declared.line.Record.{Record}
+use Rattle.b2_log.specs.declared.line.Digests.{Digests}
+use Rattle.b2_log.specs.Good.{IsDigest, HasDigests}
+use Rattle.b2_runs.specs.Staleness.{Update, making, AreStamped, AreDigested, paths_with_bytes}
+use Rattle.b2_runs.specs.Records.{HasDigestsOf}
 use Rattle.b2_runs.specs.LogFileLaws.{RecordIsProper, DropIsProper, TrueThroughWork, TrueThroughRemoval}
 use Rattle.b2_runs.proofs.ElementLemmas.{AllPairs_head, AllPairs_tail}
 use Rattle.b2_runs.proofs.StampedFiles.{with_bytes_in, path_in_back, stamp_back}
@@ -42,8 +47,37 @@ some_stamped now [] pairs some a = absurd (some refl)
 some_stamped now (p ∷ ps) [] some a = absurd a
 some_stamped now (p ∷ ps) (q ∷ qs) some a = omega arith
 
+-- digests of files are digests, one for each path
+digests_are : (digest : List ℕ → List ℕ) → ((bytes : List ℕ) → IsDigest (digest bytes)) → (now : Folder) (paths : List (List ℕ)) (texts : List (List ℕ)) → AreDigested digest now paths texts → (length texts ≡ length paths) × AllByRecursion IsDigest texts
+digests_are digest form now [] [] a = (refl, tt)
+digests_are digest form now [] (t ∷ ts) a = absurd a
+digests_are digest form now (p ∷ ps) [] a = absurd a
+digests_are digest form now (p ∷ ps) (t ∷ ts) ((bytes, at, is), rest) =
+    let (count, each) = digests_are digest form now ps ts rest in
+    (ap suc count, (subst IsDigest (sym is) (form bytes), each))
+
+stamped_count : (now : Folder) (paths : List (List ℕ)) (pairs : List (List ℕ × ℕ)) → AreStamped now paths pairs → length paths ≡ length pairs
+stamped_count now [] [] a = refl
+stamped_count now [] (q ∷ qs) a = absurd a
+stamped_count now (p ∷ ps) [] a = absurd a
+stamped_count now (p ∷ ps) (q ∷ qs) (a, rest) = ap suc (stamped_count now ps qs rest)
+
+has_digests : (u : Update) (now : Folder) (step : Step) (members : List (List ℕ × Value)) (r : Record) → ((bytes : List ℕ) → IsDigest (u.digest bytes)) → AreStamped now step.outs r.outs → AreStamped now (paths_with_bytes members) r.ins → (d : Option Digests) → HasDigestsOf u now step members d → HasDigests r d
+has_digests u now step members r form outs ins None h = tt
+has_digests u now step members r form outs ins (Some d) (on, d_outs, d_ins) =
+    let (count, each) = digests_are u.digest form now step.outs d.outs d_outs in
+    let (count_in, each_in) = digests_are u.digest form now (paths_with_bytes members) d.ins d_ins in
+    record {
+      outs = record { count = count ∙ stamped_count now step.outs r.outs outs; each = each };
+      ins = record { count = count_in ∙ stamped_count now (paths_with_bytes members) r.ins ins; each = each_in };
+    }
+
 pub record_is_proper : RecordIsProper
-record_is_proper b now i step members r apart at close outs ins = (some_stamped now step.outs r.outs (apart.some_out i step at) outs, rising now members r.ins close.ordered ins)
+record_is_proper u now i step members r apart at close form is = record {
+  some_out = some_stamped now step.outs r.outs (apart.some_out i step at) is.outs;
+  rising = rising now members r.ins close.ordered is.ins;
+  digests = has_digests u now step members r form is.outs is.ins r.digests is.digests;
+}
 
 pub drop_is_proper : DropIsProper
 drop_is_proper b i step apart at = some_long step.outs (apart.some_out i step at)
@@ -51,7 +85,7 @@ drop_is_proper b i step apart at = some_long step.outs (apart.some_out i step at
 -- no child at work writes to the log
 pub true_through_work : TrueThroughWork
 true_through_work u events running before after apart at_work w t =
-    true_where_still u.build.made before after (ap (option_map (λ (file : File). file.bytes)) (w.others log_path untouched)) (λ old c. subst (λ past. Contains past old) (sym w.past) (Contains-append_left before.past w.more old c)) t
+    true_where_still (making u) before after (ap (option_map (λ (file : File). file.bytes)) (w.others log_path untouched)) (λ old c. subst (λ past. Contains past old) (sym w.past) (Contains-append_left before.past w.more old c)) t
   where
     untouched : IsWritten running log_path → ⊥
     untouched written =
@@ -60,7 +94,7 @@ true_through_work u events running before after apart at_work w t =
 
 -- an output is not the log
 pub true_through_removal : TrueThroughRemoval
-true_through_removal b disk i step path apart makes t = true_where_still b.made disk (without path disk) (ap (option_map (λ (file : File). file.bytes)) (still (bytes_eq path log_path) refl)) (λ old c. c) t
+true_through_removal b m disk i step path apart makes t = true_where_still m disk (without path disk) (ap (option_map (λ (file : File). file.bytes)) (still (bytes_eq path log_path) refl)) (λ old c. c) t
   where
     still : (s : Bool) → bytes_eq path log_path ≡ s → cond s None (disk.now log_path) ≡ disk.now log_path
     still true e = absurd (apart.not_log i step (subst (Makes b.steps i step) ((bytes_eq-Decides path log_path).0 e) makes))

@@ -7,27 +7,17 @@ use Rattle.b2_plan.specs.declared.step.Step.{Step}
 use Rattle.b2_plan.specs.Plans.{Makes, Apart, step_at}
 use Rattle.b2_plan.specs.Closures.{Value, IsClose}
 use Rattle.b2_plan.specs.Cleans.{Clean, value_of}
-use Rattle.b2_runs.specs.Staleness.{Update, IsFresh}
-use Rattle.b2_runs.specs.Runs.{Settled, Settled.source, Settled.done_well, Settled.fresh, on_settled, Needed, Needed.wanted, Needed.member, IsOpen, CanStart, MayCome, RunFrom, AreOnce}
-use Rattle.b2_runs.specs.RunLaws.{RunGoesOn, RunHasBegun, SettledAfterStart, SettledAfterEnd, NeededGrows, CloseOnSettled, StartedHasClosure, DoneWasStarted, DoneOnce, EachEventOnce, SettledHasValue}
+use Rattle.b2_runs.specs.Staleness.{Update, NoneDone, Agrees, Agrees.by_stamps, Agrees.by_digests, IsFresh}
+use Rattle.b2_runs.specs.Events.{IsOpen, AreOnce}
+use Rattle.b2_runs.specs.Runs.{Settled, Settled.source, Settled.done_well, Settled.fresh, on_settled, Needed, Needed.wanted, Needed.member, CanStart, MayCome, RunFrom}
+use Rattle.b2_runs.specs.RunLaws.{RunGoesOn, RunHasBegun, SettledAfterStart, SettledAfterEnd, NeededGrows, CloseOnSettled, StartedHasClosure, DoneWasStarted, DoneOnce, EachEventOnce, SettledHasValue, VerdictStays, CloseOnSettledStays}
 use Rattle.b2_runs.proofs.ElementLemmas.{one_step, Contains_cases, Contains_nil}
+use Rattle.b2_runs.proofs.EventLaws as order
+use Rattle.b2_runs.proofs.EventLaws.{done_in_start, start_in_start, start_in_done, done_in_done, run_is_in_order}
 use Rattle.b2_runs.proofs.ClosureLaws.{known_grows, close_stays, close_back, close_is_one}
 use Rattle.b2_runs.proofs.ValueRounds.{source_not_made}
 use Rattle.b2_runs.proofs.CleanLaws.{clean_is_one, clean_is_made}
 use Rattle.b2_runs.proofs.SettledLaws.{source_clean}
-
--- what one event more holds of starts and ends
-pub start_in_start : (events : List ChildEvent) (i k : ℕ) → Contains (events ++ Start i ∷ []) (Start k) → Contains events (Start k) ⊎ (i ≡ k)
-start_in_start events i k c = elim (Contains-push_cases events (Start i) (Start k) c) [ inl d ↦ inl d | inr e ↦ inr (let f : Start i ≡ Start k = e in cc) ]
-
-pub done_in_start : (events : List ChildEvent) (i k : ℕ) (well : Bool) → Contains (events ++ Start i ∷ []) (Done k well) → Contains events (Done k well)
-done_in_start events i k well c = elim (Contains-push_cases events (Start i) (Done k well) c) [ inl d ↦ d | inr e ↦ absurd (let f : Start i ≡ Done k well = e in cc) ]
-
-pub start_in_done : (events : List ChildEvent) (i k : ℕ) (well : Bool) → Contains (events ++ Done i well ∷ []) (Start k) → Contains events (Start k)
-start_in_done events i k well c = elim (Contains-push_cases events (Done i well) (Start k) c) [ inl d ↦ d | inr e ↦ absurd (let f : Done i well ≡ Start k = e in cc) ]
-
-pub done_in_done : (events : List ChildEvent) (i k : ℕ) (well w : Bool) → Contains (events ++ Done i well ∷ []) (Done k w) → Contains events (Done k w) ⊎ ((i ≡ k) × (well ≡ w))
-done_in_done events i k well w c = elim (Contains-push_cases events (Done i well) (Done k w) c) [ inl d ↦ inl d | inr e ↦ inr (let f : Done i well ≡ Done k w = e in ((cc), (cc))) ]
 
 -- a closure by what is settled is one by the clean build, all of it settled
 pub close_on_settled : CloseOnSettled
@@ -51,17 +41,38 @@ open_not_settled u events apart i opened step path makes (done_well k s p makes_
 open_not_settled u events apart i opened step path makes (fresh k s p members makes_k not_started close inside f) =
     not_started (subst (λ j. Contains events (Start j)) (apart.one_maker i k step s p makes makes_k) opened.0)
 
-fresh_start : (u : Update) (events : List ChildEvent) (i : ℕ) (step : Step) (members : List (List ℕ × Value)) → IsFresh u events step members → IsFresh u (events ++ Start i ∷ []) step members
-fresh_start u events i step members f = record {
+-- a step that is fresh is so after other events, where none more makes a member
+pub fresh_events : (u : Update) (events more : List ChildEvent) (step : Step) (members : List (List ℕ × Value)) → (NoneDone u events members → NoneDone u more members) → IsFresh u events step members → IsFresh u more step members
+fresh_events u events more step members moves f = record {
   not_all = f.not_all;
   not_always = f.not_always;
   not_notfile = f.not_notfile;
   stand = f.stand;
   none_older = f.none_older;
-  none_done = λ m x k s well c makes d. f.none_done m x k s well c makes (done_in_start events i k well d);
   none_notfile = f.none_notfile;
-  recorded = f.recorded;
+  none_done = λ off. moves (f.none_done off);
+  recorded = record { last = f.recorded.last; found = f.recorded.found; agrees = go f.recorded.agrees };
 }
+  where
+    go : Agrees u events step members f.recorded.last → Agrees u more step members f.recorded.last
+    go (by_stamps a) = by_stamps (record { text = a.text; outs = a.outs; ins = a.ins; none_done = moves a.none_done })
+    go (by_digests on a) = by_digests on a
+
+-- a start makes no member
+none_done_start : (u : Update) (events : List ChildEvent) (i : ℕ) (members : List (List ℕ × Value)) → NoneDone u events members → NoneDone u (events ++ Start i ∷ []) members
+none_done_start u events i members none m x k s well c makes d = none m x k s well c makes (done_in_start events i k well d)
+
+-- nor does an end, where all members are settled
+none_done_end : (u : Update) (events : List ChildEvent) → Apart u.build.steps u.build.roots → (i : ℕ) (well : Bool) (members : List (List ℕ × Value)) → IsOpen events i → ((member : List ℕ) (value : Value) → Contains members (member, value) → Settled u events member)
+    → NoneDone u events members → NoneDone u (events ++ Done i well ∷ []) members
+none_done_end u events apart i well members opened inside none m x j t w c makes d = elim (done_in_done events i j well w d) [
+  | inl old ↦ none m x j t w c makes old
+  | inr new ↦ open_not_settled u events apart i opened t m (subst (λ n. Makes u.build.steps n t m) (sym new.0) makes) (inside m x c)
+]
+
+-- where none was done after more events, none was before
+none_done_less : (u : Update) (events : List ChildEvent) (event : ChildEvent) (members : List (List ℕ × Value)) → NoneDone u (events ++ event ∷ []) members → NoneDone u events members
+none_done_less u events event members none m x k s well c makes d = none m x k s well c makes (Contains-append_left events (event ∷ []) (Done k well) d)
 
 -- what is settled stays so as a step starts
 pub settled_after_start : SettledAfterStart
@@ -70,7 +81,7 @@ settled_after_start u events i path apart can (done_well k s p makes done) = don
 settled_after_start u events i path apart can (fresh k s p members makes not_started close inside f) =
     fresh k s p members makes
     (λ c. elim (start_in_start events i k c) [ inl d ↦ not_started d | inr e ↦ other e ])
-    close (λ m x c. settled_after_start u events i m apart can (inside m x c)) (fresh_start u events i s members f)
+    close (λ m x c. settled_after_start u events i m apart can (inside m x c)) (fresh_events u events (events ++ Start i ∷ []) s members (none_done_start u events i members) f)
   where
     other : i ≡ k → ⊥
     other e =
@@ -85,19 +96,7 @@ settled_after_end u events i well path apart opened (source p bytes s) = source 
 settled_after_end u events i well path apart opened (done_well k s p makes done) = done_well k s p makes (Contains-append_left events (Done i well ∷ []) (Done k true) done)
 settled_after_end u events i well path apart opened (fresh k s p members makes not_started close inside f) =
     fresh k s p members makes (λ c. not_started (start_in_done events i k well c)) close (λ m x c. settled_after_end u events i well m apart opened (inside m x c))
-    (record {
-      not_all = f.not_all;
-      not_always = f.not_always;
-      not_notfile = f.not_notfile;
-      stand = f.stand;
-      none_older = f.none_older;
-      none_done = λ m x j t w c makes_m d. elim (done_in_done events i j well w d) [
-        | inl old ↦ f.none_done m x j t w c makes_m old
-        | inr new ↦ open_not_settled u events apart i opened t m (subst (λ n. Makes u.build.steps n t m) (sym new.0) makes_m) (inside m x c)
-      ];
-      none_notfile = f.none_notfile;
-      recorded = f.recorded;
-    })
+    (fresh_events u events (events ++ Done i well ∷ []) s members (none_done_end u events apart i well members opened inside) f)
 
 -- and by each event of a run
 pub settled_grows : (u : Update) (events : List ChildEvent) → Apart u.build.steps u.build.roots → (event : ChildEvent) → MayCome u events event → (path : List ℕ) → Settled u events path → Settled u (events ++ event ∷ []) path
@@ -137,14 +136,14 @@ pub run_has_begun : RunHasBegun
 run_has_begun u front rest r = run_front u [] front rest r
 
 -- a step that was started in a run could start, and its closure was settled
-record WasReady (u : Update) (events : List ChildEvent) (i : ℕ) : Type 0 where
-  step : Step
-  at : step_at u.build.steps i ≡ Some step
+pub record WasReady (u : Update) (events : List ChildEvent) (i : ℕ) : Type 0 where
+  pub step : Step
+  pub at : step_at u.build.steps i ≡ Some step
   members : List (List ℕ × Value)
   close : IsClose u.build (Clean u.build) step members
   settled : (member : List ℕ) (value : Value) → Contains members (member, value) → Settled u events member
 
-run_start : (u : Update) → Apart u.build.steps u.build.roots → (before events : List ChildEvent) (i : ℕ) → RunFrom u before events → Contains events (Start i) → WasReady u (before ++ events) i
+pub run_start : (u : Update) → Apart u.build.steps u.build.roots → (before events : List ChildEvent) (i : ℕ) → RunFrom u before events → Contains events (Start i) → WasReady u (before ++ events) i
 run_start u apart before [] i r c = absurd (Contains_nil (Start i) c)
 run_start u apart before (e ∷ events) i (m, r) c = elim (Contains_cases e (Start i) events c) [
   | inl same ↦
@@ -162,66 +161,16 @@ started_has_closure u events i step apart r c at =
     (w.members, subst (λ s. IsClose u.build (on_settled u events) s w.members) same ((close_on_settled u events w.step w.members apart).1 w.close w.settled))
 
 -- a step that is done in a run was started
-run_done : (u : Update) (before events : List ChildEvent) (i : ℕ) (well : Bool) → ((k : ℕ) (w : Bool) → Contains before (Done k w) → Contains before (Start k)) → RunFrom u before events → Contains events (Done i well) → Contains (before ++ events) (Start i)
-run_done u before [] i well known r c = absurd (Contains_nil (Done i well) c)
-run_done u before (e ∷ events) i well known (m, r) c = elim (Contains_cases e (Done i well) events c) [
-  | inl same ↦ Contains-append_left before (e ∷ events) (Start i) (let h : MayCome u before (Done i well) = subst (MayCome u before) same m in h.0.0)
-  | inr later ↦ subst (λ es. Contains es (Start i)) (append_assoc before (e ∷ []) events) (run_done u (before ++ e ∷ []) events i well more r later)
-]
-  where
-    more : (k : ℕ) (w : Bool) → Contains (before ++ e ∷ []) (Done k w) → Contains (before ++ e ∷ []) (Start k)
-    more k w d = Contains-append_left before (e ∷ []) (Start k) (elim (Contains-push_cases before e (Done k w) d) [
-      | inl old ↦ known k w old
-      | inr new ↦ (let h : MayCome u before (Done k w) = subst (MayCome u before) new m in h.0.0)
-    ])
-
 pub done_was_started : DoneWasStarted
-done_was_started u events i well r c = run_done u [] events i well (λ k w d. absurd (Contains_nil (Done k w) d)) r c
-
--- no step that was done before is done in a run
-once_before : (u : Update) (before events : List ChildEvent) (i : ℕ) (well other : Bool) → RunFrom u before events → Contains before (Done i well) → Contains events (Done i other) → ⊥
-once_before u before [] i well other r old c = Contains_nil (Done i other) c
-once_before u before (e ∷ events) i well other (m, r) old c = elim (Contains_cases e (Done i other) events c) [
-  | inl same ↦ (let h : MayCome u before (Done i other) = subst (MayCome u before) same m in h.0.1 well old)
-  | inr later ↦ once_before u (before ++ e ∷ []) events i well other r (Contains-append_left before (e ∷ []) (Done i well) old) later
-]
-
-run_once : (u : Update) (before events : List ChildEvent) (i : ℕ) (well other : Bool) → RunFrom u before events → Contains events (Done i well) → Contains events (Done i other) → well ≡ other
-run_once u before [] i well other r c d = absurd (Contains_nil (Done i well) c)
-run_once u before (e ∷ events) i well other (m, r) c d = go (Contains_cases e (Done i well) events c) (Contains_cases e (Done i other) events d) (run_once u (before ++ e ∷ []) events i well other r)
-  where
-    here : (w : Bool) → e ≡ Done i w → Contains (before ++ e ∷ []) (Done i w)
-    here w same = subst (λ x. Contains (before ++ e ∷ []) x) same (Contains-push before e)
-
-    go : (e ≡ Done i well) ⊎ Contains events (Done i well) → (e ≡ Done i other) ⊎ Contains events (Done i other) → (Contains events (Done i well) → Contains events (Done i other) → well ≡ other) → well ≡ other
-    go (inl p) (inl q) later = let f : Done i well ≡ Done i other = sym p ∙ q in cc
-    go (inl p) (inr q) later = absurd (once_before u (before ++ e ∷ []) events i well other r (here well p) q)
-    go (inr p) (inl q) later = absurd (once_before u (before ++ e ∷ []) events i other well r (here other q) p)
-    go (inr p) (inr q) later = later p q
+done_was_started u events i well r c = order.done_was_started u.jobs events i well (run_is_in_order u events r) c
 
 -- a step is done once
 pub done_once : DoneOnce
-done_once u events i well other r c d = run_once u [] events i well other r c d
-
--- no event that was there before comes in a run, and none comes twice
-run_each : (u : Update) (before events : List ChildEvent) → RunFrom u before events → ((event : ChildEvent) → Contains events event → Contains before event → ⊥) × AreOnce events
-run_each u before [] r = (λ event c old. Contains_nil event c, tt)
-run_each u before (e ∷ events) (m, r) =
-    let (new, once) = run_each u (before ++ e ∷ []) events r in (
-      λ event c old. elim (Contains_cases e event events c) [
-        | inl same ↦ first e m (subst (Contains before) (sym same) old)
-        | inr later ↦ new event later (Contains-append_left before (e ∷ []) event old)
-      ],
-      (λ c. new e c (Contains-push before e), once),
-    )
-  where
-    first : (event : ChildEvent) → MayCome u before event → Contains before event → ⊥
-    first (Start i) may old = may.0.not_started old
-    first (Done i well) may old = may.0.1 well old
+done_once u events i well other r c d = order.done_once u.jobs events i well other (run_is_in_order u events r) c d
 
 -- each event of a run is there once
 pub each_event_once : EachEventOnce
-each_event_once u events r = (run_each u [] events r).1
+each_event_once u events r = order.each_event_once u.jobs events (run_is_in_order u events r)
 
 -- what is settled in a run has a value in the clean build
 pub settled_has_value : SettledHasValue
@@ -231,3 +180,19 @@ settled_has_value u events path apart r (done_well i step p makes done) =
     (value_of u.build step members p, clean_is_made u.build i step p members apart makes ((close_on_settled u events step members apart).0 close).0)
 settled_has_value u events path apart r (fresh i step p members makes not_started close inside f) =
     (value_of u.build step members p, clean_is_made u.build i step p members apart makes close)
+
+-- the verdict on a step stays
+pub verdict_stays : VerdictStays
+verdict_stays u events (Start i) step members apart may inside = (
+  fresh_events u events (events ++ Start i ∷ []) step members (none_done_start u events i members),
+  fresh_events u (events ++ Start i ∷ []) events step members (none_done_less u events (Start i) members),
+)
+verdict_stays u events (Done i well) step members apart may inside = (
+  fresh_events u events (events ++ Done i well ∷ []) step members (none_done_end u events apart i well members may.0 inside),
+  fresh_events u (events ++ Done i well ∷ []) events step members (none_done_less u events (Done i well) members),
+)
+
+-- and so does its closure
+pub close_on_settled_stays : CloseOnSettledStays
+close_on_settled_stays u events event step members apart may close =
+    close_stays (on_settled u events) (on_settled u (events ++ event ∷ [])) u.build step members (λ p x s. (settled_grows u events apart event may p s.0, s.1)) (λ p x y s t. clean_is_one u.build apart p x y s.1 t.1) close

@@ -9,8 +9,8 @@ stale_by_point u events step members (runs_all e) f = let g : true ≡ false = s
 stale_by_point u events step members (is_always e) f = let g : true ≡ false = sym e ∙ f.not_always in cc
 stale_by_point u events step members (is_notfile e) f = let g : true ≡ false = sym e ∙ f.not_notfile in cc
 stale_by_point u events step members (lacks out c none) f = let (file, at) = f.stand out c in let g : None ≡ Some file = sym none ∙ at in cc
-stale_by_point u events step members (is_older out member value written read c d at_out at_member less) f = let h = f.none_older out member value written read c d at_out at_member in omega (arith, h, less)
-stale_by_point u events step members (is_done member value i other well c makes d) f = f.none_done member value i other well c makes d
+stale_by_point u events step members (is_older off out member value written read c d at_out at_member less) f = let h = f.none_older off out member value written read c d at_out at_member in omega (arith, h, less)
+stale_by_point u events step members (is_done off member value i other well c makes d) f = f.none_done off member value i other well c makes d
 stale_by_point u events step members (from_notfile member value i other c makes e) f = let g : true ≡ false = sym e ∙ f.none_notfile member value i other c makes in cc
 stale_by_point u events step members (unrecorded none) f = none f.recorded
 
@@ -32,8 +32,8 @@ stale_by_point_alone u events step members none stale = none (unrecorded (λ rec
   not_always = not_true step.always (λ e. none (is_always e));
   not_notfile = not_true step.notfile (λ e. none (is_notfile e));
   stand = λ out c. some_file (u.build.folder out) (λ e. none (lacks out c e));
-  none_older = λ out member value written read c d at_out at_member. not_less written.stamp read.stamp (λ less. none (is_older out member value written read c d at_out at_member less));
-  none_done = λ member value i other well c makes d. none (is_done member value i other well c makes d);
+  none_older = λ off out member value written read c d at_out at_member. not_less written.stamp read.stamp (λ less. none (is_older off out member value written read c d at_out at_member less));
+  none_done = λ off member value i other well c makes d. none (is_done off member value i other well c makes d);
   none_notfile = λ member value i other c makes. not_true other.notfile (λ e. none (from_notfile member value i other c makes e));
   recorded = recorded;
 })))

@@ -18,11 +18,11 @@ use Rattle.b2_runs.specs.StuckLaws.{StepCycleIsThere, StuckIsCycle}
 use Rattle.b2_runs.proofs.ElementLemmas.{place_of, Contains_here, Contains_there, Contains_cases, Contains_nil}
 use Rattle.b2_runs.proofs.StuckNeedsStuck.{stuck_needs_stuck}
 
-abbrev Apart : List ℕ → Type 0
+abbrev pub Apart : List ℕ → Type 0
 Apart = AllPairs (λ i k. i ≢ k)
 
 -- numbers below a bound, none of them twice, are no more than the bound
-few : (xs : List ℕ) (n : ℕ) → Apart xs → ((i : ℕ) → Contains xs i → i < n) → length xs ≤ n
+pub few : (xs : List ℕ) (n : ℕ) → Apart xs → ((i : ℕ) → Contains xs i → i < n) → length xs ≤ n
 few xs n once low = length-le_from_distinct_below xs n (IsDistinct-from_AllPairs Decides-eqb xs once) (λ q e. low q (Contains-from_any (λ x y s. (Decides-eqb x y).0 s) q xs e))
 
 -- a number is among these or is not
@@ -104,7 +104,7 @@ step_cycle_is_there u events first starts next =
     walk_back u events first ((list : List ℕ) × IsStepCycle u events list) starts (λ i stuck go_on. (let s = next i stuck in go_on s.0 s.1)) (λ list cycle. (list, cycle))
 
 -- where there is a number there cannot but be a lowest one
-lowest_below : (P : ℕ → Type 0) (n i : ℕ) → i < n → P i → ((k : ℕ) → IsLowest P k → ⊥) → ⊥
+pub lowest_below : (P : ℕ → Type 0) (n i : ℕ) → i < n → P i → ((k : ℕ) → IsLowest P k → ⊥) → ⊥
 lowest_below P zero i less p none = omega arith
 lowest_below P (suc n) i less p none = none i (record { has = p; lowest = λ k lower q. lowest_below P n k (omega (arith, less, lower)) q none })
 

@@ -8,15 +8,17 @@ use Rattle.b2_plan.specs.declared.step.Step.{Step}
 use Rattle.b2_plan.specs.Plans.{Makes, Apart}
 use Rattle.b2_log.specs.declared.line.LogLine.{LogLine}
 use Rattle.b2_runs.specs.Staleness.{Update, IsFresh}
-use Rattle.b2_runs.specs.Runs.{Settled, Settled.done_well, IsOpen, RunFrom, IsRunSoFar, AreOnce, OpenEnds, IsBegun, CanStart}
+use Rattle.b2_runs.specs.Events.{IsOpen}
+use Rattle.b2_runs.specs.Runs.{Settled, Settled.done_well, RunFrom, IsRunSoFar, OpenEnds, IsBegun, CanStart}
 use Rattle.b2_runs.specs.Soundness.{IsSound, IsLoose, Drifts}
 use Rattle.b2_runs.specs.Afterwards.{next_update, Restless, Restless.through, IsNoted}
-use Rattle.b2_runs.specs.StopLaws.{RunIsBegun, BegunGoesOn, BegunUpToStart, EndedWasStarted, EndedOnce, BegunOnce, SoundBeforeEnds, NotedThroughEnds, NotedThoughTorn, FreshThoughStopped, NotStartedAgain, NoWorkIsLost}
+use Rattle.b2_runs.specs.StopLaws.{RunIsBegun, BegunGoesOn, BegunUpToStart, SoundBeforeEnds, NotedThroughEnds, NotedThoughTorn, FinishedIsRecorded, FreshThoughStopped, NotStartedAgain, NoWorkIsLost}
 use Rattle.b2_runs.proofs.ElementLemmas.{one_step, Contains_here, Contains_there, Contains_cases, Contains_nil}
-use Rattle.b2_runs.proofs.RunLaws.{run_has_begun, close_on_settled, same_members, done_was_started, done_once, each_event_once, start_in_start, done_in_start, start_in_done, done_in_done}
+use Rattle.b2_runs.proofs.EventLaws.{start_in_start, done_in_start, start_in_done, done_in_done}
+use Rattle.b2_runs.proofs.RunLaws.{fresh_events, run_has_begun, close_on_settled, same_members, done_was_started, done_once, each_event_once}
 use Rattle.b2_runs.proofs.CleanBySources.{clean_close_to}
-use Rattle.b2_runs.proofs.NotedLaws.{noted_after_drift, noted_after_line}
-use Rattle.b2_runs.proofs.AfterLaws.{same_sources, judge_next, fresh_afterwards}
+use Rattle.b2_runs.proofs.NotedLaws.{noted_after_drift}
+use Rattle.b2_runs.proofs.AfterLaws.{same_sources, recorded_next, judge_next, fresh_afterwards}
 
 -- a start is none of some ends
 start_not_done : (before rest : List ChildEvent) → OpenEnds before rest → (i : ℕ) → Contains rest (Start i) → ⊥
@@ -76,71 +78,12 @@ begun_up_to_start u events before after i b e =
     let (more, f) = start_within b.front b.rest before after i (start_not_done b.front b.rest b.ends i) (sym b.whole ∙ e) in
     run_has_begun u (before ++ Start i ∷ []) more (subst (IsRunSoFar u) (f ∙ sym (append_assoc before (Start i ∷ []) more)) b.run)
 
--- Each step that is done was started and is done once, and each event is there once.
-record IsOrderly (events : List ChildEvent) : Type 0 where
-  started : (i : ℕ) (well : Bool) → Contains events (Done i well) → Contains events (Start i)
-  done : (i : ℕ) (well other : Bool) → Contains events (Done i well) → Contains events (Done i other) → well ≡ other
-  once : AreOnce events
-
-push_once : (events : List ChildEvent) (event : ChildEvent) → AreOnce events → (Contains events event → ⊥) → AreOnce (events ++ event ∷ [])
-push_once [] event once new = (λ c. Contains_nil event c, tt)
-push_once (x ∷ xs) event once new = (
-  λ c. elim (Contains-push_cases xs event x c) [
-    | inl d ↦ once.0 d
-    | inr e ↦ new (subst (λ z. Contains (x ∷ xs) z) (sym e) (Contains_here x xs))
-  ],
-  push_once xs event once.1 (λ d. new (Contains_there x event xs d)),
-)
-
--- it stays so as an open step ends
-orderly_end : (events : List ChildEvent) (i : ℕ) (well : Bool) → IsOpen events i → IsOrderly events → IsOrderly (events ++ Done i well ∷ [])
-orderly_end events i well opened o = record {
-  started = λ k w d. Contains-append_left events (Done i well ∷ []) (Start k) (elim (done_in_done events i k well w d) [
-    | inl old ↦ o.started k w old
-    | inr e ↦ subst (λ j. Contains events (Start j)) e.0 opened.0
-  ]);
-  done = λ k w v c d. elim (done_in_done events i k well w c) [
-    | inl old ↦ elim (done_in_done events i k well v d) [
-      | inl too ↦ o.done k w v old too
-      | inr e ↦ absurd (opened.1 w (subst (λ j. Contains events (Done j w)) (sym e.0) old))
-    ]
-    | inr e ↦ elim (done_in_done events i k well v d) [
-      | inl old ↦ absurd (opened.1 v (subst (λ j. Contains events (Done j v)) (sym e.0) old))
-      | inr f ↦ sym e.1 ∙ f.1
-    ]
-  ];
-  once = push_once events (Done i well) o.once (opened.1 well);
-}
-
-orderly_ends : (front rest : List ChildEvent) → OpenEnds front rest → IsOrderly front → IsOrderly (front ++ rest)
-orderly_ends front [] ends o = subst IsOrderly (sym (append-nil front)) o
-orderly_ends front (Start i ∷ rest) ends o = absurd ends.0
-orderly_ends front (Done i well ∷ rest) ends o = subst IsOrderly (append_assoc front (Done i well ∷ []) rest) (orderly_ends (front ++ Done i well ∷ []) rest ends.1 (orderly_end front i well ends.0 o))
-
-is_orderly : (u : Update) (events : List ChildEvent) → IsBegun u events → IsOrderly events
-is_orderly u events b =
-    subst IsOrderly (sym b.whole)
-    (orderly_ends b.front b.rest b.ends
-    (record {
-      started = λ i well c. done_was_started u b.front i well b.run c;
-      done = λ i well other c d. done_once u b.front i well other b.run c d;
-      once = each_event_once u b.front b.run;
-    }))
-
-pub ended_was_started : EndedWasStarted
-ended_was_started u events i well b c = (is_orderly u events b).started i well c
-
-pub ended_once : EndedOnce
-ended_once u events i well other b c d = (is_orderly u events b).done i well other c d
-
-pub begun_once : BegunOnce
-begun_once u events b = (is_orderly u events b).once
-
 pub sound_before_ends : SoundBeforeEnds
 sound_before_ends u events disk b s = record {
   keeps = s.keeps;
   entry_stood = s.entry_stood;
-  log_true = s.log_true;
+  records_true = s.records_true;
+  distinct = s.distinct;
   done_well = λ i step path makes done. s.done_well i step path makes (event_after u events b (Done i true) done);
   only_outputs = λ path not_log unmade. s.only_outputs path not_log (λ i step started makes. unmade i step (start_before u events b i started) makes);
 }
@@ -160,8 +103,11 @@ pub noted_through_ends : NotedThroughEnds
 noted_through_ends u events before after log b apart d n = noted_after_drift u b.front before after log apart b.run (drifts_before u events before after b d) n
 
 pub noted_though_torn : NotedThoughTorn
-noted_though_torn u events now log after i step line apart at loose outs (inl same) n = subst (IsNoted u events now) (sym same) n
-noted_though_torn u events now log after i step line apart at loose outs (inr whole) n = subst (IsNoted u events now) (sym whole) (noted_after_line u events now log i step line apart at loose outs n)
+noted_though_torn u events now log after line (inl same) without with_line = subst (IsNoted u events now) (sym same) without
+noted_though_torn u events now log after line (inr whole) without with_line = subst (IsNoted u events now) (sym whole) with_line
+
+pub finished_is_recorded : FinishedIsRecorded
+finished_is_recorded u events now log quit jobs i step members n at done file close = recorded_next u now log quit jobs step members (n.recorded i step members at done file close)
 
 pub fresh_though_stopped : FreshThoughStopped
 fresh_though_stopped u events disk log quit jobs i step path b apart s n makes settled calm =
@@ -183,16 +129,8 @@ rests : (u : Update) (events later : List ChildEvent) (disk : Disk) (log : List 
 rests u events later disk log quit jobs i step path apart run sound noted begun none makes settled calm can =
     let next = next_update u disk.now log quit jobs in
     let j = judge_next u events disk log quit jobs apart run sound noted i step path makes settled calm in
-    let f : IsFresh next later step j.members = record {
-      not_all = j.is_fresh.not_all;
-      not_always = j.is_fresh.not_always;
-      not_notfile = j.is_fresh.not_notfile;
-      stand = j.is_fresh.stand;
-      none_older = j.is_fresh.none_older;
-      none_done = λ m y k other well c makes_m d. none k other m makes_m (j.inside m y c) (λ r. calm (through i step path j.members m y makes j.close c r)) (begun k well d);
-      none_notfile = j.is_fresh.none_notfile;
-      recorded = j.is_fresh.recorded;
-    } in
+    let f : IsFresh next later step j.members =
+    fresh_events next [] later step j.members (λ was m y k other well c makes_m d. none k other m makes_m (j.inside m y c) (λ r. calm (through i step path j.members m y makes j.close c r)) (begun k well d)) j.is_fresh in
     let same : step ≡ can.step = one_step u.build.steps i step can.step makes.at can.at in
     let close = clean_close_to u.build disk.now (same_sources u events disk apart sound) step j.members j.close in
     let close_can = (close_on_settled next later can.step can.members apart).0 can.close in

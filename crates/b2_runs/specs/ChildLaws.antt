@@ -5,7 +5,8 @@ use Rattle.b2_host.specs.Disks.{Disk}
 use Rattle.b2_host.specs.ChildProcesses.{Given, Child, Family, given_at, after_start, MayStart, Ends}
 use Rattle.b2_plan.specs.Plans.{Apart}
 use Rattle.b2_runs.specs.Staleness.{Update, paths_with_bytes}
-use Rattle.b2_runs.specs.Runs.{IsOpen, CanStart, IsRunSoFar, IsFed, AreFed}
+use Rattle.b2_runs.specs.Events.{IsOpen}
+use Rattle.b2_runs.specs.Runs.{CanStart, IsRunSoFar, IsFed, AreFed}
 use Rattle.b2_runs.specs.Soundness.{IsSound, AreAtWork}
 
 -- what the start of a step gives its child that can start

@@ -1,4 +1,4 @@
-use Rattle.std.specs.Prelude.{◌≡◌, ℕ, List}
+use Rattle.std.specs.Prelude.{◌≡◌, ◌↔◌, ℕ, List}
 use Rattle.b2_plan.specs.declared.step.Step.{Step}
 use Rattle.b2_plan.specs.Sources.{Build}
 use Rattle.b2_plan.specs.Closures.{Value, Values, Known, IsClose}
@@ -22,3 +22,11 @@ CloseStays v more = (b : Build) (step : Step) (members : List (List ℕ × Value
 -- the closure is one list
 abbrev pub CloseIsOne : Values → Type 0
 CloseIsOne v = (b : Build) (step : Step) (members others : List (List ℕ × Value)) → IsMap v → IsClose b v step members → IsClose b v step others → members ≡ others
+
+-- what a step is known to read depends on the values of what it is known to read alone
+abbrev pub KnownIsLocal : Values → Values → Type 0
+KnownIsLocal v other = (b : Build) (step : Step) (path : List ℕ) → ((p : List ℕ) (value : Value) → Known b v step p → v p value ↔ other p value) → Known b v step path ↔ Known b other step path
+
+-- so does its closure
+abbrev pub CloseIsLocal : Values → Values → Type 0
+CloseIsLocal v other = (b : Build) (step : Step) (members : List (List ℕ × Value)) → ((p : List ℕ) (value : Value) → Known b v step p → v p value ↔ other p value) → IsClose b v step members ↔ IsClose b other step members

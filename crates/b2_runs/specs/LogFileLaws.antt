@@ -13,13 +13,14 @@ use Rattle.b2_log.specs.declared.line.Record.{Record}
 use Rattle.b2_log.specs.declared.line.LogLine.{LogLine}
 use Rattle.b2_log.specs.declared.line.LogLine.TheVariants as lines
 use Rattle.b2_log.specs.Lines.{spelling, log_bytes}
-use Rattle.b2_log.specs.Good.{IsGood, IsProper}
+use Rattle.b2_log.specs.Good.{IsDigest, IsGood, IsProper}
 use Rattle.b2_log.specs.Readings.{IsReading}
-use Rattle.b2_log.specs.Finding.{path_of, outs_of, find_record, kept}
-use Rattle.b2_runs.specs.Logs.{IsTrueRecord, IsTrueLine, LogTrue}
+use Rattle.b2_log.specs.declared.subject.Subject.TheVariants as subjects
+use Rattle.b2_log.specs.Finding.{path_of, subject_of, find_record, kept}
+use Rattle.b2_runs.specs.Logs.{Making, IsTrueRecord, IsTrueLine, LogTrue}
 use Rattle.b2_runs.specs.LogFiles.{log_limit, IsLogOf, FileTells, IsTrueFile, IsLogTold, IsLogIn, IsTrueOn}
-use Rattle.b2_runs.specs.LogLaws.{Makings}
-use Rattle.b2_runs.specs.Staleness.{Update, AreStamped, paths_with_bytes}
+use Rattle.b2_runs.specs.Staleness.{Update, making}
+use Rattle.b2_runs.specs.Records.{IsRecordOf}
 use Rattle.b2_runs.specs.Soundness.{AreAtWork}
 
 -- a file counts as one list of lines
@@ -36,32 +37,32 @@ ReadFileTells = (bytes : List ℕ) (log : List LogLine) (outs : List (List ℕ))
 
 -- what a true file tells is a true record, of these very outputs
 abbrev pub TrueFileTells : Type 0
-TrueFileTells = (made : Makings) (past : List Past) (bytes : List ℕ) (outs : List (List ℕ)) (r : Record) → IsTrueFile made past bytes → FileTells bytes outs (Some r) → IsTrueRecord made past r × (map path_of r.outs ≡ outs)
+TrueFileTells = (m : Making) (past : List Past) (bytes : List ℕ) (outs : List (List ℕ)) (r : Record) → IsTrueFile m past bytes → FileTells bytes outs (Some r) → IsTrueRecord m past r × (map path_of r.outs ≡ outs)
 
 -- the file without bytes is true
 abbrev pub EmptyFileIsTrue : Type 0
-EmptyFileIsTrue = (made : Makings) (past : List Past) → IsTrueFile made past []
+EmptyFileIsTrue = (m : Making) (past : List Past) → IsTrueFile m past []
 
 -- a true file stays true where more has stood
 abbrev pub FileTrueAsPastGrows : Type 0
-FileTrueAsPastGrows = (made : Makings) (past more : List Past) (bytes : List ℕ) → ((old : Past) → Contains past old → Contains more old) → IsTrueFile made past bytes → IsTrueFile made more bytes
+FileTrueAsPastGrows = (m : Making) (past more : List Past) (bytes : List ℕ) → ((old : Past) → Contains past old → Contains more old) → IsTrueFile m past bytes → IsTrueFile m more bytes
 
 -- any first bytes of a file whose lines are true are a true file
 abbrev pub TrueFront : Type 0
-TrueFront = (made : Makings) (past : List Past) (front rest : List ℕ) (log : List LogLine) (good : ℕ) → IsReading (front ++ rest) log good → LogTrue made past log → IsTrueFile made past front
+TrueFront = (m : Making) (past : List Past) (front rest : List ℕ) (log : List LogLine) (good : ℕ) → IsReading (front ++ rest) log good → LogTrue m past log → IsTrueFile m past front
 
 -- a true file all of whose bytes are good stays true where the spelling of a true line is appended
 abbrev pub TrueWithSpelling : Type 0
-TrueWithSpelling = (made : Makings) (past : List Past) (bytes : List ℕ) (log : List LogLine) (line : LogLine) → IsReading bytes log (length bytes) → IsTrueFile made past bytes → IsGood line → IsTrueLine made past line → IsTrueFile made past (bytes ++ spelling line)
+TrueWithSpelling = (m : Making) (past : List Past) (bytes : List ℕ) (log : List LogLine) (line : LogLine) → IsReading bytes log (length bytes) → IsTrueFile m past bytes → IsGood line → IsTrueLine m past line → IsTrueFile m past (bytes ++ spelling line)
 
 -- .. and where only the first part of the spelling is
 abbrev pub TrueWithTornSpelling : Type 0
-TrueWithTornSpelling = (made : Makings) (past : List Past) (bytes : List ℕ) (log : List LogLine) (line : LogLine) (part missing : List ℕ) → IsReading bytes log (length bytes) → IsTrueFile made past bytes → IsGood line → IsTrueLine made past line
-    → spelling line ≡ part ++ missing → IsTrueFile made past (bytes ++ part)
+TrueWithTornSpelling = (m : Making) (past : List Past) (bytes : List ℕ) (log : List LogLine) (line : LogLine) (part missing : List ℕ) → IsReading bytes log (length bytes) → IsTrueFile m past bytes → IsGood line → IsTrueLine m past line
+    → spelling line ≡ part ++ missing → IsTrueFile m past (bytes ++ part)
 
 -- the kept lines of a true file are a true file, and so is any first part of their spelling
 abbrev pub TrueOfKept : Type 0
-TrueOfKept = (made : Makings) (past : List Past) (bytes : List ℕ) (log : List LogLine) (good : ℕ) (part missing : List ℕ) → IsReading bytes log good → LogTrue made past log → log_bytes (kept log) ≡ part ++ missing → IsTrueFile made past part
+TrueOfKept = (m : Making) (past : List Past) (bytes : List ℕ) (log : List LogLine) (good : ℕ) (part missing : List ℕ) → IsReading bytes log good → LogTrue m past log → log_bytes (kept log) ≡ part ++ missing → IsTrueFile m past part
 
 -- where all bytes of a file are good and the spelling of a good line is appended, within the limit, it counts as one line more
 abbrev pub AppendAdds : Type 0
@@ -76,17 +77,17 @@ TornAppendLeaves = (bytes : List ℕ) (log after : List LogLine) (line : LogLine
 -- so it tells of other outputs what it told before
 abbrev pub TornTellsOthers : Type 0
 TornTellsOthers = (bytes : List ℕ) (log : List LogLine) (line : LogLine) (part missing : List ℕ) (outs : List (List ℕ)) (told : Option Record) → IsReading bytes log (length bytes) → IsGood line → spelling line ≡ part ++ missing → length (bytes ++ part) ≤ log_limit
-    → (outs_of line ≡ outs → ⊥) → FileTells (bytes ++ part) outs told ↔ FileTells bytes outs told
+    → subject_of line ≢ subjects.Outputs outs → FileTells (bytes ++ part) outs told ↔ FileTells bytes outs told
 
 -- the kept lines of a file tell of all outputs what the file told
 abbrev pub KeptTellsSame : Type 0
 KeptTellsSame = (bytes : List ℕ) (log : List LogLine) (outs : List (List ℕ)) (told : Option Record) → IsLogOf bytes log → FileTells (log_bytes (kept log)) outs told ↔ FileTells bytes outs told
 
--- the record of a step with the stamps of its outputs and of its closure's members is one whose line can be read back,
--- and so is a line that drops the record
+-- the record that an update appends is one whose line can be read back, where digests have their form, and so is a line that
+-- drops a record
 abbrev pub RecordIsProper : Type 0
-RecordIsProper = (b : Build) (now : Folder) (i : ℕ) (step : Step) (members : List (List ℕ × Value)) (r : Record) → Apart b.steps b.roots → step_at b.steps i ≡ Some step → IsClose b (Clean b) step members
-    → AreStamped now step.outs r.outs → AreStamped now (paths_with_bytes members) r.ins → IsProper (lines.Record r)
+RecordIsProper = (u : Update) (now : Folder) (i : ℕ) (step : Step) (members : List (List ℕ × Value)) (r : Record) → Apart u.build.steps u.build.roots → step_at u.build.steps i ≡ Some step → IsClose u.build (Clean u.build) step members
+    → ((bytes : List ℕ) → IsDigest (u.digest bytes)) → IsRecordOf u now step members r → IsProper (lines.Record r)
 
 abbrev pub DropIsProper : Type 0
 DropIsProper = (b : Build) (i : ℕ) (step : Step) → Apart b.steps b.roots → step_at b.steps i ≡ Some step → IsProper (lines.Drop step.outs)
@@ -97,20 +98,20 @@ ReadTellsLog = (folder : Folder) (answer : ReadAnswer) (log : List LogLine) → 
 
 -- the log on a disk is true where the file that stands there is
 abbrev pub TrueByFile : Type 0
-TrueByFile = (made : Makings) (disk : Disk) (bytes : List ℕ) → bytes_at disk.now log_path ≡ Some bytes → IsTrueOn made disk ↔ IsTrueFile made disk.past bytes
+TrueByFile = (m : Making) (disk : Disk) (bytes : List ℕ) → bytes_at disk.now log_path ≡ Some bytes → IsTrueOn m disk ↔ IsTrueFile m disk.past bytes
 
 -- .. and where none stands
 abbrev pub TrueWhereMissing : Type 0
-TrueWhereMissing = (made : Makings) (disk : Disk) → bytes_at disk.now log_path ≡ None → IsTrueOn made disk
+TrueWhereMissing = (m : Making) (disk : Disk) → bytes_at disk.now log_path ≡ None → IsTrueOn m disk
 
 -- it stays true where its file stays as it is and no file that stood is forgotten
 abbrev pub TrueWhereStill : Type 0
-TrueWhereStill = (made : Makings) (before after : Disk) → bytes_at after.now log_path ≡ bytes_at before.now log_path → ((old : Past) → Contains before.past old → Contains after.past old) → IsTrueOn made before → IsTrueOn made after
+TrueWhereStill = (m : Making) (before after : Disk) → bytes_at after.now log_path ≡ bytes_at before.now log_path → ((old : Past) → Contains before.past old → Contains after.past old) → IsTrueOn m before → IsTrueOn m after
 
 -- so it does while children work, for none of them writes to the log
 abbrev pub TrueThroughWork : Type 0
-TrueThroughWork = (u : Update) (events : List ChildEvent) (running : List Child) (before after : Disk) → Apart u.build.steps u.build.roots → AreAtWork u events running → ChangesOnlyOutputs running before after → IsTrueOn u.build.made before → IsTrueOn u.build.made after
+TrueThroughWork = (u : Update) (events : List ChildEvent) (running : List Child) (before after : Disk) → Apart u.build.steps u.build.roots → AreAtWork u events running → ChangesOnlyOutputs running before after → IsTrueOn (making u) before → IsTrueOn (making u) after
 
 -- .. and where an output is removed
 abbrev pub TrueThroughRemoval : Type 0
-TrueThroughRemoval = (b : Build) (disk : Disk) (i : ℕ) (step : Step) (path : List ℕ) → Apart b.steps b.roots → Makes b.steps i step path → IsTrueOn b.made disk → IsTrueOn b.made (without path disk)
+TrueThroughRemoval = (b : Build) (m : Making) (disk : Disk) (i : ℕ) (step : Step) (path : List ℕ) → Apart b.steps b.roots → Makes b.steps i step path → IsTrueOn m disk → IsTrueOn m (without path disk)

@@ -7,7 +7,7 @@ use Rattle.b2_log.specs.declared.line.Record.{Record}
 use Rattle.b2_log.specs.declared.line.LogLine.{LogLine}
 use Rattle.b2_log.specs.Finding.{find_record}
 use Rattle.b2_log.specs.Readings.{IsReading}
-use Rattle.b2_runs.specs.Logs.{LogTrue}
+use Rattle.b2_runs.specs.Logs.{Making, LogTrue}
 
 -- how many bytes a log has at most
 abbrev pub log_limit : ℕ
@@ -23,8 +23,8 @@ abbrev pub FileTells : List ℕ → List (List ℕ) → Option Record → Type 0
 FileTells bytes outs told = (log : List LogLine) × IsLogOf bytes log × (find_record outs log ≡ told)
 
 -- a file of these bytes is true: the lines that it counts as are
-abbrev pub IsTrueFile : (List ℕ → List (List ℕ × List ℕ) → List ℕ → List ℕ) → List Past → List ℕ → Type 0
-IsTrueFile made past bytes = (log : List LogLine) → IsLogOf bytes log → LogTrue made past log
+abbrev pub IsTrueFile : Making → List Past → List ℕ → Type 0
+IsTrueFile m past bytes = (log : List LogLine) → IsLogOf bytes log → LogTrue m past log
 
 -- the lines of a log whose file has these bytes: those that it counts as, and none where no file stands
 abbrev pub IsLogHeld : Option (List ℕ) → List LogLine → Type 0
@@ -44,5 +44,5 @@ IsLogIn folder log = IsLogHeld (bytes_at folder log_path) log
 
 -- The log on a disk is true. That what stood has one content for a path and a stamp is not said again here: each host that
 -- tells its files promises it of every disk (`IsConsistent`), and `IsSound` has it of the disk of an update.
-abbrev pub IsTrueOn : (List ℕ → List (List ℕ × List ℕ) → List ℕ → List ℕ) → Disk → Type 0
-IsTrueOn made disk = (log : List LogLine) → IsLogIn disk.now log → LogTrue made disk.past log
+abbrev pub IsTrueOn : Making → Disk → Type 0
+IsTrueOn m disk = (log : List LogLine) → IsLogIn disk.now log → LogTrue m disk.past log

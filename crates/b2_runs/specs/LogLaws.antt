@@ -1,56 +1,82 @@
-use Rattle.std.specs.Prelude.{◌≡◌, ◌⊎◌, ℕ, List, [], ◌∷◌, ◌++◌, Some, map}
+use Rattle.std.specs.Prelude.{◌≡◌, ◌≢◌, ◌↔◌, ◌⊎◌, ℕ, List, [], ◌∷◌, ◌++◌, Some, None, map}
 use Rattle.std.specs.List.{Contains}
 use Rattle.b2_host.specs.Disks.{Past}
 use Rattle.b2_log.specs.declared.line.Record.{Record}
 use Rattle.b2_log.specs.declared.line.LogLine.{LogLine}
 use Rattle.b2_log.specs.declared.line.LogLine.TheVariants as lines
-use Rattle.b2_log.specs.Finding.{path_of, outs_of, record_in, find_record}
-use Rattle.b2_runs.specs.Logs.{IsTrueRecord, LogTrue}
+use Rattle.b2_log.specs.declared.line.ScanLine.{ScanLine}
+use Rattle.b2_log.specs.declared.subject.Subject.TheVariants as subjects
+use Rattle.b2_log.specs.Finding.{path_of, subject_of, find_record, find_scan}
+use Rattle.b2_runs.specs.Logs.{Making, IsTrueLine, LogTrue, RecordsTrue, ScansTrue}
 
--- what a step's text makes of named inputs, at an output
-abbrev pub Makings : Type 0
-Makings = List ℕ → List (List ℕ × List ℕ) → List ℕ → List ℕ
+-- ---- what is found
 
--- what is found is in the log, and has these outputs
+-- a record that is found is in the log, and has these outputs
 abbrev pub FoundIsThere : Type 0
 FoundIsThere = (outs : List (List ℕ)) (log : List LogLine) (r : Record) → find_record outs log ≡ Some r → Contains log (lines.Record r) × (map path_of r.outs ≡ outs)
 
--- a line at the end has the last word on its outputs
-abbrev pub LastWord : Type 0
-LastWord = (log : List LogLine) (line : LogLine) → find_record (outs_of line) (log ++ line ∷ []) ≡ record_in line
+-- a scan that is found is in the log, of this path and at this stamp
+abbrev pub ScanIsThere : Type 0
+ScanIsThere = (path : List ℕ) (stamp : ℕ) (log : List LogLine) (s : ScanLine) → find_scan path stamp log ≡ Some s → Contains log (lines.Scan s) × (s.path ≡ path) × (s.stamp ≡ stamp)
 
--- a line says nothing of other outputs
+-- a record at the end has the last word on its outputs
+abbrev pub LastRecord : Type 0
+LastRecord = (log : List LogLine) (r : Record) → find_record (map path_of r.outs) (log ++ lines.Record r ∷ []) ≡ Some r
+
+-- so has a drop
+abbrev pub LastDrop : Type 0
+LastDrop = (log : List LogLine) (outs : List (List ℕ)) → find_record outs (log ++ lines.Drop outs ∷ []) ≡ None
+
+-- a line says nothing of other outputs; so a scan line says nothing of any
 abbrev pub OthersUnsaid : Type 0
-OthersUnsaid = (outs : List (List ℕ)) (log : List LogLine) (line : LogLine) → (outs_of line ≡ outs → ⊥) → find_record outs (log ++ line ∷ []) ≡ find_record outs log
+OthersUnsaid = (outs : List (List ℕ)) (log : List LogLine) (line : LogLine) → subject_of line ≢ subjects.Outputs outs → find_record outs (log ++ line ∷ []) ≡ find_record outs log
+
+-- an append that was torn has left the lines as they were, or the whole line after them: it says nothing of other outputs
+abbrev pub OthersUnsaidThoughTorn : Type 0
+OthersUnsaidThoughTorn = (outs : List (List ℕ)) (log after : List LogLine) (line : LogLine) → (after ≡ log) ⊎ (after ≡ log ++ line ∷ []) → subject_of line ≢ subjects.Outputs outs → find_record outs after ≡ find_record outs log
+
+-- ---- what keeps a log true
+
+-- a log is true where its records and its scan lines are
+abbrev pub TrueByKind : Type 0
+TrueByKind = (m : Making) (past : List Past) (log : List LogLine) → LogTrue m past log ↔ (RecordsTrue m past log × ScansTrue m past log)
 
 -- a log without lines is true
 abbrev pub EmptyIsTrue : Type 0
-EmptyIsTrue = (made : Makings) (past : List Past) → LogTrue made past []
+EmptyIsTrue = (m : Making) (past : List Past) → LogTrue m past []
 
--- a true log stays true where more has stood
+-- a true line stays true where more has stood
+abbrev pub LineTrueAsPastGrows : Type 0
+LineTrueAsPastGrows = (m : Making) (past more : List Past) (line : LogLine) → ((old : Past) → Contains past old → Contains more old) → IsTrueLine m past line → IsTrueLine m more line
+
+-- so does a true log
 abbrev pub TrueAsPastGrows : Type 0
-TrueAsPastGrows = (made : Makings) (past more : List Past) (log : List LogLine) → ((old : Past) → Contains past old → Contains more old) → LogTrue made past log → LogTrue made more log
+TrueAsPastGrows = (m : Making) (past more : List Past) (log : List LogLine) → ((old : Past) → Contains past old → Contains more old) → LogTrue m past log → LogTrue m more log
 
--- a true log stays true where a true record is appended
-abbrev pub TrueWithRecord : Type 0
-TrueWithRecord = (made : Makings) (past : List Past) (log : List LogLine) (r : Record) → LogTrue made past log → IsTrueRecord made past r → LogTrue made past (log ++ lines.Record r ∷ [])
-
--- a true log stays true where a drop is appended
-abbrev pub TrueWithDrop : Type 0
-TrueWithDrop = (made : Makings) (past : List Past) (log : List LogLine) (outs : List (List ℕ)) → LogTrue made past log → LogTrue made past (log ++ lines.Drop outs ∷ [])
+-- a true log stays true where a true line is appended
+abbrev pub TrueWithLine : Type 0
+TrueWithLine = (m : Making) (past : List Past) (log : List LogLine) (line : LogLine) → LogTrue m past log → IsTrueLine m past line → LogTrue m past (log ++ line ∷ [])
 
 -- what is left of a true log that was torn is true: any first lines of it
 abbrev pub TruePrefix : Type 0
-TruePrefix = (made : Makings) (past : List Past) (front rest : List LogLine) → LogTrue made past (front ++ rest) → LogTrue made past front
+TruePrefix = (m : Making) (past : List Past) (front rest : List LogLine) → LogTrue m past (front ++ rest) → LogTrue m past front
 
--- so is what an append leaves that was torn, be it of a true record
+-- so is what an append leaves that was torn, be it of a true line
 abbrev pub TrueAfterTornAppend : Type 0
-TrueAfterTornAppend = (made : Makings) (past : List Past) (log front rest : List LogLine) (r : Record) → LogTrue made past log → IsTrueRecord made past r → log ++ lines.Record r ∷ [] ≡ front ++ rest → LogTrue made past front
-
--- an append that was torn has left the lines as they were, or the whole line behind them: it says nothing of other outputs
-abbrev pub OthersUnsaidThoughTorn : Type 0
-OthersUnsaidThoughTorn = (outs : List (List ℕ)) (log after : List LogLine) (line : LogLine) → (after ≡ log) ⊎ (after ≡ log ++ line ∷ []) → (outs_of line ≡ outs → ⊥) → find_record outs after ≡ find_record outs log
+TrueAfterTornAppend = (m : Making) (past : List Past) (log front rest : List LogLine) (line : LogLine) → LogTrue m past log → IsTrueLine m past line → log ++ line ∷ [] ≡ front ++ rest → LogTrue m past front
 
 -- a log whose lines are all among those of a true log is true
 abbrev pub TrueWithFewer : Type 0
-TrueWithFewer = (made : Makings) (past : List Past) (log kept : List LogLine) → ((line : LogLine) → Contains kept line → Contains log line) → LogTrue made past log → LogTrue made past kept
+TrueWithFewer = (m : Making) (past : List Past) (log kept : List LogLine) → ((line : LogLine) → Contains kept line → Contains log line) → LogTrue m past log → LogTrue m past kept
+
+-- scan lines stay true where a true line is appended, whatever the records are
+abbrev pub ScansTrueWithLine : Type 0
+ScansTrueWithLine = (m : Making) (past : List Past) (log : List LogLine) (line : LogLine) → ScansTrue m past log → IsTrueLine m past line → ScansTrue m past (log ++ line ∷ [])
+
+-- .. where more has stood
+abbrev pub ScansTrueAsPastGrows : Type 0
+ScansTrueAsPastGrows = (m : Making) (past more : List Past) (log : List LogLine) → ((old : Past) → Contains past old → Contains more old) → ScansTrue m past log → ScansTrue m more log
+
+-- .. and where lines are left out
+abbrev pub ScansTrueWithFewer : Type 0
+ScansTrueWithFewer = (m : Making) (past : List Past) (log kept : List LogLine) → ((line : LogLine) → Contains kept line → Contains log line) → ScansTrue m past log → ScansTrue m past kept

@@ -1,4 +1,5 @@
-use Rattle.std.specs.Prelude.{◌≡◌, ℕ, Bool, true, List, [], ◌∷◌, ◌++◌, Some}
+use Rattle.std.specs.Prelude.{◌≡◌, ℕ, Bool, true, false, List, [], ◌∷◌, ◌++◌, Some}
+use Rattle.std.specs.List.{Contains}
 use Rattle.b2_host.specs.declared.children.ChildEvent.{ChildEvent}
 use Rattle.b2_host.specs.declared.children.ChildEvent.TheVariants.{Start, Done}
 use Rattle.b2_host.specs.Disks.{Folder, Disk, IsConsistent}
@@ -10,9 +11,13 @@ use Rattle.b2_plan.specs.Cleans.{Clean}
 use Rattle.b2_log.specs.declared.line.Record.{Record}
 use Rattle.b2_log.specs.declared.line.LogLine.{LogLine}
 use Rattle.b2_log.specs.declared.line.LogLine.TheVariants as lines
-use Rattle.b2_log.specs.Finding.{outs_of, find_record}
-use Rattle.b2_runs.specs.Staleness.{Update, AreStamped, paths_with_bytes, NoneOlder, IsFresh}
-use Rattle.b2_runs.specs.Runs.{IsOpen, IsRunSoFar}
+use Rattle.b2_log.specs.declared.line.ScanLine.{ScanLine}
+use Rattle.b2_log.specs.declared.subject.Subject.TheVariants as subjects
+use Rattle.b2_log.specs.Finding.{subject_of, find_record}
+use Rattle.b2_runs.specs.Staleness.{Update, NoneOlder, IsFresh}
+use Rattle.b2_runs.specs.Records.{IsRecordOf}
+use Rattle.b2_runs.specs.Events.{IsOpen}
+use Rattle.b2_runs.specs.Runs.{Settled, CanStart, IsRunSoFar}
 use Rattle.b2_runs.specs.Outcomes.{IsFailed, LeavesNothing}
 use Rattle.b2_runs.specs.Soundness.{IsLoose, Drifts, AreAtWork}
 use Rattle.b2_runs.specs.Afterwards.{next_update, IsNoted}
@@ -23,7 +28,7 @@ NotedAtEntry = (u : Update) (now : Folder) (log : List LogLine) → ((outs : Lis
 
 -- .. and as a step starts
 abbrev pub NotedAfterStart : Type 0
-NotedAfterStart = (u : Update) (events : List ChildEvent) (now : Folder) (log : List LogLine) (i : ℕ) → IsNoted u events now log → IsNoted u (events ++ Start i ∷ []) now log
+NotedAfterStart = (u : Update) (events : List ChildEvent) (now : Folder) (log : List LogLine) (i : ℕ) → Apart u.build.steps u.build.roots → CanStart u events i → IsNoted u events now log → IsNoted u (events ++ Start i ∷ []) now log
 
 -- .. as steps that run or failed change their outputs
 abbrev pub NotedAfterDrift : Type 0
@@ -31,17 +36,27 @@ NotedAfterDrift = (u : Update) (events : List ChildEvent) (before after : Disk) 
 
 -- .. as a step is done badly, or as one is done that has no record
 abbrev pub NotedAfterOtherEnd : Type 0
-NotedAfterOtherEnd = (u : Update) (events : List ChildEvent) (now : Folder) (log : List LogLine) (i : ℕ) (step : Step) (well : Bool) → step_at u.build.steps i ≡ Some step → (well ≡ true → step.notfile ≡ true) → IsNoted u events now log → IsNoted u (events ++ Done i well ∷ []) now log
+NotedAfterOtherEnd = (u : Update) (events : List ChildEvent) (now : Folder) (log : List LogLine) (i : ℕ) (step : Step) (well : Bool) → Apart u.build.steps u.build.roots → IsOpen events i → step_at u.build.steps i ≡ Some step → (well ≡ true → step.notfile ≡ true) → IsNoted u events now log → IsNoted u (events ++ Done i well ∷ []) now log
 
 -- .. as a line is appended for the outputs of a step that runs or failed, as one that drops its record
 abbrev pub NotedAfterLine : Type 0
-NotedAfterLine = (u : Update) (events : List ChildEvent) (now : Folder) (log : List LogLine) (i : ℕ) (step : Step) (line : LogLine) → Apart u.build.steps u.build.roots → step_at u.build.steps i ≡ Some step → IsLoose events i → outs_of line ≡ step.outs → IsNoted u events now log → IsNoted u events now (log ++ line ∷ [])
+NotedAfterLine = (u : Update) (events : List ChildEvent) (now : Folder) (log : List LogLine) (i : ℕ) (step : Step) (line : LogLine) → Apart u.build.steps u.build.roots → step_at u.build.steps i ≡ Some step → IsLoose events i → subject_of line ≡ subjects.Outputs step.outs → IsNoted u events now log → IsNoted u events now (log ++ line ∷ [])
 
 -- .. and as a step is done well and its record is appended
 abbrev pub NotedAfterRecord : Type 0
 NotedAfterRecord = (u : Update) (events : List ChildEvent) (now : Folder) (log : List LogLine) (i : ℕ) (step : Step) (members : List (List ℕ × Value)) (r : Record) → Apart u.build.steps u.build.roots → IsNoted u events now log → IsOpen events i
-    → step_at u.build.steps i ≡ Some step → IsClose u.build (Clean u.build) step members → r.text ≡ step.text → AreStamped now step.outs r.outs → AreStamped now (paths_with_bytes members) r.ins → NoneOlder now step members
+    → step_at u.build.steps i ≡ Some step → IsClose u.build (Clean u.build) step members → IsRecordOf u now step members r → NoneOlder now step members
     → IsNoted u (events ++ Done i true ∷ []) now (log ++ lines.Record r ∷ [])
+
+-- .. as a scan line is appended
+abbrev pub NotedAfterScan : Type 0
+NotedAfterScan = (u : Update) (events : List ChildEvent) (now : Folder) (log : List LogLine) (s : ScanLine) → IsNoted u events now log → IsNoted u events now (log ++ lines.Scan s ∷ [])
+
+-- .. and as a record with digests is appended of a step that was not started, all of whose closure is settled
+abbrev pub NotedAfterMigration : Type 0
+NotedAfterMigration = (u : Update) (events : List ChildEvent) (now : Folder) (log : List LogLine) (i : ℕ) (step : Step) (members : List (List ℕ × Value)) (r : Record) → Apart u.build.steps u.build.roots → IsNoted u events now log → u.by_digest ≡ true
+    → step_at u.build.steps i ≡ Some step → (Contains events (Start i) → ⊥) → (Contains events (Done i true) → ⊥) → IsClose u.build (Clean u.build) step members → ((member : List ℕ) (value : Value) → Contains members (member, value) → Settled u events member) → IsRecordOf u now step members r
+    → IsNoted u events now (log ++ lines.Record r ∷ [])
 
 -- a child that ends well leaves no output older than a member of its step's closure
 abbrev pub OutputsAreNewer : Type 0

@@ -1,4 +1,4 @@
-use Rattle.std.specs.Prelude.{◌≡◌, ℕ, Bool, List, [], ◌∷◌, ◌++◌, Some}
+use Rattle.std.specs.Prelude.{◌≡◌, ◌↔◌, ℕ, Bool, List, [], ◌∷◌, ◌++◌, Some}
 use Rattle.std.specs.List.{Contains}
 use Rattle.b2_host.specs.declared.children.ChildEvent.{ChildEvent}
 use Rattle.b2_host.specs.declared.children.ChildEvent.TheVariants.{Start, Done}
@@ -6,8 +6,9 @@ use Rattle.b2_plan.specs.declared.step.Step.{Step}
 use Rattle.b2_plan.specs.Plans.{Apart, step_at}
 use Rattle.b2_plan.specs.Closures.{Value, IsClose}
 use Rattle.b2_plan.specs.Cleans.{Clean}
-use Rattle.b2_runs.specs.Staleness.{Update}
-use Rattle.b2_runs.specs.Runs.{Settled, on_settled, Needed, IsOpen, CanStart, MayCome, IsRunSoFar, AreOnce}
+use Rattle.b2_runs.specs.Staleness.{Update, IsFresh}
+use Rattle.b2_runs.specs.Events.{IsOpen, AreOnce}
+use Rattle.b2_runs.specs.Runs.{Settled, on_settled, Needed, CanStart, MayCome, IsRunSoFar, IsRun}
 
 -- a run goes on by each event that may come
 abbrev pub RunGoesOn : Type 0
@@ -55,3 +56,16 @@ EachEventOnce = (u : Update) (events : List ChildEvent) → IsRunSoFar u events 
 -- what is settled has a value in the clean build: no file is asked for this
 abbrev pub SettledHasValue : Type 0
 SettledHasValue = (u : Update) (events : List ChildEvent) (path : List ℕ) → Apart u.build.steps u.build.roots → IsRunSoFar u events → Settled u events path → (value : Value) × Clean u.build path value
+
+-- a step is judged once: while all of its closure is settled, the verdict on it stays as events come
+abbrev pub VerdictStays : Type 0
+VerdictStays = (u : Update) (events : List ChildEvent) (event : ChildEvent) (step : Step) (members : List (List ℕ × Value)) → Apart u.build.steps u.build.roots → MayCome u events event → ((member : List ℕ) (value : Value) → Contains members (member, value) → Settled u events member)
+    → IsFresh u events step members ↔ IsFresh u (events ++ event ∷ []) step members
+
+-- .. and its closure stays as it is
+abbrev pub CloseOnSettledStays : Type 0
+CloseOnSettledStays = (u : Update) (events : List ChildEvent) (event : ChildEvent) (step : Step) (members : List (List ℕ × Value)) → Apart u.build.steps u.build.roots → MayCome u events event → IsClose u.build (on_settled u events) step members → IsClose u.build (on_settled u (events ++ event ∷ [])) step members
+
+-- each run so far is a prefix of a run
+abbrev pub RunIsPrefix : Type 0
+RunIsPrefix = (u : Update) (events : List ChildEvent) → Apart u.build.steps u.build.roots → IsRunSoFar u events → ¬ ((rest : List ChildEvent) → ¬ IsRun u (events ++ rest))

@@ -1,4 +1,4 @@
-use Rattle.std.specs.Prelude.{◌≡◌, ℕ, ◌+◌, ◌<◌, Bool, true, false, List, [], ◌∷◌, ◌++◌, Option, Some, None, ⊤, count_by}
+use Rattle.std.specs.Prelude.{◌≡◌, ℕ, ◌+◌, ◌<◌, Bool, true, false, List, [], ◌∷◌, ◌++◌, Some, ⊤, count_by}
 use Rattle.std.specs.List.{Contains, AllZip, filter_map}
 use Rattle.b2_host.specs.declared.children.ChildEvent.{ChildEvent}
 use Rattle.b2_host.specs.declared.children.ChildEvent.TheVariants.{Start, Done}
@@ -9,6 +9,9 @@ use Rattle.b2_plan.specs.Sources.{IsSource}
 use Rattle.b2_plan.specs.Closures.{Value, Values, Known, IsClose, with_bytes}
 use Rattle.b2_plan.specs.Cleans.{Clean}
 use Rattle.b2_runs.specs.Staleness.{Update, IsFresh, IsStale, paths_with_bytes}
+use Rattle.b2_runs.specs.Events.{is_start, is_done, started, IsOpen}
+
+-- Events are taken as they count: the end of a step that left an output out is a bad one.
 
 -- The least set of paths with the sources, the outputs of steps that were done well, and the outputs of steps that were
 -- not started, are fresh, and have all of their closure by the clean build in this set.
@@ -25,18 +28,6 @@ on_settled u events path value = Settled u events path × Clean u.build path val
 pub data Needed (u : Update) (events : List ChildEvent) : ℕ → Type 0 where
   wanted : (i : ℕ) (step : Step) (path : List ℕ) → Contains u.build.wanted path → Makes u.build.steps i step path → Needed u events i
   member : (i : ℕ) (step : Step) (k : ℕ) (other : Step) (path : List ℕ) → Needed u events k → step_at u.build.steps k ≡ Some other → Known u.build (on_settled u events) other path → Makes u.build.steps i step path → Needed u events i
-
-abbrev pub is_start : ChildEvent → Bool
-is_start (Start i) = true
-is_start (Done i well) = false
-
-abbrev pub is_done : ChildEvent → Bool
-is_done (Start i) = false
-is_done (Done i well) = true
-
--- the step was started and is not done
-abbrev pub IsOpen : List ChildEvent → ℕ → Type 0
-IsOpen events i = Contains events (Start i) × ((well : Bool) → Contains events (Done i well) → ⊥)
 
 -- The step can start: it is needed, not started, and stale; all of its closure is settled; fewer than `jobs` are open;
 -- and where the update is to quit, nothing has failed.
@@ -66,11 +57,6 @@ RunFrom u before (event ∷ events) = MayCome u before event × RunFrom u (befor
 abbrev pub IsRunSoFar : Update → List ChildEvent → Type 0
 IsRunSoFar u events = RunFrom u [] events
 
--- each of the events is there once
-abbrev pub AreOnce : List ChildEvent → Type 0
-AreOnce [] = ⊤
-AreOnce (event ∷ events) = (Contains events event → ⊥) × AreOnce events
-
 -- a whole run: at its end nothing is open and nothing can start
 pub record IsRun (u : Update) (events : List ChildEvent) : Type 0 where
   pub each : IsRunSoFar u events
@@ -82,23 +68,18 @@ abbrev pub EndsOpen : List ChildEvent → ChildEvent → Type 0
 EndsOpen before (Start i) = ⊥
 EndsOpen before (Done i well) = IsOpen before i
 
--- behind those events, these are ends of steps that are open there, one after another, so each step ends once
+-- after those events, these are ends of steps that are open then, one after another, so each step ends once
 abbrev pub OpenEnds : List ChildEvent → List ChildEvent → Type 0
 OpenEnds before [] = ⊤
 OpenEnds before (event ∷ events) = EndsOpen before event × OpenEnds (before ++ event ∷ []) events
 
--- What there is of an update that stopped anywhere: a run so far, and behind it ends alone, of steps that it left open.
+-- The events of an update that stopped anywhere: a run so far, followed by ends alone, of steps that it left open.
 pub record IsBegun (u : Update) (events : List ChildEvent) : Type 0 where
   pub front : List ChildEvent
   pub rest : List ChildEvent
   pub whole : events ≡ front ++ rest
   pub run : IsRunSoFar u front
   pub ends : OpenEnds front rest
-
--- the number of the step that an event starts
-abbrev pub started : ChildEvent → Option ℕ
-started (Start i) = Some i
-started (Done i well) = None
 
 -- The child of this step was given the step's text, the members of its closure that have bytes, in byte order, with the
 -- bytes of the clean build, and the step's outputs.

@@ -9,14 +9,15 @@ use Rattle.b2_plan.specs.Plans.{Apart, Makes, log_path, step_at}
 use Rattle.b2_plan.specs.Closures.{Value, IsClose}
 use Rattle.b2_plan.specs.Cleans.{Clean}
 use Rattle.b2_log.specs.declared.line.Record.{Record}
-use Rattle.b2_runs.specs.Logs.{LogTrue, IsTrueRecord}
-use Rattle.b2_runs.specs.Staleness.{Update, AreStamped, paths_with_bytes}
+use Rattle.b2_runs.specs.Logs.{RecordsTrue, IsTrueRecord}
+use Rattle.b2_runs.specs.Staleness.{Update, making}
+use Rattle.b2_runs.specs.Records.{IsRecordOf}
 use Rattle.b2_runs.specs.Runs.{Settled}
-use Rattle.b2_runs.specs.Soundness.{IsSound, IsLoose, Drifts, AreAtWork}
+use Rattle.b2_runs.specs.Soundness.{Distinguishes, IsSound, IsLoose, Drifts, AreAtWork}
 
 -- where an update begins, the disk is sound to it
 abbrev pub SoundAtEntry : Type 0
-SoundAtEntry = (u : Update) (disk : Disk) → IsConsistent disk → LogTrue u.build.made disk.past u.log → ((path : List ℕ) → u.build.folder path ≡ disk.now path) → IsSound u [] disk
+SoundAtEntry = (u : Update) (disk : Disk) → IsConsistent disk → (u.all ≡ false → RecordsTrue (making u) disk.past u.log) → ((path : List ℕ) → u.build.folder path ≡ disk.now path) → Distinguishes u disk.past → IsSound u [] disk
 
 -- it stays sound as a step starts
 abbrev pub SoundAfterStart : Type 0
@@ -24,12 +25,12 @@ SoundAfterStart = (u : Update) (events : List ChildEvent) (disk : Disk) (i : ℕ
 
 -- it stays sound as steps that run or failed change their outputs, and the log changes
 abbrev pub SoundAfterDrift : Type 0
-SoundAfterDrift = (u : Update) (events : List ChildEvent) (before after : Disk) → Apart u.build.steps u.build.roots → IsSound u events before → Drifts u events before after → IsSound u events after
+SoundAfterDrift = (u : Update) (events : List ChildEvent) (before after : Disk) → Apart u.build.steps u.build.roots → IsSound u events before → Drifts u events before after → Distinguishes u after.past → IsSound u events after
 
 -- it stays sound as a child ends: where it ended well, its outputs have the clean build's bytes
 abbrev pub SoundAfterEnd : Type 0
 SoundAfterEnd = (u : Update) (events : List ChildEvent) (old new : Family) (before after : Disk) (i : ℕ) (well : Bool) → Apart u.build.steps u.build.roots → AreAtWork u events old.running → IsSound u events before → IsConsistent after
-    → Ends u.build.made old (Some before) i well new (Some after) → IsSound u (events ++ Done i well ∷ []) after
+    → Ends u.build.made old (Some before) i well new (Some after) → Distinguishes u after.past → IsSound u (events ++ Done i well ∷ []) after
 
 -- children at work change nothing but outputs of steps that run
 abbrev pub WorkDrifts : Type 0
@@ -43,9 +44,14 @@ RemovalDrifts = (u : Update) (events : List ChildEvent) (disk : Disk) (i : ℕ) 
 abbrev pub LogDrifts : Type 0
 LogDrifts = (u : Update) (events : List ChildEvent) (before after : Disk) → IsConsistent after → ((path : List ℕ) → (path ≡ log_path → ⊥) → after.now path ≡ before.now path) → ((old : Past) → Contains before.past old → Contains after.past old) → Drifts u events before after
 
--- the record of a step that was done well is true as soon as the step is done, before it is appended
+-- digests that tell apart what stood by now told apart what stood before
+abbrev pub DistinguishesLess : Type 0
+DistinguishesLess = (u : Update) (past more : List Past) → ((old : Past) → Contains past old → Contains more old) → Distinguishes u more → Distinguishes u past
+
+-- the record of a step whose closure and outputs are settled is true, before it is appended: of one that was done well as
+-- soon as it is done, and of one that is fresh
 abbrev pub RecordIsTrue : Type 0
 RecordIsTrue = (u : Update) (events : List ChildEvent) (disk : Disk) (i : ℕ) (step : Step) (members : List (List ℕ × Value)) (r : Record) → Apart u.build.steps u.build.roots → IsSound u events disk
-    → step_at u.build.steps i ≡ Some step → Contains events (Done i true) → step.notfile ≡ false
+    → step_at u.build.steps i ≡ Some step → step.notfile ≡ false → ((path : List ℕ) → Contains step.outs path → Settled u events path)
     → IsClose u.build (Clean u.build) step members → ((member : List ℕ) (value : Value) → Contains members (member, value) → Settled u events member)
-    → r.text ≡ step.text → AreStamped disk.now step.outs r.outs → AreStamped disk.now (paths_with_bytes members) r.ins → IsTrueRecord u.build.made disk.past r
+    → IsRecordOf u disk.now step members r → IsTrueRecord (making u) disk.past r

@@ -1,4 +1,4 @@
-use Rattle.std.specs.Prelude.{◌≡◌, ◌≢◌, ℕ, true, List, Some, None, ⊤}
+use Rattle.std.specs.Prelude.{◌≡◌, ◌≢◌, ℕ, true, false, List, Some, None, ⊤}
 use Rattle.std.specs.List.{Contains, AllPairs}
 use Rattle.b2_host.specs.declared.children.ChildEvent.{ChildEvent}
 use Rattle.b2_host.specs.declared.children.ChildEvent.TheVariants.{Start, Done}
@@ -8,9 +8,10 @@ use Rattle.b2_plan.specs.declared.step.Step.{Step}
 use Rattle.b2_plan.specs.Plans.{log_path, Makes}
 use Rattle.b2_plan.specs.Closures.{Value}
 use Rattle.b2_plan.specs.Cleans.{Clean}
-use Rattle.b2_runs.specs.Logs.{LogTrue}
-use Rattle.b2_runs.specs.Staleness.{Update}
-use Rattle.b2_runs.specs.Runs.{IsOpen, IsFed}
+use Rattle.b2_runs.specs.Logs.{RecordsTrue, NoCollision}
+use Rattle.b2_runs.specs.Staleness.{Update, making}
+use Rattle.b2_runs.specs.Events.{IsOpen}
+use Rattle.b2_runs.specs.Runs.{IsFed}
 use Rattle.b2_runs.specs.Outcomes.{OnlyOutputsChange}
 
 -- where the value is bytes, a file with these bytes stands there
@@ -18,14 +19,20 @@ abbrev pub Holds : Folder → List ℕ → Value → Type 0
 Holds folder path None = ⊤
 Holds folder path (Some bytes) = bytes_at folder path ≡ Some bytes
 
--- How the disk stands to an update after these events: the files at entry have stood and the log at entry is true, what
--- was done well has the values of the clean build, and nothing else has changed but the log and outputs of started steps.
+-- where judging is by digests, no two contents of the past have one
+abbrev pub Distinguishes : Update → List Past → Type 0
+Distinguishes u past = u.by_digest ≡ true → NoCollision u.digest past
+
+-- How the disk stands to an update after these events: the files at entry have stood; the records of the log at entry are
+-- true, unless all is to run; what was done well has the values of the clean build; nothing else has changed but the log and
+-- outputs of started steps; and digests tell contents from one another where they are compared.
 pub record IsSound (u : Update) (events : List ChildEvent) (disk : Disk) : Type 0 where
   pub keeps : IsConsistent disk
   pub entry_stood : (path : List ℕ) (file : File) → u.build.folder path ≡ Some file → Stood disk.past path file
-  pub log_true : LogTrue u.build.made disk.past u.log
+  pub records_true : u.all ≡ false → RecordsTrue (making u) disk.past u.log
   pub done_well : (i : ℕ) (step : Step) (path : List ℕ) → Makes u.build.steps i step path → Contains events (Done i true) → (value : Value) × Clean u.build path value × Holds disk.now path value
   pub only_outputs : OnlyOutputsChange u events u.build.folder disk.now
+  pub distinct : Distinguishes u disk.past
 
 -- the step was started and has not ended well: it runs, or it failed
 abbrev pub IsLoose : List ChildEvent → ℕ → Type 0

@@ -1,20 +1,22 @@
-use Rattle.std.specs.Prelude.{◌≡◌, ◌⊎◌, ℕ, Bool, true, List, [], ◌∷◌, ◌++◌, Some}
+use Rattle.std.specs.Prelude.{◌≡◌, ◌⊎◌, ℕ, Bool, true, false, List, [], ◌∷◌, ◌++◌, Some}
 use Rattle.std.specs.List.{Contains}
 use Rattle.b2_host.specs.declared.children.ChildEvent.{ChildEvent}
 use Rattle.b2_host.specs.declared.children.ChildEvent.TheVariants.{Start, Done}
 use Rattle.b2_host.specs.Disks.{Folder, Disk}
 use Rattle.b2_plan.specs.declared.step.Step.{Step}
 use Rattle.b2_plan.specs.Plans.{Apart, Makes, step_at}
+use Rattle.b2_plan.specs.Closures.{Value, IsClose}
+use Rattle.b2_plan.specs.Cleans.{Clean}
 use Rattle.b2_log.specs.declared.line.LogLine.{LogLine}
-use Rattle.b2_log.specs.Finding.{outs_of}
-use Rattle.b2_runs.specs.Staleness.{Update}
-use Rattle.b2_runs.specs.Runs.{Settled, IsOpen, IsRunSoFar, AreOnce, IsBegun}
-use Rattle.b2_runs.specs.Soundness.{IsSound, IsLoose, Drifts}
+use Rattle.b2_runs.specs.Staleness.{Update, IsRecorded}
+use Rattle.b2_runs.specs.Events.{IsOpen}
+use Rattle.b2_runs.specs.Runs.{Settled, IsRunSoFar, IsBegun}
+use Rattle.b2_runs.specs.Soundness.{IsSound, Drifts}
 use Rattle.b2_runs.specs.Afterwards.{next_update, Restless, IsNoted, IsFreshStep}
 
--- Of an update that stops anywhere, the events are a run so far, with each start in it, and behind it ends of steps that it
+-- Of an update that stops anywhere, the events are a run so far, with each start in it, followed by ends of steps that it
 -- left open. What was done in the run so far is kept: the log has the last word on it, whatever the children do that end
--- behind it.
+-- after it.
 
 -- a run so far has begun
 abbrev pub RunIsBegun : Type 0
@@ -28,18 +30,6 @@ BegunGoesOn = (u : Update) (events : List ChildEvent) (i : ℕ) (well : Bool) (b
 abbrev pub BegunUpToStart : Type 0
 BegunUpToStart = (u : Update) (events before after : List ChildEvent) (i : ℕ) → IsBegun u events → events ≡ before ++ Start i ∷ after → IsRunSoFar u (before ++ Start i ∷ [])
 
--- in what has begun each step that is done was started
-abbrev pub EndedWasStarted : Type 0
-EndedWasStarted = (u : Update) (events : List ChildEvent) (i : ℕ) (well : Bool) → IsBegun u events → Contains events (Done i well) → Contains events (Start i)
-
--- .. it is done once
-abbrev pub EndedOnce : Type 0
-EndedOnce = (u : Update) (events : List ChildEvent) (i : ℕ) (well other : Bool) → IsBegun u events → Contains events (Done i well) → Contains events (Done i other) → well ≡ other
-
--- .. and each event is there once
-abbrev pub BegunOnce : Type 0
-BegunOnce = (u : Update) (events : List ChildEvent) → IsBegun u events → AreOnce events
-
 -- a disk that is sound after the events is sound after the run so far in them
 abbrev pub SoundBeforeEnds : Type 0
 SoundBeforeEnds = (u : Update) (events : List ChildEvent) (disk : Disk) (b : IsBegun u events) → IsSound u events disk → IsSound u b.front disk
@@ -48,10 +38,14 @@ SoundBeforeEnds = (u : Update) (events : List ChildEvent) (disk : Disk) (b : IsB
 abbrev pub NotedThroughEnds : Type 0
 NotedThroughEnds = (u : Update) (events : List ChildEvent) (before after : Disk) (log : List LogLine) (b : IsBegun u events) → Apart u.build.steps u.build.roots → Drifts u events before after → IsNoted u b.front before.now log → IsNoted u b.front after.now log
 
--- .. and as a line is appended, be it torn, for the outputs of a step that was not done well by then
+-- .. and through an append that was torn: it has left the lines as they were, or the whole line after them
 abbrev pub NotedThoughTorn : Type 0
-NotedThoughTorn = (u : Update) (events : List ChildEvent) (now : Folder) (log after : List LogLine) (i : ℕ) (step : Step) (line : LogLine) → Apart u.build.steps u.build.roots → step_at u.build.steps i ≡ Some step → IsLoose events i → outs_of line ≡ step.outs
-    → (after ≡ log) ⊎ (after ≡ log ++ line ∷ []) → IsNoted u events now log → IsNoted u events now after
+NotedThoughTorn = (u : Update) (events : List ChildEvent) (now : Folder) (log after : List LogLine) (line : LogLine) → (after ≡ log) ⊎ (after ≡ log ++ line ∷ []) → IsNoted u events now log → IsNoted u events now (log ++ line ∷ []) → IsNoted u events now after
+
+-- of a finished step the log has a record that agrees with the files, judged as the next update judges it before any event
+abbrev pub FinishedIsRecorded : Type 0
+FinishedIsRecorded = (u : Update) (events : List ChildEvent) (now : Folder) (log : List LogLine) (quit : Bool) (jobs : ℕ) (i : ℕ) (step : Step) (members : List (List ℕ × Value)) → IsNoted u events now log → step_at u.build.steps i ≡ Some step
+    → Contains events (Done i true) → step.notfile ≡ false → IsClose u.build (Clean u.build) step members → IsRecorded (next_update u now log quit jobs) [] step members
 
 -- so a step whose outputs were settled by then is fresh to the next update, wherever this one stopped, but for those that
 -- an always-step or a notfile step reaches

@@ -1,11 +1,12 @@
-use Rattle.std.specs.Prelude.{◌≡◌, ℕ, ◌+◌, ◌≤◌, List, Some, count_by}
+use Rattle.std.specs.Prelude.{◌≡◌, ℕ, ◌≤◌, List, Some, count_by}
 use Rattle.std.specs.List.{Contains}
 use Rattle.b2_host.specs.declared.children.ChildEvent.{ChildEvent}
 use Rattle.b2_plan.specs.declared.step.Step.{Step}
 use Rattle.b2_plan.specs.Plans.{Apart, Makes, step_at}
 use Rattle.b2_plan.specs.Closures.{Known}
 use Rattle.b2_runs.specs.Staleness.{Update}
-use Rattle.b2_runs.specs.Runs.{on_settled, IsOpen, IsRunSoFar, IsRun, is_start, is_done}
+use Rattle.b2_runs.specs.Events.{IsOpen, is_start, is_done}
+use Rattle.b2_runs.specs.Runs.{on_settled, IsRunSoFar, IsRun}
 use Rattle.b2_runs.specs.Outcomes.{IsSettledStep, IsStuck}
 use Rattle.b2_runs.specs.Cycles.{IsLowest, NextStuck, IsStepCycle}
 
@@ -19,10 +20,6 @@ abbrev pub StuckNeedsStuck : Type 0
 StuckNeedsStuck = (u : Update) (events : List ChildEvent) (i : ℕ) (step : Step) (names : List (List ℕ)) → Apart u.build.steps u.build.roots → 1 ≤ u.jobs → IsRun u events → IsStuck u events i → step_at u.build.steps i ≡ Some step
     → ((path : List ℕ) → Known u.build (on_settled u events) step path → Contains names path)
     → ¬ ((path : List ℕ) (k : ℕ) (other : Step) → Known u.build (on_settled u events) step path → Makes u.build.steps k other path → ¬ IsStuck u events k)
-
--- no more steps are open than there are jobs
-abbrev pub OpenWithinJobs : Type 0
-OpenWithinJobs = (u : Update) (events : List ChildEvent) → IsRunSoFar u events → count_by is_start events ≤ count_by is_done events + u.jobs
 
 -- where nothing is open, as many steps are done as were started
 abbrev pub StartsAreDone : Type 0

@@ -1,6 +1,6 @@
 //! Laws of closures and of the clean build.
 ghost use Rattle.std.specs.Prelude.{◌≡◌, ℕ, List, Option};
-ghost use Rattle.b2_runs.specs.ClosureLaws.{KnownGrows, CloseStays, CloseIsOne};
+ghost use Rattle.b2_runs.specs.ClosureLaws.{KnownGrows, CloseStays, CloseIsOne, KnownIsLocal, CloseIsLocal};
 ghost use Rattle.b2_runs.specs.CleanLaws.{CleanIsOne, RoundsAreEnough, CleanIsMade};
 
 use std::marker::Brand;
@@ -27,6 +27,16 @@ pub fn close_stays<V: Worth, W: Worth>()
 /// The closure of a step is one list.
 pub fn close_is_one<V: Worth>()
     ensures { CloseIsOne V.worth }
+{}
+
+/// What a step is known to read depends on the values of what it is known to read alone.
+pub fn known_is_local<V: Worth, W: Worth>()
+    ensures { KnownIsLocal V.worth W.worth }
+{}
+
+/// So does its closure.
+pub fn close_is_local<V: Worth, W: Worth>()
+    ensures { CloseIsLocal V.worth W.worth }
 {}
 
 /// A path has at most one value in the clean build.

@@ -1,14 +1,24 @@
 //! Laws of the log: what its lines say, and what keeps it true.
-ghost use Rattle.b2_runs.specs.LogLaws.{FoundIsThere, LastWord, OthersUnsaid, OthersUnsaidThoughTorn, EmptyIsTrue, TrueAsPastGrows, TrueWithRecord, TrueWithDrop, TruePrefix, TrueAfterTornAppend, TrueWithFewer};
+ghost use Rattle.b2_runs.specs.LogLaws.{FoundIsThere, ScanIsThere, LastRecord, LastDrop, OthersUnsaid, OthersUnsaidThoughTorn, TrueByKind, EmptyIsTrue, LineTrueAsPastGrows, TrueAsPastGrows, TrueWithLine, TruePrefix, TrueAfterTornAppend, TrueWithFewer, ScansTrueWithLine, ScansTrueAsPastGrows, ScansTrueWithFewer};
 
 /// A record that is found is in the log, and has the outputs that were asked for.
 pub fn found_is_there()
     ensures { FoundIsThere }
 {}
 
-/// A line at the end has the last word on its outputs.
-pub fn last_word()
-    ensures { LastWord }
+/// A scan that is found is in the log, and is of the path and at the stamp that were asked for.
+pub fn scan_is_there()
+    ensures { ScanIsThere }
+{}
+
+/// A record at the end has the last word on its outputs.
+pub fn last_record()
+    ensures { LastRecord }
+{}
+
+/// A drop at the end has the last word on its outputs.
+pub fn last_drop()
+    ensures { LastDrop }
 {}
 
 /// A line says nothing of other outputs.
@@ -21,9 +31,19 @@ pub fn others_unsaid_though_torn()
     ensures { OthersUnsaidThoughTorn }
 {}
 
+/// A log is true where its records and its scan lines are.
+pub fn true_by_kind()
+    ensures { TrueByKind }
+{}
+
 /// A log without lines is true.
 pub fn empty_is_true()
     ensures { EmptyIsTrue }
+{}
+
+/// A true line stays true where more has stood.
+pub fn line_true_as_past_grows()
+    ensures { LineTrueAsPastGrows }
 {}
 
 /// A true log stays true where more has stood.
@@ -31,14 +51,9 @@ pub fn true_as_past_grows()
     ensures { TrueAsPastGrows }
 {}
 
-/// A true log stays true where a true record is appended.
-pub fn true_with_record()
-    ensures { TrueWithRecord }
-{}
-
-/// A true log stays true where a drop is appended.
-pub fn true_with_drop()
-    ensures { TrueWithDrop }
+/// A true log stays true where a true line is appended.
+pub fn true_with_line()
+    ensures { TrueWithLine }
 {}
 
 /// Any first lines of a true log are true.
@@ -46,7 +61,7 @@ pub fn true_prefix()
     ensures { TruePrefix }
 {}
 
-/// What a torn append of a true record leaves of a true log is true.
+/// What a torn append of a true line leaves of a true log is true.
 pub fn true_after_torn_append()
     ensures { TrueAfterTornAppend }
 {}
@@ -54,4 +69,19 @@ pub fn true_after_torn_append()
 /// Any log whose lines are among those of a true log is true, so what is kept of it is.
 pub fn true_with_fewer()
     ensures { TrueWithFewer }
+{}
+
+/// Scan lines stay true where a true line is appended, whatever the records are.
+pub fn scans_true_with_line()
+    ensures { ScansTrueWithLine }
+{}
+
+/// Scan lines stay true where more has stood.
+pub fn scans_true_as_past_grows()
+    ensures { ScansTrueAsPastGrows }
+{}
+
+/// Scan lines stay true where lines are left out.
+pub fn scans_true_with_fewer()
+    ensures { ScansTrueWithFewer }
 {}

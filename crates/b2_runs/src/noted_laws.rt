@@ -1,5 +1,5 @@
 //! Laws of the log beside a run: it has the last word on each step.
-ghost use Rattle.b2_runs.specs.NotedLaws.{NotedAtEntry, NotedAfterStart, NotedAfterDrift, NotedAfterOtherEnd, NotedAfterLine, NotedAfterRecord, OutputsAreNewer, FailedIsStale};
+ghost use Rattle.b2_runs.specs.NotedLaws.{NotedAtEntry, NotedAfterStart, NotedAfterDrift, NotedAfterOtherEnd, NotedAfterLine, NotedAfterRecord, NotedAfterScan, NotedAfterMigration, OutputsAreNewer, FailedIsStale};
 
 /// Before any event a log that says what the one at entry said has the last word.
 pub fn noted_at_entry()
@@ -29,6 +29,16 @@ pub fn noted_after_line()
 /// The log has the last word as a step is done well and its record is appended.
 pub fn noted_after_record()
     ensures { NotedAfterRecord }
+{}
+
+/// The log has the last word as a scan line is appended.
+pub fn noted_after_scan()
+    ensures { NotedAfterScan }
+{}
+
+/// The log has the last word as a record with digests is appended of a step that was not started.
+pub fn noted_after_migration()
+    ensures { NotedAfterMigration }
 {}
 
 /// A child that ends well leaves no output older than a member of its step's closure.

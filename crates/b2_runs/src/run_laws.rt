@@ -1,5 +1,5 @@
 //! Laws of runs: how they go on, and what stays as they do.
-ghost use Rattle.b2_runs.specs.RunLaws.{RunGoesOn, RunHasBegun, SettledAfterStart, SettledAfterEnd, NeededGrows, CloseOnSettled, StartedHasClosure, DoneWasStarted, DoneOnce, EachEventOnce, SettledHasValue};
+ghost use Rattle.b2_runs.specs.RunLaws.{RunGoesOn, RunHasBegun, SettledAfterStart, SettledAfterEnd, NeededGrows, CloseOnSettled, StartedHasClosure, DoneWasStarted, DoneOnce, EachEventOnce, SettledHasValue, VerdictStays, CloseOnSettledStays, RunIsPrefix};
 
 /// A run goes on by each event that may come.
 pub fn run_goes_on()
@@ -54,4 +54,19 @@ pub fn each_event_once()
 /// What is settled has a value in the clean build.
 pub fn settled_has_value()
     ensures { SettledHasValue }
+{}
+
+/// A step is judged once: while all of its closure is settled, the verdict on it stays as events come.
+pub fn verdict_stays()
+    ensures { VerdictStays }
+{}
+
+/// A closure that is defined on what is settled stays as events come.
+pub fn close_on_settled_stays()
+    ensures { CloseOnSettledStays }
+{}
+
+/// Each run so far is a prefix of a run.
+pub fn run_is_prefix()
+    ensures { RunIsPrefix }
 {}

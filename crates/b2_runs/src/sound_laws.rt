@@ -1,5 +1,5 @@
-//! Laws of sound disks: what keeps a disk sound to an update, and that records of what was done well are true.
-ghost use Rattle.b2_runs.specs.SoundLaws.{SoundAtEntry, SoundAfterStart, SoundAfterDrift, SoundAfterEnd, WorkDrifts, RemovalDrifts, LogDrifts, RecordIsTrue};
+//! Laws of sound disks: what keeps a disk sound to an update, and that records which it appends are true.
+ghost use Rattle.b2_runs.specs.SoundLaws.{SoundAtEntry, SoundAfterStart, SoundAfterDrift, SoundAfterEnd, WorkDrifts, RemovalDrifts, LogDrifts, DistinguishesLess, RecordIsTrue};
 
 /// Where an update begins, the disk is sound to it.
 pub fn sound_at_entry()
@@ -36,7 +36,12 @@ pub fn log_drifts()
     ensures { LogDrifts }
 {}
 
-/// The record of a step that was done well is true as soon as the step is done, before it is appended.
+/// Digests that tell apart what stood by now told apart what stood before.
+pub fn distinguishes_less()
+    ensures { DistinguishesLess }
+{}
+
+/// The record of a step whose closure and outputs are settled is true before it is appended.
 pub fn record_is_true()
     ensures { RecordIsTrue }
 {}

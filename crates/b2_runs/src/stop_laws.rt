@@ -1,7 +1,7 @@
 //! Laws of updates that stop anywhere: what was done in the run so far is not done again.
-ghost use Rattle.b2_runs.specs.StopLaws.{RunIsBegun, BegunGoesOn, BegunUpToStart, EndedWasStarted, EndedOnce, BegunOnce, SoundBeforeEnds, NotedThroughEnds, NotedThoughTorn, FreshThoughStopped, NotStartedAgain, NoWorkIsLost};
+ghost use Rattle.b2_runs.specs.StopLaws.{RunIsBegun, BegunGoesOn, BegunUpToStart, SoundBeforeEnds, NotedThroughEnds, NotedThoughTorn, FinishedIsRecorded, FreshThoughStopped, NotStartedAgain, NoWorkIsLost};
 
-/// A run so far has begun, without ends behind it.
+/// A run so far has begun, without ends after it.
 pub fn run_is_begun()
     ensures { RunIsBegun }
 {}
@@ -16,26 +16,24 @@ pub fn begun_up_to_start()
     ensures { BegunUpToStart }
 {}
 
-/// In what has begun each step that is done was started and is done once, and each event is there once.
-pub fn begun_once()
-    ensures started { EndedWasStarted }
-    ensures done { EndedOnce }
-    ensures once { BegunOnce }
-{}
-
 /// A disk that is sound after the events is sound after the run so far in them.
 pub fn sound_before_ends()
     ensures { SoundBeforeEnds }
 {}
 
-/// What was noted in the run so far stays so, whatever the children do that end behind it.
+/// What was noted in the run so far stays so, whatever the children do that end after it.
 pub fn noted_through_ends()
     ensures { NotedThroughEnds }
 {}
 
-/// What was noted stays so as a line is appended, be it torn, for the outputs of a step that was not done well by then.
+/// What is noted with a line and without it is noted after a torn append of it.
 pub fn noted_though_torn()
     ensures { NotedThoughTorn }
+{}
+
+/// Of a finished step the log has a record that agrees with the files.
+pub fn finished_is_recorded()
+    ensures { FinishedIsRecorded }
 {}
 
 /// Wherever an update stopped, a step whose outputs were settled in its run so far is fresh to the next update, where the

@@ -1,5 +1,5 @@
 //! Laws of stuck steps: each needs another, so they go in a circle.
-ghost use Rattle.b2_runs.specs.StuckLaws.{StuckByStuck, StuckNeedsStuck, StartsAreDone, OpenWithinJobs, StepCycleIsOne, StepCycleIsThere, StuckIsCycle};
+ghost use Rattle.b2_runs.specs.StuckLaws.{StuckByStuck, StuckNeedsStuck, StartsAreDone, StepCycleIsOne, StepCycleIsThere, StuckIsCycle};
 
 /// Where a stuck step needs an output of a step that is not settled, that step is stuck too.
 pub fn stuck_by_stuck()
@@ -19,11 +19,6 @@ pub fn starts_are_done()
 /// The list of a step cycle is one.
 pub fn step_cycle_is_one()
     ensures { StepCycleIsOne }
-{}
-
-/// No more steps are open than there are jobs.
-pub fn open_within_jobs()
-    ensures { OpenWithinJobs }
 {}
 
 /// Where each stuck step has a lowest stuck step that it needs, there is a step cycle.

@@ -1,5 +1,5 @@
-use Rattle.b2_runs.proofs.StopLaws as lemmas
+use Rattle.b2_runs.proofs.StopLaws.{begun_goes_on}
 use Rattle.b2_runs.proofs.stop_laws.begun_goes_on.Goals as goal
 
 pub returns : goal.returns
-returns c = lemmas.begun_goes_on
+returns c = begun_goes_on

@@ -1,5 +1,5 @@
-use Rattle.b2_runs.proofs.StopLaws as lemmas
+use Rattle.b2_runs.proofs.StopLaws.{not_started_again}
 use Rattle.b2_runs.proofs.stop_laws.not_started_again.Goals as goal
 
 pub returns : goal.returns
-returns c = lemmas.not_started_again
+returns c = not_started_again

@@ -1,5 +1,5 @@
-use Rattle.b2_runs.proofs.StopLaws as lemmas
+use Rattle.b2_runs.proofs.StopLaws.{run_is_begun}
 use Rattle.b2_runs.proofs.stop_laws.run_is_begun.Goals as goal
 
 pub returns : goal.returns
-returns c = lemmas.run_is_begun
+returns c = run_is_begun

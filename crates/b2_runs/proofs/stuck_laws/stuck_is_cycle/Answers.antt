@@ -1,5 +1,5 @@
-use Rattle.b2_runs.proofs.StepCycleIsThere as lemmas
+use Rattle.b2_runs.proofs.StepCycleIsThere.{stuck_is_cycle}
 use Rattle.b2_runs.proofs.stuck_laws.stuck_is_cycle.Goals as goal
 
 pub returns : goal.returns
-returns c = lemmas.stuck_is_cycle
+returns c = stuck_is_cycle

@@ -1,0 +1,160 @@
+use Rattle.std.proofs.Common.{◌≡◌, ◌⊎◌, ℕ, Bool, true, false, List, [], ◌∷◌, ◌++◌, inl, inr, refl, sym, ap, subst, ◌∙◌, Option, Some, None, if◌then◌else◌}
+use Rattle.std.specs.List.{Contains}
+use Rattle.std.specs.Str.{bytes_eq}
+use Rattle.b2_host.specs.declared.children.ChildEvent.{ChildEvent}
+use Rattle.b2_host.specs.declared.children.ChildEvent.TheVariants.{Start, Done}
+use Rattle.b2_host.specs.Disks.{File}
+use Rattle.b2_plan.specs.declared.step.Step.{Step}
+use Rattle.b2_plan.specs.Plans.{Apart, Makes, step_at}
+use Rattle.b2_plan.specs.Sources.{IsGiven, IsMissing}
+use Rattle.b2_plan.specs.Closures.{Known, Known.input}
+use Rattle.b2_runs.specs.Staleness.{Update}
+use Rattle.b2_runs.specs.Runs.{Settled, Settled.source, Settled.done_well, Settled.fresh, on_settled, IsRunSoFar}
+use Rattle.b2_runs.specs.Outcomes.{IsSettledStep, IsFailed, IsLeft, Skipped, Skipped.missing, Skipped.failed, Skipped.skipped, Skipped.quits}
+use Rattle.b2_runs.specs.OutcomeLaws.{OutputsSettleTogether, SkippedExactly, AllWentBySettled, AllWentSettles, AllWentMissesNothing, NothingLeftAtEntry, NothingLeftAfterStart, NothingLeftAfterGoodEnd, NothingLeftAfterBadEnd, NothingLeftThroughWork, NothingLeftAfterRemoval, NothingLeftAfterLine}
+use Rattle.b2_runs.proofs.ElementLemmas.{one_step, some_element, Contains_nil}
+use Rattle.b2_runs.proofs.ValueRounds.{source_not_made}
+use Rattle.b2_runs.proofs.LogLaws.{others_unsaid}
+use Rattle.b2_runs.proofs.EventLaws.{done_in_start, done_in_done}
+use Rattle.b2_runs.proofs.RunLaws.{started_has_closure, done_was_started}
+use Rattle.b2_runs.proofs.AfterLaws.{settled_closure, needed_settled}
+use Rattle.b2_runs.proofs.CompleteLaws.{failed_is_not_settled}
+
+-- what is settled is given
+pub settled_given : (u : Update) (events : List ChildEvent) (path : List ℕ) → Settled u events path → IsGiven u.build path
+settled_given u events path (source p bytes s) = inl (bytes, s)
+settled_given u events path (done_well i step p makes done) = inr (i, step, makes)
+settled_given u events path (fresh i step p members makes not_started close inside f) = inr (i, step, makes)
+
+pub outputs_settle_together : OutputsSettleTogether
+outputs_settle_together u events i step path apart makes (source p bytes s) = absurd (source_not_made u.build apart p bytes s i step makes)
+outputs_settle_together u events i step path apart makes (done_well k t p makes_k done) = λ other q makes_q.
+    done_well i other q makes_q (subst (λ j. Contains events (Done j true)) (apart.one_maker k i t step p makes_k makes) done)
+outputs_settle_together u events i step path apart makes (fresh k t p members makes_k not_started close inside f) = λ other q makes_q.
+    let number : k ≡ i = apart.one_maker k i t step p makes_k makes in
+    let at : step_at u.build.steps i ≡ Some t = subst (λ j. step_at u.build.steps j ≡ Some t) number makes_k.at in
+    let same : other ≡ t = one_step u.build.steps i other t makes_q.at at in
+    fresh i t q members (record { at = at; among = subst (λ (s : Step). Contains s.outs q) same makes_q.among }) (λ c. not_started (subst (λ j. Contains events (Start j)) (sym number) c)) close inside f
+
+-- what is skipped is left
+pub skipped_left : (u : Update) (events : List ChildEvent) (i : ℕ) → Skipped u events i → IsLeft u events i
+skipped_left u events i (missing k step path left at known miss) = left
+skipped_left u events i (failed k step path j other left at known makes bad) = left
+skipped_left u events i (skipped k step path j other left at known makes bad) = left
+skipped_left u events i (quits k j left quit bad) = left
+
+-- a path that is missing, or is made by a failed or skipped step
+abbrev IsLost : Update → List ChildEvent → List ℕ → Type 0
+IsLost u events path = IsMissing u.build path ⊎ ((k : ℕ) × (other : Step) × Makes u.build.steps k other path × (IsFailed events k ⊎ Skipped u events k))
+
+lost_not_settled : (u : Update) (events : List ChildEvent) (path : List ℕ) → Apart u.build.steps u.build.roots → IsRunSoFar u events → IsLost u events path → Settled u events path → ⊥
+lost_not_settled u events path apart run (inl miss) s = miss (settled_given u events path s)
+lost_not_settled u events path apart run (inr (k, other, makes, inl bad)) s = failed_is_not_settled u events k other path apart run bad makes s
+lost_not_settled u events path apart run (inr (k, other, makes, inr bad)) s = (skipped_left u events k bad).not_settled (outputs_settle_together u events k other path apart makes s)
+
+pub skipped_exactly : SkippedExactly
+skipped_exactly u events i step path apart run needed at known lost = go lost
+  where
+    not_closed : (other : Step) → step_at u.build.steps i ≡ Some other → Settled u events path → ⊥
+    not_closed other at_other s = lost_not_settled u events path apart run lost s
+
+    left : IsLeft u events i
+    left = record {
+      needed = needed;
+      not_settled = λ settled.
+          let (out, c) = some_element step.outs (apart.some_out i step at) in
+          let makes : Makes u.build.steps i step out = record { at = at; among = c } in
+          let (members, close) = settled_closure u events apart run i step out makes (settled step out makes) in
+          let (x, d) = close.whole path known in
+          not_closed step at (close.each path x d).1.0;
+      not_failed = λ bad.
+          let (members, close) = started_has_closure u events i step apart run (done_was_started u events i false run bad) at in
+          let (x, d) = close.whole path known in
+          not_closed step at (close.each path x d).1.0;
+    }
+
+    go : IsLost u events path → Skipped u events i
+    go (inl miss) = missing i step path left at known miss
+    go (inr (k, other, makes, inl bad)) = failed i step path k other left at known makes bad
+    go (inr (k, other, makes, inr bad)) = skipped i step path k other left at known makes bad
+
+pub all_went_by_settled : AllWentBySettled
+all_went_by_settled u events given settled none_failed = record {
+  given = given;
+  none_failed = none_failed;
+  none_skipped = λ i s. (skipped_left u events i s).not_settled (settled i (skipped_left u events i s).needed);
+  none_stuck = λ i needed. inl (settled i needed);
+}
+
+pub all_went_settles : AllWentSettles
+all_went_settles u events i went needed = needed_settled u events went i needed
+
+pub all_went_misses_nothing : AllWentMissesNothing
+all_went_misses_nothing u events path apart run went missed = elim missed.asked [
+  | inl c ↦ missed.missing (went.given path c)
+  | inr (i, step, needed, at, c) ↦
+      (let (out, among) = some_element step.outs (apart.some_out i step at) in
+      let makes : Makes u.build.steps i step out = record { at = at; among = among } in
+      let (members, close) = settled_closure u events apart run i step out makes (needed_settled u events went i needed step out makes) in
+      let (x, d) = close.whole path (input path c) in
+      missed.missing (settled_given u events path (close.each path x d).1.0))
+]
+
+-- ---- failures leave nothing
+
+pub nothing_left_at_entry : NothingLeftAtEntry
+nothing_left_at_entry u now log = record { files = λ i step path bad makes. absurd (Contains_nil (Done i false) bad); records = λ i step bad at. absurd (Contains_nil (Done i false) bad) }
+
+pub nothing_left_after_start : NothingLeftAfterStart
+nothing_left_after_start u events now log i l = record {
+  files = λ k step path bad makes. l.files k step path (done_in_start events i k false bad) makes;
+  records = λ k step bad at. l.records k step (done_in_start events i k false bad) at;
+}
+
+still_failed : (events : List ChildEvent) (i k : ℕ) → IsFailed (events ++ Done i true ∷ []) k → IsFailed events k
+still_failed events i k bad = elim (done_in_done events i k true false bad) [ inl old ↦ old | inr e ↦ absurd (let f : true ≡ false = e.1 in cc) ]
+
+pub nothing_left_after_good_end : NothingLeftAfterGoodEnd
+nothing_left_after_good_end u events now log i l = record {
+  files = λ k step path bad makes. l.files k step path (still_failed events i k bad) makes;
+  records = λ k step bad at. l.records k step (still_failed events i k bad) at;
+}
+
+pub nothing_left_after_bad_end : NothingLeftAfterBadEnd
+nothing_left_after_bad_end u events now log i l gone dropped = record {
+  files = λ k step path bad makes. elim (done_in_done events i k false false bad) [
+    | inl old ↦ l.files k step path old makes
+    | inr e ↦ gone step path (subst (λ j. Makes u.build.steps j step path) (sym e.0) makes)
+  ];
+  records = λ k step bad at. elim (done_in_done events i k false false bad) [
+    | inl old ↦ l.records k step old at
+    | inr e ↦ dropped step (subst (λ j. step_at u.build.steps j ≡ Some step) (sym e.0) at)
+  ];
+}
+
+pub nothing_left_through_work : NothingLeftThroughWork
+nothing_left_through_work u events running before after log apart at_work worked l = record {
+  files = λ k step path bad makes.
+      worked.others path (λ w.
+      let a = at_work.each w.child w.runs in
+      let e = apart.one_maker w.child.step k a.fed.step step path (record { at = a.fed.at; among = subst (λ outs. Contains outs path) (a.outs ∙ a.fed.outs) w.out }) makes in
+      a.is_open.1 false (subst (λ j. Contains events (Done j false)) (sym e) bad))
+      ∙ l.files k step path bad makes;
+  records = l.records;
+}
+
+pub nothing_left_after_removal : NothingLeftAfterRemoval
+nothing_left_after_removal u events disk log path l = record {
+  files = λ k step other bad makes. go other (bytes_eq path other) (l.files k step other bad makes);
+  records = l.records;
+}
+  where
+    go : (other : List ℕ) (t : Bool) → disk.now other ≡ None → (if t then None else disk.now other) ≡ None
+    go other true e = refl
+    go other false e = e
+
+pub nothing_left_after_line : NothingLeftAfterLine
+nothing_left_after_line u events now log line others l = record {
+  files = l.files;
+  records = λ i step bad at. others_unsaid step.outs log line (others i step bad at) ∙ l.records i step bad at;
+}

@@ -1,0 +1,5 @@
+use Rattle.b2_runs.proofs.EventLaws.{begun_is_in_order}
+use Rattle.b2_runs.proofs.event_laws.begun_is_in_order.Goals as goal
+
+pub returns : goal.returns
+returns c = begun_is_in_order

@@ -1,0 +1,5 @@
+use Rattle.b2_runs.proofs.EventLaws.{counted_in_order}
+use Rattle.b2_runs.proofs.event_laws.counted_in_order.Goals as goal
+
+pub returns : goal.returns
+returns c = counted_in_order

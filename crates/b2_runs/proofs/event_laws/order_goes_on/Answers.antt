@@ -1,0 +1,5 @@
+use Rattle.b2_runs.proofs.EventLaws.{order_goes_on}
+use Rattle.b2_runs.proofs.event_laws.order_goes_on.Goals as goal
+
+pub returns : goal.returns
+returns c = order_goes_on

@@ -1,0 +1,5 @@
+use Rattle.b2_runs.proofs.EventLaws.{order_has_begun}
+use Rattle.b2_runs.proofs.event_laws.order_has_begun.Goals as goal
+
+pub returns : goal.returns
+returns c = order_has_begun

@@ -1,0 +1,5 @@
+use Rattle.b2_runs.proofs.LogCourseLaws.{lines_are_read}
+use Rattle.b2_runs.proofs.log_course_laws.lines_are_read.Goals as goal
+
+pub returns : goal.returns
+returns c = lines_are_read

@@ -1,0 +1,5 @@
+use Rattle.b2_runs.proofs.LogCourseLaws.{log_drops_failed}
+use Rattle.b2_runs.proofs.log_course_laws.log_drops_failed.Goals as goal
+
+pub returns : goal.returns
+returns c = log_drops_failed

@@ -1,0 +1,5 @@
+use Rattle.b2_runs.proofs.LogCourseLaws.{whole_log_counts}
+use Rattle.b2_runs.proofs.log_course_laws.whole_log_counts.Goals as goal
+
+pub returns : goal.returns
+returns c = whole_log_counts

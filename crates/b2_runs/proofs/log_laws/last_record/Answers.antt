@@ -1,0 +1,5 @@
+use Rattle.b2_runs.proofs.LogLaws.{last_record}
+use Rattle.b2_runs.proofs.log_laws.last_record.Goals as goal
+
+pub returns : goal.returns
+returns c = last_record

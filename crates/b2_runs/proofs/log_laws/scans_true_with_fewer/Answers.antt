@@ -1,0 +1,5 @@
+use Rattle.b2_runs.proofs.LogLaws.{scans_true_with_fewer}
+use Rattle.b2_runs.proofs.log_laws.scans_true_with_fewer.Goals as goal
+
+pub returns : goal.returns
+returns c = scans_true_with_fewer

@@ -1,5 +1,0 @@
-use Rattle.b2_runs.proofs.LogLaws.{true_with_drop}
-use Rattle.b2_runs.proofs.log_laws.true_with_drop.Goals as goal
-
-pub returns : goal.returns
-returns c = true_with_drop

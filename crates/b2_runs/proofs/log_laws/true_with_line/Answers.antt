@@ -1,0 +1,5 @@
+use Rattle.b2_runs.proofs.LogLaws.{true_with_line}
+use Rattle.b2_runs.proofs.log_laws.true_with_line.Goals as goal
+
+pub returns : goal.returns
+returns c = true_with_line

@@ -1,0 +1,5 @@
+use Rattle.b2_runs.proofs.NumberLaws.{needs_grow}
+use Rattle.b2_runs.proofs.number_laws.needs_grow.Goals as goal
+
+pub returns : goal.returns
+returns c = needs_grow

@@ -1,0 +1,5 @@
+use Rattle.b2_runs.proofs.OutcomeLaws.{nothing_left_through_work}
+use Rattle.b2_runs.proofs.outcome_laws.nothing_left_through_work.Goals as goal
+
+pub returns : goal.returns
+returns c = nothing_left_through_work

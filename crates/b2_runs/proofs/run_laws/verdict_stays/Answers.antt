@@ -1,0 +1,5 @@
+use Rattle.b2_runs.proofs.RunLaws.{verdict_stays}
+use Rattle.b2_runs.proofs.run_laws.verdict_stays.Goals as goal
+
+pub returns : goal.returns
+returns c = verdict_stays

@@ -1,0 +1,5 @@
+use Rattle.b2_runs.proofs.ScanLaws.{found_scan_tells}
+use Rattle.b2_runs.proofs.scan_laws.found_scan_tells.Goals as goal
+
+pub returns : goal.returns
+returns c = found_scan_tells

@@ -1,0 +1,5 @@
+use Rattle.b2_runs.proofs.ScanLaws.{scan_tells}
+use Rattle.b2_runs.proofs.scan_laws.scan_tells.Goals as goal
+
+pub returns : goal.returns
+returns c = scan_tells

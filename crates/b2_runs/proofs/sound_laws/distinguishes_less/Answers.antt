@@ -1,0 +1,5 @@
+use Rattle.b2_runs.proofs.SoundLaws.{distinguishes_less}
+use Rattle.b2_runs.proofs.sound_laws.distinguishes_less.Goals as goal
+
+pub returns : goal.returns
+returns c = distinguishes_less

@@ -1,5 +1,0 @@
-use Rattle.b2_runs.proofs.OpenSteps.{open_within_jobs}
-use Rattle.b2_runs.proofs.stuck_laws.open_within_jobs.Goals as goal
-
-pub returns : goal.returns
-returns c = open_within_jobs
