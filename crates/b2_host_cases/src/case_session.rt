@@ -3,6 +3,7 @@ use crate::child_commands::child_command;
 use crate::file_commands::file_command;
 use crate::look_commands::look_command;
 use crate::path_commands::path_command;
+use crate::plan_commands::plan_command;
 use crate::sink_commands::sink_command;
 use crate::text_commands::text_command;
 use b2_base::fault::OutOfMemory;
@@ -44,9 +45,12 @@ impl CaseSession {
         look_command(alloc, &self.host, command)
     }
 
-    /// A command on texts and paths; None where it is none.
+    /// A command on texts, paths and plans; None where it is none.
     fn on_texts(&mut self, alloc: Global, command: &Command) -> Result<Option<Answer>, CaseFault> {
         if let Some(answer) = path_command(alloc, command)? {
+            return Ok(Some(answer));
+        }
+        if let Some(answer) = plan_command(alloc, command)? {
             return Ok(Some(answer));
         }
         text_command(alloc, &mut self.map, command)

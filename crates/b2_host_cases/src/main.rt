@@ -1,4 +1,4 @@
-//! Worked examples of texts and paths, and of the host and the sink in memory, as a transcript.
+//! Worked examples of texts, paths and plans, and of the host and the sink in memory, as a transcript.
 #![tactic(auto)]
 
 mod args;
@@ -8,6 +8,7 @@ mod file_commands;
 mod free;
 mod look_commands;
 mod path_commands;
+mod plan_commands;
 mod sink_commands;
 mod text_commands;
 

@@ -4,5 +4,3 @@
 mod makers;
 pub mod plan;
 pub mod step;
-#[cfg(test)]
-mod tests;

@@ -1,2 +1,2 @@
-pub mod Readings
-pub mod Means
+pub mod PatternLemmas
+pub mod LeftmostLemmas

@@ -1,0 +1,60 @@
+//! Commands on plans.
+use crate::args::{path, paths};
+use b2_base::path_list::PathList;
+use b2_base::text::Text;
+use b2_plan::plan::Plan;
+use b2_plan::step::{Step, StepList};
+use std::alloc::Global;
+use transcript::answer::Answer;
+use transcript::case_fault::CaseFault;
+use transcript::command::{Command, Word};
+
+/// A step without inputs that has these outputs.
+fn step_of(alloc: Global, outs: PathList) -> Result<Step, CaseFault> {
+    Ok(Step {
+        name: Text::new(alloc, "make")?,
+        text: Text::new(alloc, "true")?,
+        outs,
+        ins: PathList::new(alloc),
+        dirs: PathList::new(alloc),
+        always: false,
+        notfile: false,
+    })
+}
+
+/// Steps in order, the outputs of which stand between the words `>`.
+fn steps_of(alloc: Global, words: &[Word]) -> Result<StepList, CaseFault> {
+    let mut steps = StepList::new(alloc);
+    for outs in words.split(|word| word.bytes() == b">".as_slice()) {
+        steps.push(step_of(alloc, paths(alloc, outs)?)?)?;
+    }
+    Ok(steps)
+}
+
+/// A plan of these steps that wants nothing; no more steps than a plan may have.
+fn plan_of(alloc: Global, steps: StepList) -> Result<Plan, CaseFault> {
+    if steps.as_slice().len() > 65536 {
+        return Err(CaseFault::WrongWords);
+    }
+    Ok(Plan::new(alloc, steps, PathList::new(alloc), PathList::new(alloc))?)
+}
+
+/// `maker PATH OUT .. > OUT ..`: which of the steps with these outputs makes the path, from 1 on.
+fn maker(alloc: Global, words: &[Word]) -> Result<Answer, CaseFault> {
+    let [asked, outs @ ..] = words else {
+        return Err(CaseFault::WrongWords);
+    };
+    let plan = plan_of(alloc, steps_of(alloc, outs)?)?;
+    match plan.maker(&path(alloc, asked)?) {
+        None => Answer::line(alloc, "none"),
+        Some(step) => Answer::line(alloc, format!(in alloc; "{step}")?.as_str()),
+    }
+}
+
+/// Carries out a command on plans; None where it is none.
+pub fn plan_command(alloc: Global, command: &Command) -> Result<Option<Answer>, CaseFault> {
+    match command.name() {
+        "maker" => Ok(Some(maker(alloc, command.words())?)),
+        _ => Ok(None),
+    }
+}
