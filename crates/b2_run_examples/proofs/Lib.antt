@@ -1,0 +1,11 @@
+pub mod OneStepPlan
+pub mod CopyingHolds
+pub mod CopyingJudged
+pub mod CopyingFiled
+pub mod CirclingHolds
+pub mod ThreeCopies
+pub mod OverlapHolds
+pub mod TailedHolds
+pub mod FailureHolds
+pub mod DigestsHold
+pub mod HeadersHold

@@ -1,0 +1,5 @@
+use Rattle.b2_run_examples.proofs.CopyingFiled as lemmas
+use Rattle.b2_run_examples.proofs.examples.copying_filed.Goals as goal
+
+pub returns : goal.returns
+returns c = lemmas.copying_filed

@@ -1,0 +1,4 @@
+pub mod Examples
+pub mod Overlap
+pub mod DigestUpdates
+pub mod Headers

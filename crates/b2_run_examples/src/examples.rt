@@ -1,0 +1,56 @@
+//! Small updates for which all that the laws ask for holds, so that no law speaks of nothing.
+ghost use Rattle.b2_run_examples.specs.Examples.{CopyingHolds, CopyingFiled, CopyingJudged, CirclingHolds, TailedHolds};
+ghost use Rattle.b2_run_examples.specs.Overlap.{OverlapHolds, FailureHolds};
+ghost use Rattle.b2_run_examples.specs.DigestUpdates.{DigestsHold};
+ghost use Rattle.b2_run_examples.specs.Headers.{HeadersHold};
+
+/// An update that copies one file: its run is a whole run in which all went well, its disk is sound, its log is true and
+/// has the last word.
+pub fn copying_holds()
+    ensures { CopyingHolds }
+{}
+
+/// The log of that update as a file: it counts as the one line, is true, and tells the record; torn, it is true and tells
+/// nothing.
+pub fn copying_filed()
+    ensures { CopyingFiled }
+{}
+
+/// The step of that update is fresh to the next one where nothing was done, and stale where a file, the log, its closure or
+/// its text is another.
+pub fn copying_judged()
+    ensures { CopyingJudged }
+{}
+
+/// An update whose step reads what it writes: nothing can start, and the step is stuck.
+pub fn circling_holds()
+    ensures { CirclingHolds }
+{}
+
+/// An update whose first step reads an output of two steps that read one another's: all are stuck, and the cycle has these
+/// two alone.
+pub fn tailed_holds()
+    ensures { TailedHolds }
+{}
+
+/// An update of three steps with two jobs: children that overlap are a whole run, and other events are none.
+pub fn overlap_holds()
+    ensures { OverlapHolds }
+{}
+
+/// The same update where the second child fails: the step that needs it is skipped, and the others are not.
+pub fn failure_holds()
+    ensures { FailureHolds }
+{}
+
+/// Five updates, one after the other, judged by digests but for the fourth: a dependent does not start where its inputs have
+/// the bytes that they had, and records without digests get them.
+pub fn digests_hold()
+    ensures { DigestsHold }
+{}
+
+/// An update whose header is found by the include of a file that is made: the header's step is needed as soon as this file is
+/// there. The file's scan line tells the include.
+pub fn headers_hold()
+    ensures { HeadersHold }
+{}
