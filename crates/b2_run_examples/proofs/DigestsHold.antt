@@ -1,4 +1,4 @@
-use Rattle.std.proofs.Common.{◌≡◌, ℕ, ◌<◌, ◌+◌, Bool, true, false, ◌||◌, ◌==◌, List, [], ◌∷◌, ◌++◌, length, ◌⊎◌, inl, inr, refl, sym, ap, subst, subst₂, ◌∙◌, arith, Option, Some, None, codes, count_by}
+use Rattle.std.proofs.Common.{◌≡◌, ℕ, ◌<◌, ◌+◌, Bool, true, false, ◌||◌, ◌==◌, List, [], ◌∷◌, length, ◌⊎◌, inl, inr, refl, sym, ap, subst, subst₂, ◌∙◌, arith, Option, Some, None, codes}
 use Rattle.std.specs.List.{Contains, list_any}
 use Rattle.b2_base.specs.Normal.{IsUnder, parts}
 use Rattle.b2_host.specs.declared.children.ChildEvent.{ChildEvent}
@@ -13,10 +13,10 @@ use Rattle.b2_log.specs.declared.line.Record.{Record}
 use Rattle.b2_log.specs.declared.line.Digests.{Digests}
 use Rattle.b2_log.specs.declared.line.LogLine.{LogLine}
 use Rattle.b2_log.specs.Finding.{find_record}
-use Rattle.b2_runs.specs.Staleness.{Update, NoneDone, AgreesByDigests, Agrees, Agrees.by_stamps, Agrees.by_digests, IsRecorded, IsFresh, IsStale}
-use Rattle.b2_runs.specs.Events.{is_start, is_done, IsOpen}
-use Rattle.b2_runs.specs.Runs.{Settled, Settled.source, Settled.done_well, Settled.fresh, on_settled, Needed, Needed.wanted, Needed.member, CanStart, IsRun}
-use Rattle.b2_runs.specs.LogCourses.{AllMigrated, HasDigestsAlready, IsToMigrate, IsLogAfter, IsLogAfter.begins, IsLogAfter.starts, IsLogAfter.records, IsLogAfter.migrates}
+use Rattle.b2_runs.specs.Staleness.{Update, NoneDone, Agrees, Agrees.by_stamps, Agrees.by_digests, IsRecorded, IsFresh, IsStale}
+use Rattle.b2_runs.specs.Events.{IsOpen}
+use Rattle.b2_runs.specs.Runs.{Settled.source, Settled.done_well, Settled.fresh, on_settled, Needed, Needed.wanted, Needed.member, CanStart, IsRun}
+use Rattle.b2_runs.specs.LogCourses.{AllMigrated, HasDigestsAlready, IsLogAfter, IsLogAfter.begins, IsLogAfter.starts, IsLogAfter.records, IsLogAfter.migrates}
 use Rattle.b2_runs.specs.Afterwards.{IsNotedStep}
 use Rattle.b2_run_examples.specs.Overlap.{copy_from, x_path, a_path, b_path, c_path}
 use Rattle.b2_run_examples.specs.DigestUpdates.{file_of, build_on, update_on, a_digested, b_digested, a_stamped, b_stamped, x_alone, all_stand, first_ran, both_ran, log_one, log_two, log_three, log_four, log_five, DigestsHold}

@@ -1,4 +1,4 @@
-use Rattle.std.proofs.Common.{◌≡◌, ℕ, ◌<◌, ◌+◌, Bool, true, false, List, [], ◌∷◌, ◌++◌, length, ◌⊎◌, inl, inr, refl, sym, ap, subst, ◌∙◌, arith, Option, Some, None, codes, count_by, if◌then◌else◌, ◌==◌, eqb-true}
+use Rattle.std.proofs.Common.{◌≡◌, ℕ, ◌<◌, ◌+◌, Bool, true, false, List, [], ◌∷◌, ◌++◌, length, ◌⊎◌, inl, inr, refl, sym, subst, ◌∙◌, arith, Some, None, codes, count_by, if◌then◌else◌, ◌==◌, eqb-true}
 use Rattle.std.specs.List.{Contains, AllPairs}
 use Rattle.std.specs.Str.{bytes_eq}
 use Rattle.std.proofs.lemmas.Bool.Decides.{Decides-eqb}
@@ -16,7 +16,7 @@ use Rattle.b2_runs.specs.Runs.{Settled, Settled.source, Settled.done_well, Settl
 use Rattle.b2_runs.specs.Outcomes.{IsListOf}
 use Rattle.b2_run_examples.specs.Overlap.{copy_from, x_path, a_path, b_path, c_path}
 use Rattle.b2_run_examples.specs.Headers.{header, with_header, header_update, b_made, header_run, HeadersHold}
-use Rattle.b2_runs.proofs.ElementLemmas.{one_step, Contains_here, Contains_there, Contains_cases, Contains_nil}
+use Rattle.b2_runs.proofs.ElementLemmas.{Contains_here, Contains_there, Contains_cases, Contains_nil}
 use Rattle.b2_runs.proofs.ValueRounds.{source_not_made}
 use Rattle.b2_runs.proofs.CleanLaws.{clean_is_made}
 use Rattle.b2_runs.proofs.SettledLaws.{source_clean}

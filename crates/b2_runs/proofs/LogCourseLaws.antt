@@ -1,4 +1,4 @@
-use Rattle.std.proofs.Common.{◌≡◌, ◌⊎◌, ℕ, ◌≤◌, Bool, true, false, cond, List, [], ◌∷◌, ◌++◌, length, inl, inr, refl, sym, ap, subst, ◌∙◌, append_assoc, append-nil, arith, Some, None, map, option_and_then}
+use Rattle.std.proofs.Common.{◌≡◌, ◌⊎◌, ℕ, ◌≤◌, true, false, List, [], ◌∷◌, ◌++◌, length, inl, inr, refl, sym, ap, subst, ◌∙◌, append_assoc, append-nil, arith, Some, None, map, option_and_then}
 use Rattle.std.specs.List.{Contains, AllByRecursion}
 use Rattle.std.proofs.lemmas.List.Elements.{Contains-append_left, Contains-push}
 use Rattle.b2_host.specs.declared.children.ChildEvent.{ChildEvent}
@@ -11,14 +11,14 @@ use Rattle.b2_log.specs.declared.subject.Subject.{Subject}
 use Rattle.b2_log.specs.declared.subject.Subject.TheVariants as subjects
 use Rattle.b2_log.specs.Lines.{log_bytes}
 use Rattle.b2_log.specs.Good.{IsGood}
-use Rattle.b2_log.specs.Finding.{path_of, subject_of, told, record_in, scan_in, find_record, kept}
+use Rattle.b2_log.specs.Finding.{path_of, told, record_in, scan_in, find_record, kept}
 use Rattle.b2_log.proofs.ReadLogs.{one_reading, reading_whole}
 use Rattle.b2_log.specs.Readings.{IsReading}
 use Rattle.b2_runs.specs.LogFiles.{IsTrueFile, IsLogOf, IsLogOf.is_read, IsLogOf.is_large}
 use Rattle.b2_runs.specs.Staleness.{Update}
-use Rattle.b2_runs.specs.Events.{IsOpen, MayFollow, FollowFrom, AreInOrder}
+use Rattle.b2_runs.specs.Events.{IsOpen, MayFollow, FollowFrom}
 use Rattle.b2_runs.specs.Outcomes.{IsFailed}
-use Rattle.b2_runs.specs.LogCourses.{IsLong, BeginsWith, BeginsWith.as_it_is, BeginsWith.torn, BeginsWith.long, BeginsWith.large, IsLogAfter, IsLogAfter.begins, IsLogAfter.starts, IsLogAfter.records, IsLogAfter.owes_none, IsLogAfter.drops, IsLogAfter.has_none, IsLogAfter.scans, IsLogAfter.migrates}
+use Rattle.b2_runs.specs.LogCourses.{IsLong, BeginsWith, BeginsWith.as_it_is, BeginsWith.torn, BeginsWith.long, BeginsWith.large, IsLogAfter.begins, IsLogAfter.starts, IsLogAfter.records, IsLogAfter.owes_none, IsLogAfter.drops, IsLogAfter.has_none, IsLogAfter.scans, IsLogAfter.migrates}
 use Rattle.b2_runs.specs.LogCourseLaws.{BeginsWithOne, BeginTellsRecords, BeginTellsScans, BeginIsRead, LinesAreRead, LogGrows, LogTellsOthers, LogDropsFailed, HasRecord, LogHasRecords, WholeLogCounts, WholeLogIsTrue}
 use Rattle.b2_runs.proofs.ElementLemmas.{one_step, Contains_nil}
 use Rattle.b2_runs.proofs.LogLaws.{outs_same, last_drop, others_unsaid, scan_is_other}

@@ -1,12 +1,11 @@
-use Rattle.std.proofs.Common.{◌≡◌, ◌≢◌, ℕ, zero, suc, ◌+◌, ◌*◌, ◌<◌, ◌≤◌, true, List, [], ◌∷◌, ◌++◌, length, inl, inr, refl, sym, ap, subst, ◌∙◌, arith, Some, filter_map, count_by, append_assoc, append-nil}
+use Rattle.std.proofs.Common.{◌≡◌, ◌≢◌, ℕ, zero, suc, ◌+◌, ◌*◌, ◌<◌, ◌≤◌, true, List, [], ◌∷◌, ◌++◌, length, inl, inr, refl, sym, subst, arith, filter_map, count_by, append_assoc, append-nil}
 use Rattle.std.specs.List.{Contains, AllPairs}
 use Rattle.b2_host.specs.declared.children.ChildEvent.{ChildEvent}
 use Rattle.b2_host.specs.declared.children.ChildEvent.TheVariants.{Start, Done}
-use Rattle.b2_plan.specs.declared.step.Step.{Step}
-use Rattle.b2_plan.specs.Plans.{Apart, step_at}
+use Rattle.b2_plan.specs.Plans.{Apart}
 use Rattle.std.proofs.lemmas.Option.{slice_get_within}
 use Rattle.b2_runs.specs.Staleness.{Update}
-use Rattle.b2_runs.specs.Events.{is_start, is_done, started, AreOnce, IsOpen}
+use Rattle.b2_runs.specs.Events.{is_start, is_done, started, AreOnce}
 use Rattle.b2_runs.specs.Runs.{CanStart, MayCome, IsRunSoFar, IsRun}
 use Rattle.b2_runs.specs.RunLaws.{RunIsPrefix}
 use Rattle.b2_runs.proofs.ElementLemmas.{place_of, Contains_here, Contains_there, Contains_cases, Contains_nil}

@@ -1,6 +1,6 @@
 use Rattle.std.proofs.Common.{◌≡◌, ℕ, Bool, true, List, [], ◌∷◌, ◌++◌, inl, inr, refl, sym, ap, subst, subst₂, ◌∙◌, append_assoc, append-nil}
 use Rattle.std.specs.List.{Contains}
-use Rattle.std.proofs.lemmas.List.Elements.{Contains-append_left, Contains-append_right, Contains-append_cases, Contains-push_cases}
+use Rattle.std.proofs.lemmas.List.Elements.{Contains-append_left, Contains-append_right, Contains-append_cases}
 use Rattle.b2_host.specs.declared.children.ChildEvent.{ChildEvent}
 use Rattle.b2_host.specs.declared.children.ChildEvent.TheVariants.{Start, Done}
 use Rattle.b2_host.specs.Disks.{Disk}
@@ -13,9 +13,9 @@ use Rattle.b2_runs.specs.Runs.{Settled, Settled.done_well, RunFrom, IsRunSoFar, 
 use Rattle.b2_runs.specs.Soundness.{IsSound, IsLoose, Drifts}
 use Rattle.b2_runs.specs.Afterwards.{next_update, Restless, Restless.through, IsNoted}
 use Rattle.b2_runs.specs.StopLaws.{RunIsBegun, BegunGoesOn, BegunUpToStart, SoundBeforeEnds, NotedThroughEnds, NotedThoughTorn, FinishedIsRecorded, FreshThoughStopped, NotStartedAgain, NoWorkIsLost}
-use Rattle.b2_runs.proofs.ElementLemmas.{one_step, Contains_here, Contains_there, Contains_cases, Contains_nil}
+use Rattle.b2_runs.proofs.ElementLemmas.{one_step, Contains_here, Contains_cases, Contains_nil}
 use Rattle.b2_runs.proofs.EventLaws.{start_in_start, done_in_start, start_in_done, done_in_done}
-use Rattle.b2_runs.proofs.RunLaws.{fresh_events, run_has_begun, close_on_settled, same_members, done_was_started, done_once, each_event_once}
+use Rattle.b2_runs.proofs.RunLaws.{fresh_events, run_has_begun, close_on_settled, same_members}
 use Rattle.b2_runs.proofs.CleanBySources.{clean_close_to}
 use Rattle.b2_runs.proofs.NotedLaws.{noted_after_drift}
 use Rattle.b2_runs.proofs.AfterLaws.{same_sources, recorded_next, judge_next, fresh_afterwards}

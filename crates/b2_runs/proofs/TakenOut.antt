@@ -14,7 +14,7 @@ module _ {X : Type 0} (R : X → X → Type 0) where
   pub pairs_first : (x : X) (xs : List X) → ((y : X) → Contains xs y → R x y) → AllPairs R xs → AllPairs R (x ∷ xs)
   pairs_first x xs first rest = AllPairs-cons R x xs (All-weaker (Contains xs) (R x) first xs (All-contains_itself xs)) rest
 
-  -- two lists of pairs, one behind the other
+  -- two lists of pairs, one after the other
   pub pairs_append : (xs ys : List X) → AllPairs R xs → AllPairs R ys → ((x y : X) → Contains xs x → Contains ys y → R x y) → AllPairs R (xs ++ ys)
   pairs_append [] ys p q across = q
   pairs_append (x ∷ xs) ys p q across =

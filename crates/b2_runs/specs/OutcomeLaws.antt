@@ -13,7 +13,7 @@ use Rattle.b2_log.specs.declared.subject.Subject.TheVariants as subjects
 use Rattle.b2_log.specs.Finding.{subject_of, find_record}
 use Rattle.b2_runs.specs.Staleness.{Update}
 use Rattle.b2_runs.specs.Runs.{Settled, on_settled, Needed, IsRunSoFar}
-use Rattle.b2_runs.specs.Outcomes.{IsSettledStep, IsFailed, IsMissed, IsLeft, Skipped, AllWent, LeavesNothing}
+use Rattle.b2_runs.specs.Outcomes.{IsSettledStep, IsFailed, IsMissed, Skipped, AllWent, LeavesNothing}
 use Rattle.b2_runs.specs.Soundness.{AreAtWork}
 
 -- ---- what is settled, and what is left
