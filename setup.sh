@@ -37,7 +37,7 @@ done
 
 built=crates/b2_cmd/out/b2_cmd
 rm -f "$built"
-echo "The program is built."
+echo "All are proved; now the program is compiled."
 # It is run once here, where it finds no Jamroot: its status says nothing.
 (cd crates/b2_cmd && rt run) >"$logs/build.log" 2>&1 || true
 if [ ! -x "$built" ]; then
