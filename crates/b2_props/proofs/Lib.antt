@@ -1,6 +1,7 @@
 pub mod Pairs
 pub mod SetLemmas
 pub mod Gaining
+pub mod IndexLemmas
 pub mod Completing
 pub mod Showing
 pub mod Reading

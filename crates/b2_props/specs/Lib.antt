@@ -1,6 +1,8 @@
 pub mod Sets
 pub mod Refinement
+pub mod Membership
 pub mod Holding
+pub mod Indexing
 pub mod Elements
 pub mod Laws
 pub mod Words

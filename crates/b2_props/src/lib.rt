@@ -3,10 +3,13 @@
 
 mod choice;
 mod clashes;
+mod copies;
 mod draft;
 pub mod elements;
 pub mod laws;
 mod lookups;
+pub mod pair_index;
+pub mod pair_list;
 mod product;
 pub mod props;
 pub mod refinement;

@@ -1,9 +1,17 @@
 //! A requirement.
+use crate::pair_list::PairList;
 use b2_base::text::Text;
 
-/// A property that is required where a set has all of some pairs of a feature and a value; with none, always.
-#[derive(Debug, Drop)]
-pub struct Requirement {
-    pub conditions: Vec<(Text, Text)>,
-    pub property: (Text, Text),
+/// What a target or a project requires.
+#[derive(Drop)]
+pub enum Requirement {
+    /// A property that is required where a set has all of the conditions; with none, always.
+    Plain {
+        conditions: PairList,
+        property: (Text, Text),
+    },
+    /// The properties that a rule answers for a set. The rule is named by its number, from 0.
+    Indirect {
+        rule: usize,
+    },
 }

@@ -1,0 +1,24 @@
+use Rattle.std.proofs.Common.{◌≡◌, ℕ, Bool, true, false, ◌||◌, List, [], ◌∷◌, refl, ap, sym, ◌∙◌, subst}
+use Rattle.std.proofs.lemmas.Bool.{both_ways, or_left, or_right}
+use Rattle.b2_props.specs.Sets.{Pair}
+use Rattle.b2_props.proofs.Pairs.{text_itself}
+use Rattle.b2_generators.specs.declared.generator.Generator.{Generator}
+use Rattle.b2_generators.specs.Table.{has_text}
+use Rattle.b2_generators.specs.Chains.{Leads, last_type, HasNoRepeat, IsChain}
+use Rattle.b2_generators.specs.Laws.{SameTypeIsEmpty, EmptyIsChain}
+
+-- the last type stands among the types
+last_stands : (type : List ℕ) (types : List (List ℕ)) → has_text (type ∷ types) (last_type type types) ≡ true
+last_stands type [] = or_left _ _ (text_itself type)
+last_stands type (next ∷ types) = or_right _ _ (last_stands next types)
+
+pub same_type_is_empty : SameTypeIsEmpty
+same_type_is_empty generators set type [] chain = refl
+same_type_is_empty generators set type (place ∷ places) chain = go chain.types chain.leads chain.ends chain.once
+  where
+    go : (types : List (List ℕ)) → Leads generators set type (place ∷ places) types → last_type type types ≡ type → HasNoRepeat (type ∷ types) → (place ∷ places) ≡ []
+    go [] leads ends once = absurd leads
+    go (next ∷ types) leads ends once = absurd (both_ways _ once.0 (subst (λ (t : List ℕ). has_text (next ∷ types) t ≡ true) ends (last_stands next types)))
+
+pub empty_is_chain : EmptyIsChain
+empty_is_chain generators set type = record { types = []; leads = tt; ends = refl; once = (refl, tt) }

@@ -1,0 +1,4 @@
+pub mod Table
+pub mod Index
+pub mod Chains
+pub mod Laws

@@ -1,0 +1,13 @@
+//! A generator.
+use b2_base::text::Text;
+use b2_base::text_list::TextList;
+use b2_props::pair_list::PairList;
+
+/// What makes files of each of some types of a file of one of others, in sets that have all of the required properties.
+#[derive(Drop)]
+pub struct Generator {
+    pub id: Text,
+    pub sources: TextList,
+    pub targets: TextList,
+    pub required: PairList,
+}

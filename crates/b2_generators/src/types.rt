@@ -1,0 +1,113 @@
+//! The types of files and the generators.
+ghost use Rattle.std.specs.Prelude.{◌≡◌, ◌||◌, [], ◌∷◌, ◌++◌, true, false, not, is_some, Ok, OnErr};
+ghost use Rattle.std.specs.List.{list_all};
+ghost use Rattle.std.specs.Option.{option_copied};
+ghost use Rattle.b2_base.specs.Bytes.{HasNoZero};
+ghost use Rattle.b2_generators.specs.Table.{is_type, is_type_taken, is_generator_refused, type_of, first_suffix, generator_named};
+
+use crate::generator::Generator;
+use crate::generator_table::GeneratorTable;
+use crate::paths::suffix_of_path;
+use crate::type_table::TypeTable;
+use b2_base::fault::OutOfMemory;
+use b2_base::path::Path;
+use b2_base::text::Text;
+use std::alloc::Global;
+use std::marker::Model;
+
+/// The registered types and generators, each seen as the list in order of registration. No two types have a name or a
+/// suffix in common, and no two generators have one id.
+#[derive(Drop)]
+pub struct Types {
+    types: TypeTable,
+    generators: GeneratorTable,
+}
+
+impl Model for Types {
+    ghost use Rattle.b2_generators.specs.Table.{Registered};
+
+    ghost Value = { Registered };
+
+    ghost view = { λ t. record { types = t.types; generators = t.generators } };
+}
+
+impl Types {
+    /// No types and no generators; takes no memory.
+    pub fn new(alloc: Global) -> Types
+        ensures { result ≡ record { types = []; generators = [] } }
+    {
+        Types {
+            types: TypeTable::new(alloc),
+            generators: GeneratorTable::new(alloc),
+        }
+    }
+
+    /// Registers a type with its suffixes, which are written without dots. False where the name or a suffix is there, or a
+    /// suffix stands twice; then, and after an error, nothing has changed.
+    pub fn register_type(&mut self, name: &str, suffixes: &[Text]) -> Result<bool, OutOfMemory>
+        requires { HasNoZero name.now }
+        ensures registered { result ≡ Ok true → self.new ≡ record self.old { types = self.old.types ++ record { name = name.now; suffixes = suffixes.now } ∷ [] } }
+        ensures free { result ≡ Ok true → is_type_taken self.old.types name.now suffixes.now ≡ false }
+        ensures taken { result ≡ Ok false → is_type_taken self.old.types name.now suffixes.now ≡ true }
+        ensures unchanged { result ≡ Ok false → self.new ≡ self.old }
+        ensures err { OnErr result (self.new ≡ self.old) }
+    {
+        self.types.register(name, suffixes)
+    }
+
+    fn has_all(&self, names: &[Text]) -> bool
+        ensures { result ≡ list_all (is_type self.now.types) names.now }
+    {
+        names.iter().all(|name| self.types.has(name.as_str()))
+    }
+
+    fn is_refused(&self, generator: &Generator) -> bool
+        ensures { result ≡ is_generator_refused self.now generator.now }
+    {
+        self.generators.find(generator.id.as_str()).is_some()
+            || !self.has_all(generator.sources.as_slice())
+            || !self.has_all(generator.targets.as_slice())
+    }
+
+    /// Registers a generator. False where its id is there, or one of its types is not; then, and after an error, nothing
+    /// has changed.
+    pub fn register(&mut self, generator: Generator) -> Result<bool, OutOfMemory>
+        ensures registered { result ≡ Ok true → self.new ≡ record self.old { generators = self.old.generators ++ generator ∷ [] } }
+        ensures free { result ≡ Ok true → is_generator_refused self.old generator ≡ false }
+        ensures taken { result ≡ Ok false → is_generator_refused self.old generator ≡ true }
+        ensures unchanged { result ≡ Ok false → self.new ≡ self.old }
+        ensures err { OnErr result (self.new ≡ self.old) }
+    {
+        if self.is_refused(&generator) {
+            return Ok(false);
+        }
+        self.generators.put(generator)?;
+        Ok(true)
+    }
+
+    /// The type of a path: that of its last suffix, which is what stands after the last dot of the file's name; else
+    /// `FILE`. Takes no memory.
+    pub fn type_of(&self, path: &Path) -> &str
+        ensures { result.now ≡ type_of self.now.types path.now }
+    {
+        match suffix_of_path(path.as_str()) {
+            None => "FILE",
+            Some(suffix) => self.types.type_with(suffix).unwrap_or("FILE"),
+        }
+    }
+
+    /// The generator of an id; takes no memory.
+    pub fn generator(&self, id: &str) -> Option<&Generator>
+        ensures { option_copied result ≡ generator_named self.now.generators id.now }
+    {
+        self.generators.find(id)
+    }
+
+    /// The first suffix of a type, where there is the type and it has one; takes no memory.
+    pub fn suffix_of(&self, name: &str) -> Option<&str>
+        ensures { option_copied result ≡ first_suffix self.now.types name.now }
+    {
+        let suffix = self.types.suffixes_of(name)?.as_slice().first()?;
+        Some(suffix.as_str())
+    }
+}

@@ -1,0 +1,94 @@
+//! A list of pairs.
+ghost use Rattle.std.specs.Prelude.{◌≡◌, [], ◌∷◌, ◌++◌, IfOk, OnOk, OnErr};
+
+use b2_base::fault::OutOfMemory;
+use b2_base::text::Text;
+use std::alloc::Global;
+use std::marker::Model;
+
+/// The same pairs, in order.
+pub(crate) fn copy_pairs(
+    alloc: Global,
+    pairs: &[(Text, Text)],
+) -> Result<Vec<(Text, Text)>, OutOfMemory>
+    ensures { IfOk result (λ made. made.items ≡ pairs.now) }
+{
+    let mut made = Vec::new(alloc);
+    for pair in pairs {
+        made.push((pair.0.copy()?, pair.1.copy()?))?;
+    }
+    Ok(made)
+}
+
+/// Pairs of a feature and a value in order, seen as their list.
+#[derive(Drop)]
+pub struct PairList {
+    pairs: Vec<(Text, Text)>,
+}
+
+impl Model for PairList {
+    ghost use Rattle.std.specs.Prelude.{ℕ, List};
+
+    ghost Value = { List (List ℕ × List ℕ) };
+
+    ghost view = { λ l. l.pairs.items };
+}
+
+impl PairList {
+    /// No pairs.
+    pub fn new(alloc: Global) -> PairList
+        ensures { result ≡ [] }
+    {
+        PairList {
+            pairs: Vec::new(alloc),
+        }
+    }
+
+    /// The same pairs as a list; takes no memory.
+    pub fn from_vec(pairs: Vec<(Text, Text)>) -> PairList
+        ensures { result ≡ pairs.items }
+    {
+        PairList { pairs }
+    }
+
+    /// The pairs again; takes no memory.
+    pub fn into_vec(self) -> Vec<(Text, Text)>
+        ensures { result.items ≡ self }
+    {
+        self.pairs
+    }
+
+    /// Adds a pair at the end. After an error the list is as before.
+    pub fn push(&mut self, feature: Text, value: Text) -> Result<(), OutOfMemory>
+        ensures ok { OnOk result (self.new ≡ self.old ++ (feature, value) ∷ []) }
+        ensures err { OnErr result (self.new ≡ self.old) }
+    {
+        self.pairs.push((feature, value))?;
+        Ok(())
+    }
+
+    /// Adds pairs at the end. After an error the list is as before.
+    pub fn append(&mut self, more: PairList) -> Result<(), OutOfMemory>
+        ensures ok { OnOk result (self.new ≡ self.old ++ more) }
+        ensures err { OnErr result (self.new ≡ self.old) }
+    {
+        let mut more = more.pairs;
+        self.pairs.append(&mut more)?;
+        Ok(())
+    }
+
+    /// The pairs in order; takes no memory.
+    pub fn as_slice(&self) -> &[(Text, Text)]
+        ensures { result.now ≡ self.now }
+    {
+        self.pairs.as_slice()
+    }
+
+    /// The same pairs again.
+    pub fn copy(&self, alloc: Global) -> Result<PairList, OutOfMemory>
+        ensures { IfOk result (λ made. made ≡ self.now) }
+    {
+        let pairs = copy_pairs(alloc, self.as_slice())?;
+        Ok(PairList { pairs })
+    }
+}

@@ -1,0 +1,29 @@
+use Rattle.std.specs.Prelude.{◌≡◌, ℕ, ◌<◌, ◌≤◌, Bool, true, false, List, Result, Ok, Err}
+use Rattle.b2_props.specs.Sets.{Pair}
+use Rattle.b2_props.specs.declared.requirement.Requirement.{Requirement}
+use Rattle.b2_props.specs.declared.requirement.Requirement.TheVariants.{Plain, Indirect}
+
+-- how rules, named by their numbers, answer for a set: with properties or with a fault
+abbrev pub Answer : Type 0 → Type 0
+Answer F = ℕ → List Pair → Result (List Pair) F
+
+-- a requirement asks none but the rules below a number
+abbrev pub AsksBelow : ℕ → Requirement → Type 0
+AsksBelow rules (Plain conditions property) = Unit {0}
+AsksBelow rules (Indirect rule) = rule < rules
+
+-- a count of faults rose: it never falls, and stops at the largest number of 64 bits
+pub record Rises (before after : ℕ) : Type 0 where
+  pub kept : before ≤ after
+  pub more : before < 18446744073709551615 → before < after
+
+-- a count of faults of the host rises where a call's fault is one of the host
+abbrev pub RisesIf : Bool → ℕ → ℕ → Type 0
+RisesIf true before after = Rises before after
+RisesIf false before after = after ≡ before
+
+-- a count of faults of the host before and after a call: it rises where the call's fault is one of the host, and stays with
+-- every other answer
+abbrev pub IsCounted : {F T : Type 0} → (F → Bool) → ℕ → ℕ → Result T F → Type 0
+IsCounted is_host before after (Ok value) = after ≡ before
+IsCounted is_host before after (Err fault) = RisesIf (is_host fault) before after
