@@ -23,7 +23,7 @@ pub trait Ask {
     /// What is kept. No call changes it.
     ghost kept: { Self → Kept };
 
-    /// How often a call of the host failed. It never falls.
+    /// How often a call of the host failed. It never falls, and stops at the largest number of 64 bits.
     ghost faults: { Self → ℕ };
 
     /// Whether a fault is one of the host.
@@ -32,7 +32,7 @@ pub trait Ask {
     /// Whether a fault is out of memory.
     ghost is_out_of_memory: { Self.Fault → Bool };
 
-    /// What is known of each fault, by what is kept.
+    /// What is known of each fault, by what is kept. An evaluation promises the same of a rule's fault that it answers.
     ghost CanFault: { Kept → Self.Fault → Type 0 };
 
     /// The properties that a rule answers for a set, or its fault.
