@@ -96,7 +96,7 @@ copy_given = record { step = 1; text = codes "cat"; ins = in_path ∷ []; outs =
 abbrev pub copy_child : Child
 copy_child = record { step = 1; ins = in_path ∷ []; outs = out_path ∷ []; given = Some copy_given }
 
--- what there is of children before its end, and after it
+-- the child processes before its end, and after it
 abbrev pub family_before : Family
 family_before = record { running = copy_child ∷ []; events = Start 1 ∷ []; given = Some (copy_given ∷ []) }
 
