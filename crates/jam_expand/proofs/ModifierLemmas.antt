@@ -82,7 +82,7 @@ pub bad_letter : (text : List ℕ) (before : Modifiers) → BeginsWithout (λ by
 bad_letter [] before h filled = absurd (filled refl)
 bad_letter (byte ∷ bytes) before h filled = unfold_bad byte bytes before (λ low. h byte bytes refl low)
 
--- a fault that is bad or want of memory
+-- a fault that is bad, or out of memory
 pub bad_or_none : (text : List ℕ) (fault : ExpandFault) (answer : Result Modifiers ExpandFault) → answer ≡ Err (faults.BadModifier text) → (fault ≡ faults.OutOfMemory) ⊎ (fault ≡ faults.BadModifier text) → (fault ≡ faults.OutOfMemory) ⊎ (answer ≡ Err fault)
 bad_or_none text fault answer e (inl none) = inl none
 bad_or_none text fault answer e (inr bad) = inr (e ∙ ap (λ f. Err f) (sym bad))
