@@ -1,11 +1,14 @@
 //! Files by their paths.
-ghost use Rattle.std.specs.Prelude.{◌≡◌, ℕ, Option, IfOk, OnOk, OnErr, ◌⊎◌};
-ghost use Rattle.std.specs.Option.{IfSome, option_map};
-ghost use Rattle.b2_host.specs.Disks.{Disk, StatTold, ReadTold, without};
-ghost use Rattle.b2_host.specs.Faults.{FaultTold, IoFaultTold};
+ghost use Rattle.std.specs.Prelude.{IfOk};
+ghost use Rattle.std.specs.Option.{IfSome};
+ghost use Rattle.b2_host.specs.Disks.{StatTold, ReadTold};
+ghost use Rattle.b2_host.specs.Outside.{Outside, Looks, IoLooks};
+ghost use Rattle.b2_host.specs.FileCalls.{Reads, Removes, Appends, Replaces};
+ghost use Rattle.b2_host.specs.Listings.{IsListed};
 
 use crate::fault::{Failed, IoFault};
 use b2_base::path::Path;
+use b2_base::text_list::TextList;
 
 /// What a read answers.
 #[derive(Drop)]
@@ -21,43 +24,40 @@ pub enum ReadAnswer {
 /// Files by their paths. A directory is no file.
 pub trait Files {
     ghost use Rattle.b2_host.specs.Disks.{IsConsistent};
-    ghost use Rattle.b2_host.specs.ChildProcesses.{Family};
 
-    /// The files that stand and those that stood, where they are visible.
-    ghost disk: { Self → Option Disk };
-
-    /// How often a call failed. It never falls.
-    ghost faults: { Self → ℕ };
-
-    /// The child processes. No call on files changes them.
-    ghost family: { Self → Family };
-
-    /// How often a wait for a child failed. It never falls, and no call on files changes it.
-    ghost failed_waits: { Self → ℕ };
+    /// All that the host is to its callers.
+    ghost outside: { Self → Outside };
 
     /// The stamp of the file at a path, or None where no file stands.
     fn stat(&mut self, path: &Path) -> Result<Option<u64>, Failed>
-        ensures faults { FaultTold (faults self.old) (faults self.new) result }
-        ensures disk { disk self.new ≡ disk self.old }
-        ensures family { family self.new ≡ family self.old }
-        ensures waits { failed_waits self.new ≡ failed_waits self.old }
-        ensures told { IfOk result (λ stamp. IfSome (disk self.old) (λ before. StatTold path.now stamp before.now)) };
+        ensures effect { Looks (outside self.old) (outside self.new) result }
+        ensures answer { IfOk result (λ stamp. IfSome (outside self.old).disk (λ disk. StatTold path.now stamp disk.now)) };
 
-    /// The bytes of the file at a path, where it has no more than `most`.
+    /// The bytes of the file at a path, where it has no more than `most`. The read is noted, whatever it answers.
     fn read(&mut self, path: &Path, most: u64) -> Result<ReadAnswer, IoFault>
-        ensures faults { IoFaultTold (faults self.old) (faults self.new) result }
-        ensures disk { disk self.new ≡ disk self.old }
-        ensures family { family self.new ≡ family self.old }
-        ensures waits { failed_waits self.new ≡ failed_waits self.old }
-        ensures told { IfOk result (λ answer. IfSome (disk self.old) (λ before. ReadTold path.now most answer before.now)) };
+        ensures effect { Reads path.now (outside self.old) (outside self.new) result }
+        ensures answer { IfOk result (λ answer. IfSome (outside self.old).disk (λ disk. ReadTold path.now most answer disk.now)) };
+
+    /// The names of the files directly in a directory, each once, in byte order. A missing directory has none.
+    fn list(&mut self, dir: &Path) -> Result<TextList, IoFault>
+        ensures effect { IoLooks (outside self.old) (outside self.new) result }
+        ensures answer { IfOk result (λ names. IfSome (outside self.old).disk (λ disk. IsListed disk.now dir.now names)) };
+
+    /// Adds a piece to a file, which is made where it is missing. After a failure a prefix of the piece may have been added.
+    fn append(&mut self, path: &Path, piece: &[u8]) -> Result<(), IoFault>
+        ensures { Appends path.now piece.now (outside self.old) (outside self.new) result };
+
+    /// Puts a piece in place of a file, or makes it. After a failure the old content stands, or a prefix of the piece.
+    fn replace(&mut self, path: &Path, piece: &[u8]) -> Result<(), IoFault>
+        ensures { Replaces path.now piece.now (outside self.old) (outside self.new) result };
 
     /// Leaves no file at a path. Where none stands, it is Ok. After a failure the file stands or does not.
     fn remove(&mut self, path: &Path) -> Result<(), Failed>
-        ensures faults { FaultTold (faults self.old) (faults self.new) result }
-        ensures family { family self.new ≡ family self.old }
-        ensures waits { failed_waits self.new ≡ failed_waits self.old }
-        ensures removed { OnOk result (disk self.new ≡ option_map (without path.now) (disk self.old)) }
-        ensures failed { OnErr result ((disk self.new ≡ disk self.old) ⊎ (disk self.new ≡ option_map (without path.now) (disk self.old))) };
+        ensures { Removes path.now (outside self.old) (outside self.new) result };
 
-    ghost consistent: { (files : Self) → IfSome (disk files) IsConsistent };
+    ghost consistent: { (files : Self) → IfSome (outside files).disk IsConsistent };
+
+    ghost use Rattle.std.specs.Prelude.{◌≡◌, is_some};
+
+    ghost reads_alike: { (files : Self) → is_some (outside files).disk ≡ is_some (outside files).reads };
 }
