@@ -1,21 +1,21 @@
-use Rattle.std.proofs.Common.{◌≡◌, ℕ, suc, ◌<◌, ◌≤◌, Bool, true, false, ◌&&◌, List, ◌∷◌, [], ◌++◌, length, Some, refl, ap, sym, ◌∙◌, subst, arith, slice_get, remove}
+use Rattle.std.proofs.Common.{◌≡◌, ℕ, zero, suc, ◌+◌, ◌<◌, ◌≤◌, Bool, true, false, ◌&&◌, List, ◌∷◌, [], ◌++◌, length, map, Option, None, Some, refl, ap, sym, ◌∙◌, subst, arith, slice_get, remove, length-append}
 use Rattle.std.specs.List.{Contains}
+use Rattle.std.specs.Option.{IfSome, option_map}
 use Rattle.std.proofs.lemmas.List.{append-nil}
 use Rattle.std.proofs.lemmas.List.Folds.{list_all-append}
 use Rattle.std.proofs.lemmas.Grind.{flat_map-append}
 use Rattle.std.proofs.lemmas.Option.{slice_get-get_or}
-use Rattle.b2_host.specs.declared.children.ChildEvent.TheVariants as events
-use Rattle.b2_host.specs.declared.entry.Entry.{Entry}
-use Rattle.b2_host.specs.declared.running.Running.{Running}
 use Rattle.b2_host.specs.Disks.{Past, Disk}
-use Rattle.b2_host.specs.ChildProcesses.{Given, Child, Family, IsWritten, ChangesOnlyOutputs, HasMade, Ends}
-use Rattle.b2_host.specs.Results.{made_of}
-use Rattle.b2_host.specs.Writes.{all_written, writes_of}
-use Rattle.b2_host.specs.Stores.{PlaceMap, is_known, all_known}
-use Rattle.b2_host.specs.Jobs.{child_with}
-use Rattle.b2_host.specs.PendingWrites.{promised}
-use Rattle.b2_host.proofs.KnownPaths.{both, and_true}
-use Rattle.b2_host.proofs.ChildWrites.{is_in, in_contains, paths_of, other_path, more_past, stands_at, writes_in}
+use Rattle.b2_host.specs.ChildProcesses.{Given, Child, IsWritten, ChangesOnlyOutputs, HasMade, BothTold}
+use Rattle.b2_memory.specs.declared.entry.Entry.{Entry}
+use Rattle.b2_memory.specs.declared.running.Running.{Running}
+use Rattle.b2_memory.specs.Results.{made_of}
+use Rattle.b2_memory.specs.Writes.{all_written, writes_of}
+use Rattle.b2_memory.specs.Stores.{PlaceMap, is_known, all_known}
+use Rattle.b2_memory.specs.Families.{child_with}
+use Rattle.b2_memory.specs.PendingWrites.{promised}
+use Rattle.b2_memory.proofs.KnownPaths.{both, and_true}
+use Rattle.b2_memory.proofs.ChildWrites.{is_in, in_contains, paths_of, other_path, more_past, stands_at, writes_in}
 
 -- ---- what is promised is known
 
@@ -29,54 +29,88 @@ promised_push m rs r h k =
     ∙ known_both m (promised rs) r.entries.items
     ∙ and_true (all_known m (promised rs)) (all_known m r.entries.items) h k
 
--- of the first child and the others
-pub promised_first : (m : PlaceMap) (rs : List Running) (r : Running) → all_known m (promised (r ∷ rs)) ≡ true → (all_known m r.entries.items ≡ true) × (all_known m (promised rs) ≡ true)
-promised_first m rs r h = both (all_known m r.entries.items) (all_known m (promised rs)) (sym (known_both m r.entries.items (promised rs)) ∙ h)
+-- of one child and the others
+pub known_take : (m : PlaceMap) (rs : List Running) (k : ℕ) (r : Running) → slice_get rs k ≡ Some r → all_known m (promised rs) ≡ true → (all_known m r.entries.items ≡ true) × (all_known m (promised (remove rs k)) ≡ true)
+known_take m [] k r e h = cc
+known_take m (x ∷ rs) zero r e h =
+    let same : x ≡ r = cc in
+    let parts = both (all_known m x.entries.items) (all_known m (promised rs)) (sym (known_both m x.entries.items (promised rs)) ∙ h) in
+    (ap (λ (y : Running). all_known m y.entries.items) (sym same) ∙ parts.0, parts.1)
+known_take m (x ∷ rs) (suc k) r e h =
+    let parts = both (all_known m x.entries.items) (all_known m (promised rs)) (sym (known_both m x.entries.items (promised rs)) ∙ h) in
+    let more = known_take m rs k r e parts.1 in
+    (more.0, known_both m x.entries.items (promised (remove rs k)) ∙ and_true (all_known m x.entries.items) (all_known m (promised (remove rs k))) parts.0 more.1)
+
+-- how much is promised without one child
+pub promised_take : (rs : List Running) (k : ℕ) (r : Running) → slice_get rs k ≡ Some r → length (promised rs) ≡ length (promised (remove rs k)) + length r.entries.items
+promised_take [] k r e = cc
+promised_take (x ∷ rs) zero r e =
+    let same : x ≡ r = cc in
+    let own : length x.entries.items ≡ length r.entries.items = ap (λ (y : Running). length y.entries.items) same in
+    let sum : length (x.entries.items ++ promised rs) ≡ length x.entries.items + length (promised rs) = length-append x.entries.items (promised rs) in
+    omega (arith, own, sum)
+promised_take (x ∷ rs) (suc k) r e =
+    let more = promised_take rs k r e in
+    let before : length (x.entries.items ++ promised rs) ≡ length x.entries.items + length (promised rs) = length-append x.entries.items (promised rs) in
+    let after : length (x.entries.items ++ promised (remove rs k)) ≡ length x.entries.items + length (promised (remove rs k)) = length-append x.entries.items (promised (remove rs k)) in
+    omega (arith, more, before, after)
+
+-- ---- one of several
+
+pub get_map : {X Y : Type 0} (f : X → Y) (xs : List X) (k : ℕ) → slice_get (map f xs) k ≡ option_map f (slice_get xs k)
+get_map f [] k = refl
+get_map f (x ∷ xs) zero = refl
+get_map f (x ∷ xs) (suc k) = get_map f xs k
+
+pub map_remove : {X Y : Type 0} (f : X → Y) (xs : List X) (k : ℕ) → map f (remove xs k) ≡ remove (map f xs) k
+map_remove f [] zero = refl
+map_remove f [] (suc k) = refl
+map_remove f (x ∷ xs) zero = refl
+map_remove f (x ∷ xs) (suc k) = ap (λ ys. f x ∷ ys) (map_remove f xs k)
+
+contains_at : {X : Type 0} (xs : List X) (k : ℕ) (x : X) → slice_get xs k ≡ Some x → Contains xs x
+contains_at [] k x e = cc
+contains_at (y ∷ xs) zero x e = let same : y ≡ x = cc in (0, (let h : 0 < suc (length xs) = omega arith in h), same)
+contains_at (y ∷ xs) (suc k) x e =
+    let more = contains_at xs k x e in
+    (suc more.0, (let low : more.0 < length xs = more.1 in let h : suc more.0 < suc (length xs) = omega (arith, low) in h), more.2)
 
 -- ---- no child ends
 
-pub still_works : (running : List Child) (before after : Disk) → after ≡ before → ChangesOnlyOutputs running before after
-still_works running before after same = record {
-  others = λ path none. ap (λ (d : Disk). d.now path) same;
-  more = [];
-  past = ap (λ (d : Disk). d.past) same ∙ sym (append-nil before.past);
-}
+pub still_works : (running : List Child) (o : Option Disk) → BothTold (ChangesOnlyOutputs running) o o
+still_works running None = tt
+still_works running (Some disk) = record { others = λ path none. refl; more = []; past = sym (append-nil disk.past) }
 
--- ---- the first child ends
+-- ---- the child at a place ends
 
 -- no other path changes
-worked_on : (running rest : List Child) (given : Given) (well : Bool) (before : Disk) → running ≡ child_with given ∷ rest → ChangesOnlyOutputs running before (all_written (writes_of given well) before)
-worked_on running rest given well before e = record {
+worked_on : (running : List Child) (place : ℕ) (given : Given) (well : Bool) (before : Disk) → slice_get running place ≡ Some (child_with given) → ChangesOnlyOutputs running before (all_written (writes_of given well) before)
+worked_on running place given well before e = record {
   others = λ path none. go path none (is_in (paths_of (writes_of given well)) path) refl;
   more = (more_past (writes_of given well) before).0;
   past = (more_past (writes_of given well) before).1;
 }
   where
-    first : Contains running (child_with given)
-    first = subst (λ (cs : List Child). Contains cs (child_with given)) (sym e) (0, (let h : 0 < suc (length rest) = omega arith in h), refl)
-
     go : (path : List ℕ) → (IsWritten running path → ⊥) → (b : Bool) → is_in (paths_of (writes_of given well)) path ≡ b → (all_written (writes_of given well) before).now path ≡ before.now path
-    go path none true h = absurd (none (record { child = child_with given; runs = first; out = writes_in given well path h }))
+    go path none true h = absurd (none (record { child = child_with given; runs = contains_at running place (child_with given) e; out = writes_in given well path h }))
     go path none false h = other_path (writes_of given well) before path h
 
+-- no stamp is above the number of files that stood
+abbrev pub IsBounded : Disk → Type 0
+IsBounded disk = (p : Past) → Contains disk.past p → p.file.stamp ≤ length disk.past
+
 -- each output has what was made
-has_made : (given : Given) (before : Disk) → ((p : Past) → Contains before.past p → p.file.stamp ≤ length before.past) → HasMade made_of (child_with given) before (all_written (writes_of given true) before)
+has_made : (given : Given) (before : Disk) → IsBounded before → HasMade made_of (child_with given) before (all_written (writes_of given true) before)
 has_made given before within other is out among =
     let same : given ≡ other = cc in
     let there : is_in given.outs out ≡ true = in_contains given.outs out among.0 (slice_get-get_or given.outs among.0 out among.1 ∙ ap Some among.2) in
     let stands = stands_at (made_of given.text given.held) given.outs before (length before.past) out (let h : length before.past ≤ length before.past = omega arith in h) there in
     (stands.file, stands.now, stands.bytes_are ∙ ap (λ (g : Given). made_of g.text g.held out) same, λ p a. let h = within p a in let k = stands.above in omega (arith, h, k))
 
-pub ends_first : (old new : Family) (before after : Disk) (given : Given) (well : Bool) → old.running ≡ child_with given ∷ new.running → new.events ≡ old.events ++ events.Done given.step well ∷ [] → new.given ≡ old.given
-    → ((p : Past) → Contains before.past p → p.file.stamp ≤ length before.past) → after ≡ all_written (writes_of given well) before → Ends made_of old (Some before) given.step well new (Some after)
-ends_first old new before after given well running events given_is within wrote = record {
-  place = 0;
-  child = child_with given;
-  ran = ap (λ cs. slice_get cs 0) running;
-  step_is = refl;
-  running = sym (ap (λ cs. remove cs 0) running);
-  events = events;
-  given = given_is;
-  worked = subst (λ (d : Disk). ChangesOnlyOutputs old.running before d) (sym wrote) (worked_on old.running new.running given well before running);
-  made_all = λ e. subst (λ (d : Disk). HasMade made_of (child_with given) before d) (sym (wrote ∙ ap (λ w. all_written (writes_of given w) before) e)) (has_made given before within);
-}
+pub works : (running : List Child) (place : ℕ) (given : Given) (well : Bool) (o : Option Disk) → slice_get running place ≡ Some (child_with given) → BothTold (ChangesOnlyOutputs running) o (option_map (all_written (writes_of given well)) o)
+works running place given well None e = tt
+works running place given well (Some disk) e = worked_on running place given well disk e
+
+pub makes : (given : Given) (well : Bool) (o : Option Disk) → IfSome o IsBounded → well ≡ true → BothTold (HasMade made_of (child_with given)) o (option_map (all_written (writes_of given well)) o)
+makes given well None within e = tt
+makes given well (Some disk) within e = subst (λ (w : Bool). HasMade made_of (child_with given) disk (all_written (writes_of given w) disk)) (sym e) (has_made given disk within)

@@ -5,8 +5,8 @@ use Rattle.std.proofs.lemmas.List.{append-nil}
 use Rattle.std.proofs.lemmas.Slice.Eq.{bytes_eq-Decides}
 use Rattle.b2_host.specs.Disks.{File, Past, Disk}
 use Rattle.b2_host.specs.ChildProcesses.{Given}
-use Rattle.b2_host.specs.Results.{made_of}
-use Rattle.b2_host.specs.Writes.{next_file, written, all_written, writes_of}
+use Rattle.b2_memory.specs.Results.{made_of}
+use Rattle.b2_memory.specs.Writes.{next_file, written, all_written, writes_of}
 
 -- ---- paths in lists
 

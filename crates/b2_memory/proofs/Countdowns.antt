@@ -1,8 +1,8 @@
 use Rattle.std.proofs.Common.{◌≡◌, ℕ, ◌+◌, ◌-◌, ◌<◌, List, ◌++◌, map, take, drop, get_or, set, length}
 use Rattle.std.proofs.lemmas.List.{get_or_default}
 use Rattle.std.proofs.lemmas.List.Edits.{map_over_more}
-use Rattle.b2_host.specs.declared.script.CallKind.{CallKind}
-use Rattle.b2_host.specs.Scripts.{call_after}
+use Rattle.b2_memory.specs.declared.script.CallKind.{CallKind}
+use Rattle.b2_memory.specs.Scripts.{call_after}
 
 -- one more call counted
 pub call_after_more : (kind : CallKind) (xs ys : List (CallKind × ℕ)) (i : ℕ) (d : CallKind × ℕ) → i < length xs → i < length ys → ys ≡ map (call_after kind) (take i xs) ++ drop i xs → set ys i (call_after kind (get_or ys i d)) ≡ map (call_after kind) (take (i + 1) xs) ++ drop (i + 1) xs

@@ -11,9 +11,9 @@ use Rattle.std.specs.List.{fold, flat_map}
 use Rattle.sha2.specs.Sha256.{sha256}
 use Rattle.std.specs.Ordering.{ordering_reverse}
 use Rattle.std.specs.Str.{bytes_eq}
-use Rattle.b2_host.specs.Results.{words_of, bytes_named, joined, hexadecimal, digest_line, input_text, by_path, made_by, made_of}
-use Rattle.b2_host.specs.ResultLaws.{OrderIsFree}
-use Rattle.b2_host.proofs.StableSort.{insert, sorted, insert-past, insert-here, below, below_ranks, map-sorted}
+use Rattle.b2_memory.specs.Results.{words_of, bytes_named, joined, hexadecimal, digest_line, input_text, by_path, made_by, made_of}
+use Rattle.b2_memory.specs.ResultLaws.{OrderIsFree}
+use Rattle.b2_memory.proofs.StableSort.{insert, sorted, insert-past, insert-here, below, below_ranks, map-sorted}
 
 -- ---- the order
 

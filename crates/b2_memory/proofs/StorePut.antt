@@ -6,11 +6,11 @@ use Rattle.b2_base.proofs.TextKeys.{get_text}
 use Rattle.std.specs.Str.{bytes_eq}
 use Rattle.std.proofs.lemmas.Option.{slice_get_within}
 use Rattle.std.proofs.lemmas.Slice.Eq.{bytes_eq-Decides}
-use Rattle.b2_host.specs.declared.entry.Entry.{Entry}
+use Rattle.b2_memory.specs.declared.entry.Entry.{Entry}
 use Rattle.b2_host.specs.Disks.{File, put}
-use Rattle.b2_host.specs.Writes.{written}
-use Rattle.b2_host.specs.Consistency.{length-stood}
-use Rattle.b2_host.specs.Stores.{PlaceMap, place_of, is_known, entry_path, file_of, file_at, standing, stood, disk_of, IsPlaced}
+use Rattle.b2_memory.specs.Writes.{written}
+use Rattle.b2_memory.specs.Consistency.{length-stood}
+use Rattle.b2_memory.specs.Stores.{PlaceMap, place_of, is_known, entry_path, file_of, file_at, standing, stood, disk_of, IsPlaced}
 
 -- ---- one more at the end
 
@@ -70,20 +70,20 @@ old_place xs ys m placed q = go (place_of m q) refl
     go (Some place) e = ap (option_map (file_of place)) (some_more entry_path xs ys place q (placed q place e))
 
 -- the newest place reads the entry
-new_place : (xs : List Entry) (x : Entry) → file_at (xs ++ x ∷ []) (length xs) ≡ Some (record { stamp = length (stood 0 xs) + 1; bytes = x.bytes.items })
-new_place xs x = ap (option_map (file_of (length xs))) (at_end xs x) ∙ ap (λ n. Some (record { stamp = n + 1; bytes = x.bytes.items })) (sym (length-stood 0 xs))
+new_place : (xs : List Entry) (x : Entry) → file_at (xs ++ x ∷ []) (length xs) ≡ Some (record { stamp = length (stood 0 xs) + 1; bytes = x.bytes.value.items })
+new_place xs x = ap (option_map (file_of (length xs))) (at_end xs x) ∙ ap (λ n. Some (record { stamp = n + 1; bytes = x.bytes.value.items })) (sym (length-stood 0 xs))
 
-pub disk_put : (xs : List Entry) (x : Entry) (m n : PlaceMap) → IsPlaced xs m → HasPut xs x m n → disk_of (xs ++ x ∷ []) n ≡ written x.path x.bytes.items (disk_of xs m)
+pub disk_put : (xs : List Entry) (x : Entry) (m n : PlaceMap) → IsPlaced xs m → HasPut xs x m n → disk_of (xs ++ x ∷ []) n ≡ written x.path x.bytes.value.items (disk_of xs m)
 disk_put xs x m n placed h = ap₂ (λ f p. record { now = f; past = p }) (fun_ext folder) past_is
   where
     file : File
-    file = record { stamp = length (stood 0 xs) + 1; bytes = x.bytes.items }
+    file = record { stamp = length (stood 0 xs) + 1; bytes = x.bytes.value.items }
 
     folder : (q : List ℕ) → standing (xs ++ x ∷ []) n q ≡ put x.path (Some file) (standing xs m) q
     folder q = ap (option_and_then (file_at (xs ++ x ∷ []))) (h q) ∙ elim (bytes_eq x.path q) as (λ b. option_and_then (file_at (xs ++ x ∷ [])) (cond b (Some (length xs)) (place_of m q)) ≡ cond b (Some file) (standing xs m q)) [ true ↦ new_place xs x | false ↦ old_place xs (x ∷ []) m placed q ]
 
     past_is : stood 0 (xs ++ x ∷ []) ≡ stood 0 xs ++ record { path = x.path; file = file } ∷ []
-    past_is = stood_more 0 xs x ∙ ap (λ k. stood 0 xs ++ record { path = x.path; file = record { stamp = k + 1; bytes = x.bytes.items } } ∷ []) (let e : 0 + length xs ≡ length xs = omega arith in e ∙ sym (length-stood 0 xs))
+    past_is = stood_more 0 xs x ∙ ap (λ k. stood 0 xs ++ record { path = x.path; file = record { stamp = k + 1; bytes = x.bytes.value.items } } ∷ []) (let e : 0 + length xs ≡ length xs = omega arith in e ∙ sym (length-stood 0 xs))
 
 pub has_put : (xs : List Entry) (x : Entry) (m n : PlaceMap) (k : ℕ) → is_known m x.path ≡ true → k ≡ length xs
     → ((q : List ℕ) → place_of n q ≡ cond (bytes_eq x.path q) (cond (is_known m x.path) (Some k) None) (place_of m q)) → HasPut xs x m n

@@ -4,9 +4,9 @@ use Rattle.std.specs.List.{Contains}
 use Rattle.std.proofs.Common.{zero, suc, get_or, ap, ap₂, sym, ◌∙◌, subst, arith}
 use Rattle.std.proofs.lemmas.Option.{slice_get_within}
 use Rattle.std.proofs.lemmas.List.{get_or_default}
-use Rattle.b2_host.specs.declared.entry.Entry.{Entry}
+use Rattle.b2_memory.specs.declared.entry.Entry.{Entry}
 use Rattle.b2_host.specs.Disks.{File, Past, IsConsistent, IsOneEach, Stood}
-use Rattle.b2_host.specs.Stores.{PlaceMap, place_of, entry_path, file_of, file_at, standing, stood, disk_of, IsPlaced}
+use Rattle.b2_memory.specs.Stores.{PlaceMap, place_of, entry_path, file_of, file_at, standing, stood, disk_of, IsPlaced}
 
 pub length-stood : (place : ℕ) (xs : List Entry) → length (stood place xs) ≡ length xs
 length-stood place [] = refl

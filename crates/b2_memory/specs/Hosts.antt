@@ -1,58 +1,46 @@
-use Rattle.std.specs.Prelude.{◌≡◌, ℕ, Bool, List, [], ◌∷◌, map, Some}
-use Rattle.b2_host.specs.Disks.{Disk}
-use Rattle.b2_host.specs.ChildProcesses.{Given, Child, Family}
-use Rattle.b2_host.specs.Writes.{all_written, writes_of}
-use Rattle.b2_host.specs.Stores.{disk_of}
-use Rattle.b2_host.specs.Jobs.{given_of, child_with}
-use Rattle.b2_host.specs.Scripts.{calls_after}
-use Rattle.b2_host.specs.declared.script.CallKind.{CallKind}
-use Rattle.b2_host.specs.declared.memory.MemoryHost.{MemoryHost}
-use Rattle.b2_host.specs.declared.running.Running.{Running}
-
--- the files of a host in memory
-abbrev pub told_disk : MemoryHost → Disk
-told_disk host = disk_of host.store.past.items host.store.places
+use Rattle.std.specs.Prelude.{Bool, List, map, Some}
+use Rattle.b2_host.specs.ChildProcesses.{Child, Family}
+use Rattle.b2_host.specs.Outside.{Outside}
+use Rattle.b2_memory.specs.StoreDisks.{told}
+use Rattle.b2_memory.specs.Families.{child_with}
+use Rattle.b2_memory.specs.Jobs.{given_of}
+use Rattle.b2_memory.specs.NotedReads.{noted_reads}
+use Rattle.b2_memory.specs.Listings.{listed_of}
+use Rattle.b2_memory.specs.Memories.{Memory}
+use Rattle.b2_memory.specs.declared.child_table.ChildTable.{ChildTable}
+use Rattle.b2_memory.specs.declared.memory.MemoryHost.{MemoryHost}
+use Rattle.b2_memory.specs.declared.running.Running.{Running}
 
 -- children that run, by what they were given
 abbrev pub running_children : List Running → List Child
 running_children running = map (λ child. child_with (given_of child.job.value)) running
 
--- its children
-abbrev pub told_family : MemoryHost → Family
-told_family host = record {
-  running = running_children host.child_table.running.items;
-  events = host.child_table.events.items;
-  given = Some (map (λ job. given_of job.value) host.child_table.given.items);
+-- whether each child is to end well
+abbrev pub fates_of : List Running → List Bool
+fates_of running = map (λ child. child.well) running
+
+-- the children of a table
+abbrev pub family_of : ChildTable → Family
+family_of table = record {
+  running = running_children table.running.items;
+  events = table.events.items;
+  given = Some (map (λ job. given_of job.value) table.given.items);
 }
 
--- whether each child that runs is to end well, in order of start
-abbrev pub fates : MemoryHost → List Bool
-fates host = map (λ child. child.well) host.child_table.running.items
+-- what a host in memory is to its callers
+abbrev pub told_outside : MemoryHost → Outside
+told_outside host = record {
+  disk = Some (told host.store);
+  reads = Some (noted_reads host.read_notes);
+  children = family_of host.child_table;
+  faults = host.script.faults;
+  failed_waits = host.failed_waits;
+}
 
--- the calls that are listed to fail, each with its number from now on
-abbrev pub listed_calls : MemoryHost → List (CallKind × ℕ)
-listed_calls host = host.script.calls.items
-
--- the starts that are listed to end badly, by their numbers from now on
-abbrev pub listed_starts : MemoryHost → List ℕ
-listed_starts host = host.script.starts.items
-
--- no child was started
-abbrev pub no_family : Family
-no_family = record { running = []; events = []; given = Some [] }
-
--- A call of a kind was counted, and the lists are else the same.
-pub record OnlyCounted (kind : CallKind) (old new : MemoryHost) : Type 0 where
-  pub calls : listed_calls new ≡ calls_after kind (listed_calls old)
-  pub starts : listed_starts new ≡ listed_starts old
-  pub fates : fates new ≡ fates old
-
--- The child that was started first has ended, as it was to end, and has written just what it was to write.
-pub record FirstEnded (old : MemoryHost) (step : ℕ) (well : Bool) (new : MemoryHost) : Type 0 where
-  pub child : Child
-  pub given : Given
-  pub running : (told_family old).running ≡ child ∷ (told_family new).running
-  pub step_is : child.step ≡ step
-  pub given_is : child.given ≡ Some given
-  pub fate : fates old ≡ well ∷ fates new
-  pub disk : told_disk new ≡ all_written (writes_of given well) (told_disk old)
+-- all that a host in memory is
+abbrev pub memory_of : MemoryHost → Memory
+memory_of host = record {
+  outside = told_outside host;
+  listed = listed_of host.script;
+  fates = fates_of host.child_table.running.items;
+}

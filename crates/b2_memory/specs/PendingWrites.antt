@@ -1,7 +1,7 @@
 use Rattle.std.specs.Prelude.{List}
 use Rattle.std.specs.List.{flat_map}
-use Rattle.b2_host.specs.declared.entry.Entry.{Entry}
-use Rattle.b2_host.specs.declared.running.Running.{Running}
+use Rattle.b2_memory.specs.declared.entry.Entry.{Entry}
+use Rattle.b2_memory.specs.declared.running.Running.{Running}
 
 -- what children that run are yet to write
 abbrev pub promised : List Running → List Entry

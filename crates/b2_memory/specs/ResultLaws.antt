@@ -1,5 +1,5 @@
 use Rattle.std.specs.Prelude.{◌≡◌, ◌≢◌, ℕ, List, ◌∷◌, ◌++◌}
-use Rattle.b2_host.specs.Results.{made_of}
+use Rattle.b2_memory.specs.Results.{made_of}
 
 -- Two inputs beside each other that have different paths may change places: what is made stays the same.
 abbrev pub OrderIsFree : Type 0

@@ -1,7 +1,8 @@
 use Rattle.std.specs.Prelude.{ℕ, ◌+◌, Bool, true, false, List, [], ◌∷◌, ◌++◌, codes, length, map, fold, take, Option, Some, None}
-use Rattle.b2_host.specs.Disks.{File, Disk, put, without}
+use Rattle.b2_host.specs.Disks.{File, Disk, without}
 use Rattle.b2_host.specs.ChildProcesses.{Given}
-use Rattle.b2_host.specs.Results.{made_of}
+use Rattle.b2_host.specs.FileCalls.{stored}
+use Rattle.b2_memory.specs.Results.{made_of}
 
 -- The file that a write makes: its stamp is one more than the number of files that ever stood.
 abbrev pub next_file : List ℕ → Disk → File
@@ -9,10 +10,7 @@ next_file bytes disk = record { stamp = length disk.past + 1; bytes = bytes }
 
 -- the disk after a write of bytes to a path
 abbrev pub written : List ℕ → List ℕ → Disk → Disk
-written path bytes disk = record {
-  now = put path (Some (next_file bytes disk)) disk.now;
-  past = disk.past ++ record { path = path; file = next_file bytes disk } ∷ [];
-}
+written path bytes disk = stored path (next_file bytes disk) disk
 
 -- the disk after writes, one after another
 abbrev pub all_written : List (List ℕ × List ℕ) → Disk → Disk

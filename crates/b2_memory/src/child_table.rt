@@ -1,11 +1,11 @@
 //! The children of a host in memory.
-ghost use Rattle.std.specs.Prelude.{◌≡◌, ◌≢◌, ◌+◌, ◌≤◌, ◌<◌, ◌^◌, [], ◌∷◌, ◌++◌, length, IfOk, OnOk, vec_len, vec_capacity};
-ghost use Rattle.b2_host.specs.PendingWrites.{promised};
+ghost use Rattle.std.specs.Prelude.{◌≡◌, ◌+◌, ◌≤◌, ◌<◌, ◌^◌, [], ◌∷◌, ◌++◌, length, remove, slice_get, Some, IfOk, OnOk, vec_len, vec_capacity};
+ghost use Rattle.b2_memory.specs.PendingWrites.{promised};
 
-use crate::children::ChildEvent;
 use crate::job::Job;
 use crate::running::Running;
 use b2_base::fault::OutOfMemory;
+use b2_host::children::ChildEvent;
 use std::alloc::Global;
 use std::rc::Rc;
 
@@ -81,15 +81,17 @@ impl ChildTable {
         self.running.push_reserved(child);
     }
 
-    /// The child that was started first runs no more.
-    pub fn take_first(&mut self) -> Running
-        requires { self.old.running.items ≢ [] }
-        ensures running { self.old.running.items ≡ result ∷ self.new.running.items }
+    /// The child at a place runs no more.
+    pub fn take(&mut self, place: usize) -> Running
+        requires { place < vec_len self.old.running }
+        ensures child { slice_get self.old.running.items place ≡ Some result }
+        ensures running { self.new.running.items ≡ remove self.old.running.items place }
         ensures given { self.new.given.items ≡ self.old.given.items }
         ensures events { self.new.events.items ≡ self.old.events.items ++ ChildEvent.Done result.job.value.step result.well ∷ [] }
         ensures pending { self.old.pending ≡ self.new.pending + vec_len result.entries }
+        ensures len { vec_len self.new.running + 1 ≡ vec_len self.old.running }
     {
-        let child = self.running.remove(0);
+        let child = self.running.remove(place);
         let step = child.job.as_ref().step;
         self.events
             .push_reserved(ChildEvent::Done(step, child.well));

@@ -3,21 +3,34 @@ ghost use Rattle.std.specs.Prelude.{◌≡◌, IfOk};
 
 use b2_base::fault::OutOfMemory;
 use b2_base::path::Path;
+use std::alloc::Global;
+use std::rc::Rc;
 
-/// A path with the bytes that stood there.
+/// A path with the bytes that stood there. The bytes never change, so a child that was given them shares them.
 #[derive(Drop)]
 pub struct Entry {
     pub path: Path,
-    pub bytes: Vec<u8>,
+    pub bytes: Rc<Vec<u8>>,
 }
 
 impl Entry {
     /// The bytes, with a copy of the path.
-    pub fn new(path: &Path, bytes: Vec<u8>) -> Result<Entry, OutOfMemory>
+    pub fn new(alloc: Global, path: &Path, bytes: Vec<u8>) -> Result<Entry, OutOfMemory>
         ensures path { IfOk result (λ entry. entry.path ≡ path.now) }
-        ensures bytes { IfOk result (λ entry. entry.bytes.items ≡ bytes.items) }
+        ensures bytes { IfOk result (λ entry. entry.bytes.value.items ≡ bytes.items) }
     {
         let path = path.copy()?;
+        let bytes = Rc::new(alloc, bytes)?;
+        Ok(Entry { path, bytes })
+    }
+
+    /// The same entry again, which shares the bytes.
+    pub fn share(&self) -> Result<Entry, OutOfMemory>
+        ensures path { IfOk result (λ entry. entry.path ≡ self.now.path) }
+        ensures bytes { IfOk result (λ entry. entry.bytes.value.items ≡ self.now.bytes.value.items) }
+    {
+        let path = self.path.copy()?;
+        let bytes = self.bytes.clone()?;
         Ok(Entry { path, bytes })
     }
 }

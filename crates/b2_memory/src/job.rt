@@ -2,8 +2,9 @@
 ghost use Rattle.std.specs.Prelude.{◌≡◌, ◌∷◌, [], ◌++◌, codes, map, take, IfOk, OnOk};
 ghost use Rattle.std.specs.Option.{option_to_list};
 ghost use Rattle.b2_host.specs.ChildProcesses.{read_at, read_all, given_at};
-ghost use Rattle.b2_host.specs.Results.{made_of};
-ghost use Rattle.b2_host.specs.Stores.{standing, disk_of, write_of};
+ghost use Rattle.b2_memory.specs.Results.{made_of};
+ghost use Rattle.b2_memory.specs.Stores.{write_of};
+ghost use Rattle.b2_memory.specs.StoreDisks.{told};
 
 use crate::entry::Entry;
 use crate::made::make;
@@ -24,17 +25,11 @@ pub struct Job {
 }
 
 /// Adds an input with its bytes, if it stands.
-fn hold_one(
-    alloc: Global,
-    held: &mut Vec<Entry>,
-    store: &Store,
-    path: &Path,
-) -> Result<(), OutOfMemory>
-    ensures { OnOk result (map write_of held.new.items ≡ map write_of held.old.items ++ option_to_list (read_at (standing store.now.past.items store.now.places) path.now)) }
+fn hold_one(held: &mut Vec<Entry>, store: &Store, path: &Path) -> Result<(), OutOfMemory>
+    ensures { OnOk result (map write_of held.new.items ≡ map write_of held.old.items ++ option_to_list (read_at (told store.now).now path.now)) }
 {
-    if let Some(bytes) = store.bytes(path) {
-        let bytes = Vec::from_slice(alloc, bytes)?;
-        held.push(Entry::new(path, bytes)?)?;
+    if let Some(entry) = store.entry(path) {
+        held.push(entry.share()?)?;
     }
     Ok(())
 }
@@ -42,11 +37,11 @@ fn hold_one(
 /// The inputs that stand, with their bytes.
 #[tactic(auto, using(crate::proofs::LoopSteps::read_more))]
 fn hold(alloc: Global, store: &Store, ins: &[Path]) -> Result<Vec<Entry>, OutOfMemory>
-    ensures { IfOk result (λ held. map write_of held.items ≡ read_all (standing store.now.past.items store.now.places) ins.now) }
+    ensures { IfOk result (λ held. map write_of held.items ≡ read_all (told store.now).now ins.now) }
 {
     let mut held = Vec::new(alloc);
     for path in ins {
-        hold_one(alloc, &mut held, store, path)?;
+        hold_one(&mut held, store, path)?;
     }
     Ok(held)
 }
@@ -63,7 +58,7 @@ fn good_writes(
     let mut entries = Vec::new(alloc);
     for out in outs {
         let bytes = make(alloc, text, held, out)?;
-        entries.push(Entry::new(out, bytes)?)?;
+        entries.push(Entry::new(alloc, out, bytes)?)?;
     }
     Ok(entries)
 }
@@ -75,13 +70,13 @@ fn bad_writes(alloc: Global, outs: &[Path]) -> Result<Vec<Entry>, OutOfMemory>
     let mut entries = Vec::new(alloc);
     if let Some(out) = outs.first() {
         let bytes = Vec::from_slice(alloc, b"torn\n")?;
-        entries.push(Entry::new(out, bytes)?)?;
+        entries.push(Entry::new(alloc, out, bytes)?)?;
     }
     Ok(entries)
 }
 
 impl Job {
-    ghost use Rattle.b2_host.specs.Jobs.{given_of, IsLeft};
+    ghost use Rattle.b2_memory.specs.Jobs.{given_of, IsLeft};
 
     /// What a start gives.
     pub fn new(
@@ -92,7 +87,7 @@ impl Job {
         outs: &[Path],
         store: &Store,
     ) -> Result<Job, OutOfMemory>
-        ensures { IfOk result (λ job. given_of job ≡ given_at step text.now ins.now outs.now (disk_of store.now.past.items store.now.places)) }
+        ensures { IfOk result (λ job. given_of job ≡ given_at step text.now ins.now outs.now (told store.now)) }
     {
         let text = String::from_str(alloc, text)?;
         let held = hold(alloc, store, ins)?;

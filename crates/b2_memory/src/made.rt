@@ -2,9 +2,9 @@
 ghost use Rattle.std.specs.Prelude.{◌≡◌, ℕ, List, [], ◌∷◌, ◌++◌, map, IfOk, OnOk, string_bytes};
 ghost use Rattle.std.specs.List.{flat_map};
 ghost use Rattle.b2_base.specs.Segments.{texts};
-ghost use Rattle.b2_host.specs.Results.{is_space, words_of, bytes_named, joined, hexadecimal, digest_line, input_text, by_path, whole_text, made_by, made_of};
-ghost use Rattle.b2_host.specs.NamedBytes.{bytes_found};
-ghost use Rattle.b2_host.specs.Stores.{write_of, input_of};
+ghost use Rattle.b2_memory.specs.Results.{is_space, words_of, bytes_named, joined, hexadecimal, digest_line, input_text, by_path, whole_text, made_by, made_of};
+ghost use Rattle.b2_memory.specs.NamedBytes.{bytes_found};
+ghost use Rattle.b2_memory.specs.Stores.{write_of, input_of};
 
 use crate::entry::Entry;
 use b2_base::fault::OutOfMemory;
@@ -38,7 +38,7 @@ fn by_name(alloc: Global, held: &[Entry]) -> Result<BTreeMap<&[u8], &[u8]>, OutO
     let mut found = BTreeMap::new(alloc);
     for input in held {
         let name = input.path.as_str().as_bytes();
-        found.insert(name, input.bytes.as_slice())?;
+        found.insert(name, input.bytes.as_ref().as_slice())?;
     }
     Ok(found)
 }
@@ -113,10 +113,10 @@ fn add_input(alloc: Global, bytes: &mut Vec<u8>, input: &Entry) -> Result<(), Ou
     ensures { OnOk result (bytes.new.items ≡ bytes.old.items ++ input_text (write_of input.now)) }
 {
     let path = input.path.as_str();
-    let size = input.bytes.len();
+    let size = input.bytes.as_ref().len();
     let head = format!(in alloc; "{path}\n{size}\n")?;
     bytes.extend_from_slice(head.as_bytes())?;
-    bytes.extend_from_slice(input.bytes.as_slice())?;
+    bytes.extend_from_slice(input.bytes.as_ref().as_slice())?;
     Ok(())
 }
 

@@ -1,95 +1,106 @@
-//! A host in memory, whose files are visible, and whose calls fail where they are listed.
-ghost use Rattle.std.specs.Prelude.{◌≡◌, ◌≢◌, ◌+◌, ◌≤◌, ◌↔◌, [], ◌∷◌, ◌++◌, Some, not, is_ok, is_err, IsTrue, IfOk, OnOk, OnErr, IsErrOf, map, option_copied, vec_len, vec_capacity, if◌then◌else◌};
-ghost use Rattle.std.specs.Option.{IfSome, option_map};
-ghost use Rattle.b2_host.specs.Writes.{blank, edited};
-ghost use Rattle.b2_host.specs.Scripts.{is_listed, calls_after, is_bad, starts_after};
+//! A host in memory, whose files and reads are visible, and whose calls fail where they are told to.
+ghost use Rattle.std.specs.Prelude.{◌≡◌, ◌≢◌, ◌+◌, ◌≤◌, ◌<◌, [], ◌∷◌, ◌++◌, Some, IsTrue, IfOk, OnOk, OnErr, map, option_copied, vec_len, vec_capacity};
+ghost use Rattle.std.specs.Option.{IfSome};
 ghost use Rattle.b2_host.specs.Disks.{StatTold};
-ghost use Rattle.b2_host.specs.Stores.{all_known, stood};
-ghost use Rattle.b2_host.specs.PendingWrites.{promised};
+ghost use Rattle.b2_host.specs.FileCalls.{log_path};
+ghost use Rattle.b2_memory.specs.Scripts.{with_calls, with_starts, with_picks, left_of};
+ghost use Rattle.b2_memory.specs.Stores.{all_known, stood};
+ghost use Rattle.b2_memory.specs.PendingWrites.{promised};
 
 use crate::child_table::ChildTable;
-use crate::children::{ChildEvent, Children};
 use crate::entry::Entry;
-use crate::fault::{Failed, IoFault};
-use crate::files::{Files, ReadAnswer};
 use crate::job::Job;
+use crate::read_notes::ReadNotes;
 use crate::running::Running;
 pub use crate::script::CallKind;
-use crate::script::Script;
+use crate::script::{Script, raise};
 use crate::store::Store;
 use b2_base::fault::OutOfMemory;
 use b2_base::path::Path;
+use b2_base::text_list::TextList;
+use b2_host::children::{ChildEvent, Children};
+use b2_host::fault::{Failed, IoFault};
+use b2_host::files::{Files, ReadAnswer};
 use std::alloc::Global;
 use std::rc::Rc;
 
 /// Files and children in memory.
 ///
-/// Stamps count from 1: each write takes the next one, be it an edit or an output of a child, and a deletion takes none.
+/// Stamps count from 1. Each write takes the next one, be it an edit, an append, a replacement or an output of a child, and
+/// so does a write that fails, after which a file stands with what was left of the piece. A deletion takes none.
 /// What a child writes is settled when it starts, by the bytes that its inputs have then, and stands when it ends.
-/// `stat`, `remove` and `wait_one` take no memory.
+/// `stat`, `remove`, `wait_one` and `reopen` take no memory.
 #[derive(Drop)]
 pub struct MemoryHost {
     alloc: Global,
     script: Script,
     store: Store,
     child_table: ChildTable,
+    read_notes: ReadNotes,
+    log: Path,
     failed_waits: u64,
     ghost room: { vec_len store.past + child_table.pending ≤ vec_capacity store.past },
     ghost known: { IsTrue (all_known store.places (promised child_table.running.items)) },
+    ghost log_is: { log ≡ log_path },
+}
+
+/// The path of the log.
+fn path_of_log(alloc: Global) -> Result<Path, OutOfMemory>
+    ensures { IfOk result (λ path. path ≡ log_path) }
+{
+    match Path::normal(alloc, "bin/b2.log") {
+        Ok(path) => Ok(path),
+        Err(_fault) => Err(OutOfMemory),
+    }
 }
 
 impl MemoryHost {
-    ghost use Rattle.b2_host.specs.Jobs.{IsLeft, given_of, admitted};
-    ghost use Rattle.b2_host.specs.Hosts.{told_disk, told_family, running_children, fates, listed_calls, listed_starts, no_family};
+    ghost use Rattle.std.specs.Prelude.{ℕ, length};
+    ghost use Rattle.b2_memory.specs.Jobs.{IsLeft, given_of};
+    ghost use Rattle.b2_memory.specs.StoreDisks.{knows};
+    ghost use Rattle.b2_memory.specs.Memories.{new_memory, with_listed, with_fuse, with_tear, with_edit, with_child, with_entry, Writes, Ended, Reopens};
+    ghost use Rattle.b2_memory.specs.Hosts.{memory_of, running_children, fates_of};
 
-    /// No files, no children, no faults, and no call listed to fail.
+    /// No files, no children, no reads and no faults; nothing is listed.
     pub fn new(alloc: Global) -> Result<MemoryHost, OutOfMemory>
-        ensures disk { IfOk result (λ host. ⟦<MemoryHost as Files>⟧.disk host ≡ Some blank) }
-        ensures family { IfOk result (λ host. ⟦<MemoryHost as Files>⟧.family host ≡ no_family) }
-        ensures faults { IfOk result (λ host. ⟦<MemoryHost as Files>⟧.faults host ≡ 0) }
-        ensures waits { IfOk result (λ host. ⟦<MemoryHost as Files>⟧.failed_waits host ≡ 0) }
-        ensures calls { IfOk result (λ host. listed_calls host ≡ []) }
-        ensures starts { IfOk result (λ host. listed_starts host ≡ []) }
+        ensures { IfOk result (λ host. memory_of host ≡ new_memory) }
     {
         Ok(MemoryHost {
             alloc,
             script: Script::new(alloc),
             store: Store::new(alloc),
             child_table: ChildTable::new(alloc),
+            read_notes: ReadNotes::new(alloc),
+            log: path_of_log(alloc)?,
             failed_waits: 0,
         })
     }
 
     /// Writes bytes to a path, with the next stamp, or deletes the file there. No child may run.
     pub fn edit(&mut self, path: &Path, bytes: Option<&[u8]>) -> Result<(), OutOfMemory>
-        requires { (⟦<MemoryHost as Files>⟧.family self.old).running ≡ [] }
-        ensures ok { OnOk result (⟦<MemoryHost as Files>⟧.disk self.new ≡ option_map (edited path.now (option_copied bytes.entry)) (⟦<MemoryHost as Files>⟧.disk self.old)) }
-        ensures err { OnErr result (⟦<MemoryHost as Files>⟧.disk self.new ≡ ⟦<MemoryHost as Files>⟧.disk self.old) }
-        ensures family { ⟦<MemoryHost as Files>⟧.family self.new ≡ ⟦<MemoryHost as Files>⟧.family self.old }
-        ensures faults { ⟦<MemoryHost as Files>⟧.faults self.new ≡ ⟦<MemoryHost as Files>⟧.faults self.old }
-        ensures waits { ⟦<MemoryHost as Files>⟧.failed_waits self.new ≡ ⟦<MemoryHost as Files>⟧.failed_waits self.old }
-        ensures calls { listed_calls self.new ≡ listed_calls self.old }
-        ensures starts { listed_starts self.new ≡ listed_starts self.old }
+        requires { (memory_of self.old).outside.children.running ≡ [] }
+        ensures ok { OnOk result (memory_of self.new ≡ with_edit path.now (option_copied bytes.entry) (memory_of self.old)) }
+        ensures err { OnErr result (memory_of self.new ≡ memory_of self.old) }
     {
         match bytes {
             None => {
                 self.store.remove(path);
                 Ok(())
             }
-            Some(bytes) => self.store.write(self.alloc, path, bytes),
+            Some(bytes) => {
+                let bytes = Vec::from_slice(self.alloc, bytes)?;
+                let entry = Entry::new(self.alloc, path, bytes)?;
+                self.make_ready(path)?;
+                self.put(entry);
+                Ok(())
+            }
         }
     }
 
     /// Lists calls that are to fail: of each kind, the n-th from now on, counted from 1.
     pub fn fail_calls(&mut self, calls: &[(CallKind, u32)]) -> Result<(), OutOfMemory>
-        ensures ok { OnOk result (listed_calls self.new ≡ listed_calls self.old ++ calls.now) }
-        ensures err { OnErr result (listed_calls self.new ≡ listed_calls self.old) }
-        ensures starts { listed_starts self.new ≡ listed_starts self.old }
-        ensures fates { fates self.new ≡ fates self.old }
-        ensures disk { ⟦<MemoryHost as Files>⟧.disk self.new ≡ ⟦<MemoryHost as Files>⟧.disk self.old }
-        ensures family { ⟦<MemoryHost as Files>⟧.family self.new ≡ ⟦<MemoryHost as Files>⟧.family self.old }
-        ensures faults { ⟦<MemoryHost as Files>⟧.faults self.new ≡ ⟦<MemoryHost as Files>⟧.faults self.old }
-        ensures waits { ⟦<MemoryHost as Files>⟧.failed_waits self.new ≡ ⟦<MemoryHost as Files>⟧.failed_waits self.old }
+        ensures ok { OnOk result (memory_of self.new ≡ with_listed (with_calls calls.now) (memory_of self.old)) }
+        ensures err { OnErr result (memory_of self.new ≡ memory_of self.old) }
     {
         self.script.list_calls(calls)
     }
@@ -97,80 +108,140 @@ impl MemoryHost {
     /// Lists starts whose children are to end badly: the n-th child that starts from now on, counted from 1. Such a
     /// child writes `torn` and a line feed to its first output, and no more.
     pub fn child_fails(&mut self, starts: &[u32]) -> Result<(), OutOfMemory>
-        ensures ok { OnOk result (listed_starts self.new ≡ listed_starts self.old ++ starts.now) }
-        ensures err { OnErr result (listed_starts self.new ≡ listed_starts self.old) }
-        ensures calls { listed_calls self.new ≡ listed_calls self.old }
-        ensures fates { fates self.new ≡ fates self.old }
-        ensures disk { ⟦<MemoryHost as Files>⟧.disk self.new ≡ ⟦<MemoryHost as Files>⟧.disk self.old }
-        ensures family { ⟦<MemoryHost as Files>⟧.family self.new ≡ ⟦<MemoryHost as Files>⟧.family self.old }
-        ensures faults { ⟦<MemoryHost as Files>⟧.faults self.new ≡ ⟦<MemoryHost as Files>⟧.faults self.old }
-        ensures waits { ⟦<MemoryHost as Files>⟧.failed_waits self.new ≡ ⟦<MemoryHost as Files>⟧.failed_waits self.old }
+        ensures ok { OnOk result (memory_of self.new ≡ with_listed (with_starts starts.now) (memory_of self.old)) }
+        ensures err { OnErr result (memory_of self.new ≡ memory_of self.old) }
     {
         self.script.list_starts(starts)
     }
 
+    /// Lists numbers, the next of which each wait takes: k gives the k-th child that runs, in order of start; 0 the first;
+    /// and where fewer run, the last. Where no number is left, the first is given. A wait that fails takes none.
+    pub fn order(&mut self, picks: &[u32]) -> Result<(), OutOfMemory>
+        ensures ok { OnOk result (memory_of self.new ≡ with_listed (with_picks picks.now) (memory_of self.old)) }
+        ensures err { OnErr result (memory_of self.new ≡ memory_of self.old) }
+    {
+        self.script.list_picks(picks)
+    }
+
+    /// How many bytes of its piece a failing append or replacement leaves, at most the whole piece.
+    pub fn tear(&mut self, bytes: u32)
+        ensures { memory_of self.new ≡ with_listed (with_tear bytes) (memory_of self.old) }
+    {
+        self.script.tear = bytes;
+    }
+
+    /// After so many more calls every call fails, until the host is opened again.
+    pub fn fuse(&mut self, calls: u32)
+        ensures { memory_of self.new ≡ with_listed (with_fuse calls) (memory_of self.old) }
+    {
+        self.script.fuse = Some(calls);
+    }
+
+    /// The children that run end, in order of start, each as it was to end. Nothing is listed any more. The counts of
+    /// faults stay.
+    pub fn reopen(&mut self)
+        ensures { Reopens (memory_of self.old) (memory_of self.new) }
+    {
+        for _child in 0..self.child_table.running.len() {
+            self.end(0);
+        }
+        self.script.clear();
+    }
+
     /// What happened to the children, in order.
     pub fn events(&self) -> &[ChildEvent]
-        ensures { result.now ≡ (⟦<MemoryHost as Files>⟧.family self.now).events }
+        ensures { result.now ≡ (memory_of self.now).outside.children.events }
     {
         self.child_table.events.as_slice()
     }
 
     /// The children that run, in order of start, each with how it is to end.
     pub fn running(&self) -> &[Running]
-        ensures children { running_children result.now ≡ (⟦<MemoryHost as Files>⟧.family self.now).running }
-        ensures fates { map (λ child. child.well) result.now ≡ fates self.now }
+        ensures children { running_children result.now ≡ (memory_of self.now).outside.children.running }
+        ensures fates { fates_of result.now ≡ (memory_of self.now).fates }
     {
         self.child_table.running.as_slice()
     }
 
     /// What each start gave its child, in order.
     pub fn given(&self) -> &[Rc<Job>]
-        ensures { (⟦<MemoryHost as Files>⟧.family self.now).given ≡ Some (map (λ job. given_of job.value) result.now) }
+        ensures { (memory_of self.now).outside.children.given ≡ Some (map (λ job. given_of job.value) result.now) }
     {
         self.child_table.given.as_slice()
     }
 
+    /// The paths of the reads that were answered, in order.
+    pub fn reads(&self) -> &[Path]
+        ensures { IfSome (memory_of self.now).outside.reads (λ reads. map (λ read. read.path) reads ≡ result.now) }
+    {
+        self.read_notes.paths()
+    }
+
     /// Each file that stood or stands, in order of stamps: the first has the stamp 1.
     pub fn past(&self) -> &[Entry]
-        ensures { IfSome (⟦<MemoryHost as Files>⟧.disk self.now) (λ disk. disk.past ≡ stood 0 result.now) }
+        ensures { IfSome (memory_of self.now).outside.disk (λ disk. disk.past ≡ stood 0 result.now) }
     {
         self.store.past.as_slice()
     }
 
     /// The stamp of the file at a path, which is no call that can fail or that is counted.
     pub fn stamp_of(&self, path: &Path) -> Option<u64>
-        ensures { IfSome (⟦<MemoryHost as Files>⟧.disk self.now) (λ disk. StatTold path.now result disk.now) }
+        ensures { IfSome (memory_of self.now).outside.disk (λ disk. StatTold path.now result disk.now) }
     {
         self.store.stamp(path)
     }
 
     /// How often a call failed.
     pub fn fault_count(&self) -> u64
-        ensures { result ≡ ⟦<MemoryHost as Files>⟧.faults self.now }
+        ensures { result ≡ (memory_of self.now).outside.faults }
     {
         self.script.faults
     }
 
     /// How often a wait failed.
     pub fn failed_wait_count(&self) -> u64
-        ensures { result ≡ ⟦<MemoryHost as Files>⟧.failed_waits self.now }
+        ensures { result ≡ (memory_of self.now).outside.failed_waits }
     {
         self.failed_waits
+    }
+
+    /// Makes a path known, and takes the room for one more entry beside those that the children will write.
+    fn make_ready(&mut self, path: &Path) -> Result<(), OutOfMemory>
+        ensures memory { memory_of self.new ≡ memory_of self.old }
+        ensures known { OnOk result (IsTrue (knows self.new.store path.now)) }
+        ensures room { OnOk result (vec_len self.new.store.past + self.new.child_table.pending < vec_capacity self.new.store.past) }
+    {
+        let more = self.child_table.pending_with(1)?;
+        self.store.prepare_one(path, more)
+    }
+
+    /// Puts an entry, whose path is known, into room that was taken.
+    fn put(&mut self, entry: Entry)
+        requires known { IsTrue (knows self.old.store entry.path) }
+        requires room { vec_len self.old.store.past + self.old.child_table.pending < vec_capacity self.old.store.past }
+        ensures { memory_of self.new ≡ with_entry entry.path entry.bytes.value.items (memory_of self.old) }
+    {
+        self.store.put(entry);
+    }
+
+    /// Writes bytes to a path by a call of a kind. They hold what such a call leaves of its piece.
+    fn write(&mut self, kind: CallKind, path: &Path, bytes: Vec<u8>) -> Result<(), IoFault>
+        ensures { Writes kind path.now (λ disk. bytes.items) (memory_of self.old) (memory_of self.new) result }
+    {
+        let entry = Entry::new(self.alloc, path, bytes)?;
+        self.make_ready(path)?;
+        self.put(entry);
+        if self.script.fails(kind) {
+            return Err(IoFault::Failed);
+        }
+        Ok(())
     }
 
     /// Lets a child run, whose writes are known, once the room for its end is taken.
     fn admit(&mut self, job: Job, well: bool, entries: Vec<Entry>) -> Result<(), OutOfMemory>
         requires { IsLeft job well entries.items }
-        ensures disk { told_disk self.new ≡ told_disk self.old }
-        ensures ok { OnOk result (told_family self.new ≡ admitted (given_of job) (told_family self.old)) }
-        ensures fate { OnOk result (fates self.new ≡ fates self.old ++ well ∷ []) }
-        ensures family { OnErr result (told_family self.new ≡ told_family self.old) }
-        ensures fates { OnErr result (fates self.new ≡ fates self.old) }
-        ensures calls { listed_calls self.new ≡ listed_calls self.old }
-        ensures starts { listed_starts self.new ≡ (if is_ok result then starts_after (listed_starts self.old) else listed_starts self.old) }
-        ensures faults { self.new.script.faults ≡ self.old.script.faults }
-        ensures waits { self.new.failed_waits ≡ self.old.failed_waits }
+        ensures ok { OnOk result (memory_of self.new ≡ with_child (given_of job) well (memory_of self.old)) }
+        ensures err { OnErr result (memory_of self.new ≡ memory_of self.old) }
     {
         let pending = self.child_table.pending_with(entries.len())?;
         let job = Rc::new(self.alloc, job)?;
@@ -181,30 +252,34 @@ impl MemoryHost {
         self.script.count_start();
         Ok(())
     }
+
+    /// The child at a place ends as it was to end.
+    fn end(&mut self, place: usize) -> (u32, bool)
+        requires { place < vec_len self.old.child_table.running }
+        ensures ended { Ended place (memory_of self.old) result.0 result.1 (memory_of self.new) }
+        ensures len { vec_len self.new.child_table.running + 1 ≡ vec_len self.old.child_table.running }
+    {
+        let Running { job, well, entries } = self.child_table.take(place);
+        self.store.put_all(entries);
+        (job.as_ref().step, well)
+    }
 }
 
 impl Files for MemoryHost {
-    ghost use Rattle.b2_host.specs.Disks.{ReadTold, without};
-    ghost use Rattle.b2_host.specs.Faults.{FaultTold, IoFaultTold};
-    ghost use Rattle.b2_host.specs.Hosts.{told_disk, told_family, listed_calls, OnlyCounted};
-    ghost use Rattle.b2_host.specs.Consistency.{kept_disk};
+    ghost use Rattle.b2_host.specs.Disks.{ReadTold};
+    ghost use Rattle.b2_host.specs.Outside.{Looks, IoLooks};
+    ghost use Rattle.b2_host.specs.FileCalls as calls;
+    ghost use Rattle.b2_host.specs.Listings.{IsListed};
+    ghost use Rattle.b2_memory.specs.Consistency.{kept_disk};
+    ghost use Rattle.b2_memory.specs.Memories.{Calls, IoCalls, looked, noted, with_removed, Appends, Replaces};
+    ghost use Rattle.b2_memory.specs.Hosts.{told_outside, memory_of};
 
-    ghost disk = { λ host. Some (told_disk host) };
-
-    ghost faults = { λ host. host.script.faults };
-
-    ghost family = { told_family };
-
-    ghost failed_waits = { λ host. host.failed_waits };
+    ghost outside = { told_outside };
 
     fn stat(&mut self, path: &Path) -> Result<Option<u64>, Failed>
-        ensures faults { FaultTold self.old.script.faults self.new.script.faults result }
-        ensures waits { self.new.failed_waits ≡ self.old.failed_waits }
-        ensures disk { told_disk self.new ≡ told_disk self.old }
-        ensures family { told_family self.new ≡ told_family self.old }
-        ensures told { IfOk result (λ stamp. StatTold path.now stamp (told_disk self.old).now) }
-        ensures failed { is_err result ≡ is_listed CallKind.Stat (listed_calls self.old) }
-        ensures counted { OnlyCounted CallKind.Stat self.old self.new }
+        ensures effect { Looks (told_outside self.old) (told_outside self.new) result }
+        ensures answer { IfOk result (λ stamp. IfSome (told_outside self.old).disk (λ disk. StatTold path.now stamp disk.now)) }
+        ensures exact { Calls CallKind.Stat looked (memory_of self.old) (memory_of self.new) result }
     {
         if self.script.fails(CallKind::Stat) {
             return Err(Failed);
@@ -213,29 +288,52 @@ impl Files for MemoryHost {
     }
 
     fn read(&mut self, path: &Path, most: u64) -> Result<ReadAnswer, IoFault>
-        ensures faults { IoFaultTold self.old.script.faults self.new.script.faults result }
-        ensures waits { self.new.failed_waits ≡ self.old.failed_waits }
-        ensures disk { told_disk self.new ≡ told_disk self.old }
-        ensures family { told_family self.new ≡ told_family self.old }
-        ensures told { IfOk result (λ answer. ReadTold path.now most answer (told_disk self.old).now) }
-        ensures failed { IsErrOf result IoFault.Failed ↔ IsTrue (is_listed CallKind.Read (listed_calls self.old)) }
-        ensures counted { OnlyCounted CallKind.Read self.old self.new }
+        ensures effect { calls.Reads path.now (told_outside self.old) (told_outside self.new) result }
+        ensures answer { IfOk result (λ answer. IfSome (told_outside self.old).disk (λ disk. ReadTold path.now most answer disk.now)) }
+        ensures exact { IoCalls CallKind.Read (noted path.now) (memory_of self.old) (memory_of self.new) result }
     {
         if self.script.fails(CallKind::Read) {
             return Err(IoFault::Failed);
         }
         let answer = self.store.read(self.alloc, path, most)?;
+        let stamps = (self.store.stamp(path), self.store.stamp(&self.log));
+        self.read_notes.add(path, stamps)?;
         Ok(answer)
     }
 
+    fn list(&mut self, dir: &Path) -> Result<TextList, IoFault>
+        ensures effect { IoLooks (told_outside self.old) (told_outside self.new) result }
+        ensures answer { IfOk result (λ names. IfSome (told_outside self.old).disk (λ disk. IsListed disk.now dir.now names)) }
+        ensures exact { IoCalls CallKind.List looked (memory_of self.old) (memory_of self.new) result }
+    {
+        if self.script.fails(CallKind::List) {
+            return Err(IoFault::Failed);
+        }
+        let names = self.store.list(self.alloc, dir)?;
+        Ok(names)
+    }
+
+    fn append(&mut self, path: &Path, piece: &[u8]) -> Result<(), IoFault>
+        ensures effect { calls.Appends path.now piece.now (told_outside self.old) (told_outside self.new) result }
+        ensures exact { Appends path.now piece.now (memory_of self.old) (memory_of self.new) result }
+    {
+        let left = self.script.left_of(CallKind::Append, piece);
+        let bytes = self.store.with_piece(self.alloc, path, left)?;
+        self.write(CallKind::Append, path, bytes)
+    }
+
+    fn replace(&mut self, path: &Path, piece: &[u8]) -> Result<(), IoFault>
+        ensures effect { calls.Replaces path.now piece.now (told_outside self.old) (told_outside self.new) result }
+        ensures exact { Replaces path.now piece.now (memory_of self.old) (memory_of self.new) result }
+    {
+        let left = self.script.left_of(CallKind::Replace, piece);
+        let bytes = Vec::from_slice(self.alloc, left)?;
+        self.write(CallKind::Replace, path, bytes)
+    }
+
     fn remove(&mut self, path: &Path) -> Result<(), Failed>
-        ensures faults { FaultTold self.old.script.faults self.new.script.faults result }
-        ensures waits { self.new.failed_waits ≡ self.old.failed_waits }
-        ensures family { told_family self.new ≡ told_family self.old }
-        ensures removed { OnOk result (told_disk self.new ≡ without path.now (told_disk self.old)) }
-        ensures stays { OnErr result (told_disk self.new ≡ told_disk self.old) }
-        ensures failed { is_err result ≡ is_listed CallKind.Remove (listed_calls self.old) }
-        ensures counted { OnlyCounted CallKind.Remove self.old self.new }
+        ensures effect { calls.Removes path.now (told_outside self.old) (told_outside self.new) result }
+        ensures exact { Calls CallKind.Remove (with_removed path.now) (memory_of self.old) (memory_of self.new) result }
     {
         if self.script.fails(CallKind::Remove) {
             return Err(Failed);
@@ -245,29 +343,26 @@ impl Files for MemoryHost {
     }
 
     ghost consistent = { λ host. kept_disk host.store.past.items host.store.places host.store.placed };
+
+    ghost use Rattle.std.specs.Prelude.{refl};
+
+    ghost reads_alike = { λ host. refl };
 }
 
 impl Children for MemoryHost {
     ghost use Rattle.std.specs.Prelude.{refl};
-    ghost use Rattle.b2_host.specs.ChildProcesses.{after_start, MayStart, ChangesOnlyOutputs, BothTold, Ends};
-    ghost use Rattle.b2_host.specs.Faults.{FaultTold, IoFaultTold};
-    ghost use Rattle.b2_host.specs.Results.{made_of};
-    ghost use Rattle.b2_host.specs.Hosts.{told_disk, told_family, fates, listed_calls, listed_starts, FirstEnded};
+    ghost use Rattle.b2_host.specs.ChildProcesses.{MayStart};
+    ghost use Rattle.b2_host.specs.ChildCalls as calls;
+    ghost use Rattle.b2_memory.specs.Results.{made_of};
+    ghost use Rattle.b2_memory.specs.Memories.{IoCalls, with_started, Waits};
+    ghost use Rattle.b2_memory.specs.Hosts.{told_outside, memory_of};
 
     ghost made = { made_of };
 
     fn start(&mut self, step: u32, text: &str, ins: &[Path], outs: &[Path]) -> Result<(), IoFault>
-        requires { MayStart (told_family self.old).running ins.now outs.now }
-        ensures faults { IoFaultTold self.old.script.faults self.new.script.faults result }
-        ensures waits { self.new.failed_waits ≡ self.old.failed_waits }
-        ensures disk { told_disk self.new ≡ told_disk self.old }
-        ensures started { OnOk result (told_family self.new ≡ after_start step text.now ins.now outs.now (Some (told_disk self.old)) (told_family self.old)) }
-        ensures none_started { OnErr result (told_family self.new ≡ told_family self.old) }
-        ensures failed { IsErrOf result IoFault.Failed ↔ IsTrue (is_listed CallKind.Start (listed_calls self.old)) }
-        ensures fate { OnOk result (fates self.new ≡ fates self.old ++ not (is_bad (listed_starts self.old)) ∷ []) }
-        ensures fates { OnErr result (fates self.new ≡ fates self.old) }
-        ensures calls { listed_calls self.new ≡ calls_after CallKind.Start (listed_calls self.old) }
-        ensures starts { listed_starts self.new ≡ (if is_ok result then starts_after (listed_starts self.old) else listed_starts self.old) }
+        requires { MayStart (told_outside self.old).children.running ins.now outs.now }
+        ensures effect { calls.Starts step text.now ins.now outs.now (told_outside self.old) (told_outside self.new) result }
+        ensures exact { IoCalls CallKind.Start (with_started step text.now ins.now outs.now) (memory_of self.old) (memory_of self.new) result }
     {
         if self.script.fails(CallKind::Start) {
             return Err(IoFault::Failed);
@@ -280,26 +375,16 @@ impl Children for MemoryHost {
     }
 
     fn wait_one(&mut self) -> Result<(u32, bool), Failed>
-        requires { (told_family self.old).running ≢ [] }
-        ensures faults { FaultTold self.old.script.faults self.new.script.faults result }
-        ensures waits { FaultTold self.old.failed_waits self.new.failed_waits result }
-        ensures ended { IfOk result (λ done. Ends made_of (told_family self.old) (Some (told_disk self.old)) done.0 done.1 (told_family self.new) (Some (told_disk self.new))) }
-        ensures same_run { OnErr result (told_family self.new ≡ told_family self.old) }
-        ensures worked { OnErr result (BothTold (ChangesOnlyOutputs (told_family self.old).running) (Some (told_disk self.old)) (Some (told_disk self.new))) }
-        ensures stays { OnErr result (told_disk self.new ≡ told_disk self.old) }
-        ensures failed { is_err result ≡ is_listed CallKind.Wait (listed_calls self.old) }
-        ensures first { IfOk result (λ done. FirstEnded self.old done.0 done.1 self.new) }
-        ensures fates { OnErr result (fates self.new ≡ fates self.old) }
-        ensures calls { listed_calls self.new ≡ calls_after CallKind.Wait (listed_calls self.old) }
-        ensures starts { listed_starts self.new ≡ listed_starts self.old }
+        requires { (told_outside self.old).children.running ≢ [] }
+        ensures effect { calls.Waits made_of (told_outside self.old) (told_outside self.new) result }
+        ensures exact { Waits (memory_of self.old) (memory_of self.new) result }
     {
         if self.script.fails(CallKind::Wait) {
-            self.failed_waits = self.failed_waits.saturating_add(1);
+            self.failed_waits = raise(self.failed_waits);
             return Err(Failed);
         }
-        let Running { job, well, entries } = self.child_table.take_first();
-        self.store.put_all(entries);
-        Ok((job.as_ref().step, well))
+        let place = self.script.pick(self.child_table.running.len());
+        Ok(self.end(place))
     }
 
     ghost told_alike = { λ host. refl };

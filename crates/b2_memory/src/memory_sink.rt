@@ -1,10 +1,10 @@
 //! A sink in memory, whose bytes are visible, and whose writes fail where they are listed.
-ghost use Rattle.std.specs.Prelude.{◌≡◌, ◌-◌, ◌↔◌, [], ◌++◌, Some, OnOk, OnErr, IsErrOf};
-ghost use Rattle.b2_host.specs.Faults.{IoFaultTold};
-ghost use Rattle.b2_host.specs.Sinks.{sink_bytes, failing_write};
+ghost use Rattle.std.specs.Prelude.{◌≡◌, [], Some};
+ghost use Rattle.b2_host.specs.Output.{Output, Prints};
 
-use crate::fault::IoFault;
-use crate::sink::Sink;
+use crate::script::raise;
+use b2_host::fault::IoFault;
+use b2_host::sink::Sink;
 use std::alloc::Global;
 
 /// Takes bytes in memory.
@@ -16,10 +16,11 @@ pub struct MemorySink {
 }
 
 impl MemorySink {
+    ghost use Rattle.b2_memory.specs.Sinks.{sink_output, failing_write, new_output};
+
     /// No bytes, no faults, and no write that is to fail; takes no memory.
     pub fn new(alloc: Global) -> MemorySink
-        ensures written { ⟦<MemorySink as Sink>⟧.written result ≡ Some [] }
-        ensures faults { ⟦<MemorySink as Sink>⟧.faults result ≡ 0 }
+        ensures output { sink_output result ≡ new_output }
         ensures failing { failing_write result ≡ 0 }
     {
         MemorySink {
@@ -31,14 +32,14 @@ impl MemorySink {
 
     /// The bytes that were written.
     pub fn bytes(&self) -> &[u8]
-        ensures { ⟦<MemorySink as Sink>⟧.written self.now ≡ Some result.now }
+        ensures { (sink_output self.now).written ≡ Some result.now }
     {
         self.bytes.as_slice()
     }
 
     /// How often a write failed.
     pub fn fault_count(&self) -> u64
-        ensures { result ≡ ⟦<MemorySink as Sink>⟧.faults self.now }
+        ensures { result ≡ (sink_output self.now).faults }
     {
         self.faults
     }
@@ -47,32 +48,28 @@ impl MemorySink {
     /// takes the place of what was asked before.
     pub fn fail_at(&mut self, write: u32)
         ensures failing { failing_write self.new ≡ write }
-        ensures written { ⟦<MemorySink as Sink>⟧.written self.new ≡ ⟦<MemorySink as Sink>⟧.written self.old }
-        ensures faults { ⟦<MemorySink as Sink>⟧.faults self.new ≡ ⟦<MemorySink as Sink>⟧.faults self.old }
+        ensures output { sink_output self.new ≡ sink_output self.old }
     {
         self.failing = write;
     }
 }
 
 impl Sink for MemorySink {
-    ghost written = { λ sink. Some (sink_bytes sink) };
+    ghost use Rattle.b2_memory.specs.Sinks.{sink_output, SinkWrites};
 
-    ghost faults = { λ sink. sink.faults };
+    ghost output = { sink_output };
 
-    fn write(&mut self, bytes: &[u8]) -> Result<(), IoFault>
-        ensures faults { IoFaultTold self.old.faults self.new.faults result }
-        ensures ok { OnOk result (sink_bytes self.new ≡ sink_bytes self.old ++ bytes.now) }
-        ensures err { OnErr result (sink_bytes self.new ≡ sink_bytes self.old) }
-        ensures failed { IsErrOf result IoFault.Failed ↔ (failing_write self.old ≡ 1) }
-        ensures counted { failing_write self.new ≡ failing_write self.old - 1 }
+    fn write(&mut self, piece: &[u8]) -> Result<(), IoFault>
+        ensures effect { Prints piece.now (sink_output self.old) (sink_output self.new) result }
+        ensures exact { SinkWrites piece.now self.old self.new result }
     {
         let failing = self.failing == 1;
         self.failing = self.failing.saturating_sub(1);
         if failing {
-            self.faults = self.faults.saturating_add(1);
+            self.faults = raise(self.faults);
             return Err(IoFault::Failed);
         }
-        self.bytes.extend_from_slice(bytes)?;
+        self.bytes.extend_from_slice(piece)?;
         Ok(())
     }
 }

@@ -1,19 +1,20 @@
 //! Where the file of each path is.
-ghost use Rattle.std.specs.Prelude.{◌≡◌, ℕ, List, [], None, IsTrue, OnOk, if◌then◌else◌};
+ghost use Rattle.std.specs.Prelude.{◌≡◌, ℕ, List, [], IsTrue, IfOk, OnOk};
 ghost use Rattle.std.specs.FinMap as map;
-ghost use Rattle.std.specs.Str.{bytes_eq};
-ghost use Rattle.b2_host.specs.Stores.{place_of, is_known};
+ghost use Rattle.b2_base.specs.Segments.{texts};
+ghost use Rattle.b2_memory.specs.Keys.{AreKeys};
+ghost use Rattle.b2_memory.specs.Stores.{place_of, is_known, place_set};
 
+use crate::path_map::PathMap;
 use b2_base::fault::OutOfMemory;
 use b2_base::path::Path;
-use b2_base::text_map::TextMap;
 use std::alloc::Global;
 use std::marker::Model;
 
 /// For each path that was named, a place, or None.
 #[derive(Drop)]
 pub struct Places {
-    values: TextMap<Option<usize>>,
+    values: PathMap<Option<usize>>,
 }
 
 impl Model for Places {
@@ -36,7 +37,7 @@ impl Places {
         ensures { result ≡ map.from_entries [] }
     {
         Places {
-            values: TextMap::new(alloc),
+            values: PathMap::new(alloc),
         }
     }
 
@@ -44,10 +45,17 @@ impl Places {
     pub fn get(&self, path: &Path) -> Option<usize>
         ensures { result ≡ place_of self.now path.now }
     {
-        match self.values.get(path.as_text()) {
+        match self.values.get(path) {
             None => None,
             Some(place) => *place,
         }
+    }
+
+    /// The paths that are known, in byte order.
+    pub fn known(&self, alloc: Global) -> Result<Vec<&Path>, OutOfMemory>
+        ensures { IfOk result (λ paths. AreKeys (is_known self.now) (texts paths.items)) }
+    {
+        self.values.keys(alloc)
     }
 
     /// Makes a path known, with no place if it was not.
@@ -56,9 +64,8 @@ impl Places {
         ensures stays { (other : List ℕ) → IsTrue (is_known self.old other) → IsTrue (is_known self.new other) }
         ensures places { (other : List ℕ) → place_of self.new other ≡ place_of self.old other }
     {
-        let text = path.as_text();
-        if self.values.get(text).is_none() {
-            self.values.insert(text.copy()?, None)?;
+        if self.values.get(path).is_none() {
+            self.values.insert(path.copy()?, None)?;
         }
         Ok(())
     }
@@ -66,8 +73,8 @@ impl Places {
     /// Gives a known path a place, or None. A path that is not known has no place and gets none.
     pub fn set(&mut self, path: &Path, place: Option<usize>)
         ensures known { (other : List ℕ) → is_known self.new other ≡ is_known self.old other }
-        ensures places { (other : List ℕ) → place_of self.new other ≡ (if bytes_eq path.now other then (if is_known self.old path.now then place else None) else place_of self.old other) }
+        ensures places { (other : List ℕ) → place_of self.new other ≡ place_set self.old path.now place other }
     {
-        self.values.set(path.as_text(), place);
+        self.values.set(path, place);
     }
 }

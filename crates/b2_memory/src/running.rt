@@ -1,5 +1,5 @@
 //! A child in memory.
-ghost use Rattle.b2_host.specs.Jobs.{IsLeft};
+ghost use Rattle.b2_memory.specs.Jobs.{IsLeft};
 
 use crate::entry::Entry;
 use crate::job::Job;

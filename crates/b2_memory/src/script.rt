@@ -1,7 +1,7 @@
-//! Which calls of a host in memory fail, and which of its children end badly.
-ghost use Rattle.std.specs.Prelude.{◌≡◌, [], ◌++◌, map, MatchBool, OnOk, OnErr};
-ghost use Rattle.b2_host.specs.Faults.{Rose};
-ghost use Rattle.b2_host.specs.Scripts.{number_of, is_same, is_listed, call_after, calls_after, is_bad, starts_after};
+//! Which calls of a host in memory fail, how its children end, and in which order.
+ghost use Rattle.std.specs.Prelude.{◌≡◌, ◌<◌, ◌≤◌, OnOk, OnErr, vec_len, if◌then◌else◌};
+ghost use Rattle.std.specs.Option.{option_to_list};
+ghost use Rattle.b2_memory.specs.Scripts.{number_of, is_same, is_listed, call_after, calls_after, is_spent, fuse_after, is_to_fail, listed_after, is_bad, starts_after, place_picked, picked, left_of, raised, nothing_listed, with_calls, with_starts, with_picks};
 
 use b2_base::fault::OutOfMemory;
 use std::alloc::Global;
@@ -11,6 +11,9 @@ use std::alloc::Global;
 pub enum CallKind {
     Stat,
     Read,
+    List,
+    Append,
+    Replace,
     Remove,
     Start,
     Wait,
@@ -24,9 +27,12 @@ impl CallKind {
         match self {
             CallKind::Stat => 0,
             CallKind::Read => 1,
-            CallKind::Remove => 2,
-            CallKind::Start => 3,
-            CallKind::Wait => 4,
+            CallKind::List => 2,
+            CallKind::Append => 3,
+            CallKind::Replace => 4,
+            CallKind::Remove => 5,
+            CallKind::Start => 6,
+            CallKind::Wait => 7,
         }
     }
 
@@ -37,12 +43,20 @@ impl CallKind {
     }
 }
 
-/// The calls that are to fail, each with its kind and its number from now on, and the starts that are to end badly.
+/// What a host was told: the calls that are to fail, each with its kind and its number from now on; the starts that are to
+/// end badly; which child each wait gives; after how many more calls every call fails; and how many bytes a failed write
+/// leaves. Beside it, how often a call failed.
 #[derive(Drop)]
 pub struct Script {
     pub calls: Vec<(CallKind, u32)>,
     pub starts: Vec<u32>,
+    pub picks: Vec<u32>,
+    /// How many of the picks were taken.
+    pub taken: usize,
+    pub fuse: Option<u32>,
+    pub tear: u32,
     pub faults: u64,
+    ghost within: { taken ≤ vec_len picks },
 }
 
 /// A call of a kind was made: a listed call of that kind comes one nearer.
@@ -70,49 +84,129 @@ fn count_down(starts: &mut Vec<u32>)
     }
 }
 
+fn is_spent(fuse: Option<u32>) -> bool
+    ensures { result ≡ is_spent fuse }
+{
+    match fuse {
+        None => false,
+        Some(left) => left == 0,
+    }
+}
+
+fn burnt(fuse: Option<u32>) -> Option<u32>
+    ensures { result ≡ fuse_after fuse }
+{
+    match fuse {
+        None => None,
+        Some(left) => Some(left.saturating_sub(1)),
+    }
+}
+
+/// The place that a number picks among so many children.
+fn place_of_pick(pick: Option<u32>, children: usize) -> usize
+    requires { 0 < children }
+    ensures place { result ≡ place_picked (option_to_list pick) children }
+    ensures within { result < children }
+{
+    match pick {
+        None => 0,
+        Some(pick) => (pick.saturating_sub(1) as usize).min(children - 1),
+    }
+}
+
+/// A count that goes up, unless it stands at the greatest.
+#[tactic(auto, using(crate::proofs::Counts::raised_is))]
+pub fn raise(count: u64) -> u64
+    ensures { result ≡ raised count }
+{
+    count.saturating_add(1)
+}
+
 impl Script {
-    /// No call and no start is listed.
+    ghost use Rattle.b2_memory.specs.Listings.{listed_of};
+
+    /// Nothing is listed.
     pub fn new(alloc: Global) -> Script
-        ensures calls { result.calls.items ≡ [] }
-        ensures starts { result.starts.items ≡ [] }
+        ensures listed { listed_of result ≡ nothing_listed }
         ensures faults { result.faults ≡ 0 }
     {
         Script {
             calls: Vec::new(alloc),
             starts: Vec::new(alloc),
+            picks: Vec::new(alloc),
+            taken: 0,
+            fuse: None,
+            tear: 0,
             faults: 0,
         }
     }
 
+    fn is_listed(&self, kind: CallKind) -> bool
+        ensures { result ≡ is_listed kind self.now.calls.items }
+    {
+        self.calls
+            .iter()
+            .any(|call| kind.is_same(call.0) && call.1 == 1)
+    }
+
+    /// Whether the next call of a kind fails.
+    pub fn is_to_fail(&self, kind: CallKind) -> bool
+        ensures { result ≡ is_to_fail kind (listed_of self.now) }
+    {
+        is_spent(self.fuse) || self.is_listed(kind)
+    }
+
     /// Whether this call fails. It is counted, and so is its fault.
     pub fn fails(&mut self, kind: CallKind) -> bool
-        ensures listed { result ≡ is_listed kind self.old.calls.items }
-        ensures calls { self.new.calls.items ≡ calls_after kind self.old.calls.items }
-        ensures starts { self.new.starts.items ≡ self.old.starts.items }
-        ensures faults { MatchBool result (Rose self.old.faults self.new.faults) (self.new.faults ≡ self.old.faults) }
+        ensures fails { result ≡ is_to_fail kind (listed_of self.old) }
+        ensures listed { listed_of self.new ≡ listed_after kind (listed_of self.old) }
+        ensures faults { self.new.faults ≡ (if result then raised self.old.faults else self.old.faults) }
     {
-        let listed = self
-            .calls
-            .iter()
-            .any(|call| kind.is_same(call.0) && call.1 == 1);
+        let fails = self.is_to_fail(kind);
         pass_all(&mut self.calls, kind);
-        if listed {
-            self.faults = self.faults.saturating_add(1);
+        self.fuse = burnt(self.fuse);
+        if fails {
+            self.faults = raise(self.faults);
         }
-        listed
+        fails
+    }
+
+    /// What a write of a kind leaves of its piece.
+    pub fn left_of<'a>(&self, kind: CallKind, piece: &'a [u8]) -> &'a [u8]
+        ensures { result.now ≡ left_of kind piece.now (listed_of self.now) }
+    {
+        let most = self.tear as usize;
+        if !self.is_to_fail(kind) || piece.len() <= most {
+            return piece;
+        }
+        &piece[..most]
+    }
+
+    /// The place of the child that a wait gives, among so many.
+    pub fn pick(&mut self, children: usize) -> usize
+        requires { 0 < children }
+        ensures place { result ≡ place_picked (listed_of self.old).picks children }
+        ensures within { result < children }
+        ensures listed { listed_of self.new ≡ picked (listed_of self.old) }
+        ensures faults { self.new.faults ≡ self.old.faults }
+    {
+        let pick = self.picks.get(self.taken).copied();
+        if pick.is_some() {
+            self.taken += 1;
+        }
+        place_of_pick(pick, children)
     }
 
     /// Whether the child that starts next is to end badly.
     pub fn is_bad(&self) -> bool
-        ensures { result ≡ is_bad self.now.starts.items }
+        ensures { result ≡ is_bad (listed_of self.now).starts }
     {
         self.starts.iter().any(|start| *start == 1)
     }
 
     /// A child was started.
     pub fn count_start(&mut self)
-        ensures calls { self.new.calls.items ≡ self.old.calls.items }
-        ensures starts { self.new.starts.items ≡ starts_after self.old.starts.items }
+        ensures listed { listed_of self.new ≡ record (listed_of self.old) { starts = starts_after (listed_of self.old).starts } }
         ensures faults { self.new.faults ≡ self.old.faults }
     {
         count_down(&mut self.starts);
@@ -120,9 +214,8 @@ impl Script {
 
     /// Lists more calls that are to fail. After an error the list is as before.
     pub fn list_calls(&mut self, calls: &[(CallKind, u32)]) -> Result<(), OutOfMemory>
-        ensures ok { OnOk result (self.new.calls.items ≡ self.old.calls.items ++ calls.now) }
-        ensures err { OnErr result (self.new.calls.items ≡ self.old.calls.items) }
-        ensures starts { self.new.starts.items ≡ self.old.starts.items }
+        ensures ok { OnOk result (listed_of self.new ≡ with_calls calls.now (listed_of self.old)) }
+        ensures err { OnErr result (listed_of self.new ≡ listed_of self.old) }
         ensures faults { self.new.faults ≡ self.old.faults }
     {
         self.calls.extend_from_slice(calls)?;
@@ -131,12 +224,34 @@ impl Script {
 
     /// Lists more starts that are to end badly. After an error the list is as before.
     pub fn list_starts(&mut self, starts: &[u32]) -> Result<(), OutOfMemory>
-        ensures ok { OnOk result (self.new.starts.items ≡ self.old.starts.items ++ starts.now) }
-        ensures err { OnErr result (self.new.starts.items ≡ self.old.starts.items) }
-        ensures calls { self.new.calls.items ≡ self.old.calls.items }
+        ensures ok { OnOk result (listed_of self.new ≡ with_starts starts.now (listed_of self.old)) }
+        ensures err { OnErr result (listed_of self.new ≡ listed_of self.old) }
         ensures faults { self.new.faults ≡ self.old.faults }
     {
         self.starts.extend_from_slice(starts)?;
         Ok(())
+    }
+
+    /// Lists more numbers, each for a wait. After an error the list is as before.
+    pub fn list_picks(&mut self, picks: &[u32]) -> Result<(), OutOfMemory>
+        ensures ok { OnOk result (listed_of self.new ≡ with_picks picks.now (listed_of self.old)) }
+        ensures err { OnErr result (listed_of self.new ≡ listed_of self.old) }
+        ensures faults { self.new.faults ≡ self.old.faults }
+    {
+        self.picks.extend_from_slice(picks)?;
+        Ok(())
+    }
+
+    /// Nothing is listed any more.
+    pub fn clear(&mut self)
+        ensures listed { listed_of self.new ≡ nothing_listed }
+        ensures faults { self.new.faults ≡ self.old.faults }
+    {
+        self.calls.clear();
+        self.starts.clear();
+        self.picks.clear();
+        self.taken = 0;
+        self.fuse = None;
+        self.tear = 0;
     }
 }

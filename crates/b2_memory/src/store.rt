@@ -1,16 +1,28 @@
 //! The files of a host in memory.
-ghost use Rattle.std.specs.Prelude.{◌≡◌, ℕ, ◌+◌, ◌≤◌, ◌<◌, List, [], map, IsTrue, IfSome, IfOk, OnOk, OnErr, option_copied, vec_len, vec_capacity};
+ghost use Rattle.std.specs.Prelude.{◌≡◌, ℕ, ◌+◌, ◌≤◌, ◌<◌, List, [], ◌∷◌, ◌++◌, map, IsTrue, IfSome, IfOk, OnOk, option_copied, vec_len, vec_capacity};
+ghost use Rattle.std.specs.Option.{option_map};
 ghost use Rattle.std.specs.FinMap as map_of;
+ghost use Rattle.std.specs.List.Sorted.{IsStrictlySortedBy};
+ghost use Rattle.std.specs.Ordering.{nat_cmp};
+ghost use Rattle.std.specs.Cmp.Lexicographic.{slice_cmp};
 ghost use Rattle.std.proofs.Props.{props};
+ghost use Rattle.b2_base.specs.Segments.{texts};
 ghost use Rattle.b2_host.specs.Disks.{bytes_at, StatTold, ReadTold, without};
-ghost use Rattle.b2_host.specs.Writes.{written, all_written};
-ghost use Rattle.b2_host.specs.Stores.{place_of, is_known, all_known, write_of, standing, disk_of, IsPlaced};
+ghost use Rattle.b2_host.specs.ChildProcesses.{read_at};
+ghost use Rattle.b2_host.specs.FileCalls.{with_piece};
+ghost use Rattle.b2_host.specs.Listings.{IsListed};
+ghost use Rattle.b2_memory.specs.Names.{AddsName, Gathered};
+ghost use Rattle.b2_memory.specs.Writes.{written, all_written};
+ghost use Rattle.b2_memory.specs.Stores.{place_of, all_known, write_of, input_of, IsPlaced};
 
 use crate::entry::Entry;
-use crate::files::ReadAnswer;
+use crate::names::name_in;
 use crate::places::Places;
 use b2_base::fault::OutOfMemory;
 use b2_base::path::Path;
+use b2_base::text::Text;
+use b2_base::text_list::TextList;
+use b2_host::files::ReadAnswer;
 use std::alloc::Global;
 
 /// All that ever stood, in order, and where the file of each path is among it.
@@ -22,6 +34,8 @@ pub struct Store {
 }
 
 impl Store {
+    ghost use Rattle.b2_memory.specs.StoreDisks.{told, knows};
+
     /// Nothing stands, and nothing stood.
     pub fn new(alloc: Global) -> Store
         ensures past { result.past.items ≡ [] }
@@ -42,7 +56,7 @@ impl Store {
 
     /// The stamp of the file at a path.
     pub fn stamp(&self, path: &Path) -> Option<u64>
-        ensures { StatTold path.now result (standing self.now.past.items self.now.places) }
+        ensures { StatTold path.now result (told self.now).now }
     {
         match self.place(path) {
             None => None,
@@ -50,19 +64,30 @@ impl Store {
         }
     }
 
-    /// The bytes at a path.
-    pub fn bytes(&self, path: &Path) -> Option<&[u8]>
-        ensures { option_copied result ≡ bytes_at (standing self.now.past.items self.now.places) path.now }
+    /// The file at a path.
+    pub fn entry(&self, path: &Path) -> Option<&Entry>
+        ensures file { option_map input_of result ≡ read_at (told self.now).now path.now }
+        ensures bytes { option_map (λ entry. entry.now.bytes.value.items) result ≡ bytes_at (told self.now).now path.now }
     {
         match self.place(path) {
             None => None,
-            Some(place) => Some(self.past[place].bytes.as_slice()),
+            Some(place) => Some(&self.past[place]),
+        }
+    }
+
+    /// The bytes at a path.
+    pub fn bytes(&self, path: &Path) -> Option<&[u8]>
+        ensures { option_copied result ≡ bytes_at (told self.now).now path.now }
+    {
+        match self.entry(path) {
+            None => None,
+            Some(entry) => Some(entry.bytes.as_ref().as_slice()),
         }
     }
 
     /// The bytes at a path, where they are no more than `most`.
     pub fn read(&self, alloc: Global, path: &Path, most: u64) -> Result<ReadAnswer, OutOfMemory>
-        ensures { IfOk result (λ answer. ReadTold path.now most answer (standing self.now.past.items self.now.places)) }
+        ensures { IfOk result (λ answer. ReadTold path.now most answer (told self.now).now) }
     {
         match self.bytes(path) {
             None => Ok(ReadAnswer::Missing),
@@ -77,10 +102,24 @@ impl Store {
         }
     }
 
+    /// The bytes at a path, or none, and a piece after them.
+    pub fn with_piece(
+        &self,
+        alloc: Global,
+        path: &Path,
+        piece: &[u8],
+    ) -> Result<Vec<u8>, OutOfMemory>
+        ensures { IfOk result (λ bytes. bytes.items ≡ with_piece path.now piece.now (told self.now)) }
+    {
+        let mut bytes = Vec::from_slice(alloc, self.bytes(path).unwrap_or(&[]))?;
+        bytes.extend_from_slice(piece)?;
+        Ok(bytes)
+    }
+
     /// Leaves no file at a path.
     pub fn remove(&mut self, path: &Path)
-        ensures disk { disk_of self.new.past.items self.new.places ≡ without path.now (disk_of self.old.past.items self.old.places) }
-        ensures known { (other : List ℕ) → is_known self.new.places other ≡ is_known self.old.places other }
+        ensures disk { told self.new ≡ without path.now (told self.old) }
+        ensures known { (other : List ℕ) → knows self.new other ≡ knows self.old other }
         ensures len { vec_len self.new.past ≡ vec_len self.old.past }
         ensures room { vec_capacity self.new.past ≡ vec_capacity self.old.past }
     {
@@ -88,7 +127,7 @@ impl Store {
     }
 
     /// Takes room for so many entries more.
-    pub fn make_room(&mut self, more: usize) -> Result<(), OutOfMemory>
+    fn make_room(&mut self, more: usize) -> Result<(), OutOfMemory>
         ensures ok { OnOk result (vec_len self.new.past + more ≤ vec_capacity self.new.past) }
         ensures room { vec_capacity self.old.past ≤ vec_capacity self.new.past }
         ensures past { self.new.past.items ≡ self.old.past.items }
@@ -100,10 +139,10 @@ impl Store {
     }
 
     /// Makes a path known.
-    pub fn know(&mut self, path: &Path) -> Result<(), OutOfMemory>
-        ensures known { OnOk result (IsTrue (is_known self.new.places path.now)) }
-        ensures stays { (other : List ℕ) → IsTrue (is_known self.old.places other) → IsTrue (is_known self.new.places other) }
-        ensures disk { disk_of self.new.past.items self.new.places ≡ disk_of self.old.past.items self.old.places }
+    fn know(&mut self, path: &Path) -> Result<(), OutOfMemory>
+        ensures known { OnOk result (IsTrue (knows self.new path.now)) }
+        ensures stays { (other : List ℕ) → IsTrue (knows self.old other) → IsTrue (knows self.new other) }
+        ensures disk { told self.new ≡ told self.old }
         ensures len { vec_len self.new.past ≡ vec_len self.old.past }
         ensures room { vec_capacity self.new.past ≡ vec_capacity self.old.past }
     {
@@ -112,10 +151,10 @@ impl Store {
     }
 
     /// Makes the paths of some entries known.
-    pub fn know_all(&mut self, entries: &[Entry]) -> Result<(), OutOfMemory>
+    fn know_all(&mut self, entries: &[Entry]) -> Result<(), OutOfMemory>
         ensures known { OnOk result (IsTrue (all_known self.new.places entries.now)) }
-        ensures stays { (other : List ℕ) → IsTrue (is_known self.old.places other) → IsTrue (is_known self.new.places other) }
-        ensures disk { disk_of self.new.past.items self.new.places ≡ disk_of self.old.past.items self.old.places }
+        ensures stays { (other : List ℕ) → IsTrue (knows self.old other) → IsTrue (knows self.new other) }
+        ensures disk { told self.new ≡ told self.old }
         ensures len { vec_len self.new.past ≡ vec_len self.old.past }
         ensures room { vec_capacity self.new.past ≡ vec_capacity self.old.past }
     {
@@ -129,8 +168,8 @@ impl Store {
     pub fn prepare(&mut self, entries: &[Entry], more: usize) -> Result<(), OutOfMemory>
         ensures known { OnOk result (IsTrue (all_known self.new.places entries.now)) }
         ensures ok { OnOk result (vec_len self.new.past + more ≤ vec_capacity self.new.past) }
-        ensures stays { (other : List ℕ) → IsTrue (is_known self.old.places other) → IsTrue (is_known self.new.places other) }
-        ensures disk { disk_of self.new.past.items self.new.places ≡ disk_of self.old.past.items self.old.places }
+        ensures stays { (other : List ℕ) → IsTrue (knows self.old other) → IsTrue (knows self.new other) }
+        ensures disk { told self.new ≡ told self.old }
         ensures len { vec_len self.new.past ≡ vec_len self.old.past }
         ensures room { vec_capacity self.old.past ≤ vec_capacity self.new.past }
     {
@@ -138,12 +177,25 @@ impl Store {
         self.make_room(more)
     }
 
+    /// Makes a path known, and takes room for so many entries more.
+    pub fn prepare_one(&mut self, path: &Path, more: usize) -> Result<(), OutOfMemory>
+        ensures known { OnOk result (IsTrue (knows self.new path.now)) }
+        ensures ok { OnOk result (vec_len self.new.past + more ≤ vec_capacity self.new.past) }
+        ensures stays { (other : List ℕ) → IsTrue (knows self.old other) → IsTrue (knows self.new other) }
+        ensures disk { told self.new ≡ told self.old }
+        ensures len { vec_len self.new.past ≡ vec_len self.old.past }
+        ensures room { vec_capacity self.old.past ≤ vec_capacity self.new.past }
+    {
+        self.know(path)?;
+        self.make_room(more)
+    }
+
     /// Puts an entry, whose path is known, into room that was taken.
     pub fn put(&mut self, entry: Entry)
-        requires known { IsTrue (is_known self.old.places entry.path) }
+        requires known { IsTrue (knows self.old entry.path) }
         requires room { vec_len self.old.past < vec_capacity self.old.past }
-        ensures disk { disk_of self.new.past.items self.new.places ≡ written entry.path entry.bytes.items (disk_of self.old.past.items self.old.places) }
-        ensures known { (other : List ℕ) → is_known self.new.places other ≡ is_known self.old.places other }
+        ensures disk { told self.new ≡ written entry.path entry.bytes.value.items (told self.old) }
+        ensures known { (other : List ℕ) → knows self.new other ≡ knows self.old other }
         ensures len { vec_len self.new.past ≡ vec_len self.old.past + 1 }
         ensures room { vec_capacity self.new.past ≡ vec_capacity self.old.past }
     {
@@ -152,31 +204,61 @@ impl Store {
         self.past.push_reserved(entry);
     }
 
-    /// Writes bytes to a path.
-    pub fn write(&mut self, alloc: Global, path: &Path, bytes: &[u8]) -> Result<(), OutOfMemory>
-        ensures ok { OnOk result (disk_of self.new.past.items self.new.places ≡ written path.now bytes.now (disk_of self.old.past.items self.old.places)) }
-        ensures err { OnErr result (disk_of self.new.past.items self.new.places ≡ disk_of self.old.past.items self.old.places) }
-        ensures room { vec_len self.new.past ≤ vec_capacity self.new.past }
-    {
-        let bytes = Vec::from_slice(alloc, bytes)?;
-        let entry = Entry::new(path, bytes)?;
-        self.know(path)?;
-        self.make_room(1)?;
-        self.put(entry);
-        Ok(())
-    }
-
     /// Puts entries, whose paths are known, into room that was taken.
     pub fn put_all(&mut self, entries: Vec<Entry>)
         requires known { IsTrue (all_known self.old.places entries.items) }
         requires room { vec_len self.old.past + vec_len entries ≤ vec_capacity self.old.past }
-        ensures disk { disk_of self.new.past.items self.new.places ≡ all_written (map write_of entries.items) (disk_of self.old.past.items self.old.places) }
-        ensures known { (other : List ℕ) → is_known self.new.places other ≡ is_known self.old.places other }
+        ensures disk { told self.new ≡ all_written (map write_of entries.items) (told self.old) }
+        ensures known { (other : List ℕ) → knows self.new other ≡ knows self.old other }
         ensures len { vec_len self.new.past ≡ vec_len self.old.past + vec_len entries }
         ensures room { vec_capacity self.new.past ≡ vec_capacity self.old.past }
     {
         for entry in entries {
             self.put(entry);
         }
+    }
+
+    /// Adds the name of a file that stands directly in a directory.
+    fn list_one(
+        &self,
+        alloc: Global,
+        names: &mut TextList,
+        path: &Path,
+        dir: &Path,
+    ) -> Result<(), OutOfMemory>
+        ensures { OnOk result (AddsName (told self.now).now dir.now path.now names.old names.new) }
+    {
+        if self.stamp(path).is_none() {
+            return Ok(());
+        }
+        if let Some(name) = name_in(path, dir) {
+            names.push(Text::new(alloc, name)?)?;
+        }
+        Ok(())
+    }
+
+    /// The names of those of some paths that are directly in a directory.
+    fn list_names(
+        &self,
+        alloc: Global,
+        paths: &[&Path],
+        dir: &Path,
+    ) -> Result<TextList, OutOfMemory>
+        requires { IsStrictlySortedBy (slice_cmp nat_cmp) (texts paths.now) }
+        ensures { IfOk result (Gathered (told self.now).now dir.now (texts paths.now) []) }
+    {
+        let mut names = TextList::new(alloc);
+        for path in paths {
+            self.list_one(alloc, &mut names, path, dir)?;
+        }
+        Ok(names)
+    }
+
+    /// The names of the files directly in a directory, in byte order.
+    pub fn list(&self, alloc: Global, dir: &Path) -> Result<TextList, OutOfMemory>
+        ensures { IfOk result (λ names. IsListed (told self.now).now dir.now names) }
+    {
+        let paths = self.places.known(alloc)?;
+        self.list_names(alloc, paths.as_slice(), dir)
     }
 }

@@ -1,7 +1,7 @@
 use Rattle.std.proofs.Common.{◌≡◌, map, take}
-use Rattle.b2_host.specs.Results.{made_of}
-use Rattle.b2_host.specs.Stores.{write_of}
-use Rattle.b2_host.proofs.job.good_writes.Given as goal
+use Rattle.b2_memory.specs.Results.{made_of}
+use Rattle.b2_memory.specs.Stores.{write_of}
+use Rattle.b2_memory.proofs.job.good_writes.Given as goal
 
 -- the writes to the outputs so far
 abbrev pub invariant-loop-out : goal.invariant-loop-out

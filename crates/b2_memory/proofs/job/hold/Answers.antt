@@ -1,13 +1,13 @@
 use Rattle.std.proofs.Common.{◌++◌, ap, sym, ◌∙◌, take}
 use Rattle.std.specs.Option.{option_to_list}
 use Rattle.b2_host.specs.ChildProcesses.{read_at, read_all}
-use Rattle.b2_host.specs.Stores.{standing}
-use Rattle.b2_host.proofs.LoopSteps.{read_more}
-use Rattle.b2_host.proofs.job.hold.Goals as goal
+use Rattle.b2_memory.specs.StoreDisks.{told}
+use Rattle.b2_memory.proofs.LoopSteps.{read_more}
+use Rattle.b2_memory.proofs.job.hold.Goals as goal
 
 pub loop-path-preserved : goal.loop-path-preserved
 loop-path-preserved c =
-    let folder = standing c.args.store.now.past.items c.args.store.now.places in
+    let folder = (told c.args.store.now).now in
     let so_far = read_all folder (take c.loop-path.path-index c.args.ins.now) in
     c.in_ok-hold_one.ensures
     ∙ ap (λ xs. xs ++ option_to_list (read_at folder c.path-item.result)) c.loop-path.invariant

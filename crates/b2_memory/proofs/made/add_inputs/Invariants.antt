@@ -1,8 +1,8 @@
 use Rattle.std.proofs.Common.{◌≡◌, ◌++◌, map, take}
 use Rattle.std.specs.List.{flat_map}
-use Rattle.b2_host.specs.Results.{input_text}
-use Rattle.b2_host.specs.Stores.{input_of}
-use Rattle.b2_host.proofs.made.add_inputs.Given as goal
+use Rattle.b2_memory.specs.Results.{input_text}
+use Rattle.b2_memory.specs.Stores.{input_of}
+use Rattle.b2_memory.proofs.made.add_inputs.Given as goal
 
 -- the inputs so far are added
 abbrev pub invariant-loop-input : goal.invariant-loop-input

@@ -1,8 +1,8 @@
 use Rattle.std.proofs.Common.{◌≡◌, ℕ, List, map, take}
-use Rattle.b2_host.specs.NamedBytes.{bytes_found}
-use Rattle.b2_host.specs.Results.{bytes_named}
-use Rattle.b2_host.specs.Stores.{write_of}
-use Rattle.b2_host.proofs.made.by_name.Given as goal
+use Rattle.b2_memory.specs.NamedBytes.{bytes_found}
+use Rattle.b2_memory.specs.Results.{bytes_named}
+use Rattle.b2_memory.specs.Stores.{write_of}
+use Rattle.b2_memory.proofs.made.by_name.Given as goal
 
 -- the inputs so far are found
 abbrev pub invariant-loop-input : goal.invariant-loop-input

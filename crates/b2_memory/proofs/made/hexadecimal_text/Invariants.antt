@@ -1,6 +1,6 @@
 use Rattle.std.proofs.Common.{◌≡◌, take}
-use Rattle.b2_host.specs.Results.{hexadecimal}
-use Rattle.b2_host.proofs.made.hexadecimal_text.Given as goal
+use Rattle.b2_memory.specs.Results.{hexadecimal}
+use Rattle.b2_memory.proofs.made.hexadecimal_text.Given as goal
 
 -- the digits of the bytes so far
 abbrev pub invariant-loop-byte : goal.invariant-loop-byte

@@ -1,10 +1,10 @@
 use Rattle.std.proofs.Common.{◌+◌, ◌++◌, map, drop, ap, sym, ◌∙◌, append_assoc}
 use Rattle.std.specs.Str.{bytes_eq}
 use Rattle.b2_base.specs.Segments.{texts}
-use Rattle.b2_host.specs.Results.{joined}
-use Rattle.b2_host.specs.Stores.{write_of}
-use Rattle.b2_host.proofs.LoopSteps.{join_goes_on}
-use Rattle.b2_host.proofs.made.join.Goals as goal
+use Rattle.b2_memory.specs.Results.{joined}
+use Rattle.b2_memory.specs.Stores.{write_of}
+use Rattle.b2_memory.proofs.LoopSteps.{join_goes_on}
+use Rattle.b2_memory.proofs.made.join.Goals as goal
 
 pub loop-name-preserved : goal.loop-name-preserved
 loop-name-preserved c =

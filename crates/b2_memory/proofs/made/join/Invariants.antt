@@ -1,8 +1,8 @@
 use Rattle.std.proofs.Common.{◌≡◌, ◌++◌, map, drop}
 use Rattle.b2_base.specs.Segments.{texts}
-use Rattle.b2_host.specs.Results.{joined}
-use Rattle.b2_host.specs.Stores.{write_of}
-use Rattle.b2_host.proofs.made.join.Given as goal
+use Rattle.b2_memory.specs.Results.{joined}
+use Rattle.b2_memory.specs.Stores.{write_of}
+use Rattle.b2_memory.proofs.made.join.Given as goal
 
 -- what is joined so far, and what is still to be joined
 abbrev pub invariant-loop-name : goal.invariant-loop-name

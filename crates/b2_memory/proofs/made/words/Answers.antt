@@ -3,8 +3,8 @@ use Rattle.std.proofs.lemmas.Iterator.Consumers.{map_from_collect, YieldsList-fr
 use Rattle.std.proofs.lemmas.Iterator.Splits.{YieldsList-from_slice_split}
 use Rattle.std.proofs.lemmas.Result.{IfOk-at_ok}
 use Rattle.b2_base.specs.Segments.{texts}
-use Rattle.b2_host.specs.Results.{is_space, words_of}
-use Rattle.b2_host.proofs.made.words.Goals as goal
+use Rattle.b2_memory.specs.Results.{is_space, words_of}
+use Rattle.b2_memory.proofs.made.words.Goals as goal
 
 pub returns : goal.returns
 returns c =

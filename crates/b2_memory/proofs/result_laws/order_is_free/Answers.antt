@@ -1,5 +1,5 @@
-use Rattle.b2_host.proofs.InputOrder.{order_is_free}
-use Rattle.b2_host.proofs.result_laws.order_is_free.Goals as goal
+use Rattle.b2_memory.proofs.InputOrder.{order_is_free}
+use Rattle.b2_memory.proofs.result_laws.order_is_free.Goals as goal
 
 pub returns : goal.returns
 returns c = order_is_free

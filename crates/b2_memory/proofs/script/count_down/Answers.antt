@@ -1,6 +1,6 @@
 use Rattle.std.proofs.Common.{◌<◌, set, length, ap, ◌∙◌, arith}
-use Rattle.b2_host.proofs.Countdowns.{down_more}
-use Rattle.b2_host.proofs.script.count_down.Goals as goal
+use Rattle.b2_memory.proofs.Countdowns.{down_more}
+use Rattle.b2_memory.proofs.script.count_down.Goals as goal
 
 pub loop-start-preserved : goal.loop-start-preserved
 loop-start-preserved c =

@@ -1,5 +1,5 @@
 use Rattle.std.proofs.Common.{◌≡◌, ◌-◌, ◌++◌, map, take, drop}
-use Rattle.b2_host.proofs.script.count_down.Given as goal
+use Rattle.b2_memory.proofs.script.count_down.Given as goal
 
 -- the starts so far are counted
 abbrev pub invariant-loop-start : goal.invariant-loop-start

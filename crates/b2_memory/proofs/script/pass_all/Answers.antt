@@ -1,6 +1,6 @@
 use Rattle.std.proofs.Common.{◌<◌, set, length, ap, ◌∙◌, arith}
-use Rattle.b2_host.proofs.Countdowns.{call_after_more}
-use Rattle.b2_host.proofs.script.pass_all.Goals as goal
+use Rattle.b2_memory.proofs.Countdowns.{call_after_more}
+use Rattle.b2_memory.proofs.script.pass_all.Goals as goal
 
 pub loop-call-preserved : goal.loop-call-preserved
 loop-call-preserved c =

@@ -1,6 +1,6 @@
 use Rattle.std.proofs.Common.{◌≡◌, ◌++◌, map, take, drop}
-use Rattle.b2_host.specs.Scripts.{call_after}
-use Rattle.b2_host.proofs.script.pass_all.Given as goal
+use Rattle.b2_memory.specs.Scripts.{call_after}
+use Rattle.b2_memory.proofs.script.pass_all.Given as goal
 
 -- the calls so far are counted
 abbrev pub invariant-loop-call : goal.invariant-loop-call

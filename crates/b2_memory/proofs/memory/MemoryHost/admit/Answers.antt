@@ -1,9 +1,9 @@
 use Rattle.std.proofs.Common.{ap, sym, ◌∙◌, arith}
-use Rattle.b2_host.specs.Stores.{all_known}
-use Rattle.b2_host.specs.PendingWrites.{promised}
-use Rattle.b2_host.proofs.KnownPaths.{known_stays}
-use Rattle.b2_host.proofs.ChildEnds.{promised_push}
-use Rattle.b2_host.proofs.memory.MemoryHost.admit.Goals as goal
+use Rattle.b2_memory.specs.Stores.{all_known}
+use Rattle.b2_memory.specs.PendingWrites.{promised}
+use Rattle.b2_memory.proofs.KnownPaths.{known_stays}
+use Rattle.b2_memory.proofs.ChildEnds.{promised_push}
+use Rattle.b2_memory.proofs.memory.MemoryHost.admit.Goals as goal
 
 pub invariant_of-self-in-Break-branch-5 : goal.invariant_of-self-in-Break-branch-5
 invariant_of-self-in-Break-branch-5 c =
@@ -15,6 +15,7 @@ invariant_of-self-in-Break-branch-5 c =
       room = omega (arith, had, pending, len, room);
       known = ap (λ rs. all_known c.prepare.new.self.places (promised rs)) c.reserve.ensures.running
           ∙ known_stays c.args.self.now.store.places c.prepare.new.self.places (promised c.args.self.now.child_table.running.items) c.prepare.ensures.stays c.args.self.now.known;
+      log_is = c.args.self.now.log_is;
     }
 
 pub invariant_of-self-2 : goal.invariant_of-self-2
@@ -29,4 +30,5 @@ invariant_of-self-2 c =
       known = rw (c.add.ensures.running, c.reserve.ensures.running) (promised_push c.prepare.new.self.places c.args.self.now.child_table.running.items _
           (known_stays c.args.self.now.store.places c.prepare.new.self.places (promised c.args.self.now.child_table.running.items) c.prepare.ensures.stays c.args.self.now.known)
           (ap (all_known c.prepare.new.self.places) (sym c.as_slice.ensures.value) ∙ c.in_ok-prepare.ensures.known));
+      log_is = c.args.self.now.log_is;
     }

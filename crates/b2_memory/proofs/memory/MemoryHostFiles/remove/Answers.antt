@@ -1,7 +1,7 @@
 use Rattle.std.proofs.Common.{◌∙◌, arith}
-use Rattle.b2_host.specs.PendingWrites.{promised}
-use Rattle.b2_host.proofs.KnownPaths.{known_stays}
-use Rattle.b2_host.proofs.memory.MemoryHostFiles.remove.Goals as goal
+use Rattle.b2_memory.specs.PendingWrites.{promised}
+use Rattle.b2_memory.proofs.KnownPaths.{known_stays}
+use Rattle.b2_memory.proofs.memory.MemoryHostFiles.remove.Goals as goal
 
 pub invariant_of-self-2 : goal.invariant_of-self-2
 invariant_of-self-2 c =
@@ -11,4 +11,5 @@ invariant_of-self-2 c =
     record {
       room = omega (arith, had, len, room);
       known = known_stays c.args.self.now.store.places c.remove.new.self.places (promised c.args.self.now.child_table.running.items) (λ q k. c.remove.ensures.known q ∙ k) c.args.self.now.known;
+      log_is = c.args.self.now.log_is;
     }

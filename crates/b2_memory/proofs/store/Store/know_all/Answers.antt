@@ -1,7 +1,7 @@
 use Rattle.std.proofs.Common.{ap, sym, ◌∙◌}
-use Rattle.b2_host.specs.Stores.{is_known}
-use Rattle.b2_host.proofs.KnownPaths.{known_more}
-use Rattle.b2_host.proofs.store.Store.know_all.Goals as goal
+use Rattle.b2_memory.specs.Stores.{is_known}
+use Rattle.b2_memory.proofs.KnownPaths.{known_more}
+use Rattle.b2_memory.proofs.store.Store.know_all.Goals as goal
 
 pub loop-entry-preserved : goal.loop-entry-preserved
 loop-entry-preserved c =

@@ -1,6 +1,6 @@
 use Rattle.std.proofs.Common.{◌≡◌, ℕ, List, take, IsTrue, vec_len, vec_capacity}
-use Rattle.b2_host.specs.Stores.{is_known, all_known, disk_of}
-use Rattle.b2_host.proofs.store.Store.know_all.Given as goal
+use Rattle.b2_memory.specs.Stores.{is_known, all_known, disk_of}
+use Rattle.b2_memory.proofs.store.Store.know_all.Given as goal
 
 -- the paths so far are known, and nothing else is told
 abbrev pub invariant-loop-entry : goal.invariant-loop-entry

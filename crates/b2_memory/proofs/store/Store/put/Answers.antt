@@ -1,8 +1,8 @@
 use Rattle.std.proofs.Common.{List, ap, sym, ◌∙◌, subst}
-use Rattle.b2_host.specs.declared.entry.Entry.{Entry}
-use Rattle.b2_host.specs.Stores.{disk_of, IsPlaced}
-use Rattle.b2_host.proofs.StorePut.{has_put, placed_put, disk_put}
-use Rattle.b2_host.proofs.store.Store.put.Goals as goal
+use Rattle.b2_memory.specs.declared.entry.Entry.{Entry}
+use Rattle.b2_memory.specs.Stores.{disk_of, IsPlaced}
+use Rattle.b2_memory.proofs.StorePut.{has_put, placed_put, disk_put}
+use Rattle.b2_memory.proofs.store.Store.put.Goals as goal
 
 pub invariant_of-self : goal.invariant_of-self
 invariant_of-self c =

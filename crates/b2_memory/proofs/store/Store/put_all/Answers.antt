@@ -1,8 +1,8 @@
 use Rattle.std.proofs.Common.{ap, sym, ◌∙◌, map, length, arith}
-use Rattle.b2_host.specs.Writes.{all_written}
-use Rattle.b2_host.specs.Stores.{is_known, all_known, write_of, disk_of}
-use Rattle.b2_host.proofs.KnownPaths.{both, known_stays}
-use Rattle.b2_host.proofs.store.Store.put_all.Goals as goal
+use Rattle.b2_memory.specs.Writes.{all_written}
+use Rattle.b2_memory.specs.Stores.{is_known, all_known, write_of, disk_of}
+use Rattle.b2_memory.proofs.KnownPaths.{both, known_stays}
+use Rattle.b2_memory.proofs.store.Store.put_all.Goals as goal
 
 pub loop-entry-preserved : goal.loop-entry-preserved
 loop-entry-preserved c =

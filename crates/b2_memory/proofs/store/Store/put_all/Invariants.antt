@@ -1,7 +1,7 @@
 use Rattle.std.proofs.Common.{length, ◌≡◌, ℕ, ◌+◌, ◌≤◌, List, map, IsTrue, vec_len, vec_capacity}
-use Rattle.b2_host.specs.Writes.{all_written}
-use Rattle.b2_host.specs.Stores.{is_known, all_known, write_of, disk_of}
-use Rattle.b2_host.proofs.store.Store.put_all.Given as goal
+use Rattle.b2_memory.specs.Writes.{all_written}
+use Rattle.b2_memory.specs.Stores.{is_known, all_known, write_of, disk_of}
+use Rattle.b2_memory.proofs.store.Store.put_all.Given as goal
 
 -- the entries that are left have room, and their paths are known
 abbrev pub invariant-loop-entry : goal.invariant-loop-entry

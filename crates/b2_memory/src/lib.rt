@@ -1,0 +1,18 @@
+//! The outside in memory: a host whose files, children and reads are visible and whose calls fail where they are told to,
+//! and a sink of the same kind.
+#![tactic(auto)]
+
+mod child_table;
+pub mod entry;
+pub mod job;
+mod made;
+pub mod memory;
+pub mod memory_sink;
+mod names;
+mod path_map;
+mod places;
+mod read_notes;
+pub mod result_laws;
+pub mod running;
+mod script;
+mod store;
