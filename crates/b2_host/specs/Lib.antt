@@ -2,6 +2,7 @@ pub mod Faults
 pub mod Disks
 pub mod ChildProcesses
 pub mod Outside
+pub mod OutsideLaws
 pub mod FileCalls
 pub mod Listings
 pub mod ChildCalls

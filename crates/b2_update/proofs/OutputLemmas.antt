@@ -4,6 +4,8 @@ use Rattle.std.specs.Str.{bytes_eq}
 use Rattle.std.proofs.lemmas.Slice.Eq.{bytes_eq-Decides}
 use Rattle.b2_host.specs.Disks.{File, Disk, without}
 use Rattle.b2_host.specs.ChildProcesses.{BothTold}
+use Rattle.b2_host.specs.Outside.{Outside, Fails}
+use Rattle.b2_host.specs.FileCalls.{removed}
 use Rattle.b2_update.specs.Outputs.{KeepsOthers, AreGone}
 use Rattle.b2_update.proofs.ListLemmas.{taken_more, taken_old, taken_new, taken_in}
 use Rattle.b2_update.proofs.MakerLemmas.{same_bytes}
@@ -59,3 +61,8 @@ gone_more outs i d y z h gone e = subst (λ o. IfSome o (AreGone (take (i + 1) o
       | inl a ↦ none_kept (bytes_eq (get_or outs i d) path) (y.now path) (g path a)
       | inr e ↦ without_at (get_or outs i d) path y e
     ]
+
+-- what a removal that failed leaves of the files
+pub removes_disk : (path : List ℕ) (before after : Outside) → Fails before after ⊎ Fails (removed path before) after → (after.disk ≡ before.disk) ⊎ (after.disk ≡ option_map (without path) before.disk)
+removes_disk path before after (inl f) = inl (ap (λ o. o.disk) f.same)
+removes_disk path before after (inr f) = inr (ap (λ o. o.disk) f.same)

@@ -5,6 +5,7 @@ use Rattle.std.proofs.lemmas.List.{take_more, take-append-drop}
 use Rattle.std.proofs.lemmas.Grind.{flat_map-append}
 use Rattle.b2_host.specs.declared.fault.IoFault.{IoFault}
 use Rattle.b2_host.specs.declared.fault.IoFault.TheVariants as faults
+use Rattle.b2_host.specs.Output.{Output, Prints}
 use Rattle.b2_update.specs.Runners.{Adds, AddsPart}
 
 -- writing nothing
@@ -42,9 +43,14 @@ pub part_none : (a : List ℕ) (x : Option (List ℕ)) → AddsPart a x x
 part_none a x = record { part = []; rest = a; whole = refl; adds = adds_nothing x }
 
 -- what a failed write leaves
-pub part_of_write : (fault : IoFault) (line : List ℕ) (old new : Option (List ℕ)) → (fault ≡ faults.Failed → (count : ℕ) × (new ≡ option_map (λ so_far. so_far ++ take count line) old)) → (fault ≡ faults.OutOfMemory → new ≡ old) → AddsPart line old new
-part_of_write faults.Failed line old new f m = let (count, e) = f refl in record { part = take count line; rest = drop count line; whole = sym (take-append-drop count line); adds = e }
-part_of_write faults.OutOfMemory line old new f m = let e = m refl in record { part = []; rest = line; whole = refl; adds = e ∙ adds_nothing old }
+pub part_of_write : (fault : IoFault) (line : List ℕ) (before after : Output) → Prints {T = Unit {0}} line before after (Err fault) → AddsPart line before.written after.written
+part_of_write faults.Failed line before after p = record {
+  part = take p.count line;
+  rest = drop p.count line;
+  whole = sym (take-append-drop p.count line);
+  adds = ap (λ o. o.written) p.same;
+}
+part_of_write faults.OutOfMemory line before after e = record { part = []; rest = line; whole = refl; adds = ap (λ o. o.written) e ∙ adds_nothing before.written }
 
 -- a line more of a list's lines
 lines_more : {X : Type 0} (f : X → List ℕ) (xs : List X) (i : ℕ) (d : X) → i < length xs → flat_map f (take (i + 1) xs) ≡ flat_map f (take i xs) ++ f (get_or xs i d)

@@ -12,9 +12,9 @@ use b2_plan::step::Step;
 
 /// Writes a line, in one piece.
 pub fn write_line<S: Sink>(out: &mut S, line: &str) -> Result<(), Stop>
-    ensures faults { SinkTold (S.faults out.old) (S.faults out.new) result }
-    ensures ok { OnOk result (Adds line.now (S.written out.old) (S.written out.new)) }
-    ensures err { OnErr result (AddsPart line.now (S.written out.old) (S.written out.new)) }
+    ensures faults { SinkTold (S.output out.old).faults (S.output out.new).faults result }
+    ensures ok { OnOk result (Adds line.now (S.output out.old).written (S.output out.new).written) }
+    ensures err { OnErr result (AddsPart line.now (S.output out.old).written (S.output out.new).written) }
 {
     match out.write(line.as_bytes()) {
         Ok(()) => Ok(()),
@@ -24,13 +24,13 @@ pub fn write_line<S: Sink>(out: &mut S, line: &str) -> Result<(), Stop>
 
 /// Waits once for the child that runs, whatever the wait answers. Takes no memory.
 fn drain<H: Children>(host: &mut H)
-    requires { RunsOne (H.family host.old).running }
-    ensures none_left { ((H.family host.new).running ≡ []) ⊎ Rose (H.faults host.old) (H.faults host.new) }
-    ensures waited { ((H.family host.new).running ≡ []) ⊎ Rose (H.failed_waits host.old) (H.failed_waits host.new) }
-    ensures waits { (H.failed_waits host.new ≡ H.failed_waits host.old) ⊎ Rose (H.failed_waits host.old) (H.failed_waits host.new) }
-    ensures faults { (H.faults host.new ≡ H.faults host.old) ⊎ Rose (H.faults host.old) (H.faults host.new) }
-    ensures quiet { IsQuietHost (H.faults host.old) (H.faults host.new) (H.family host.new).running }
-    ensures drained { IsDrained H.made (H.family host.old) (H.disk host.old) (H.family host.new) (H.disk host.new) }
+    requires { RunsOne (H.outside host.old).children.running }
+    ensures none_left { ((H.outside host.new).children.running ≡ []) ⊎ Rose (H.outside host.old).faults (H.outside host.new).faults }
+    ensures waited { ((H.outside host.new).children.running ≡ []) ⊎ Rose (H.outside host.old).failed_waits (H.outside host.new).failed_waits }
+    ensures waits { ((H.outside host.new).failed_waits ≡ (H.outside host.old).failed_waits) ⊎ Rose (H.outside host.old).failed_waits (H.outside host.new).failed_waits }
+    ensures faults { ((H.outside host.new).faults ≡ (H.outside host.old).faults) ⊎ Rose (H.outside host.old).faults (H.outside host.new).faults }
+    ensures quiet { IsQuietHost (H.outside host.old).faults (H.outside host.new).faults (H.outside host.new).children.running }
+    ensures drained { IsDrained H.made (H.outside host.old).children (H.outside host.old).disk (H.outside host.new).children (H.outside host.new).disk }
 {
     let _ended = host.wait_one();
 }
@@ -38,14 +38,14 @@ fn drain<H: Children>(host: &mut H)
 /// Waits for the child that runs, and says whether it ended well. A wait that failed leaves the child, so that there is
 /// never more than one wait for a start.
 fn wait_child<H: Children>(host: &mut H) -> Result<bool, Stop>
-    requires { RunsOne (H.family host.old).running }
-    ensures faults { HostTold (H.faults host.old) (H.faults host.new) result }
-    ensures none_left { OnErr result (((H.family host.new).running ≡ []) ⊎ Rose (H.faults host.old) (H.faults host.new)) }
-    ensures waited { OnErr result (((H.family host.new).running ≡ []) ⊎ Rose (H.failed_waits host.old) (H.failed_waits host.new)) }
-    ensures waits { OnOk result (H.failed_waits host.new ≡ H.failed_waits host.old) }
-    ensures idle { OnOk result ((H.family host.new).running ≡ []) }
-    ensures ended { IfOk result (λ well. ChildHasEnded H.made (H.family host.old) (H.disk host.old) well (H.family host.new) (H.disk host.new)) }
-    ensures drained { OnErr result (IsDrained H.made (H.family host.old) (H.disk host.old) (H.family host.new) (H.disk host.new)) }
+    requires { RunsOne (H.outside host.old).children.running }
+    ensures faults { HostTold (H.outside host.old).faults (H.outside host.new).faults result }
+    ensures none_left { OnErr result (((H.outside host.new).children.running ≡ []) ⊎ Rose (H.outside host.old).faults (H.outside host.new).faults) }
+    ensures waited { OnErr result (((H.outside host.new).children.running ≡ []) ⊎ Rose (H.outside host.old).failed_waits (H.outside host.new).failed_waits) }
+    ensures waits { OnOk result ((H.outside host.new).failed_waits ≡ (H.outside host.old).failed_waits) }
+    ensures idle { OnOk result ((H.outside host.new).children.running ≡ []) }
+    ensures ended { IfOk result (λ well. ChildHasEnded H.made (H.outside host.old).children (H.outside host.old).disk well (H.outside host.new).children (H.outside host.new).disk) }
+    ensures drained { OnErr result (IsDrained H.made (H.outside host.old).children (H.outside host.old).disk (H.outside host.new).children (H.outside host.new).disk) }
 {
     match host.wait_one() {
         Ok((_step, well)) => Ok(well),
@@ -63,15 +63,15 @@ pub fn run_child<H: Children, S: Sink>(
     ins: &[Path],
     line: &str,
 ) -> Result<bool, Stop>
-    requires { (H.family host.old).running ≡ [] }
-    ensures faults { CountsTold (H.faults host.old) (H.faults host.new) (H.family host.new).running (S.faults out.old) (S.faults out.new) result }
-    ensures none_left { OnErr result (((H.family host.new).running ≡ []) ⊎ Rose (H.faults host.old) (H.faults host.new)) }
-    ensures waited { OnErr result (((H.family host.new).running ≡ []) ⊎ Rose (H.failed_waits host.old) (H.failed_waits host.new)) }
-    ensures waits { OnOk result (H.failed_waits host.new ≡ H.failed_waits host.old) }
-    ensures idle { OnOk result ((H.family host.new).running ≡ []) }
-    ensures untold { H.disk host.old ≡ None → H.disk host.new ≡ None }
-    ensures ran { IfOk result (λ well. HasRunChild H.made number step.now ins.now line.now well (H.family host.old) (H.disk host.old) (S.written out.old) (H.family host.new) (H.disk host.new) (S.written out.new)) }
-    ensures stopped { IfErr result (λ stop. HasStopped H.made number step.now ins.now line.now stop (H.family host.old) (H.disk host.old) (S.written out.old) (H.family host.new) (H.disk host.new) (S.written out.new)) }
+    requires { (H.outside host.old).children.running ≡ [] }
+    ensures faults { CountsTold (H.outside host.old).faults (H.outside host.new).faults (H.outside host.new).children.running (S.output out.old).faults (S.output out.new).faults result }
+    ensures none_left { OnErr result (((H.outside host.new).children.running ≡ []) ⊎ Rose (H.outside host.old).faults (H.outside host.new).faults) }
+    ensures waited { OnErr result (((H.outside host.new).children.running ≡ []) ⊎ Rose (H.outside host.old).failed_waits (H.outside host.new).failed_waits) }
+    ensures waits { OnOk result ((H.outside host.new).failed_waits ≡ (H.outside host.old).failed_waits) }
+    ensures idle { OnOk result ((H.outside host.new).children.running ≡ []) }
+    ensures untold { (H.outside host.old).disk ≡ None → (H.outside host.new).disk ≡ None }
+    ensures ran { IfOk result (λ well. HasRunChild H.made number step.now ins.now line.now well (H.outside host.old).children (H.outside host.old).disk (S.output out.old).written (H.outside host.new).children (H.outside host.new).disk (S.output out.new).written) }
+    ensures stopped { IfErr result (λ stop. HasStopped H.made number step.now ins.now line.now stop (H.outside host.old).children (H.outside host.old).disk (S.output out.old).written (H.outside host.new).children (H.outside host.new).disk (S.output out.new).written) }
 {
     if let Err(fault) = host.start(number, step.text.as_str(), ins, step.outs.as_slice()) {
         return Err(host_stop(fault));

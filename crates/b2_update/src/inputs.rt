@@ -56,11 +56,11 @@ fn is_in_roots(roots: &[Path], path: &Path) -> bool
 
 /// Whether the path is a source: a file that stands outside the output roots.
 fn is_source<H: Children>(plan: &Plan, host: &mut H, path: &Path) -> Result<bool, Stop>
-    ensures faults { HostTold (H.faults host.old) (H.faults host.new) result }
-    ensures family { H.family host.new ≡ H.family host.old }
-    ensures waits { H.failed_waits host.new ≡ H.failed_waits host.old }
-    ensures disk { H.disk host.new ≡ H.disk host.old }
-    ensures told { IfOk result (λ stands. IfSome (H.disk host.old) (λ before. IsTrue stands ↔ ((bytes : List ℕ) × IsSource (build_of plan.now.steps plan.now.wanted plan.now.roots H.made before.now) path.now bytes))) }
+    ensures faults { HostTold (H.outside host.old).faults (H.outside host.new).faults result }
+    ensures family { (H.outside host.new).children ≡ (H.outside host.old).children }
+    ensures waits { (H.outside host.new).failed_waits ≡ (H.outside host.old).failed_waits }
+    ensures disk { (H.outside host.new).disk ≡ (H.outside host.old).disk }
+    ensures told { IfOk result (λ stands. IfSome (H.outside host.old).disk (λ before. IsTrue stands ↔ ((bytes : List ℕ) × IsSource (build_of plan.now.steps plan.now.wanted plan.now.roots H.made before.now) path.now bytes))) }
 {
     if is_in_roots(plan.roots.as_slice(), path) {
         return Ok(false);
@@ -71,11 +71,11 @@ fn is_source<H: Children>(plan: &Plan, host: &mut H, path: &Path) -> Result<bool
 
 /// Whether the path is missing: no step makes it, and it is no source.
 fn is_missing<H: Children>(plan: &Plan, host: &mut H, path: &Path) -> Result<bool, Stop>
-    ensures faults { HostTold (H.faults host.old) (H.faults host.new) result }
-    ensures family { H.family host.new ≡ H.family host.old }
-    ensures waits { H.failed_waits host.new ≡ H.failed_waits host.old }
-    ensures disk { H.disk host.new ≡ H.disk host.old }
-    ensures told { IfOk result (λ missing. IfSome (H.disk host.old) (λ before. IsTrue missing ↔ IsMissing (build_of plan.now.steps plan.now.wanted plan.now.roots H.made before.now) path.now)) }
+    ensures faults { HostTold (H.outside host.old).faults (H.outside host.new).faults result }
+    ensures family { (H.outside host.new).children ≡ (H.outside host.old).children }
+    ensures waits { (H.outside host.new).failed_waits ≡ (H.outside host.old).failed_waits }
+    ensures disk { (H.outside host.new).disk ≡ (H.outside host.old).disk }
+    ensures told { IfOk result (λ missing. IfSome (H.outside host.old).disk (λ before. IsTrue missing ↔ IsMissing (build_of plan.now.steps plan.now.wanted plan.now.roots H.made before.now) path.now)) }
 {
     if plan.maker(path).is_some() {
         return Ok(false);
@@ -102,12 +102,12 @@ fn missing_among<H: Children>(
     paths: &[Path],
 ) -> Result<PathList, Stop>
     requires { AllPairs Before paths.now }
-    ensures faults { HostTold (H.faults host.old) (H.faults host.new) result }
-    ensures family { H.family host.new ≡ H.family host.old }
-    ensures waits { H.failed_waits host.new ≡ H.failed_waits host.old }
-    ensures disk { H.disk host.new ≡ H.disk host.old }
+    ensures faults { HostTold (H.outside host.old).faults (H.outside host.new).faults result }
+    ensures family { (H.outside host.new).children ≡ (H.outside host.old).children }
+    ensures waits { (H.outside host.new).failed_waits ≡ (H.outside host.old).failed_waits }
+    ensures disk { (H.outside host.new).disk ≡ (H.outside host.old).disk }
     ensures rising { IfOk result (AllPairs Before) }
-    ensures told { IfOk result (λ missing. IfSome (H.disk host.old) (λ before. (path : List ℕ) → Contains missing path ↔ (Contains paths.now path × IsMissing (build_of plan.now.steps plan.now.wanted plan.now.roots H.made before.now) path))) }
+    ensures told { IfOk result (λ missing. IfSome (H.outside host.old).disk (λ before. (path : List ℕ) → Contains missing path ↔ (Contains paths.now path × IsMissing (build_of plan.now.steps plan.now.wanted plan.now.roots H.made before.now) path))) }
 {
     let mut missing = PathList::new(alloc);
     for path in paths {
@@ -123,12 +123,12 @@ pub fn missing_inputs<H: Children>(
     plan: &Plan,
     host: &mut H,
 ) -> Result<PathList, Stop>
-    ensures faults { HostTold (H.faults host.old) (H.faults host.new) result }
-    ensures family { H.family host.new ≡ H.family host.old }
-    ensures waits { H.failed_waits host.new ≡ H.failed_waits host.old }
-    ensures disk { H.disk host.new ≡ H.disk host.old }
+    ensures faults { HostTold (H.outside host.old).faults (H.outside host.new).faults result }
+    ensures family { (H.outside host.new).children ≡ (H.outside host.old).children }
+    ensures waits { (H.outside host.new).failed_waits ≡ (H.outside host.old).failed_waits }
+    ensures disk { (H.outside host.new).disk ≡ (H.outside host.old).disk }
     ensures rising { IfOk result (AllPairs Before) }
-    ensures told { IfOk result (λ missing. IfSome (H.disk host.old) (λ before. ArePathsOf (IsMissingInput (build_of plan.now.steps plan.now.wanted plan.now.roots H.made before.now)) missing)) }
+    ensures told { IfOk result (λ missing. IfSome (H.outside host.old).disk (λ before. ArePathsOf (IsMissingInput (build_of plan.now.steps plan.now.wanted plan.now.roots H.made before.now)) missing)) }
 {
     let paths = all_inputs(alloc, plan.steps.as_slice())?;
     missing_among(alloc, plan, host, paths.as_slice())

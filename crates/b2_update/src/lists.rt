@@ -97,9 +97,9 @@ fn step_of(steps: &[Step], number: u32) -> Option<&Step>
 
 /// Writes what is missing.
 fn tell_missing<S: Sink>(alloc: Global, out: &mut S, paths: &[Path]) -> Result<(), Stop>
-    ensures faults { SinkTold (S.faults out.old) (S.faults out.new) result }
-    ensures ok { OnOk result (Adds (flat_map missing_line paths.now) (S.written out.old) (S.written out.new)) }
-    ensures err { OnErr result (AddsPart (flat_map missing_line paths.now) (S.written out.old) (S.written out.new)) }
+    ensures faults { SinkTold (S.output out.old).faults (S.output out.new).faults result }
+    ensures ok { OnOk result (Adds (flat_map missing_line paths.now) (S.output out.old).written (S.output out.new).written) }
+    ensures err { OnErr result (AddsPart (flat_map missing_line paths.now) (S.output out.old).written (S.output out.new).written) }
 {
     for path in paths {
         let line = missing_text(alloc, path)?;
@@ -115,9 +115,9 @@ fn tell_one_skipped<S: Sink>(
     out: &mut S,
     number: u32,
 ) -> Result<(), Stop>
-    ensures faults { SinkTold (S.faults out.old) (S.faults out.new) result }
-    ensures ok { OnOk result (Adds (said_of skipped_line (step_at steps.now number)) (S.written out.old) (S.written out.new)) }
-    ensures err { OnErr result (AddsPart (said_of skipped_line (step_at steps.now number)) (S.written out.old) (S.written out.new)) }
+    ensures faults { SinkTold (S.output out.old).faults (S.output out.new).faults result }
+    ensures ok { OnOk result (Adds (said_of skipped_line (step_at steps.now number)) (S.output out.old).written (S.output out.new).written) }
+    ensures err { OnErr result (AddsPart (said_of skipped_line (step_at steps.now number)) (S.output out.old).written (S.output out.new).written) }
 {
     match step_of(steps, number) {
         None => Ok(()),
@@ -135,9 +135,9 @@ fn tell_skipped<S: Sink>(
     out: &mut S,
     numbers: &[u32],
 ) -> Result<(), Stop>
-    ensures faults { SinkTold (S.faults out.old) (S.faults out.new) result }
-    ensures ok { OnOk result (Adds (flat_map (λ i. said_of skipped_line (step_at steps.now i)) numbers.now) (S.written out.old) (S.written out.new)) }
-    ensures err { OnErr result (AddsPart (flat_map (λ i. said_of skipped_line (step_at steps.now i)) numbers.now) (S.written out.old) (S.written out.new)) }
+    ensures faults { SinkTold (S.output out.old).faults (S.output out.new).faults result }
+    ensures ok { OnOk result (Adds (flat_map (λ i. said_of skipped_line (step_at steps.now i)) numbers.now) (S.output out.old).written (S.output out.new).written) }
+    ensures err { OnErr result (AddsPart (flat_map (λ i. said_of skipped_line (step_at steps.now i)) numbers.now) (S.output out.old).written (S.output out.new).written) }
 {
     for number in numbers {
         tell_one_skipped(alloc, steps, out, *number)?;
@@ -153,9 +153,9 @@ pub fn tell_end<S: Sink>(
     updated: usize,
     lists: &FailedLists,
 ) -> Result<(), Stop>
-    ensures faults { SinkTold (S.faults out.old) (S.faults out.new) result }
-    ensures ok { OnOk result (Adds (end_lines steps.now updated lists.now) (S.written out.old) (S.written out.new)) }
-    ensures err { OnErr result (AddsPart (end_lines steps.now updated lists.now) (S.written out.old) (S.written out.new)) }
+    ensures faults { SinkTold (S.output out.old).faults (S.output out.new).faults result }
+    ensures ok { OnOk result (Adds (end_lines steps.now updated lists.now) (S.output out.old).written (S.output out.new).written) }
+    ensures err { OnErr result (AddsPart (end_lines steps.now updated lists.now) (S.output out.old).written (S.output out.new).written) }
 {
     tell_missing(alloc, out, lists.missing.as_slice())?;
     tell_skipped(alloc, steps, out, lists.skipped.as_slice())?;

@@ -12,11 +12,11 @@ use b2_host::children::Children;
 
 /// Whether a file stands at each of the paths.
 pub fn all_stand<H: Children>(host: &mut H, outs: &[Path]) -> Result<bool, Stop>
-    ensures faults { HostTold (H.faults host.old) (H.faults host.new) result }
-    ensures family { H.family host.new ≡ H.family host.old }
-    ensures waits { H.failed_waits host.new ≡ H.failed_waits host.old }
-    ensures disk { H.disk host.new ≡ H.disk host.old }
-    ensures told { IfOk result (λ all. IfSome (H.disk host.old) (λ before. IsTrue all ↔ ((path : List ℕ) → Contains outs.now path → before.now path ≢ None))) }
+    ensures faults { HostTold (H.outside host.old).faults (H.outside host.new).faults result }
+    ensures family { (H.outside host.new).children ≡ (H.outside host.old).children }
+    ensures waits { (H.outside host.new).failed_waits ≡ (H.outside host.old).failed_waits }
+    ensures disk { (H.outside host.new).disk ≡ (H.outside host.old).disk }
+    ensures told { IfOk result (λ all. IfSome (H.outside host.old).disk (λ before. IsTrue all ↔ ((path : List ℕ) → Contains outs.now path → before.now path ≢ None))) }
 {
     for out in outs {
         if host.stat(out)?.is_none() {
@@ -28,11 +28,11 @@ pub fn all_stand<H: Children>(host: &mut H, outs: &[Path]) -> Result<bool, Stop>
 
 /// Leaves no file at the paths.
 pub fn remove_all<H: Children>(host: &mut H, outs: &[Path]) -> Result<(), Stop>
-    ensures faults { HostTold (H.faults host.old) (H.faults host.new) result }
-    ensures family { H.family host.new ≡ H.family host.old }
-    ensures waits { H.failed_waits host.new ≡ H.failed_waits host.old }
-    ensures others { BothTold (KeepsOthers outs.now) (H.disk host.old) (H.disk host.new) }
-    ensures gone { OnOk result (IfSome (H.disk host.new) (AreGone outs.now)) }
+    ensures faults { HostTold (H.outside host.old).faults (H.outside host.new).faults result }
+    ensures family { (H.outside host.new).children ≡ (H.outside host.old).children }
+    ensures waits { (H.outside host.new).failed_waits ≡ (H.outside host.old).failed_waits }
+    ensures others { BothTold (KeepsOthers outs.now) (H.outside host.old).disk (H.outside host.new).disk }
+    ensures gone { OnOk result (IfSome (H.outside host.new).disk (AreGone outs.now)) }
 {
     for out in outs {
         host.remove(out)?;

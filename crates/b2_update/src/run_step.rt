@@ -78,11 +78,11 @@ fn fail_step<H: Children, S: Sink>(
     out: &mut S,
     step: &Step,
 ) -> Result<Outcome, Stop>
-    ensures faults { CountsTold (H.faults host.old) (H.faults host.new) (H.family host.new).running (S.faults out.old) (S.faults out.new) result }
-    ensures family { H.family host.new ≡ H.family host.old }
-    ensures waits { H.failed_waits host.new ≡ H.failed_waits host.old }
-    ensures untold { H.disk host.old ≡ None → H.disk host.new ≡ None }
-    ensures told { (u : Update) (old : Family) (text : Option (List ℕ)) (list : List Outcome) → IsWhole u → step_at u.build.steps (length list + 1) ≡ Some step.now → HasEndedChild u old text list false (H.family host.old) (H.disk host.old) (S.written out.old) → GoesOn u old text list result (H.family host.new) (H.disk host.new) (S.written out.new) }
+    ensures faults { CountsTold (H.outside host.old).faults (H.outside host.new).faults (H.outside host.new).children.running (S.output out.old).faults (S.output out.new).faults result }
+    ensures family { (H.outside host.new).children ≡ (H.outside host.old).children }
+    ensures waits { (H.outside host.new).failed_waits ≡ (H.outside host.old).failed_waits }
+    ensures untold { (H.outside host.old).disk ≡ None → (H.outside host.new).disk ≡ None }
+    ensures told { (u : Update) (old : Family) (text : Option (List ℕ)) (list : List Outcome) → IsWhole u → step_at u.build.steps (length list + 1) ≡ Some step.now → HasEndedChild u old text list false (H.outside host.old).children (H.outside host.old).disk (S.output out.old).written → GoesOn u old text list result (H.outside host.new).children (H.outside host.new).disk (S.output out.new).written }
 {
     remove_all(host, step.outs.as_slice())?;
     let line = failed_text(alloc, step)?;
@@ -92,12 +92,12 @@ fn fail_step<H: Children, S: Sink>(
 
 /// Whether a step ended well and left each of its outputs.
 fn has_left<H: Children>(host: &mut H, outs: &[Path], well: bool) -> Result<bool, Stop>
-    ensures faults { HostTold (H.faults host.old) (H.faults host.new) result }
-    ensures family { H.family host.new ≡ H.family host.old }
-    ensures waits { H.failed_waits host.new ≡ H.failed_waits host.old }
-    ensures disk { H.disk host.new ≡ H.disk host.old }
+    ensures faults { HostTold (H.outside host.old).faults (H.outside host.new).faults result }
+    ensures family { (H.outside host.new).children ≡ (H.outside host.old).children }
+    ensures waits { (H.outside host.new).failed_waits ≡ (H.outside host.old).failed_waits }
+    ensures disk { (H.outside host.new).disk ≡ (H.outside host.old).disk }
     ensures well { IfOk result (λ left. left ≡ true → well ≡ true) }
-    ensures told { IfOk result (λ left. IfSome (H.disk host.old) (λ before. well ≡ true → ((path : List ℕ) → Contains outs.now path → before.now path ≢ None) → left ≡ true)) }
+    ensures told { IfOk result (λ left. IfSome (H.outside host.old).disk (λ before. well ≡ true → ((path : List ℕ) → Contains outs.now path → before.now path ≢ None) → left ≡ true)) }
 {
     if !well {
         return Ok(false);
@@ -113,11 +113,11 @@ fn finish_step<H: Children, S: Sink>(
     step: &Step,
     well: bool,
 ) -> Result<Outcome, Stop>
-    ensures faults { CountsTold (H.faults host.old) (H.faults host.new) (H.family host.new).running (S.faults out.old) (S.faults out.new) result }
-    ensures family { H.family host.new ≡ H.family host.old }
-    ensures waits { H.failed_waits host.new ≡ H.failed_waits host.old }
-    ensures untold { H.disk host.old ≡ None → H.disk host.new ≡ None }
-    ensures told { (u : Update) (old : Family) (text : Option (List ℕ)) (list : List Outcome) → IsWhole u → step_at u.build.steps (length list + 1) ≡ Some step.now → HasEndedChild u old text list well (H.family host.old) (H.disk host.old) (S.written out.old) → GoesOn u old text list result (H.family host.new) (H.disk host.new) (S.written out.new) }
+    ensures faults { CountsTold (H.outside host.old).faults (H.outside host.new).faults (H.outside host.new).children.running (S.output out.old).faults (S.output out.new).faults result }
+    ensures family { (H.outside host.new).children ≡ (H.outside host.old).children }
+    ensures waits { (H.outside host.new).failed_waits ≡ (H.outside host.old).failed_waits }
+    ensures untold { (H.outside host.old).disk ≡ None → (H.outside host.new).disk ≡ None }
+    ensures told { (u : Update) (old : Family) (text : Option (List ℕ)) (list : List Outcome) → IsWhole u → step_at u.build.steps (length list + 1) ≡ Some step.now → HasEndedChild u old text list well (H.outside host.old).children (H.outside host.old).disk (S.output out.old).written → GoesOn u old text list result (H.outside host.new).children (H.outside host.new).disk (S.output out.new).written }
 {
     let left = has_left(host, step.outs.as_slice(), well)?;
     if left {
@@ -134,15 +134,15 @@ fn start_step<H: Children, S: Sink>(
     number: u32,
     step: &Step,
 ) -> Result<Outcome, Stop>
-    requires idle { (H.family host.old).running ≡ [] }
-    ensures faults { CountsTold (H.faults host.old) (H.faults host.new) (H.family host.new).running (S.faults out.old) (S.faults out.new) result }
-    ensures none_left { OnErr result (((H.family host.new).running ≡ []) ⊎ Rose (H.faults host.old) (H.faults host.new)) }
-    ensures waited { OnErr result (((H.family host.new).running ≡ []) ⊎ Rose (H.failed_waits host.old) (H.failed_waits host.new)) }
-    ensures waits { OnOk result (H.failed_waits host.new ≡ H.failed_waits host.old) }
-    ensures idle { OnOk result ((H.family host.new).running ≡ []) }
-    ensures untold { H.disk host.old ≡ None → H.disk host.new ≡ None }
-    ensures turns { (list : List Outcome) (old : List ChildEvent) → number ≡ length list + 1 → HadTurns list old (H.family host.old).events → TurnsOn list old (H.family host.new).events result }
-    ensures told { (u : Update) (old : Family) (text : Option (List ℕ)) (list : List Outcome) → IsDue u H.made list number step.now → Stands u old text list (H.family host.old) (H.disk host.old) (S.written out.old) → GoesOn u old text list result (H.family host.new) (H.disk host.new) (S.written out.new) }
+    requires idle { (H.outside host.old).children.running ≡ [] }
+    ensures faults { CountsTold (H.outside host.old).faults (H.outside host.new).faults (H.outside host.new).children.running (S.output out.old).faults (S.output out.new).faults result }
+    ensures none_left { OnErr result (((H.outside host.new).children.running ≡ []) ⊎ Rose (H.outside host.old).faults (H.outside host.new).faults) }
+    ensures waited { OnErr result (((H.outside host.new).children.running ≡ []) ⊎ Rose (H.outside host.old).failed_waits (H.outside host.new).failed_waits) }
+    ensures waits { OnOk result ((H.outside host.new).failed_waits ≡ (H.outside host.old).failed_waits) }
+    ensures idle { OnOk result ((H.outside host.new).children.running ≡ []) }
+    ensures untold { (H.outside host.old).disk ≡ None → (H.outside host.new).disk ≡ None }
+    ensures turns { (list : List Outcome) (old : List ChildEvent) → number ≡ length list + 1 → HadTurns list old (H.outside host.old).children.events → TurnsOn list old (H.outside host.new).children.events result }
+    ensures told { (u : Update) (old : Family) (text : Option (List ℕ)) (list : List Outcome) → IsDue u H.made list number step.now → Stands u old text list (H.outside host.old).children (H.outside host.old).disk (S.output out.old).written → GoesOn u old text list result (H.outside host.new).children (H.outside host.new).disk (S.output out.new).written }
 {
     let ins = distinct(alloc, step.ins.as_slice())?;
     let line = start_text(alloc, step)?;
@@ -160,19 +160,19 @@ pub fn run_step<H: Children, S: Sink>(
     out: &mut S,
     step: &Step,
 ) -> Result<Outcome, Stop>
-    requires idle { (H.family host.old).running ≡ [] }
+    requires idle { (H.outside host.old).children.running ≡ [] }
     requires rising { AllPairs Before missing.now }
     requires next { step_at plan.now.steps (length outcomes.now + 1) ≡ Some step.now }
     requires few { length outcomes.now < 65536 }
-    ensures faults { CountsTold (H.faults host.old) (H.faults host.new) (H.family host.new).running (S.faults out.old) (S.faults out.new) result }
-    ensures none_left { OnErr result (((H.family host.new).running ≡ []) ⊎ Rose (H.faults host.old) (H.faults host.new)) }
-    ensures waited { OnErr result (((H.family host.new).running ≡ []) ⊎ Rose (H.failed_waits host.old) (H.failed_waits host.new)) }
-    ensures waits { OnOk result (H.failed_waits host.new ≡ H.failed_waits host.old) }
-    ensures idle { OnOk result ((H.family host.new).running ≡ []) }
-    ensures untold { H.disk host.old ≡ None → H.disk host.new ≡ None }
-    ensures turns { (old : List ChildEvent) → HadTurns outcomes.now old (H.family host.old).events → TurnsOn outcomes.now old (H.family host.new).events result }
-    ensures told { (before : Folder) (old : Family) (text : Option (List ℕ)) → IsPrepared (update_of plan.now.steps plan.now.wanted plan.now.roots H.made before) missing.now → Stands (update_of plan.now.steps plan.now.wanted plan.now.roots H.made before) old text outcomes.now (H.family host.old) (H.disk host.old) (S.written out.old)
-        → GoesOn (update_of plan.now.steps plan.now.wanted plan.now.roots H.made before) old text outcomes.now result (H.family host.new) (H.disk host.new) (S.written out.new) }
+    ensures faults { CountsTold (H.outside host.old).faults (H.outside host.new).faults (H.outside host.new).children.running (S.output out.old).faults (S.output out.new).faults result }
+    ensures none_left { OnErr result (((H.outside host.new).children.running ≡ []) ⊎ Rose (H.outside host.old).faults (H.outside host.new).faults) }
+    ensures waited { OnErr result (((H.outside host.new).children.running ≡ []) ⊎ Rose (H.outside host.old).failed_waits (H.outside host.new).failed_waits) }
+    ensures waits { OnOk result ((H.outside host.new).failed_waits ≡ (H.outside host.old).failed_waits) }
+    ensures idle { OnOk result ((H.outside host.new).children.running ≡ []) }
+    ensures untold { (H.outside host.old).disk ≡ None → (H.outside host.new).disk ≡ None }
+    ensures turns { (old : List ChildEvent) → HadTurns outcomes.now old (H.outside host.old).children.events → TurnsOn outcomes.now old (H.outside host.new).children.events result }
+    ensures told { (before : Folder) (old : Family) (text : Option (List ℕ)) → IsPrepared (update_of plan.now.steps plan.now.wanted plan.now.roots H.made before) missing.now → Stands (update_of plan.now.steps plan.now.wanted plan.now.roots H.made before) old text outcomes.now (H.outside host.old).children (H.outside host.old).disk (S.output out.old).written
+        → GoesOn (update_of plan.now.steps plan.now.wanted plan.now.roots H.made before) old text outcomes.now result (H.outside host.new).children (H.outside host.new).disk (S.output out.new).written }
 {
     if !is_ready(plan, missing, outcomes, step.ins.as_slice()) {
         return Ok(Outcome::Skipped);

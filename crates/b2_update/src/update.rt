@@ -34,18 +34,18 @@ fn run_steps<H: Children, S: Sink>(
     host: &mut H,
     out: &mut S,
 ) -> Result<Vec<Outcome>, Stop>
-    requires idle { (H.family host.old).running ≡ [] }
+    requires idle { (H.outside host.old).children.running ≡ [] }
     requires apart { Apart plan.now.steps plan.now.roots }
     requires rising { AllPairs Before missing.now }
-    ensures faults { CountsTold (H.faults host.old) (H.faults host.new) (H.family host.new).running (S.faults out.old) (S.faults out.new) result }
-    ensures none_left { OnErr result (((H.family host.new).running ≡ []) ⊎ Rose (H.faults host.old) (H.faults host.new)) }
-    ensures waited { OnErr result (((H.family host.new).running ≡ []) ⊎ Rose (H.failed_waits host.old) (H.failed_waits host.new)) }
-    ensures idle { OnOk result ((H.family host.new).running ≡ []) }
-    ensures untold { H.disk host.old ≡ None → H.disk host.new ≡ None }
+    ensures faults { CountsTold (H.outside host.old).faults (H.outside host.new).faults (H.outside host.new).children.running (S.output out.old).faults (S.output out.new).faults result }
+    ensures none_left { OnErr result (((H.outside host.new).children.running ≡ []) ⊎ Rose (H.outside host.old).faults (H.outside host.new).faults) }
+    ensures waited { OnErr result (((H.outside host.new).children.running ≡ []) ⊎ Rose (H.outside host.old).failed_waits (H.outside host.new).failed_waits) }
+    ensures idle { OnOk result ((H.outside host.new).children.running ≡ []) }
+    ensures untold { (H.outside host.old).disk ≡ None → (H.outside host.new).disk ≡ None }
     ensures whole { IfOk result (λ outcomes. length outcomes.items ≡ length plan.now.steps) }
-    ensures turns { (old : List ChildEvent) → HadTurns [] old (H.family host.old).events → MatchResult result (λ outcomes. HadTurns outcomes.items old (H.family host.new).events) (λ stop. HasTurns [] old (H.family host.new).events) }
-    ensures told { (before : Folder) (old : Family) (text : Option (List ℕ)) → IsPrepared (update_of plan.now.steps plan.now.wanted plan.now.roots H.made before) missing.now → Stands (update_of plan.now.steps plan.now.wanted plan.now.roots H.made before) old text [] (H.family host.old) (H.disk host.old) (S.written out.old)
-        → MatchResult result (λ outcomes. Stands (update_of plan.now.steps plan.now.wanted plan.now.roots H.made before) old text outcomes.items (H.family host.new) (H.disk host.new) (S.written out.new)) (λ stop. Stopped (update_of plan.now.steps plan.now.wanted plan.now.roots H.made before) old text stop (H.family host.new) (H.disk host.new) (S.written out.new)) }
+    ensures turns { (old : List ChildEvent) → HadTurns [] old (H.outside host.old).children.events → MatchResult result (λ outcomes. HadTurns outcomes.items old (H.outside host.new).children.events) (λ stop. HasTurns [] old (H.outside host.new).children.events) }
+    ensures told { (before : Folder) (old : Family) (text : Option (List ℕ)) → IsPrepared (update_of plan.now.steps plan.now.wanted plan.now.roots H.made before) missing.now → Stands (update_of plan.now.steps plan.now.wanted plan.now.roots H.made before) old text [] (H.outside host.old).children (H.outside host.old).disk (S.output out.old).written
+        → MatchResult result (λ outcomes. Stands (update_of plan.now.steps plan.now.wanted plan.now.roots H.made before) old text outcomes.items (H.outside host.new).children (H.outside host.new).disk (S.output out.new).written) (λ stop. Stopped (update_of plan.now.steps plan.now.wanted plan.now.roots H.made before) old text stop (H.outside host.new).children (H.outside host.new).disk (S.output out.new).written) }
 {
     let mut outcomes = Vec::new(alloc);
     for step in plan.steps.as_slice() {
@@ -62,15 +62,15 @@ fn run_plan<H: Children, S: Sink>(
     host: &mut H,
     out: &mut S,
 ) -> Result<FailedLists, Stop>
-    requires idle { (H.family host.old).running ≡ [] }
+    requires idle { (H.outside host.old).children.running ≡ [] }
     requires apart { Apart plan.now.steps plan.now.roots }
     requires plain { IsPlain plan.now.steps plan.now.wanted }
-    ensures faults { CountsTold (H.faults host.old) (H.faults host.new) (H.family host.new).running (S.faults out.old) (S.faults out.new) result }
-    ensures none_left { ((H.family host.new).running ≡ []) ⊎ Rose (H.faults host.old) (H.faults host.new) }
-    ensures waited { ((H.family host.new).running ≡ []) ⊎ Rose (H.failed_waits host.old) (H.failed_waits host.new) }
-    ensures untold { H.disk host.old ≡ None → H.disk host.new ≡ None }
-    ensures turns { MatchResult result (λ lists. HasTurns lists.failed (H.family host.old).events (H.family host.new).events) (λ stop. HasTurns [] (H.family host.old).events (H.family host.new).events) }
-    ensures told { (before : Disk) → H.disk host.old ≡ Some before → MatchResult result (λ lists. HasFinished (update_of plan.now.steps plan.now.wanted plan.now.roots H.made before.now) (H.family host.old) (S.written out.old) lists (H.family host.new) (H.disk host.new) (S.written out.new)) (λ stop. Stopped (update_of plan.now.steps plan.now.wanted plan.now.roots H.made before.now) (H.family host.old) (S.written out.old) stop (H.family host.new) (H.disk host.new) (S.written out.new)) }
+    ensures faults { CountsTold (H.outside host.old).faults (H.outside host.new).faults (H.outside host.new).children.running (S.output out.old).faults (S.output out.new).faults result }
+    ensures none_left { ((H.outside host.new).children.running ≡ []) ⊎ Rose (H.outside host.old).faults (H.outside host.new).faults }
+    ensures waited { ((H.outside host.new).children.running ≡ []) ⊎ Rose (H.outside host.old).failed_waits (H.outside host.new).failed_waits }
+    ensures untold { (H.outside host.old).disk ≡ None → (H.outside host.new).disk ≡ None }
+    ensures turns { MatchResult result (λ lists. HasTurns lists.failed (H.outside host.old).children.events (H.outside host.new).children.events) (λ stop. HasTurns [] (H.outside host.old).children.events (H.outside host.new).children.events) }
+    ensures told { (before : Disk) → (H.outside host.old).disk ≡ Some before → MatchResult result (λ lists. HasFinished (update_of plan.now.steps plan.now.wanted plan.now.roots H.made before.now) (H.outside host.old).children (S.output out.old).written lists (H.outside host.new).children (H.outside host.new).disk (S.output out.new).written) (λ stop. Stopped (update_of plan.now.steps plan.now.wanted plan.now.roots H.made before.now) (H.outside host.old).children (S.output out.old).written stop (H.outside host.new).children (H.outside host.new).disk (S.output out.new).written) }
 {
     let missing = missing_inputs(alloc, plan, host)?;
     let outcomes = run_steps(alloc, plan, missing.as_slice(), host, out)?;
@@ -111,18 +111,18 @@ pub fn update<H: Children, S: Sink>(
     host: &mut H,
     out: &mut S,
 ) -> UpdateAnswer
-    requires idle { (H.family host.old).running ≡ [] }
+    requires idle { (H.outside host.old).children.running ≡ [] }
     requires apart { Apart plan.now.steps plan.now.roots }
     requires plain { IsPlain plan.now.steps plan.now.wanted }
 
-    ensures faults { FaultsTold (H.faults host.old) (H.faults host.new) (H.family host.new).running (S.faults out.old) (S.faults out.new) result }
+    ensures faults { FaultsTold (H.outside host.old).faults (H.outside host.new).faults (H.outside host.new).children.running (S.output out.old).faults (S.output out.new).faults result }
     // No child is left, unless a wait failed, and then the host's count of faults rose.
-    ensures none_left { ((H.family host.new).running ≡ []) ⊎ Rose (H.faults host.old) (H.faults host.new) }
-    ensures waited { ((H.family host.new).running ≡ []) ⊎ Rose (H.failed_waits host.old) (H.failed_waits host.new) }
+    ensures none_left { ((H.outside host.new).children.running ≡ []) ⊎ Rose (H.outside host.old).faults (H.outside host.new).faults }
+    ensures waited { ((H.outside host.new).children.running ≡ []) ⊎ Rose (H.outside host.old).failed_waits (H.outside host.new).failed_waits }
     // The events are in turn, over every host: one step is open at a time, none starts twice, and each failed step was done.
-    ensures turns { HasTurns (failed_of result) (H.family host.old).events (H.family host.new).events }
-    ensures updated { BothTold (λ before after. HasUpdated (update_all (build_of plan.now.steps plan.now.wanted plan.now.roots H.made before.now)) (H.family host.old) (H.family host.new) result before after) (H.disk host.old) (H.disk host.new) }
-    ensures written { BothTold (λ before after. HasWritten (update_all (build_of plan.now.steps plan.now.wanted plan.now.roots H.made before.now)) result (H.family host.old) (H.family host.new) (S.written out.old) (S.written out.new)) (H.disk host.old) (H.disk host.new) }
+    ensures turns { HasTurns (failed_of result) (H.outside host.old).children.events (H.outside host.new).children.events }
+    ensures updated { BothTold (λ before after. HasUpdated (update_all (build_of plan.now.steps plan.now.wanted plan.now.roots H.made before.now)) (H.outside host.old).children (H.outside host.new).children result before after) (H.outside host.old).disk (H.outside host.new).disk }
+    ensures written { BothTold (λ before after. HasWritten (update_all (build_of plan.now.steps plan.now.wanted plan.now.roots H.made before.now)) result (H.outside host.old).children (H.outside host.new).children (S.output out.old).written (S.output out.new).written) (H.outside host.old).disk (H.outside host.new).disk }
 {
     match run_plan(alloc, plan, host, out) {
         Ok(lists) => finished(lists),

@@ -9,10 +9,10 @@ pub returns-clause-told : goal.returns-clause-told
 returns-clause-told g c =
     let plan = c.args.plan.now in
     let path = c.args.path.now in
-    let disk = g.H.Files.disk c.args.host.now in
+    let disk = (g.H.Files.outside c.args.host.now).disk in
     told_all (λ (before : Disk). IsTrue c.is_some.result ↔ ((bytes : List ℕ) × IsSource (build_of plan.steps plan.wanted plan.roots g.H.Children.made before.now) path bytes)) disk
     (λ before e. stat_source (build_of plan.steps plan.wanted plan.roots g.H.Children.made before.now) path c.in_ok-stamp.stamp c.is_some.result
     (λ inside.
     let t : c.is_in_roots.result ≡ true = c.is_in_roots.ensures.1 (subst (λ r. IsInRoots r path) (sym c.as_slice.ensures) inside) in
     let f : false ≡ true = sym c.if-is_in_roots.false ∙ t in cc)
-    (told_at (λ (d : Disk). StatTold path c.in_ok-stamp.stamp d.now) disk before e c.in_ok-stamp.ensures.told) c.is_some.ensures)
+    (told_at (λ (d : Disk). StatTold path c.in_ok-stamp.stamp d.now) disk before e c.in_ok-stamp.ensures.answer) c.is_some.ensures)

@@ -16,7 +16,7 @@ loop-path-preserved g c =
     let missing = c.loop-path.missing in
     let lacks = c.in_ok-lacks.lacks in
     let inv = c.loop-path.invariant in
-    let disk = g.H.Files.disk c.args.host.now in
+    let disk = (g.H.Files.outside c.args.host.now).disk in
     let e : c.add_missing.new.missing ≡ cond lacks (missing ++ get_or paths i d ∷ []) missing = subst (λ p. c.add_missing.new.missing ≡ cond lacks (missing ++ p ∷ []) missing) c.path-item.is c.in_ok-add_missing.ensures in
     record {
       faults = c.in_ok-lacks.ensures.faults ∙ inv.faults;
@@ -28,7 +28,7 @@ loop-path-preserved g c =
       told = told_all (λ (before : Disk). (path : List ℕ) → Contains c.add_missing.new.missing path ↔ (Contains (take (c.loop-path.path-index + 1) paths) path × IsMissing (build_of plan.steps plan.wanted plan.roots g.H.Children.made before.now) path)) disk
           (λ before is. missing_more (build_of plan.steps plan.wanted plan.roots g.H.Children.made before.now) paths missing c.add_missing.new.missing i d lacks c.loop-path-test.true
           (subst (λ p. IsTrue lacks ↔ IsMissing (build_of plan.steps plan.wanted plan.roots g.H.Children.made before.now) p) c.path-item.is
-          (told_at (λ (z : Disk). IsTrue lacks ↔ IsMissing (build_of plan.steps plan.wanted plan.roots g.H.Children.made z.now) d) (g.H.Files.disk c.loop-path.host) before (inv.disk ∙ is) c.in_ok-lacks.ensures.told)) e
+          (told_at (λ (z : Disk). IsTrue lacks ↔ IsMissing (build_of plan.steps plan.wanted plan.roots g.H.Children.made z.now) d) (g.H.Files.outside c.loop-path.host).disk before (inv.disk ∙ is) c.in_ok-lacks.ensures.told)) e
           (told_at (λ (z : Disk). (path : List ℕ) → Contains missing path ↔ (Contains (take i paths) path × IsMissing (build_of plan.steps plan.wanted plan.roots g.H.Children.made z.now) path)) disk before is inv.told));
     }
 
@@ -39,5 +39,5 @@ returns-clause-told g c =
     let missing = c.loop-path.missing in
     let whole = take_whole paths c.loop-path.path-index c.loop-path-test.false in
     told_map (λ (before : Disk). (path : List ℕ) → Contains missing path ↔ (Contains (take c.loop-path.path-index paths) path × IsMissing (build_of plan.steps plan.wanted plan.roots g.H.Children.made before.now) path))
-    (λ (before : Disk). (path : List ℕ) → Contains missing path ↔ (Contains paths path × IsMissing (build_of plan.steps plan.wanted plan.roots g.H.Children.made before.now) path)) (g.H.Files.disk c.args.host.now) c.loop-path.invariant.told
+    (λ (before : Disk). (path : List ℕ) → Contains missing path ↔ (Contains paths path × IsMissing (build_of plan.steps plan.wanted plan.roots g.H.Children.made before.now) path)) (g.H.Files.outside c.args.host.now).disk c.loop-path.invariant.told
     (λ before h path. subst (λ l. Contains missing path ↔ (Contains l path × IsMissing (build_of plan.steps plan.wanted plan.roots g.H.Children.made before.now) path)) whole (h path))

@@ -12,7 +12,7 @@ use Rattle.b2_update.proofs.inputs.missing_inputs.Goals as goal
 pub returns-clause-told : goal.returns-clause-told
 returns-clause-told g c =
     let plan = c.args.plan.now in
-    let disk = g.H.Files.disk c.args.host.now in
+    let disk = (g.H.Files.outside c.args.host.now).disk in
     let paths = c.as_slice-2.result.now in
     let inputs : (path : List ℕ) → Contains paths path ↔ IsInput plan.steps path = λ path. subst (λ (l : List (List ℕ)). Contains l path ↔ IsInput plan.steps path) (sym c.as_slice-2.ensures) (subst (λ s. Contains c.in_ok-paths.paths path ↔ IsInput s path) c.as_slice.ensures (c.in_ok-paths.ensures.each path)) in
     if_ok_both (AllPairs Before) (λ missing. IfSome disk (λ (before : Disk). (path : List ℕ) → Contains missing path ↔ (Contains paths path × IsMissing (build_of plan.steps plan.wanted plan.roots g.H.Children.made before.now) path)))

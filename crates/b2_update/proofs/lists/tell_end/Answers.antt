@@ -11,8 +11,8 @@ returns-in_err-tell_missing-clause-err g c =
     let lists = c.args.lists.now in
     let a = flat_map missing_line lists.missing in
     let b = flat_map (λ (i : ℕ). said_of skipped_line (step_at c.args.steps.now i)) lists.skipped in
-    let w0 = g.S.Sink.written c.args.out.now in
-    let w1 = g.S.Sink.written c.tell_missing.new.out in
+    let w0 = (g.S.Sink.output c.args.out.now).written in
+    let w1 = (g.S.Sink.output c.tell_missing.new.out).written in
     let part : AddsPart a w0 w1 = subst (λ (l : List (List ℕ)). AddsPart (flat_map missing_line l) w0 w1) c.as_slice.ensures c.in_err-tell_missing.ensures.err in
     on_err c.from_residual.result _ (part_of_more (a ++ b) (summary_line c.args.updated lists) w0 w1 (part_of_more a b w0 w1 part))
 
@@ -22,9 +22,9 @@ returns-in_err-tell_skipped-clause-err g c =
     let say = λ (i : ℕ). said_of skipped_line (step_at c.args.steps.now i) in
     let a = flat_map missing_line lists.missing in
     let b = flat_map say lists.skipped in
-    let w0 = g.S.Sink.written c.args.out.now in
-    let w1 = g.S.Sink.written c.tell_missing.new.out in
-    let w2 = g.S.Sink.written c.tell_skipped.new.out in
+    let w0 = (g.S.Sink.output c.args.out.now).written in
+    let w1 = (g.S.Sink.output c.tell_missing.new.out).written in
+    let w2 = (g.S.Sink.output c.tell_skipped.new.out).written in
     let one : Adds a w0 w1 = subst (λ (l : List (List ℕ)). Adds (flat_map missing_line l) w0 w1) c.as_slice.ensures c.in_ok-tell_missing.ensures.ok in
     let part : AddsPart b w1 w2 = subst (λ (l : List ℕ). AddsPart (flat_map say l) w1 w2) c.as_slice-2.ensures c.in_err-tell_skipped.ensures.err in
     on_err c.from_residual-in_err-tell_skipped.result _ (part_of_more (a ++ b) (summary_line c.args.updated lists) w0 w2 (adds_then_part a b w0 w1 w2 one part))
@@ -35,9 +35,9 @@ returns-in_err-line-clause-err g c =
     let say = λ (i : ℕ). said_of skipped_line (step_at c.args.steps.now i) in
     let a = flat_map missing_line lists.missing in
     let b = flat_map say lists.skipped in
-    let w0 = g.S.Sink.written c.args.out.now in
-    let w1 = g.S.Sink.written c.tell_missing.new.out in
-    let w2 = g.S.Sink.written c.tell_skipped.new.out in
+    let w0 = (g.S.Sink.output c.args.out.now).written in
+    let w1 = (g.S.Sink.output c.tell_missing.new.out).written in
+    let w2 = (g.S.Sink.output c.tell_skipped.new.out).written in
     let one : Adds a w0 w1 = subst (λ (l : List (List ℕ)). Adds (flat_map missing_line l) w0 w1) c.as_slice.ensures c.in_ok-tell_missing.ensures.ok in
     let two : Adds b w1 w2 = subst (λ (l : List ℕ). Adds (flat_map say l) w1 w2) c.as_slice-2.ensures c.in_ok-tell_skipped.ensures.ok in
     on_err c.from_residual-in_err-line.result _ (part_of_more (a ++ b) (summary_line c.args.updated lists) w0 w2 (part_whole (a ++ b) w0 w2 (adds_both a b w0 w1 w2 one two)))
@@ -48,10 +48,10 @@ returns-clause-ok g c =
     let say = λ (i : ℕ). said_of skipped_line (step_at c.args.steps.now i) in
     let a = flat_map missing_line lists.missing in
     let b = flat_map say lists.skipped in
-    let w0 = g.S.Sink.written c.args.out.now in
-    let w1 = g.S.Sink.written c.tell_missing.new.out in
-    let w2 = g.S.Sink.written c.tell_skipped.new.out in
-    let w3 = g.S.Sink.written c.write_line.new.out in
+    let w0 = (g.S.Sink.output c.args.out.now).written in
+    let w1 = (g.S.Sink.output c.tell_missing.new.out).written in
+    let w2 = (g.S.Sink.output c.tell_skipped.new.out).written in
+    let w3 = (g.S.Sink.output c.write_line.new.out).written in
     let one : Adds a w0 w1 = subst (λ (l : List (List ℕ)). Adds (flat_map missing_line l) w0 w1) c.as_slice.ensures c.in_ok-tell_missing.ensures.ok in
     let two : Adds b w1 w2 = subst (λ (l : List ℕ). Adds (flat_map say l) w1 w2) c.as_slice-2.ensures c.in_ok-tell_skipped.ensures.ok in
     on_ok_map c.write_line.result (Adds c.as_str.result.now w2 w3) (Adds (end_lines c.args.steps.now c.args.updated lists) w0 w3) c.write_line.ensures.ok
@@ -63,10 +63,10 @@ returns-clause-err g c =
     let say = λ (i : ℕ). said_of skipped_line (step_at c.args.steps.now i) in
     let a = flat_map missing_line lists.missing in
     let b = flat_map say lists.skipped in
-    let w0 = g.S.Sink.written c.args.out.now in
-    let w1 = g.S.Sink.written c.tell_missing.new.out in
-    let w2 = g.S.Sink.written c.tell_skipped.new.out in
-    let w3 = g.S.Sink.written c.write_line.new.out in
+    let w0 = (g.S.Sink.output c.args.out.now).written in
+    let w1 = (g.S.Sink.output c.tell_missing.new.out).written in
+    let w2 = (g.S.Sink.output c.tell_skipped.new.out).written in
+    let w3 = (g.S.Sink.output c.write_line.new.out).written in
     let one : Adds a w0 w1 = subst (λ (l : List (List ℕ)). Adds (flat_map missing_line l) w0 w1) c.as_slice.ensures c.in_ok-tell_missing.ensures.ok in
     let two : Adds b w1 w2 = subst (λ (l : List ℕ). Adds (flat_map say l) w1 w2) c.as_slice-2.ensures c.in_ok-tell_skipped.ensures.ok in
     on_err_map c.write_line.result (AddsPart c.as_str.result.now w2 w3) (AddsPart (end_lines c.args.steps.now c.args.updated lists) w0 w3) c.write_line.ensures.err

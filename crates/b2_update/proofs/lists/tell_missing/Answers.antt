@@ -9,18 +9,18 @@ returns-in_err-line-clause-err g c = on_err c.from_residual.result _ (part_taken
 
 pub returns-in_err-write_line-clause-err : goal.returns-in_err-write_line-clause-err
 returns-in_err-write_line-clause-err g c =
-    let w0 = g.S.Sink.written c.args.out.now in
-    let w1 = g.S.Sink.written c.loop-path.out in
-    let w2 = g.S.Sink.written c.write_line.new.out in
+    let w0 = (g.S.Sink.output c.args.out.now).written in
+    let w1 = (g.S.Sink.output c.loop-path.out).written in
+    let w2 = (g.S.Sink.output c.write_line.new.out).written in
     let line = c.as_str.ensures.value ∙ c.in_ok-line.ensures ∙ ap missing_line c.path-item.is in
     on_err c.from_residual-in_err-write_line.result _ (part_more missing_line c.args.paths.now c.loop-path.path-index c.path-item.result w0 w1 w2 c.loop-path-test.true c.loop-path.invariant.lines
     (subst (λ l. AddsPart l w1 w2) line c.in_err-write_line.ensures.err))
 
 pub loop-path-preserved : goal.loop-path-preserved
 loop-path-preserved g c =
-    let w0 = g.S.Sink.written c.args.out.now in
-    let w1 = g.S.Sink.written c.loop-path.out in
-    let w2 = g.S.Sink.written c.write_line.new.out in
+    let w0 = (g.S.Sink.output c.args.out.now).written in
+    let w1 = (g.S.Sink.output c.loop-path.out).written in
+    let w2 = (g.S.Sink.output c.write_line.new.out).written in
     let line = c.as_str.ensures.value ∙ c.in_ok-line.ensures ∙ ap missing_line c.path-item.is in
     record {
       faults = c.in_ok-write_line.ensures.faults ∙ c.loop-path.invariant.faults;

@@ -6,6 +6,6 @@ use Rattle.b2_update.proofs.lists.tell_missing.Given as goal
 
 abbrev pub invariant-loop-path : goal.invariant-loop-path
 invariant-loop-path g l = record {
-  faults : g.S.Sink.faults l.out ≡ g.S.Sink.faults l.fn.out;
-  lines : Adds (flat_map missing_line (take l.path-index l.paths)) (g.S.Sink.written l.fn.out) (g.S.Sink.written l.out);
+  faults : (g.S.Sink.output l.out).faults ≡ (g.S.Sink.output l.fn.out).faults;
+  lines : Adds (flat_map missing_line (take l.path-index l.paths)) (g.S.Sink.output l.fn.out).written (g.S.Sink.output l.out).written;
 }

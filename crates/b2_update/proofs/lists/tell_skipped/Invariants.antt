@@ -7,6 +7,6 @@ use Rattle.b2_update.proofs.lists.tell_skipped.Given as goal
 
 abbrev pub invariant-loop-number : goal.invariant-loop-number
 invariant-loop-number g l = record {
-  faults : g.S.Sink.faults l.out ≡ g.S.Sink.faults l.fn.out;
-  lines : Adds (flat_map (λ i. said_of skipped_line (step_at l.steps i)) (take l.number-index l.numbers)) (g.S.Sink.written l.fn.out) (g.S.Sink.written l.out);
+  faults : (g.S.Sink.output l.out).faults ≡ (g.S.Sink.output l.fn.out).faults;
+  lines : Adds (flat_map (λ i. said_of skipped_line (step_at l.steps i)) (take l.number-index l.numbers)) (g.S.Sink.output l.fn.out).written (g.S.Sink.output l.out).written;
 }

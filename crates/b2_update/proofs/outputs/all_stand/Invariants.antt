@@ -3,9 +3,9 @@ use Rattle.b2_update.proofs.outputs.all_stand.Given as goal
 
 abbrev pub invariant-loop-out : goal.invariant-loop-out
 invariant-loop-out g l = record {
-  faults : g.H.Files.faults l.host ≡ g.H.Files.faults l.fn.host;
-  waits : g.H.Files.failed_waits l.host ≡ g.H.Files.failed_waits l.fn.host;
-  family : g.H.Files.family l.host ≡ g.H.Files.family l.fn.host;
-  disk : g.H.Files.disk l.host ≡ g.H.Files.disk l.fn.host;
-  stand : IfSome (g.H.Files.disk l.fn.host) (λ before. (k : ℕ) (d : List ℕ) → k < l.out-index → before.now (get_or l.outs k d) ≢ None);
+  faults : (g.H.Files.outside l.host).faults ≡ (g.H.Files.outside l.fn.host).faults;
+  waits : (g.H.Files.outside l.host).failed_waits ≡ (g.H.Files.outside l.fn.host).failed_waits;
+  family : (g.H.Files.outside l.host).children ≡ (g.H.Files.outside l.fn.host).children;
+  disk : (g.H.Files.outside l.host).disk ≡ (g.H.Files.outside l.fn.host).disk;
+  stand : IfSome (g.H.Files.outside l.fn.host).disk (λ before. (k : ℕ) (d : List ℕ) → k < l.out-index → before.now (get_or l.outs k d) ≢ None);
 }

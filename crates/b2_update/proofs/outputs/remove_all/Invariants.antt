@@ -5,9 +5,9 @@ use Rattle.b2_update.proofs.outputs.remove_all.Given as goal
 
 abbrev pub invariant-loop-out : goal.invariant-loop-out
 invariant-loop-out g l = record {
-  faults : g.H.Files.faults l.host ≡ g.H.Files.faults l.fn.host;
-  waits : g.H.Files.failed_waits l.host ≡ g.H.Files.failed_waits l.fn.host;
-  family : g.H.Files.family l.host ≡ g.H.Files.family l.fn.host;
-  others : BothTold (KeepsOthers (take l.out-index l.outs)) (g.H.Files.disk l.fn.host) (g.H.Files.disk l.host);
-  gone : IfSome (g.H.Files.disk l.host) (AreGone (take l.out-index l.outs));
+  faults : (g.H.Files.outside l.host).faults ≡ (g.H.Files.outside l.fn.host).faults;
+  waits : (g.H.Files.outside l.host).failed_waits ≡ (g.H.Files.outside l.fn.host).failed_waits;
+  family : (g.H.Files.outside l.host).children ≡ (g.H.Files.outside l.fn.host).children;
+  others : BothTold (KeepsOthers (take l.out-index l.outs)) (g.H.Files.outside l.fn.host).disk (g.H.Files.outside l.host).disk;
+  gone : IfSome (g.H.Files.outside l.host).disk (AreGone (take l.out-index l.outs));
 }
