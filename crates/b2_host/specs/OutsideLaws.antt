@@ -109,7 +109,7 @@ keeps_reads path before after (Ok x) same = subst (Keeps before) (sym same) (rec
 keeps_reads path before after (Err faults.Failed) failed = keeps_fails before after failed
 keeps_reads path before after (Err faults.OutOfMemory) same = keeps_same before after same
 
-keeps_removed : (path : List ℕ) (before : Outside) → Keeps before (removed path before)
+pub keeps_removed : (path : List ℕ) (before : Outside) → Keeps before (removed path before)
 keeps_removed path before = keeps_disk before (removed path before) (option_map (without path) before.disk) (past_without path before.disk) refl
 
 pub keeps_removes : {T : Type 0} (path : List ℕ) (before after : Outside) (r : Result T Failed) → Removes path before after r → Keeps before after

@@ -1,10 +1,11 @@
-use Rattle.std.proofs.Common.{◌≡◌, ◌≢◌, ℕ, zero, suc, ◌<◌, ◌≤◌, true, false, List, [], ◌∷◌, ◌++◌, length, ◌⊎◌, inl, inr, refl, sym, ap, subst, arith, ◌∙◌, Option, Some, None, count_by, append-nil}
+use Rattle.std.proofs.Common.{◌≡◌, ◌≢◌, ℕ, zero, suc, ◌<◌, ◌≤◌, true, false, List, [], ◌∷◌, ◌++◌, length, ◌⊎◌, inl, inr, refl, sym, ap, subst, arith, ◌∙◌, Option, Some, None, IfSome, is_some, count_by, append-nil}
 use Rattle.std.specs.List.{Contains}
 use Rattle.std.proofs.lemmas.Option.{slice_get_within}
 use Rattle.b2_host.specs.declared.children.ChildEvent.{ChildEvent}
 use Rattle.b2_host.specs.declared.children.ChildEvent.TheVariants.{Start, Done}
 use Rattle.b2_host.specs.Disks.{Folder, Disk, bytes_at}
 use Rattle.b2_host.specs.ChildProcesses.{Family, BothTold}
+use Rattle.b2_host.specs.Output.{Output}
 use Rattle.b2_plan.specs.declared.step.Step.{Step}
 use Rattle.b2_plan.specs.Plans.{step_at, Makes}
 use Rattle.b2_plan.specs.Closures.{Known.input}
@@ -21,7 +22,8 @@ use Rattle.b2_update.specs.declared.update_answer.UpdateAnswer.{UpdateAnswer}
 use Rattle.b2_update.specs.declared.update_answer.UpdateAnswer.TheVariants as answers
 use Rattle.b2_update.specs.Updates.{HasEnded, HasRun, HasUpdated, HasWritten, WrittenBy, AnswerTold, SomethingLacks, StopsAtEnd, stop_answer, IsEndOf}
 use Rattle.b2_update.specs.Inputs.{IsMissingInput, outcome_at, is_settled, AreListed}
-use Rattle.b2_update.specs.Runners.{Adds, AddsPart}
+use Rattle.b2_update.specs.Moments.{Moment, moment}
+use Rattle.b2_update.specs.Writings.{Adds, AddsPart}
 use Rattle.b2_update.specs.Progress.{IsWhole, IsPrepared, HasSettled, WasSkipped, Became, IsUnderWay, Stands, Stopped, ToldBy, HasFinished}
 use Rattle.b2_update.proofs.ListLemmas.{some_element, Contains-nil, Contains-cases}
 use Rattle.b2_update.proofs.WritingLemmas.{adds_both}
@@ -149,22 +151,22 @@ all_lists u lacks p old list events fam now core size lists are = record {
 }
 
 -- the run is whole, none is stuck, what is settled is clean, and nothing of what failed stands
-pub all_ended : (u : Update) (lacks : List (List ℕ)) → IsPrepared u lacks → (old : Family) (text : Option (List ℕ)) (list : List Outcome) (fam : Family) (disk : Option Disk) (written : Option (List ℕ)) → (s : Stands u old text list fam disk written) → length list ≡ length u.build.steps
+pub all_ended : (u : Update) (lacks : List (List ℕ)) → IsPrepared u lacks → (entry : Moment) (list : List Outcome) (here : Moment) → (s : Stands u entry list here) → length list ≡ length u.build.steps
     → (lists : FailedLists) → AreListed list lacks lists → HasEnded u s.events s.now.now lists
-all_ended u lacks p old text list fam disk written s size lists are = record {
+all_ended u lacks p entry list here s size lists are = record {
   run = record {
     each = core.run;
     none_open = λ i opened.
         let (step, at) = started_step u [] events i core.run opened.0 in
         let (h, (o, is_o)) = step_outcome u list i step size at in
         none_open i opened o (core.became i o is_o);
-    none_left = λ k can. let (h, (o, is_o)) = step_outcome u list k can.step size can.at in cannot_start u w old list events fam now core k h can;
+    none_left = λ k can. let (h, (o, is_o)) = step_outcome u list k can.step size can.at in cannot_start u w entry.host.children list events here.host.children now core k h can;
   };
   none_stuck = λ i needed.
       let (step, at) = needed_step u events i needed in
       let (h, (o, is_o)) = step_outcome u list i step size at in
       none_stuck i o is_o (core.became i o is_o);
-  lacking = all_lists u lacks p old list events fam now core size lists are;
+  lacking = all_lists u lacks p entry.host.children list events here.host.children now core size lists are;
   clean = λ i step path needed makes settled owes.
       let (h, (o, is_o)) = step_outcome u list i step size makes.at in
       clean i step path makes settled (omega arith) o (core.became i o is_o);
@@ -182,7 +184,7 @@ all_ended u lacks p old text list fam disk written s size lists are = record {
     now : Folder
     now = s.now.now
 
-    core : IsUnderWay u old list events fam now
+    core : IsUnderWay u entry.host.children list events here.host.children now
     core = s.core
 
     none_open : (i : ℕ) → IsOpen events i → (o : Outcome) → Became u events now list i o → ⊥
@@ -193,7 +195,7 @@ all_ended u lacks p old text list fam disk written s size lists are = record {
     none_stuck : (i : ℕ) → (o : Outcome) → outcome_at list i ≡ Some o → Became u events now list i o → IsSettledStep u events i ⊎ IsFailed events i ⊎ Skipped u events i
     none_stuck i outcomes.Settled e b = inl (settled_all u events now i b)
     none_stuck i outcomes.Failed e b = inr (inl b.done)
-    none_stuck i outcomes.Skipped e b = inr (inr (is_skipped u w old list events fam now core (suc i) i (omega arith) e))
+    none_stuck i outcomes.Skipped e b = inr (inr (is_skipped u w entry.host.children list events here.host.children now core (suc i) i (omega arith) e))
 
     clean : (i : ℕ) (step : Step) (path : List ℕ) → Makes u.build.steps i step path → Settled u events path → i ≤ length u.build.steps → (o : Outcome) → Became u events now list i o → (bytes : List ℕ) × Clean u.build path (Some bytes) × (bytes_at now path ≡ Some bytes)
     clean i step path makes settled h outcomes.Settled b = let m = b.left step path makes in (m.bytes, val_le u w i (length u.build.steps) h path (Some m.bytes) m.value, m.stands)
@@ -216,39 +218,39 @@ has_run u old list events fam now core = record {
 }
 
 -- the update has come to its end, and the end of its report was written
-pub has_finished : (u : Update) (lacks : List (List ℕ)) → IsPrepared u lacks → (old : Family) (text : Option (List ℕ)) (list : List Outcome) (fam : Family) (disk : Option Disk) (written written2 : Option (List ℕ)) → Stands u old text list fam disk written → length list ≡ length u.build.steps
-    → (lists : FailedLists) → AreListed list lacks lists → (updated : ℕ) → updated ≡ count_by is_settled list → Adds (end_lines u.build.steps updated lists) written written2 → HasFinished u old text lists fam disk written2
-has_finished u lacks p old text list fam disk written written2 s size lists are updated count adds =
+pub has_finished : (u : Update) (lacks : List (List ℕ)) → IsPrepared u lacks → (entry : Moment) (list : List Outcome) (here : Moment) (out : Output) → Stands u entry list here → length list ≡ length u.build.steps
+    → (lists : FailedLists) → AreListed list lacks lists → (updated : ℕ) → updated ≡ count_by is_settled list → Adds (end_lines u.build.steps updated lists) here.out.written out.written → HasFinished u entry lists (moment here.host out)
+has_finished u lacks p entry list here out s size lists are updated count adds =
     let steps = u.build.steps in
     let counted : updated ≡ count_by is_good_end s.events = count ∙ sym s.settled in
-    let end : Adds (end_lines steps (count_by is_good_end s.events) lists) written written2 = subst (λ n. Adds (end_lines steps n lists) written written2) counted adds in
+    let end : Adds (end_lines steps (count_by is_good_end s.events) lists) here.out.written out.written = subst (λ n. Adds (end_lines steps n lists) here.out.written out.written) counted adds in
     record {
       now = s.now;
       now_is = s.now_is;
       events = s.events;
-      ran = has_run u old list s.events fam s.now.now s.core;
-      ended = all_ended u lacks p old text list fam disk written s size lists are;
-      lines = adds_both (event_lines steps s.events) (end_lines steps (count_by is_good_end s.events) lists) text written written2 s.lines end;
+      ran = has_run u entry.host.children list s.events here.host.children s.now.now s.core;
+      ended = all_ended u lacks p entry list here s size lists are;
+      lines = adds_both (event_lines steps s.events) (end_lines steps (count_by is_good_end s.events) lists) entry.out.written here.out.written out.written s.lines end;
     }
 
 -- it was stopped in the end of the report
-pub end_stopped : (u : Update) (lacks : List (List ℕ)) → IsPrepared u lacks → (old : Family) (text : Option (List ℕ)) (list : List Outcome) (fam : Family) (disk : Option Disk) (written written2 : Option (List ℕ)) → Stands u old text list fam disk written → length list ≡ length u.build.steps
-    → (lists : FailedLists) → AreListed list lacks lists → (updated : ℕ) → updated ≡ count_by is_settled list → (stop : Stop) → stop ≢ stops.Host → AddsPart (end_lines u.build.steps updated lists) written written2 → Stopped u old text stop fam disk written2
-end_stopped u lacks p old text list fam disk written written2 s size lists are updated count stop other adds =
+pub end_stopped : (u : Update) (lacks : List (List ℕ)) → IsPrepared u lacks → (entry : Moment) (list : List Outcome) (here : Moment) (out : Output) → Stands u entry list here → length list ≡ length u.build.steps
+    → (lists : FailedLists) → AreListed list lacks lists → (updated : ℕ) → updated ≡ count_by is_settled list → (stop : Stop) → stop ≢ stops.Host → AddsPart (end_lines u.build.steps updated lists) here.out.written out.written → Stopped u entry stop (moment here.host out)
+end_stopped u lacks p entry list here out s size lists are updated count stop other adds =
     let steps = u.build.steps in
     let core = s.core in
     let counted : updated ≡ count_by is_good_end s.events = count ∙ sym s.settled in
-    let end : AddsPart (end_lines steps (count_by is_good_end s.events) lists) written written2 = subst (λ n. AddsPart (end_lines steps n lists) written written2) counted adds in
+    let end : AddsPart (end_lines steps (count_by is_good_end s.events) lists) here.out.written out.written = subst (λ n. AddsPart (end_lines steps n lists) here.out.written out.written) counted adds in
     let all : List ℕ = event_lines steps s.events ++ end.part in
     let at : StopsAtEnd u s.events all = record {
-      run = (all_ended u lacks p old text list fam disk written s size lists are).run;
+      run = (all_ended u lacks p entry list here s size lists are).run;
       lists = lists;
-      are = all_lists u lacks p old list s.events fam s.now.now core size lists are;
+      are = all_lists u lacks p entry.host.children list s.events here.host.children s.now.now core size lists are;
       part = end.part;
       begins = (end.rest, end.whole);
       lines = refl;
     } in
-    let ran = has_run u old list s.events fam s.now.now core in
+    let ran = has_run u entry.host.children list s.events here.host.children s.now.now core in
     record {
       now = s.now;
       now_is = s.now_is;
@@ -260,7 +262,7 @@ end_stopped u lacks p old text list fam disk written written2 s size lists are u
       fed = ran.fed;
       changed = ran.changed;
       part = all;
-      lines = adds_both (event_lines steps s.events) end.part text written written2 s.lines end.adds;
+      lines = adds_both (event_lines steps s.events) end.part entry.out.written here.out.written out.written s.lines end.adds;
       told = elim stop as (λ z. (z ≢ stops.Host) → ToldBy u s.events z all) [ stops.Host ↦ λ h. absurd (h refl) | stops.Sink ↦ λ h. inr at | stops.OutOfMemory ↦ λ h. inr (inr at) ] other;
     }
 
@@ -269,9 +271,9 @@ append_cancel [] ys zs e = e
 append_cancel (x ∷ xs) ys zs e = append_cancel xs ys zs (let f : x ∷ (xs ++ ys) ≡ x ∷ (xs ++ zs) = e in cc)
 
 -- what a fact of two told moments comes from
-pub both_from : (P : Disk → Disk → Type 0) (x y : Option Disk) → (x ≡ None → y ≡ None) → ((a : Disk) → x ≡ Some a → (b : Disk) × (y ≡ Some b) × P a b) → BothTold P x y
+pub both_from : (P : Disk → Disk → Type 0) (x y : Option Disk) → is_some y ≡ is_some x → ((a : Disk) → x ≡ Some a → (b : Disk) × (y ≡ Some b) × P a b) → BothTold P x y
 both_from P None None f g = tt
-both_from P None (Some b) f g = absurd (let e : Some b ≡ None = f refl in cc)
+both_from P None (Some b) f g = absurd (let e : true ≡ false = f in cc)
 both_from P (Some a) y f g = let (b, e, p) = g a refl in subst (λ z. BothTold P (Some a) z) (sym e) p
 
 -- the lists are empty where nothing lacks
@@ -279,17 +281,18 @@ no_lists : (lists : FailedLists) → lists.failed ≡ [] → lists.skipped ≡ [
 no_lists lists a b c = λ i. record { failed = a i; skipped = b i; missing = c i }
 
 -- the bytes that were written, where the sink tells them
-written_from : (u : Update) (answer : UpdateAnswer) (old new : Family) (text written : Option (List ℕ)) (part : List ℕ) (events : List ChildEvent) → new.events ≡ old.events ++ events → Adds part text written → WrittenBy u events answer part → HasWritten u answer old new text written
-written_from u answer old new None written part events e adds by others f = tt
-written_from u answer old new (Some t) written part events e adds by others f =
-    let same : events ≡ others = append_cancel old.events events others (sym e ∙ f) in
-    (part, adds, subst (λ l. WrittenBy u l answer part) same by)
+written_from : (u : Update) (answer : UpdateAnswer) (entry here : Moment) (part : List ℕ) (events : List ChildEvent) → here.host.children.events ≡ entry.host.children.events ++ events → Adds part entry.out.written here.out.written → WrittenBy u events answer part → HasWritten u answer entry here
+written_from u answer entry here part events e adds by others f = go entry.out.written adds
+  where
+    go : (text : Option (List ℕ)) → Adds part text here.out.written → IfSome text (λ so_far. (written : List ℕ) × (here.out.written ≡ Some (so_far ++ written)) × WrittenBy u others answer written)
+    go None is = tt
+    go (Some so_far) is = (part, is, subst (λ l. WrittenBy u l answer part) (append_cancel entry.host.children.events events others (sym e ∙ f)) by)
 
 -- what a finished update has done, and what it has written
-pub finished_updated : (u : Update) (lists : FailedLists) (answer : UpdateAnswer) → IsEndOf lists answer → (old new : Family) (text written : Option (List ℕ)) (before : Disk) (disk : Option Disk) → u.build.folder ≡ before.now → HasFinished u old text lists new disk written
-    → (after : Disk) × (disk ≡ Some after) × HasUpdated u old new answer before after
-finished_updated u lists answer is old new text written before disk folder f =
-    (f.now, f.now_is, record { events = f.events; ran = subst (λ z. HasRun u f.events old new z f.now.now) folder f.ran; told = go answer is })
+pub finished_updated : (u : Update) (lists : FailedLists) (answer : UpdateAnswer) → IsEndOf lists answer → (entry here : Moment) (before : Disk) → u.build.folder ≡ before.now → HasFinished u entry lists here
+    → (after : Disk) × (here.host.disk ≡ Some after) × HasUpdated u entry.host.children here.host.children answer before after
+finished_updated u lists answer is entry here before folder f =
+    (f.now, f.now_is, record { events = f.events; ran = subst (λ z. HasRun u f.events entry.host.children here.host.children z f.now.now) folder f.ran; told = go answer is })
   where
     go : (answer : UpdateAnswer) → IsEndOf lists answer → AnswerTold u f.events f.now.now answer
     go answers.Done (a, b, c) = subst (λ l. HasEnded u f.events f.now.now l) (no_lists lists a b c) f.ended
@@ -298,10 +301,10 @@ finished_updated u lists answer is old new text written before disk folder f =
     go answers.SinkFault is = absurd is
     go answers.OutOfMemory is = absurd is
 
-pub finished_written : (u : Update) (lists : FailedLists) (answer : UpdateAnswer) → IsEndOf lists answer → (old new : Family) (text written : Option (List ℕ)) (disk : Option Disk) → HasFinished u old text lists new disk written
-    → (after : Disk) × (disk ≡ Some after) × HasWritten u answer old new text written
-finished_written u lists answer is old new text written disk f =
-    (f.now, f.now_is, written_from u answer old new text written (report u.build.steps f.events lists) f.events f.ran.events_are f.lines (go answer is))
+pub finished_written : (u : Update) (lists : FailedLists) (answer : UpdateAnswer) → IsEndOf lists answer → (entry here : Moment) → HasFinished u entry lists here
+    → (after : Disk) × (here.host.disk ≡ Some after) × HasWritten u answer entry here
+finished_written u lists answer is entry here f =
+    (f.now, f.now_is, written_from u answer entry here (report u.build.steps f.events lists) f.events f.ran.events_are f.lines (go answer is))
   where
     go : (answer : UpdateAnswer) → IsEndOf lists answer → WrittenBy u f.events answer (report u.build.steps f.events lists)
     go answers.Done (a, b, c) = ap (report u.build.steps f.events) (no_lists lists a b c)
@@ -311,9 +314,11 @@ finished_written u lists answer is old new text written disk f =
     go answers.OutOfMemory is = absurd is
 
 -- what a stopped update has done, and what it has written
-pub stopped_updated : (u : Update) (stop : Stop) (old new : Family) (text written : Option (List ℕ)) (before : Disk) (disk : Option Disk) → u.build.folder ≡ before.now → Stopped u old text stop new disk written
-    → (after : Disk) × (disk ≡ Some after) × HasUpdated u old new (stop_answer stop) before after
-stopped_updated u stop old new text written before disk folder s =
+pub stopped_updated : (u : Update) (stop : Stop) (entry here : Moment) (before : Disk) → u.build.folder ≡ before.now → Stopped u entry stop here
+    → (after : Disk) × (here.host.disk ≡ Some after) × HasUpdated u entry.host.children here.host.children (stop_answer stop) before after
+stopped_updated u stop entry here before folder s =
+    let old : Family = entry.host.children in
+    let new : Family = here.host.children in
     let ran : HasRun u s.events old new u.build.folder s.now.now = record { events_are = s.events_are; given = s.given; given_are = s.given_are; begun = s.begun; fed = s.fed; changed = s.changed } in
     (s.now, s.now_is, record { events = s.events; ran = subst (λ z. HasRun u s.events old new z s.now.now) folder ran; told = go stop })
   where
@@ -322,9 +327,10 @@ stopped_updated u stop old new text written before disk folder s =
     go stops.Sink = tt
     go stops.OutOfMemory = tt
 
-pub stopped_written : (u : Update) (stop : Stop) (old new : Family) (text written : Option (List ℕ)) (disk : Option Disk) → Stopped u old text stop new disk written
-    → (after : Disk) × (disk ≡ Some after) × HasWritten u (stop_answer stop) old new text written
-stopped_written u stop old new text written disk s = (s.now, s.now_is, written_from u (stop_answer stop) old new text written s.part s.events s.events_are s.lines (go stop s.told))
+pub stopped_written : (u : Update) (stop : Stop) (entry here : Moment) → Stopped u entry stop here
+    → (after : Disk) × (here.host.disk ≡ Some after) × HasWritten u (stop_answer stop) entry here
+stopped_written u stop entry here s =
+    (s.now, s.now_is, written_from u (stop_answer stop) entry here s.part s.events s.events_are s.lines (go stop s.told))
   where
     go : (stop : Stop) → ToldBy u s.events stop s.part → WrittenBy u s.events (stop_answer stop) s.part
     go stops.Host t = t

@@ -14,6 +14,7 @@ use Rattle.b2_plan.specs.Closures.{Known.input, Before, IsClose}
 use Rattle.b2_plan.specs.Cleans.{Val}
 use Rattle.b2_update.specs.declared.outcome.Outcome.{Outcome}
 use Rattle.b2_update.specs.declared.outcome.Outcome.TheVariants as outcomes
+use Rattle.b2_update.specs.Plain.{Made}
 use Rattle.b2_update.specs.Runs.{Update, Settled, Settled.source, Settled.done_well, Settled.fresh, on_settled, Needed, Needed.wanted, is_start, is_done, CanStart, MayCome, RunFrom, started, IsFed, AreFed}
 use Rattle.b2_update.specs.Outcomes.{OnlyOutputsChange}
 use Rattle.b2_update.specs.Inputs.{outcome_at}
@@ -142,7 +143,7 @@ pub record IsReadyInput (u : Update) (events : List ChildEvent) (now : Folder) (
   pub settled : Settled u events path
   pub made : IsMade u.build now rank path
 
-pub ready_input : (u : Update) (made : List ℕ → List (List ℕ × List ℕ) → List ℕ → List ℕ) (old : Family) (list : List Outcome) (events : List ChildEvent) (new : Family) (now : Folder) (number : ℕ) (step : Step) → IsDue u made list number step → IsUnderWay u old list events new now
+pub ready_input : (u : Update) (made : Made) (old : Family) (list : List Outcome) (events : List ChildEvent) (new : Family) (now : Folder) (number : ℕ) (step : Step) → IsDue u made list number step → IsUnderWay u old list events new now
     → (path : List ℕ) → Contains step.ins path → IsReadyInput u events now (length list) path
 ready_input u made old list events new now number step due core path c = elim (due.ready path c) [
   | inl (bytes, s) ↦ record {

@@ -1,7 +1,8 @@
-use Rattle.std.proofs.Common.{◌≡◌, ◌≢◌, ℕ, zero, suc, ◌+◌, ◌<◌, ◌↔◌, Bool, true, false, List, [], ◌∷◌, ◌++◌, length, ◌⊎◌, inl, inr, refl, sym, subst, subst₂, arith, ◌∙◌, Option, Some, None, IfSome, option_map}
+use Rattle.std.proofs.Common.{◌≡◌, ◌≢◌, ℕ, zero, suc, ◌+◌, ◌<◌, ◌↔◌, Bool, true, false, List, [], ◌∷◌, ◌++◌, length, ◌⊎◌, inl, inr, refl, sym, ap, subst, arith, Result, Ok, Err, ◌∙◌, Option, Some, None, IfSome, option_map}
 use Rattle.std.specs.List.{Contains, AllPairs}
 use Rattle.b2_host.specs.Disks.{File, Disk, bytes_at}
-use Rattle.b2_host.specs.ChildProcesses.{Family}
+use Rattle.b2_host.specs.Outside.{Outside}
+use Rattle.b2_host.specs.ChildCalls.{Awaits, AwaitFails}
 use Rattle.b2_plan.specs.declared.step.Step.{Step}
 use Rattle.b2_plan.specs.Plans.{step_at, Makes, maker_of}
 use Rattle.b2_plan.specs.Sources.{IsSource, IsMissing}
@@ -12,51 +13,69 @@ use Rattle.b2_update.specs.declared.stop.Stop.{Stop}
 use Rattle.b2_update.specs.Runs.{Update}
 use Rattle.b2_update.specs.Reports.{start_line}
 use Rattle.b2_update.specs.Inputs.{outcome_at, IsReadable, IsReadableBy}
-use Rattle.b2_update.specs.Runners.{HasRunChild, HasStopped}
+use Rattle.b2_update.specs.declared.stop.Stop.TheVariants as stops
+use Rattle.b2_update.specs.Moments.{Moment, moment}
+use Rattle.b2_update.specs.Plain.{Made}
+use Rattle.b2_update.specs.Outputs.{AllStand}
+use Rattle.b2_update.specs.Stops.{StopLooks}
+use Rattle.b2_update.specs.Runners.{WaitsOne, HasRunChild, HasStopped, RunsChild, started}
+use Rattle.b2_update.specs.Writings.{Adds}
 use Rattle.b2_update.specs.Progress.{IsPrepared, IsDue, Stands, HasEndedChild, Stopped}
 use Rattle.b2_update.proofs.MakerLemmas.{maker_makes, none_makes}
 use Rattle.b2_update.proofs.EventLemmas.{outcome_some}
-use Rattle.b2_update.proofs.StepLemmas.{has_ended_child, has_stopped, stands_skipped}
+use Rattle.b2_update.proofs.StepLemmas.{has_ended_child, has_stopped, stopped_unmoved, stands_skipped}
 
--- the same, told of equal things
-pub stopped_along : (u : Update) (old : Family) (text : Option (List ℕ)) (stop : Stop) (fam fam2 : Family) (disk disk2 : Option Disk) (written : Option (List ℕ)) → fam2 ≡ fam → disk2 ≡ disk → Stopped u old text stop fam disk written → Stopped u old text stop fam2 disk2 written
-stopped_along u old text stop fam fam2 disk disk2 written e f s = subst₂ (λ a b. Stopped u old text stop a b written) (sym e) (sym f) s
+-- the same, told of the same files and child processes
+pub stands_along : (u : Update) (entry : Moment) (list : List Outcome) (here : Moment) (host : Outside) → host ≡ here.host → Stands u entry list here → Stands u entry list (moment host here.out)
+stands_along u entry list here host e s = subst (λ h. Stands u entry list (moment h here.out)) (sym e) s
 
-pub stands_along : (u : Update) (old : Family) (text : Option (List ℕ)) (list : List Outcome) (fam fam2 : Family) (disk disk2 : Option Disk) (written : Option (List ℕ)) → fam2 ≡ fam → disk2 ≡ disk → Stands u old text list fam disk written → Stands u old text list fam2 disk2 written
-stands_along u old text list fam fam2 disk disk2 written e f s = subst₂ (λ a b. Stands u old text list a b written) (sym e) (sym f) s
+pub ended_along : (u : Update) (entry : Moment) (list : List Outcome) (well : Bool) (here : Moment) (host : Outside) → host ≡ here.host → HasEndedChild u entry list well here → HasEndedChild u entry list well (moment host here.out)
+ended_along u entry list well here host e s = subst (λ h. HasEndedChild u entry list well (moment h here.out)) (sym e) s
 
-pub ended_along : (u : Update) (old : Family) (text : Option (List ℕ)) (list : List Outcome) (well : Bool) (fam fam2 : Family) (disk disk2 : Option Disk) (written : Option (List ℕ)) → fam2 ≡ fam → disk2 ≡ disk → HasEndedChild u old text list well fam disk written → HasEndedChild u old text list well fam2 disk2 written
-ended_along u old text list well fam fam2 disk disk2 written e f s = subst₂ (λ a b. HasEndedChild u old text list well a b written) (sym e) (sym f) s
+-- a look at the host that stopped
+pub stopped_look : (u : Update) (entry : Moment) (stop : Stop) (here : Moment) (host : Outside) → StopLooks {T = Unit {0}} here.host host (Err stop) → Stopped u entry stop here → Stopped u entry stop (moment host here.out)
+stopped_look u entry stops.Host here host failed s =
+    stopped_unmoved u entry stops.Host here (moment host here.out) (record { children = ap (λ (o : Outside). o.children) failed.same; disk = ap (λ (o : Outside). o.disk) failed.same; written = refl }) s
+stopped_look u entry stops.Sink here host told s = absurd told
+stopped_look u entry stops.OutOfMemory here host same s = subst (λ h. Stopped u entry stops.OutOfMemory (moment h here.out)) (sym same) s
 
 stands_some : (o : Option File) (bytes : List ℕ) → option_map (λ file. file.bytes) o ≡ Some bytes → o ≢ None
 stands_some None bytes e n = let f : None ≡ Some bytes = e in cc
 stands_some (Some file) bytes e n = let f : Some file ≡ None = n in cc
 
 -- where an output is told to be missing, the step ended badly
-pub ended_badly : (u : Update) (old : Family) (text : Option (List ℕ)) (list : List Outcome) (step : Step) (well left : Bool) (fam : Family) (disk : Option Disk) (written : Option (List ℕ)) → step_at u.build.steps (length list + 1) ≡ Some step → HasEndedChild u old text list well fam disk written
-    → IfSome disk (λ before. well ≡ true → ((path : List ℕ) → Contains step.outs path → before.now path ≢ None) → left ≡ true) → left ≡ false → HasEndedChild u old text list false fam disk written
-ended_badly u old text list step false left fam disk written at come told bad = come
-ended_badly u old text list step true left fam disk written at come told bad =
-    let all = subst (λ d. IfSome d (λ (before : Disk). true ≡ true → ((path : List ℕ) → Contains step.outs path → before.now path ≢ None) → left ≡ true)) come.now_is told in
+pub ended_badly : (u : Update) (entry : Moment) (list : List Outcome) (step : Step) (well left : Bool) (here : Moment) → step_at u.build.steps (length list + 1) ≡ Some step → HasEndedChild u entry list well here
+    → IfSome here.host.disk (λ disk. well ≡ true → AllStand step.outs disk → left ≡ true) → left ≡ false → HasEndedChild u entry list false here
+ended_badly u entry list step false left here at come told bad = come
+ended_badly u entry list step true left here at come told bad =
+    let all = subst (λ d. IfSome d (λ (disk : Disk). true ≡ true → AllStand step.outs disk → left ≡ true)) come.now_is told in
     let is_left : left ≡ true = all refl (λ path c. let m = come.left refl step path (record { at = at; among = c }) in stands_some (come.now.now path) m.bytes m.stands) in
     absurd (let f : true ≡ false = sym is_left ∙ bad in cc)
 
+-- a child has run, or the wait for it failed
+pub child_ran : (made : Made) (number : ℕ) (step : Step) (ins : List (List ℕ)) (line : List ℕ) (before after : Moment) (host : Outside) (r : Result Bool Stop)
+    → host ≡ started number step ins before.host → WaitsOne made host after.host r → Adds line before.out.written after.out.written → RunsChild made number step ins line before after r
+child_ran made number step ins line before after host (Ok well) e (which, ended) adds = record { which = which; ended = subst (λ h. Awaits made h which well after.host) e ended; told = adds }
+child_ran made number step ins line before after host (Err stops.Host) e failed adds = record { at = inr (inr (λ f. cc, inr (subst (λ h. AwaitFails h after.host) e failed), adds)) }
+child_ran made number step ins line before after host (Err stops.Sink) e told adds = absurd told
+child_ran made number step ins line before after host (Err stops.OutOfMemory) e told adds = absurd told
+
 -- the same of a child by its number
-pub come_at : (u : Update) (made : List ℕ → List (List ℕ × List ℕ) → List ℕ → List ℕ) (old : Family) (text : Option (List ℕ)) (list : List Outcome) (number : ℕ) (step : Step) (ins : List (List ℕ)) (line : List ℕ) (well : Bool) (fam fam2 : Family) (disk disk2 : Option Disk) (written written2 : Option (List ℕ))
-    → IsDue u made list number step → Stands u old text list fam disk written → fam.running ≡ [] → AllPairs Before ins → ((path : List ℕ) → Contains ins path ↔ Contains step.ins path) → line ≡ start_line step
-    → HasRunChild made number step ins line well fam disk written fam2 disk2 written2 → HasEndedChild u old text list well fam2 disk2 written2
-come_at u made old text list number step ins line well fam fam2 disk disk2 written written2 due s idle rising same line_is ran =
-    has_ended_child u made old text list step ins line well fam fam2 disk disk2 written written2 (subst (λ n. IsDue u made list n step) due.place due) s idle rising same line_is
-    (subst (λ n. HasRunChild made n step ins line well fam disk written fam2 disk2 written2) due.place ran)
+pub come_at : (u : Update) (made : Made) (entry : Moment) (list : List Outcome) (number : ℕ) (step : Step) (ins : List (List ℕ)) (line : List ℕ) (well : Bool) (here there : Moment)
+    → IsDue u made list number step → Stands u entry list here → here.host.children.running ≡ [] → AllPairs Before ins → ((path : List ℕ) → Contains ins path ↔ Contains step.ins path) → line ≡ start_line step
+    → HasRunChild made number step ins line well here there → HasEndedChild u entry list well there
+come_at u made entry list number step ins line well here there due s idle rising same line_is ran =
+    has_ended_child u made entry list step ins line well here there (subst (λ n. IsDue u made list n step) due.place due) s idle rising same line_is
+    (subst (λ n. HasRunChild made n step ins line well here there) due.place ran)
 
-pub stopped_at : (u : Update) (made : List ℕ → List (List ℕ × List ℕ) → List ℕ → List ℕ) (old : Family) (text : Option (List ℕ)) (list : List Outcome) (number : ℕ) (step : Step) (ins : List (List ℕ)) (line : List ℕ) (stop : Stop) (fam fam2 : Family) (disk disk2 : Option Disk) (written written2 : Option (List ℕ))
-    → IsDue u made list number step → Stands u old text list fam disk written → fam.running ≡ [] → AllPairs Before ins → ((path : List ℕ) → Contains ins path ↔ Contains step.ins path) → line ≡ start_line step
-    → HasStopped made number step ins line stop fam disk written fam2 disk2 written2 → Stopped u old text stop fam2 disk2 written2
-stopped_at u made old text list number step ins line stop fam fam2 disk disk2 written written2 due s idle rising same line_is ran =
-    has_stopped u made old text list step ins line stop fam fam2 disk disk2 written written2 (subst (λ n. IsDue u made list n step) due.place due) s idle rising same line_is
-    (subst (λ n. HasStopped made n step ins line stop fam disk written fam2 disk2 written2) due.place ran)
+pub stopped_at : (u : Update) (made : Made) (entry : Moment) (list : List Outcome) (number : ℕ) (step : Step) (ins : List (List ℕ)) (line : List ℕ) (stop : Stop) (here there : Moment)
+    → IsDue u made list number step → Stands u entry list here → here.host.children.running ≡ [] → AllPairs Before ins → ((path : List ℕ) → Contains ins path ↔ Contains step.ins path) → line ≡ start_line step
+    → HasStopped made number step ins line stop here there → Stopped u entry stop there
+stopped_at u made entry list number step ins line stop here there due s idle rising same line_is ran =
+    has_stopped u made entry list step ins line stop here there (subst (λ n. IsDue u made list n step) due.place due) s idle rising same line_is
+    (subst (λ n. HasStopped made n step ins line stop here there) due.place ran)
 
-pub due_at : (u : Update) (made : List ℕ → List (List ℕ × List ℕ) → List ℕ → List ℕ) (list : List Outcome) (number : ℕ) (step : Step) → IsDue u made list number step → step_at u.build.steps (length list + 1) ≡ Some step
+pub due_at : (u : Update) (made : Made) (list : List Outcome) (number : ℕ) (step : Step) → IsDue u made list number step → step_at u.build.steps (length list + 1) ≡ Some step
 due_at u made list number step due = subst (λ n. step_at u.build.steps n ≡ Some step) due.place due.at
 
 -- an input that can be read is a source, or its maker has settled
@@ -116,6 +135,6 @@ unreadable_input u lacks p list step at path c blocked = go (maker_of u.build.st
         inr (k, other, makes, lacking k o is_o b)
 
 -- the next step is skipped, since an input cannot be read
-pub skip_next : (u : Update) (lacks : List (List ℕ)) → IsPrepared u lacks → (old : Family) (text : Option (List ℕ)) (list : List Outcome) (fam : Family) (disk : Option Disk) (written : Option (List ℕ)) → Stands u old text list fam disk written → (step : Step) → step_at u.build.steps (length list + 1) ≡ Some step
-    → (path : List ℕ) → Contains step.ins path → (IsReadable u.build.steps lacks list path → ⊥) → Stands u old text (list ++ outcomes.Skipped ∷ []) fam disk written
-skip_next u lacks p old text list fam disk written s step at path c blocked = stands_skipped u old text list fam disk written s step at path c (unreadable_input u lacks p list step at path c blocked)
+pub skip_next : (u : Update) (lacks : List (List ℕ)) → IsPrepared u lacks → (entry : Moment) (list : List Outcome) (here : Moment) → Stands u entry list here → (step : Step) → step_at u.build.steps (length list + 1) ≡ Some step
+    → (path : List ℕ) → Contains step.ins path → (IsReadable u.build.steps lacks list path → ⊥) → Stands u entry (list ++ outcomes.Skipped ∷ []) here
+skip_next u lacks p entry list here s step at path c blocked = stands_skipped u entry list here s step at path c (unreadable_input u lacks p list step at path c blocked)

@@ -6,7 +6,7 @@ use Rattle.b2_host.specs.Disks.{File, Disk, without}
 use Rattle.b2_host.specs.ChildProcesses.{BothTold}
 use Rattle.b2_host.specs.Outside.{Outside, Fails}
 use Rattle.b2_host.specs.FileCalls.{removed}
-use Rattle.b2_update.specs.Outputs.{KeepsOthers, AreGone}
+use Rattle.b2_update.specs.Outputs.{KeepsOthers, AreGone, Clears}
 use Rattle.b2_update.proofs.ListLemmas.{taken_more, taken_old, taken_new, taken_in}
 use Rattle.b2_update.proofs.MakerLemmas.{same_bytes}
 
@@ -28,13 +28,7 @@ bytes_itself x = grind (arith, bytes_eq-Decides)
 without_at : (p path : List ℕ) (disk : Disk) → p ≡ path → (without p disk).now path ≡ None
 without_at p path disk e = ap (λ b. cond b None (disk.now path)) (subst (λ z. bytes_eq p z ≡ true) e (bytes_itself p))
 
--- one path more may have been removed
-kept_same : (outs : List (List ℕ)) (i : ℕ) (d : List ℕ) (x y : Option Disk) → i < length outs → BothTold (KeepsOthers (take i outs)) x y → BothTold (KeepsOthers (take (i + 1) outs)) x y
-kept_same outs i d None None h k = tt
-kept_same outs i d None (Some y) h k = absurd k
-kept_same outs i d (Some x) None h k = absurd k
-kept_same outs i d (Some x) (Some y) h k = λ path none. k path (λ c. none (taken_old outs i d path h c))
-
+-- one path more is removed, and the others are kept
 kept_without : (outs : List (List ℕ)) (i : ℕ) (d : List ℕ) (x y : Option Disk) → i < length outs → BothTold (KeepsOthers (take i outs)) x y → BothTold (KeepsOthers (take (i + 1) outs)) x (option_map (without (get_or outs i d)) y)
 kept_without outs i d None None h k = tt
 kept_without outs i d None (Some y) h k = absurd k
@@ -42,11 +36,7 @@ kept_without outs i d (Some x) None h k = absurd k
 kept_without outs i d (Some x) (Some y) h k = λ path none.
     without_other (get_or outs i d) path y (λ e. none (subst (λ z. Contains (take (i + 1) outs) z) e (taken_new outs i d h))) ∙ k path (λ c. none (taken_old outs i d path h c))
 
-pub kept_more : (outs : List (List ℕ)) (i : ℕ) (d : List ℕ) (x y z : Option Disk) → i < length outs → BothTold (KeepsOthers (take i outs)) x y → (z ≡ y) ⊎ (z ≡ option_map (without (get_or outs i d)) y) → BothTold (KeepsOthers (take (i + 1) outs)) x z
-kept_more outs i d x y z h k (inl e) = subst (λ o. BothTold (KeepsOthers (take (i + 1) outs)) x o) (sym e) (kept_same outs i d x y h k)
-kept_more outs i d x y z h k (inr e) = subst (λ o. BothTold (KeepsOthers (take (i + 1) outs)) x o) (sym e) (kept_without outs i d x y h k)
-
-pub kept_all : (outs : List (List ℕ)) (i : ℕ) (x y : Option Disk) → BothTold (KeepsOthers (take i outs)) x y → BothTold (KeepsOthers outs) x y
+kept_all : (outs : List (List ℕ)) (i : ℕ) (x y : Option Disk) → BothTold (KeepsOthers (take i outs)) x y → BothTold (KeepsOthers outs) x y
 kept_all outs i None None k = tt
 kept_all outs i None (Some y) k = absurd k
 kept_all outs i (Some x) None k = absurd k
@@ -62,7 +52,24 @@ gone_more outs i d y z h gone e = subst (λ o. IfSome o (AreGone (take (i + 1) o
       | inr e ↦ without_at (get_or outs i d) path y e
     ]
 
--- what a removal that failed leaves of the files
-pub removes_disk : (path : List ℕ) (before after : Outside) → Fails before after ⊎ Fails (removed path before) after → (after.disk ≡ before.disk) ⊎ (after.disk ≡ option_map (without path) before.disk)
-removes_disk path before after (inl f) = inl (ap (λ o. o.disk) f.same)
-removes_disk path before after (inr f) = inr (ap (λ o. o.disk) f.same)
+-- one path more is removed
+pub clears_more : (outs : List (List ℕ)) (i : ℕ) (d : List ℕ) (x y z : Outside) → i < length outs → Clears (take i outs) x y → z ≡ removed (get_or outs i d) y → Clears (take (i + 1) outs) x z
+clears_more outs i d x y z h clears e = subst (Clears (take (i + 1) outs) x) (sym e) (record {
+  others = kept_without outs i d x.disk y.disk h clears.others;
+  rest = ap (removed (get_or outs i d)) clears.rest;
+})
+
+-- the call failed over an outside where some paths are removed
+clears_fails : (outs : List (List ℕ)) (x y z : Outside) → Clears outs x y → Fails y z → Clears outs x z
+clears_fails outs x y z clears failed = subst (Clears outs x) (sym failed.same) (record {
+  others = clears.others;
+  rest = ap (λ (o : Outside). record o { faults = z.faults }) clears.rest;
+})
+
+pub clears_all : (outs : List (List ℕ)) (i : ℕ) (x y : Outside) → Clears (take i outs) x y → Clears outs x y
+clears_all outs i x y clears = record { others = kept_all outs i x.disk y.disk clears.others; rest = clears.rest }
+
+pub clears_failed : (outs : List (List ℕ)) (i : ℕ) (d path : List ℕ) (x y z : Outside) → i < length outs → path ≡ get_or outs i d → Clears (take i outs) x y → Fails y z ⊎ Fails (removed path y) z → Clears outs x z
+clears_failed outs i d path x y z h is clears (inl failed) = clears_all outs i x z (clears_fails (take i outs) x y z clears failed)
+clears_failed outs i d path x y z h is clears (inr failed) =
+    clears_all outs (i + 1) x z (clears_fails (take (i + 1) outs) x (removed path y) z (clears_more outs i d x y (removed path y) h clears (ap (λ p. removed p y) is)) failed)

@@ -1,18 +1,28 @@
-use Rattle.std.proofs.Common.{◌≡◌, ◌≢◌, ℕ, zero, suc, ◌+◌, ◌<◌, List, [], ◌++◌, length, get_or, refl, sym, ap, subst, arith, ◌∙◌, Option, Some, None, IfSome, append-nil, Result, Err, MatchResult}
+use Rattle.std.proofs.Common.{◌≡◌, ◌≢◌, ℕ, zero, suc, ◌+◌, ◌<◌, List, [], ◌++◌, length, get_or, refl, sym, ap, subst, arith, ◌∙◌, Option, Some, None, IfSome, append-nil, Result, Ok, Err, MatchResult, inl, inr}
 use Rattle.std.proofs.lemmas.Option.{slice_get_read}
 use Rattle.b2_host.specs.declared.children.ChildEvent.TheVariants.{Start, Done}
 use Rattle.b2_host.specs.Disks.{Disk, Folder}
 use Rattle.b2_host.specs.ChildProcesses.{Family, Given}
+use Rattle.b2_host.specs.Outside.{Outside}
+use Rattle.b2_host.specs.Output.{Output, with_written}
+use Rattle.b2_host.specs.Faults.{Rose}
+use Rattle.b2_host.specs.OutsideLaws.{Keeps, keeps_same, keeps_fails}
+use Rattle.b2_plan.specs.declared.plan.Plan.{Plan}
 use Rattle.b2_plan.specs.declared.step.Step.{Step}
 use Rattle.b2_plan.specs.Plans.{step_at, Apart}
 use Rattle.b2_update.specs.declared.outcome.Outcome.{Outcome}
 use Rattle.b2_update.specs.declared.stop.Stop.{Stop}
 use Rattle.b2_update.specs.declared.stop.Stop.TheVariants as stops
+use Rattle.b2_update.specs.declared.failed_lists.FailedLists.{FailedLists}
+use Rattle.b2_update.specs.declared.update_answer.UpdateAnswer.{UpdateAnswer}
+use Rattle.b2_update.specs.declared.update_answer.UpdateAnswer.TheVariants as answers
+use Rattle.b2_update.specs.Updates.{FaultsTold, IsEndOf, stop_answer}
 use Rattle.b2_update.specs.Runs.{Update}
-use Rattle.b2_update.specs.Plain.{IsPlain}
-use Rattle.b2_update.specs.Stops.{HostTold, SinkTold}
+use Rattle.b2_update.specs.Plain.{IsPlain, Made, update_of}
+use Rattle.b2_update.specs.Stops.{Says, HostTold, StopLooks, ChangesFiles, CountsStay, IsQuietHost, StopTold, CountsTold, LeavesNone, IsCalm, Halts, Proceeds}
 use Rattle.b2_update.specs.Inputs.{outcome_at}
-use Rattle.b2_update.specs.Progress.{IsWhole, Stands, Stopped, GoesOn, update_of}
+use Rattle.b2_update.specs.Progress.{IsWhole, Stands, Stopped, GoesOn}
+use Rattle.b2_update.specs.Moments.{Moment, moment}
 use Rattle.b2_update.proofs.ListLemmas.{Contains-nil}
 use Rattle.b2_update.proofs.WritingLemmas.{adds_nothing}
 
@@ -25,15 +35,15 @@ no_outcome zero o e = let f : None ≡ Some o = e in cc
 no_outcome (suc place) o e = let f : None ≡ Some o = e in cc
 
 -- an update begins with no outcome
-pub stands_begin : (u : Update) (fam : Family) (disk : Option Disk) (written : Option (List ℕ)) (before : Disk) → disk ≡ Some before → u.build.folder ≡ before.now → Stands u fam written [] fam disk written
-stands_begin u fam disk written before now_is folder = record {
+pub stands_begin : (u : Update) (entry : Moment) (before : Disk) → entry.host.disk ≡ Some before → u.build.folder ≡ before.now → Stands u entry [] entry
+stands_begin u entry before now_is folder = record {
   now = before;
   now_is = now_is;
   events = [];
   core = record {
-    events_are = sym (append-nil fam.events);
+    events_are = sym (append-nil entry.host.children.events);
     given = [];
-    given_are = given_none fam.given;
+    given_are = given_none entry.host.children.given;
     run = tt;
     begun = λ i well c. absurd (Contains-nil (Done i well) c);
     fed = tt;
@@ -43,12 +53,12 @@ stands_begin u fam disk written before now_is folder = record {
   even = refl;
   within = λ i c. absurd (Contains-nil (Start i) c);
   settled = refl;
-  lines = adds_nothing written;
+  lines = adds_nothing entry.out.written;
 }
 
 -- the update of a plain plan is whole
-pub whole_update : (steps : List Step) (wanted roots : List (List ℕ)) (made : List ℕ → List (List ℕ × List ℕ) → List ℕ → List ℕ) (before : Folder) → Apart steps roots → IsPlain steps wanted → IsWhole (update_of steps wanted roots made before)
-whole_update steps wanted roots made before apart plain = record {
+pub whole_update : (plan : Plan) (made : Made) (before : Folder) → Apart plan.steps plan.roots → IsPlain plan.steps plan.wanted → IsWhole (update_of plan made before)
+whole_update plan made before apart plain = record {
   apart = apart;
   plain = plain;
   inc = λ path bytes. refl;
@@ -58,16 +68,21 @@ whole_update steps wanted roots made before apart plain = record {
 }
 
 -- where a sink stops, the host does not
-pub sink_stops : (sink after : ℕ) (stop : Stop) → SinkTold {T = Unit {0}} sink after (Err stop) → stop ≢ stops.Host
-sink_stops sink after stops.Host told e = told
-sink_stops sink after stops.Sink told e = let f : stops.Sink ≡ stops.Host = e in cc
-sink_stops sink after stops.OutOfMemory told e = let f : stops.OutOfMemory ≡ stops.Host = e in cc
+pub says_stops : (text : List ℕ) (before after : Output) (stop : Stop) → Says {T = Unit {0}} text before after (Err stop) → stop ≢ stops.Host
+says_stops text before after stops.Host told e = told
+says_stops text before after stops.Sink told e = let f : stops.Sink ≡ stops.Host = e in cc
+says_stops text before after stops.OutOfMemory told e = let f : stops.OutOfMemory ≡ stops.Host = e in cc
 
 -- where the host or memory stops, the sink does not
-pub host_stops : (host after : ℕ) (stop : Stop) → HostTold {T = Unit {0}} host after (Err stop) → stop ≢ stops.Sink
-host_stops host after stops.Host told e = let f : stops.Host ≡ stops.Sink = e in cc
-host_stops host after stops.Sink told e = told
-host_stops host after stops.OutOfMemory told e = let f : stops.OutOfMemory ≡ stops.Sink = e in cc
+pub host_stops : (before after : Outside) (stop : Stop) → HostTold {T = Unit {0}} before after (Err stop) → stop ≢ stops.Sink
+host_stops before after stops.Host told e = let f : stops.Host ≡ stops.Sink = e in cc
+host_stops before after stops.Sink told e = told
+host_stops before after stops.OutOfMemory told e = let f : stops.OutOfMemory ≡ stops.Sink = e in cc
+
+pub look_stops : (before after : Outside) (stop : Stop) → StopLooks {T = Unit {0}} before after (Err stop) → stop ≢ stops.Sink
+look_stops before after stops.Host told e = let f : stops.Host ≡ stops.Sink = e in cc
+look_stops before after stops.Sink told e = told
+look_stops before after stops.OutOfMemory told e = let f : stops.OutOfMemory ≡ stops.Sink = e in cc
 
 pub no_sink : (stop : Stop) → stop ≡ stops.OutOfMemory → stop ≢ stops.Sink
 no_sink stop e f = let g : stops.OutOfMemory ≡ stops.Sink = sym e ∙ f in cc
@@ -76,8 +91,8 @@ pub memory_stops : (stop : Stop) → stop ≡ stops.OutOfMemory → stop ≢ sto
 memory_stops stop e f = let g : stops.OutOfMemory ≡ stops.Host = sym e ∙ f in cc
 
 -- what goes on is known from the result
-pub goes_err : (u : Update) (old : Family) (text : Option (List ℕ)) (list : List Outcome) (r : Result Outcome Stop) (fam : Family) (disk : Option Disk) (written : Option (List ℕ)) (stop : Stop) → r ≡ Err stop → Stopped u old text stop fam disk written → GoesOn u old text list r fam disk written
-goes_err u old text list r fam disk written stop e s = subst (λ z. GoesOn u old text list z fam disk written) (sym e) s
+pub goes_err : (u : Update) (entry : Moment) (list : List Outcome) (r : Result Outcome Stop) (here : Moment) (stop : Stop) → r ≡ Err stop → Stopped u entry stop here → GoesOn u entry list r here
+goes_err u entry list r here stop e s = subst (λ z. GoesOn u entry list z here) (sym e) s
 
 -- the next step of a plan, by the number of outcomes
 pub next_step : (steps : List Step) (n i : ℕ) (step : Step) → n ≡ i → i < length steps → step ≡ get_or steps i step → step_at steps (n + 1) ≡ Some step
@@ -87,3 +102,113 @@ next_step steps n i step size within is =
 
 pub match_err : {T E : Type 0} (r : Result T E) (P : T → Type 0) (Q : E → Type 0) (y : E) → r ≡ Err y → Q y → MatchResult r P Q
 match_err r P Q y e q = subst (λ z. MatchResult z P Q) (sym e) q
+
+-- a look at the host that stopped: what it leaves, and how the counts stand
+look_children : (before after : Outside) (stop : Stop) → StopLooks {T = Unit {0}} before after (Err stop) → after.children ≡ before.children
+look_children before after stops.Host failed = ap (λ (o : Outside). o.children) failed.same
+look_children before after stops.Sink told = absurd told
+look_children before after stops.OutOfMemory same = ap (λ (o : Outside). o.children) same
+
+pub look_told : (before after : Outside) (out : Output) (stop : Stop) → StopLooks {T = Unit {0}} before after (Err stop) → StopTold (moment before out) (moment after out) stop
+look_told before after out stops.Host failed = (failed.rose, refl)
+look_told before after out stops.Sink told = absurd told
+look_told before after out stops.OutOfMemory same = (refl, inl (ap (λ (o : Outside). o.faults) same))
+
+pub look_files : (before after : Outside) (stop : Stop) → StopLooks {T = Unit {0}} before after (Err stop) → ChangesFiles before after
+look_files before after stops.Host failed = subst (ChangesFiles before) (sym failed.same) refl
+look_files before after stops.Sink told = absurd told
+look_files before after stops.OutOfMemory same = subst (ChangesFiles before) (sym same) refl
+
+pub look_keeps : (before after : Outside) (stop : Stop) → StopLooks {T = Unit {0}} before after (Err stop) → Keeps before after
+look_keeps before after stops.Host failed = keeps_fails before after failed
+look_keeps before after stops.Sink told = absurd told
+look_keeps before after stops.OutOfMemory same = keeps_same before after same
+
+pub counts_err : {T : Type 0} (before after : Moment) (r : Result T Stop) (stop : Stop) → r ≡ Err stop → StopTold before after stop → CountsTold before after r
+counts_err before after r stop e told = subst (λ z. CountsTold before after z) (sym e) told
+
+pub halts_err : {T : Type 0} (before after : Moment) (r : Result T Stop) (stop : Stop) → r ≡ Err stop → Halts before after stop → Proceeds before after r
+halts_err before after r stop e halts = subst (λ z. Proceeds before after z) (sym e) halts
+
+pub look_halts : (before after : Outside) (out : Output) (stop : Stop) → before.children.running ≡ [] → StopLooks {T = Unit {0}} before after (Err stop) → Halts (moment before out) (moment after out) stop
+look_halts before after out stop idle looked = record {
+  counts = look_told before after out stop looked;
+  none_left = inl (ap (λ (f : Family). f.running) (look_children before after stop looked) ∙ idle);
+}
+
+-- no child runs, and nothing happens
+pub calm_here : (here : Moment) → here.host.children.running ≡ [] → IsCalm here here
+calm_here here idle = record { counts = record { host = refl; sink = refl }; waits = refl; idle = idle }
+
+-- all went well, and then again
+pub calm_again : (x y z : Moment) → IsCalm x y → IsCalm y z → IsCalm x z
+calm_again x y z a b = record {
+  counts = record { host = b.counts.host ∙ a.counts.host; sink = b.counts.sink ∙ a.counts.sink };
+  waits = b.waits ∙ a.waits;
+  idle = b.idle;
+}
+
+quiet_later : (x y z : Moment) → CountsStay x y → IsQuietHost y.host z.host → IsQuietHost x.host z.host
+quiet_later x y z stay (inl same) = inl (same ∙ stay.host)
+quiet_later x y z stay (inr left) = inr left
+
+-- all went well, and then it stopped
+told_later : (x y z : Moment) (stop : Stop) → CountsStay x y → StopTold y z stop → StopTold x z stop
+told_later x y z stops.Host stay (rose, same) = (subst (λ n. Rose n z.host.faults) stay.host rose, same ∙ stay.sink)
+told_later x y z stops.Sink stay (rose, quiet) = (subst (λ n. Rose n z.out.faults) stay.sink rose, quiet_later x y z stay quiet)
+told_later x y z stops.OutOfMemory stay (same, quiet) = (same ∙ stay.sink, quiet_later x y z stay quiet)
+
+pub calm_halts : (x y z : Moment) (stop : Stop) → IsCalm x y → Halts y z stop → Halts x z stop
+calm_halts x y z stop calm halts = record { counts = told_later x y z stop calm.counts halts.counts; none_left = left halts.none_left }
+  where
+    left : LeavesNone y.host z.host → LeavesNone x.host z.host
+    left (inl none) = inl none
+    left (inr failed) = inr (record { faults = subst (λ n. Rose n z.host.faults) calm.counts.host failed.faults; waits = subst (λ n. Rose n z.host.failed_waits) calm.waits failed.waits })
+
+-- all went well, and then something that changes the files alone
+pub calm_then : {T : Type 0} (x y z : Moment) (r : Result T Stop) → IsCalm x y → CountsTold y z r → ChangesFiles y.host z.host → Proceeds x z r
+calm_then x y z (Ok v) calm counts files = record {
+  counts = record { host = counts.host ∙ calm.counts.host; sink = counts.sink ∙ calm.counts.sink };
+  waits = ap (λ (o : Outside). o.failed_waits) files ∙ calm.waits;
+  idle = ap (λ (o : Outside). o.children.running) files ∙ calm.idle;
+}
+calm_then x y z (Err stop) calm counts files = record {
+  counts = told_later x y z stop calm.counts counts;
+  none_left = inl (ap (λ (o : Outside). o.children.running) files ∙ calm.idle);
+}
+
+-- all went well, and then no memory was left
+pub calm_memory : (x y : Moment) (stop : Stop) → stop ≡ stops.OutOfMemory → IsCalm x y → Halts x y stop
+calm_memory x y stop e calm = subst (λ z. Halts x y z) (sym e) (record { counts = (calm.counts.sink, inl calm.counts.host); none_left = inl calm.idle })
+
+-- all went well, and then a text was written, or its writing stopped
+pub calm_says : (x y : Moment) (out : Output) (text : List ℕ) (stop : Stop) → IsCalm x y → Says {T = Unit {0}} text y.out out (Err stop) → Halts x (moment y.host out) stop
+calm_says x y out text stop calm says = record { counts = told stop says; none_left = inl calm.idle }
+  where
+    told : (stop : Stop) → Says {T = Unit {0}} text y.out out (Err stop) → StopTold x (moment y.host out) stop
+    told stops.Host t = absurd t
+    told stops.Sink t = (subst (λ n. Rose n out.faults) calm.counts.sink t.0, inl calm.counts.host)
+    told stops.OutOfMemory t = (t.0 ∙ calm.counts.sink, inl calm.counts.host)
+
+pub calm_said : (x y : Moment) (out : Output) (text : List ℕ) → IsCalm x y → out ≡ with_written text y.out → IsCalm x (moment y.host out)
+calm_said x y out text calm said = record {
+  counts = record { host = calm.counts.host; sink = ap (λ (o : Output). o.faults) said ∙ calm.counts.sink };
+  waits = calm.waits;
+  idle = calm.idle;
+}
+
+-- how the counts stand to the answer of an update
+pub finished_counts : (before after : Moment) (lists : FailedLists) (answer : UpdateAnswer) → IsEndOf lists answer → IsCalm before after → FaultsTold before after answer
+finished_counts before after lists answers.Done end calm = calm.counts
+finished_counts before after lists (answers.Failed others) end calm = calm.counts
+finished_counts before after lists answers.HostFault end calm = absurd end
+finished_counts before after lists answers.SinkFault end calm = absurd end
+finished_counts before after lists answers.OutOfMemory end calm = absurd end
+
+pub stopped_counts : (before after : Moment) (stop : Stop) (answer : UpdateAnswer) → answer ≡ stop_answer stop → Halts before after stop → FaultsTold before after answer
+stopped_counts before after stop answer is halts = subst (FaultsTold before after) (sym is) (go stop halts.counts)
+  where
+    go : (stop : Stop) → StopTold before after stop → FaultsTold before after (stop_answer stop)
+    go stops.Host told = told
+    go stops.Sink told = told
+    go stops.OutOfMemory told = told

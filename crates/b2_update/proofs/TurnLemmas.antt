@@ -4,7 +4,6 @@ use Rattle.std.proofs.lemmas.List.Quantifiers.{all_pairs_push}
 use Rattle.std.proofs.lemmas.List.Elements.{Contains-push_cases, Contains-append_left, Contains-push, Contains-get_or, filter_map-append}
 use Rattle.b2_host.specs.declared.children.ChildEvent.{ChildEvent}
 use Rattle.b2_host.specs.declared.children.ChildEvent.TheVariants.{Start, Done}
-use Rattle.b2_host.specs.Disks.{Disk}
 use Rattle.b2_host.specs.ChildProcesses.{Family, Child, Given, given_at}
 use Rattle.b2_plan.specs.declared.step.Step.{Step}
 use Rattle.b2_update.specs.declared.failed_lists.FailedLists.{FailedLists}
@@ -16,7 +15,11 @@ use Rattle.b2_update.specs.declared.update_answer.UpdateAnswer.{UpdateAnswer}
 use Rattle.b2_update.specs.declared.update_answer.UpdateAnswer.TheVariants as answers
 use Rattle.b2_update.specs.Runs.{IsOpen, started}
 use Rattle.b2_update.specs.Inputs.{AreListed}
-use Rattle.b2_update.specs.Runners.{ChildHasEnded, IsDrained, HasRunChild, HasStopped, started as begun}
+use Rattle.b2_host.specs.Outside.{Outside}
+use Rattle.b2_host.specs.ChildCalls.{Awaits}
+use Rattle.b2_update.specs.Moments.{Moment}
+use Rattle.b2_update.specs.Plain.{Made}
+use Rattle.b2_update.specs.Runners.{HasWaited, HasRunChild, HasStopped, started as begun}
 use Rattle.b2_update.specs.Updates.{stop_answer, IsEndOf}
 use Rattle.b2_update.specs.Turns.{AreInTurn, WasDone, HasTurns, failed_of, TookTurn, TurnTold, HadTurns, TurnsOn}
 use Rattle.b2_update.proofs.ListLemmas.{Contains-nil}
@@ -196,32 +199,27 @@ turn_any number old new (Ok outcomes.Skipped) t = inr t
 turn_any number old new (Err stop) t = inr (inr t)
 
 -- the child that was started has ended
-ended_turn : (made : List ℕ → List (List ℕ × List ℕ) → List ℕ → List ℕ) (number : ℕ) (step : Step) (ins : List (List ℕ)) (old : Family) (before middle : Option Disk) (well : Bool) (new : Family) (after : Option Disk)
-    → old.running ≡ [] → ChildHasEnded made (begun number step ins before old) middle well new after → TookTurn number old.events new.events
-ended_turn made number step ins old before middle well new after none ended =
-    let e = ended.ends in
-    let given : Option Given = option_map (given_at number step.text ins step.outs) before in
+ended_turn : (made : Made) (number : ℕ) (step : Step) (ins : List (List ℕ)) (before after : Outside) (which : ℕ) (well : Bool) → before.children.running ≡ [] → Awaits made (begun number step ins before) which well after → TookTurn number before.children.events after.children.events
+ended_turn made number step ins before after which well none ended =
+    let e = ended.ended in
+    let given : Option Given = option_map (given_at number step.text ins step.outs) before.disk in
     let child : Child = record { step = number; ins = ins; outs = step.outs; given = given } in
-    let which : number ≡ ended.step = ap (λ (c : Child). c.step) (only_child old.running child e.child e.place none e.ran) ∙ e.step_is in
-    (well, subst (λ n. new.events ≡ (old.events ++ Start number ∷ []) ++ Done n well ∷ []) (sym which) e.events ∙ append_assoc old.events (Start number ∷ []) (Done number well ∷ []))
+    let this_one : number ≡ which = ap (λ (c : Child). c.step) (only_child before.children.running child e.child e.place none e.ran) ∙ e.step_is in
+    (well, subst (λ n. after.children.events ≡ (before.children.events ++ Start number ∷ []) ++ Done n well ∷ []) (sym this_one) e.events ∙ append_assoc before.children.events (Start number ∷ []) (Done number well ∷ []))
 
-pub ran_turn : (made : List ℕ → List (List ℕ × List ℕ) → List ℕ → List ℕ) (number : ℕ) (step : Step) (ins : List (List ℕ)) (line : List ℕ) (well : Bool) (old : Family) (before : Option Disk) (text : Option (List ℕ)) (new : Family) (after : Option Disk) (text_after : Option (List ℕ))
-    → old.running ≡ [] → HasRunChild made number step ins line well old before text new after text_after → TookTurn number old.events new.events
-ran_turn made number step ins line well old before text new after text_after none ran = ended_turn made number step ins old before before well new after none ran.ended
+pub ran_turn : (made : Made) (number : ℕ) (step : Step) (ins : List (List ℕ)) (line : List ℕ) (well : Bool) (before after : Moment) → before.host.children.running ≡ [] → HasRunChild made number step ins line well before after → TookTurn number before.host.children.events after.host.children.events
+ran_turn made number step ins line well before after none ran = ended_turn made number step ins before.host after.host ran.which well none ran.ended
 
-drained_turn : (made : List ℕ → List (List ℕ × List ℕ) → List ℕ → List ℕ) (number : ℕ) (step : Step) (ins : List (List ℕ)) (old : Family) (before : Option Disk) (new : Family) (after : Option Disk) (stop : Stop)
-    → old.running ≡ [] → IsDrained made (begun number step ins before old) before new after → TurnTold number old.events new.events (Err stop)
-drained_turn made number step ins old before new after stop none drained = elim drained.ended [
-  | inl same ↦ inr (inl (ap (λ (f : Family). f.events) same))
-  | inr (middle, well, ended) ↦ inr (inr (ended_turn made number step ins old before middle well new after none ended))
-]
+waited_turn : (made : Made) (number : ℕ) (step : Step) (ins : List (List ℕ)) (before after : Outside) (stop : Stop) → before.children.running ≡ [] → HasWaited made (begun number step ins before) after → TurnTold number before.children.events after.children.events (Err stop)
+waited_turn made number step ins before after stop none (inr failed) = inr (inl (ap (λ (o : Outside). o.children.events) failed.same))
+waited_turn made number step ins before after stop none (inl (which, well, ended)) = inr (inr (ended_turn made number step ins before after which well none ended))
 
-pub stop_turn : (made : List ℕ → List (List ℕ × List ℕ) → List ℕ → List ℕ) (number : ℕ) (step : Step) (ins : List (List ℕ)) (line : List ℕ) (stop : Stop) (old : Family) (before : Option Disk) (text : Option (List ℕ)) (new : Family) (after : Option Disk) (text_after : Option (List ℕ)) (r : Result Outcome Stop)
-    → r ≡ Err stop → old.running ≡ [] → HasStopped made number step ins line stop old before text new after text_after → TurnTold number old.events new.events r
-stop_turn made number step ins line stop old before text new after text_after r is none stopped = subst (TurnTold number old.events new.events) (sym is) (elim stopped.at [
-  | inl (other, same, disk, written) ↦ inl (ap (λ (f : Family). f.events) same)
-  | inr (inl (other, drained, part)) ↦ drained_turn made number step ins old before new after stop none drained
-  | inr (inr (other, drained, told)) ↦ drained_turn made number step ins old before new after stop none drained
+pub stop_turn : (made : Made) (number : ℕ) (step : Step) (ins : List (List ℕ)) (line : List ℕ) (stop : Stop) (before after : Moment) (r : Result Outcome Stop)
+    → r ≡ Err stop → before.host.children.running ≡ [] → HasStopped made number step ins line stop before after → TurnTold number before.host.children.events after.host.children.events r
+stop_turn made number step ins line stop before after r is none stopped = subst (TurnTold number before.host.children.events after.host.children.events) (sym is) (elim stopped.at [
+  | inl (other, same) ↦ inl (ap (λ (f : Family). f.events) same.children)
+  | inr (inl (other, waited, part)) ↦ waited_turn made number step ins before.host after.host stop none waited
+  | inr (inr (other, waited, told)) ↦ waited_turn made number step ins before.host after.host stop none waited
 ])
 
 -- what the answer of an update says of the turns

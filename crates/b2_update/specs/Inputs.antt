@@ -1,8 +1,8 @@
-use Rattle.std.specs.Prelude.{◌≡◌, ℕ, zero, suc, List, Option, Some, None, slice_get, Bool, true, false}
+use Rattle.std.specs.Prelude.{◌≡◌, ◌↔◌, ℕ, zero, suc, List, Option, Some, None, slice_get, Bool, true, false}
 use Rattle.std.specs.List.{Contains}
 use Rattle.b2_plan.specs.declared.step.Step.{Step}
 use Rattle.b2_plan.specs.Plans.{step_at, maker_of}
-use Rattle.b2_plan.specs.Sources.{Build, IsMissing}
+use Rattle.b2_plan.specs.Sources.{Build, IsSource, IsMissing}
 use Rattle.b2_update.specs.declared.failed_lists.FailedLists.{FailedLists}
 use Rattle.b2_update.specs.Outcomes.{IsListOf}
 use Rattle.b2_update.specs.declared.outcome.Outcome.{Outcome}
@@ -14,6 +14,14 @@ pub record IsInput (steps : List Step) (path : List ℕ) : Type 0 where
   pub step : Step
   pub at : step_at steps number ≡ Some step
   pub among : Contains step.ins path
+
+-- the path is a source
+abbrev pub IsSomeSource : Build → List ℕ → Type 0
+IsSomeSource b path = (bytes : List ℕ) × IsSource b path bytes
+
+-- these are the missing ones among the paths
+abbrev pub AreMissingAmong : Build → List (List ℕ) → List (List ℕ) → Type 0
+AreMissingAmong b paths missing_ones = (path : List ℕ) → Contains missing_ones path ↔ (Contains paths path × IsMissing b path)
 
 -- a step reads the path, and it is missing
 pub record IsMissingInput (b : Build) (path : List ℕ) : Type 0 where

@@ -3,6 +3,8 @@ pub mod Outcomes
 pub mod Reports
 pub mod Plain
 pub mod Updates
+pub mod Moments
+pub mod Writings
 pub mod Stops
 pub mod Inputs
 pub mod Runners

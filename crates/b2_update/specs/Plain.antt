@@ -2,6 +2,7 @@ use Rattle.std.specs.Prelude.{◌≡◌, ℕ, ◌<◌, true, false, List, [], So
 use Rattle.std.specs.List.{Contains}
 use Rattle.b2_host.specs.Disks.{Folder}
 use Rattle.b2_plan.specs.declared.step.Step.{Step}
+use Rattle.b2_plan.specs.declared.plan.Plan.{Plan}
 use Rattle.b2_plan.specs.Plans.{step_at, Makes}
 use Rattle.b2_plan.specs.Sources.{Build}
 use Rattle.b2_update.specs.Runs.{Update}
@@ -14,10 +15,22 @@ pub record IsPlain (steps : List Step) (wanted : List (List ℕ)) : Type 0 where
   pub wanted_made : (path : List ℕ) → Contains wanted path → (i : ℕ) × (step : Step) × Makes steps i step path
   pub leaves_files : (i : ℕ) (step : Step) → step_at steps i ≡ Some step → step.notfile ≡ false
 
+-- what a text makes of named inputs, at an output
+abbrev pub Made : Type 0
+Made = List ℕ → List (List ℕ × List ℕ) → List ℕ → List ℕ
+
 -- The clean build of a plan from the files at entry, whose inputs are those that the steps name: no file is scanned.
-abbrev pub build_of : List Step → List (List ℕ) → List (List ℕ) → (List ℕ → List (List ℕ × List ℕ) → List ℕ → List ℕ) → Folder → Build
+abbrev pub build_of : List Step → List (List ℕ) → List (List ℕ) → Made → Folder → Build
 build_of steps wanted roots made folder = record { steps = steps; wanted = wanted; roots = roots; folder = folder; inc = λ path bytes. []; looks = λ dirs path include. []; made = made }
 
 -- the update that runs every step that it needs, one at a time
 abbrev pub update_all : Build → Update
 update_all build = record { build = build; stale = λ events i members. true; quit = false; jobs = 1 }
+
+-- the clean build of a plan from these files
+abbrev pub plan_build : Plan → Made → Folder → Build
+plan_build plan made folder = build_of plan.steps plan.wanted plan.roots made folder
+
+-- the update of a plan from these files
+abbrev pub update_of : Plan → Made → Folder → Update
+update_of plan made folder = update_all (plan_build plan made folder)

@@ -58,9 +58,13 @@ is_good_end (Done i well) = well
 abbrev pub summary_line : ℕ → FailedLists → List ℕ
 summary_line updated lists = line (codes "updated " ++ decimal updated ++ codes ", failed " ++ decimal (length lists.failed) ++ codes ", skipped " ++ decimal (length lists.skipped) ++ codes ", missing " ++ decimal (length lists.missing))
 
+-- what is said of the steps that were skipped
+abbrev pub skipped_lines : List Step → List ℕ → List ℕ
+skipped_lines steps numbers = flat_map (λ i. said_of skipped_line (step_at steps i)) numbers
+
 -- what is told at the end of a run that updated so many steps: what is missing, what was skipped, and how many there are
 abbrev pub end_lines : List Step → ℕ → FailedLists → List ℕ
-end_lines steps updated lists = flat_map missing_line lists.missing ++ flat_map (λ i. said_of skipped_line (step_at steps i)) lists.skipped ++ summary_line updated lists
+end_lines steps updated lists = flat_map missing_line lists.missing ++ skipped_lines steps lists.skipped ++ summary_line updated lists
 
 -- the report of a whole run
 abbrev pub report : List Step → List ChildEvent → FailedLists → List ℕ

@@ -1,49 +1,54 @@
-use Rattle.std.specs.Prelude.{◌≡◌, ◌≢◌, ℕ, Bool, List, [], ◌∷◌, ◌++◌, Option, ◌⊎◌}
-use Rattle.std.specs.Option.{option_map}
-use Rattle.b2_host.specs.Disks.{Disk}
-use Rattle.b2_host.specs.ChildProcesses.{Family, Child, Ends, ChangesOnlyOutputs, BothTold, after_start}
+use Rattle.std.specs.Prelude.{◌≡◌, ◌≢◌, ℕ, Bool, List, [], ◌∷◌, Result, Ok, Err, ◌⊎◌}
+use Rattle.b2_host.specs.ChildProcesses.{Child}
+use Rattle.b2_host.specs.Outside.{Outside}
+use Rattle.b2_host.specs.ChildCalls.{Awaits, AwaitFails, started as after_start}
 use Rattle.b2_plan.specs.declared.step.Step.{Step}
 use Rattle.b2_update.specs.declared.stop.Stop.{Stop}
 use Rattle.b2_update.specs.declared.stop.Stop.TheVariants as stops
-
--- the text was written
-abbrev pub Adds : List ℕ → Option (List ℕ) → Option (List ℕ) → Type 0
-Adds text before after = after ≡ option_map (λ so_far. so_far ++ text) before
-
--- the beginning of the text was written
-pub record AddsPart (text : List ℕ) (before after : Option (List ℕ)) : Type 0 where
-  pub part : List ℕ
-  pub rest : List ℕ
-  pub whole : text ≡ part ++ rest
-  pub adds : Adds part before after
+use Rattle.b2_update.specs.Moments.{Moment}
+use Rattle.b2_update.specs.Plain.{Made}
+use Rattle.b2_update.specs.Writings.{Adds, AddsPart}
 
 -- one child runs
 pub record RunsOne (running : List Child) : Type 0 where
   pub child : Child
   pub is : running ≡ child ∷ []
 
--- the child that ran has ended, and none runs
-pub record ChildHasEnded (made : List ℕ → List (List ℕ × List ℕ) → List ℕ → List ℕ) (old : Family) (before : Option Disk) (well : Bool) (new : Family) (after : Option Disk) : Type 0 where
-  pub step : ℕ
-  pub ends : Ends made old before step well new after
+-- a wait was answered: a child has ended, or the wait failed
+abbrev pub HasWaited : Made → Outside → Outside → Type 0
+HasWaited made before after = ((which : ℕ) × (well : Bool) × Awaits made before which well after) ⊎ AwaitFails before after
 
--- The child that ran was waited for: it has ended, or runs on.
-pub record IsDrained (made : List ℕ → List (List ℕ × List ℕ) → List ℕ → List ℕ) (old : Family) (before : Option Disk) (new : Family) (after : Option Disk) : Type 0 where
-  pub worked : BothTold (ChangesOnlyOutputs old.running) before after
-  pub ended : (new ≡ old) ⊎ ((middle : Option Disk) × (well : Bool) × ChildHasEnded made old middle well new after)
+-- the child that ran is waited for: it has ended, or the wait failed
+abbrev pub WaitsOne : Made → Outside → Outside → Result Bool Stop → Type 0
+WaitsOne made before after (Ok well) = (which : ℕ) × Awaits made before which well after
+WaitsOne made before after (Err stops.Host) = AwaitFails before after
+WaitsOne made before after (Err stops.Sink) = ⊥
+WaitsOne made before after (Err stops.OutOfMemory) = ⊥
 
--- the child processes when a step has started
-abbrev pub started : ℕ → Step → List (List ℕ) → Option Disk → Family → Family
-started number step ins before old = after_start number step.text ins step.outs before old
+-- the outside when a step has started
+abbrev pub started : ℕ → Step → List (List ℕ) → Outside → Outside
+started number step ins before = after_start number step.text ins step.outs before
 
 -- A step's child has started, its line was written, and it has ended.
-pub record HasRunChild (made : List ℕ → List (List ℕ × List ℕ) → List ℕ → List ℕ) (number : ℕ) (step : Step) (ins : List (List ℕ)) (line : List ℕ) (well : Bool) (old : Family) (before : Option Disk) (text : Option (List ℕ)) (new : Family) (after : Option Disk) (text_after : Option (List ℕ)) : Type 0 where
-  pub ended : ChildHasEnded made (started number step ins before old) before well new after
-  pub told : Adds line text text_after
+pub record HasRunChild (made : Made) (number : ℕ) (step : Step) (ins : List (List ℕ)) (line : List ℕ) (well : Bool) (before after : Moment) : Type 0 where
+  pub which : ℕ
+  pub ended : Awaits made (started number step ins before.host) which well after.host
+  pub told : Adds line before.out.written after.out.written
+
+-- nothing was started or written, and no file has changed
+pub record IsUnmoved (before after : Moment) : Type 0 where
+  pub children : after.host.children ≡ before.host.children
+  pub disk : after.host.disk ≡ before.host.disk
+  pub written : after.out.written ≡ before.out.written
 
 -- It stopped before the start, or after the start at the writing of the line, or after that at the wait.
-pub record HasStopped (made : List ℕ → List (List ℕ × List ℕ) → List ℕ → List ℕ) (number : ℕ) (step : Step) (ins : List (List ℕ)) (line : List ℕ) (stop : Stop) (old : Family) (before : Option Disk) (text : Option (List ℕ)) (new : Family) (after : Option Disk) (text_after : Option (List ℕ)) : Type 0 where
+pub record HasStopped (made : Made) (number : ℕ) (step : Step) (ins : List (List ℕ)) (line : List ℕ) (stop : Stop) (before after : Moment) : Type 0 where
   pub at :
-      ((stop ≢ stops.Sink) × (new ≡ old) × (after ≡ before) × (text_after ≡ text))
-      ⊎ ((stop ≢ stops.Host) × IsDrained made (started number step ins before old) before new after × AddsPart line text text_after)
-      ⊎ ((stop ≢ stops.Sink) × IsDrained made (started number step ins before old) before new after × Adds line text text_after)
+      ((stop ≢ stops.Sink) × IsUnmoved before after)
+      ⊎ ((stop ≢ stops.Host) × HasWaited made (started number step ins before.host) after.host × AddsPart line before.out.written after.out.written)
+      ⊎ ((stop ≢ stops.Sink) × HasWaited made (started number step ins before.host) after.host × Adds line before.out.written after.out.written)
+
+-- a step's child has run, or it stopped at one of its calls
+abbrev pub RunsChild : Made → ℕ → Step → List (List ℕ) → List ℕ → Moment → Moment → Result Bool Stop → Type 0
+RunsChild made number step ins line before after (Ok well) = HasRunChild made number step ins line well before after
+RunsChild made number step ins line before after (Err stop) = HasStopped made number step ins line stop before after

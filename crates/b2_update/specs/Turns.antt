@@ -1,8 +1,11 @@
 -- What the events of an update are over any host, also one that tells nothing.
-use Rattle.std.specs.Prelude.{◌≡◌, ℕ, ◌<◌, ◌≤◌, Bool, List, [], ◌∷◌, ◌++◌, Some, ◌⊎◌, Result, Ok, Err, length}
+use Rattle.std.specs.Prelude.{◌≡◌, ℕ, ◌+◌, ◌<◌, ◌≤◌, Bool, List, [], ◌∷◌, ◌++◌, Some, ◌⊎◌, Result, Ok, Err, MatchResult, length}
 use Rattle.std.specs.List.{Contains, AllPairs, filter_map}
+use Rattle.std.specs.Global.{Vec}
 use Rattle.b2_host.specs.declared.children.ChildEvent.{ChildEvent}
 use Rattle.b2_host.specs.declared.children.ChildEvent.TheVariants.{Start, Done}
+use Rattle.b2_host.specs.Outside.{Outside}
+use Rattle.b2_update.specs.declared.failed_lists.FailedLists.{FailedLists}
 use Rattle.b2_update.specs.declared.outcome.Outcome.{Outcome}
 use Rattle.b2_update.specs.declared.outcome.Outcome.TheVariants as outcomes
 use Rattle.b2_update.specs.declared.stop.Stop.{Stop}
@@ -61,3 +64,22 @@ pub record HadTurns (list : List Outcome) (old new : List ChildEvent) : Type 0 w
 abbrev pub TurnsOn : List Outcome → List ChildEvent → List ChildEvent → Result Outcome Stop → Type 0
 TurnsOn list old new (Ok outcome) = HadTurns (list ++ outcome ∷ []) old new
 TurnsOn list old new (Err stop) = HasTurns [] old new
+
+-- What the parts of an update do to events that are in turn, whatever came before them:
+
+-- the step with a number, which is the next one, is run
+abbrev pub NextTurns : ℕ → Outside → Outside → Result Outcome Stop → Type 0
+NextTurns number before after result = (list : List Outcome) (old : List ChildEvent) → number ≡ length list + 1 → HadTurns list old before.children.events → TurnsOn list old after.children.events result
+
+-- the next step is dealt with
+abbrev pub StepTurns : List Outcome → Outside → Outside → Result Outcome Stop → Type 0
+StepTurns list before after result = (old : List ChildEvent) → HadTurns list old before.children.events → TurnsOn list old after.children.events result
+
+-- all steps are dealt with
+abbrev pub StepsTurn : Outside → Outside → Result (Vec Outcome) Stop → Type 0
+StepsTurn before after result = (old : List ChildEvent) → HadTurns [] old before.children.events
+    → MatchResult result (λ outcomes. HadTurns outcomes.items old after.children.events) (λ stop. HasTurns [] old after.children.events)
+
+-- the plan is run
+abbrev pub PlanTurns : Outside → Outside → Result FailedLists Stop → Type 0
+PlanTurns before after result = MatchResult result (λ lists. HasTurns lists.failed before.children.events after.children.events) (λ stop. HasTurns [] before.children.events after.children.events)

@@ -1,16 +1,19 @@
-use Rattle.std.specs.Prelude.{◌≡◌, ◌≢◌, ℕ, true, List, [], ◌∷◌, ◌++◌, Option, Some, ◌⊎◌, ⊤, IfSome, count_by}
+use Rattle.std.specs.Prelude.{◌≡◌, ◌≢◌, ℕ, true, List, [], ◌∷◌, ◌++◌, Some, ◌⊎◌, ⊤, IfSome, count_by}
 use Rattle.std.specs.List.{AllByRecursion}
 use Rattle.b2_host.specs.declared.children.ChildEvent.{ChildEvent}
 use Rattle.b2_host.specs.Disks.{Folder, Disk}
-use Rattle.b2_host.specs.ChildProcesses.{Family, Child, Given}
-use Rattle.b2_host.specs.Faults.{Rose}
+use Rattle.b2_host.specs.ChildProcesses.{Family, Given, BothTold}
+use Rattle.b2_host.specs.Outside.{Outside}
+use Rattle.b2_plan.specs.declared.plan.Plan.{Plan}
 use Rattle.b2_plan.specs.declared.step.Step.{Step}
 use Rattle.b2_update.specs.declared.failed_lists.FailedLists.{FailedLists}
 use Rattle.b2_update.specs.declared.stop.Stop.{Stop}
 use Rattle.b2_update.specs.declared.stop.Stop.TheVariants as stops
 use Rattle.b2_update.specs.declared.update_answer.UpdateAnswer.{UpdateAnswer}
 use Rattle.b2_update.specs.declared.update_answer.UpdateAnswer.TheVariants as answers
-use Rattle.b2_update.specs.Stops.{IsQuietHost}
+use Rattle.b2_update.specs.Moments.{Moment}
+use Rattle.b2_update.specs.Stops.{CountsStay, StopTold}
+use Rattle.b2_update.specs.Plain.{Made, update_of}
 use Rattle.b2_update.specs.Runs.{Update, is_done, IsRun, IsBegun, AreFed}
 use Rattle.b2_update.specs.Outcomes.{NoneStuck, AreLists, nothing_lacks, HasCleanBytes, LeavesNothing, OnlyOutputsChange}
 use Rattle.b2_update.specs.Reports.{event_line, event_lines, is_good_end, end_lines, report}
@@ -18,12 +21,12 @@ use Rattle.b2_update.specs.Reports.{event_line, event_lines, is_good_end, end_li
 -- How the two counts of faults stand to an answer: an answer that is no fault comes only where both are as at entry, and
 -- a fault only where its count rose and the other's is as at entry. After a fault of the sink, or where memory ran out, the wait
 -- for the child that ran may fail, so that the child is left.
-abbrev pub FaultsTold : ℕ → ℕ → List Child → ℕ → ℕ → UpdateAnswer → Type 0
-FaultsTold host host_after left sink sink_after answers.Done = (host_after ≡ host) × (sink_after ≡ sink)
-FaultsTold host host_after left sink sink_after (answers.Failed lists) = (host_after ≡ host) × (sink_after ≡ sink)
-FaultsTold host host_after left sink sink_after answers.HostFault = Rose host host_after × (sink_after ≡ sink)
-FaultsTold host host_after left sink sink_after answers.SinkFault = Rose sink sink_after × IsQuietHost host host_after left
-FaultsTold host host_after left sink sink_after answers.OutOfMemory = (sink_after ≡ sink) × IsQuietHost host host_after left
+abbrev pub FaultsTold : Moment → Moment → UpdateAnswer → Type 0
+FaultsTold before after answers.Done = CountsStay before after
+FaultsTold before after (answers.Failed lists) = CountsStay before after
+FaultsTold before after answers.HostFault = StopTold before after stops.Host
+FaultsTold before after answers.SinkFault = StopTold before after stops.Sink
+FaultsTold before after answers.OutOfMemory = StopTold before after stops.OutOfMemory
 
 -- A run has ended: no needed step is stuck, the lists are those of the run, what is settled has the bytes of the clean
 -- build, and nothing of a failed step stands.
@@ -106,15 +109,24 @@ WrittenBy u events answers.HostFault written = TellsStarts u.build.steps events 
 WrittenBy u events answers.SinkFault written = StopsAtWrite u events written
 WrittenBy u events answers.OutOfMemory written = StopsSomewhere u events written
 
--- All that an update has done, over a host that tells its files.
+-- All that an update has done between two moments of visible files.
 pub record HasUpdated (u : Update) (old new : Family) (answer : UpdateAnswer) (before after : Disk) : Type 0 where
   pub events : List ChildEvent
   pub ran : HasRun u events old new before.now after.now
   pub told : AnswerTold u events after.now answer
 
+-- what the update of a plan has done, where the files are visible
+abbrev pub UpdateTold : Plan → Made → Outside → Outside → UpdateAnswer → Type 0
+UpdateTold plan made before after answer = BothTold (λ disk later. HasUpdated (update_of plan made disk.now) before.children after.children answer disk later) before.disk after.disk
+
 -- the bytes that were written, where the sink tells them
-abbrev pub HasWritten : Update → UpdateAnswer → Family → Family → Option (List ℕ) → Option (List ℕ) → Type 0
-HasWritten u answer old new before after = (events : List ChildEvent) → new.events ≡ old.events ++ events → IfSome before (λ text. (written : List ℕ) × (after ≡ Some (text ++ written)) × WrittenBy u events answer written)
+abbrev pub HasWritten : Update → UpdateAnswer → Moment → Moment → Type 0
+HasWritten u answer before after = (events : List ChildEvent) → after.host.children.events ≡ before.host.children.events ++ events
+    → IfSome before.out.written (λ text. (written : List ℕ) × (after.out.written ≡ Some (text ++ written)) × WrittenBy u events answer written)
+
+-- what the update of a plan has written, where the files are visible
+abbrev pub WritingTold : Plan → Made → Moment → Moment → UpdateAnswer → Type 0
+WritingTold plan made before after answer = BothTold (λ disk later. HasWritten (update_of plan made disk.now) answer before after) before.host.disk after.host.disk
 
 -- the answer of an update that was stopped
 abbrev pub stop_answer : Stop → UpdateAnswer

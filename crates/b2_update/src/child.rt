@@ -1,8 +1,9 @@
 //! One child at a time: its start, its line, and its end.
-ghost use Rattle.std.specs.Prelude.{◌≡◌, [], None, IfOk, OnOk, OnErr, ◌⊎◌, IfErr};
-ghost use Rattle.b2_host.specs.Faults.{Rose};
-ghost use Rattle.b2_update.specs.Stops.{IsQuietHost, HostTold, SinkTold, CountsTold};
-ghost use Rattle.b2_update.specs.Runners.{RunsOne, ChildHasEnded, IsDrained, Adds, AddsPart, HasRunChild, HasStopped};
+ghost use Rattle.std.specs.Prelude.{◌≡◌, [], OnOk};
+ghost use Rattle.b2_host.specs.OutsideLaws.{Keeps};
+ghost use Rattle.b2_update.specs.Moments.{moment};
+ghost use Rattle.b2_update.specs.Stops.{Says, IsQuietHost, LeavesNone, Proceeds};
+ghost use Rattle.b2_update.specs.Runners.{RunsOne, HasWaited, WaitsOne, RunsChild};
 
 use crate::stop::{Stop, host_stop, sink_stop};
 use b2_base::path::Path;
@@ -12,9 +13,7 @@ use b2_plan::step::Step;
 
 /// Writes a line, in one piece.
 pub fn write_line<S: Sink>(out: &mut S, line: &str) -> Result<(), Stop>
-    ensures faults { SinkTold (S.output out.old).faults (S.output out.new).faults result }
-    ensures ok { OnOk result (Adds line.now (S.output out.old).written (S.output out.new).written) }
-    ensures err { OnErr result (AddsPart line.now (S.output out.old).written (S.output out.new).written) }
+    ensures { Says line.now (S.output out.old) (S.output out.new) result }
 {
     match out.write(line.as_bytes()) {
         Ok(()) => Ok(()),
@@ -25,12 +24,9 @@ pub fn write_line<S: Sink>(out: &mut S, line: &str) -> Result<(), Stop>
 /// Waits once for the child that runs, whatever the wait answers. Takes no memory.
 fn drain<H: Children>(host: &mut H)
     requires { RunsOne (H.outside host.old).children.running }
-    ensures none_left { ((H.outside host.new).children.running ≡ []) ⊎ Rose (H.outside host.old).faults (H.outside host.new).faults }
-    ensures waited { ((H.outside host.new).children.running ≡ []) ⊎ Rose (H.outside host.old).failed_waits (H.outside host.new).failed_waits }
-    ensures waits { ((H.outside host.new).failed_waits ≡ (H.outside host.old).failed_waits) ⊎ Rose (H.outside host.old).failed_waits (H.outside host.new).failed_waits }
-    ensures faults { ((H.outside host.new).faults ≡ (H.outside host.old).faults) ⊎ Rose (H.outside host.old).faults (H.outside host.new).faults }
-    ensures quiet { IsQuietHost (H.outside host.old).faults (H.outside host.new).faults (H.outside host.new).children.running }
-    ensures drained { IsDrained H.made (H.outside host.old).children (H.outside host.old).disk (H.outside host.new).children (H.outside host.new).disk }
+    ensures waited { HasWaited H.made (H.outside host.old) (H.outside host.new) }
+    ensures none_left { LeavesNone (H.outside host.old) (H.outside host.new) }
+    ensures quiet { IsQuietHost (H.outside host.old) (H.outside host.new) }
 {
     let _ended = host.wait_one();
 }
@@ -39,13 +35,8 @@ fn drain<H: Children>(host: &mut H)
 /// never more than one wait for a start.
 fn wait_child<H: Children>(host: &mut H) -> Result<bool, Stop>
     requires { RunsOne (H.outside host.old).children.running }
-    ensures faults { HostTold (H.outside host.old).faults (H.outside host.new).faults result }
-    ensures none_left { OnErr result (((H.outside host.new).children.running ≡ []) ⊎ Rose (H.outside host.old).faults (H.outside host.new).faults) }
-    ensures waited { OnErr result (((H.outside host.new).children.running ≡ []) ⊎ Rose (H.outside host.old).failed_waits (H.outside host.new).failed_waits) }
-    ensures waits { OnOk result ((H.outside host.new).failed_waits ≡ (H.outside host.old).failed_waits) }
+    ensures waited { WaitsOne H.made (H.outside host.old) (H.outside host.new) result }
     ensures idle { OnOk result ((H.outside host.new).children.running ≡ []) }
-    ensures ended { IfOk result (λ well. ChildHasEnded H.made (H.outside host.old).children (H.outside host.old).disk well (H.outside host.new).children (H.outside host.new).disk) }
-    ensures drained { OnErr result (IsDrained H.made (H.outside host.old).children (H.outside host.old).disk (H.outside host.new).children (H.outside host.new).disk) }
 {
     match host.wait_one() {
         Ok((_step, well)) => Ok(well),
@@ -64,14 +55,9 @@ pub fn run_child<H: Children, S: Sink>(
     line: &str,
 ) -> Result<bool, Stop>
     requires { (H.outside host.old).children.running ≡ [] }
-    ensures faults { CountsTold (H.outside host.old).faults (H.outside host.new).faults (H.outside host.new).children.running (S.output out.old).faults (S.output out.new).faults result }
-    ensures none_left { OnErr result (((H.outside host.new).children.running ≡ []) ⊎ Rose (H.outside host.old).faults (H.outside host.new).faults) }
-    ensures waited { OnErr result (((H.outside host.new).children.running ≡ []) ⊎ Rose (H.outside host.old).failed_waits (H.outside host.new).failed_waits) }
-    ensures waits { OnOk result ((H.outside host.new).failed_waits ≡ (H.outside host.old).failed_waits) }
-    ensures idle { OnOk result ((H.outside host.new).children.running ≡ []) }
-    ensures untold { (H.outside host.old).disk ≡ None → (H.outside host.new).disk ≡ None }
-    ensures ran { IfOk result (λ well. HasRunChild H.made number step.now ins.now line.now well (H.outside host.old).children (H.outside host.old).disk (S.output out.old).written (H.outside host.new).children (H.outside host.new).disk (S.output out.new).written) }
-    ensures stopped { IfErr result (λ stop. HasStopped H.made number step.now ins.now line.now stop (H.outside host.old).children (H.outside host.old).disk (S.output out.old).written (H.outside host.new).children (H.outside host.new).disk (S.output out.new).written) }
+    ensures proceeds { Proceeds (moment (H.outside host.old) (S.output out.old)) (moment (H.outside host.new) (S.output out.new)) result }
+    ensures keeps { Keeps (H.outside host.old) (H.outside host.new) }
+    ensures run { RunsChild H.made number step.now ins.now line.now (moment (H.outside host.old) (S.output out.old)) (moment (H.outside host.new) (S.output out.new)) result }
 {
     if let Err(fault) = host.start(number, step.text.as_str(), ins, step.outs.as_slice()) {
         return Err(host_stop(fault));

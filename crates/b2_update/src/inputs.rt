@@ -3,12 +3,12 @@ ghost use Rattle.std.specs.Prelude.{◌≡◌, ◌↔◌, ℕ, List, [], ◌∷�
 ghost use Rattle.std.specs.Option.{IfSome};
 ghost use Rattle.std.specs.List.{AllPairs, Contains};
 ghost use Rattle.b2_plan.specs.Closures.{Before};
-ghost use Rattle.b2_plan.specs.Plans.{Apart, maker_of};
-ghost use Rattle.b2_plan.specs.Sources.{IsInRoots, IsSource, IsMissing};
+ghost use Rattle.b2_plan.specs.Plans.{maker_of};
+ghost use Rattle.b2_plan.specs.Sources.{IsInRoots, IsMissing};
 ghost use Rattle.b2_update.specs.Outcomes.{ArePathsOf};
-ghost use Rattle.b2_update.specs.Plain.{build_of};
-ghost use Rattle.b2_update.specs.Stops.{HostTold};
-ghost use Rattle.b2_update.specs.Inputs.{IsInput, IsMissingInput};
+ghost use Rattle.b2_update.specs.Plain.{plan_build};
+ghost use Rattle.b2_update.specs.Stops.{StopLooks};
+ghost use Rattle.b2_update.specs.Inputs.{IsInput, IsMissingInput, IsSomeSource, AreMissingAmong};
 
 use crate::distinct::distinct;
 use crate::stop::Stop;
@@ -56,11 +56,8 @@ fn is_in_roots(roots: &[Path], path: &Path) -> bool
 
 /// Whether the path is a source: a file that stands outside the output roots.
 fn is_source<H: Children>(plan: &Plan, host: &mut H, path: &Path) -> Result<bool, Stop>
-    ensures faults { HostTold (H.outside host.old).faults (H.outside host.new).faults result }
-    ensures family { (H.outside host.new).children ≡ (H.outside host.old).children }
-    ensures waits { (H.outside host.new).failed_waits ≡ (H.outside host.old).failed_waits }
-    ensures disk { (H.outside host.new).disk ≡ (H.outside host.old).disk }
-    ensures told { IfOk result (λ stands. IfSome (H.outside host.old).disk (λ before. IsTrue stands ↔ ((bytes : List ℕ) × IsSource (build_of plan.now.steps plan.now.wanted plan.now.roots H.made before.now) path.now bytes))) }
+    ensures host { StopLooks (H.outside host.old) (H.outside host.new) result }
+    ensures answer { IfOk result (λ stands. IfSome (H.outside host.old).disk (λ disk. IsTrue stands ↔ IsSomeSource (plan_build plan.now H.made disk.now) path.now)) }
 {
     if is_in_roots(plan.roots.as_slice(), path) {
         return Ok(false);
@@ -71,11 +68,8 @@ fn is_source<H: Children>(plan: &Plan, host: &mut H, path: &Path) -> Result<bool
 
 /// Whether the path is missing: no step makes it, and it is no source.
 fn is_missing<H: Children>(plan: &Plan, host: &mut H, path: &Path) -> Result<bool, Stop>
-    ensures faults { HostTold (H.outside host.old).faults (H.outside host.new).faults result }
-    ensures family { (H.outside host.new).children ≡ (H.outside host.old).children }
-    ensures waits { (H.outside host.new).failed_waits ≡ (H.outside host.old).failed_waits }
-    ensures disk { (H.outside host.new).disk ≡ (H.outside host.old).disk }
-    ensures told { IfOk result (λ missing. IfSome (H.outside host.old).disk (λ before. IsTrue missing ↔ IsMissing (build_of plan.now.steps plan.now.wanted plan.now.roots H.made before.now) path.now)) }
+    ensures host { StopLooks (H.outside host.old) (H.outside host.new) result }
+    ensures answer { IfOk result (λ missing. IfSome (H.outside host.old).disk (λ disk. IsTrue missing ↔ IsMissing (plan_build plan.now H.made disk.now) path.now)) }
 {
     if plan.maker(path).is_some() {
         return Ok(false);
@@ -102,12 +96,9 @@ fn missing_among<H: Children>(
     paths: &[Path],
 ) -> Result<PathList, Stop>
     requires { AllPairs Before paths.now }
-    ensures faults { HostTold (H.outside host.old).faults (H.outside host.new).faults result }
-    ensures family { (H.outside host.new).children ≡ (H.outside host.old).children }
-    ensures waits { (H.outside host.new).failed_waits ≡ (H.outside host.old).failed_waits }
-    ensures disk { (H.outside host.new).disk ≡ (H.outside host.old).disk }
+    ensures host { StopLooks (H.outside host.old) (H.outside host.new) result }
     ensures rising { IfOk result (AllPairs Before) }
-    ensures told { IfOk result (λ missing. IfSome (H.outside host.old).disk (λ before. (path : List ℕ) → Contains missing path ↔ (Contains paths.now path × IsMissing (build_of plan.now.steps plan.now.wanted plan.now.roots H.made before.now) path))) }
+    ensures answer { IfOk result (λ missing. IfSome (H.outside host.old).disk (λ disk. AreMissingAmong (plan_build plan.now H.made disk.now) paths.now missing)) }
 {
     let mut missing = PathList::new(alloc);
     for path in paths {
@@ -123,12 +114,9 @@ pub fn missing_inputs<H: Children>(
     plan: &Plan,
     host: &mut H,
 ) -> Result<PathList, Stop>
-    ensures faults { HostTold (H.outside host.old).faults (H.outside host.new).faults result }
-    ensures family { (H.outside host.new).children ≡ (H.outside host.old).children }
-    ensures waits { (H.outside host.new).failed_waits ≡ (H.outside host.old).failed_waits }
-    ensures disk { (H.outside host.new).disk ≡ (H.outside host.old).disk }
+    ensures host { StopLooks (H.outside host.old) (H.outside host.new) result }
     ensures rising { IfOk result (AllPairs Before) }
-    ensures told { IfOk result (λ missing. IfSome (H.outside host.old).disk (λ before. ArePathsOf (IsMissingInput (build_of plan.now.steps plan.now.wanted plan.now.roots H.made before.now)) missing)) }
+    ensures answer { IfOk result (λ missing. IfSome (H.outside host.old).disk (λ disk. ArePathsOf (IsMissingInput (plan_build plan.now H.made disk.now)) missing)) }
 {
     let paths = all_inputs(alloc, plan.steps.as_slice())?;
     missing_among(alloc, plan, host, paths.as_slice())

@@ -1,13 +1,12 @@
 //! What an update that ended names, and the end of its report.
-ghost use Rattle.std.specs.Prelude.{◌≡◌, ◌≤◌, [], ◌∷◌, ◌++◌, if◌then◌else◌, Some, false, IfOk, OnOk, OnErr, length, count_by, IsTrue, ◌↔◌};
+ghost use Rattle.std.specs.Prelude.{◌≡◌, ◌≤◌, [], ◌∷◌, ◌++◌, if◌then◌else◌, Some, false, IfOk, OnOk, length, count_by, IsTrue, ◌↔◌};
 ghost use Rattle.std.specs.List.{flat_map};
 ghost use Rattle.std.specs.Option.{option_copied};
 ghost use Rattle.b2_plan.specs.Plans.{step_at};
-ghost use Rattle.b2_update.specs.Stops.{SinkTold};
+ghost use Rattle.b2_update.specs.Stops.{Says};
 ghost use Rattle.b2_update.specs.Inputs.{outcome_at, is_settled, AreListed};
 ghost use Rattle.b2_update.specs.Outcomes.{IsListOf};
-ghost use Rattle.b2_update.specs.Reports.{missing_line, skipped_line, said_of, summary_line, end_lines};
-ghost use Rattle.b2_update.specs.Runners.{Adds, AddsPart};
+ghost use Rattle.b2_update.specs.Reports.{missing_line, skipped_line, said_of, skipped_lines, summary_line, end_lines};
 ghost use Rattle.b2_update.specs.Updates.{SomethingLacks};
 
 use crate::child::write_line;
@@ -97,9 +96,7 @@ fn step_of(steps: &[Step], number: u32) -> Option<&Step>
 
 /// Writes what is missing.
 fn tell_missing<S: Sink>(alloc: Global, out: &mut S, paths: &[Path]) -> Result<(), Stop>
-    ensures faults { SinkTold (S.output out.old).faults (S.output out.new).faults result }
-    ensures ok { OnOk result (Adds (flat_map missing_line paths.now) (S.output out.old).written (S.output out.new).written) }
-    ensures err { OnErr result (AddsPart (flat_map missing_line paths.now) (S.output out.old).written (S.output out.new).written) }
+    ensures { Says (flat_map missing_line paths.now) (S.output out.old) (S.output out.new) result }
 {
     for path in paths {
         let line = missing_text(alloc, path)?;
@@ -115,9 +112,7 @@ fn tell_one_skipped<S: Sink>(
     out: &mut S,
     number: u32,
 ) -> Result<(), Stop>
-    ensures faults { SinkTold (S.output out.old).faults (S.output out.new).faults result }
-    ensures ok { OnOk result (Adds (said_of skipped_line (step_at steps.now number)) (S.output out.old).written (S.output out.new).written) }
-    ensures err { OnErr result (AddsPart (said_of skipped_line (step_at steps.now number)) (S.output out.old).written (S.output out.new).written) }
+    ensures { Says (said_of skipped_line (step_at steps.now number)) (S.output out.old) (S.output out.new) result }
 {
     match step_of(steps, number) {
         None => Ok(()),
@@ -135,9 +130,7 @@ fn tell_skipped<S: Sink>(
     out: &mut S,
     numbers: &[u32],
 ) -> Result<(), Stop>
-    ensures faults { SinkTold (S.output out.old).faults (S.output out.new).faults result }
-    ensures ok { OnOk result (Adds (flat_map (λ i. said_of skipped_line (step_at steps.now i)) numbers.now) (S.output out.old).written (S.output out.new).written) }
-    ensures err { OnErr result (AddsPart (flat_map (λ i. said_of skipped_line (step_at steps.now i)) numbers.now) (S.output out.old).written (S.output out.new).written) }
+    ensures { Says (skipped_lines steps.now numbers.now) (S.output out.old) (S.output out.new) result }
 {
     for number in numbers {
         tell_one_skipped(alloc, steps, out, *number)?;
@@ -153,9 +146,7 @@ pub fn tell_end<S: Sink>(
     updated: usize,
     lists: &FailedLists,
 ) -> Result<(), Stop>
-    ensures faults { SinkTold (S.output out.old).faults (S.output out.new).faults result }
-    ensures ok { OnOk result (Adds (end_lines steps.now updated lists.now) (S.output out.old).written (S.output out.new).written) }
-    ensures err { OnErr result (AddsPart (end_lines steps.now updated lists.now) (S.output out.old).written (S.output out.new).written) }
+    ensures { Says (end_lines steps.now updated lists.now) (S.output out.old) (S.output out.new) result }
 {
     tell_missing(alloc, out, lists.missing.as_slice())?;
     tell_skipped(alloc, steps, out, lists.skipped.as_slice())?;

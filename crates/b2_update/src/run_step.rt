@@ -1,19 +1,16 @@
-//! One step of an update. A clause `told` says what holds over a host that tells its files; `untold` says that a host which
-//! does not tell them tells none afterwards.
-ghost use Rattle.std.specs.Prelude.{◌≡◌, ◌+◌, ◌<◌, [], ℕ, List, Option, Some, None, ◌≢◌, true, false, IfOk, OnOk, OnErr, ◌⊎◌, IsTrue, length, ◌↔◌};
+//! One step of an update. A clause `told` says what holds where the files are visible.
+ghost use Rattle.std.specs.Prelude.{◌≡◌, ◌+◌, ◌<◌, [], ℕ, List, Some, true, false, IfOk, IsTrue, length, ◌↔◌};
 ghost use Rattle.std.specs.List.{Contains, AllPairs};
 ghost use Rattle.std.specs.Option.{IfSome};
-ghost use Rattle.b2_host.specs.Disks.{Folder};
-ghost use Rattle.b2_host.specs.Faults.{Rose};
-ghost use Rattle.b2_host.specs.ChildProcesses.{Family, BothTold};
+ghost use Rattle.b2_host.specs.OutsideLaws.{Keeps};
 ghost use Rattle.b2_plan.specs.Plans.{step_at};
 ghost use Rattle.b2_plan.specs.Closures.{Before};
-ghost use Rattle.b2_update.specs.Stops.{CountsTold, HostTold};
+ghost use Rattle.b2_update.specs.Moments.{moment};
+ghost use Rattle.b2_update.specs.Stops.{StopLooks, ChangesFiles, CountsTold, Proceeds};
+ghost use Rattle.b2_update.specs.Outputs.{AllStand};
 ghost use Rattle.b2_update.specs.Inputs.{IsReadable, outcome_at};
-ghost use Rattle.b2_update.specs.Progress.{IsWhole, IsPrepared, IsDue, Stands, HasEndedChild, GoesOn, update_of};
-ghost use Rattle.b2_update.specs.Runs.{Update};
-ghost use Rattle.b2_update.specs.Turns.{HadTurns, TurnsOn};
-ghost use Rattle.b2_host.specs.declared.children.ChildEvent.{ChildEvent};
+ghost use Rattle.b2_update.specs.Progress.{EndTold, DueTold, StepTold};
+ghost use Rattle.b2_update.specs.Turns.{NextTurns, StepTurns};
 
 use crate::child::{run_child, write_line};
 use crate::distinct::distinct;
@@ -78,11 +75,10 @@ fn fail_step<H: Children, S: Sink>(
     out: &mut S,
     step: &Step,
 ) -> Result<Outcome, Stop>
-    ensures faults { CountsTold (H.outside host.old).faults (H.outside host.new).faults (H.outside host.new).children.running (S.output out.old).faults (S.output out.new).faults result }
-    ensures family { (H.outside host.new).children ≡ (H.outside host.old).children }
-    ensures waits { (H.outside host.new).failed_waits ≡ (H.outside host.old).failed_waits }
-    ensures untold { (H.outside host.old).disk ≡ None → (H.outside host.new).disk ≡ None }
-    ensures told { (u : Update) (old : Family) (text : Option (List ℕ)) (list : List Outcome) → IsWhole u → step_at u.build.steps (length list + 1) ≡ Some step.now → HasEndedChild u old text list false (H.outside host.old).children (H.outside host.old).disk (S.output out.old).written → GoesOn u old text list result (H.outside host.new).children (H.outside host.new).disk (S.output out.new).written }
+    ensures counts { CountsTold (moment (H.outside host.old) (S.output out.old)) (moment (H.outside host.new) (S.output out.new)) result }
+    ensures files { ChangesFiles (H.outside host.old) (H.outside host.new) }
+    ensures keeps { Keeps (H.outside host.old) (H.outside host.new) }
+    ensures told { EndTold step.now false (moment (H.outside host.old) (S.output out.old)) (moment (H.outside host.new) (S.output out.new)) result }
 {
     remove_all(host, step.outs.as_slice())?;
     let line = failed_text(alloc, step)?;
@@ -92,12 +88,9 @@ fn fail_step<H: Children, S: Sink>(
 
 /// Whether a step ended well and left each of its outputs.
 fn has_left<H: Children>(host: &mut H, outs: &[Path], well: bool) -> Result<bool, Stop>
-    ensures faults { HostTold (H.outside host.old).faults (H.outside host.new).faults result }
-    ensures family { (H.outside host.new).children ≡ (H.outside host.old).children }
-    ensures waits { (H.outside host.new).failed_waits ≡ (H.outside host.old).failed_waits }
-    ensures disk { (H.outside host.new).disk ≡ (H.outside host.old).disk }
+    ensures host { StopLooks (H.outside host.old) (H.outside host.new) result }
     ensures well { IfOk result (λ left. left ≡ true → well ≡ true) }
-    ensures told { IfOk result (λ left. IfSome (H.outside host.old).disk (λ before. well ≡ true → ((path : List ℕ) → Contains outs.now path → before.now path ≢ None) → left ≡ true)) }
+    ensures answer { IfOk result (λ left. IfSome (H.outside host.old).disk (λ disk. well ≡ true → AllStand outs.now disk → left ≡ true)) }
 {
     if !well {
         return Ok(false);
@@ -113,11 +106,10 @@ fn finish_step<H: Children, S: Sink>(
     step: &Step,
     well: bool,
 ) -> Result<Outcome, Stop>
-    ensures faults { CountsTold (H.outside host.old).faults (H.outside host.new).faults (H.outside host.new).children.running (S.output out.old).faults (S.output out.new).faults result }
-    ensures family { (H.outside host.new).children ≡ (H.outside host.old).children }
-    ensures waits { (H.outside host.new).failed_waits ≡ (H.outside host.old).failed_waits }
-    ensures untold { (H.outside host.old).disk ≡ None → (H.outside host.new).disk ≡ None }
-    ensures told { (u : Update) (old : Family) (text : Option (List ℕ)) (list : List Outcome) → IsWhole u → step_at u.build.steps (length list + 1) ≡ Some step.now → HasEndedChild u old text list well (H.outside host.old).children (H.outside host.old).disk (S.output out.old).written → GoesOn u old text list result (H.outside host.new).children (H.outside host.new).disk (S.output out.new).written }
+    ensures counts { CountsTold (moment (H.outside host.old) (S.output out.old)) (moment (H.outside host.new) (S.output out.new)) result }
+    ensures files { ChangesFiles (H.outside host.old) (H.outside host.new) }
+    ensures keeps { Keeps (H.outside host.old) (H.outside host.new) }
+    ensures told { EndTold step.now well (moment (H.outside host.old) (S.output out.old)) (moment (H.outside host.new) (S.output out.new)) result }
 {
     let left = has_left(host, step.outs.as_slice(), well)?;
     if left {
@@ -135,14 +127,10 @@ fn start_step<H: Children, S: Sink>(
     step: &Step,
 ) -> Result<Outcome, Stop>
     requires idle { (H.outside host.old).children.running ≡ [] }
-    ensures faults { CountsTold (H.outside host.old).faults (H.outside host.new).faults (H.outside host.new).children.running (S.output out.old).faults (S.output out.new).faults result }
-    ensures none_left { OnErr result (((H.outside host.new).children.running ≡ []) ⊎ Rose (H.outside host.old).faults (H.outside host.new).faults) }
-    ensures waited { OnErr result (((H.outside host.new).children.running ≡ []) ⊎ Rose (H.outside host.old).failed_waits (H.outside host.new).failed_waits) }
-    ensures waits { OnOk result ((H.outside host.new).failed_waits ≡ (H.outside host.old).failed_waits) }
-    ensures idle { OnOk result ((H.outside host.new).children.running ≡ []) }
-    ensures untold { (H.outside host.old).disk ≡ None → (H.outside host.new).disk ≡ None }
-    ensures turns { (list : List Outcome) (old : List ChildEvent) → number ≡ length list + 1 → HadTurns list old (H.outside host.old).children.events → TurnsOn list old (H.outside host.new).children.events result }
-    ensures told { (u : Update) (old : Family) (text : Option (List ℕ)) (list : List Outcome) → IsDue u H.made list number step.now → Stands u old text list (H.outside host.old).children (H.outside host.old).disk (S.output out.old).written → GoesOn u old text list result (H.outside host.new).children (H.outside host.new).disk (S.output out.new).written }
+    ensures proceeds { Proceeds (moment (H.outside host.old) (S.output out.old)) (moment (H.outside host.new) (S.output out.new)) result }
+    ensures keeps { Keeps (H.outside host.old) (H.outside host.new) }
+    ensures turns { NextTurns number (H.outside host.old) (H.outside host.new) result }
+    ensures told { DueTold H.made number step.now (moment (H.outside host.old) (S.output out.old)) (moment (H.outside host.new) (S.output out.new)) result }
 {
     let ins = distinct(alloc, step.ins.as_slice())?;
     let line = start_text(alloc, step)?;
@@ -164,15 +152,10 @@ pub fn run_step<H: Children, S: Sink>(
     requires rising { AllPairs Before missing.now }
     requires next { step_at plan.now.steps (length outcomes.now + 1) ≡ Some step.now }
     requires few { length outcomes.now < 65536 }
-    ensures faults { CountsTold (H.outside host.old).faults (H.outside host.new).faults (H.outside host.new).children.running (S.output out.old).faults (S.output out.new).faults result }
-    ensures none_left { OnErr result (((H.outside host.new).children.running ≡ []) ⊎ Rose (H.outside host.old).faults (H.outside host.new).faults) }
-    ensures waited { OnErr result (((H.outside host.new).children.running ≡ []) ⊎ Rose (H.outside host.old).failed_waits (H.outside host.new).failed_waits) }
-    ensures waits { OnOk result ((H.outside host.new).failed_waits ≡ (H.outside host.old).failed_waits) }
-    ensures idle { OnOk result ((H.outside host.new).children.running ≡ []) }
-    ensures untold { (H.outside host.old).disk ≡ None → (H.outside host.new).disk ≡ None }
-    ensures turns { (old : List ChildEvent) → HadTurns outcomes.now old (H.outside host.old).children.events → TurnsOn outcomes.now old (H.outside host.new).children.events result }
-    ensures told { (before : Folder) (old : Family) (text : Option (List ℕ)) → IsPrepared (update_of plan.now.steps plan.now.wanted plan.now.roots H.made before) missing.now → Stands (update_of plan.now.steps plan.now.wanted plan.now.roots H.made before) old text outcomes.now (H.outside host.old).children (H.outside host.old).disk (S.output out.old).written
-        → GoesOn (update_of plan.now.steps plan.now.wanted plan.now.roots H.made before) old text outcomes.now result (H.outside host.new).children (H.outside host.new).disk (S.output out.new).written }
+    ensures proceeds { Proceeds (moment (H.outside host.old) (S.output out.old)) (moment (H.outside host.new) (S.output out.new)) result }
+    ensures keeps { Keeps (H.outside host.old) (H.outside host.new) }
+    ensures turns { StepTurns outcomes.now (H.outside host.old) (H.outside host.new) result }
+    ensures told { StepTold plan.now H.made missing.now outcomes.now (moment (H.outside host.old) (S.output out.old)) (moment (H.outside host.new) (S.output out.new)) result }
 {
     if !is_ready(plan, missing, outcomes, step.ins.as_slice()) {
         return Ok(Outcome::Skipped);

@@ -1,17 +1,15 @@
 //! The update of a plan.
-ghost use Rattle.std.specs.Prelude.{◌≡◌, ℕ, List, [], Option, Some, None, ◌⊎◌, IfOk, OnOk, OnErr, MatchResult, length};
+ghost use Rattle.std.specs.Prelude.{◌≡◌, [], IfOk, length};
 ghost use Rattle.std.specs.List.{AllPairs};
-ghost use Rattle.b2_host.specs.Disks.{Folder, Disk};
-ghost use Rattle.b2_host.specs.Faults.{Rose};
-ghost use Rattle.b2_host.specs.ChildProcesses.{Family, BothTold};
+ghost use Rattle.b2_host.specs.OutsideLaws.{Keeps};
 ghost use Rattle.b2_plan.specs.Plans.{Apart};
 ghost use Rattle.b2_plan.specs.Closures.{Before};
-ghost use Rattle.b2_update.specs.Plain.{IsPlain, build_of, update_all};
-ghost use Rattle.b2_update.specs.Stops.{CountsTold};
-ghost use Rattle.b2_update.specs.Progress.{IsPrepared, Stands, Stopped, HasFinished, update_of};
-ghost use Rattle.b2_host.specs.declared.children.ChildEvent.{ChildEvent};
-ghost use Rattle.b2_update.specs.Turns.{HasTurns, HadTurns, failed_of};
-ghost use Rattle.b2_update.specs.Updates.{FaultsTold, HasUpdated, HasWritten, stop_answer, IsEndOf};
+ghost use Rattle.b2_update.specs.Moments.{moment};
+ghost use Rattle.b2_update.specs.Plain.{IsPlain};
+ghost use Rattle.b2_update.specs.Stops.{LeavesNone, Proceeds};
+ghost use Rattle.b2_update.specs.Progress.{StepsTold, PlanTold};
+ghost use Rattle.b2_update.specs.Turns.{HasTurns, StepsTurn, PlanTurns, failed_of};
+ghost use Rattle.b2_update.specs.Updates.{FaultsTold, UpdateTold, WritingTold, stop_answer, IsEndOf};
 
 use crate::failed_lists::FailedLists;
 use crate::inputs::missing_inputs;
@@ -37,15 +35,11 @@ fn run_steps<H: Children, S: Sink>(
     requires idle { (H.outside host.old).children.running ≡ [] }
     requires apart { Apart plan.now.steps plan.now.roots }
     requires rising { AllPairs Before missing.now }
-    ensures faults { CountsTold (H.outside host.old).faults (H.outside host.new).faults (H.outside host.new).children.running (S.output out.old).faults (S.output out.new).faults result }
-    ensures none_left { OnErr result (((H.outside host.new).children.running ≡ []) ⊎ Rose (H.outside host.old).faults (H.outside host.new).faults) }
-    ensures waited { OnErr result (((H.outside host.new).children.running ≡ []) ⊎ Rose (H.outside host.old).failed_waits (H.outside host.new).failed_waits) }
-    ensures idle { OnOk result ((H.outside host.new).children.running ≡ []) }
-    ensures untold { (H.outside host.old).disk ≡ None → (H.outside host.new).disk ≡ None }
+    ensures proceeds { Proceeds (moment (H.outside host.old) (S.output out.old)) (moment (H.outside host.new) (S.output out.new)) result }
+    ensures keeps { Keeps (H.outside host.old) (H.outside host.new) }
     ensures whole { IfOk result (λ outcomes. length outcomes.items ≡ length plan.now.steps) }
-    ensures turns { (old : List ChildEvent) → HadTurns [] old (H.outside host.old).children.events → MatchResult result (λ outcomes. HadTurns outcomes.items old (H.outside host.new).children.events) (λ stop. HasTurns [] old (H.outside host.new).children.events) }
-    ensures told { (before : Folder) (old : Family) (text : Option (List ℕ)) → IsPrepared (update_of plan.now.steps plan.now.wanted plan.now.roots H.made before) missing.now → Stands (update_of plan.now.steps plan.now.wanted plan.now.roots H.made before) old text [] (H.outside host.old).children (H.outside host.old).disk (S.output out.old).written
-        → MatchResult result (λ outcomes. Stands (update_of plan.now.steps plan.now.wanted plan.now.roots H.made before) old text outcomes.items (H.outside host.new).children (H.outside host.new).disk (S.output out.new).written) (λ stop. Stopped (update_of plan.now.steps plan.now.wanted plan.now.roots H.made before) old text stop (H.outside host.new).children (H.outside host.new).disk (S.output out.new).written) }
+    ensures turns { StepsTurn (H.outside host.old) (H.outside host.new) result }
+    ensures told { StepsTold plan.now H.made missing.now (moment (H.outside host.old) (S.output out.old)) (moment (H.outside host.new) (S.output out.new)) result }
 {
     let mut outcomes = Vec::new(alloc);
     for step in plan.steps.as_slice() {
@@ -65,12 +59,10 @@ fn run_plan<H: Children, S: Sink>(
     requires idle { (H.outside host.old).children.running ≡ [] }
     requires apart { Apart plan.now.steps plan.now.roots }
     requires plain { IsPlain plan.now.steps plan.now.wanted }
-    ensures faults { CountsTold (H.outside host.old).faults (H.outside host.new).faults (H.outside host.new).children.running (S.output out.old).faults (S.output out.new).faults result }
-    ensures none_left { ((H.outside host.new).children.running ≡ []) ⊎ Rose (H.outside host.old).faults (H.outside host.new).faults }
-    ensures waited { ((H.outside host.new).children.running ≡ []) ⊎ Rose (H.outside host.old).failed_waits (H.outside host.new).failed_waits }
-    ensures untold { (H.outside host.old).disk ≡ None → (H.outside host.new).disk ≡ None }
-    ensures turns { MatchResult result (λ lists. HasTurns lists.failed (H.outside host.old).children.events (H.outside host.new).children.events) (λ stop. HasTurns [] (H.outside host.old).children.events (H.outside host.new).children.events) }
-    ensures told { (before : Disk) → (H.outside host.old).disk ≡ Some before → MatchResult result (λ lists. HasFinished (update_of plan.now.steps plan.now.wanted plan.now.roots H.made before.now) (H.outside host.old).children (S.output out.old).written lists (H.outside host.new).children (H.outside host.new).disk (S.output out.new).written) (λ stop. Stopped (update_of plan.now.steps plan.now.wanted plan.now.roots H.made before.now) (H.outside host.old).children (S.output out.old).written stop (H.outside host.new).children (H.outside host.new).disk (S.output out.new).written) }
+    ensures proceeds { Proceeds (moment (H.outside host.old) (S.output out.old)) (moment (H.outside host.new) (S.output out.new)) result }
+    ensures keeps { Keeps (H.outside host.old) (H.outside host.new) }
+    ensures turns { PlanTurns (H.outside host.old) (H.outside host.new) result }
+    ensures told { PlanTold plan.now H.made (moment (H.outside host.old) (S.output out.old)) (moment (H.outside host.new) (S.output out.new)) result }
 {
     let missing = missing_inputs(alloc, plan, host)?;
     let outcomes = run_steps(alloc, plan, missing.as_slice(), host, out)?;
@@ -114,15 +106,15 @@ pub fn update<H: Children, S: Sink>(
     requires idle { (H.outside host.old).children.running ≡ [] }
     requires apart { Apart plan.now.steps plan.now.roots }
     requires plain { IsPlain plan.now.steps plan.now.wanted }
-
-    ensures faults { FaultsTold (H.outside host.old).faults (H.outside host.new).faults (H.outside host.new).children.running (S.output out.old).faults (S.output out.new).faults result }
-    // No child is left, unless a wait failed, and then the host's count of faults rose.
-    ensures none_left { ((H.outside host.new).children.running ≡ []) ⊎ Rose (H.outside host.old).faults (H.outside host.new).faults }
-    ensures waited { ((H.outside host.new).children.running ≡ []) ⊎ Rose (H.outside host.old).failed_waits (H.outside host.new).failed_waits }
+    ensures counts { FaultsTold (moment (H.outside host.old) (S.output out.old)) (moment (H.outside host.new) (S.output out.new)) result }
+    // No child is left, unless a wait for it failed, and then both counts of the host rose.
+    ensures none_left { LeavesNone (H.outside host.old) (H.outside host.new) }
+    // No count falls, visible files stay visible, and all that stood stays among the past.
+    ensures keeps { Keeps (H.outside host.old) (H.outside host.new) }
     // The events are in turn, over every host: one step is open at a time, none starts twice, and each failed step was done.
     ensures turns { HasTurns (failed_of result) (H.outside host.old).children.events (H.outside host.new).children.events }
-    ensures updated { BothTold (λ before after. HasUpdated (update_all (build_of plan.now.steps plan.now.wanted plan.now.roots H.made before.now)) (H.outside host.old).children (H.outside host.new).children result before after) (H.outside host.old).disk (H.outside host.new).disk }
-    ensures written { BothTold (λ before after. HasWritten (update_all (build_of plan.now.steps plan.now.wanted plan.now.roots H.made before.now)) result (H.outside host.old).children (H.outside host.new).children (S.output out.old).written (S.output out.new).written) (H.outside host.old).disk (H.outside host.new).disk }
+    ensures updated { UpdateTold plan.now H.made (H.outside host.old) (H.outside host.new) result }
+    ensures written { WritingTold plan.now H.made (moment (H.outside host.old) (S.output out.old)) (moment (H.outside host.new) (S.output out.new)) result }
 {
     match run_plan(alloc, plan, host, out) {
         Ok(lists) => finished(lists),

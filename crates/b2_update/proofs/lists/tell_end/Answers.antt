@@ -1,73 +1,78 @@
-use Rattle.std.proofs.Common.{◌++◌, ◌∙◌, ℕ, List, subst}
+use Rattle.std.proofs.Common.{◌++◌, ◌∙◌, ℕ, List, refl, sym, ap, subst, Err}
 use Rattle.std.specs.List.{flat_map}
-use Rattle.b2_plan.specs.Plans.{step_at}
-use Rattle.b2_update.specs.Reports.{missing_line, skipped_line, said_of, summary_line, end_lines}
-use Rattle.b2_update.specs.Runners.{Adds, AddsPart}
-use Rattle.b2_update.proofs.WritingLemmas.{on_err, on_ok_map, on_err_map, part_of_more, part_whole, adds_both, adds_then_part}
+use Rattle.std.proofs.lemmas.Result.{err_from_is_err_and}
+use Rattle.b2_host.specs.Output.{Output}
+use Rattle.b2_update.specs.Reports.{missing_line, skipped_lines, summary_line, end_lines}
+use Rattle.b2_update.specs.Writings.{Adds, AddsPart}
+use Rattle.b2_update.specs.Stops.{Says}
+use Rattle.b2_update.proofs.WritingLemmas.{says_err, says_from, says_map, says_no_memory, part_of_more, part_whole, adds_both, adds_then_part}
 use Rattle.b2_update.proofs.lists.tell_end.Goals as goal
 
-pub returns-in_err-tell_missing-clause-err : goal.returns-in_err-tell_missing-clause-err
-returns-in_err-tell_missing-clause-err g c =
+pub returns-in_err-tell_missing : goal.returns-in_err-tell_missing
+returns-in_err-tell_missing g c =
+    let (y, e, q) = err_from_is_err_and c.from_residual.result c.from_residual.ensures.1 in
     let lists = c.args.lists.now in
     let a = flat_map missing_line lists.missing in
-    let b = flat_map (λ (i : ℕ). said_of skipped_line (step_at c.args.steps.now i)) lists.skipped in
-    let w0 = (g.S.Sink.output c.args.out.now).written in
-    let w1 = (g.S.Sink.output c.tell_missing.new.out).written in
-    let part : AddsPart a w0 w1 = subst (λ (l : List (List ℕ)). AddsPart (flat_map missing_line l) w0 w1) c.as_slice.ensures c.in_err-tell_missing.ensures.err in
-    on_err c.from_residual.result _ (part_of_more (a ++ b) (summary_line c.args.updated lists) w0 w1 (part_of_more a b w0 w1 part))
+    let b = skipped_lines c.args.steps.now lists.skipped in
+    let last = summary_line c.args.updated lists in
+    let text = end_lines c.args.steps.now c.args.updated lists in
+    let o0 = g.S.Sink.output c.args.out.now in
+    let o1 = g.S.Sink.output c.tell_missing.new.out in
+    let says = subst (λ z. Says {T = Unit {0}} (flat_map missing_line c.as_slice.result.now) o0 o1 (Err z)) (sym q) c.in_err-tell_missing.ensures in
+    says_err text o0 o1 c.from_residual.result y e (says_from (flat_map missing_line c.as_slice.result.now) text o0 o0 o1 y refl
+    (λ part. part_of_more (a ++ b) last o0.written o1.written (part_of_more a b o0.written o1.written (subst (λ (l : List (List ℕ)). AddsPart (flat_map missing_line l) o0.written o1.written) c.as_slice.ensures part))) says)
 
-pub returns-in_err-tell_skipped-clause-err : goal.returns-in_err-tell_skipped-clause-err
-returns-in_err-tell_skipped-clause-err g c =
+pub returns-in_err-tell_skipped : goal.returns-in_err-tell_skipped
+returns-in_err-tell_skipped g c =
+    let (y, e, q) = err_from_is_err_and c.from_residual-in_err-tell_skipped.result c.from_residual-in_err-tell_skipped.ensures.1 in
     let lists = c.args.lists.now in
-    let say = λ (i : ℕ). said_of skipped_line (step_at c.args.steps.now i) in
     let a = flat_map missing_line lists.missing in
-    let b = flat_map say lists.skipped in
-    let w0 = (g.S.Sink.output c.args.out.now).written in
-    let w1 = (g.S.Sink.output c.tell_missing.new.out).written in
-    let w2 = (g.S.Sink.output c.tell_skipped.new.out).written in
-    let one : Adds a w0 w1 = subst (λ (l : List (List ℕ)). Adds (flat_map missing_line l) w0 w1) c.as_slice.ensures c.in_ok-tell_missing.ensures.ok in
-    let part : AddsPart b w1 w2 = subst (λ (l : List ℕ). AddsPart (flat_map say l) w1 w2) c.as_slice-2.ensures c.in_err-tell_skipped.ensures.err in
-    on_err c.from_residual-in_err-tell_skipped.result _ (part_of_more (a ++ b) (summary_line c.args.updated lists) w0 w2 (adds_then_part a b w0 w1 w2 one part))
+    let b = skipped_lines c.args.steps.now lists.skipped in
+    let last = summary_line c.args.updated lists in
+    let text = end_lines c.args.steps.now c.args.updated lists in
+    let o0 = g.S.Sink.output c.args.out.now in
+    let o1 = g.S.Sink.output c.tell_missing.new.out in
+    let one : Adds a o0.written o1.written = subst (λ (l : List (List ℕ)). Adds (flat_map missing_line l) o0.written o1.written) c.as_slice.ensures (ap (λ (o : Output). o.written) c.in_ok-tell_missing.ensures) in
+    let quiet1 = ap (λ (o : Output). o.faults) c.in_ok-tell_missing.ensures in
+    let o2 = g.S.Sink.output c.tell_skipped.new.out in
+    let says = subst (λ z. Says {T = Unit {0}} (skipped_lines c.args.steps.now c.as_slice-2.result.now) o1 o2 (Err z)) (sym q) c.in_err-tell_skipped.ensures in
+    says_err text o0 o2 c.from_residual-in_err-tell_skipped.result y e (says_from (skipped_lines c.args.steps.now c.as_slice-2.result.now) text o0 o1 o2 y quiet1
+    (λ part. part_of_more (a ++ b) last o0.written o2.written (adds_then_part a b o0.written o1.written o2.written one (subst (λ (l : List ℕ). AddsPart (skipped_lines c.args.steps.now l) o1.written o2.written) c.as_slice-2.ensures part))) says)
 
-pub returns-in_err-line-clause-err : goal.returns-in_err-line-clause-err
-returns-in_err-line-clause-err g c =
+pub returns-in_err-line : goal.returns-in_err-line
+returns-in_err-line g c =
+    let (y, e, q) = err_from_is_err_and c.from_residual-in_err-line.result c.from_residual-in_err-line.ensures.1 in
     let lists = c.args.lists.now in
-    let say = λ (i : ℕ). said_of skipped_line (step_at c.args.steps.now i) in
     let a = flat_map missing_line lists.missing in
-    let b = flat_map say lists.skipped in
-    let w0 = (g.S.Sink.output c.args.out.now).written in
-    let w1 = (g.S.Sink.output c.tell_missing.new.out).written in
-    let w2 = (g.S.Sink.output c.tell_skipped.new.out).written in
-    let one : Adds a w0 w1 = subst (λ (l : List (List ℕ)). Adds (flat_map missing_line l) w0 w1) c.as_slice.ensures c.in_ok-tell_missing.ensures.ok in
-    let two : Adds b w1 w2 = subst (λ (l : List ℕ). Adds (flat_map say l) w1 w2) c.as_slice-2.ensures c.in_ok-tell_skipped.ensures.ok in
-    on_err c.from_residual-in_err-line.result _ (part_of_more (a ++ b) (summary_line c.args.updated lists) w0 w2 (part_whole (a ++ b) w0 w2 (adds_both a b w0 w1 w2 one two)))
+    let b = skipped_lines c.args.steps.now lists.skipped in
+    let last = summary_line c.args.updated lists in
+    let text = end_lines c.args.steps.now c.args.updated lists in
+    let o0 = g.S.Sink.output c.args.out.now in
+    let o1 = g.S.Sink.output c.tell_missing.new.out in
+    let one : Adds a o0.written o1.written = subst (λ (l : List (List ℕ)). Adds (flat_map missing_line l) o0.written o1.written) c.as_slice.ensures (ap (λ (o : Output). o.written) c.in_ok-tell_missing.ensures) in
+    let quiet1 = ap (λ (o : Output). o.faults) c.in_ok-tell_missing.ensures in
+    let o2 = g.S.Sink.output c.tell_skipped.new.out in
+    let two : Adds b o1.written o2.written = subst (λ (l : List ℕ). Adds (skipped_lines c.args.steps.now l) o1.written o2.written) c.as_slice-2.ensures (ap (λ (o : Output). o.written) c.in_ok-tell_skipped.ensures) in
+    let both = adds_both a b o0.written o1.written o2.written one two in
+    let quiet2 = ap (λ (o : Output). o.faults) c.in_ok-tell_skipped.ensures ∙ quiet1 in
+    says_err text o0 o2 c.from_residual-in_err-line.result y e (says_no_memory text o0 o2 y q quiet2 (part_of_more (a ++ b) last o0.written o2.written (part_whole (a ++ b) o0.written o2.written both)))
 
-pub returns-clause-ok : goal.returns-clause-ok
-returns-clause-ok g c =
+pub returns : goal.returns
+returns g c =
     let lists = c.args.lists.now in
-    let say = λ (i : ℕ). said_of skipped_line (step_at c.args.steps.now i) in
     let a = flat_map missing_line lists.missing in
-    let b = flat_map say lists.skipped in
-    let w0 = (g.S.Sink.output c.args.out.now).written in
-    let w1 = (g.S.Sink.output c.tell_missing.new.out).written in
-    let w2 = (g.S.Sink.output c.tell_skipped.new.out).written in
-    let w3 = (g.S.Sink.output c.write_line.new.out).written in
-    let one : Adds a w0 w1 = subst (λ (l : List (List ℕ)). Adds (flat_map missing_line l) w0 w1) c.as_slice.ensures c.in_ok-tell_missing.ensures.ok in
-    let two : Adds b w1 w2 = subst (λ (l : List ℕ). Adds (flat_map say l) w1 w2) c.as_slice-2.ensures c.in_ok-tell_skipped.ensures.ok in
-    on_ok_map c.write_line.result (Adds c.as_str.result.now w2 w3) (Adds (end_lines c.args.steps.now c.args.updated lists) w0 w3) c.write_line.ensures.ok
-    (λ last. adds_both (a ++ b) (summary_line c.args.updated lists) w0 w2 w3 (adds_both a b w0 w1 w2 one two) (subst (λ t. Adds t w2 w3) (c.as_str.ensures.value ∙ c.in_ok-line.ensures) last))
-
-pub returns-clause-err : goal.returns-clause-err
-returns-clause-err g c =
-    let lists = c.args.lists.now in
-    let say = λ (i : ℕ). said_of skipped_line (step_at c.args.steps.now i) in
-    let a = flat_map missing_line lists.missing in
-    let b = flat_map say lists.skipped in
-    let w0 = (g.S.Sink.output c.args.out.now).written in
-    let w1 = (g.S.Sink.output c.tell_missing.new.out).written in
-    let w2 = (g.S.Sink.output c.tell_skipped.new.out).written in
-    let w3 = (g.S.Sink.output c.write_line.new.out).written in
-    let one : Adds a w0 w1 = subst (λ (l : List (List ℕ)). Adds (flat_map missing_line l) w0 w1) c.as_slice.ensures c.in_ok-tell_missing.ensures.ok in
-    let two : Adds b w1 w2 = subst (λ (l : List ℕ). Adds (flat_map say l) w1 w2) c.as_slice-2.ensures c.in_ok-tell_skipped.ensures.ok in
-    on_err_map c.write_line.result (AddsPart c.as_str.result.now w2 w3) (AddsPart (end_lines c.args.steps.now c.args.updated lists) w0 w3) c.write_line.ensures.err
-    (λ last. adds_then_part (a ++ b) (summary_line c.args.updated lists) w0 w2 w3 (adds_both a b w0 w1 w2 one two) (subst (λ t. AddsPart t w2 w3) (c.as_str.ensures.value ∙ c.in_ok-line.ensures) last))
+    let b = skipped_lines c.args.steps.now lists.skipped in
+    let last = summary_line c.args.updated lists in
+    let text = end_lines c.args.steps.now c.args.updated lists in
+    let o0 = g.S.Sink.output c.args.out.now in
+    let o1 = g.S.Sink.output c.tell_missing.new.out in
+    let one : Adds a o0.written o1.written = subst (λ (l : List (List ℕ)). Adds (flat_map missing_line l) o0.written o1.written) c.as_slice.ensures (ap (λ (o : Output). o.written) c.in_ok-tell_missing.ensures) in
+    let quiet1 = ap (λ (o : Output). o.faults) c.in_ok-tell_missing.ensures in
+    let o2 = g.S.Sink.output c.tell_skipped.new.out in
+    let two : Adds b o1.written o2.written = subst (λ (l : List ℕ). Adds (skipped_lines c.args.steps.now l) o1.written o2.written) c.as_slice-2.ensures (ap (λ (o : Output). o.written) c.in_ok-tell_skipped.ensures) in
+    let both = adds_both a b o0.written o1.written o2.written one two in
+    let quiet2 = ap (λ (o : Output). o.faults) c.in_ok-tell_skipped.ensures ∙ quiet1 in
+    let o3 = g.S.Sink.output c.write_line.new.out in
+    let line = c.as_str.ensures.value ∙ c.in_ok-line.ensures in
+    says_map c.as_str.result.now text o0 o2 o3 c.write_line.result quiet2 (λ adds. adds_both (a ++ b) last o0.written o2.written o3.written both (subst (λ t. Adds t o2.written o3.written) line adds))
+    (λ part. adds_then_part (a ++ b) last o0.written o2.written o3.written both (subst (λ t. AddsPart t o2.written o3.written) line part)) c.write_line.ensures

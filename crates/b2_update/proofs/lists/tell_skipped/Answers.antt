@@ -1,9 +1,50 @@
-use Rattle.std.proofs.Common.{ℕ}
+use Rattle.std.proofs.Common.{ℕ, get_or, sym, subst, ap, ◌∙◌, Err}
+use Rattle.std.proofs.lemmas.Result.{err_from_is_err_and}
+use Rattle.b2_host.specs.Output.{Output}
 use Rattle.b2_plan.specs.Plans.{step_at}
-use Rattle.b2_update.specs.Reports.{skipped_line, said_of}
-use Rattle.b2_update.proofs.WritingLemmas.{on_err, part_more}
+use Rattle.b2_update.specs.Reports.{skipped_line, skipped_lines, said_of}
+use Rattle.b2_update.specs.Writings.{Adds}
+use Rattle.b2_update.specs.Stops.{Says}
+use Rattle.b2_update.proofs.ListLemmas.{take_whole}
+use Rattle.b2_update.proofs.WritingLemmas.{says_err, says_from, says_all, part_more, adds_more}
 use Rattle.b2_update.proofs.lists.tell_skipped.Goals as goal
 
-pub returns-in_err-tell_one_skipped-clause-err : goal.returns-in_err-tell_one_skipped-clause-err
-returns-in_err-tell_one_skipped-clause-err g c =
-    on_err c.from_residual.result _ (part_more (λ (i : ℕ). said_of skipped_line (step_at c.args.steps.now i)) c.args.numbers.now c.loop-number.number-index 0 _ _ _ c.loop-number-test.true c.loop-number.invariant.lines c.in_err-tell_one_skipped.ensures.err)
+pub returns-in_err-tell_one_skipped : goal.returns-in_err-tell_one_skipped
+returns-in_err-tell_one_skipped g c =
+    let (y, e, q) = err_from_is_err_and c.from_residual.result c.from_residual.ensures.1 in
+    let steps = c.args.steps.now in
+    let numbers = c.args.numbers.now in
+    let say = λ (i : ℕ). said_of skipped_line (step_at steps i) in
+    let i = c.loop-number.number-index in
+    let before = g.S.Sink.output c.args.out.now in
+    let here = g.S.Sink.output c.loop-number.out in
+    let after = g.S.Sink.output c.tell_one_skipped.new.out in
+    let text = say (get_or numbers i 0) in
+    let says = subst (λ z. Says {T = Unit {0}} text here after (Err z)) (sym q) c.in_err-tell_one_skipped.ensures in
+    says_err (skipped_lines steps numbers) before after c.from_residual.result y e (says_from text (skipped_lines steps numbers) before here after y c.loop-number.invariant.faults
+    (λ part. part_more say numbers i 0 before.written here.written after.written c.loop-number-test.true c.loop-number.invariant.lines part) says)
+
+pub loop-number-preserved : goal.loop-number-preserved
+loop-number-preserved g c =
+    let steps = c.args.steps.now in
+    let numbers = c.args.numbers.now in
+    let say = λ (i : ℕ). said_of skipped_line (step_at steps i) in
+    let i = c.loop-number.number-index in
+    let before = g.S.Sink.output c.args.out.now in
+    let here = g.S.Sink.output c.loop-number.out in
+    let after = g.S.Sink.output c.tell_one_skipped.new.out in
+    record {
+      faults = ap (λ (o : Output). o.faults) c.in_ok-tell_one_skipped.ensures ∙ c.loop-number.invariant.faults;
+      lines = adds_more say numbers i 0 before.written here.written after.written c.loop-number-test.true c.loop-number.invariant.lines (ap (λ (o : Output). o.written) c.in_ok-tell_one_skipped.ensures);
+    }
+
+pub returns : goal.returns
+returns g c =
+    let steps = c.args.steps.now in
+    let numbers = c.args.numbers.now in
+    let say = λ (i : ℕ). said_of skipped_line (step_at steps i) in
+    let i = c.loop-number.number-index in
+    let before = g.S.Sink.output c.args.out.now in
+    let here = g.S.Sink.output c.loop-number.out in
+    let whole = take_whole numbers i c.loop-number-test.false in
+    says_all (skipped_lines steps numbers) before here c.loop-number.invariant.faults (subst (λ l. Adds (skipped_lines steps l) before.written here.written) whole c.loop-number.invariant.lines)

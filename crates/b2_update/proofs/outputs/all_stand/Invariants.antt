@@ -3,9 +3,6 @@ use Rattle.b2_update.proofs.outputs.all_stand.Given as goal
 
 abbrev pub invariant-loop-out : goal.invariant-loop-out
 invariant-loop-out g l = record {
-  faults : (g.H.Files.outside l.host).faults ≡ (g.H.Files.outside l.fn.host).faults;
-  waits : (g.H.Files.outside l.host).failed_waits ≡ (g.H.Files.outside l.fn.host).failed_waits;
-  family : (g.H.Files.outside l.host).children ≡ (g.H.Files.outside l.fn.host).children;
-  disk : (g.H.Files.outside l.host).disk ≡ (g.H.Files.outside l.fn.host).disk;
+  host : g.H.Files.outside l.host ≡ g.H.Files.outside l.fn.host;
   stand : IfSome (g.H.Files.outside l.fn.host).disk (λ before. (k : ℕ) (d : List ℕ) → k < l.out-index → before.now (get_or l.outs k d) ≢ None);
 }

@@ -1,42 +1,80 @@
-use Rattle.std.proofs.Common.{sym, subst, ◌≡◌, ◌≢◌, true, false, None, IfSome, List, ℕ}
-use Rattle.std.specs.List.{Contains}
-use Rattle.b2_host.specs.Disks.{Disk}
+use Rattle.std.proofs.Common.{◌≡◌, sym, subst, true, false, IfSome, List, ℕ, Err}
 use Rattle.std.proofs.lemmas.Result.{err_from_is_err_and}
-use Rattle.b2_update.specs.declared.stop.Stop.TheVariants as stops
+use Rattle.b2_host.specs.Disks.{Disk}
+use Rattle.b2_host.specs.OutsideLaws.{Keeps}
+use Rattle.b2_update.specs.Moments.{moment}
+use Rattle.b2_update.specs.Stops.{StopLooks, ChangesFiles, CountsTold}
+use Rattle.b2_update.specs.Outputs.{AllStand}
 use Rattle.b2_update.specs.Progress.{HasEndedChild}
-use Rattle.b2_update.proofs.StopLemmas.{goes_err, host_stops}
-use Rattle.b2_update.proofs.NextStepLemmas.{stopped_along, stands_along, ended_along, ended_badly}
+use Rattle.b2_update.proofs.StopLemmas.{goes_err, look_stops, look_told, look_files, look_keeps, counts_err}
+use Rattle.b2_update.proofs.NextStepLemmas.{stopped_look, stands_along, ended_along, ended_badly}
 use Rattle.b2_update.proofs.StepLemmas.{ended_stopped, ended_settled}
 use Rattle.b2_update.proofs.run_step.finish_step.Goals as goal
 
-pub returns-in_err-left-clause-told : goal.returns-in_err-left-clause-told
-returns-in_err-left-clause-told g c = λ u old text list w at come.
+pub returns-in_err-left-clause-counts : goal.returns-in_err-left-clause-counts
+returns-in_err-left-clause-counts g c =
+    let h0 = g.H.Files.outside c.args.host.now in
+    let h1 = g.H.Files.outside c.has_left.new.host in
+    let out = g.S.Sink.output c.args.out.now in
     let (y, e, q) = err_from_is_err_and c.from_residual.result c.from_residual.ensures.1 in
-    let f0 = (g.H.Files.outside c.args.host.now).children in
-    let f1 = (g.H.Files.outside c.has_left.new.host).children in
-    let d0 = (g.H.Files.outside c.args.host.now).disk in
-    let d1 = (g.H.Files.outside c.has_left.new.host).disk in
-    let wr = (g.S.Sink.output c.args.out.now).written in
-    let other : y ≢ stops.Sink = subst (λ z. z ≢ stops.Sink) (sym q) (host_stops (g.H.Files.outside c.args.host.now).faults (g.H.Files.outside c.has_left.new.host).faults c.in_err-left.field-0.0 c.in_err-left.ensures.faults) in
-    goes_err u old text list c.from_residual.result f1 d1 wr y e (stopped_along u old text y f0 f1 d0 d1 wr c.in_err-left.ensures.family c.in_err-left.ensures.disk (ended_stopped u old text list c.args.well f0 d0 wr y other come))
+    let looked = subst (λ z. StopLooks {T = Unit {0}} h0 h1 (Err z)) (sym q) c.in_err-left.ensures.host in
+    counts_err (moment h0 out) (moment h1 out) c.from_residual.result y e (look_told h0 h1 out y looked)
+
+pub returns-in_err-left-clause-files : goal.returns-in_err-left-clause-files
+returns-in_err-left-clause-files g c =
+    let h0 = g.H.Files.outside c.args.host.now in
+    let h1 = g.H.Files.outside c.has_left.new.host in
+    let out = g.S.Sink.output c.args.out.now in
+    let (y, e, q) = err_from_is_err_and c.from_residual.result c.from_residual.ensures.1 in
+    let looked = subst (λ z. StopLooks {T = Unit {0}} h0 h1 (Err z)) (sym q) c.in_err-left.ensures.host in
+    look_files h0 h1 y looked
+
+pub returns-in_err-left-clause-keeps : goal.returns-in_err-left-clause-keeps
+returns-in_err-left-clause-keeps g c =
+    let h0 = g.H.Files.outside c.args.host.now in
+    let h1 = g.H.Files.outside c.has_left.new.host in
+    let out = g.S.Sink.output c.args.out.now in
+    let (y, e, q) = err_from_is_err_and c.from_residual.result c.from_residual.ensures.1 in
+    let looked = subst (λ z. StopLooks {T = Unit {0}} h0 h1 (Err z)) (sym q) c.in_err-left.ensures.host in
+    look_keeps h0 h1 y looked
+
+pub returns-in_err-left-clause-told : goal.returns-in_err-left-clause-told
+returns-in_err-left-clause-told g c = λ u entry list w at come.
+    let h0 = g.H.Files.outside c.args.host.now in
+    let h1 = g.H.Files.outside c.has_left.new.host in
+    let out = g.S.Sink.output c.args.out.now in
+    let (y, e, q) = err_from_is_err_and c.from_residual.result c.from_residual.ensures.1 in
+    let looked = subst (λ z. StopLooks {T = Unit {0}} h0 h1 (Err z)) (sym q) c.in_err-left.ensures.host in
+    goes_err u entry list c.from_residual.result (moment h1 out) y e (stopped_look u entry y (moment h0 out) h1 looked (ended_stopped u entry list c.args.well (moment h0 out) y (look_stops h0 h1 y looked) come))
 
 pub returns-then-left-clause-told : goal.returns-then-left-clause-told
-returns-then-left-clause-told g c = λ u old text list w at come.
-    let f0 = (g.H.Files.outside c.args.host.now).children in
-    let f1 = (g.H.Files.outside c.has_left.new.host).children in
-    let d0 = (g.H.Files.outside c.args.host.now).disk in
-    let d1 = (g.H.Files.outside c.has_left.new.host).disk in
-    let wr = (g.S.Sink.output c.args.out.now).written in
+returns-then-left-clause-told g c = λ u entry list w at come.
+    let h0 = g.H.Files.outside c.args.host.now in
+    let h1 = g.H.Files.outside c.has_left.new.host in
+    let out = g.S.Sink.output c.args.out.now in
     let well : c.args.well ≡ true = c.in_ok-left.ensures.well c.if-left.true in
-    stands_along u old text _ f0 f1 d0 d1 wr c.in_ok-left.ensures.family c.in_ok-left.ensures.disk (ended_settled u old text list f0 d0 wr (subst (λ b. HasEndedChild u old text list b f0 d0 wr) well come))
+    stands_along u entry _ (moment h0 out) h1 c.in_ok-left.ensures.host (ended_settled u entry list (moment h0 out) (subst (λ b. HasEndedChild u entry list b (moment h0 out)) well come))
+
+pub returns-clause-counts : goal.returns-clause-counts
+returns-clause-counts g c =
+    let h0 = g.H.Files.outside c.args.host.now in
+    let h1 = g.H.Files.outside c.has_left.new.host in
+    let out = g.S.Sink.output c.args.out.now in
+    subst (λ h. CountsTold (moment h out) (moment (g.H.Files.outside c.fail_step.new.host) (g.S.Sink.output c.fail_step.new.out)) c.fail_step.result) c.in_ok-left.ensures.host c.fail_step.ensures.counts
+
+pub returns-clause-files : goal.returns-clause-files
+returns-clause-files g c =
+    subst (λ h. ChangesFiles h (g.H.Files.outside c.fail_step.new.host)) c.in_ok-left.ensures.host c.fail_step.ensures.files
+
+pub returns-clause-keeps : goal.returns-clause-keeps
+returns-clause-keeps g c =
+    subst (λ h. Keeps h (g.H.Files.outside c.fail_step.new.host)) c.in_ok-left.ensures.host c.fail_step.ensures.keeps
 
 pub returns-clause-told : goal.returns-clause-told
-returns-clause-told g c = λ u old text list w at come.
-    let f0 = (g.H.Files.outside c.args.host.now).children in
-    let f1 = (g.H.Files.outside c.has_left.new.host).children in
-    let d0 = (g.H.Files.outside c.args.host.now).disk in
-    let d1 = (g.H.Files.outside c.has_left.new.host).disk in
-    let wr = (g.S.Sink.output c.args.out.now).written in
-    let told = subst (λ (l : List (List ℕ)). IfSome d0 (λ (before : Disk). c.args.well ≡ true → ((path : List ℕ) → Contains l path → before.now path ≢ None) → c.in_ok-left.left ≡ true)) c.as_slice.ensures c.in_ok-left.ensures.told in
-    let bad = ended_badly u old text list c.args.step.now c.args.well c.in_ok-left.left f0 d0 wr at come told c.if-left.false in
-    c.fail_step.ensures.told u old text list w at (ended_along u old text list false f0 f1 d0 d1 wr c.in_ok-left.ensures.family c.in_ok-left.ensures.disk bad)
+returns-clause-told g c = λ u entry list w at come.
+    let h0 = g.H.Files.outside c.args.host.now in
+    let h1 = g.H.Files.outside c.has_left.new.host in
+    let out = g.S.Sink.output c.args.out.now in
+    let told = subst (λ (l : List (List ℕ)). IfSome h0.disk (λ (disk : Disk). c.args.well ≡ true → AllStand l disk → c.in_ok-left.left ≡ true)) c.as_slice.ensures c.in_ok-left.ensures.answer in
+    let bad = ended_badly u entry list c.args.step.now c.args.well c.in_ok-left.left (moment h0 out) at come told c.if-left.false in
+    c.fail_step.ensures.told u entry list w at (ended_along u entry list false (moment h0 out) h1 c.in_ok-left.ensures.host bad)

@@ -1,63 +1,70 @@
 use Rattle.std.proofs.Common.{sym, subst, refl}
 use Rattle.b2_host.specs.Disks.{Disk}
-use Rattle.b2_update.specs.Progress.{update_of}
+use Rattle.b2_host.specs.OutsideLaws.{stays_visible}
+use Rattle.b2_update.specs.Moments.{moment}
+use Rattle.b2_update.specs.Plain.{update_of}
 use Rattle.b2_update.specs.Updates.{HasUpdated, HasWritten}
 use Rattle.b2_update.proofs.EndLemmas.{both_from, finished_updated, finished_written, stopped_updated, stopped_written}
 use Rattle.b2_update.proofs.TurnLemmas.{turns_end, turns_stop}
+use Rattle.b2_update.proofs.StopLemmas.{finished_counts, stopped_counts}
 use Rattle.b2_update.proofs.update.update.Goals as goal
+
+pub returns-in-Ok-clause-counts : goal.returns-in-Ok-clause-counts
+returns-in-Ok-clause-counts g c =
+    let first = moment (g.H.Files.outside c.args.host.now) (g.S.Sink.output c.args.out.now) in
+    let last = moment (g.H.Files.outside c.run_plan.new.host) (g.S.Sink.output c.run_plan.new.out) in
+    finished_counts first last c.in-Ok.lists c.finished.result c.finished.ensures c.in-Ok.ensures.proceeds
+
+pub returns-in-Err-clause-counts : goal.returns-in-Err-clause-counts
+returns-in-Err-clause-counts g c =
+    let first = moment (g.H.Files.outside c.args.host.now) (g.S.Sink.output c.args.out.now) in
+    let last = moment (g.H.Files.outside c.run_plan.new.host) (g.S.Sink.output c.run_plan.new.out) in
+    stopped_counts first last c.in-Err.stop c.stopped.result c.stopped.ensures c.in-Err.ensures.proceeds
 
 pub returns-in-Ok-clause-updated : goal.returns-in-Ok-clause-updated
 returns-in-Ok-clause-updated g c =
-    let plan = c.args.plan.now in
-    let f0 = (g.H.Files.outside c.args.host.now).children in
-    let f1 = (g.H.Files.outside c.run_plan.new.host).children in
-    let d0 = (g.H.Files.outside c.args.host.now).disk in
-    let d1 = (g.H.Files.outside c.run_plan.new.host).disk in
-    both_from (λ (before after : Disk). HasUpdated (update_of plan.steps plan.wanted plan.roots g.H.Children.made before.now) f0 f1 c.finished.result before after) d0 d1 c.in-Ok.ensures.untold
-    (λ before is. finished_updated (update_of plan.steps plan.wanted plan.roots g.H.Children.made before.now) c.in-Ok.lists c.finished.result c.finished.ensures f0 f1 (g.S.Sink.output c.args.out.now).written (g.S.Sink.output c.run_plan.new.out).written before d1 refl (c.in-Ok.ensures.told before is))
+    let first = moment (g.H.Files.outside c.args.host.now) (g.S.Sink.output c.args.out.now) in
+    let last = moment (g.H.Files.outside c.run_plan.new.host) (g.S.Sink.output c.run_plan.new.out) in
+    let told = λ (disk : Disk). update_of c.args.plan.now g.H.Children.made disk.now in
+    let visible = stays_visible first.host last.host c.run_plan.ensures.keeps in
+    both_from (λ (disk later : Disk). HasUpdated (told disk) first.host.children last.host.children c.finished.result disk later) first.host.disk last.host.disk visible
+    (λ disk is. finished_updated (told disk) c.in-Ok.lists c.finished.result c.finished.ensures first last disk refl (c.in-Ok.ensures.told disk is))
 
 pub returns-in-Ok-clause-written : goal.returns-in-Ok-clause-written
 returns-in-Ok-clause-written g c =
-    let plan = c.args.plan.now in
-    let f0 = (g.H.Files.outside c.args.host.now).children in
-    let f1 = (g.H.Files.outside c.run_plan.new.host).children in
-    let d0 = (g.H.Files.outside c.args.host.now).disk in
-    let d1 = (g.H.Files.outside c.run_plan.new.host).disk in
-    let w0 = (g.S.Sink.output c.args.out.now).written in
-    let w1 = (g.S.Sink.output c.run_plan.new.out).written in
-    both_from (λ (before after : Disk). HasWritten (update_of plan.steps plan.wanted plan.roots g.H.Children.made before.now) c.finished.result f0 f1 w0 w1) d0 d1 c.in-Ok.ensures.untold
-    (λ before is. finished_written (update_of plan.steps plan.wanted plan.roots g.H.Children.made before.now) c.in-Ok.lists c.finished.result c.finished.ensures f0 f1 w0 w1 d1 (c.in-Ok.ensures.told before is))
+    let first = moment (g.H.Files.outside c.args.host.now) (g.S.Sink.output c.args.out.now) in
+    let last = moment (g.H.Files.outside c.run_plan.new.host) (g.S.Sink.output c.run_plan.new.out) in
+    let told = λ (disk : Disk). update_of c.args.plan.now g.H.Children.made disk.now in
+    let visible = stays_visible first.host last.host c.run_plan.ensures.keeps in
+    both_from (λ (disk later : Disk). HasWritten (told disk) c.finished.result first last) first.host.disk last.host.disk visible
+    (λ disk is. finished_written (told disk) c.in-Ok.lists c.finished.result c.finished.ensures first last (c.in-Ok.ensures.told disk is))
 
 pub returns-in-Err-clause-updated : goal.returns-in-Err-clause-updated
 returns-in-Err-clause-updated g c =
-    let plan = c.args.plan.now in
-    let f0 = (g.H.Files.outside c.args.host.now).children in
-    let f1 = (g.H.Files.outside c.run_plan.new.host).children in
-    let d0 = (g.H.Files.outside c.args.host.now).disk in
-    let d1 = (g.H.Files.outside c.run_plan.new.host).disk in
-    let w0 = (g.S.Sink.output c.args.out.now).written in
-    let w1 = (g.S.Sink.output c.run_plan.new.out).written in
-    both_from (λ (before after : Disk). HasUpdated (update_of plan.steps plan.wanted plan.roots g.H.Children.made before.now) f0 f1 c.stopped.result before after) d0 d1 c.in-Err.ensures.untold
-    (λ before is.
-    let (after, at, has) = stopped_updated (update_of plan.steps plan.wanted plan.roots g.H.Children.made before.now) c.in-Err.stop f0 f1 w0 w1 before d1 refl (c.in-Err.ensures.told before is) in
-    (after, at, subst (λ a. HasUpdated (update_of plan.steps plan.wanted plan.roots g.H.Children.made before.now) f0 f1 a before after) (sym c.stopped.ensures) has))
+    let first = moment (g.H.Files.outside c.args.host.now) (g.S.Sink.output c.args.out.now) in
+    let last = moment (g.H.Files.outside c.run_plan.new.host) (g.S.Sink.output c.run_plan.new.out) in
+    let told = λ (disk : Disk). update_of c.args.plan.now g.H.Children.made disk.now in
+    let visible = stays_visible first.host last.host c.run_plan.ensures.keeps in
+    both_from (λ (disk later : Disk). HasUpdated (told disk) first.host.children last.host.children c.stopped.result disk later) first.host.disk last.host.disk visible
+    (λ disk is.
+    let (later, at, has) = stopped_updated (told disk) c.in-Err.stop first last disk refl (c.in-Err.ensures.told disk is) in
+    (later, at, subst (λ a. HasUpdated (told disk) first.host.children last.host.children a disk later) (sym c.stopped.ensures) has))
 
 pub returns-in-Err-clause-written : goal.returns-in-Err-clause-written
 returns-in-Err-clause-written g c =
-    let plan = c.args.plan.now in
-    let f0 = (g.H.Files.outside c.args.host.now).children in
-    let f1 = (g.H.Files.outside c.run_plan.new.host).children in
-    let d0 = (g.H.Files.outside c.args.host.now).disk in
-    let d1 = (g.H.Files.outside c.run_plan.new.host).disk in
-    let w0 = (g.S.Sink.output c.args.out.now).written in
-    let w1 = (g.S.Sink.output c.run_plan.new.out).written in
-    both_from (λ (before after : Disk). HasWritten (update_of plan.steps plan.wanted plan.roots g.H.Children.made before.now) c.stopped.result f0 f1 w0 w1) d0 d1 c.in-Err.ensures.untold
-    (λ before is.
-    let (after, at, has) = stopped_written (update_of plan.steps plan.wanted plan.roots g.H.Children.made before.now) c.in-Err.stop f0 f1 w0 w1 d1 (c.in-Err.ensures.told before is) in
-    (after, at, subst (λ a. HasWritten (update_of plan.steps plan.wanted plan.roots g.H.Children.made before.now) a f0 f1 w0 w1) (sym c.stopped.ensures) has))
+    let first = moment (g.H.Files.outside c.args.host.now) (g.S.Sink.output c.args.out.now) in
+    let last = moment (g.H.Files.outside c.run_plan.new.host) (g.S.Sink.output c.run_plan.new.out) in
+    let told = λ (disk : Disk). update_of c.args.plan.now g.H.Children.made disk.now in
+    let visible = stays_visible first.host last.host c.run_plan.ensures.keeps in
+    both_from (λ (disk later : Disk). HasWritten (told disk) c.stopped.result first last) first.host.disk last.host.disk visible
+    (λ disk is.
+    let (later, at, has) = stopped_written (told disk) c.in-Err.stop first last (c.in-Err.ensures.told disk is) in
+    (later, at, subst (λ a. HasWritten (told disk) a first last) (sym c.stopped.ensures) has))
 
 pub returns-in-Ok-clause-turns : goal.returns-in-Ok-clause-turns
-returns-in-Ok-clause-turns g c = turns_end c.in-Ok.lists c.finished.result (g.H.Files.outside c.args.host.now).children.events (g.H.Files.outside c.run_plan.new.host).children.events c.finished.ensures c.in-Ok.ensures.turns
+returns-in-Ok-clause-turns g c =
+    turns_end c.in-Ok.lists c.finished.result (g.H.Files.outside c.args.host.now).children.events (g.H.Files.outside c.run_plan.new.host).children.events c.finished.ensures c.in-Ok.ensures.turns
 
 pub returns-in-Err-clause-turns : goal.returns-in-Err-clause-turns
-returns-in-Err-clause-turns g c = turns_stop c.in-Err.stop c.stopped.result (g.H.Files.outside c.args.host.now).children.events (g.H.Files.outside c.run_plan.new.host).children.events c.stopped.ensures c.in-Err.ensures.turns
+returns-in-Err-clause-turns g c =
+    turns_stop c.in-Err.stop c.stopped.result (g.H.Files.outside c.args.host.now).children.events (g.H.Files.outside c.run_plan.new.host).children.events c.stopped.ensures c.in-Err.ensures.turns
