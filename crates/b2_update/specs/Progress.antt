@@ -157,21 +157,26 @@ pub record HasFinished (u : Update) (entry : Moment) (lists : FailedLists) (here
 
 -- the end of the next step's child is dealt with
 abbrev pub EndTold : Step → Bool → Moment → Moment → Result Outcome Stop → Type 0
-EndTold step well before after result = (u : Update) (entry : Moment) (list : List Outcome) → IsWhole u → step_at u.build.steps (length list + 1) ≡ Some step → HasEndedChild u entry list well before → GoesOn u entry list result after
+EndTold step well before after result = (u : Update) (entry : Moment) (list : List Outcome) → IsWhole u → step_at u.build.steps (length list + 1) ≡ Some step
+    → HasEndedChild u entry list well before → GoesOn u entry list result after
 
 -- the next step, which can run, is run
 abbrev pub DueTold : Made → ℕ → Step → Moment → Moment → Result Outcome Stop → Type 0
-DueTold made number step before after result = (u : Update) (entry : Moment) (list : List Outcome) → IsDue u made list number step → Stands u entry list before → GoesOn u entry list result after
+DueTold made number step before after result = (u : Update) (entry : Moment) (list : List Outcome) → IsDue u made list number step
+    → Stands u entry list before → GoesOn u entry list result after
 
 -- the next step is dealt with
 abbrev pub StepTold : Plan → Made → List (List ℕ) → List Outcome → Moment → Moment → Result Outcome Stop → Type 0
-StepTold plan made missing list before after result = (folder : Folder) (entry : Moment) → IsPrepared (update_of plan made folder) missing → Stands (update_of plan made folder) entry list before → GoesOn (update_of plan made folder) entry list result after
+StepTold plan made missing list before after result = (folder : Folder) (entry : Moment) → IsPrepared (update_of plan made folder) missing
+    → Stands (update_of plan made folder) entry list before → GoesOn (update_of plan made folder) entry list result after
 
 -- all steps are dealt with
 abbrev pub StepsTold : Plan → Made → List (List ℕ) → Moment → Moment → Result (Vec Outcome) Stop → Type 0
-StepsTold plan made missing before after result = (folder : Folder) (entry : Moment) → IsPrepared (update_of plan made folder) missing → Stands (update_of plan made folder) entry [] before
+StepsTold plan made missing before after result = (folder : Folder) (entry : Moment) → IsPrepared (update_of plan made folder) missing
+    → Stands (update_of plan made folder) entry [] before
     → MatchResult result (λ outcomes. Stands (update_of plan made folder) entry outcomes.items after) (λ stop. Stopped (update_of plan made folder) entry stop after)
 
 -- the plan is run
 abbrev pub PlanTold : Plan → Made → Moment → Moment → Result FailedLists Stop → Type 0
-PlanTold plan made before after result = (disk : Disk) → before.host.disk ≡ Some disk → MatchResult result (λ lists. HasFinished (update_of plan made disk.now) before lists after) (λ stop. Stopped (update_of plan made disk.now) before stop after)
+PlanTold plan made before after result = (disk : Disk) → before.host.disk ≡ Some disk
+    → MatchResult result (λ lists. HasFinished (update_of plan made disk.now) before lists after) (λ stop. Stopped (update_of plan made disk.now) before stop after)

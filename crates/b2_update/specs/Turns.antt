@@ -68,18 +68,20 @@ TurnsOn list old new (Err stop) = HasTurns [] old new
 -- What the parts of an update do to events that are in turn, whatever came before them:
 
 -- the step with a number, which is the next one, is run
-abbrev pub NextTurns : ℕ → Outside → Outside → Result Outcome Stop → Type 0
-NextTurns number before after result = (list : List Outcome) (old : List ChildEvent) → number ≡ length list + 1 → HadTurns list old before.children.events → TurnsOn list old after.children.events result
+abbrev pub DueTurns : ℕ → Outside → Outside → Result Outcome Stop → Type 0
+DueTurns number before after result = (list : List Outcome) (old : List ChildEvent) → number ≡ length list + 1
+    → HadTurns list old before.children.events → TurnsOn list old after.children.events result
 
 -- the next step is dealt with
 abbrev pub StepTurns : List Outcome → Outside → Outside → Result Outcome Stop → Type 0
 StepTurns list before after result = (old : List ChildEvent) → HadTurns list old before.children.events → TurnsOn list old after.children.events result
 
 -- all steps are dealt with
-abbrev pub StepsTurn : Outside → Outside → Result (Vec Outcome) Stop → Type 0
-StepsTurn before after result = (old : List ChildEvent) → HadTurns [] old before.children.events
+abbrev pub StepsTurns : Outside → Outside → Result (Vec Outcome) Stop → Type 0
+StepsTurns before after result = (old : List ChildEvent) → HadTurns [] old before.children.events
     → MatchResult result (λ outcomes. HadTurns outcomes.items old after.children.events) (λ stop. HasTurns [] old after.children.events)
 
 -- the plan is run
 abbrev pub PlanTurns : Outside → Outside → Result FailedLists Stop → Type 0
-PlanTurns before after result = MatchResult result (λ lists. HasTurns lists.failed before.children.events after.children.events) (λ stop. HasTurns [] before.children.events after.children.events)
+PlanTurns before after result =
+    MatchResult result (λ lists. HasTurns lists.failed before.children.events after.children.events) (λ stop. HasTurns [] before.children.events after.children.events)

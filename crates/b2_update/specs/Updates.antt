@@ -117,7 +117,8 @@ pub record HasUpdated (u : Update) (old new : Family) (answer : UpdateAnswer) (b
 
 -- what the update of a plan has done, where the files are visible
 abbrev pub UpdateTold : Plan → Made → Outside → Outside → UpdateAnswer → Type 0
-UpdateTold plan made before after answer = BothTold (λ disk later. HasUpdated (update_of plan made disk.now) before.children after.children answer disk later) before.disk after.disk
+UpdateTold plan made before after answer =
+    BothTold (λ disk later. HasUpdated (update_of plan made disk.now) before.children after.children answer disk later) before.disk after.disk
 
 -- the bytes that were written, where the sink tells them
 abbrev pub HasWritten : Update → UpdateAnswer → Moment → Moment → Type 0
@@ -126,7 +127,8 @@ HasWritten u answer before after = (events : List ChildEvent) → after.host.chi
 
 -- what the update of a plan has written, where the files are visible
 abbrev pub WritingTold : Plan → Made → Moment → Moment → UpdateAnswer → Type 0
-WritingTold plan made before after answer = BothTold (λ disk later. HasWritten (update_of plan made disk.now) answer before after) before.host.disk after.host.disk
+WritingTold plan made before after answer =
+    BothTold (λ disk later. HasWritten (update_of plan made disk.now) answer before after) before.host.disk after.host.disk
 
 -- the answer of an update that was stopped
 abbrev pub stop_answer : Stop → UpdateAnswer

@@ -57,7 +57,8 @@ pub fn run_child<H: Children, S: Sink>(
     requires { (H.outside host.old).children.running ≡ [] }
     ensures proceeds { Proceeds (moment (H.outside host.old) (S.output out.old)) (moment (H.outside host.new) (S.output out.new)) result }
     ensures keeps { Keeps (H.outside host.old) (H.outside host.new) }
-    ensures run { RunsChild H.made number step.now ins.now line.now (moment (H.outside host.old) (S.output out.old)) (moment (H.outside host.new) (S.output out.new)) result }
+    ensures run { RunsChild H.made number step.now ins.now line.now
+        (moment (H.outside host.old) (S.output out.old)) (moment (H.outside host.new) (S.output out.new)) result }
 {
     if let Err(fault) = host.start(number, step.text.as_str(), ins, step.outs.as_slice()) {
         return Err(host_stop(fault));

@@ -10,7 +10,7 @@ ghost use Rattle.b2_update.specs.Stops.{StopLooks, ChangesFiles, CountsTold, Pro
 ghost use Rattle.b2_update.specs.Outputs.{AllStand};
 ghost use Rattle.b2_update.specs.Inputs.{IsReadable, outcome_at};
 ghost use Rattle.b2_update.specs.Progress.{EndTold, DueTold, StepTold};
-ghost use Rattle.b2_update.specs.Turns.{NextTurns, StepTurns};
+ghost use Rattle.b2_update.specs.Turns.{DueTurns, StepTurns};
 
 use crate::child::{run_child, write_line};
 use crate::distinct::distinct;
@@ -129,7 +129,7 @@ fn start_step<H: Children, S: Sink>(
     requires idle { (H.outside host.old).children.running ≡ [] }
     ensures proceeds { Proceeds (moment (H.outside host.old) (S.output out.old)) (moment (H.outside host.new) (S.output out.new)) result }
     ensures keeps { Keeps (H.outside host.old) (H.outside host.new) }
-    ensures turns { NextTurns number (H.outside host.old) (H.outside host.new) result }
+    ensures turns { DueTurns number (H.outside host.old) (H.outside host.new) result }
     ensures told { DueTold H.made number step.now (moment (H.outside host.old) (S.output out.old)) (moment (H.outside host.new) (S.output out.new)) result }
 {
     let ins = distinct(alloc, step.ins.as_slice())?;
@@ -155,7 +155,8 @@ pub fn run_step<H: Children, S: Sink>(
     ensures proceeds { Proceeds (moment (H.outside host.old) (S.output out.old)) (moment (H.outside host.new) (S.output out.new)) result }
     ensures keeps { Keeps (H.outside host.old) (H.outside host.new) }
     ensures turns { StepTurns outcomes.now (H.outside host.old) (H.outside host.new) result }
-    ensures told { StepTold plan.now H.made missing.now outcomes.now (moment (H.outside host.old) (S.output out.old)) (moment (H.outside host.new) (S.output out.new)) result }
+    ensures told { StepTold plan.now H.made missing.now outcomes.now
+        (moment (H.outside host.old) (S.output out.old)) (moment (H.outside host.new) (S.output out.new)) result }
 {
     if !is_ready(plan, missing, outcomes, step.ins.as_slice()) {
         return Ok(Outcome::Skipped);

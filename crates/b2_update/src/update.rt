@@ -8,7 +8,7 @@ ghost use Rattle.b2_update.specs.Moments.{moment};
 ghost use Rattle.b2_update.specs.Plain.{IsPlain};
 ghost use Rattle.b2_update.specs.Stops.{LeavesNone, Proceeds};
 ghost use Rattle.b2_update.specs.Progress.{StepsTold, PlanTold};
-ghost use Rattle.b2_update.specs.Turns.{HasTurns, StepsTurn, PlanTurns, failed_of};
+ghost use Rattle.b2_update.specs.Turns.{HasTurns, StepsTurns, PlanTurns, failed_of};
 ghost use Rattle.b2_update.specs.Updates.{FaultsTold, UpdateTold, WritingTold, stop_answer, IsEndOf};
 
 use crate::failed_lists::FailedLists;
@@ -38,7 +38,7 @@ fn run_steps<H: Children, S: Sink>(
     ensures proceeds { Proceeds (moment (H.outside host.old) (S.output out.old)) (moment (H.outside host.new) (S.output out.new)) result }
     ensures keeps { Keeps (H.outside host.old) (H.outside host.new) }
     ensures whole { IfOk result (λ outcomes. length outcomes.items ≡ length plan.now.steps) }
-    ensures turns { StepsTurn (H.outside host.old) (H.outside host.new) result }
+    ensures turns { StepsTurns (H.outside host.old) (H.outside host.new) result }
     ensures told { StepsTold plan.now H.made missing.now (moment (H.outside host.old) (S.output out.old)) (moment (H.outside host.new) (S.output out.new)) result }
 {
     let mut outcomes = Vec::new(alloc);
