@@ -6,13 +6,19 @@ use Rattle.b2_update.specs.Runs.{is_done}
 use Rattle.b2_host.specs.declared.children.ChildEvent.{ChildEvent}
 use Rattle.b2_host.specs.Disks.{Disk}
 use Rattle.b2_host.specs.Faults.{Rose}
-use Rattle.b2_host.specs.ChildProcesses.{Family, Child, BothTold}
+use Rattle.b2_host.specs.ChildProcesses.{Family, BothTold}
 use Rattle.b2_plan.specs.declared.step.Step.{Step}
 use Rattle.b2_plan.specs.declared.plan.Plan.{Plan}
 use Rattle.b2_update.specs.declared.update_answer.UpdateAnswer.{UpdateAnswer}
 use Rattle.b2_update.specs.declared.update_answer.UpdateAnswer.TheVariants as ends
-use Rattle.b2_update.specs.Plain.{IsPlain}
-use Rattle.b2_update.specs.Updates.{BeginsWith, FaultsTold, HasUpdated, HasWritten}
+use Rattle.b2_update.specs.Plain.{IsPlain, Made}
+use Rattle.b2_update.specs.Updates.{BeginsWith, FaultsTold, HasUpdated}
+use Rattle.b2_update.specs.Moments.{Moment, moment}
+use Rattle.b2_update.specs.Stops.{CountsStay, LeavesNone}
+use Rattle.b2_host.specs.Outside.{Outside, Fails}
+use Rattle.b2_host.specs.Output.{Output}
+use Rattle.b2_host.specs.OutsideLaws.{Keeps, keeps_same, keeps_fails}
+use Rattle.b2_host.specs.FileCalls.{after_read}
 use Rattle.b2_update.specs.Turns.{HasTurns, failed_of}
 use Rattle.b2_update.proofs.TurnLemmas.{turns_none}
 use Rattle.jam_lexer.specs.declared.fault.LexFault.{LexFault}
@@ -25,20 +31,34 @@ use Rattle.b2_top.specs.declared.jamroot.Stop.TheVariants as stops
 use Rattle.b2_top.specs.Rules.{roots}
 use Rattle.b2_top.specs.declared.load.LoadEnd.{LoadEnd}
 use Rattle.b2_top.specs.declared.load.LoadEnd.TheVariants as ends_of_load
-use Rattle.b2_top.specs.Loads.{LoadCounted, EndNamesText, EndTold, IsExactLoad}
+use Rattle.b2_top.specs.Loads.{LoadReads, EndNamesText, EndTold, IsExactLoad}
 use Rattle.b2_top.specs.Jamroots.{outs_of}
 use Rattle.b2_top.specs.ProjectFiles.{jamroot, jamroot_of, IsNotYet, HasLexFault, HasPlan}
 use Rattle.b2_top.specs.Refusals.{fault_line, IsNotOutOfMemory, no_tokens, host_fault_line, usage_line}
-use Rattle.b2_top.specs.Tells.{Tells, TellsFault, IsFaultOf, TellsStop}
-use Rattle.b2_top.specs.Tells.Tells.{told, failed, no_memory}
-use Rattle.b2_top.specs.Tells.TellsFault.{told as fault_told, failed as fault_failed, no_memory as fault_no_memory}
+use Rattle.b2_top.specs.Tells.{TellsLine, TellsFaultLine, IsFaultOf, Tells, TellsFault, TellsStop}
+use Rattle.b2_top.specs.Tells.TellsLine.{told, failed, no_memory}
+use Rattle.b2_top.specs.Tells.TellsFaultLine.{told as fault_told, failed as fault_failed, no_memory as fault_no_memory}
 use Rattle.b2_top.specs.Stops.{NamesText, IsStop, IsExact, IsStoppedBy}
-use Rattle.b2_top.specs.Builds.{update_at, IsCutShort, IsOfWords, StartsNone, RefusalIsNotOutOfMemory, failed_in, CountsTold, HasCause, HasHappened, LeavesClean, ShouldEndWell, TellsHostFault, FailsAtWrite, BeginsSome, ReportedBy, HasReported}
+use Rattle.b2_top.specs.Builds.{update_at, IsCutShort, IsOfWords, StartsNone, RefusalIsNotOutOfMemory, failed_in, CountsTold, ShouldBeNotYet, ShouldHaveNoTokens, HasCause, HasHappened, LeavesClean, ShouldEndWell, TellsHostFault, FailsAtWrite, ReportedBy, HasReported}
 use Rattle.b2_top.specs.Builds.BeginsSome.{nothing}
 use Rattle.b2_top.specs.Builds.FailsAtWrite.{usage as fails_usage, refusal as fails_refusal}
 use Rattle.b2_top.specs.Answered.{IsAnswered, IsThePlan}
 use Rattle.b2_top.proofs.BuildLemmas.{top_of, happened_of, clean_of, complete_of, began, at_plan}
-use Rattle.b2_top.proofs.ReportLemmas.{reported_plain, reported_fault, no_event}
+use Rattle.b2_top.proofs.ReportLemmas.{WroteBy, reported_plain, reported_fault, no_event}
+
+-- what a call promises, told of the parts of its two moments
+pub record IsAnsweredBy (made : Made) (words : List (List ℕ)) (old new : Family) (before after : Option Disk) (host host_after sink sink_after : ℕ) (text text_after : Option (List ℕ)) (result : Answer) : Type 0 where
+  pub clean : result ≡ answers.Ok → BothTold (LeavesClean made) before after
+  pub happened : BothTold (HasHappened made words result old new) before after
+  pub usage : words ≢ [] → IsOfWords result
+  pub turns : HasTurns (failed_in result) old.events new.events
+  pub starts_none : StartsNone result old new
+  pub not_out_of_memory : RefusalIsNotOutOfMemory result
+  pub no_usage : result ≡ answers.Usage → words ≢ []
+  pub not_yet : BothTold (λ b a. (line : ℕ) → ShouldBeNotYet words b line → (result ≡ answers.Refused (faults.NotYet jamroot line)) ⊎ IsCutShort result) before after
+  pub without_tokens : BothTold (λ b a. (fault : LexFault) → ShouldHaveNoTokens words b fault → (result ≡ answers.Refused (no_tokens fault)) ⊎ IsCutShort result) before after
+  pub complete : BothTold (λ b a. (steps : List Step) → ShouldEndWell made words steps old new b → host_after ≡ host → sink_after ≡ sink → (result ≡ answers.Ok) ⊎ IsCutShort result) before after
+  pub reported : BothTold (λ b a. HasReported made words sink sink_after result old new text text_after b) before after
 
 -- what follows where the files are told
 both_map : {P Q : Disk → Disk → Type 0} (d e : Option Disk) → ((b a : Disk) → P b a → Q b a) → BothTold P d e → BothTold Q d e
@@ -74,13 +94,11 @@ has_plan : (plan : Plan) (d : Option Disk) → IfSome d (IsThePlan plan) → IfS
 has_plan plan None h = tt
 has_plan plan (Some b) h = h.0
 
--- what an update ensures
-pub record IsUpdated (made : List ℕ → List (List ℕ × List ℕ) → List ℕ → List ℕ) (steps : List Step) (old new : Family) (d e : Option Disk) (host host_after sink sink_after : ℕ) (text text_after : Option (List ℕ)) (r : UpdateAnswer) : Type 0 where
+-- what an update has done, as the project's plan says it
+pub record IsUpdated (made : Made) (steps : List Step) (old new : Family) (d e : Option Disk) (text text_after : Option (List ℕ)) (r : UpdateAnswer) : Type 0 where
   pub plain : IsPlain steps (outs_of steps)
-  pub counts : FaultsTold host host_after new.running sink sink_after r
   pub done : BothTold (λ before after. HasUpdated (update_at made steps before) old new r before after) d e
-  pub wrote : BothTold (λ before after. HasWritten (update_at made steps before) r old new text text_after) d e
-  pub none_left : (new.running ≡ []) ⊎ Rose host host_after
+  pub wrote : BothTold (λ before after. WroteBy (update_at made steps before) r old new text text_after) d e
   pub turns : HasTurns (failed_of r) old.events new.events
 
 not_usage : (r : UpdateAnswer) → top_of r ≡ answers.Usage → ⊥
@@ -111,14 +129,14 @@ no_refusal ends.HostFault = tt
 no_refusal ends.SinkFault = tt
 no_refusal ends.OutOfMemory = tt
 
-counts_of : (f g : ℕ) (left : List Child) (s t : ℕ) (r : UpdateAnswer) → FaultsTold f g left s t r → CountsTold f g left s t (top_of r)
-counts_of f g left s t ends.Done h = h
-counts_of f g left s t (ends.Failed lists) h = h
-counts_of f g left s t ends.HostFault h = h.0
-counts_of f g left s t ends.SinkFault h = h
-counts_of f g left s t ends.OutOfMemory h = h.0
+pub counts_of : (before after : Moment) (r : UpdateAnswer) → FaultsTold before after r → CountsTold before after (top_of r)
+counts_of before after ends.Done h = h
+counts_of before after (ends.Failed lists) h = h
+counts_of before after ends.HostFault h = h.0
+counts_of before after ends.SinkFault h = h
+counts_of before after ends.OutOfMemory h = h.0
 
-clean_at : (made : List ℕ → List (List ℕ × List ℕ) → List ℕ → List ℕ) (steps : List Step) (old new : Family) (d e : Option Disk) (r : UpdateAnswer) → IsPlain steps (outs_of steps) → IfSome d (λ b. HasPlan (jamroot_of b) steps)
+clean_at : (made : Made) (steps : List Step) (old new : Family) (d e : Option Disk) (r : UpdateAnswer) → IsPlain steps (outs_of steps) → IfSome d (λ b. HasPlan (jamroot_of b) steps)
     → BothTold (λ before after. HasUpdated (update_at made steps before) old new r before after) d e → top_of r ≡ answers.Ok → BothTold (LeavesClean made) d e
 clean_at made steps old new d e ends.Done plain plan h ok = clean_of made steps old new d e plain plan h
 clean_at made steps old new d e (ends.Failed lists) plain plan h ok = absurd cc
@@ -126,7 +144,7 @@ clean_at made steps old new d e ends.HostFault plain plan h ok = absurd cc
 clean_at made steps old new d e ends.SinkFault plain plan h ok = absurd cc
 clean_at made steps old new d e ends.OutOfMemory plain plan h ok = absurd cc
 
-complete_at : (made : List ℕ → List (List ℕ × List ℕ) → List ℕ → List ℕ) (plan : Plan) (old new : Family) (d e : Option Disk) (f g s t : ℕ) (r : UpdateAnswer) → IsPlain plan.steps (outs_of plan.steps) → IfSome d (IsThePlan plan)
+complete_at : (made : Made) (plan : Plan) (old new : Family) (d e : Option Disk) (f g s t : ℕ) (r : UpdateAnswer) → IsPlain plan.steps (outs_of plan.steps) → IfSome d (IsThePlan plan)
     → BothTold (λ before after. HasUpdated (update_at made plan.steps before) old new r before after) d e
     → BothTold (λ b a. (steps : List Step) → ShouldEndWell made [] steps old new b → g ≡ f → t ≡ s → (top_of r ≡ answers.Ok) ⊎ IsCutShort (top_of r)) d e
 complete_at made plan old new d e f g s t ends.Done plain the h = both_map d e (λ b a u steps should c1 c2. inl refl) h
@@ -137,14 +155,12 @@ complete_at made plan old new d e f g s t ends.SinkFault plain the h = both_map 
 complete_at made plan old new d e f g s t ends.OutOfMemory plain the h = both_map d e (λ b a u steps should c1 c2. inr cut_memory) h
 
 -- the call is over with the update
-pub answered_plain : (made : List ℕ → List (List ℕ × List ℕ) → List ℕ → List ℕ) (plan : Plan) (old new : Family) (d e : Option Disk) (f g s t : ℕ) (text text_after : Option (List ℕ)) (r : UpdateAnswer)
-    → IfSome d (IsThePlan plan) → IsUpdated made plan.steps old new d e f g s t text text_after r → (r ≡ ends.HostFault → ⊥) → IsAnswered made [] old new d e f g s t text text_after (top_of r)
+pub answered_plain : (made : Made) (plan : Plan) (old new : Family) (d e : Option Disk) (f g s t : ℕ) (text text_after : Option (List ℕ)) (r : UpdateAnswer)
+    → IfSome d (IsThePlan plan) → IsUpdated made plan.steps old new d e text text_after r → (r ≡ ends.HostFault → ⊥) → IsAnsweredBy made [] old new d e f g s t text text_after (top_of r)
 answered_plain made plan old new d e f g s t text text_after r the u other = record {
   clean = clean_at made plan.steps old new d e r u.plain (has_plan plan d the) u.done;
   happened = happened_of made plan.steps old new d e r (has_plan plan d the) u.done;
-  counts = counts_of f g new.running s t r u.counts;
   usage = λ h. absurd (h refl);
-  alone = λ h. absurd (h refl);
   turns = turns_of r old.events new.events u.turns;
   starts_none = none_of r old new;
   not_out_of_memory = no_refusal r;
@@ -153,7 +169,6 @@ answered_plain made plan old new d e f g s t text text_after r the u other = rec
   without_tokens = both_with (IsThePlan plan) d e the (λ b a is h fault should. no_stop plan _ (is.1.no_tokens fault should.1)) u.done;
   complete = complete_at made plan old new d e f g s t r u.plain the u.done;
   reported = reported_plain made plan.steps s t old new text text_after d e r (has_plan plan d the) other u.wrote;
-  none_left = u.none_left;
 }
 
 -- the answer after a fault of the host
@@ -161,7 +176,7 @@ data IsFaultAnswer (result : Answer) : Type 0 where
   is_host : result ≡ answers.HostFault → IsFaultAnswer result
   is_memory : result ≡ answers.OutOfMemory → IsFaultAnswer result
 
-fault_answer : (line : List ℕ) (f g : ℕ) (before after : Option (List ℕ)) (result : Answer) → TellsFault line f g before after result → IsFaultAnswer result
+fault_answer : (line : List ℕ) (f g : ℕ) (before after : Option (List ℕ)) (result : Answer) → TellsFaultLine line f g before after result → IsFaultAnswer result
 fault_answer line f g before after result (fault_told is count taken) = is_host is
 fault_answer line f g before after result (fault_failed part is rose prefix taken) = is_host is
 fault_answer line f g before after result (fault_no_memory is count taken) = is_memory is
@@ -171,12 +186,12 @@ cut_fault result (is_host e) = inl e
 cut_fault result (is_memory e) = inr (inr e)
 
 -- the host failed, and then its line was written, or not
-fault_counts : (line : List ℕ) (f g : ℕ) (left : List Child) (s t v : ℕ) (before after : Option (List ℕ)) (result : Answer) → Rose f g → t ≡ s → TellsFault line t v before after result → CountsTold f g left s v result
-fault_counts line f g left s t v before after result rose same (fault_told is count taken) = subst (CountsTold f g left s v) (sym is) rose
-fault_counts line f g left s t v before after result rose same (fault_failed part is higher prefix taken) = subst (CountsTold f g left s v) (sym is) rose
-fault_counts line f g left s t v before after result rose same (fault_no_memory is count taken) = subst (CountsTold f g left s v) (sym is) (count ∙ same)
+pub fault_counts : (before : Moment) (after : Outside) (mid last : Output) (result : Answer) → Rose before.host.faults after.faults → mid.faults ≡ before.out.faults → TellsFault host_fault_line mid last result → CountsTold before (moment after last) result
+fault_counts before after mid last result rose same (fault_told is count taken) = subst (CountsTold before (moment after last)) (sym is) rose
+fault_counts before after mid last result rose same (fault_failed part is higher prefix taken) = subst (CountsTold before (moment after last)) (sym is) rose
+fault_counts before after mid last result rose same (fault_no_memory is count taken) = subst (CountsTold before (moment after last)) (sym is) (count ∙ same)
 
-fault_happened : (made : List ℕ → List (List ℕ × List ℕ) → List ℕ → List ℕ) (words : List (List ℕ)) (old new : Family) (d e : Option Disk) (result : Answer) → IsFaultAnswer result → BothTold (HasHappened made words answers.HostFault old new) d e → BothTold (HasHappened made words result old new) d e
+fault_happened : (made : Made) (words : List (List ℕ)) (old new : Family) (d e : Option Disk) (result : Answer) → IsFaultAnswer result → BothTold (HasHappened made words answers.HostFault old new) d e → BothTold (HasHappened made words result old new) d e
 fault_happened made words old new d e result (is_host same) h = subst (λ r. BothTold (HasHappened made words r old new) d e) (sym same) h
 fault_happened made words old new d e result (is_memory same) h = subst (λ r. BothTold (HasHappened made words r old new) d e) (sym same) (both_map d e (λ b a c. c) h)
 
@@ -201,16 +216,14 @@ not_used result (is_host e) ok = absurd cc
 not_used result (is_memory e) ok = absurd cc
 
 -- a fault of the host ended the update
-pub answered_fault : (made : List ℕ → List (List ℕ × List ℕ) → List ℕ → List ℕ) (plan : Plan) (old new : Family) (d e : Option Disk) (f g s t v : ℕ) (text mid text_after : Option (List ℕ)) (result : Answer)
-    → IfSome d (IsThePlan plan) → IsUpdated made plan.steps old new d e f g s t text mid ends.HostFault → TellsFault host_fault_line t v mid text_after result → IsAnswered made [] old new d e f g s v text text_after result
-answered_fault made plan old new d e f g s t v text mid text_after result the u tells =
+pub answered_fault : (made : Made) (plan : Plan) (old new : Family) (d e : Option Disk) (f g s t v : ℕ) (text mid text_after : Option (List ℕ)) (result : Answer)
+    → IfSome d (IsThePlan plan) → IsUpdated made plan.steps old new d e text mid ends.HostFault → t ≡ s → TellsFaultLine host_fault_line t v mid text_after result → IsAnsweredBy made [] old new d e f g s v text text_after result
+answered_fault made plan old new d e f g s t v text mid text_after result the u quiet tells =
     let is : IsFaultAnswer result = fault_answer host_fault_line t v mid text_after result tells in
     record {
       clean = λ ok. absurd (not_ok result is ok);
       happened = fault_happened made [] old new d e result is (happened_of made plan.steps old new d e ends.HostFault (has_plan plan d the) u.done);
-      counts = fault_counts host_fault_line f g new.running s t v mid text_after result u.counts.0 u.counts.1 tells;
       usage = λ h. absurd (h refl);
-      alone = λ h. absurd (h refl);
       turns = turns_fault old.events new.events result u.turns is;
       starts_none = none_fault old new result is;
       not_out_of_memory = fault_not_out_of_memory result is;
@@ -218,8 +231,7 @@ answered_fault made plan old new d e f g s t v text mid text_after result the u 
       not_yet = both_map d e (λ b a h line should. inr (cut_fault result is)) u.done;
       without_tokens = both_map d e (λ b a h fault should. inr (cut_fault result is)) u.done;
       complete = both_map d e (λ b a h steps should c1 c2. inr (cut_fault result is)) u.done;
-      reported = reported_fault made plan.steps s t v old new text mid text_after d e result (has_plan plan d the) u.counts.1 u.wrote tells;
-      none_left = u.none_left;
+      reported = reported_fault made plan.steps s t v old new text mid text_after d e result (has_plan plan d the) quiet u.wrote tells;
     }
 
 -- ---- nothing was started
@@ -233,9 +245,9 @@ any_some None = tt
 any_some (Some b) = tt
 
 -- the report of one line, where nothing happened
-line_reported : (made : List ℕ → List (List ℕ × List ℕ) → List ℕ → List ℕ) (words : List (List ℕ)) (answer : Answer) (line : List ℕ) (f g : ℕ) (family : Family) (text text_after : Option (List ℕ)) (disk : Disk) (result : Answer)
+line_reported : (made : Made) (words : List (List ℕ)) (answer : Answer) (line : List ℕ) (f g : ℕ) (family : Family) (text text_after : Option (List ℕ)) (disk : Disk) (result : Answer)
     → ((events : List ChildEvent) → ReportedBy made words f g answer disk events line) → ((events : List ChildEvent) (part : List ℕ) → BeginsWith line part → FailsAtWrite made words disk events part)
-    → Tells answer line f g text text_after result → HasReported made words f g result family family text text_after disk
+    → TellsLine answer line f g text text_after result → HasReported made words f g result family family text text_after disk
 line_reported made words answer line f g family None text_after disk result whole begins tells = λ events are. tt
 line_reported made words answer line f g family (Some so_far) text_after disk result whole begins (told is count taken) = λ events are. (line, taken, subst (λ r. ReportedBy made words f g r disk events line) (sym is) (whole events))
 line_reported made words answer line f g family (Some so_far) text_after disk result whole begins (failed part is rose prefix taken) = λ events are. (part, taken, subst (λ r. ReportedBy made words f g r disk events part) (sym is) (begins events part prefix))
@@ -247,7 +259,7 @@ data IsLineAnswer (answer result : Answer) (f g : ℕ) : Type 0 where
   is_sink : result ≡ answers.SinkFault → Rose f g → IsLineAnswer answer result f g
   is_short : result ≡ answers.OutOfMemory → IsLineAnswer answer result f g
 
-line_answer : (answer : Answer) (line : List ℕ) (f g : ℕ) (before after : Option (List ℕ)) (result : Answer) → Tells answer line f g before after result → IsLineAnswer answer result f g
+line_answer : (answer : Answer) (line : List ℕ) (f g : ℕ) (before after : Option (List ℕ)) (result : Answer) → TellsLine answer line f g before after result → IsLineAnswer answer result f g
 line_answer answer line f g before after result (told is count taken) = is_told is count
 line_answer answer line f g before after result (failed part is rose prefix taken) = is_sink is rose
 line_answer answer line f g before after result (no_memory is count taken) = is_short is
@@ -259,22 +271,24 @@ by_line P answer result f g a b c (is_sink is rose) = subst P (sym is) (b rose)
 by_line P answer result f g a b c (is_short is) = subst P (sym is) c
 
 -- a line was told, or cut short
-line_counts : (answer : Answer) (line : List ℕ) (f : ℕ) (left : List Child) (s t : ℕ) (before after : Option (List ℕ)) (result : Answer) → (t ≡ s → CountsTold f f left s t answer) → Tells answer line s t before after result → CountsTold f f left s t result
-line_counts answer line f left s t before after result whole (told is count taken) = subst (CountsTold f f left s t) (sym is) (whole count)
-line_counts answer line f left s t before after result whole (failed part is rose prefix taken) = subst (CountsTold f f left s t) (sym is) (rose, inl refl)
-line_counts answer line f left s t before after result whole (no_memory is count taken) = subst (CountsTold f f left s t) (sym is) count
+pub line_counts : (answer : Answer) (line : List ℕ) (before after : Moment) (result : Answer) → after.host.faults ≡ before.host.faults → (CountsStay before after → CountsTold before after answer) → Tells answer line before.out after.out result → CountsTold before after result
+line_counts answer line before after result host whole (told is count taken) = subst (CountsTold before after) (sym is) (whole (record { host = host; sink = count }))
+line_counts answer line before after result host whole (failed part is rose prefix taken) = subst (CountsTold before after) (sym is) (rose, inl host)
+line_counts answer line before after result host whole (no_memory is count taken) = subst (CountsTold before after) (sym is) count
+
+pub stop_counts : (stop : Stop) (before after : Moment) (result : Answer) → after.host.faults ≡ before.host.faults → TellsStop stop before.out after.out result → CountsTold before after result
+stop_counts stop before after result host (inl (fault, is, tells)) = line_counts (answers.Refused fault) (fault_line fault) before after result host (λ stay. stay) tells
+stop_counts stop before after result host (inr (is, same)) = subst (CountsTold before after) (sym is) (ap (λ (o : Output). o.faults) same)
 
 -- the usage line was told
-pub answered_usage : (made : List ℕ → List (List ℕ × List ℕ) → List ℕ → List ℕ) (words : List (List ℕ)) (family : Family) (d : Option Disk) (f s t : ℕ) (text text_after : Option (List ℕ)) (result : Answer)
-    → words ≢ [] → family.running ≡ [] → Tells answers.Usage usage_line s t text text_after result → IsAnswered made words family family d d f f s t text text_after result
+pub answered_usage : (made : Made) (words : List (List ℕ)) (family : Family) (d : Option Disk) (f s t : ℕ) (text text_after : Option (List ℕ)) (result : Answer)
+    → words ≢ [] → family.running ≡ [] → TellsLine answers.Usage usage_line s t text text_after result → IsAnsweredBy made words family family d d f f s t text text_after result
 answered_usage made words family d f s t text text_after result some idle tells =
     let is : IsLineAnswer answers.Usage result s t = line_answer answers.Usage usage_line s t text text_after result tells in
     record {
       clean = by_line (λ r. r ≡ answers.Ok → BothTold (LeavesClean made) d d) answers.Usage result s t (λ c ok. absurd cc) (λ rose ok. absurd cc) (λ ok. absurd cc) is;
       happened = both_same (HasHappened made words result family family) Anything d (any_some d) (λ b x. by_line (λ r. HasHappened made words r family family b b) answers.Usage result s t (λ c. (record { family = refl; disk = refl }, some)) (λ rose. inl (record { family = refl; disk = refl })) (inl (record { family = refl; disk = refl })) is);
-      counts = line_counts answers.Usage usage_line f family.running s t text text_after result (λ c. (refl, c)) tells;
       usage = λ h. by_line IsOfWords answers.Usage result s t (λ c. inl refl) (λ rose. inr (inl refl)) (inr (inr refl)) is;
-      alone = λ h. record { family = refl; disk = refl; count = refl };
       turns = by_line (λ r. HasTurns (failed_in r) family.events family.events) answers.Usage result s t (λ c. turns_none family.events family.events refl) (λ rose. turns_none family.events family.events refl) (turns_none family.events family.events refl) is;
       starts_none = by_line (λ r. StartsNone r family family) answers.Usage result s t (λ c. refl) (λ rose. tt) tt is;
       not_out_of_memory = by_line RefusalIsNotOutOfMemory answers.Usage result s t (λ c. tt) (λ rose. tt) tt is;
@@ -283,7 +297,6 @@ answered_usage made words family d f s t text text_after result some idle tells 
       without_tokens = both_same _ Anything d (any_some d) (λ b x fault should. absurd (some should.0));
       complete = both_same _ Anything d (any_some d) (λ b x steps should c1 c2. absurd (some should.no_word));
       reported = both_same (λ b a. HasReported made words s t result family family text text_after b) Anything d (any_some d) (λ b x. line_reported made words answers.Usage usage_line s t family text text_after b result (λ events. refl) (λ events part prefix. fails_usage some prefix) tells);
-      none_left = inl idle;
     }
 
 -- what was written before, and these bytes
@@ -295,16 +308,14 @@ at_start : (s t : ℕ) (b : Disk) (events : List ChildEvent) (part : List ℕ) �
 at_start s t b events part none ended = record { steps = []; lines = []; planned = inr none; tells = record { prefix = []; rest = events; whole = refl; only_ends = subst (λ (e : List ChildEvent). AllByRecursion (λ event. is_done event ≡ true) e) (sym none) tt; lines = refl }; refusal = part; written_is = refl; ended = ended }
 
 -- the host failed before anything was started
-pub answered_unread : (made : List ℕ → List (List ℕ × List ℕ) → List ℕ → List ℕ) (family : Family) (d : Option Disk) (f g s t : ℕ) (text text_after : Option (List ℕ)) (result : Answer)
-    → Rose f g → family.running ≡ [] → TellsFault host_fault_line s t text text_after result → IsAnswered made [] family family d d f g s t text text_after result
+pub answered_unread : (made : Made) (family : Family) (d : Option Disk) (f g s t : ℕ) (text text_after : Option (List ℕ)) (result : Answer)
+    → Rose f g → family.running ≡ [] → TellsFaultLine host_fault_line s t text text_after result → IsAnsweredBy made [] family family d d f g s t text text_after result
 answered_unread made family d f g s t text text_after result rose idle tells =
     let is : IsFaultAnswer result = fault_answer host_fault_line s t text text_after result tells in
     record {
       clean = λ ok. absurd (not_ok result is ok);
       happened = both_same (HasHappened made [] result family family) Anything d (any_some d) (λ b x. happened b is);
-      counts = fault_counts host_fault_line f g family.running s s t text text_after result rose refl tells;
       usage = λ h. absurd (h refl);
-      alone = λ h. absurd (h refl);
       turns = turns_fault family.events family.events result (turns_none family.events family.events refl) is;
       starts_none = none_fault family family result is;
       not_out_of_memory = fault_not_out_of_memory result is;
@@ -313,14 +324,13 @@ answered_unread made family d f g s t text text_after result rose idle tells =
       without_tokens = both_same _ Anything d (any_some d) (λ b x fault should. inr (cut_fault result is));
       complete = both_same _ Anything d (any_some d) (λ b x steps should c1 c2. inr (cut_fault result is));
       reported = both_same (λ b a. HasReported made [] s t result family family text text_after b) Anything d (any_some d) (λ b x. reported b text refl);
-      none_left = inl idle;
     }
   where
     happened : (b : Disk) → IsFaultAnswer result → HasHappened made [] result family family b b
     happened b (is_host e) = subst (λ r. HasHappened made [] r family family b b) (sym e) (inl (record { family = refl; disk = refl }))
     happened b (is_memory e) = subst (λ r. HasHappened made [] r family family b b) (sym e) (inl (record { family = refl; disk = refl }))
 
-    told_fault : (b : Disk) (events : List ChildEvent) (written : List ℕ) → events ≡ [] → TellsFault host_fault_line s t text text_after result → written ≡ [] → (so_far : List ℕ) → text ≡ Some so_far → (all : List ℕ) × (text_after ≡ Some (so_far ++ all)) × ReportedBy made [] s t result b events all
+    told_fault : (b : Disk) (events : List ChildEvent) (written : List ℕ) → events ≡ [] → TellsFaultLine host_fault_line s t text text_after result → written ≡ [] → (so_far : List ℕ) → text ≡ Some so_far → (all : List ℕ) × (text_after ≡ Some (so_far ++ all)) × ReportedBy made [] s t result b events all
     told_fault b events written none (fault_told is count taken) nil so_far e =
         (host_fault_line, taken ∙ ap (λ x. HasTaken_of host_fault_line x) e, subst (λ r. ReportedBy made [] s t r b events host_fault_line) (sym is) (at_start s t b events host_fault_line none (inl (refl, count))))
     told_fault b events written none (fault_failed part is rose prefix taken) nil so_far e =
@@ -388,16 +398,14 @@ holds_no_want (stops.NotYet line) fault is names = subst IsNotOutOfMemory (sym i
 holds_no_want (stops.Lex cause) fault is names = subst IsNotOutOfMemory (sym is) names
 holds_no_want stops.OutOfMemory fault is names = absurd is
 
-answered_refused : (made : List ℕ → List (List ℕ × List ℕ) → List ℕ → List ℕ) (family : Family) (d : Option Disk) (f s t : ℕ) (text text_after : Option (List ℕ)) (result : Answer) (fault : Fault)
-    → IsNotOutOfMemory fault → IfSome d (IsTheFault fault) → family.running ≡ [] → Tells (answers.Refused fault) (fault_line fault) s t text text_after result → IsAnswered made [] family family d d f f s t text text_after result
+answered_refused : (made : Made) (family : Family) (d : Option Disk) (f s t : ℕ) (text text_after : Option (List ℕ)) (result : Answer) (fault : Fault)
+    → IsNotOutOfMemory fault → IfSome d (IsTheFault fault) → family.running ≡ [] → TellsLine (answers.Refused fault) (fault_line fault) s t text text_after result → IsAnsweredBy made [] family family d d f f s t text text_after result
 answered_refused made family d f s t text text_after result fault holds the idle tells =
     let is : IsLineAnswer (answers.Refused fault) result s t = line_answer (answers.Refused fault) (fault_line fault) s t text text_after result tells in
     record {
       clean = by_line (λ r. r ≡ answers.Ok → BothTold (LeavesClean made) d d) (answers.Refused fault) result s t (λ c ok. absurd cc) (λ rose ok. absurd cc) (λ ok. absurd cc) is;
       happened = both_same (HasHappened made [] result family family) (IsTheFault fault) d the (λ b x. by_line (λ r. HasHappened made [] r family family b b) (answers.Refused fault) result s t (λ c. (record { family = refl; disk = refl }, x.cause)) (λ rose. inl (record { family = refl; disk = refl })) (inl (record { family = refl; disk = refl })) is);
-      counts = line_counts (answers.Refused fault) (fault_line fault) f family.running s t text text_after result (λ c. (refl, c)) tells;
       usage = λ h. absurd (h refl);
-      alone = λ h. absurd (h refl);
       turns = by_line (λ r. HasTurns (failed_in r) family.events family.events) (answers.Refused fault) result s t (λ c. turns_none family.events family.events refl) (λ rose. turns_none family.events family.events refl) (turns_none family.events family.events refl) is;
       starts_none = by_line (λ r. StartsNone r family family) (answers.Refused fault) result s t (λ c. refl) (λ rose. tt) tt is;
       not_out_of_memory = by_line RefusalIsNotOutOfMemory (answers.Refused fault) result s t (λ c. holds) (λ rose. tt) tt is;
@@ -406,18 +414,15 @@ answered_refused made family d f s t text text_after result fault holds the idle
       without_tokens = both_same _ (IsTheFault fault) d the (λ b x cause should. by_line (λ r. (r ≡ answers.Refused (no_tokens cause)) ⊎ IsCutShort r) (answers.Refused fault) result s t (λ c. inl (ap answers.Refused (x.without_tokens cause should.1))) (λ rose. inr cut_sink) (inr cut_memory) is);
       complete = both_same _ (IsTheFault fault) d the (λ b x steps should c1 c2. absurd (x.no_plan steps should.plan));
       reported = both_same (λ b a. HasReported made [] s t result family family text text_after b) (IsTheFault fault) d the (λ b x. line_reported made [] (answers.Refused fault) (fault_line fault) s t family text text_after b result (λ events. refl) (λ events part prefix. fails_refusal fault x.cause prefix) tells);
-      none_left = inl idle;
     }
 
 -- memory ran out before anything was started or written
-answered_memory : (made : List ℕ → List (List ℕ × List ℕ) → List ℕ → List ℕ) (family : Family) (d : Option Disk) (f s t : ℕ) (text text_after : Option (List ℕ)) (result : Answer)
-    → family.running ≡ [] → result ≡ answers.OutOfMemory → t ≡ s → text_after ≡ text → IsAnswered made [] family family d d f f s t text text_after result
-answered_memory made family d f s t text text_after result idle is count same = subst (IsAnswered made [] family family d d f f s t text text_after) (sym is) (record {
+answered_memory : (made : Made) (family : Family) (d : Option Disk) (f s t : ℕ) (text text_after : Option (List ℕ)) (result : Answer)
+    → family.running ≡ [] → result ≡ answers.OutOfMemory → t ≡ s → text_after ≡ text → IsAnsweredBy made [] family family d d f f s t text text_after result
+answered_memory made family d f s t text text_after result idle is count same = subst (IsAnsweredBy made [] family family d d f f s t text text_after) (sym is) (record {
   clean = λ ok. absurd cc;
   happened = both_same (HasHappened made [] answers.OutOfMemory family family) Anything d (any_some d) (λ b x. inl (record { family = refl; disk = refl }));
-  counts = count;
   usage = λ h. absurd (h refl);
-  alone = λ h. absurd (h refl);
   turns = turns_none family.events family.events refl;
   starts_none = tt;
   not_out_of_memory = tt;
@@ -426,7 +431,6 @@ answered_memory made family d f s t text text_after result idle is count same = 
   without_tokens = both_same _ Anything d (any_some d) (λ b x fault should. inr cut_memory);
   complete = both_same _ Anything d (any_some d) (λ b x steps should c1 c2. inr cut_memory);
   reported = both_same (λ b a. HasReported made [] s t answers.OutOfMemory family family text text_after b) Anything d (any_some d) (λ b x. quiet b text text_after same);
-  none_left = inl idle;
 })
   where
     quiet : (b : Disk) (x y : Option (List ℕ)) → y ≡ x → HasReported made [] s t answers.OutOfMemory family family x y b
@@ -434,42 +438,127 @@ answered_memory made family d f s t text text_after result idle is count same = 
     quiet b (Some so_far) y e = λ events are. ([], e ∙ ap Some (sym (append-nil so_far)), nothing (no_event family.events events are) refl)
 
 -- the project's file was refused, or memory ran out
-pub answered_stop : (made : List ℕ → List (List ℕ × List ℕ) → List ℕ → List ℕ) (family : Family) (d : Option Disk) (f s t : ℕ) (text text_after : Option (List ℕ)) (result : Answer) (stop : Stop)
-    → NamesText stop → IfSome d (IsTheStop stop) → family.running ≡ [] → TellsStop stop s t text text_after result → IsAnswered made [] family family d d f f s t text text_after result
-answered_stop made family d f s t text text_after result stop names the idle tells = elim tells [
-  | inl told_it ↦ answered_refused made family d f s t text text_after result told_it.0 (holds_no_want stop told_it.0 told_it.1 names) (the_fault_told stop told_it.0 d told_it.1 the) idle told_it.2
-  | inr memory ↦ answered_memory made family d f s t text text_after result idle memory.0 memory.1 memory.2
+pub answered_stop : (made : Made) (family : Family) (d : Option Disk) (f : ℕ) (out later : Output) (result : Answer) (stop : Stop)
+    → NamesText stop → IfSome d (IsTheStop stop) → family.running ≡ [] → TellsStop stop out later result → IsAnsweredBy made [] family family d d f f out.faults later.faults out.written later.written result
+answered_stop made family d f out later result stop names the idle tells = elim tells [
+  | inl told_it ↦ answered_refused made family d f out.faults later.faults out.written later.written result told_it.0 (holds_no_want stop told_it.0 told_it.1 names) (the_fault_told stop told_it.0 d told_it.1 the) idle told_it.2
+  | inr memory ↦ answered_memory made family d f out.faults later.faults out.written later.written result idle memory.0 (ap (λ (o : Output). o.faults) memory.1) (ap (λ (o : Output). o.written) memory.1)
 ]
 
--- what an update ensures, as the plan's own wanted files and roots say it
-pub updated_at : (made : List ℕ → List (List ℕ × List ℕ) → List ℕ → List ℕ) (steps : List Step) (wants folders : List (List ℕ)) (old new : Family) (d e : Option Disk) (f g s t : ℕ) (text text_after : Option (List ℕ)) (r : UpdateAnswer)
-    → wants ≡ outs_of steps → folders ≡ roots → IsPlain steps wants → FaultsTold f g new.running s t r → BothTold (λ before after. HasUpdated (began made steps wants folders before) old new r before after) d e → BothTold (λ before after. HasWritten (began made steps wants folders before) r old new text text_after) d e → (new.running ≡ []) ⊎ Rose f g → HasTurns (failed_of r) old.events new.events
-    → IsUpdated made steps old new d e f g s t text text_after r
-updated_at made steps wants folders old new d e f g s t text text_after r w fr plain counts done wrote none_left turns = record {
+-- what an update has done, as the plan's own wanted files and roots say it
+pub updated_at : (made : Made) (steps : List Step) (wants folders : List (List ℕ)) (old new : Family) (d e : Option Disk) (text text_after : Option (List ℕ)) (r : UpdateAnswer)
+    → wants ≡ outs_of steps → folders ≡ roots → IsPlain steps wants → BothTold (λ before after. HasUpdated (began made steps wants folders before) old new r before after) d e → BothTold (λ before after. WroteBy (began made steps wants folders before) r old new text text_after) d e → HasTurns (failed_of r) old.events new.events
+    → IsUpdated made steps old new d e text text_after r
+updated_at made steps wants folders old new d e text text_after r w fr plain done wrote turns = record {
   plain = subst (IsPlain steps) w plain;
-  counts = counts;
   done = at_plan (λ u. BothTold (λ before after. HasUpdated (u before) old new r before after) d e) made steps wants folders w fr done;
-  wrote = at_plan (λ u. BothTold (λ before after. HasWritten (u before) r old new text text_after) d e) made steps wants folders w fr wrote;
-  none_left = none_left;
+  wrote = at_plan (λ u. BothTold (λ before after. WroteBy (u before) r old new text text_after) d e) made steps wants folders w fr wrote;
   turns = turns;
 }
 
--- the same call, begun before the project's file was read
-pub from_load : (made : List ℕ → List (List ℕ × List ℕ) → List ℕ → List ℕ) (words : List (List ℕ)) (first old new : Family) (c d e : Option Disk) (b f g s t : ℕ) (text text_after : Option (List ℕ)) (result : Answer)
-    → words ≡ [] → old ≡ first → d ≡ c → f ≡ b → IsAnswered made [] old new d e f g s t text text_after result → IsAnswered made words first new c e b g s t text text_after result
-from_load made words first old new c d e b f g s t text text_after result none same same_disk same_count h =
-    subst (λ w. IsAnswered made w first new c e b g s t text text_after result) (sym none)
-    (subst (λ x. IsAnswered made [] x new c e b g s t text text_after result) same
-    (subst (λ x. IsAnswered made [] old new x e b g s t text text_after result) same_disk
-    (subst (λ x. IsAnswered made [] old new d e x g s t text text_after result) same_count h)))
+-- what a call promises, of its two moments
+pub answered_at : (made : Made) (words : List (List ℕ)) (before after : Moment) (result : Answer)
+    → IsAnsweredBy made words before.host.children after.host.children before.host.disk after.host.disk before.host.faults after.host.faults before.out.faults after.out.faults before.out.written after.out.written result
+    → CountsTold before after result → (words ≢ [] → after.host ≡ before.host) → IsAnswered made words before after result
+answered_at made words before after result h counts alone = record {
+  clean = h.clean;
+  happened = h.happened;
+  counts = counts;
+  usage = h.usage;
+  alone = alone;
+  no_usage = h.no_usage;
+  starts_none = h.starts_none;
+  not_out_of_memory = h.not_out_of_memory;
+  not_yet = h.not_yet;
+  without_tokens = h.without_tokens;
+  complete = h.complete;
+  reported = h.reported;
+  turns = h.turns;
+}
 
--- nothing was started: the children, the files and the count of the host are as they were when the file was read
-pub from_unread : (made : List ℕ → List (List ℕ × List ℕ) → List ℕ → List ℕ) (words : List (List ℕ)) (old new : Family) (d e : Option Disk) (f g s t : ℕ) (text text_after : Option (List ℕ)) (result : Answer)
-    → words ≡ [] → new ≡ old → e ≡ d → IsAnswered made [] old old d d f g s t text text_after result → IsAnswered made words old new d e f g s t text text_after result
-from_unread made words old new d e f g s t text text_after result none same same_disk h =
-    subst (λ w. IsAnswered made w old new d e f g s t text text_after result) (sym none)
-    (subst (λ x. IsAnswered made [] old x d e f g s t text text_after result) (sym same)
-    (subst (λ x. IsAnswered made [] old old d x f g s t text text_after result) (sym same_disk) h))
+-- what a call promises does not depend on what was read before
+counts_read : (before after : Moment) (path : List ℕ) (result : Answer) → CountsTold (moment (after_read path before.host) before.out) after result → CountsTold before after result
+counts_read before after path answers.Ok h = record { host = h.host; sink = h.sink }
+counts_read before after path (answers.Failed lists) h = record { host = h.host; sink = h.sink }
+counts_read before after path (answers.Refused fault) h = record { host = h.host; sink = h.sink }
+counts_read before after path answers.Usage h = record { host = h.host; sink = h.sink }
+counts_read before after path answers.HostFault h = h
+counts_read before after path answers.OutOfMemory h = h
+counts_read before after path answers.SinkFault h = h
+
+answered_read : (made : Made) (words : List (List ℕ)) (before after : Moment) (path : List ℕ) (result : Answer) → words ≡ [] → IsAnswered made [] (moment (after_read path before.host) before.out) after result → IsAnswered made words before after result
+answered_read made words before after path result none h = subst (λ w. IsAnswered made w before after result) (sym none) (record {
+  clean = h.clean;
+  happened = h.happened;
+  counts = counts_read before after path result h.counts;
+  usage = h.usage;
+  alone = λ some. absurd (some refl);
+  no_usage = h.no_usage;
+  starts_none = h.starts_none;
+  not_out_of_memory = h.not_out_of_memory;
+  not_yet = h.not_yet;
+  without_tokens = h.without_tokens;
+  complete = h.complete;
+  reported = h.reported;
+  turns = h.turns;
+})
+
+-- the same call, begun before the project's file was read
+pub from_load : (made : Made) (words : List (List ℕ)) (before after : Moment) (host : Outside) (result : Answer) → words ≡ [] → host ≡ after_read jamroot before.host → IsAnswered made [] (moment host before.out) after result → IsAnswered made words before after result
+from_load made words before after host result none read h = answered_read made words before after jamroot result none (subst (λ o. IsAnswered made [] (moment o before.out) after result) read h)
+
+left_read : (path : List ℕ) (before after : Outside) → LeavesNone (after_read path before) after → LeavesNone before after
+left_read path before after (inl none) = inl none
+left_read path before after (inr left) = inr (record { faults = left.faults; waits = left.waits })
+
+pub left_from_load : (before after host : Outside) → host ≡ after_read jamroot before → LeavesNone host after → LeavesNone before after
+left_from_load before after host read h = left_read jamroot before after (subst (λ o. LeavesNone o after) read h)
+
+keeps_after_read : (path : List ℕ) (before : Outside) → Keeps before (after_read path before)
+keeps_after_read path before = let k = keeps_same before before refl in record { faults = k.faults; waits = k.waits; files = k.files }
+
+pub keeps_load : (before after : Outside) → after ≡ after_read jamroot before → Keeps before after
+keeps_load before after read = subst (Keeps before) (sym read) (keeps_after_read jamroot before)
+
+-- what a load that stopped leaves: all but the reads is as it was
+pub record IsAsBefore (before after : Outside) : Type 0 where
+  pub children : after.children ≡ before.children
+  pub disk : after.disk ≡ before.disk
+  pub keeps : Keeps before after
+
+pub load_stopped : (before after : Outside) (fault : LoadEnd) (stop : Stop) → fault ≡ ends_of_load.Stopped stop → LoadReads {T = Plan} before after (Err fault) → IsAsBefore before after × (after.faults ≡ before.faults)
+load_stopped before after fault stop e reads = go (subst (λ x. LoadReads {T = Plan} before after (Err x)) e reads)
+  where
+    go : (after ≡ after_read jamroot before) ⊎ (after ≡ before) → IsAsBefore before after × (after.faults ≡ before.faults)
+    go (inl read) = (record { children = ap (λ (o : Outside). o.children) read; disk = ap (λ (o : Outside). o.disk) read; keeps = keeps_load before after read }, ap (λ (o : Outside). o.faults) read)
+    go (inr same) = (record { children = ap (λ (o : Outside). o.children) same; disk = ap (λ (o : Outside). o.disk) same; keeps = keeps_same before after same }, ap (λ (o : Outside). o.faults) same)
+
+pub load_failed : (before after : Outside) (fault : LoadEnd) → fault ≡ ends_of_load.Host → LoadReads {T = Plan} before after (Err fault) → IsAsBefore before after × Rose before.faults after.faults
+load_failed before after fault e reads =
+    let failed : Fails before after = subst (λ x. LoadReads {T = Plan} before after (Err x)) e reads in
+    (record { children = ap (λ (o : Outside). o.children) failed.same; disk = ap (λ (o : Outside). o.disk) failed.same; keeps = keeps_fails before after failed }, failed.rose)
+
+-- what a load that stopped says of the project's file
+pub load_says : (d : Option Disk) (fault : LoadEnd) (stop : Stop) → fault ≡ ends_of_load.Stopped stop → EndTold d fault → IfSome d (λ before. IsExactLoad (jamroot_of before) (Err fault)) → IfSome d (IsTheStop stop)
+load_says d fault stop e says exact = both d (subst (EndTold d) e says) (subst (λ x. IfSome d (λ before. IsExactLoad (jamroot_of before) (Err x))) e exact)
+  where
+    both : (d : Option Disk) → EndTold d (ends_of_load.Stopped stop) → IfSome d (λ before. IsExactLoad (jamroot_of before) (Err (ends_of_load.Stopped stop))) → IfSome d (IsTheStop stop)
+    both None a b = tt
+    both (Some disk) a b = (a, b)
+
+pub load_names : (fault : LoadEnd) (stop : Stop) → fault ≡ ends_of_load.Stopped stop → EndNamesText fault → NamesText stop
+load_names fault stop e names = subst EndNamesText e names
+
+-- nothing was started: the same call, told of what a load that stopped leaves
+pub from_unread : (made : Made) (words : List (List ℕ)) (before after : Moment) (result : Answer)
+    → words ≡ [] → IsAsBefore before.host after.host → CountsTold before after result
+    → IsAnsweredBy made [] before.host.children before.host.children before.host.disk before.host.disk before.host.faults after.host.faults before.out.faults after.out.faults before.out.written after.out.written result
+    → IsAnswered made words before after result
+from_unread made words before after result none same counts h =
+    subst (λ w. IsAnswered made w before after result) (sym none) (answered_at made [] before after result
+    (subst (λ x. IsAnsweredBy made [] before.host.children x before.host.disk after.host.disk before.host.faults after.host.faults before.out.faults after.out.faults before.out.written after.out.written result) (sym same.children)
+    (subst (λ x. IsAnsweredBy made [] before.host.children before.host.children before.host.disk x before.host.faults after.host.faults before.out.faults after.out.faults before.out.written after.out.written result) (sym same.disk) h))
+    counts (λ some. absurd (some refl)))
 
 pub no_words : (words : List (List ℕ)) (empty : Bool) → empty ≡ (length words == 0) → empty ≡ true → words ≡ []
 no_words [] empty e t = refl
@@ -479,21 +568,6 @@ pub some_words : (words : List (List ℕ)) (empty : Bool) → empty ≡ (length 
 some_words [] empty e t = λ h. absurd cc
 some_words (w ∷ words) empty e t = λ h. cc
 
--- what a load that stopped ensures
-pub load_stopped : (d : Option Disk) (f g : ℕ) (fault : LoadEnd) (stop : Stop) → fault ≡ ends_of_load.Stopped stop → LoadCounted {T = Plan} f g (Err fault) → EndTold d fault → IfSome d (λ before. IsExactLoad (jamroot_of before) (Err fault)) → (g ≡ f) × IfSome d (IsTheStop stop)
-load_stopped d f g fault stop e counts says exact =
-    (subst (λ x. LoadCounted {T = Plan} f g (Err x)) e counts, both d (subst (EndTold d) e says) (subst (λ x. IfSome d (λ before. IsExactLoad (jamroot_of before) (Err x))) e exact))
-  where
-    both : (d : Option Disk) → EndTold d (ends_of_load.Stopped stop) → IfSome d (λ before. IsExactLoad (jamroot_of before) (Err (ends_of_load.Stopped stop))) → IfSome d (IsTheStop stop)
-    both None a b = tt
-    both (Some disk) a b = (a, b)
-
-pub load_names : (fault : LoadEnd) (stop : Stop) → fault ≡ ends_of_load.Stopped stop → EndNamesText fault → NamesText stop
-load_names fault stop e names = subst EndNamesText e names
-
-pub load_rose : (f g : ℕ) (fault : LoadEnd) → fault ≡ ends_of_load.Host → LoadCounted {T = Plan} f g (Err fault) → Rose f g
-load_rose f g fault e counts = subst (λ x. LoadCounted {T = Plan} f g (Err x)) e counts
-
-pub same_count : (made : List ℕ → List (List ℕ × List ℕ) → List ℕ → List ℕ) (family : Family) (d : Option Disk) (f g s t : ℕ) (text text_after : Option (List ℕ)) (result : Answer)
-    → g ≡ f → IsAnswered made [] family family d d f f s t text text_after result → IsAnswered made [] family family d d f g s t text text_after result
-same_count made family d f g s t text text_after result e h = subst (λ x. IsAnswered made [] family family d d f x s t text text_after result) (sym e) h
+pub same_count : (made : Made) (family : Family) (d : Option Disk) (f g s t : ℕ) (text text_after : Option (List ℕ)) (result : Answer)
+    → g ≡ f → IsAnsweredBy made [] family family d d f f s t text text_after result → IsAnsweredBy made [] family family d d f g s t text text_after result
+same_count made family d f g s t text text_after result e h = subst (λ x. IsAnsweredBy made [] family family d d f x s t text text_after result) (sym e) h

@@ -16,7 +16,7 @@ use Rattle.b2_update.specs.Runs.{Update, on_settled, Needed}
 use Rattle.b2_update.specs.Runs.Needed.{wanted}
 use Rattle.b2_update.specs.Outcomes.{IsMissed, Skipped, nothing_lacks, IsCleanBuild}
 use Rattle.b2_update.specs.Outcomes.Skipped.{missing as skip_missing, failed as skip_failed, skipped as skip_skipped, quits as skip_quits}
-use Rattle.b2_update.specs.Plain.{IsPlain, build_of, update_all}
+use Rattle.b2_update.specs.Plain.{IsPlain, Made, build_of, update_all}
 use Rattle.b2_update.specs.Updates.{HasEnded, HasUpdated, SomethingLacks}
 use Rattle.b2_top.specs.declared.answer.Answer.{Answer}
 use Rattle.b2_top.specs.declared.answer.Answer.TheVariants as answers
@@ -38,7 +38,7 @@ empty_list [] h = refl
 empty_list (x ∷ xs) h = absurd (h x (first_in x xs))
 
 -- no step is skipped where all sources stand and no step failed
-none_skipped : (made : List ℕ → List (List ℕ × List ℕ) → List ℕ → List ℕ) (steps : List Step) (disk : Disk) (events : List ChildEvent)
+none_skipped : (made : Made) (steps : List Step) (disk : Disk) (events : List ChildEvent)
     → ((i : ℕ) (step : Step) (path : List ℕ) → step_at steps i ≡ Some step → Contains step.ins path → IsGiven (build_at made steps disk) path)
     → ((i : ℕ) → Contains events (Done i false) → ⊥) → (i : ℕ) → Skipped (update_at made steps disk) events i → ⊥
 none_skipped made steps disk events sources well i (skip_missing j step path left at known missing) = go known
@@ -51,7 +51,7 @@ none_skipped made steps disk events sources well i (skip_skipped j step path k o
 none_skipped made steps disk events sources well i (skip_quits j k left quit failed) = absurd cc
 
 -- nothing lacks where all sources stand and no step failed
-none_lack : (made : List ℕ → List (List ℕ × List ℕ) → List ℕ → List ℕ) (words : List (List ℕ)) (steps : List Step) (old new : Family) (before after : Disk) (events : List ChildEvent) (lists : FailedLists)
+none_lack : (made : Made) (words : List (List ℕ)) (steps : List Step) (old new : Family) (before after : Disk) (events : List ChildEvent) (lists : FailedLists)
     → IsPlain steps (outs_of steps) → ShouldEndWell made words steps old new before → new.events ≡ old.events ++ events → HasEnded (update_at made steps before) events after.now lists → SomethingLacks lists → ⊥
 none_lack made words steps old new before after events lists plain should are ended lacks =
     elim lacks [
@@ -72,7 +72,7 @@ none_lack made words steps old new before after events lists plain should are en
     ]
 
 -- where nothing lacks, each wanted file has the bytes of the clean build
-clean_build : (made : List ℕ → List (List ℕ × List ℕ) → List ℕ → List ℕ) (steps : List Step) (before after : Disk) (events : List ChildEvent)
+clean_build : (made : Made) (steps : List Step) (before after : Disk) (events : List ChildEvent)
     → IsPlain steps (outs_of steps) → HasEnded (update_at made steps before) events after.now nothing_lacks → IsCleanBuild (build_at made steps before) after.now
 clean_build made steps before after events plain ended path is_wanted =
     let maker = plain.wanted_made path is_wanted in
@@ -94,15 +94,15 @@ top_of ends.SinkFault = answers.SinkFault
 top_of ends.OutOfMemory = answers.OutOfMemory
 
 -- the update of a plan with these wanted files and roots
-abbrev pub began : (List ℕ → List (List ℕ × List ℕ) → List ℕ → List ℕ) → List Step → List (List ℕ) → List (List ℕ) → Disk → Update
+abbrev pub began : Made → List Step → List (List ℕ) → List (List ℕ) → Disk → Update
 began made steps wants folders disk = update_all (build_of steps wants folders made disk.now)
 
 -- what an update has done, as the plan's own wanted files and roots say it
-pub at_plan : (P : (Disk → Update) → Type 0) (made : List ℕ → List (List ℕ × List ℕ) → List ℕ → List ℕ) (steps : List Step) (wants folders : List (List ℕ)) → wants ≡ outs_of steps → folders ≡ roots → P (began made steps wants folders) → P (update_at made steps)
+pub at_plan : (P : (Disk → Update) → Type 0) (made : Made) (steps : List Step) (wants folders : List (List ℕ)) → wants ≡ outs_of steps → folders ≡ roots → P (began made steps wants folders) → P (update_at made steps)
 at_plan P made steps wants folders w r h = subst (λ x. P (began made steps x roots)) w (subst (λ x. P (began made steps wants x)) r h)
 
 -- what happened in an update is what happened in the call
-pub happened_of : (made : List ℕ → List (List ℕ × List ℕ) → List ℕ → List ℕ) (steps : List Step) (old new : Family) (d e : Option Disk) (r : UpdateAnswer)
+pub happened_of : (made : Made) (steps : List Step) (old new : Family) (d e : Option Disk) (r : UpdateAnswer)
     → IfSome d (λ before. HasPlan (jamroot_of before) steps) → BothTold (λ before after. HasUpdated (update_at made steps before) old new r before after) d e → BothTold (HasHappened made [] (top_of r) old new) d e
 happened_of made steps old new None None r plan told = tt
 happened_of made steps old new None (Some after) r plan told = told
@@ -120,7 +120,7 @@ happened_of made steps old new (Some before) (Some after) r plan told = go r tol
     go ends.OutOfMemory u = inr (steps, u.events, built ends.OutOfMemory u)
 
 -- after an update that is done the wanted files are clean
-pub clean_of : (made : List ℕ → List (List ℕ × List ℕ) → List ℕ → List ℕ) (steps : List Step) (old new : Family) (d e : Option Disk)
+pub clean_of : (made : Made) (steps : List Step) (old new : Family) (d e : Option Disk)
     → IsPlain steps (outs_of steps) → IfSome d (λ before. HasPlan (jamroot_of before) steps) → BothTold (λ before after. HasUpdated (update_at made steps before) old new ends.Done before after) d e → BothTold (LeavesClean made) d e
 clean_of made steps old new None None plain plan told = tt
 clean_of made steps old new None (Some after) plain plan told = told
@@ -128,7 +128,7 @@ clean_of made steps old new (Some before) None plain plan told = told
 clean_of made steps old new (Some before) (Some after) plain plan told = (steps, plan, clean_build made steps before after told.events plain told.told)
 
 -- an update that failed did not have all that it needs to end well
-pub complete_of : (made : List ℕ → List (List ℕ × List ℕ) → List ℕ → List ℕ) (steps : List Step) (old new : Family) (d e : Option Disk) (lists : FailedLists)
+pub complete_of : (made : Made) (steps : List Step) (old new : Family) (d e : Option Disk) (lists : FailedLists)
     → IsPlain steps (outs_of steps) → BothTold (λ before after. HasUpdated (update_at made steps before) old new (ends.Failed lists) before after) d e → BothTold (λ before after. ShouldEndWell made [] steps old new before → ⊥) d e
 complete_of made steps old new None None lists plain told = tt
 complete_of made steps old new None (Some after) lists plain told = told

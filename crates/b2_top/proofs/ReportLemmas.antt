@@ -8,16 +8,22 @@ use Rattle.b2_host.specs.ChildProcesses.{Family, BothTold}
 use Rattle.b2_plan.specs.declared.step.Step.{Step}
 use Rattle.b2_update.specs.declared.update_answer.UpdateAnswer.{UpdateAnswer}
 use Rattle.b2_update.specs.declared.update_answer.UpdateAnswer.TheVariants as ends
-use Rattle.b2_update.specs.Updates.{TellsStarts, WrittenBy, HasWritten}
+use Rattle.b2_update.specs.Updates.{TellsStarts, WrittenBy}
+use Rattle.b2_update.specs.Plain.{Made}
+use Rattle.b2_update.specs.Runs.{Update}
 use Rattle.b2_top.specs.declared.answer.Answer.{Answer}
 use Rattle.b2_top.specs.ProjectFiles.{jamroot_of, HasPlan}
 use Rattle.b2_top.specs.Refusals.{host_fault_line}
-use Rattle.b2_top.specs.Tells.{HasTaken, TellsFault}
-use Rattle.b2_top.specs.Tells.TellsFault.{told as fault_told, failed as fault_failed, no_memory as fault_no_memory}
+use Rattle.b2_top.specs.Tells.{HasTaken, TellsFaultLine}
+use Rattle.b2_top.specs.Tells.TellsFaultLine.{told as fault_told, failed as fault_failed, no_memory as fault_no_memory}
 use Rattle.b2_top.specs.Builds.{update_at, BeginsSome, ReportedBy, HasReported}
 use Rattle.b2_top.specs.Builds.BeginsSome.{update}
 use Rattle.b2_top.specs.Builds.FailsAtWrite.{update as fails_update}
 use Rattle.b2_top.proofs.BuildLemmas.{top_of}
+
+-- what an update has written, told of its events and of the bytes before and after
+abbrev pub WroteBy : Update → UpdateAnswer → Family → Family → Option (List ℕ) → Option (List ℕ) → Type 0
+WroteBy u answer old new text text_after = (events : List ChildEvent) → new.events ≡ old.events ++ events → IfSome text (λ so_far. (written : List ℕ) × (text_after ≡ Some (so_far ++ written)) × WrittenBy u events answer written)
 
 -- bytes that were taken after others
 taken_more : (so_far written part : List ℕ) (mid after : Option (List ℕ)) → mid ≡ Some (so_far ++ written) → HasTaken part mid after → after ≡ Some (so_far ++ (written ++ part))
@@ -32,7 +38,7 @@ no_event (x ∷ old) events e = no_event old events (tail_same old (old ++ event
     tail_same xs ys x e = cc
 
 -- an update's bytes are the call's, but for a fault of the host
-by_plain : (made : List ℕ → List (List ℕ × List ℕ) → List ℕ → List ℕ) (steps : List Step) (f g : ℕ) (disk : Disk) (events : List ChildEvent) (written : List ℕ) (r : UpdateAnswer)
+by_plain : (made : Made) (steps : List Step) (f g : ℕ) (disk : Disk) (events : List ChildEvent) (written : List ℕ) (r : UpdateAnswer)
     → HasPlan (jamroot_of disk) steps → (r ≡ ends.HostFault → ⊥) → WrittenBy (update_at made steps disk) events r written → ReportedBy made [] f g (top_of r) disk events written
 by_plain made steps f g disk events written ends.Done plan other w = (steps, plan, w)
 by_plain made steps f g disk events written (ends.Failed lists) plan other w = (steps, plan, w)
@@ -40,8 +46,8 @@ by_plain made steps f g disk events written ends.HostFault plan other w = absurd
 by_plain made steps f g disk events written ends.SinkFault plan other w = fails_update steps plan w
 by_plain made steps f g disk events written ends.OutOfMemory plan other w = update steps plan w
 
-pub reported_plain : (made : List ℕ → List (List ℕ × List ℕ) → List ℕ → List ℕ) (steps : List Step) (f g : ℕ) (old new : Family) (text text_after : Option (List ℕ)) (d e : Option Disk) (r : UpdateAnswer)
-    → IfSome d (λ before. HasPlan (jamroot_of before) steps) → (r ≡ ends.HostFault → ⊥) → BothTold (λ before after. HasWritten (update_at made steps before) r old new text text_after) d e → BothTold (λ before after. HasReported made [] f g (top_of r) old new text text_after before) d e
+pub reported_plain : (made : Made) (steps : List Step) (f g : ℕ) (old new : Family) (text text_after : Option (List ℕ)) (d e : Option Disk) (r : UpdateAnswer)
+    → IfSome d (λ before. HasPlan (jamroot_of before) steps) → (r ≡ ends.HostFault → ⊥) → BothTold (λ before after. WroteBy (update_at made steps before) r old new text text_after) d e → BothTold (λ before after. HasReported made [] f g (top_of r) old new text text_after before) d e
 reported_plain made steps f g old new text text_after None None r plan other w = tt
 reported_plain made steps f g old new text text_after None (Some after) r plan other w = w
 reported_plain made steps f g old new text text_after (Some before) None r plan other w = w
@@ -50,8 +56,8 @@ reported_plain made steps f g old new (Some so_far) text_after (Some before) (So
     let some = w events are in (some.0, some.1, by_plain made steps f g before events some.0 r plan other some.2)
 
 -- the report where the host failed in an update
-fault_by : (made : List ℕ → List (List ℕ × List ℕ) → List ℕ → List ℕ) (steps : List Step) (f g h : ℕ) (disk : Disk) (events : List ChildEvent) (so_far written : List ℕ) (mid after : Option (List ℕ)) (result : Answer)
-    → HasPlan (jamroot_of disk) steps ⊎ (events ≡ []) → (TellsStarts steps events written → BeginsSome made [] disk events written) → TellsStarts steps events written → g ≡ f → mid ≡ Some (so_far ++ written) → TellsFault host_fault_line g h mid after result
+fault_by : (made : Made) (steps : List Step) (f g h : ℕ) (disk : Disk) (events : List ChildEvent) (so_far written : List ℕ) (mid after : Option (List ℕ)) (result : Answer)
+    → HasPlan (jamroot_of disk) steps ⊎ (events ≡ []) → (TellsStarts steps events written → BeginsSome made [] disk events written) → TellsStarts steps events written → g ≡ f → mid ≡ Some (so_far ++ written) → TellsFaultLine host_fault_line g h mid after result
     → (all : List ℕ) × (after ≡ Some (so_far ++ all)) × ReportedBy made [] f h result disk events all
 fault_by made steps f g h disk events so_far written mid after result plan begins starts same e (fault_told is count taken) = (
   written ++ host_fault_line,
@@ -69,8 +75,8 @@ fault_by made steps f g h disk events so_far written mid after result plan begin
   subst (λ r. ReportedBy made [] f h r disk events written) (sym is) (begins starts),
 )
 
-pub reported_fault : (made : List ℕ → List (List ℕ × List ℕ) → List ℕ → List ℕ) (steps : List Step) (f g h : ℕ) (old new : Family) (text mid text_after : Option (List ℕ)) (d e : Option Disk) (result : Answer)
-    → IfSome d (λ before. HasPlan (jamroot_of before) steps) → g ≡ f → BothTold (λ before after. HasWritten (update_at made steps before) ends.HostFault old new text mid) d e → TellsFault host_fault_line g h mid text_after result
+pub reported_fault : (made : Made) (steps : List Step) (f g h : ℕ) (old new : Family) (text mid text_after : Option (List ℕ)) (d e : Option Disk) (result : Answer)
+    → IfSome d (λ before. HasPlan (jamroot_of before) steps) → g ≡ f → BothTold (λ before after. WroteBy (update_at made steps before) ends.HostFault old new text mid) d e → TellsFaultLine host_fault_line g h mid text_after result
     → BothTold (λ before after. HasReported made [] f h result old new text text_after before) d e
 reported_fault made steps f g h old new text mid text_after None None result plan same w tells = tt
 reported_fault made steps f g h old new text mid text_after None (Some after) result plan same w tells = w

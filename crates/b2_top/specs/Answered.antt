@@ -1,9 +1,13 @@
-use Rattle.std.specs.Prelude.{◌≡◌, ◌≢◌, ℕ, List, [], Option, Ok, ◌⊎◌}
+-- What a call of the build command promises, from the moment of its start to that of its answer. Each definition that ends
+-- with `Told` speaks of visible files.
+use Rattle.std.specs.Prelude.{◌≡◌, ◌≢◌, ℕ, List, [], Ok}
 use Rattle.b2_host.specs.Disks.{Disk}
-use Rattle.b2_host.specs.Faults.{Rose}
-use Rattle.b2_host.specs.ChildProcesses.{Family, BothTold}
+use Rattle.b2_host.specs.ChildProcesses.{BothTold}
+use Rattle.b2_host.specs.Outside.{Outside}
 use Rattle.b2_plan.specs.declared.step.Step.{Step}
 use Rattle.b2_plan.specs.declared.plan.Plan.{Plan}
+use Rattle.b2_update.specs.Plain.{Made}
+use Rattle.b2_update.specs.Moments.{Moment}
 use Rattle.b2_update.specs.Turns.{HasTurns}
 use Rattle.jam_lexer.specs.declared.fault.LexFault.{LexFault}
 use Rattle.b2_top.specs.declared.refusal.Fault.TheVariants as faults
@@ -12,25 +16,52 @@ use Rattle.b2_top.specs.declared.answer.Answer.TheVariants as answers
 use Rattle.b2_top.specs.ProjectFiles.{jamroot, jamroot_of, HasPlan}
 use Rattle.b2_top.specs.Stops.{IsExact}
 use Rattle.b2_top.specs.Refusals.{no_tokens}
-use Rattle.b2_top.specs.Builds.{IsCutShort, IsOfWords, IsLeftAlone, StartsNone, RefusalIsNotOutOfMemory, failed_in, CountsTold, ShouldBeNotYet, ShouldHaveNoTokens, HasHappened, LeavesClean, ShouldEndWell, HasReported}
+use Rattle.b2_top.specs.Builds.{IsOrCutShort, IsOfWords, StartsNone, RefusalIsNotOutOfMemory, failed_in, CountsTold, ShouldBeNotYet, ShouldHaveNoTokens, HasHappened, LeavesClean, ShouldEndWell, HasReported}
 
--- All that a call of the build command promises: with these words, the child processes before and after, the
--- files, the counts of faults of host and sink, and what was written.
-pub record IsAnswered (made : List ℕ → List (List ℕ × List ℕ) → List ℕ → List ℕ) (words : List (List ℕ)) (old new : Family) (before after : Option Disk) (host host_after sink sink_after : ℕ) (text text_after : Option (List ℕ)) (result : Answer) : Type 0 where
-  pub clean : result ≡ answers.Ok → BothTold (LeavesClean made) before after
-  pub happened : BothTold (HasHappened made words result old new) before after
-  pub counts : CountsTold host host_after new.running sink sink_after result
+-- each wanted file has the bytes of the clean build of the sources at entry
+abbrev pub CleanTold : Made → Outside → Outside → Type 0
+CleanTold made before after = BothTold (LeavesClean made) before.disk after.disk
+
+-- what happened, by the answer
+abbrev pub HappenedTold : Made → List (List ℕ) → Outside → Outside → Answer → Type 0
+HappenedTold made words before after result = BothTold (HasHappened made words result before.children after.children) before.disk after.disk
+
+-- a project's file that is not yet built at a line is refused at that line, or the call was cut short
+abbrev pub NotYetTold : List (List ℕ) → Outside → Outside → Answer → Type 0
+NotYetTold words before after result =
+    BothTold (λ disk later. (line : ℕ) → ShouldBeNotYet words disk line → IsOrCutShort result (answers.Refused (faults.NotYet jamroot line))) before.disk after.disk
+
+-- a project's file that has no tokens is refused by the name of its fault, or the call was cut short
+abbrev pub NoTokensTold : List (List ℕ) → Outside → Outside → Answer → Type 0
+NoTokensTold words before after result =
+    BothTold (λ disk later. (fault : LexFault) → ShouldHaveNoTokens words disk fault → IsOrCutShort result (answers.Refused (no_tokens fault))) before.disk after.disk
+
+-- where all sources stand, no child ended badly and no call failed, the answer is Ok, or the call was cut short
+abbrev pub CompleteTold : Made → List (List ℕ) → Moment → Moment → Answer → Type 0
+CompleteTold made words before after result =
+    BothTold (λ disk later. (steps : List Step) → ShouldEndWell made words steps before.host.children after.host.children disk
+    → after.host.faults ≡ before.host.faults → after.out.faults ≡ before.out.faults → IsOrCutShort result answers.Ok) before.host.disk after.host.disk
+
+-- what was written is the report
+abbrev pub ReportTold : Made → List (List ℕ) → Moment → Moment → Answer → Type 0
+ReportTold made words before after result =
+    BothTold (λ disk later. HasReported made words before.out.faults after.out.faults result before.host.children after.host.children before.out.written after.out.written disk) before.host.disk after.host.disk
+
+-- All that a call of the build command with these words promises.
+pub record IsAnswered (made : Made) (words : List (List ℕ)) (before after : Moment) (result : Answer) : Type 0 where
+  pub clean : result ≡ answers.Ok → CleanTold made before.host after.host
+  pub happened : HappenedTold made words before.host after.host result
+  pub counts : CountsTold before after result
   pub usage : words ≢ [] → IsOfWords result
-  pub alone : words ≢ [] → IsLeftAlone old new before after host host_after
-  pub turns : HasTurns (failed_in result) old.events new.events
-  pub starts_none : StartsNone result old new
-  pub not_out_of_memory : RefusalIsNotOutOfMemory result
+  pub alone : words ≢ [] → after.host ≡ before.host
   pub no_usage : result ≡ answers.Usage → words ≢ []
-  pub not_yet : BothTold (λ b a. (line : ℕ) → ShouldBeNotYet words b line → (result ≡ answers.Refused (faults.NotYet jamroot line)) ⊎ IsCutShort result) before after
-  pub without_tokens : BothTold (λ b a. (fault : LexFault) → ShouldHaveNoTokens words b fault → (result ≡ answers.Refused (no_tokens fault)) ⊎ IsCutShort result) before after
-  pub complete : BothTold (λ b a. (steps : List Step) → ShouldEndWell made words steps old new b → host_after ≡ host → sink_after ≡ sink → (result ≡ answers.Ok) ⊎ IsCutShort result) before after
-  pub reported : BothTold (λ b a. HasReported made words sink sink_after result old new text text_after b) before after
-  pub none_left : (new.running ≡ []) ⊎ Rose host host_after
+  pub starts_none : StartsNone result before.host.children after.host.children
+  pub not_out_of_memory : RefusalIsNotOutOfMemory result
+  pub not_yet : NotYetTold words before.host after.host result
+  pub without_tokens : NoTokensTold words before.host after.host result
+  pub complete : CompleteTold made words before after result
+  pub reported : ReportTold made words before after result
+  pub turns : HasTurns (failed_in result) before.host.children.events after.host.children.events
 
 -- the plan was read from the project's file, and nothing else can have been
 abbrev pub IsThePlan : Plan → Disk → Type 0

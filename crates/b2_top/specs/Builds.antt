@@ -3,7 +3,7 @@ use Rattle.std.specs.List.{Contains}
 use Rattle.b2_host.specs.declared.children.ChildEvent.{ChildEvent}
 use Rattle.b2_host.specs.declared.children.ChildEvent.TheVariants.{Done}
 use Rattle.b2_host.specs.Disks.{Disk}
-use Rattle.b2_host.specs.ChildProcesses.{Family, Child}
+use Rattle.b2_host.specs.ChildProcesses.{Family}
 use Rattle.b2_host.specs.Faults.{Rose}
 use Rattle.b2_plan.specs.declared.step.Step.{Step}
 use Rattle.b2_plan.specs.Plans.{step_at}
@@ -11,8 +11,9 @@ use Rattle.b2_plan.specs.Sources.{Build, IsGiven}
 use Rattle.b2_update.specs.Runs.{Update}
 use Rattle.b2_update.specs.Outcomes.{IsCleanBuild, nothing_lacks}
 use Rattle.b2_update.specs.Reports.{report}
-use Rattle.b2_update.specs.Plain.{build_of, update_all}
-use Rattle.b2_update.specs.Stops.{IsQuietHost}
+use Rattle.b2_update.specs.Plain.{Made, build_of, update_all}
+use Rattle.b2_update.specs.Moments.{Moment}
+use Rattle.b2_update.specs.Stops.{CountsStay, IsQuietHost}
 use Rattle.b2_update.specs.Updates.{HasRun, HasEnded, SomethingLacks, TellsStarts, BeginsWith, StopsAtWrite, StopsSomewhere}
 use Rattle.jam_lexer.specs.declared.fault.LexFault.{LexFault}
 use Rattle.b2_top.specs.declared.refusal.Fault.{Fault}
@@ -24,43 +25,37 @@ use Rattle.b2_top.specs.Jamroots.{outs_of}
 use Rattle.b2_top.specs.ProjectFiles.{jamroot, jamroot_of, IsNotYet, HasLexFault, HasPlan}
 use Rattle.b2_top.specs.Refusals.{fault_line, IsNotOutOfMemory, no_tokens, host_fault_line, usage_line}
 
--- what a text makes of named inputs, at an output
-abbrev pub Made : Type 0
-Made = List ℕ → List (List ℕ × List ℕ) → List ℕ → List ℕ
-
 -- the clean build of a plan from the files of a disk
-abbrev pub build_at : (List ℕ → List (List ℕ × List ℕ) → List ℕ → List ℕ) → List Step → Disk → Build
+abbrev pub build_at : Made → List Step → Disk → Build
 build_at made steps disk = build_of steps (outs_of steps) roots made disk.now
 
 -- the update of a plan from the files of a disk
-abbrev pub update_at : (List ℕ → List (List ℕ × List ℕ) → List ℕ → List ℕ) → List Step → Disk → Update
+abbrev pub update_at : Made → List Step → Disk → Update
 update_at made steps disk = update_all (build_at made steps disk)
 
 -- an answer that may take the place of any other: a fault of the host or of the sink, or OutOfMemory
 abbrev pub IsCutShort : Answer → Type 0
 IsCutShort answer = (answer ≡ answers.HostFault) ⊎ (answer ≡ answers.SinkFault) ⊎ (answer ≡ answers.OutOfMemory)
 
+-- the result is this answer, or one that was cut short
+abbrev pub IsOrCutShort : Answer → Answer → Type 0
+IsOrCutShort result answer = (result ≡ answer) ⊎ IsCutShort result
+
 -- How the counts of faults stand to an answer: Ok, Failed, Refused and Usage come only where both are as at entry, and a
 -- fault only where its count rose. The first fault decides: with SinkFault the host's count is as at entry, unless the wait
 -- for the child that ran failed after it, so that the child is left; with HostFault the sink may have failed at its line.
-abbrev pub CountsTold : ℕ → ℕ → List Child → ℕ → ℕ → Answer → Type 0
-CountsTold host host_after left sink sink_after answers.Ok = (host_after ≡ host) × (sink_after ≡ sink)
-CountsTold host host_after left sink sink_after (answers.Failed lists) = (host_after ≡ host) × (sink_after ≡ sink)
-CountsTold host host_after left sink sink_after (answers.Refused fault) = (host_after ≡ host) × (sink_after ≡ sink)
-CountsTold host host_after left sink sink_after answers.Usage = (host_after ≡ host) × (sink_after ≡ sink)
-CountsTold host host_after left sink sink_after answers.HostFault = Rose host host_after
-CountsTold host host_after left sink sink_after answers.OutOfMemory = sink_after ≡ sink
-CountsTold host host_after left sink sink_after answers.SinkFault = Rose sink sink_after × IsQuietHost host host_after left
+abbrev pub CountsTold : Moment → Moment → Answer → Type 0
+CountsTold before after answers.Ok = CountsStay before after
+CountsTold before after (answers.Failed lists) = CountsStay before after
+CountsTold before after (answers.Refused fault) = CountsStay before after
+CountsTold before after answers.Usage = CountsStay before after
+CountsTold before after answers.HostFault = Rose before.host.faults after.host.faults
+CountsTold before after answers.OutOfMemory = after.out.faults ≡ before.out.faults
+CountsTold before after answers.SinkFault = Rose before.out.faults after.out.faults × IsQuietHost before.host after.host
 
 -- The answers that may come where a word stands: the usage line was written, or the sink failed or memory ran out at it.
 abbrev pub IsOfWords : Answer → Type 0
 IsOfWords answer = (answer ≡ answers.Usage) ⊎ (answer ≡ answers.SinkFault) ⊎ (answer ≡ answers.OutOfMemory)
-
--- the host is as it was: its children, its files and its count of faults
-pub record IsLeftAlone (old new : Family) (before after : Option Disk) (host host_after : ℕ) : Type 0 where
-  pub family : new ≡ old
-  pub disk : after ≡ before
-  pub count : host_after ≡ host
 
 -- where the answer is Refused or Usage, nothing was started
 abbrev pub StartsNone : Answer → Family → Family → Type 0
@@ -106,7 +101,7 @@ HasCause words disk (faults.NotYet path line) = (path ≡ jamroot) × ShouldBeNo
 HasCause words disk (faults.Load fault) = (cause : LexFault) × (faults.Load fault ≡ no_tokens cause) × ShouldHaveNoTokens words disk cause
 
 -- The project has this plan, and its update happened so.
-pub record HasBuilt (made : List ℕ → List (List ℕ × List ℕ) → List ℕ → List ℕ) (words : List (List ℕ)) (steps : List Step) (events : List ChildEvent) (old new : Family) (before after : Disk) : Type 0 where
+pub record HasBuilt (made : Made) (words : List (List ℕ)) (steps : List Step) (events : List ChildEvent) (old new : Family) (before after : Disk) : Type 0 where
   pub no_word : words ≡ []
   pub plan : HasPlan (jamroot_of before) steps
   pub ran : HasRun (update_at made steps before) events old new before.now after.now
@@ -118,7 +113,7 @@ pub record IsUntouched (old new : Family) (before after : Disk) : Type 0 where
 
 -- What happened, by the answer: a run that has ended where the answer is Ok or Failed; nothing where it is Refused or
 -- Usage; and with any other answer nothing, or the beginning of a run.
-abbrev pub HasHappened : (List ℕ → List (List ℕ × List ℕ) → List ℕ → List ℕ) → List (List ℕ) → Answer → Family → Family → Disk → Disk → Type 0
+abbrev pub HasHappened : Made → List (List ℕ) → Answer → Family → Family → Disk → Disk → Type 0
 HasHappened made words answers.Ok old new before after = (steps : List Step) × (events : List ChildEvent) × HasBuilt made words steps events old new before after × HasEnded (update_at made steps before) events after.now nothing_lacks
 HasHappened made words (answers.Failed lists) old new before after = (steps : List Step) × (events : List ChildEvent) × HasBuilt made words steps events old new before after × HasEnded (update_at made steps before) events after.now lists × SomethingLacks lists
 HasHappened made words (answers.Refused fault) old new before after = IsUntouched old new before after × HasCause words before fault
@@ -128,11 +123,11 @@ HasHappened made words answers.OutOfMemory old new before after = IsUntouched ol
 HasHappened made words answers.SinkFault old new before after = IsUntouched old new before after ⊎ ((steps : List Step) × (events : List ChildEvent) × HasBuilt made words steps events old new before after)
 
 -- each wanted file of the project's plan has the bytes of the clean build of the sources at entry
-abbrev pub LeavesClean : (List ℕ → List (List ℕ × List ℕ) → List ℕ → List ℕ) → Disk → Disk → Type 0
+abbrev pub LeavesClean : Made → Disk → Disk → Type 0
 LeavesClean made before after = (steps : List Step) × HasPlan (jamroot_of before) steps × IsCleanBuild (build_at made steps before) after.now
 
 -- What should end well: no word, a plan whose sources all stand, and no child that ends badly.
-pub record ShouldEndWell (made : List ℕ → List (List ℕ × List ℕ) → List ℕ → List ℕ) (words : List (List ℕ)) (steps : List Step) (old new : Family) (before : Disk) : Type 0 where
+pub record ShouldEndWell (made : Made) (words : List (List ℕ)) (steps : List Step) (old new : Family) (before : Disk) : Type 0 where
   pub no_word : words ≡ []
   pub plan : HasPlan (jamroot_of before) steps
   pub sources : (i : ℕ) (step : Step) (path : List ℕ) → step_at steps i ≡ Some step → Contains step.ins path → IsGiven (build_at made steps before) path
@@ -151,20 +146,20 @@ pub record TellsHostFault (sink sink_after : ℕ) (disk : Disk) (events : List C
 
 -- Where a write failed: at the line that the words, or a refusal with its cause, ask for, or at one of the plan's update, after
 -- which nothing was started.
-pub data FailsAtWrite (made : List ℕ → List (List ℕ × List ℕ) → List ℕ → List ℕ) (words : List (List ℕ)) (disk : Disk) (events : List ChildEvent) (written : List ℕ) : Type 0 where
+pub data FailsAtWrite (made : Made) (words : List (List ℕ)) (disk : Disk) (events : List ChildEvent) (written : List ℕ) : Type 0 where
   usage : words ≢ [] → BeginsWith usage_line written → FailsAtWrite made words disk events written
   refusal : (fault : Fault) → HasCause words disk fault → BeginsWith (fault_line fault) written → FailsAtWrite made words disk events written
   update : (steps : List Step) → HasPlan (jamroot_of disk) steps → StopsAtWrite (update_at made steps disk) events written → FailsAtWrite made words disk events written
 
 -- A beginning of a report: of the line that the words, or a refusal with its cause, ask for, or of the plan's update.
-pub data BeginsSome (made : List ℕ → List (List ℕ × List ℕ) → List ℕ → List ℕ) (words : List (List ℕ)) (disk : Disk) (events : List ChildEvent) (written : List ℕ) : Type 0 where
+pub data BeginsSome (made : Made) (words : List (List ℕ)) (disk : Disk) (events : List ChildEvent) (written : List ℕ) : Type 0 where
   nothing : events ≡ [] → written ≡ [] → BeginsSome made words disk events written
   usage : words ≢ [] → BeginsWith usage_line written → BeginsSome made words disk events written
   refusal : (fault : Fault) → HasCause words disk fault → BeginsWith (fault_line fault) written → BeginsSome made words disk events written
   update : (steps : List Step) → HasPlan (jamroot_of disk) steps → StopsSomewhere (update_at made steps disk) events written → BeginsSome made words disk events written
 
 -- what an answer says of the bytes that were written
-abbrev pub ReportedBy : (List ℕ → List (List ℕ × List ℕ) → List ℕ → List ℕ) → List (List ℕ) → ℕ → ℕ → Answer → Disk → List ChildEvent → List ℕ → Type 0
+abbrev pub ReportedBy : Made → List (List ℕ) → ℕ → ℕ → Answer → Disk → List ChildEvent → List ℕ → Type 0
 ReportedBy made words sink sink_after answers.Ok disk events written = (steps : List Step) × HasPlan (jamroot_of disk) steps × (written ≡ report steps events nothing_lacks)
 ReportedBy made words sink sink_after (answers.Failed lists) disk events written = (steps : List Step) × HasPlan (jamroot_of disk) steps × (written ≡ report steps events lists)
 ReportedBy made words sink sink_after (answers.Refused fault) disk events written = written ≡ fault_line fault
@@ -174,5 +169,5 @@ ReportedBy made words sink sink_after answers.OutOfMemory disk events written = 
 ReportedBy made words sink sink_after answers.SinkFault disk events written = FailsAtWrite made words disk events written
 
 -- the bytes that were written in a call, where the sink tells them
-abbrev pub HasReported : (List ℕ → List (List ℕ × List ℕ) → List ℕ → List ℕ) → List (List ℕ) → ℕ → ℕ → Answer → Family → Family → Option (List ℕ) → Option (List ℕ) → Disk → Type 0
+abbrev pub HasReported : Made → List (List ℕ) → ℕ → ℕ → Answer → Family → Family → Option (List ℕ) → Option (List ℕ) → Disk → Type 0
 HasReported made words sink sink_after answer old new text text_after disk = (events : List ChildEvent) → new.events ≡ old.events ++ events → IfSome text (λ so_far. (written : List ℕ) × (text_after ≡ Some (so_far ++ written)) × ReportedBy made words sink sink_after answer disk events written)

@@ -1,19 +1,21 @@
-use Rattle.std.specs.Prelude.{◌≡◌, ℕ, List, Option, Result, Ok, Err, ⊤}
+use Rattle.std.specs.Prelude.{◌≡◌, ℕ, List, Option, Result, Ok, Err, ◌⊎◌, ⊤}
 use Rattle.std.specs.Option.{IfSome}
 use Rattle.b2_host.specs.Disks.{Disk}
-use Rattle.b2_host.specs.Faults.{Rose}
+use Rattle.b2_host.specs.Outside.{Outside, Fails}
+use Rattle.b2_host.specs.FileCalls.{after_read}
 use Rattle.b2_plan.specs.declared.plan.Plan.{Plan}
 use Rattle.b2_top.specs.declared.jamroot.Stop.TheVariants as stops
 use Rattle.b2_top.specs.declared.load.LoadEnd.{LoadEnd}
 use Rattle.b2_top.specs.declared.load.LoadEnd.TheVariants as ends
-use Rattle.b2_top.specs.ProjectFiles.{jamroot_of}
+use Rattle.b2_top.specs.ProjectFiles.{jamroot, jamroot_of}
 use Rattle.b2_top.specs.Stops.{NamesText, IsStop, IsExact}
 
--- a load that says that the host failed has seen it fail, and no other has
-abbrev pub LoadCounted : {T : Type 0} → ℕ → ℕ → Result T LoadEnd → Type 0
-LoadCounted before after (Ok x) = after ≡ before
-LoadCounted before after (Err (ends.Stopped stop)) = after ≡ before
-LoadCounted before after (Err ends.Host) = Rose before after
+-- Loading reads the project's file and changes nothing else: the read was answered and noted, or the host failed at it, or
+-- no memory was left before it.
+abbrev pub LoadReads : {T : Type 0} → Outside → Outside → Result T LoadEnd → Type 0
+LoadReads before after (Ok x) = after ≡ after_read jamroot before
+LoadReads before after (Err (ends.Stopped stop)) = (after ≡ after_read jamroot before) ⊎ (after ≡ before)
+LoadReads before after (Err ends.Host) = Fails before after
 
 -- the end of a load that read nothing: the host failed, or no memory was left
 abbrev pub IsUnread : LoadEnd → Type 0

@@ -1,11 +1,11 @@
 //! Reads the project's file.
-ghost use Rattle.std.specs.Prelude.{◌≡◌, IfOk, IfErr};
+ghost use Rattle.std.specs.Prelude.{IfOk, IfErr};
 ghost use Rattle.std.specs.Option.{IfSome};
 ghost use Rattle.b2_host.specs.Disks.{Disk, ReadTold};
 ghost use Rattle.b2_top.specs.Jamroots.{IsReady};
 ghost use Rattle.b2_top.specs.ProjectFiles.{jamroot, jamroot_of, HasPlan};
 ghost use Rattle.b2_top.specs.Stops.{NamesText, IsStop, IsExact};
-ghost use Rattle.b2_top.specs.Loads.{LoadCounted, IsUnread, EndNamesText, EndTold, IsExactLoad};
+ghost use Rattle.b2_top.specs.Loads.{LoadReads, IsUnread, EndNamesText, EndTold, IsExactLoad};
 
 use crate::folders::jamroot_path;
 use crate::jamroot::{Stop, plan_of};
@@ -28,11 +28,8 @@ pub enum LoadEnd {
 
 /// What reading the project's file answers.
 fn read_jamroot<F: Files>(alloc: Global, files: &mut F) -> Result<ReadAnswer, LoadEnd>
-    ensures faults { LoadCounted (F.faults files.old) (F.faults files.new) result }
-    ensures disk { F.disk files.new ≡ F.disk files.old }
-    ensures family { F.family files.new ≡ F.family files.old }
-    ensures waits { F.failed_waits files.new ≡ F.failed_waits files.old }
-    ensures told { IfOk result (λ answer. IfSome (F.disk files.old) (λ before. ReadTold jamroot 1048576 answer before.now)) }
+    ensures reads { LoadReads (F.outside files.old) (F.outside files.new) result }
+    ensures answer { IfOk result (λ answer. IfSome (F.outside files.old).disk (λ disk. ReadTold jamroot 1048576 answer disk.now)) }
     ensures unread { IfErr result IsUnread }
     ensures names { IfErr result EndNamesText }
 {
@@ -68,15 +65,12 @@ fn plan_of_answer(alloc: Global, answer: &ReadAnswer) -> Result<Plan, Stop>
 
 /// The plan of the project in the folder.
 pub fn load<F: Files>(alloc: Global, files: &mut F) -> Result<Plan, LoadEnd>
-    ensures faults { LoadCounted (F.faults files.old) (F.faults files.new) result }
-    ensures disk { F.disk files.new ≡ F.disk files.old }
-    ensures family { F.family files.new ≡ F.family files.old }
-    ensures waits { F.failed_waits files.new ≡ F.failed_waits files.old }
-    ensures plan { IfOk result (λ plan. IfSome (F.disk files.old) (λ before. HasPlan (jamroot_of before) plan.steps)) }
+    ensures reads { LoadReads (F.outside files.old) (F.outside files.new) result }
+    ensures plan { IfOk result (λ plan. IfSome (F.outside files.old).disk (λ disk. HasPlan (jamroot_of disk) plan.steps)) }
     ensures ready { IfOk result IsReady }
     ensures names { IfErr result EndNamesText }
-    ensures stop { IfErr result (EndTold (F.disk files.old)) }
-    ensures exact { IfSome (F.disk files.old) (λ before. IsExactLoad (jamroot_of before) result) }
+    ensures stop { IfErr result (EndTold (F.outside files.old).disk) }
+    ensures exact { IfSome (F.outside files.old).disk (λ disk. IsExactLoad (jamroot_of disk) result) }
 {
     let answer = read_jamroot(alloc, files)?;
     match plan_of_answer(alloc, &answer) {

@@ -1,16 +1,13 @@
 //! The build command.
-ghost use Rattle.std.specs.Prelude.{◌≡◌, ◌≢◌, ℕ, List, [], ◌⊎◌};
+ghost use Rattle.std.specs.Prelude.{◌≡◌, ◌≢◌, []};
 ghost use Rattle.std.specs.Option.{IfSome};
-ghost use Rattle.b2_host.specs.Faults.{Rose};
-ghost use Rattle.b2_host.specs.ChildProcesses.{BothTold};
-ghost use Rattle.jam_lexer.specs.declared.fault.LexFault.{LexFault};
-ghost use Rattle.b2_plan.specs.declared.step.Step.{Step};
+ghost use Rattle.b2_host.specs.OutsideLaws.{Keeps};
+ghost use Rattle.b2_update.specs.Moments.{moment};
+ghost use Rattle.b2_update.specs.Stops.{LeavesNone};
 ghost use Rattle.b2_update.specs.Turns.{HasTurns};
 ghost use Rattle.b2_top.specs.Jamroots.{IsReady};
-ghost use Rattle.b2_top.specs.ProjectFiles.{jamroot};
-ghost use Rattle.b2_top.specs.Refusals.{no_tokens};
-ghost use Rattle.b2_top.specs.Builds.{IsCutShort, IsOfWords, IsLeftAlone, StartsNone, RefusalIsNotOutOfMemory, failed_in, CountsTold, ShouldBeNotYet, ShouldHaveNoTokens, HasHappened, LeavesClean, ShouldEndWell, HasReported};
-ghost use Rattle.b2_top.specs.Answered.{IsAnswered, IsThePlan};
+ghost use Rattle.b2_top.specs.Builds.{IsOfWords, StartsNone, RefusalIsNotOutOfMemory, failed_in, CountsTold};
+ghost use Rattle.b2_top.specs.Answered.{CleanTold, HappenedTold, NotYetTold, NoTokensTold, CompleteTold, ReportTold, IsAnswered, IsThePlan};
 
 use crate::answer::Answer;
 use crate::load::{LoadEnd, load};
@@ -26,11 +23,12 @@ use std::alloc::Global;
 
 /// Runs the plan that was read, and tells a fault of the host.
 fn build<H: Children, S: Sink>(alloc: Global, plan: &Plan, host: &mut H, out: &mut S) -> Answer
-    requires idle { (H.family host.old).running ≡ [] }
+    requires idle { (H.outside host.old).children.running ≡ [] }
     requires ready { IsReady plan.now }
-    requires read { IfSome (H.disk host.old) (IsThePlan plan.now) }
-    ensures answered { IsAnswered H.made [] (H.family host.old) (H.family host.new) (H.disk host.old) (H.disk host.new) (H.faults host.old) (H.faults host.new) (S.faults out.old) (S.faults out.new) (S.written out.old) (S.written out.new) result }
-    ensures waited { ((H.family host.new).running ≡ []) ⊎ Rose (H.failed_waits host.old) (H.failed_waits host.new) }
+    requires read { IfSome (H.outside host.old).disk (IsThePlan plan.now) }
+    ensures answered { IsAnswered H.made [] (moment (H.outside host.old) (S.output out.old)) (moment (H.outside host.new) (S.output out.new)) result }
+    ensures none_left { LeavesNone (H.outside host.old) (H.outside host.new) }
+    ensures keeps { Keeps (H.outside host.old) (H.outside host.new) }
 {
     match update(alloc, plan, host, out) {
         UpdateAnswer::Done => Answer::Ok,
@@ -43,9 +41,10 @@ fn build<H: Children, S: Sink>(alloc: Global, plan: &Plan, host: &mut H, out: &m
 
 /// Reads the project and builds it, or tells why not.
 fn answer<H: Children, S: Sink>(alloc: Global, words: &[Text], host: &mut H, out: &mut S) -> Answer
-    requires { (H.family host.old).running ≡ [] }
-    ensures answered { IsAnswered H.made words.now (H.family host.old) (H.family host.new) (H.disk host.old) (H.disk host.new) (H.faults host.old) (H.faults host.new) (S.faults out.old) (S.faults out.new) (S.written out.old) (S.written out.new) result }
-    ensures waited { ((H.family host.new).running ≡ []) ⊎ Rose (H.failed_waits host.old) (H.failed_waits host.new) }
+    requires { (H.outside host.old).children.running ≡ [] }
+    ensures answered { IsAnswered H.made words.now (moment (H.outside host.old) (S.output out.old)) (moment (H.outside host.new) (S.output out.new)) result }
+    ensures none_left { LeavesNone (H.outside host.old) (H.outside host.new) }
+    ensures keeps { Keeps (H.outside host.old) (H.outside host.new) }
 {
     if !words.is_empty() {
         return tell_usage(out);
@@ -65,36 +64,37 @@ pub fn run_b2<H: Children, S: Sink>(
     host: &mut H,
     out: &mut S,
 ) -> Answer
-    requires idle { (H.family host.old).running ≡ [] }
+    requires idle { (H.outside host.old).children.running ≡ [] }
 
     // The headline: after Ok each wanted file has the bytes of the clean build of the sources at entry.
-    ensures clean { result ≡ Answer.Ok → BothTold (LeavesClean H.made) (H.disk host.old) (H.disk host.new) }
+    ensures clean { result ≡ Answer.Ok → CleanTold H.made (H.outside host.old) (H.outside host.new) }
     // What happened, by the answer: a whole run, nothing, or the beginning of a run.
-    ensures happened { BothTold (HasHappened H.made words.now result (H.family host.old) (H.family host.new)) (H.disk host.old) (H.disk host.new) }
+    ensures happened { HappenedTold H.made words.now (H.outside host.old) (H.outside host.new) result }
     // Ok, Failed, Refused and Usage come only where nothing failed; a fault comes only where its count rose, and the first
     // one decides.
-    ensures counts { CountsTold (H.faults host.old) (H.faults host.new) (H.family host.new).running (S.faults out.old) (S.faults out.new) result }
+    ensures counts { CountsTold (moment (H.outside host.old) (S.output out.old)) (moment (H.outside host.new) (S.output out.new)) result }
     // A word asks for the usage line, before the host is called, and nothing else does.
     ensures usage { words.now ≢ [] → IsOfWords result }
-    ensures alone { words.now ≢ [] → IsLeftAlone (H.family host.old) (H.family host.new) (H.disk host.old) (H.disk host.new) (H.faults host.old) (H.faults host.new) }
+    ensures alone { words.now ≢ [] → H.outside host.new ≡ H.outside host.old }
     ensures no_usage { result ≡ Answer.Usage → words.now ≢ [] }
     // A call that is refused has started nothing.
-    ensures starts_none { StartsNone result (H.family host.old) (H.family host.new) }
+    ensures starts_none { StartsNone result (H.outside host.old).children (H.outside host.new).children }
     // A refusal never stands for running out of memory.
     ensures not_out_of_memory { RefusalIsNotOutOfMemory result }
     // A Jamroot that has no tokens is refused by the name of its fault, and one that is not as it should be at its first
     // bad line.
-    ensures not_yet { BothTold (λ before after. (line : ℕ) → ShouldBeNotYet words.now before line → (result ≡ Answer.Refused (Fault.NotYet jamroot line)) ⊎ IsCutShort result) (H.disk host.old) (H.disk host.new) }
-    ensures without_tokens { BothTold (λ before after. (fault : LexFault) → ShouldHaveNoTokens words.now before fault → (result ≡ Answer.Refused (no_tokens fault)) ⊎ IsCutShort result) (H.disk host.old) (H.disk host.new) }
-    // Where all sources stand, no child ends badly and nothing fails, the answer is Ok, or OutOfMemory.
-    ensures complete { BothTold (λ before after. (steps : List Step) → ShouldEndWell H.made words.now steps (H.family host.old) (H.family host.new) before → H.faults host.new ≡ H.faults host.old → S.faults out.new ≡ S.faults out.old → (result ≡ Answer.Ok) ⊎ IsCutShort result) (H.disk host.old) (H.disk host.new) }
+    ensures not_yet { NotYetTold words.now (H.outside host.old) (H.outside host.new) result }
+    ensures without_tokens { NoTokensTold words.now (H.outside host.old) (H.outside host.new) result }
+    // Where all sources stand, no child ends badly and nothing fails, the answer is Ok, or the call was cut short.
+    ensures complete { CompleteTold H.made words.now (moment (H.outside host.old) (S.output out.old)) (moment (H.outside host.new) (S.output out.new)) result }
     // What was written is the report.
-    ensures reported { BothTold (λ before after. HasReported H.made words.now (S.faults out.old) (S.faults out.new) result (H.family host.old) (H.family host.new) (S.written out.old) (S.written out.new) before) (H.disk host.old) (H.disk host.new) }
+    ensures reported { ReportTold H.made words.now (moment (H.outside host.old) (S.output out.old)) (moment (H.outside host.new) (S.output out.new)) result }
     // The events are in turn, over every host: one step is open at a time, none starts twice, and each failed step was done.
-    ensures turns { HasTurns (failed_in result) (H.family host.old).events (H.family host.new).events }
+    ensures turns { HasTurns (failed_in result) (H.outside host.old).children.events (H.outside host.new).children.events }
     // No child is left, unless a wait failed, and then the host's count of faults rose.
-    ensures none_left { ((H.family host.new).running ≡ []) ⊎ Rose (H.failed_waits host.old) (H.failed_waits host.new) }
-    ensures left_counted { ((H.family host.new).running ≡ []) ⊎ Rose (H.faults host.old) (H.faults host.new) }
+    ensures none_left { LeavesNone (H.outside host.old) (H.outside host.new) }
+    // No count falls, visible files stay visible, and all that stood stays among the past.
+    ensures keeps { Keeps (H.outside host.old) (H.outside host.new) }
 {
     answer(alloc, words, host, out)
 }

@@ -65,7 +65,7 @@ fn fault_text(alloc: Global, fault: &Fault) -> Result<String, OutOfMemory>
 
 /// Writes one line, and gives the answer, or that the sink failed or memory ran out.
 fn tell<S: Sink>(out: &mut S, line: &[u8], answer: Answer) -> Answer
-    ensures { Tells answer line.now (S.faults out.old) (S.faults out.new) (S.written out.old) (S.written out.new) result }
+    ensures { Tells answer line.now (S.output out.old) (S.output out.new) result }
 {
     match out.write(line) {
         Ok(()) => answer,
@@ -76,14 +76,14 @@ fn tell<S: Sink>(out: &mut S, line: &[u8], answer: Answer) -> Answer
 
 /// Writes the usage line.
 pub fn tell_usage<S: Sink>(out: &mut S) -> Answer
-    ensures { Tells Answer.Usage usage_line (S.faults out.old) (S.faults out.new) (S.written out.old) (S.written out.new) result }
+    ensures { Tells Answer.Usage usage_line (S.output out.old) (S.output out.new) result }
 {
     tell(out, USAGE.as_bytes(), Answer::Usage)
 }
 
 /// Writes the line of a refusal.
 pub fn tell_refusal<S: Sink>(alloc: Global, fault: Fault, out: &mut S) -> Answer
-    ensures { Tells (Answer.Refused fault) (fault_line fault) (S.faults out.old) (S.faults out.new) (S.written out.old) (S.written out.new) result }
+    ensures { Tells (Answer.Refused fault) (fault_line fault) (S.output out.old) (S.output out.new) result }
 {
     match fault_text(alloc, &fault) {
         Ok(text) => tell(out, text.as_bytes(), Answer::Refused(fault)),
@@ -93,7 +93,7 @@ pub fn tell_refusal<S: Sink>(alloc: Global, fault: Fault, out: &mut S) -> Answer
 
 /// Writes the line of a fault of the host, which is the answer though the sink may fail here.
 pub fn tell_host_fault<S: Sink>(out: &mut S) -> Answer
-    ensures { TellsFault host_fault_line (S.faults out.old) (S.faults out.new) (S.written out.old) (S.written out.new) result }
+    ensures { TellsFault host_fault_line (S.output out.old) (S.output out.new) result }
 {
     match out.write(HOST_FAULT.as_bytes()) {
         Ok(()) => Answer::HostFault,
@@ -121,7 +121,7 @@ fn fault_of(alloc: Global, stop: Stop) -> Result<Fault, OutOfMemory>
 
 /// Writes why the project's file has no plan.
 pub fn tell_stop<S: Sink>(alloc: Global, stop: Stop, out: &mut S) -> Answer
-    ensures { TellsStop stop (S.faults out.old) (S.faults out.new) (S.written out.old) (S.written out.new) result }
+    ensures { TellsStop stop (S.output out.old) (S.output out.new) result }
 {
     match fault_of(alloc, stop) {
         Ok(fault) => tell_refusal(alloc, fault, out),
