@@ -35,16 +35,17 @@ use Rattle.b2_top.specs.Loads.{LoadReads, EndNamesText, EndTold, IsExactLoad}
 use Rattle.b2_top.specs.Jamroots.{outs_of}
 use Rattle.b2_top.specs.ProjectFiles.{jamroot, jamroot_of, IsNotYet, HasLexFault, HasPlan}
 use Rattle.b2_top.specs.Refusals.{fault_line, IsNotOutOfMemory, no_tokens, host_fault_line, usage_line}
-use Rattle.b2_top.specs.Tells.{TellsLine, TellsFaultLine, IsFaultOf, Tells, TellsFault, TellsStop}
-use Rattle.b2_top.specs.Tells.TellsLine.{told, failed, no_memory}
-use Rattle.b2_top.specs.Tells.TellsFaultLine.{told as fault_told, failed as fault_failed, no_memory as fault_no_memory}
+use Rattle.b2_top.specs.Tells.{Tells, TellsFault, IsFaultOf, TellsStop}
+use Rattle.b2_top.proofs.TellLemmas.{TellsLine, TellsFaultLine, line_of, fault_line_of}
+use Rattle.b2_top.proofs.TellLemmas.TellsLine.{line_told as told, line_failed as failed, line_short as no_memory}
+use Rattle.b2_top.proofs.TellLemmas.TellsFaultLine.{fault_line_told as fault_told, fault_line_failed as fault_failed, fault_line_short as fault_no_memory}
 use Rattle.b2_top.specs.Stops.{NamesText, IsStop, IsExact, IsStoppedBy}
-use Rattle.b2_top.specs.Builds.{update_at, IsCutShort, IsOfWords, StartsNone, RefusalIsNotOutOfMemory, failed_in, CountsTold, ShouldBeNotYet, ShouldHaveNoTokens, HasCause, HasHappened, LeavesClean, ShouldEndWell, TellsHostFault, FailsAtWrite, ReportedBy, HasReported}
+use Rattle.b2_top.specs.Builds.{update_at, IsCutShort, IsOfWords, StartsNone, RefusalIsNotOutOfMemory, failed_in, CountsTold, ShouldBeNotYet, ShouldHaveNoTokens, HasCause, HasHappened, LeavesClean, ShouldEndWell, TellsHostFault, FailsAtWrite, ReportedBy}
 use Rattle.b2_top.specs.Builds.BeginsSome.{nothing}
 use Rattle.b2_top.specs.Builds.FailsAtWrite.{usage as fails_usage, refusal as fails_refusal}
 use Rattle.b2_top.specs.Answered.{IsAnswered, IsThePlan}
 use Rattle.b2_top.proofs.BuildLemmas.{top_of, happened_of, clean_of, complete_of, began, at_plan}
-use Rattle.b2_top.proofs.ReportLemmas.{WroteBy, reported_plain, reported_fault, no_event}
+use Rattle.b2_top.proofs.ReportLemmas.{WroteBy, ReportedIn, reported_plain, reported_fault, no_event}
 
 -- what a call promises, told of the parts of its two moments
 pub record IsAnsweredBy (made : Made) (words : List (List ℕ)) (old new : Family) (before after : Option Disk) (host host_after sink sink_after : ℕ) (text text_after : Option (List ℕ)) (result : Answer) : Type 0 where
@@ -58,7 +59,7 @@ pub record IsAnsweredBy (made : Made) (words : List (List ℕ)) (old new : Famil
   pub not_yet : BothTold (λ b a. (line : ℕ) → ShouldBeNotYet words b line → (result ≡ answers.Refused (faults.NotYet jamroot line)) ⊎ IsCutShort result) before after
   pub without_tokens : BothTold (λ b a. (fault : LexFault) → ShouldHaveNoTokens words b fault → (result ≡ answers.Refused (no_tokens fault)) ⊎ IsCutShort result) before after
   pub complete : BothTold (λ b a. (steps : List Step) → ShouldEndWell made words steps old new b → host_after ≡ host → sink_after ≡ sink → (result ≡ answers.Ok) ⊎ IsCutShort result) before after
-  pub reported : BothTold (λ b a. HasReported made words sink sink_after result old new text text_after b) before after
+  pub reported : BothTold (λ b a. ReportedIn made words sink sink_after result old new text text_after b) before after
 
 -- what follows where the files are told
 both_map : {P Q : Disk → Disk → Type 0} (d e : Option Disk) → ((b a : Disk) → P b a → Q b a) → BothTold P d e → BothTold Q d e
@@ -187,9 +188,12 @@ cut_fault result (is_memory e) = inr (inr e)
 
 -- the host failed, and then its line was written, or not
 pub fault_counts : (before : Moment) (after : Outside) (mid last : Output) (result : Answer) → Rose before.host.faults after.faults → mid.faults ≡ before.out.faults → TellsFault host_fault_line mid last result → CountsTold before (moment after last) result
-fault_counts before after mid last result rose same (fault_told is count taken) = subst (CountsTold before (moment after last)) (sym is) rose
-fault_counts before after mid last result rose same (fault_failed part is higher prefix taken) = subst (CountsTold before (moment after last)) (sym is) rose
-fault_counts before after mid last result rose same (fault_no_memory is count taken) = subst (CountsTold before (moment after last)) (sym is) (count ∙ same)
+fault_counts before after mid last result rose same tells = go (fault_line_of host_fault_line mid last result tells)
+  where
+    go : TellsFaultLine host_fault_line mid.faults last.faults mid.written last.written result → CountsTold before (moment after last) result
+    go (fault_told is count taken) = subst (CountsTold before (moment after last)) (sym is) rose
+    go (fault_failed part is higher prefix taken) = subst (CountsTold before (moment after last)) (sym is) rose
+    go (fault_no_memory is count taken) = subst (CountsTold before (moment after last)) (sym is) (count ∙ same)
 
 fault_happened : (made : Made) (words : List (List ℕ)) (old new : Family) (d e : Option Disk) (result : Answer) → IsFaultAnswer result → BothTold (HasHappened made words answers.HostFault old new) d e → BothTold (HasHappened made words result old new) d e
 fault_happened made words old new d e result (is_host same) h = subst (λ r. BothTold (HasHappened made words r old new) d e) (sym same) h
@@ -247,7 +251,7 @@ any_some (Some b) = tt
 -- the report of one line, where nothing happened
 line_reported : (made : Made) (words : List (List ℕ)) (answer : Answer) (line : List ℕ) (f g : ℕ) (family : Family) (text text_after : Option (List ℕ)) (disk : Disk) (result : Answer)
     → ((events : List ChildEvent) → ReportedBy made words f g answer disk events line) → ((events : List ChildEvent) (part : List ℕ) → BeginsWith line part → FailsAtWrite made words disk events part)
-    → TellsLine answer line f g text text_after result → HasReported made words f g result family family text text_after disk
+    → TellsLine answer line f g text text_after result → ReportedIn made words f g result family family text text_after disk
 line_reported made words answer line f g family None text_after disk result whole begins tells = λ events are. tt
 line_reported made words answer line f g family (Some so_far) text_after disk result whole begins (told is count taken) = λ events are. (line, taken, subst (λ r. ReportedBy made words f g r disk events line) (sym is) (whole events))
 line_reported made words answer line f g family (Some so_far) text_after disk result whole begins (failed part is rose prefix taken) = λ events are. (part, taken, subst (λ r. ReportedBy made words f g r disk events part) (sym is) (begins events part prefix))
@@ -272,9 +276,12 @@ by_line P answer result f g a b c (is_short is) = subst P (sym is) c
 
 -- a line was told, or cut short
 pub line_counts : (answer : Answer) (line : List ℕ) (before after : Moment) (result : Answer) → after.host.faults ≡ before.host.faults → (CountsStay before after → CountsTold before after answer) → Tells answer line before.out after.out result → CountsTold before after result
-line_counts answer line before after result host whole (told is count taken) = subst (CountsTold before after) (sym is) (whole (record { host = host; sink = count }))
-line_counts answer line before after result host whole (failed part is rose prefix taken) = subst (CountsTold before after) (sym is) (rose, inl host)
-line_counts answer line before after result host whole (no_memory is count taken) = subst (CountsTold before after) (sym is) count
+line_counts answer line before after result host whole tells = go (line_of answer line before.out after.out result tells)
+  where
+    go : TellsLine answer line before.out.faults after.out.faults before.out.written after.out.written result → CountsTold before after result
+    go (told is count taken) = subst (CountsTold before after) (sym is) (whole (record { host = host; sink = count }))
+    go (failed part is rose prefix taken) = subst (CountsTold before after) (sym is) (rose, inl host)
+    go (no_memory is count taken) = subst (CountsTold before after) (sym is) count
 
 pub stop_counts : (stop : Stop) (before after : Moment) (result : Answer) → after.host.faults ≡ before.host.faults → TellsStop stop before.out after.out result → CountsTold before after result
 stop_counts stop before after result host (inl (fault, is, tells)) = line_counts (answers.Refused fault) (fault_line fault) before after result host (λ stay. stay) tells
@@ -296,7 +303,7 @@ answered_usage made words family d f s t text text_after result some idle tells 
       not_yet = both_same _ Anything d (any_some d) (λ b x line should. absurd (some should.0));
       without_tokens = both_same _ Anything d (any_some d) (λ b x fault should. absurd (some should.0));
       complete = both_same _ Anything d (any_some d) (λ b x steps should c1 c2. absurd (some should.no_word));
-      reported = both_same (λ b a. HasReported made words s t result family family text text_after b) Anything d (any_some d) (λ b x. line_reported made words answers.Usage usage_line s t family text text_after b result (λ events. refl) (λ events part prefix. fails_usage some prefix) tells);
+      reported = both_same (λ b a. ReportedIn made words s t result family family text text_after b) Anything d (any_some d) (λ b x. line_reported made words answers.Usage usage_line s t family text text_after b result (λ events. refl) (λ events part prefix. fails_usage some prefix) tells);
     }
 
 -- what was written before, and these bytes
@@ -323,7 +330,7 @@ answered_unread made family d f g s t text text_after result rose idle tells =
       not_yet = both_same _ Anything d (any_some d) (λ b x line should. inr (cut_fault result is));
       without_tokens = both_same _ Anything d (any_some d) (λ b x fault should. inr (cut_fault result is));
       complete = both_same _ Anything d (any_some d) (λ b x steps should c1 c2. inr (cut_fault result is));
-      reported = both_same (λ b a. HasReported made [] s t result family family text text_after b) Anything d (any_some d) (λ b x. reported b text refl);
+      reported = both_same (λ b a. ReportedIn made [] s t result family family text text_after b) Anything d (any_some d) (λ b x. reported b text refl);
     }
   where
     happened : (b : Disk) → IsFaultAnswer result → HasHappened made [] result family family b b
@@ -338,7 +345,7 @@ answered_unread made family d f g s t text text_after result rose idle tells =
     told_fault b events written none (fault_no_memory is count taken) nil so_far e =
         ([], taken ∙ ap (λ x. HasTaken_of [] x) e, subst (λ r. ReportedBy made [] s t r b events []) (sym is) (nothing none refl))
 
-    reported : (b : Disk) (x : Option (List ℕ)) → text ≡ x → HasReported made [] s t result family family text text_after b
+    reported : (b : Disk) (x : Option (List ℕ)) → text ≡ x → ReportedIn made [] s t result family family text text_after b
     reported b None e = λ events are. subst (λ x. IfSome x (λ so_far. (written : List ℕ) × (text_after ≡ Some (so_far ++ written)) × ReportedBy made [] s t result b events written)) (sym e) tt
     reported b (Some so_far) e = λ events are. subst (λ x. IfSome x (λ so_far. (written : List ℕ) × (text_after ≡ Some (so_far ++ written)) × ReportedBy made [] s t result b events written)) (sym e) (told_fault b events [] (no_event family.events events are) tells refl so_far e)
 
@@ -413,7 +420,7 @@ answered_refused made family d f s t text text_after result fault holds the idle
       not_yet = both_same _ (IsTheFault fault) d the (λ b x line should. by_line (λ r. (r ≡ answers.Refused (faults.NotYet jamroot line)) ⊎ IsCutShort r) (answers.Refused fault) result s t (λ c. inl (ap answers.Refused (x.not_yet line should.1))) (λ rose. inr cut_sink) (inr cut_memory) is);
       without_tokens = both_same _ (IsTheFault fault) d the (λ b x cause should. by_line (λ r. (r ≡ answers.Refused (no_tokens cause)) ⊎ IsCutShort r) (answers.Refused fault) result s t (λ c. inl (ap answers.Refused (x.without_tokens cause should.1))) (λ rose. inr cut_sink) (inr cut_memory) is);
       complete = both_same _ (IsTheFault fault) d the (λ b x steps should c1 c2. absurd (x.no_plan steps should.plan));
-      reported = both_same (λ b a. HasReported made [] s t result family family text text_after b) (IsTheFault fault) d the (λ b x. line_reported made [] (answers.Refused fault) (fault_line fault) s t family text text_after b result (λ events. refl) (λ events part prefix. fails_refusal fault x.cause prefix) tells);
+      reported = both_same (λ b a. ReportedIn made [] s t result family family text text_after b) (IsTheFault fault) d the (λ b x. line_reported made [] (answers.Refused fault) (fault_line fault) s t family text text_after b result (λ events. refl) (λ events part prefix. fails_refusal fault x.cause prefix) tells);
     }
 
 -- memory ran out before anything was started or written
@@ -430,10 +437,10 @@ answered_memory made family d f s t text text_after result idle is count same = 
   not_yet = both_same _ Anything d (any_some d) (λ b x line should. inr cut_memory);
   without_tokens = both_same _ Anything d (any_some d) (λ b x fault should. inr cut_memory);
   complete = both_same _ Anything d (any_some d) (λ b x steps should c1 c2. inr cut_memory);
-  reported = both_same (λ b a. HasReported made [] s t answers.OutOfMemory family family text text_after b) Anything d (any_some d) (λ b x. quiet b text text_after same);
+  reported = both_same (λ b a. ReportedIn made [] s t answers.OutOfMemory family family text text_after b) Anything d (any_some d) (λ b x. quiet b text text_after same);
 })
   where
-    quiet : (b : Disk) (x y : Option (List ℕ)) → y ≡ x → HasReported made [] s t answers.OutOfMemory family family x y b
+    quiet : (b : Disk) (x y : Option (List ℕ)) → y ≡ x → ReportedIn made [] s t answers.OutOfMemory family family x y b
     quiet b None y e = λ events are. tt
     quiet b (Some so_far) y e = λ events are. ([], e ∙ ap Some (sym (append-nil so_far)), nothing (no_event family.events events are) refl)
 
@@ -441,7 +448,7 @@ answered_memory made family d f s t text text_after result idle is count same = 
 pub answered_stop : (made : Made) (family : Family) (d : Option Disk) (f : ℕ) (out later : Output) (result : Answer) (stop : Stop)
     → NamesText stop → IfSome d (IsTheStop stop) → family.running ≡ [] → TellsStop stop out later result → IsAnsweredBy made [] family family d d f f out.faults later.faults out.written later.written result
 answered_stop made family d f out later result stop names the idle tells = elim tells [
-  | inl told_it ↦ answered_refused made family d f out.faults later.faults out.written later.written result told_it.0 (holds_no_want stop told_it.0 told_it.1 names) (the_fault_told stop told_it.0 d told_it.1 the) idle told_it.2
+  | inl told_it ↦ answered_refused made family d f out.faults later.faults out.written later.written result told_it.0 (holds_no_want stop told_it.0 told_it.1 names) (the_fault_told stop told_it.0 d told_it.1 the) idle (line_of (answers.Refused told_it.0) (fault_line told_it.0) out later result told_it.2)
   | inr memory ↦ answered_memory made family d f out.faults later.faults out.written later.written result idle memory.0 (ap (λ (o : Output). o.faults) memory.1) (ap (λ (o : Output). o.written) memory.1)
 ]
 

@@ -114,7 +114,7 @@ happened_of made steps old new (Some before) (Some after) r plan told = go r tol
 
     go : (q : UpdateAnswer) → HasUpdated (update_at made steps before) old new q before after → HasHappened made [] (top_of q) old new before after
     go ends.Done u = (steps, u.events, built ends.Done u, u.told)
-    go (ends.Failed lists) u = (steps, u.events, built (ends.Failed lists) u, u.told.0, u.told.1)
+    go (ends.Failed lists) u = ((steps, u.events, built (ends.Failed lists) u, u.told.0), u.told.1)
     go ends.HostFault u = inr (steps, u.events, built ends.HostFault u)
     go ends.SinkFault u = inr (steps, u.events, built ends.SinkFault u)
     go ends.OutOfMemory u = inr (steps, u.events, built ends.OutOfMemory u)

@@ -14,9 +14,9 @@ use Rattle.b2_update.specs.Runs.{Update}
 use Rattle.b2_top.specs.declared.answer.Answer.{Answer}
 use Rattle.b2_top.specs.ProjectFiles.{jamroot_of, HasPlan}
 use Rattle.b2_top.specs.Refusals.{host_fault_line}
-use Rattle.b2_top.specs.Tells.{HasTaken, TellsFaultLine}
-use Rattle.b2_top.specs.Tells.TellsFaultLine.{told as fault_told, failed as fault_failed, no_memory as fault_no_memory}
-use Rattle.b2_top.specs.Builds.{update_at, BeginsSome, ReportedBy, HasReported}
+use Rattle.b2_top.proofs.TellLemmas.{HasTaken, TellsFaultLine}
+use Rattle.b2_top.proofs.TellLemmas.TellsFaultLine.{fault_line_told as fault_told, fault_line_failed as fault_failed, fault_line_short as fault_no_memory}
+use Rattle.b2_top.specs.Builds.{update_at, BeginsSome, ReportedBy}
 use Rattle.b2_top.specs.Builds.BeginsSome.{update}
 use Rattle.b2_top.specs.Builds.FailsAtWrite.{update as fails_update}
 use Rattle.b2_top.proofs.BuildLemmas.{top_of}
@@ -24,6 +24,10 @@ use Rattle.b2_top.proofs.BuildLemmas.{top_of}
 -- what an update has written, told of its events and of the bytes before and after
 abbrev pub WroteBy : Update → UpdateAnswer → Family → Family → Option (List ℕ) → Option (List ℕ) → Type 0
 WroteBy u answer old new text text_after = (events : List ChildEvent) → new.events ≡ old.events ++ events → IfSome text (λ so_far. (written : List ℕ) × (text_after ≡ Some (so_far ++ written)) × WrittenBy u events answer written)
+
+-- the bytes that were written in a call, told of its events, of the sink's counts and of the bytes before and after
+abbrev pub ReportedIn : Made → List (List ℕ) → ℕ → ℕ → Answer → Family → Family → Option (List ℕ) → Option (List ℕ) → Disk → Type 0
+ReportedIn made words sink sink_after answer old new text text_after disk = (events : List ChildEvent) → new.events ≡ old.events ++ events → IfSome text (λ so_far. (written : List ℕ) × (text_after ≡ Some (so_far ++ written)) × ReportedBy made words sink sink_after answer disk events written)
 
 -- bytes that were taken after others
 taken_more : (so_far written part : List ℕ) (mid after : Option (List ℕ)) → mid ≡ Some (so_far ++ written) → HasTaken part mid after → after ≡ Some (so_far ++ (written ++ part))
@@ -47,7 +51,7 @@ by_plain made steps f g disk events written ends.SinkFault plan other w = fails_
 by_plain made steps f g disk events written ends.OutOfMemory plan other w = update steps plan w
 
 pub reported_plain : (made : Made) (steps : List Step) (f g : ℕ) (old new : Family) (text text_after : Option (List ℕ)) (d e : Option Disk) (r : UpdateAnswer)
-    → IfSome d (λ before. HasPlan (jamroot_of before) steps) → (r ≡ ends.HostFault → ⊥) → BothTold (λ before after. WroteBy (update_at made steps before) r old new text text_after) d e → BothTold (λ before after. HasReported made [] f g (top_of r) old new text text_after before) d e
+    → IfSome d (λ before. HasPlan (jamroot_of before) steps) → (r ≡ ends.HostFault → ⊥) → BothTold (λ before after. WroteBy (update_at made steps before) r old new text text_after) d e → BothTold (λ before after. ReportedIn made [] f g (top_of r) old new text text_after before) d e
 reported_plain made steps f g old new text text_after None None r plan other w = tt
 reported_plain made steps f g old new text text_after None (Some after) r plan other w = w
 reported_plain made steps f g old new text text_after (Some before) None r plan other w = w
@@ -77,7 +81,7 @@ fault_by made steps f g h disk events so_far written mid after result plan begin
 
 pub reported_fault : (made : Made) (steps : List Step) (f g h : ℕ) (old new : Family) (text mid text_after : Option (List ℕ)) (d e : Option Disk) (result : Answer)
     → IfSome d (λ before. HasPlan (jamroot_of before) steps) → g ≡ f → BothTold (λ before after. WroteBy (update_at made steps before) ends.HostFault old new text mid) d e → TellsFaultLine host_fault_line g h mid text_after result
-    → BothTold (λ before after. HasReported made [] f h result old new text text_after before) d e
+    → BothTold (λ before after. ReportedIn made [] f h result old new text text_after before) d e
 reported_fault made steps f g h old new text mid text_after None None result plan same w tells = tt
 reported_fault made steps f g h old new text mid text_after None (Some after) result plan same w tells = w
 reported_fault made steps f g h old new text mid text_after (Some before) None result plan same w tells = w

@@ -45,7 +45,7 @@ CompleteTold made words before after result =
 -- what was written is the report
 abbrev pub ReportTold : Made → List (List ℕ) → Moment → Moment → Answer → Type 0
 ReportTold made words before after result =
-    BothTold (λ disk later. HasReported made words before.out.faults after.out.faults result before.host.children after.host.children before.out.written after.out.written disk) before.host.disk after.host.disk
+    BothTold (λ disk later. HasReported made words before after result disk) before.host.disk after.host.disk
 
 -- All that a call of the build command with these words promises.
 pub record IsAnswered (made : Made) (words : List (List ℕ)) (before after : Moment) (result : Answer) : Type 0 where

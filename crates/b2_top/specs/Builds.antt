@@ -1,4 +1,4 @@
-use Rattle.std.specs.Prelude.{◌≡◌, ◌≢◌, ℕ, List, [], ◌++◌, Option, Some, ◌⊎◌, ⊤, IfSome, false}
+use Rattle.std.specs.Prelude.{◌≡◌, ◌≢◌, ℕ, List, [], ◌++◌, Some, ◌⊎◌, ⊤, IfSome, false}
 use Rattle.std.specs.List.{Contains}
 use Rattle.b2_host.specs.declared.children.ChildEvent.{ChildEvent}
 use Rattle.b2_host.specs.declared.children.ChildEvent.TheVariants.{Done}
@@ -8,6 +8,7 @@ use Rattle.b2_host.specs.Faults.{Rose}
 use Rattle.b2_plan.specs.declared.step.Step.{Step}
 use Rattle.b2_plan.specs.Plans.{step_at}
 use Rattle.b2_plan.specs.Sources.{Build, IsGiven}
+use Rattle.b2_update.specs.declared.failed_lists.FailedLists.{FailedLists}
 use Rattle.b2_update.specs.Runs.{Update}
 use Rattle.b2_update.specs.Outcomes.{IsCleanBuild, nothing_lacks}
 use Rattle.b2_update.specs.Reports.{report}
@@ -111,16 +112,25 @@ pub record IsUntouched (old new : Family) (before after : Disk) : Type 0 where
   pub family : new ≡ old
   pub disk : after ≡ before
 
+-- the project has a plan, and this is the beginning of a run of it
+abbrev pub HasBegun : Made → List (List ℕ) → Family → Family → Disk → Disk → Type 0
+HasBegun made words old new before after = (steps : List Step) × (events : List ChildEvent) × HasBuilt made words steps events old new before after
+
+-- the project has a plan, and this is a whole run of it, which ended with these lists
+abbrev pub HasRunOut : Made → List (List ℕ) → FailedLists → Family → Family → Disk → Disk → Type 0
+HasRunOut made words lists old new before after =
+    (steps : List Step) × (events : List ChildEvent) × HasBuilt made words steps events old new before after × HasEnded (update_at made steps before) events after.now lists
+
 -- What happened, by the answer: a run that has ended where the answer is Ok or Failed; nothing where it is Refused or
 -- Usage; and with any other answer nothing, or the beginning of a run.
 abbrev pub HasHappened : Made → List (List ℕ) → Answer → Family → Family → Disk → Disk → Type 0
-HasHappened made words answers.Ok old new before after = (steps : List Step) × (events : List ChildEvent) × HasBuilt made words steps events old new before after × HasEnded (update_at made steps before) events after.now nothing_lacks
-HasHappened made words (answers.Failed lists) old new before after = (steps : List Step) × (events : List ChildEvent) × HasBuilt made words steps events old new before after × HasEnded (update_at made steps before) events after.now lists × SomethingLacks lists
+HasHappened made words answers.Ok old new before after = HasRunOut made words nothing_lacks old new before after
+HasHappened made words (answers.Failed lists) old new before after = HasRunOut made words lists old new before after × SomethingLacks lists
 HasHappened made words (answers.Refused fault) old new before after = IsUntouched old new before after × HasCause words before fault
 HasHappened made words answers.Usage old new before after = IsUntouched old new before after × (words ≢ [])
-HasHappened made words answers.HostFault old new before after = IsUntouched old new before after ⊎ ((steps : List Step) × (events : List ChildEvent) × HasBuilt made words steps events old new before after)
-HasHappened made words answers.OutOfMemory old new before after = IsUntouched old new before after ⊎ ((steps : List Step) × (events : List ChildEvent) × HasBuilt made words steps events old new before after)
-HasHappened made words answers.SinkFault old new before after = IsUntouched old new before after ⊎ ((steps : List Step) × (events : List ChildEvent) × HasBuilt made words steps events old new before after)
+HasHappened made words answers.HostFault old new before after = IsUntouched old new before after ⊎ HasBegun made words old new before after
+HasHappened made words answers.OutOfMemory old new before after = IsUntouched old new before after ⊎ HasBegun made words old new before after
+HasHappened made words answers.SinkFault old new before after = IsUntouched old new before after ⊎ HasBegun made words old new before after
 
 -- each wanted file of the project's plan has the bytes of the clean build of the sources at entry
 abbrev pub LeavesClean : Made → Disk → Disk → Type 0
@@ -149,19 +159,25 @@ pub record TellsHostFault (sink sink_after : ℕ) (disk : Disk) (events : List C
 pub data FailsAtWrite (made : Made) (words : List (List ℕ)) (disk : Disk) (events : List ChildEvent) (written : List ℕ) : Type 0 where
   usage : words ≢ [] → BeginsWith usage_line written → FailsAtWrite made words disk events written
   refusal : (fault : Fault) → HasCause words disk fault → BeginsWith (fault_line fault) written → FailsAtWrite made words disk events written
-  update : (steps : List Step) → HasPlan (jamroot_of disk) steps → StopsAtWrite (update_at made steps disk) events written → FailsAtWrite made words disk events written
+  update : (steps : List Step) → HasPlan (jamroot_of disk) steps → StopsAtWrite (update_at made steps disk) events written
+      → FailsAtWrite made words disk events written
 
 -- A beginning of a report: of the line that the words, or a refusal with its cause, ask for, or of the plan's update.
 pub data BeginsSome (made : Made) (words : List (List ℕ)) (disk : Disk) (events : List ChildEvent) (written : List ℕ) : Type 0 where
   nothing : events ≡ [] → written ≡ [] → BeginsSome made words disk events written
   usage : words ≢ [] → BeginsWith usage_line written → BeginsSome made words disk events written
   refusal : (fault : Fault) → HasCause words disk fault → BeginsWith (fault_line fault) written → BeginsSome made words disk events written
-  update : (steps : List Step) → HasPlan (jamroot_of disk) steps → StopsSomewhere (update_at made steps disk) events written → BeginsSome made words disk events written
+  update : (steps : List Step) → HasPlan (jamroot_of disk) steps → StopsSomewhere (update_at made steps disk) events written
+      → BeginsSome made words disk events written
+
+-- the report of a whole run of the project's plan that ended with these lists
+abbrev pub IsReport : Disk → List ChildEvent → FailedLists → List ℕ → Type 0
+IsReport disk events lists written = (steps : List Step) × HasPlan (jamroot_of disk) steps × (written ≡ report steps events lists)
 
 -- what an answer says of the bytes that were written
 abbrev pub ReportedBy : Made → List (List ℕ) → ℕ → ℕ → Answer → Disk → List ChildEvent → List ℕ → Type 0
-ReportedBy made words sink sink_after answers.Ok disk events written = (steps : List Step) × HasPlan (jamroot_of disk) steps × (written ≡ report steps events nothing_lacks)
-ReportedBy made words sink sink_after (answers.Failed lists) disk events written = (steps : List Step) × HasPlan (jamroot_of disk) steps × (written ≡ report steps events lists)
+ReportedBy made words sink sink_after answers.Ok disk events written = IsReport disk events nothing_lacks written
+ReportedBy made words sink sink_after (answers.Failed lists) disk events written = IsReport disk events lists written
 ReportedBy made words sink sink_after (answers.Refused fault) disk events written = written ≡ fault_line fault
 ReportedBy made words sink sink_after answers.Usage disk events written = written ≡ usage_line
 ReportedBy made words sink sink_after answers.HostFault disk events written = TellsHostFault sink sink_after disk events written
@@ -169,5 +185,6 @@ ReportedBy made words sink sink_after answers.OutOfMemory disk events written = 
 ReportedBy made words sink sink_after answers.SinkFault disk events written = FailsAtWrite made words disk events written
 
 -- the bytes that were written in a call, where the sink tells them
-abbrev pub HasReported : Made → List (List ℕ) → ℕ → ℕ → Answer → Family → Family → Option (List ℕ) → Option (List ℕ) → Disk → Type 0
-HasReported made words sink sink_after answer old new text text_after disk = (events : List ChildEvent) → new.events ≡ old.events ++ events → IfSome text (λ so_far. (written : List ℕ) × (text_after ≡ Some (so_far ++ written)) × ReportedBy made words sink sink_after answer disk events written)
+abbrev pub HasReported : Made → List (List ℕ) → Moment → Moment → Answer → Disk → Type 0
+HasReported made words before after answer disk = (events : List ChildEvent) → after.host.children.events ≡ before.host.children.events ++ events
+    → IfSome before.out.written (λ so_far. (written : List ℕ) × (after.out.written ≡ Some (so_far ++ written)) × ReportedBy made words before.out.faults after.out.faults answer disk events written)

@@ -1,7 +1,7 @@
-use Rattle.std.specs.Prelude.{◌≡◌, ℕ, List, [], ◌++◌, Option, ◌⊎◌}
+use Rattle.std.specs.Prelude.{◌≡◌, ℕ, List, ◌++◌, ◌⊎◌}
 use Rattle.std.specs.Option.{option_map}
 use Rattle.b2_host.specs.Faults.{Rose}
-use Rattle.b2_host.specs.Output.{Output}
+use Rattle.b2_host.specs.Output.{Output, with_written}
 use Rattle.b2_update.specs.Updates.{BeginsWith}
 use Rattle.b2_top.specs.declared.refusal.Fault.{Fault}
 use Rattle.b2_top.specs.declared.refusal.Fault.TheVariants as faults
@@ -12,21 +12,24 @@ use Rattle.b2_top.specs.Refusals.{fault_line, no_tokens}
 use Rattle.b2_top.specs.declared.answer.Answer.{Answer}
 use Rattle.b2_top.specs.declared.answer.Answer.TheVariants as answers
 
--- these bytes were written, where the sink tells them
-abbrev pub HasTaken : List ℕ → Option (List ℕ) → Option (List ℕ) → Type 0
-HasTaken bytes before after = after ≡ option_map (λ so_far. so_far ++ bytes) before
+-- The write of a line failed: a beginning of it was written, and the count of faults rose.
+pub record FailsIn (line : List ℕ) (before after : Output) : Type 0 where
+  pub part : List ℕ
+  pub begins : BeginsWith line part
+  pub rose : Rose before.faults after.faults
+  pub written : after.written ≡ option_map (λ so_far. so_far ++ part) before.written
 
 -- The line was written and the answer given; or the sink failed after a beginning of it; or memory ran out before it.
-pub data TellsLine (answer : Answer) (line : List ℕ) (faults faults_after : ℕ) (before after : Option (List ℕ)) (result : Answer) : Type 0 where
-  told : result ≡ answer → faults_after ≡ faults → HasTaken line before after → TellsLine answer line faults faults_after before after result
-  failed : (part : List ℕ) → result ≡ answers.SinkFault → Rose faults faults_after → BeginsWith line part → HasTaken part before after → TellsLine answer line faults faults_after before after result
-  no_memory : result ≡ answers.OutOfMemory → faults_after ≡ faults → HasTaken [] before after → TellsLine answer line faults faults_after before after result
+pub data Tells (answer : Answer) (line : List ℕ) (before after : Output) (result : Answer) : Type 0 where
+  told : result ≡ answer → after ≡ with_written line before → Tells answer line before after result
+  failed : result ≡ answers.SinkFault → FailsIn line before after → Tells answer line before after result
+  no_memory : result ≡ answers.OutOfMemory → after ≡ before → Tells answer line before after result
 
 -- The line of a fault of the host was written; or a beginning of it, where the sink failed; or memory ran out before it.
-pub data TellsFaultLine (line : List ℕ) (faults faults_after : ℕ) (before after : Option (List ℕ)) (result : Answer) : Type 0 where
-  told : result ≡ answers.HostFault → faults_after ≡ faults → HasTaken line before after → TellsFaultLine line faults faults_after before after result
-  failed : (part : List ℕ) → result ≡ answers.HostFault → Rose faults faults_after → BeginsWith line part → HasTaken part before after → TellsFaultLine line faults faults_after before after result
-  no_memory : result ≡ answers.OutOfMemory → faults_after ≡ faults → HasTaken [] before after → TellsFaultLine line faults faults_after before after result
+pub data TellsFault (line : List ℕ) (before after : Output) (result : Answer) : Type 0 where
+  told : result ≡ answers.HostFault → after ≡ with_written line before → TellsFault line before after result
+  failed : result ≡ answers.HostFault → FailsIn line before after → TellsFault line before after result
+  no_memory : result ≡ answers.OutOfMemory → after ≡ before → TellsFault line before after result
 
 -- the refusal of a stop
 abbrev pub IsFaultOf : Stop → Fault → Type 0
@@ -34,15 +37,8 @@ IsFaultOf (stops.NotYet line) fault = fault ≡ faults.NotYet jamroot line
 IsFaultOf (stops.Lex cause) fault = fault ≡ no_tokens cause
 IsFaultOf stops.OutOfMemory fault = ⊥
 
--- a line of an answer was told, or it was cut short
-abbrev pub Tells : Answer → List ℕ → Output → Output → Answer → Type 0
-Tells answer line before after result = TellsLine answer line before.faults after.faults before.written after.written result
-
--- the line of a fault of the host was told, or it was cut short
-abbrev pub TellsFault : List ℕ → Output → Output → Answer → Type 0
-TellsFault line before after result = TellsFaultLine line before.faults after.faults before.written after.written result
-
 -- the refusal of a stop was told, or memory ran out before it
 abbrev pub TellsStop : Stop → Output → Output → Answer → Type 0
 TellsStop stop before after result =
-    ((fault : Fault) × IsFaultOf stop fault × Tells (answers.Refused fault) (fault_line fault) before after result) ⊎ ((result ≡ answers.OutOfMemory) × (after ≡ before))
+    ((fault : Fault) × IsFaultOf stop fault × Tells (answers.Refused fault) (fault_line fault) before after result)
+    ⊎ ((result ≡ answers.OutOfMemory) × (after ≡ before))

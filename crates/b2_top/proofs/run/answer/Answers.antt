@@ -2,7 +2,8 @@ use Rattle.std.proofs.Common.{refl, inl, ap, ◌∙◌}
 use Rattle.b2_host.specs.ChildProcesses.{Family}
 use Rattle.b2_host.specs.OutsideLaws.{keeps_same, keeps_then}
 use Rattle.b2_update.specs.Moments.{moment}
-use Rattle.b2_top.specs.Refusals.{usage_line}
+use Rattle.b2_top.specs.Refusals.{usage_line, host_fault_line}
+use Rattle.b2_top.proofs.TellLemmas.{line_of, fault_line_of}
 use Rattle.b2_top.specs.declared.answer.Answer.TheVariants as answers
 use Rattle.b2_top.proofs.AnsweredLemmas.{answered_at, answered_usage, answered_unread, answered_stop, fault_counts, line_counts, stop_counts, from_load, left_from_load, keeps_load, from_unread, load_stopped, load_failed, load_says, load_names, same_count, no_words, some_words}
 use Rattle.b2_top.proofs.run.answer.Goals as goal
@@ -15,7 +16,7 @@ returns-then-not-is_empty-clause-answered g c =
     let later = g.S.Sink.output c.tell_usage.new.out in
     let host = before.host in
     answered_at made words before (moment host later) c.tell_usage.result
-    (answered_usage made words host.children host.disk host.faults before.out.faults later.faults before.out.written later.written c.tell_usage.result (some_words words c.is_empty.result c.is_empty.ensures c.if-not-is_empty.true) c.requires c.tell_usage.ensures)
+    (answered_usage made words host.children host.disk host.faults before.out.faults later.faults before.out.written later.written c.tell_usage.result (some_words words c.is_empty.result c.is_empty.ensures c.if-not-is_empty.true) c.requires (line_of answers.Usage usage_line before.out later c.tell_usage.result c.tell_usage.ensures))
     (line_counts answers.Usage usage_line before (moment host later) c.tell_usage.result refl (λ stay. stay) c.tell_usage.ensures) (λ some. refl)
 
 pub returns-then-not-is_empty-clause-keeps : goal.returns-then-not-is_empty-clause-keeps
@@ -52,7 +53,7 @@ returns-in-Err-Host-clause-answered g c =
     let host = before.host in
     from_unread made words before (moment loaded later) c.tell_host_fault.result none fell.0
     (fault_counts before loaded before.out later c.tell_host_fault.result fell.1 refl c.tell_host_fault.ensures)
-    (answered_unread made host.children host.disk host.faults loaded.faults before.out.faults later.faults before.out.written later.written c.tell_host_fault.result fell.1 c.requires c.tell_host_fault.ensures)
+    (answered_unread made host.children host.disk host.faults loaded.faults before.out.faults later.faults before.out.written later.written c.tell_host_fault.result fell.1 c.requires (fault_line_of host_fault_line before.out later c.tell_host_fault.result c.tell_host_fault.ensures))
 
 pub returns-in-Err-Host-clause-none_left : goal.returns-in-Err-Host-clause-none_left
 returns-in-Err-Host-clause-none_left g c =

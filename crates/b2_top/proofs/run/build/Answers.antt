@@ -2,7 +2,9 @@ use Rattle.std.proofs.Common.{[], refl}
 use Rattle.b2_update.specs.declared.update_answer.UpdateAnswer.TheVariants as ends
 use Rattle.b2_update.specs.Moments.{moment}
 use Rattle.b2_top.proofs.AnsweredLemmas.{answered_at, answered_plain, answered_fault, counts_of, fault_counts, updated_at}
+use Rattle.b2_top.specs.Refusals.{host_fault_line}
 use Rattle.b2_top.proofs.BuildLemmas.{top_of}
+use Rattle.b2_top.proofs.TellLemmas.{fault_line_of}
 use Rattle.b2_top.proofs.run.build.Goals as goal
 
 pub returns-in-Done-clause-answered : goal.returns-in-Done-clause-answered
@@ -64,5 +66,5 @@ returns-in-HostFault-clause-answered g c =
     let last = moment after.host later in
     let done = updated_at made plan.steps plan.wanted plan.roots before.host.children after.host.children before.host.disk after.host.disk before.out.written after.out.written ends.HostFault c.requires.ready.wanted c.requires.ready.roots c.requires.ready.plain u.updated u.written u.turns in
     answered_at made [] before last c.tell_host_fault.result
-    (answered_fault made plan before.host.children after.host.children before.host.disk after.host.disk before.host.faults after.host.faults before.out.faults after.out.faults later.faults before.out.written after.out.written later.written c.tell_host_fault.result c.requires.read done u.counts.1 c.tell_host_fault.ensures)
+    (answered_fault made plan before.host.children after.host.children before.host.disk after.host.disk before.host.faults after.host.faults before.out.faults after.out.faults later.faults before.out.written after.out.written later.written c.tell_host_fault.result c.requires.read done u.counts.1 (fault_line_of host_fault_line after.out later c.tell_host_fault.result c.tell_host_fault.ensures))
     (fault_counts before after.host after.out later c.tell_host_fault.result u.counts.0 u.counts.1 c.tell_host_fault.ensures) (λ h. absurd (h refl))
