@@ -1,0 +1,15 @@
+use Rattle.std.specs.Prelude.{ℕ, List, None, map}
+use Rattle.b2_host.specs.declared.children.ChildEvent.{ChildEvent}
+use Rattle.b2_host.specs.Outside.{Outside}
+use Rattle.b2_realhost.specs.declared.job.Job.{Job}
+use Rattle.b2_realhost.specs.Jobs.{child_of}
+
+-- what the real host is to its callers: its files and reads are not visible
+abbrev pub outside_of : List Job → List ChildEvent → ℕ → ℕ → Outside
+outside_of jobs events faults failed_waits = record {
+  disk = None;
+  reads = None;
+  children = record { running = map child_of jobs; events = events; given = None };
+  faults = faults;
+  failed_waits = failed_waits;
+}

@@ -1,0 +1,122 @@
+//! The calls on the files of the system, as the host means them.
+
+use b2_host::files::ReadAnswer;
+use std::fs::{File, Metadata, OpenOptions};
+use std::io::{ErrorKind, Read};
+use std::path::AsPath;
+use std::rt::Files as Disk;
+use std::time::UNIX_EPOCH;
+use std::{fs, io};
+
+/// Whether the error says that no file stands at the path: it is missing, lies below a file, or is a loop of links.
+pub fn is_missing(error: &io::Error) -> bool {
+    match error.kind() {
+        ErrorKind::NotFound | ErrorKind::NotADirectory | ErrorKind::FilesystemLoop => true,
+        _ => false,
+    }
+}
+
+/// What the system says of the file at a path, or `None` where none stands. A directory is no file.
+pub fn metadata_at<P: AsPath>(rt: &impl Disk, path: P) -> io::Result<Option<Metadata>> {
+    match fs::metadata(rt, path) {
+        Ok(metadata) => {
+            if metadata.is_dir() {
+                Ok(None)
+            } else {
+                Ok(Some(metadata))
+            }
+        }
+        Err(error) => {
+            if is_missing(&error) {
+                Ok(None)
+            } else {
+                Err(error)
+            }
+        }
+    }
+}
+
+/// The time of the last change in nanoseconds since 1970, where 64 bits hold it.
+pub fn stamp_of(metadata: &Metadata) -> Option<u64> {
+    let modified = metadata.modified().ok()?;
+    let since = modified.duration_since(UNIX_EPOCH).ok()?;
+    u64::try_from(since.as_nanos()).ok()
+}
+
+/// The bytes of a file that had no more than `most` when it was asked for its size. It is read no further than one byte
+/// beyond, so that a file which grows or never ends is too big.
+fn bytes_at<R: Disk + AllocGlobal>(rt: &R, path: &str, most: u64) -> io::Result<ReadAnswer> {
+    let file = File::open(rt, path)?;
+    let mut bytes = Vec::new(rt.alloc());
+    file.take(most.saturating_add(1)).read_to_end(&mut bytes)?;
+    let size = bytes.len() as u64;
+    if size > most {
+        Ok(ReadAnswer::TooBig { size })
+    } else {
+        Ok(ReadAnswer::Bytes(bytes))
+    }
+}
+
+/// The bytes at a path, where there are no more than `most`.
+pub fn read_at<R: Disk + AllocGlobal>(rt: &R, path: &str, most: u64) -> io::Result<ReadAnswer> {
+    match metadata_at(rt, path)? {
+        None => Ok(ReadAnswer::Missing),
+        Some(metadata) => {
+            let size = metadata.len();
+            if size > most {
+                Ok(ReadAnswer::TooBig { size })
+            } else {
+                bytes_at(rt, path, most)
+            }
+        }
+    }
+}
+
+fn is_dir(rt: &impl Disk, path: &str) -> bool {
+    match fs::metadata(rt, path) {
+        Ok(metadata) => metadata.is_dir(),
+        Err(_error) => false,
+    }
+}
+
+/// Makes the directory in which a file is to stand, and those above it.
+pub fn make_parent(rt: &impl Disk, path: &str) -> io::Result<()> {
+    match path.rsplit_once('/') {
+        None => Ok(()),
+        Some((parent, _name)) => {
+            if parent.is_empty() || is_dir(rt, parent) {
+                Ok(())
+            } else {
+                fs::create_dir_all(rt, parent)
+            }
+        }
+    }
+}
+
+/// Opens a file that is to be written. Its directory is made where it is missing.
+pub fn open_to_write<R: Disk>(rt: &R, path: &str, options: &OpenOptions) -> io::Result<R::File> {
+    match options.open(rt, path) {
+        Ok(file) => Ok(file),
+        Err(error) => {
+            if error.kind() != ErrorKind::NotFound {
+                return Err(error);
+            }
+            make_parent(rt, path)?;
+            options.open(rt, path)
+        }
+    }
+}
+
+/// Leaves no file at a path; a directory there is left.
+pub fn remove_at(rt: &impl Disk, path: &str) -> io::Result<()> {
+    match fs::remove_file(rt, path) {
+        Ok(()) => Ok(()),
+        Err(error) => {
+            if is_missing(&error) || matches!(metadata_at(rt, path), Ok(None)) {
+                Ok(())
+            } else {
+                Err(error)
+            }
+        }
+    }
+}
