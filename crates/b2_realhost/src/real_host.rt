@@ -1,5 +1,5 @@
 //! Files and child processes of the system.
-ghost use Rattle.std.specs.Prelude.{◌≡◌, ◌+◌, ◌≤◌, [], vec_len, vec_capacity};
+ghost use Rattle.std.specs.Prelude.{◌≡◌, ◌+◌, ◌≤◌, [], length, vec_len, vec_capacity};
 ghost use Rattle.b2_realhost.specs.RealOutside.{outside_of};
 
 use crate::job::Job;
@@ -45,6 +45,13 @@ impl<R: Disk + AllocGlobal + Clone + Drop> RealHost<R> {
             events: Vec::new(alloc),
             failed_waits: 0,
         }
+    }
+
+    /// How many child processes run.
+    pub fn running_count(&self) -> usize
+        ensures { result ≡ length (⟦<RealHost<R> as Files>⟧.outside self.now).children.running }
+    {
+        self.jobs.len()
     }
 }
 

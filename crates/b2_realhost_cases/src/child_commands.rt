@@ -1,0 +1,132 @@
+//! Commands on the child processes of the system.
+use crate::args::{io_answer, number, paths};
+use crate::system::System;
+use b2_base::path::Path;
+use b2_host::children::Children;
+use b2_host::fault::{Failed, IoFault};
+use b2_realhost::real_host::RealHost;
+use std::alloc::Global;
+use transcript::answer::Answer;
+use transcript::case_fault::CaseFault;
+use transcript::command::{Command, Word};
+
+fn start_child<R: System>(
+    alloc: Global,
+    host: &mut RealHost<R>,
+    step: u32,
+    text: &str,
+    outs: &[Path],
+) -> Result<Answer, CaseFault> {
+    if outs.is_empty() {
+        return io_answer(alloc, host.start(step, text, &[], &[]));
+    }
+    if host.running_count() == 0 {
+        return io_answer(alloc, host.start(step, text, &[], outs));
+    }
+    Answer::line(alloc, "other children run")
+}
+
+/// `start STEP TEXT OUT ..`: starts a child. Outputs can be named where no child runs.
+fn start<R: System>(
+    alloc: Global,
+    host: &mut RealHost<R>,
+    words: &[Word],
+) -> Result<Answer, CaseFault> {
+    let [step, text, outs @ ..] = words else {
+        return Err(CaseFault::WrongWords);
+    };
+    let outs = paths(alloc, outs)?;
+    start_child(alloc, host, number(step)?, text.as_str()?, outs.as_slice())
+}
+
+/// `wait_one`: which child has ended, and how. It needs that one runs.
+fn wait_one<R: System>(
+    alloc: Global,
+    host: &mut RealHost<R>,
+    words: &[Word],
+) -> Result<Answer, CaseFault> {
+    if !words.is_empty() {
+        return Err(CaseFault::WrongWords);
+    }
+    if host.running_count() == 0 {
+        return Answer::line(alloc, "no child runs");
+    }
+    match host.wait_one() {
+        Ok((step, true)) => Answer::line(alloc, format!(in alloc; "{step} well")?.as_str()),
+        Ok((step, false)) => Answer::line(alloc, format!(in alloc; "{step} badly")?.as_str()),
+        Err(Failed) => Answer::line(alloc, "Failed"),
+    }
+}
+
+/// How many children ended well, and how many badly.
+#[derive(Clone, Copy)]
+struct Ended {
+    well: u32,
+    badly: u32,
+}
+
+/// Waits for a child, where one runs.
+fn wait_and_count<R: System>(host: &mut RealHost<R>, ended: &mut Ended) -> Result<(), IoFault> {
+    if host.running_count() == 0 {
+        return Ok(());
+    }
+    match host.wait_one() {
+        Ok((_step, true)) => ended.well = ended.well.saturating_add(1),
+        Ok((_step, false)) => ended.badly = ended.badly.saturating_add(1),
+        Err(Failed) => return Err(IoFault::Failed),
+    }
+    Ok(())
+}
+
+/// Runs each line of a text, so many at a time.
+fn run_lines<R: System>(host: &mut RealHost<R>, jobs: usize, text: &str) -> Result<Ended, IoFault> {
+    let mut ended = Ended { well: 0, badly: 0 };
+    for line in text.lines() {
+        if host.running_count() >= jobs {
+            wait_and_count(host, &mut ended)?;
+        }
+        host.start(0, line, &[], &[])?;
+    }
+    for _ in 0..host.running_count() {
+        wait_and_count(host, &mut ended)?;
+    }
+    Ok(ended)
+}
+
+/// `run JOBS` with texts below it, one a line: starts a child for each, so many at a time, and waits for all.
+fn run_all<R: System>(
+    alloc: Global,
+    host: &mut RealHost<R>,
+    command: &Command,
+) -> Result<Answer, CaseFault> {
+    let [jobs] = command.words() else {
+        return Err(CaseFault::WrongWords);
+    };
+    match run_lines(host, number(jobs)? as usize, command.text()) {
+        Ok(ended) => {
+            let Ended { well, badly } = ended;
+            Answer::line(
+                alloc,
+                format!(in alloc; "{well} well, {badly} badly")?.as_str(),
+            )
+        }
+        Err(IoFault::Failed) => Answer::line(alloc, "Failed"),
+        Err(IoFault::OutOfMemory) => Err(CaseFault::OutOfMemory),
+    }
+}
+
+/// Carries out a command on children; None where it is none.
+pub fn child_command<R: System>(
+    alloc: Global,
+    host: &mut RealHost<R>,
+    command: &Command,
+) -> Result<Option<Answer>, CaseFault> {
+    let words = command.words();
+    let answer = match command.name() {
+        "start" => start(alloc, host, words)?,
+        "wait_one" => wait_one(alloc, host, words)?,
+        "run" => run_all(alloc, host, command)?,
+        _ => return Ok(None),
+    };
+    Ok(Some(answer))
+}

@@ -1,0 +1,26 @@
+//! What the examples ask of the runtime.
+use std::process::{Processes, SystemProcess};
+use std::rt::{Clock, Files};
+use std::sync::Wait;
+
+/// All that the real host and the real sink ask of the runtime.
+pub trait System: Files
+    + AllocGlobal
+    + Print
+    + Clone
+    + Drop
+    + Processes<Started = SystemProcess>
+    + Wait
+    + Clock {}
+
+impl<R> System for R
+where
+    R: Files
+        + AllocGlobal
+        + Print
+        + Clone
+        + Drop
+        + Processes<Started = SystemProcess>
+        + Wait
+        + Clock,
+{}
