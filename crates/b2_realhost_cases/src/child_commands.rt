@@ -78,6 +78,14 @@ fn wait_and_count<R: System>(host: &mut RealHost<R>, ended: &mut Ended) -> Resul
     Ok(())
 }
 
+/// Waits for each child that runs.
+fn wait_for_all<R: System>(host: &mut RealHost<R>, ended: &mut Ended) -> Result<(), IoFault> {
+    for _ in 0..host.running_count() {
+        wait_and_count(host, ended)?;
+    }
+    Ok(())
+}
+
 /// Runs each line of a text, so many at a time.
 fn run_lines<R: System>(host: &mut RealHost<R>, jobs: usize, text: &str) -> Result<Ended, IoFault> {
     let mut ended = Ended { well: 0, badly: 0 };
@@ -87,9 +95,7 @@ fn run_lines<R: System>(host: &mut RealHost<R>, jobs: usize, text: &str) -> Resu
         }
         host.start(0, line, &[], &[])?;
     }
-    for _ in 0..host.running_count() {
-        wait_and_count(host, &mut ended)?;
-    }
+    wait_for_all(host, &mut ended)?;
     Ok(ended)
 }
 
