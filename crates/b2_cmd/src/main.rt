@@ -1,15 +1,11 @@
 //! The program `b2`.
 #![tactic(auto)]
 
-mod job;
-mod real_files;
-mod real_host;
-mod real_sink;
 mod words;
 
-use crate::real_host::RealHost;
-use crate::real_sink::RealSink;
 use crate::words::{WordsFault, words_of};
+use b2_realhost::real_host::RealHost;
+use b2_realhost::real_sink::RealSink;
 use b2_top::answer::Answer;
 use b2_top::run::run_b2;
 use std::process::ExitCode;
@@ -21,8 +17,8 @@ fn main(rt: HostRuntime) -> ExitCode {
         Err(WordsFault::NoText) => return ExitCode::from(Answer::Usage.status()),
         Err(WordsFault::OutOfMemory) => return ExitCode::from(Answer::OutOfMemory.status()),
     };
-    let mut host = RealHost::new(&rt);
-    let mut out = RealSink::new(&rt);
+    let mut host = RealHost::new(rt);
+    let mut out = RealSink::new(rt);
     let answer = run_b2(rt.alloc(), words.as_slice(), &mut host, &mut out);
     ExitCode::from(answer.status())
 }

@@ -1,7 +1,0 @@
-use Rattle.std.specs.Prelude.{None}
-use Rattle.b2_cmd.specs.declared.job.Job.{Job}
-use Rattle.b2_host.specs.ChildProcesses.{Child}
-
--- a process as a child: what it was given is not visible
-abbrev pub child_of : Job → Child
-child_of job = record { step = job.step; ins = job.ins; outs = job.outs; given = None }
