@@ -1,10 +1,8 @@
-use Rattle.std.proofs.Common.{◌≡◌, ℕ, Bool, true, false, ◌||◌, List, [], ◌∷◌, refl, ap, sym, ◌∙◌, subst}
+use Rattle.std.proofs.Common.{◌≡◌, ℕ, true, List, [], ◌∷◌, refl, subst}
 use Rattle.std.proofs.lemmas.Bool.{both_ways, or_left, or_right}
-use Rattle.b2_props.specs.Sets.{Pair}
 use Rattle.b2_props.proofs.Pairs.{text_itself}
-use Rattle.b2_generators.specs.declared.generator.Generator.{Generator}
 use Rattle.b2_generators.specs.Table.{has_text}
-use Rattle.b2_generators.specs.Chains.{Leads, last_type, HasNoRepeat, IsChain}
+use Rattle.b2_generators.specs.Chains.{Leads, last_type, HasNoRepeat}
 use Rattle.b2_generators.specs.Laws.{SameTypeIsEmpty, EmptyIsChain}
 
 -- the last type stands among the types

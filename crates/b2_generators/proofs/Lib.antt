@@ -1,3 +1,12 @@
 pub mod Cuts
 pub mod Tables
 pub mod ChainLaws
+pub mod WalkLemmas
+pub mod Stepping
+pub mod Layering
+pub mod Ordering
+pub mod Descending
+pub mod Meeting
+pub mod Stocking
+pub mod Lowest
+pub mod Finding

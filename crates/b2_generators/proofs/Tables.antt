@@ -1,4 +1,4 @@
-use Rattle.std.proofs.Common.{◌≡◌, ℕ, Bool, true, false, cond, ◌||◌, List, [], ◌∷◌, ◌++◌, map, length, is_some, position, slice_get, take, drop, Option, Some, None, refl, sym, ◌∙◌, ap, ap₂, string_bytes, subst, append_assoc, ◌⊎◌, inl, inr}
+use Rattle.std.proofs.Common.{◌≡◌, ℕ, Bool, true, false, cond, ◌||◌, List, [], ◌∷◌, ◌++◌, map, length, is_some, position, Option, Some, None, refl, sym, ◌∙◌, ap, ap₂, string_bytes, ◌⊎◌, inl, inr}
 use Rattle.std.specs.Prelude.{String}
 use Rattle.std.specs.Global.{Global}
 use Rattle.std.specs.Borrow.{Bor}
@@ -9,7 +9,7 @@ use Rattle.std.specs.Str.{bytes_eq}
 use Rattle.std.proofs.lemmas.Bool.{or_cases, or_parts, or_left, or_right, both_ways}
 use Rattle.std.proofs.lemmas.List.{map-append}
 use Rattle.std.proofs.lemmas.List.Folds.{list_any-append}
-use Rattle.b2_features.proofs.Lookups.{option_map-cond, find-none, position-push, position-none}
+use Rattle.b2_features.proofs.Lookups.{option_map-cond, position-push, position-none}
 use Rattle.b2_props.proofs.Pairs.{text_is, text_sym}
 use Rattle.b2_generators.specs.declared.generator.Generator.{Generator}
 use Rattle.b2_generators.specs.Table.{FileType, has_text, has_repeat, type_named, type_with, generator_named}

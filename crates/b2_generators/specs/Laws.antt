@@ -1,6 +1,6 @@
 use Rattle.std.specs.Prelude.{◌≡◌, ℕ, List, []}
 use Rattle.b2_props.specs.Sets.{Pair}
-use Rattle.b2_generators.specs.Chains.{IsChain, IsShortest}
+use Rattle.b2_generators.specs.Chains.{IsChain}
 use Rattle.b2_generators.specs.declared.generator.Generator.{Generator}
 
 -- a chain from a type to itself is empty, and the empty list is one

@@ -2,3 +2,8 @@ pub mod Table
 pub mod Index
 pub mod Chains
 pub mod Laws
+pub mod Places
+pub mod Walks
+pub mod Layers
+pub mod Descents
+pub mod Faults

@@ -1,5 +1,5 @@
 //! The generators.
-ghost use Rattle.std.specs.Prelude.{◌≡◌, ℕ, List, [], ◌∷◌, ◌++◌, ◌<◌, None, Some, length, slice_get, OnOk, OnErr};
+ghost use Rattle.std.specs.Prelude.{◌≡◌, [], ◌∷◌, ◌++◌, None, length, slice_get, OnOk, OnErr};
 ghost use Rattle.std.specs.Option.{option_copied};
 ghost use Rattle.b2_generators.specs.Table.{generator_named};
 
@@ -46,13 +46,12 @@ impl GeneratorTable {
     }
 
     /// The generator at a place, from 0; takes no memory.
-    pub(crate) fn at(&self, place: usize) -> &Generator
-        requires { place < length self.now }
-        ensures { slice_get self.now place ≡ Some result.now }
+    pub(crate) fn get(&self, place: usize) -> Option<&Generator>
+        ensures { option_copied result ≡ slice_get self.now place }
     {
         match self.generators.get_index(place) {
-            Some((_, generator)) => generator,
-            None => unreachable!(),
+            Some((_, generator)) => Some(generator),
+            None => None,
         }
     }
 

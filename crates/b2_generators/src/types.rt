@@ -55,6 +55,12 @@ impl Types {
         self.types.register(name, suffixes)
     }
 
+    pub(crate) fn generators(&self) -> &GeneratorTable
+        ensures { result.now ≡ self.now.generators }
+    {
+        &self.generators
+    }
+
     fn has_all(&self, names: &[Text]) -> bool
         ensures { result ≡ list_all (is_type self.now.types) names.now }
     {

@@ -1,0 +1,14 @@
+use Rattle.std.proofs.Common.{◌∙◌, ◌==◌, ◌||◌, ◌&&◌, ap}
+use Rattle.b2_generators.specs.Places.{has_place, gives_at}
+use Rattle.b2_generators.specs.Layers.{stock}
+use Rattle.b2_generators.proofs.Stocking.{stock_none, place_none, place_next}
+use Rattle.b2_generators.proofs.givers.givers.Goals as goal
+
+pub loop-place-init : goal.loop-place-init
+loop-place-init c place type = ap (λ m. has_place (stock m type) place) c.new-givers.ensures ∙ ap (λ ps. has_place ps place) (stock_none type) ∙ place_none c.args.generators.now c.args.set.now place type
+
+pub loop-place-preserved : goal.loop-place-preserved
+loop-place-preserved c place type =
+    c.in_ok-add_generator.ensures type place
+    ∙ ap (λ b. b || (c.loop-place.place == place && gives_at c.args.generators.now c.args.set.now c.loop-place.place type)) (c.loop-place.invariant place type)
+    ∙ place_next c.args.generators.now c.args.set.now c.loop-place.place place type
