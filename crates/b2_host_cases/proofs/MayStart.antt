@@ -5,10 +5,11 @@ use Rattle.std.proofs.lemmas.Slice.Eq.{bytes_eq-Decides}
 use Rattle.std.proofs.lemmas.List.Elements.{All-contains}
 use Rattle.std.proofs.lemmas.List.Folds.{list_any_at}
 use Rattle.std.proofs.lemmas.List.Sums.{AllPass-from_list_all}
-use Rattle.b2_host.specs.declared.running.Running.{Running}
+use Rattle.b2_memory.specs.declared.running.Running.{Running}
 use Rattle.b2_host.specs.ChildProcesses.{Child, AreApart, MayStart}
-use Rattle.b2_host.specs.Jobs.{given_of, child_with}
-use Rattle.b2_host.specs.Hosts.{running_children}
+use Rattle.b2_memory.specs.Families.{child_with}
+use Rattle.b2_memory.specs.Jobs.{given_of}
+use Rattle.b2_memory.specs.Hosts.{running_children}
 use Rattle.b2_host_cases.specs.Apart.{are_apart, is_beside}
 
 both : (a b : Bool) → (a && b) ≡ true → (a ≡ true) × (b ≡ true)

@@ -15,6 +15,15 @@ pub fn number(word: &Word) -> Result<u32, CaseFault> {
     }
 }
 
+/// The words as numbers.
+pub fn numbers(alloc: Global, words: &[Word]) -> Result<Vec<u32>, CaseFault> {
+    let mut numbers = Vec::new(alloc);
+    for word in words {
+        numbers.push(number(word)?)?;
+    }
+    Ok(numbers)
+}
+
 /// The word as a path, which is brought into normal form.
 pub fn path(alloc: Global, word: &Word) -> Result<Path, CaseFault> {
     match Path::normal(alloc, word.as_str()?) {

@@ -4,13 +4,15 @@ use crate::file_commands::file_command;
 use crate::look_commands::look_command;
 use crate::path_commands::path_command;
 use crate::plan_commands::plan_command;
+use crate::script_commands::script_command;
 use crate::sink_commands::sink_command;
 use crate::text_commands::text_command;
+use crate::write_commands::write_command;
 use b2_base::fault::OutOfMemory;
 use b2_base::text::Text;
 use b2_base::text_map::TextMap;
-use b2_host::memory::MemoryHost;
-use b2_host::memory_sink::MemorySink;
+use b2_memory::memory::MemoryHost;
+use b2_memory::memory_sink::MemorySink;
 use std::alloc::Global;
 use transcript::answer::Answer;
 use transcript::case_fault::CaseFault;
@@ -40,6 +42,12 @@ impl CaseSession {
             return Ok(Some(answer));
         }
         if let Some(answer) = child_command(alloc, &mut self.host, command)? {
+            return Ok(Some(answer));
+        }
+        if let Some(answer) = write_command(alloc, &mut self.host, command)? {
+            return Ok(Some(answer));
+        }
+        if let Some(answer) = script_command(alloc, &mut self.host, command)? {
             return Ok(Some(answer));
         }
         look_command(alloc, &self.host, command)

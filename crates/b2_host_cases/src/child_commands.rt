@@ -1,11 +1,11 @@
-//! Commands on the child processes of the host in memory, and on the calls that are to fail.
+//! Commands on the child processes of the host in memory.
 use crate::args::{io_answer, number, paths};
 use crate::free::may_start;
 use b2_base::path::Path;
 use b2_base::path_list::PathList;
 use b2_host::children::Children;
 use b2_host::fault::Failed;
-use b2_host::memory::{CallKind, MemoryHost};
+use b2_memory::memory::MemoryHost;
 use std::alloc::Global;
 use transcript::answer::Answer;
 use transcript::case_fault::CaseFault;
@@ -66,37 +66,6 @@ fn wait_one(alloc: Global, host: &mut MemoryHost, words: &[Word]) -> Result<Answ
     }
 }
 
-fn call_kind(word: &Word) -> Result<CallKind, CaseFault> {
-    match word.as_str()? {
-        "Stat" => Ok(CallKind::Stat),
-        "Read" => Ok(CallKind::Read),
-        "Remove" => Ok(CallKind::Remove),
-        "Start" => Ok(CallKind::Start),
-        "Wait" => Ok(CallKind::Wait),
-        _ => Err(CaseFault::WrongWords),
-    }
-}
-
-/// `fail_calls KIND NUMBER`: lets a call of that kind fail, by its number from now on.
-fn fail_calls(alloc: Global, host: &mut MemoryHost, words: &[Word]) -> Result<Answer, CaseFault> {
-    let [kind, place] = words else {
-        return Err(CaseFault::WrongWords);
-    };
-    let calls = [(call_kind(kind)?, number(place)?)];
-    host.fail_calls(calls.as_slice())?;
-    Ok(Answer::new(alloc))
-}
-
-/// `child_fails NUMBER ..`: lets children end badly, by the numbers of their starts from now on.
-fn child_fails(alloc: Global, host: &mut MemoryHost, words: &[Word]) -> Result<Answer, CaseFault> {
-    let mut starts = Vec::new(alloc);
-    for word in words {
-        starts.push(number(word)?)?;
-    }
-    host.child_fails(starts.as_slice())?;
-    Ok(Answer::new(alloc))
-}
-
 /// Carries out a command on children; None where it is none.
 pub fn child_command(
     alloc: Global,
@@ -107,8 +76,6 @@ pub fn child_command(
     let answer = match command.name() {
         "start" => start(alloc, host, words)?,
         "wait_one" => wait_one(alloc, host, words)?,
-        "fail_calls" => fail_calls(alloc, host, words)?,
-        "child_fails" => child_fails(alloc, host, words)?,
         _ => return Ok(None),
     };
     Ok(Some(answer))

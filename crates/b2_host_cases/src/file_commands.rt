@@ -3,7 +3,7 @@ use crate::args::{number, path};
 use b2_base::path::Path;
 use b2_host::fault::{Failed, IoFault};
 use b2_host::files::{Files, ReadAnswer};
-use b2_host::memory::MemoryHost;
+use b2_memory::memory::MemoryHost;
 use std::alloc::Global;
 use transcript::answer::{Answer, shown};
 use transcript::case_fault::CaseFault;

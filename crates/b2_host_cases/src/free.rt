@@ -2,12 +2,13 @@
 ghost use Rattle.std.specs.Prelude.{◌≡◌, IsTrue};
 ghost use Rattle.std.specs.List.{list_all};
 ghost use Rattle.b2_host.specs.ChildProcesses.{MayStart};
-ghost use Rattle.b2_host.specs.Jobs.{given_of, child_with};
-ghost use Rattle.b2_host.specs.Hosts.{running_children};
+ghost use Rattle.b2_memory.specs.Families.{child_with};
+ghost use Rattle.b2_memory.specs.Jobs.{given_of};
+ghost use Rattle.b2_memory.specs.Hosts.{running_children};
 ghost use Rattle.b2_host_cases.specs.Apart.{are_apart, is_beside};
 
 use b2_base::path::Path;
-use b2_host::running::Running;
+use b2_memory::running::Running;
 
 /// Whether no path of the one list is in the other.
 fn are_apart(some: &[Path], others: &[Path]) -> bool

@@ -1,9 +1,9 @@
 //! Commands that look at the host in memory.
 use b2_base::path::Path;
 use b2_host::children::ChildEvent;
-use b2_host::entry::Entry;
-use b2_host::job::Job;
-use b2_host::memory::MemoryHost;
+use b2_memory::entry::Entry;
+use b2_memory::job::Job;
+use b2_memory::memory::MemoryHost;
 use std::alloc::Global;
 use transcript::answer::{Answer, shown};
 use transcript::case_fault::CaseFault;
@@ -34,7 +34,7 @@ fn push_file(
     entry: &Entry,
 ) -> Result<(), CaseFault> {
     let path = entry.path.as_str();
-    let bytes = shown(alloc, entry.bytes.as_slice())?;
+    let bytes = shown(alloc, entry.bytes.as_ref().as_slice())?;
     let bytes = bytes.as_str();
     answer.push_line(format!(in alloc; "{stamp} {path} \"{bytes}\"")?.as_str())
 }
@@ -96,7 +96,7 @@ fn push_given(alloc: Global, answer: &mut Answer, job: &Job) -> Result<(), CaseF
     answer.push_line(job_line(alloc, job)?.as_str())?;
     for entry in &job.held {
         let path = entry.path.as_str();
-        let bytes = shown(alloc, entry.bytes.as_slice())?;
+        let bytes = shown(alloc, entry.bytes.as_ref().as_slice())?;
         let bytes = bytes.as_str();
         answer.push_line(format!(in alloc; "held {path} \"{bytes}\"")?.as_str())?;
     }
@@ -108,6 +108,15 @@ fn given(alloc: Global, host: &MemoryHost) -> Result<Answer, CaseFault> {
     let mut answer = Answer::new(alloc);
     for job in host.given() {
         push_given(alloc, &mut answer, job.as_ref())?;
+    }
+    Ok(answer)
+}
+
+/// `reads`: the paths of the reads that were answered.
+fn reads(alloc: Global, host: &MemoryHost) -> Result<Answer, CaseFault> {
+    let mut answer = Answer::new(alloc);
+    for path in host.reads() {
+        answer.push_line(path.as_str())?;
     }
     Ok(answer)
 }
@@ -131,6 +140,7 @@ pub fn look_command(
         "past" => past(alloc, host)?,
         "running" => running(alloc, host)?,
         "given" => given(alloc, host)?,
+        "reads" => reads(alloc, host)?,
         "faults" => faults(alloc, host)?,
         _ => return Ok(None),
     };

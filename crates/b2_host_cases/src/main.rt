@@ -9,8 +9,10 @@ mod free;
 mod look_commands;
 mod path_commands;
 mod plan_commands;
+mod script_commands;
 mod sink_commands;
 mod text_commands;
+mod write_commands;
 
 use crate::case_session::CaseSession;
 use std::io;

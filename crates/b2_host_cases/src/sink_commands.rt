@@ -1,7 +1,7 @@
 //! Commands on the sink in memory.
 use crate::args::{io_answer, number};
-use b2_host::memory_sink::MemorySink;
 use b2_host::sink::Sink;
+use b2_memory::memory_sink::MemorySink;
 use std::alloc::Global;
 use transcript::answer::{Answer, shown};
 use transcript::case_fault::CaseFault;
