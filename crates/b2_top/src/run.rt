@@ -91,7 +91,7 @@ pub fn run_b2<H: Children, S: Sink>(
     ensures reported { ReportTold H.made words.now (moment (H.outside host.old) (S.output out.old)) (moment (H.outside host.new) (S.output out.new)) result }
     // The events are in turn, over every host: one step is open at a time, none starts twice, and each failed step was done.
     ensures turns { HasTurns (failed_in result) (H.outside host.old).children.events (H.outside host.new).children.events }
-    // No child is left, unless a wait failed, and then the host's count of faults rose.
+    // No child is left, unless a wait for it failed, and then both counts of the host rose.
     ensures none_left { LeavesNone (H.outside host.old) (H.outside host.new) }
     // No count falls, visible files stay visible, and all that stood stays among the past.
     ensures keeps { Keeps (H.outside host.old) (H.outside host.new) }
