@@ -1,13 +1,14 @@
 //! The host of the cases: the host in memory, whose calls are counted and whose child processes may leave nothing.
 ghost use Rattle.std.specs.Prelude.{◌≡◌, [], None, IsTrue};
-ghost use Rattle.b2_cases.specs.Untold.{untold};
+ghost use Rattle.b2_cases.specs.Untold.{hidden};
 
 use b2_base::fault::OutOfMemory;
 use b2_base::path::Path;
+use b2_base::text_list::TextList;
 use b2_host::children::Children;
 use b2_host::fault::{Failed, IoFault};
 use b2_host::files::{Files, ReadAnswer};
-use b2_host::memory::{CallKind, MemoryHost};
+use b2_memory::memory::{CallKind, MemoryHost};
 use std::alloc::Global;
 
 /// How often each call was made, failed ones too.
@@ -15,6 +16,9 @@ use std::alloc::Global;
 pub struct Calls {
     pub stat: u64,
     pub read: u64,
+    pub list: u64,
+    pub append: u64,
+    pub replace: u64,
     pub remove: u64,
     pub start: u64,
     pub wait: u64,
@@ -41,10 +45,8 @@ fn add_copies(found: &mut Vec<Path>, paths: &[Path]) -> Result<(), OutOfMemory> 
 
 /// Leaves no file at the paths. No child process may run.
 fn delete_all(memory: &mut MemoryHost, paths: &[Path])
-    requires { (⟦<MemoryHost as Files>⟧.family memory.old).running ≡ [] }
-    ensures family { ⟦<MemoryHost as Files>⟧.family memory.new ≡ ⟦<MemoryHost as Files>⟧.family memory.old }
-    ensures faults { ⟦<MemoryHost as Files>⟧.faults memory.new ≡ ⟦<MemoryHost as Files>⟧.faults memory.old }
-    ensures waits { ⟦<MemoryHost as Files>⟧.failed_waits memory.new ≡ ⟦<MemoryHost as Files>⟧.failed_waits memory.old }
+    requires { (⟦<MemoryHost as Files>⟧.outside memory.old).children.running ≡ [] }
+    ensures { hidden (⟦<MemoryHost as Files>⟧.outside memory.new) ≡ hidden (⟦<MemoryHost as Files>⟧.outside memory.old) }
 {
     for path in paths {
         let _deleted = memory.edit(path, None);
@@ -53,7 +55,7 @@ fn delete_all(memory: &mut MemoryHost, paths: &[Path])
 
 /// Whether no child process runs.
 fn is_idle(memory: &MemoryHost) -> bool
-    ensures { IsTrue result → (⟦<MemoryHost as Files>⟧.family memory.now).running ≡ [] }
+    ensures { IsTrue result → (⟦<MemoryHost as Files>⟧.outside memory.now).children.running ≡ [] }
 {
     memory.running().is_empty()
 }
@@ -64,6 +66,9 @@ impl CaseHost {
         let calls = Calls {
             stat: 0,
             read: 0,
+            list: 0,
+            append: 0,
+            replace: 0,
             remove: 0,
             start: 0,
             wait: 0,
@@ -78,9 +83,7 @@ impl CaseHost {
 
     /// Deletes what child processes have left that leave nothing, once none runs.
     fn clear(&mut self)
-        ensures family { ⟦<CaseHost as Files>⟧.family self.new ≡ ⟦<CaseHost as Files>⟧.family self.old }
-        ensures faults { ⟦<CaseHost as Files>⟧.faults self.new ≡ ⟦<CaseHost as Files>⟧.faults self.old }
-        ensures waits { ⟦<CaseHost as Files>⟧.failed_waits self.new ≡ ⟦<CaseHost as Files>⟧.failed_waits self.old }
+        ensures { ⟦<CaseHost as Files>⟧.outside self.new ≡ ⟦<CaseHost as Files>⟧.outside self.old }
     {
         if is_idle(&self.memory) {
             delete_all(&mut self.memory, self.left_out.as_slice());
@@ -89,9 +92,7 @@ impl CaseHost {
 
     /// Takes note of the outputs of a start, where child processes leave nothing.
     fn note(&mut self, outs: &[Path]) -> Result<(), OutOfMemory>
-        ensures family { ⟦<CaseHost as Files>⟧.family self.new ≡ ⟦<CaseHost as Files>⟧.family self.old }
-        ensures faults { ⟦<CaseHost as Files>⟧.faults self.new ≡ ⟦<CaseHost as Files>⟧.faults self.old }
-        ensures waits { ⟦<CaseHost as Files>⟧.failed_waits self.new ≡ ⟦<CaseHost as Files>⟧.failed_waits self.old }
+        ensures { ⟦<CaseHost as Files>⟧.outside self.new ≡ ⟦<CaseHost as Files>⟧.outside self.old }
     {
         if self.leaves_nothing {
             add_copies(&mut self.left_out, outs)?;
@@ -101,14 +102,14 @@ impl CaseHost {
 
     /// Whether no child process runs.
     pub fn is_idle(&self) -> bool
-        ensures { IsTrue result → (⟦<CaseHost as Files>⟧.family self.now).running ≡ [] }
+        ensures { IsTrue result → (⟦<CaseHost as Files>⟧.outside self.now).children.running ≡ [] }
     {
         is_idle(&self.memory)
     }
 
     /// Writes bytes to a path, or deletes the file there. No child process may run.
     pub fn edit(&mut self, path: &Path, bytes: Option<&[u8]>) -> Result<(), OutOfMemory>
-        requires { (⟦<CaseHost as Files>⟧.family self.old).running ≡ [] }
+        requires { (⟦<CaseHost as Files>⟧.outside self.old).children.running ≡ [] }
     {
         self.memory.edit(path, bytes)
     }
@@ -140,26 +141,45 @@ impl CaseHost {
 }
 
 impl Files for CaseHost {
-    ghost disk = { λ _. None };
-
-    ghost faults = { λ host. ⟦<MemoryHost as Files>⟧.faults host.memory };
-
-    ghost family = { λ host. untold (⟦<MemoryHost as Files>⟧.family host.memory) };
-
-    ghost failed_waits = { λ host. ⟦<MemoryHost as Files>⟧.failed_waits host.memory };
+    ghost outside = { λ host. hidden (⟦<MemoryHost as Files>⟧.outside host.memory) };
 
     ghost consistent = { λ host. tt };
 
+    ghost use Rattle.std.specs.Prelude.{refl};
+
+    ghost reads_alike = { λ host. refl };
+
+    #[tactic(auto, using(crate::proofs::UntoldLemmas::looks_hidden))]
     fn stat(&mut self, path: &Path) -> Result<Option<u64>, Failed> {
         self.calls.stat = self.calls.stat.saturating_add(1);
         self.memory.stat(path)
     }
 
+    #[tactic(auto, using(crate::proofs::UntoldLemmas::reads_hidden))]
     fn read(&mut self, path: &Path, most: u64) -> Result<ReadAnswer, IoFault> {
         self.calls.read = self.calls.read.saturating_add(1);
         self.memory.read(path, most)
     }
 
+    #[tactic(auto, using(crate::proofs::UntoldLemmas::io_looks_hidden))]
+    fn list(&mut self, dir: &Path) -> Result<TextList, IoFault> {
+        self.calls.list = self.calls.list.saturating_add(1);
+        self.memory.list(dir)
+    }
+
+    #[tactic(auto, using(crate::proofs::UntoldLemmas::writes_hidden))]
+    fn append(&mut self, path: &Path, piece: &[u8]) -> Result<(), IoFault> {
+        self.calls.append = self.calls.append.saturating_add(1);
+        self.memory.append(path, piece)
+    }
+
+    #[tactic(auto, using(crate::proofs::UntoldLemmas::writes_hidden))]
+    fn replace(&mut self, path: &Path, piece: &[u8]) -> Result<(), IoFault> {
+        self.calls.replace = self.calls.replace.saturating_add(1);
+        self.memory.replace(path, piece)
+    }
+
+    #[tactic(auto, using(crate::proofs::UntoldLemmas::removes_hidden))]
     fn remove(&mut self, path: &Path) -> Result<(), Failed> {
         self.calls.remove = self.calls.remove.saturating_add(1);
         self.memory.remove(path)

@@ -51,9 +51,7 @@ impl CaseSink {
 }
 
 impl Sink for CaseSink {
-    ghost written = { λ sink. Some sink.bytes.items };
-
-    ghost faults = { λ sink. sink.faults };
+    ghost output = { λ sink. record { written = Some sink.bytes.items; faults = sink.faults } };
 
     fn write(&mut self, bytes: &[u8]) -> Result<(), IoFault> {
         let is_failing = self.failing.number == 1;

@@ -3,9 +3,9 @@ use crate::case_host::Calls;
 use b2_base::fault::OutOfMemory;
 use b2_base::path::Path;
 use b2_host::children::ChildEvent;
-use b2_host::entry::Entry;
-use b2_host::job::Job;
-use b2_host::memory::MemoryHost;
+use b2_memory::entry::Entry;
+use b2_memory::job::Job;
+use b2_memory::memory::MemoryHost;
 use b2_top::answer::Answer as Ended;
 use b2_update::failed_lists::FailedLists;
 use std::alloc::Global;
@@ -97,7 +97,7 @@ fn push_file(
     match host.stamp_of(&entry.path) {
         Some(standing) if standing == stamp => {
             let path = entry.path.as_str();
-            let bytes = shown(alloc, entry.bytes.as_slice())?;
+            let bytes = shown(alloc, entry.bytes.as_ref().as_slice())?;
             answer.push_line(format!(in alloc; "{path}, stamp {stamp}: {bytes}")?.as_str())
         }
         _ => Ok(()),
@@ -119,12 +119,15 @@ pub fn calls_shown(alloc: Global, calls: Calls) -> Result<Answer, CaseFault> {
     let Calls {
         stat,
         read,
+        list,
+        append,
+        replace,
         remove,
         start,
         wait,
     } = calls;
     let line = format!(in alloc;
-        "stat {stat}, read {read}, remove {remove}, start {start}, wait {wait}"
+        "stat {stat}, read {read}, list {list}, append {append}, replace {replace}, remove {remove}, start {start}, wait {wait}"
     )?;
     Answer::line(alloc, line.as_str())
 }

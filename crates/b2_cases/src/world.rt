@@ -4,7 +4,7 @@ use crate::case_sink::{CaseSink, FailingWrite};
 use crate::shown::{calls_shown, count_shown, end_shown, events_shown, files_shown, starts_shown};
 use b2_base::path::{Path, PathFault};
 use b2_base::text::Text;
-use b2_host::memory::CallKind;
+use b2_memory::memory::CallKind;
 use b2_top::run::run_b2;
 use std::alloc::Global;
 use transcript::answer::Answer;
@@ -44,6 +44,9 @@ fn kind_of(word: &Word) -> Result<CallKind, CaseFault> {
     match word.as_str()? {
         "stat" => Ok(CallKind::Stat),
         "read" => Ok(CallKind::Read),
+        "list" => Ok(CallKind::List),
+        "append" => Ok(CallKind::Append),
+        "replace" => Ok(CallKind::Replace),
         "remove" => Ok(CallKind::Remove),
         "start" => Ok(CallKind::Start),
         "wait" => Ok(CallKind::Wait),

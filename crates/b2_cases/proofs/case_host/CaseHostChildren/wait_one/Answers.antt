@@ -1,12 +1,13 @@
-use Rattle.std.proofs.Common.{[], None, sym, subst}
-use Rattle.b2_host.specs.ChildProcesses.{Family, Ends}
-use Rattle.b2_host.specs.Hosts.{told_family}
-use Rattle.b2_host.specs.Results.{made_of}
-use Rattle.b2_cases.specs.Untold.{untold}
-use Rattle.b2_cases.proofs.UntoldLemmas.{ended_untold}
+use Rattle.std.proofs.Common.{[], Ok, sym, subst}
+use Rattle.b2_host.specs.Outside.{Outside}
+use Rattle.b2_host.specs.ChildCalls.{Awaits}
+use Rattle.b2_memory.specs.Hosts.{told_outside}
+use Rattle.b2_memory.specs.Results.{made_of}
+use Rattle.b2_cases.specs.Untold.{hidden}
+use Rattle.b2_cases.proofs.UntoldLemmas.{waits_hidden}
 use Rattle.b2_cases.proofs.case_host.CaseHostChildren.wait_one.Goals as goal
 
-pub returns-clause-ended : goal.returns-clause-ended
-returns-clause-ended c =
-    subst (λ (f : Family). Ends (λ text held out. []) (untold (told_family c.args.self.now.memory)) None c.in_ok-step.step c.in_ok-step.well f None) (sym c.clear.ensures.family)
-    (ended_untold made_of (λ text held out. []) (told_family c.args.self.now.memory) (told_family c.wait_one.new.self) _ _ c.in_ok-step.step c.in_ok-step.well c.in_ok-step.ensures.ended)
+pub returns : goal.returns
+returns c =
+    subst (λ (o : Outside). Awaits (λ text held out. []) (hidden (told_outside c.args.self.now.memory)) c.in_ok-step.step c.in_ok-step.well o) (sym c.clear.ensures)
+    (waits_hidden made_of (λ text held out. []) (told_outside c.args.self.now.memory) (told_outside c.wait_one.new.self) (Ok (c.in_ok-step.step, c.in_ok-step.well)) c.in_ok-step.ensures.effect)
