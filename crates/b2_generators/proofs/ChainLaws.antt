@@ -1,9 +1,10 @@
-use Rattle.std.proofs.Common.{◌≡◌, ℕ, true, List, [], ◌∷◌, refl, subst}
+use Rattle.std.proofs.Common.{◌≡◌, ℕ, true, List, [], ◌∷◌, refl, sym, ◌∙◌, subst}
 use Rattle.std.proofs.lemmas.Bool.{both_ways, or_left, or_right}
 use Rattle.b2_props.proofs.Pairs.{text_itself}
 use Rattle.b2_generators.specs.Table.{has_text}
-use Rattle.b2_generators.specs.Chains.{Leads, last_type, HasNoRepeat}
-use Rattle.b2_generators.specs.Laws.{SameTypeIsEmpty, EmptyIsChain}
+use Rattle.b2_generators.specs.Chains.{Leads, last_type, HasNoRepeat, ComesBefore}
+use Rattle.b2_generators.specs.Laws.{SameTypeIsEmpty, EmptyIsChain, NoneIsNotOne, NoneIsNotTwo, OneIsNotTwo}
+use Rattle.b2_generators.proofs.Ordering.{not_before_itself}
 
 -- the last type stands among the types
 last_stands : (type : List ℕ) (types : List (List ℕ)) → has_text (type ∷ types) (last_type type types) ≡ true
@@ -20,3 +21,14 @@ same_type_is_empty generators set type (place ∷ places) chain = go chain.types
 
 pub empty_is_chain : EmptyIsChain
 empty_is_chain generators set type = record { types = []; leads = tt; ends = refl; once = (refl, tt) }
+
+pub none_is_not_one : NoneIsNotOne
+none_is_not_one generators set from to ids none only = none only.places only.shortest.chain
+
+pub none_is_not_two : NoneIsNotTwo
+none_is_not_two generators set from to first second none two = none two.one two.one_shortest.chain
+
+pub one_is_not_two : OneIsNotTwo
+one_is_not_two generators set from to ids first second only two =
+    let same : two.one ≡ two.two = only.only two.one two.one_shortest ∙ sym (only.only two.two two.two_shortest) in
+    not_before_itself two.two (subst (λ (places : List ℕ). ComesBefore places two.two) same two.order)

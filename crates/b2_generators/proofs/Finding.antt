@@ -1,10 +1,14 @@
 use Rattle.std.proofs.Common.{◌≡◌, ℕ, suc, ◌+◌, ◌<◌, ◌≤◌, List, [], ◌∷◌, ◌++◌, length, take, get_or, Option, Some, None, MatchOption, slice_get, refl, sym, ◌∙◌, ap, subst, true, arith}
+use Rattle.std.specs.Prelude.{Result, Ok, Err, IfErr, IfNone, IfSome}
 use Rattle.std.specs.List.{filter_map}
 use Rattle.std.specs.Option.{option_map}
 use Rattle.std.proofs.lemmas.List.{append-nil, take_more}
 use Rattle.std.proofs.lemmas.List.Elements.{filter_map-append}
 use Rattle.b2_generators.specs.declared.generator.Generator.{Generator}
 use Rattle.b2_generators.specs.declared.walk.Branch.{Branch}
+use Rattle.b2_generators.specs.declared.fault.ChainFault.{ChainFault}
+use Rattle.b2_generators.specs.declared.fault.ChainFault.TheVariants.{NoChain, TwoChains, OutOfMemory}
+use Rattle.b2_generators.specs.Faults.{IsBetween, IsNoChainBy, IsTwoChainsBy, TellsBoth}
 use Rattle.b2_props.specs.Sets.{Pair}
 use Rattle.b2_generators.specs.Chains.{ids_of, IsOnlyShortest, AreFirstTwo}
 use Rattle.b2_generators.specs.Layers.{AreLayers, IsApart}
@@ -86,13 +90,13 @@ found_two generators layers from count types one branch ids others is size start
 -- ---- the answer
 
 module _ (generators : List Generator) (set : List Pair) (end from : List ℕ) where
-  pub layers_of : {X : Type 0} (items : X → List (List ℕ)) (found : Option X) (layers : X) (list : List (List ℕ)) → MatchOption found (IsApart generators set end from) (λ l. AreLayers generators set end from (items l)) → found ≡ Some layers → list ≡ items layers → AreLayers generators set end from list
+  pub layers_of : {X : Type 0} (items : X → List (List ℕ)) (found : Option X) (layers : X) (list : List (List ℕ)) → IfSome found (λ l. AreLayers generators set end from (items l)) → found ≡ Some layers → list ≡ items layers → AreLayers generators set end from list
   layers_of items None layers list is e same = cc
   layers_of items (Some l) layers list is e same = let f : l ≡ layers = cc in subst (λ (ls : List (List ℕ)). AreLayers generators set end from ls) (ap items f ∙ sym same) is
 
-  pub apart_of : {X : Type 0} (found : Option X) (Is : X → Type 0) → MatchOption found (IsApart generators set end from) Is → found ≡ None → IsApart generators set end from
-  apart_of None Is is e = is
-  apart_of (Some l) Is is e = cc
+  pub apart_of : {X : Type 0} (found : Option X) → IfNone found (IsApart generators set end from) → found ≡ None → IsApart generators set end from
+  apart_of None is e = is
+  apart_of (Some l) is e = cc
 
   module _ (layers : List (List ℕ)) (are : AreLayers generators set end from layers) (first : List (List ℕ)) where
     pub only_of : (second : Option (List (List ℕ))) → AreFound generators layers from first second → second ≡ None → IsOnlyShortest generators set from end first
@@ -102,3 +106,22 @@ module _ (generators : List Generator) (set : List Pair) (end from : List ℕ) w
     pub two_of : (second : Option (List (List ℕ))) (other : List (List ℕ)) → AreFound generators layers from first second → second ≡ Some other → AreFirstTwo generators set from end first other
     two_of None other found e = cc
     two_of (Some s) other found e = let f : s ≡ other = cc in subst (λ (o : List (List ℕ)). AreFirstTwo generators set from end first o) f (first_two generators set end from layers are found.one found.two first s found.lead found.first_named found.second_named)
+
+    pub tells_two : (second : Option (List (List ℕ))) (fault : ChainFault) → AreFound generators layers from first second → TellsBoth from end first second fault → IsTwoChainsBy generators set from end fault
+    tells_two second (NoChain a b) found tells = tt
+    tells_two second (TwoChains a b one other) found tells = subst (λ (o : List (List ℕ)). AreFirstTwo generators set from end o other) (sym tells.2) (two_of second other found tells.3)
+    tells_two second OutOfMemory found tells = tt
+
+    pub tells_some : (second : Option (List (List ℕ))) (fault : ChainFault) → TellsBoth from end first second fault → IsNoChainBy generators set from end fault
+    tells_some second (NoChain a b) tells = absurd tells
+    tells_some second (TwoChains a b one other) tells = tt
+    tells_some second OutOfMemory tells = tt
+
+pub tells_between : (from end : List ℕ) (first : List (List ℕ)) (second : Option (List (List ℕ))) (fault : ChainFault) → TellsBoth from end first second fault → IsBetween from end fault
+tells_between from end first second (NoChain a b) tells = absurd tells
+tells_between from end first second (TwoChains a b one other) tells = (tells.0, tells.1)
+tells_between from end first second OutOfMemory tells = tt
+
+pub IfErr-weaker : {X Y : Type 0} (r : Result X Y) (P Q : Y → Type 0) → ((y : Y) → P y → Q y) → IfErr r P → IfErr r Q
+IfErr-weaker (Ok x) P Q goes is = tt
+IfErr-weaker (Err y) P Q goes is = goes y is

@@ -7,8 +7,14 @@ use Rattle.b2_props.proofs.Pairs.{text_is, text_itself}
 use Rattle.b2_generators.specs.declared.generator.Generator.{Generator}
 use Rattle.b2_generators.specs.Places.{has_place, gives_at, is_taken_by, layer_at}
 use Rattle.b2_generators.specs.Walks.{EndsAt, IsAway, IsAtLeast}
-use Rattle.b2_generators.specs.Layers.{Givers, stock, AreAll, Moves, IsLayer, IsLeft, AreInOrder, AreLayers, IsApart}
+use Rattle.b2_generators.specs.Layers.{Givers, stock, AreAll, Moves, IsLayer, AreInOrder, AreLayers, IsApart}
 use Rattle.b2_generators.proofs.Stepping.{taken_away, away_taken, not_taken, empty_layer, apart_least}
+
+-- what is left once the layers up to one of them are there: the generators that give types which are further away
+pub record IsLeft (generators : List Generator) (set : List Pair) (end : List ℕ) (count : ℕ) (givers : Givers) : Type 0 where
+  pub sound : (type : List ℕ) (place : ℕ) → has_place (stock givers type) place ≡ true → gives_at generators set place type ≡ true
+  pub here : (type : List ℕ) (place : ℕ) → gives_at generators set place type ≡ true → (has_place (stock givers type) place ≡ true) ⊎ ((places : List ℕ) × EndsAt generators set end places type × (length places ≤ count))
+  pub far : (type : List ℕ) (place : ℕ) → has_place (stock givers type) place ≡ true → IsAtLeast generators set end (suc count) type
 
 -- ---- what was moved
 

@@ -31,6 +31,10 @@ before_same n xs ys e = ap (λ o. ordering_then o (slice_cmp nat_cmp xs ys)) (it
 before_lower : (m n : ℕ) (xs ys : List ℕ) → m < n → ComesBefore (m ∷ xs) (n ∷ ys)
 before_lower m n xs ys lt = ap (λ o. ordering_then o (slice_cmp nat_cmp xs ys)) (below m n lt)
 
+pub not_before_itself : (xs : List ℕ) → ComesBefore xs xs → ⊥
+not_before_itself [] e = cc
+not_before_itself (x ∷ xs) e = not_before_itself xs (sym (ap (λ o. ordering_then o (slice_cmp nat_cmp xs xs)) (itself x)) ∙ e)
+
 -- ---- one place more in front
 
 same_first : (p place : ℕ) (rest one : List ℕ) → p ≡ place → rest ≡ one → (p ∷ rest) ≡ (place ∷ one)

@@ -1,4 +1,4 @@
-use Rattle.std.specs.Prelude.{◌≡◌, ℕ, List}
+use Rattle.std.specs.Prelude.{◌≡◌, ℕ, List, Option, Some}
 use Rattle.b2_props.specs.Sets.{Pair}
 use Rattle.b2_generators.specs.Chains.{IsChain, AreFirstTwo}
 use Rattle.b2_generators.specs.declared.generator.Generator.{Generator}
@@ -22,3 +22,9 @@ abbrev pub IsTwoChainsBy : List Generator → List Pair → List ℕ → List �
 IsTwoChainsBy generators set from to (NoChain a b) = Unit {0}
 IsTwoChainsBy generators set from to (TwoChains a b first second) = AreFirstTwo generators set from to first second
 IsTwoChainsBy generators set from to OutOfMemory = Unit {0}
+
+-- an answer that names two chains and their types
+abbrev pub TellsBoth : List ℕ → List ℕ → List (List ℕ) → Option (List (List ℕ)) → ChainFault → Type 0
+TellsBoth from to one other (NoChain a b) = ⊥
+TellsBoth from to one other (TwoChains a b first second) = (a ≡ from) × (b ≡ to) × (first ≡ one) × (other ≡ Some second)
+TellsBoth from to one other OutOfMemory = Unit {0}

@@ -1,7 +1,8 @@
-use Rattle.std.specs.Prelude.{◌≡◌, ℕ, suc, ◌<◌, ◌≤◌, Bool, true, List, [], length, unwrap_or, ◌⊎◌, if◌then◌else◌}
+use Rattle.std.specs.Prelude.{◌≡◌, ℕ, ◌==◌, ◌<◌, Bool, true, ◌||◌, ◌&&◌, List, [], ◌∷◌, ◌++◌, length, unwrap_or, ◌⊎◌, if◌then◌else◌}
 use Rattle.std.specs.Ordering.{nat_cmp}
 use Rattle.std.specs.Cmp.Lexicographic.{slice_cmp}
 use Rattle.std.specs.FinMap as map
+use Rattle.std.specs.Str.{bytes_eq}
 use Rattle.b2_props.specs.Sets.{Pair}
 use Rattle.b2_generators.specs.declared.generator.Generator.{Generator}
 use Rattle.b2_generators.specs.Places.{has_place, gives_at, layer_at}
@@ -18,6 +19,14 @@ Givers = map.FinMap (slice_cmp nat_cmp) (List ℕ)
 abbrev pub stock : Givers → List ℕ → List ℕ
 stock givers type = unwrap_or (map.get givers type) []
 
+-- a place was put behind those that stood at a type
+abbrev pub AddsAtOne : ℕ → List ℕ → Givers → Givers → Type 0
+AddsAtOne place target old new = (type : List ℕ) → stock new type ≡ (if bytes_eq type target then stock old target ++ place ∷ [] else stock old type)
+
+-- a place stands at the types that pass a test, and all stand where they stood
+abbrev pub AddsWhere : ℕ → (List ℕ → Bool) → Givers → Givers → Type 0
+AddsWhere place test old new = (type : List ℕ) (p : ℕ) → has_place (stock new type) p ≡ (has_place (stock old type) p || (place == p && test type))
+
 -- each generator that can be used stands at each type that it gives, and no other one does
 abbrev pub AreAll : List Generator → List Pair → Givers → Type 0
 AreAll generators set givers = (place : ℕ) (type : List ℕ) → has_place (stock givers type) place ≡ gives_at generators set place type
@@ -33,12 +42,6 @@ pub record Moves (taken : List ℕ → Bool) (old new : Givers) (before after : 
 pub record IsLayer (generators : List Generator) (set : List Pair) (end : List ℕ) (count : ℕ) (layer : List ℕ) : Type 0 where
   pub gives : (place : ℕ) → has_place layer place ≡ true → (type : List ℕ) × (gives_at generators set place type ≡ true) × IsAway generators set end count type × IsAtLeast generators set end count type
   pub all : (place : ℕ) (type : List ℕ) → gives_at generators set place type ≡ true → IsAway generators set end count type → IsAtLeast generators set end count type → has_place layer place ≡ true
-
--- what is left once the layers up to one of them are there: the generators that give types which are further away
-pub record IsLeft (generators : List Generator) (set : List Pair) (end : List ℕ) (count : ℕ) (givers : Givers) : Type 0 where
-  pub sound : (type : List ℕ) (place : ℕ) → has_place (stock givers type) place ≡ true → gives_at generators set place type ≡ true
-  pub here : (type : List ℕ) (place : ℕ) → gives_at generators set place type ≡ true → (has_place (stock givers type) place ≡ true) ⊎ ((places : List ℕ) × EndsAt generators set end places type × (length places ≤ count))
-  pub far : (type : List ℕ) (place : ℕ) → has_place (stock givers type) place ≡ true → IsAtLeast generators set end (suc count) type
 
 -- each of the layers is the one of its number
 abbrev pub AreInOrder : List Generator → List Pair → List ℕ → List (List ℕ) → Type 0

@@ -1,11 +1,11 @@
 //! Chains of generators.
-ghost use Rattle.std.specs.Prelude.{◌≡◌, ℕ, suc, ◌≤◌, ◌∷◌, [], ◌++◌, length, IfOk, OnOk, IfErr};
+ghost use Rattle.std.specs.Prelude.{◌≡◌, ℕ, suc, ◌≤◌, ◌∷◌, [], ◌++◌, length, None, IfOk, OnOk, IfErr};
 ghost use Rattle.b2_base.specs.Bytes.{HasNoZero};
 ghost use Rattle.b2_generators.specs.declared.fault.ChainFault.TheVariants as faults;
 ghost use Rattle.b2_generators.specs.Chains.{IsOnlyShortest, ids_of};
 ghost use Rattle.b2_generators.specs.Places.{targets_at};
 ghost use Rattle.b2_generators.specs.Descents.{CanGoOn, IsConnected, IsSecond, AreFound};
-ghost use Rattle.b2_generators.specs.Faults.{IsBetween, IsNoChainBy, IsTwoChainsBy};
+ghost use Rattle.b2_generators.specs.Faults.{IsBetween, IsNoChainBy, IsTwoChainsBy, TellsBoth};
 
 use crate::fault::ChainFault;
 use crate::generator_table::GeneratorTable;
@@ -143,12 +143,26 @@ fn two_chains(
     })
 }
 
+/// One chain is the answer, and two are a fault.
+fn answer(alloc: Global, from: &str, to: &str, found: Found) -> Result<GenChain, ChainFault>
+    requires from { HasNoZero from.now }
+    requires to { HasNoZero to.now }
+    ensures one { IfOk result (λ chain. (found.second ≡ None) × (chain.ids ≡ found.first)) }
+    ensures two { IfErr result (TellsBoth from.now to.now found.first found.second) }
+{
+    let Found { first, second } = found;
+    match second {
+        None => Ok(GenChain { ids: first }),
+        Some(second) => Err(two_chains(alloc, from, to, first, second)?),
+    }
+}
+
 /// The chain from one type to another in a set. Of all lists of generators whose required properties the set has, of which
 /// each takes a type that the one before gives, and along which no type is repeated, it is the only one of least length.
 /// Two paths of types through one list of generators are one chain. From a type to itself it is the empty list.
 ///
-/// In time in proportion to the types and generators, and to the number of types that a generator names, not to the number
-/// of chains.
+/// The time grows with how many types all generators name, times how many one of them names, and not with the number of
+/// chains.
 pub fn chain(
     alloc: Global,
     types: &Types,
@@ -167,9 +181,6 @@ pub fn chain(
     let Some(layers) = layers(alloc, generators, set, from, to)? else {
         return Err(no_chain(alloc, from, to)?);
     };
-    let Found { first, second } = find(alloc, generators, layers.as_slice(), from)?;
-    match second {
-        None => Ok(GenChain { ids: first }),
-        Some(second) => Err(two_chains(alloc, from, to, first, second)?),
-    }
+    let found = find(alloc, generators, layers.as_slice(), from)?;
+    answer(alloc, from, to, found)
 }

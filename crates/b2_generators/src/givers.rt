@@ -1,10 +1,10 @@
 //! Which generators give a type.
-ghost use Rattle.std.specs.Prelude.{◌≡◌, ℕ, ◌==◌, ◌||◌, ◌&&◌, List as Items, [], ◌∷◌, ◌++◌, IfOk, OnOk, if◌then◌else◌};
+ghost use Rattle.std.specs.Prelude.{◌≡◌, [], ◌++◌, IfOk, OnOk};
 ghost use Rattle.std.specs.FinMap as map;
 ghost use Rattle.std.specs.Str.{bytes_eq};
 ghost use Rattle.b2_generators.specs.Table.{has_text};
-ghost use Rattle.b2_generators.specs.Places.{has_place, gives_at, is_taken_by};
-ghost use Rattle.b2_generators.specs.Layers.{stock, AreAll, Moves};
+ghost use Rattle.b2_generators.specs.Places.{gives_at, is_taken_by};
+ghost use Rattle.b2_generators.specs.Layers.{stock, AddsAtOne, AddsWhere, AreAll, Moves};
 
 use crate::generator_table::GeneratorTable;
 use crate::places::{is_usable, sources_at, targets_at};
@@ -28,7 +28,7 @@ fn take(alloc: Global, givers: &mut Givers, target: &Text) -> Result<List<usize>
 }
 
 fn add(alloc: Global, givers: &mut Givers, target: &Text, place: usize) -> Result<(), OutOfMemory>
-    ensures { OnOk result ((type : Items ℕ) → stock givers.new type ≡ (if bytes_eq type target.now then stock givers.old target.now ++ place ∷ [] else stock givers.old type)) }
+    ensures { OnOk result (AddsAtOne place target.now givers.old givers.new) }
 {
     let mut places = take(alloc, givers, target)?;
     places.push(place)?;
@@ -42,7 +42,7 @@ fn add_at_all(
     targets: &[Text],
     place: usize,
 ) -> Result<(), OutOfMemory>
-    ensures { OnOk result ((type : Items ℕ) (p : ℕ) → has_place (stock givers.new type) p ≡ (has_place (stock givers.old type) p || (place == p && has_text targets.now type))) }
+    ensures { OnOk result (AddsWhere place (has_text targets.now) givers.old givers.new) }
 {
     for target in targets {
         add(alloc, givers, target, place)?;
@@ -58,7 +58,7 @@ fn add_generator(
     set: &Props,
     place: usize,
 ) -> Result<(), OutOfMemory>
-    ensures { OnOk result ((type : Items ℕ) (p : ℕ) → has_place (stock givers.new type) p ≡ (has_place (stock givers.old type) p || (place == p && gives_at generators.now set.now place type))) }
+    ensures { OnOk result (AddsWhere place (gives_at generators.now set.now place) givers.old givers.new) }
 {
     if is_usable(generators, set, place) {
         add_at_all(alloc, givers, targets_at(generators, place), place)?;

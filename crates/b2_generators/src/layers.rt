@@ -1,5 +1,5 @@
 //! The layers of generators between two types.
-ghost use Rattle.std.specs.Prelude.{◌≡◌, [], IfOk, MatchOption};
+ghost use Rattle.std.specs.Prelude.{◌≡◌, [], IfOk, IfNone, IfSome};
 ghost use Rattle.std.specs.Str.{bytes_eq};
 ghost use Rattle.b2_base.specs.Bytes.{HasNoZero};
 ghost use Rattle.b2_generators.specs.Layers.{Moves, AreLayers, IsApart};
@@ -33,7 +33,8 @@ pub(crate) fn layers(
     to: &str,
 ) -> Result<Option<Vec<List<usize>>>, OutOfMemory>
     requires { HasNoZero to.now }
-    ensures { IfOk result (λ found. MatchOption found (IsApart generators.now set.now to.now from.now) (λ layers. AreLayers generators.now set.now to.now from.now layers.items)) }
+    ensures found { IfOk result (λ found. IfSome found (λ layers. AreLayers generators.now set.now to.now from.now layers.items)) }
+    ensures none { IfOk result (λ found. IfNone found (IsApart generators.now set.now to.now from.now)) }
 {
     let mut layers = Vec::new(alloc);
     if from == to {

@@ -24,13 +24,13 @@ nearer old new cap more within small = omega arith
 pub loop-from-smaller : goal.loop-from-smaller
 loop-from-smaller c = nearer (vec_len c.loop-from.layers) (vec_len c.push-in-loop-from.new.self) c.loop-from.layers.cap c.in_ok-push-2.ensures.len c.loop-from.layers.ok.1 c.loop-from.layers.small
 
-pub returns : goal.returns
-returns c = search_none c.args.generators.now c.args.set.now c.args.to.now c.args.from.now c.loop-from.layers.items c.loop-from.layer c.loop-from.givers c.loop-from.invariant (nil_from_length c.loop-from.layer (ap length (sym c.as_slice.ensures) ∙ eqb-true (length c.as_slice.result.now) 0 (sym c.is_empty.ensures ∙ c.loop-from-test.false)))
+pub returns-clause-none : goal.returns-clause-none
+returns-clause-none c = search_none c.args.generators.now c.args.set.now c.args.to.now c.args.from.now c.loop-from.layers.items c.loop-from.layer c.loop-from.givers c.loop-from.invariant (nil_from_length c.loop-from.layer (ap length (sym c.as_slice.ensures) ∙ eqb-true (length c.as_slice.result.now) 0 (sym c.is_empty.ensures ∙ c.loop-from-test.false)))
 
-pub returns-then-is_taken_by : goal.returns-then-is_taken_by
-returns-then-is_taken_by c =
+pub returns-then-is_taken_by-clause-found : goal.returns-then-is_taken_by-clause-found
+returns-then-is_taken_by-clause-found c =
     search_found c.args.generators.now c.args.set.now c.args.to.now c.args.from.now c.loop-from.layers.items c.push.new.self.items c.loop-from.layer c.loop-from.givers c.loop-from.invariant
     (ap (λ layer. is_taken_by c.args.generators.now layer c.args.from.now) (sym c.as_slice-in-loop-from.ensures) ∙ sym c.is_taken_by.ensures ∙ c.if-is_taken_by.true) c.in_ok-push.ensures.items
 
-pub returns-then-eq : goal.returns-then-eq
-returns-then-eq c = no_search c.args.generators.now c.args.set.now c.args.to.now c.args.from.now c.new-layers.result.items c.new-layers.ensures.items (sym c.eq.ensures ∙ c.if-eq.true)
+pub returns-then-eq-clause-found : goal.returns-then-eq-clause-found
+returns-then-eq-clause-found c = no_search c.args.generators.now c.args.set.now c.args.to.now c.args.from.now c.new-layers.result.items c.new-layers.ensures.items (sym c.eq.ensures ∙ c.if-eq.true)
