@@ -11,17 +11,23 @@ use Rattle.b2_log.specs.Lines.{spelling, log_bytes, field}
 use Rattle.b2_log.specs.Good.{IsText, IsGood}
 use Rattle.b2_log.specs.Readings.{IsReading}
 use Rattle.b2_log.proofs.ReadLogs.{reading_whole, torn_line}
+use Rattle.b2_host.specs.declared.children.ChildEvent.{ChildEvent}
 use Rattle.b2_host.specs.declared.children.ChildEvent.TheVariants.{Start, Done}
 use Rattle.b2_log.specs.declared.line.LogLine.{LogLine}
 use Rattle.b2_log.specs.declared.line.Record.{Record}
 use Rattle.b2_log.proofs.WholeLines.{line_long}
 use Rattle.b2_runs.specs.Staleness.{making}
-use Rattle.b2_runs.specs.LogCourses.{BeginsWith, BeginsWith.as_it_is, IsLogAfter, IsLogAfter.begins, IsLogAfter.starts, IsLogAfter.records, IsLogWhole, IsLogCut, IsLogCut.within}
+use Rattle.b2_runs.specs.LogCourses.{BeginsWith, BeginsWith.as_it_is, IsLogAfter, IsLogAfter.begins, IsLogAfter.starts, IsLogAfter.records, left_file, IsLogWhole, IsLogCut, IsLogCut.within}
+use Rattle.b2_runs.specs.Runs.{IsRunSoFar}
+use Rattle.b2_runs.specs.Afterwards.{next_update}
+use Rattle.b2_runs.proofs.LogLaws.{found_is_there}
+use Rattle.b2_runs.proofs.EventLaws.{run_is_in_order}
 use Rattle.b2_runs.proofs.LogCourseLaws.{log_has_records}
+use Rattle.b2_runs.proofs.LogAtExit.{healthy_grows}
 use Rattle.b2_runs.specs.LogFiles.{log_limit, IsLogOf, IsLogOf.is_read, IsTrueFile, FileTells}
-use Rattle.b2_run_examples.specs.Examples.{in_path, out_path, copying, disk_after, copy_record, log_after, copied, copy_step, in_members, copy_bytes, CopyingFiled}
+use Rattle.b2_run_examples.specs.Examples.{in_path, out_path, copying, disk_after, copy_record, log_after, copied, copy_step, in_members, copy_bytes, with_log, CopyingFiled}
 use Rattle.b2_runs.proofs.ElementLemmas.{Contains_here, Contains_nil}
-use Rattle.b2_run_examples.proofs.CopyingHolds.{log_true, close, opened}
+use Rattle.b2_run_examples.proofs.CopyingHolds.{apart, run, log_true, close, opened}
 use Rattle.b2_runs.proofs.LogFileLaws.{true_front}
 
 -- bytes of texts that are plain
@@ -104,28 +110,53 @@ empty_reading = reading_whole [] tt
 begins_empty : BeginsWith [] []
 begins_empty = as_it_is [] (omega arith) empty_reading (λ much. omega (arith, much))
 
-after_start : IsLogAfter copying [] (Start 1 ∷ []) []
-after_start = starts [] [] 1 begins
+module _ (bytes : List ℕ) where
+  after_start : IsLogAfter copying (with_log bytes) [] (Start 1 ∷ []) []
+  after_start = starts [] [] 1 begins
 
-course : IsLogAfter copying [] copied log_after
-course = records (Start 1 ∷ []) [] 1 copy_step in_members copy_record after_start refl refl close (record { text = refl; outs = refl; ins = refl; digests = refl })
+  course : IsLogAfter copying (with_log bytes) [] copied log_after
+  course = records (Start 1 ∷ []) [] 1 copy_step in_members copy_record after_start refl refl close (record { text = refl; outs = ((refl, refl), tt); ins = ((refl, refl), tt); digests = refl })
 
-whole : IsLogWhole copying None copied (Some copy_bytes)
-whole = record { first = []; begins = begins_empty; log = log_after; course = course; bytes = sym spelled }
+whole : IsLogWhole copying copied (with_log copy_bytes)
+whole = record {
+  first = [];
+  begins = begins_empty;
+  log = log_after;
+  course = course copy_bytes;
+  migrated = λ step members to. let e : false ≡ true = to.by_digest in cc;
+  scanned = λ path bytes to. let e : false ≡ true = to.scanned in cc;
+  file = ap (λ w. left_file None w) (sym spelled);
+}
 
-cut : (part missing : List ℕ) → copy_bytes ≡ part ++ missing → IsLogCut copying None copied (Some part)
+begun : IsRunSoFar copying copied
+begun = run.each
+
+cut : (part missing : List ℕ) → copy_bytes ≡ part ++ missing → IsLogCut copying copied (with_log part)
 cut part missing split =
-    within [] [] (lines.Record copy_record) (Start 1 ∷ []) (Done 1 true ∷ []) [] part missing refl (opened, tt) begins_empty after_start course
+    within [] [] (lines.Record copy_record) (Start 1 ∷ []) (Done 1 true ∷ []) [] part missing refl begun (opened, tt) begins_empty (after_start part) (course part)
     (sym (append-nil (spelling (lines.Record copy_record))) ∙ spelled ∙ split) refl
 
-some_log : ¬ IsLogWhole copying None copied None
+some_log : ¬ IsLogWhole copying copied disk_after.now
 some_log w =
-    let h = log_has_records copying w.first w.log copied 1 copy_step w.course (1, omega arith, refl) refl refl in
-    no_bytes w.log h.line h.there w.bytes
+    let n = log_has_records copying disk_after.now w.first w.log copied 1 copy_step in_members apart (run_is_in_order copying copied begun) w.course (1, omega arith, refl) refl refl close in
+    no_bytes w.log n.last (found_is_there (out_path ∷ []) w.log n.last n.found).0 w.file
   where
-    no_bytes : (log : List LogLine) (r : Record) → Contains log (lines.Record r) → [] ≡ log_bytes log → ⊥
+    left_some : (bytes : List ℕ) → None ≡ left_file None bytes → bytes ≡ []
+    left_some [] e = refl
+    left_some (byte ∷ more) e = let f : None ≡ Some (byte ∷ more) = e in cc
+
+    no_bytes : (log : List LogLine) (r : Record) → Contains log (lines.Record r) → None ≡ left_file None (log_bytes log) → ⊥
     no_bytes [] r c e = Contains_nil (lines.Record r) c
-    no_bytes (line ∷ log) r c e = omega (arith, ap length e, line_long line, length-append (spelling line) (log_bytes log))
+    no_bytes (line ∷ log) r c e = omega (arith, ap length (left_some (log_bytes (line ∷ log)) e), line_long line, length-append (spelling line) (log_bytes log))
+
+-- the log that the first update left is in order: the next one keeps it
+kept : (part missing : List ℕ) (events : List ChildEvent) → copy_bytes ≡ part ++ missing → 0 < length missing → ¬ IsLogCut (next_update copying (with_log copy_bytes) log_after false 1) events (with_log part)
+kept part missing events split more cut_off =
+    let whole_reading = subst (λ n. IsReading copy_bytes log_after n) (ap length spelled) reading in
+    let (grew, e) = healthy_grows (next_update copying (with_log copy_bytes) log_after false 1) events (with_log part) copy_bytes log_after refl small whole_reading (λ much. omega (arith, much)) cut_off in
+    let f : Some part ≡ Some (copy_bytes ++ grew) = e in
+    let g : part ≡ copy_bytes ++ grew = cc in
+    omega (arith, more, ap length g, ap length split, length-append part missing, length-append copy_bytes grew)
 
 pub copying_filed : CopyingFiled
 copying_filed = record {
@@ -137,5 +168,6 @@ copying_filed = record {
   whole = whole;
   cut = cut;
   some_log = some_log;
+  kept = kept;
   not_true = λ t. Contains_nil _ ((t log_after counts (lines.Record copy_record) (Contains_here (lines.Record copy_record) [])).outs out_path 2 (Contains_here (out_path, 2) []));
 }

@@ -31,7 +31,7 @@ use Rattle.b2_runs.proofs.SoundLaws.{sound_at_entry, sound_after_start, sound_af
 use Rattle.b2_runs.proofs.NotedLaws.{noted_at_entry, noted_after_start, noted_after_drift, noted_after_record}
 use Rattle.b2_run_examples.proofs.OneStepPlan.{only_number, only_out, one_of, makes_out, in_outside, is_apart}
 
-apart : Apart copying.build.steps copying.build.roots
+pub apart : Apart copying.build.steps copying.build.roots
 apart = is_apart (in_path ∷ [])
 
 abbrev member_in : List ℕ × Value
@@ -96,7 +96,7 @@ done = Contains_there (Start 1) (Done 1 true) (Done 1 true ∷ []) (Contains_her
 may_start : MayCome copying [] (Start 1)
 may_start = (can, none_lower)
 
-run : IsRun copying copied
+pub run : IsRun copying copied
 run = record {
   each = (may_start, ((opened, none_other (Start 1 ∷ []) (Contains_here (Start 1) [])), tt));
   none_open = λ i o. elim (Contains_cases (Start 1) (Start i) (Done 1 true ∷ []) o.0) [

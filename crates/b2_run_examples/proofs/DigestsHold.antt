@@ -16,7 +16,8 @@ use Rattle.b2_log.specs.Finding.{find_record}
 use Rattle.b2_runs.specs.Staleness.{Update, NoneDone, Agrees, Agrees.by_stamps, Agrees.by_digests, IsRecorded, IsFresh, IsStale}
 use Rattle.b2_runs.specs.Events.{IsOpen}
 use Rattle.b2_runs.specs.Runs.{Settled.source, Settled.done_well, Settled.fresh, on_settled, Needed, Needed.wanted, Needed.member, CanStart, IsRun}
-use Rattle.b2_runs.specs.LogCourses.{AllMigrated, HasDigestsAlready, IsLogAfter, IsLogAfter.begins, IsLogAfter.starts, IsLogAfter.records, IsLogAfter.migrates}
+use Rattle.b2_runs.specs.LogCourses.{AllMigrated, IsToMigrate, HasDigestsAlready, IsLogAfter, IsLogAfter.begins, IsLogAfter.starts, IsLogAfter.records, IsLogAfter.migrates}
+use Rattle.b2_runs.specs.Records.{HasDigestsOf}
 use Rattle.b2_runs.specs.Afterwards.{IsNotedStep}
 use Rattle.b2_run_examples.specs.Overlap.{copy_from, x_path, a_path, b_path, c_path}
 use Rattle.b2_run_examples.specs.DigestUpdates.{file_of, build_on, update_on, a_digested, b_digested, a_stamped, b_stamped, x_alone, all_stand, first_ran, both_ran, log_one, log_two, log_three, log_four, log_five, DigestsHold}
@@ -343,7 +344,7 @@ is_new_kind outs log last r found none h =
     let e : None ≡ Some h.digests = sym none ∙ ap (λ (z : Record). z.digests) same ∙ h.has in
     cc
 
-same_bytes_log : IsLogAfter (update_on true second_folder log_one) log_one [] log_two
+same_bytes_log : IsLogAfter (update_on true second_folder log_one) second_folder log_one [] log_two
 same_bytes_log =
     migrates [] log_one (copy_from x_path a_path) ((x_path, Some (7 ∷ [])) ∷ []) (a_digested 2 4 (7 ∷ [])) begins
     (record {
@@ -354,9 +355,12 @@ same_bytes_log =
       not_started = λ c. Contains_nil (Start 1) c;
       close = close_x true second_folder log_one (7 ∷ []) refl [];
       is_fresh = second_first;
-      is_new = is_new (a_path ∷ []) log_one (a_digested 2 1 (7 ∷ [])) (a_digested 2 4 (7 ∷ [])) 1 4 x_path refl refl refl (λ e. omega (arith, e));
     })
-    (record { text = refl; outs = refl; ins = refl; digests = refl })
+    (record { text = refl; outs = ((refl, refl), tt); ins = ((refl, refl), tt); digests = (refl, (([], refl, refl), tt), ((7 ∷ [], refl, refl), tt)) }) (is_new (a_path ∷ []) log_one (a_digested 2 1 (7 ∷ [])) (a_digested 2 4 (7 ∷ [])) 1 4 x_path refl refl refl (λ e. omega (arith, e)))
+
+-- the files that it leaves
+abbrev third_left : Folder
+third_left = all_stand 5 (8 ∷ []) 6 3
 
 abbrev third_folder : Folder
 third_folder = all_stand 5 (8 ∷ []) 2 3
@@ -387,11 +391,11 @@ third_second =
 other_bytes : IsRun (update_on true third_folder log_two) first_ran
 other_bytes = run_first true third_folder log_two (8 ∷ []) refl third_first third_second
 
-other_bytes_log : IsLogAfter (update_on true third_folder log_two) log_two first_ran log_three
+other_bytes_log : IsLogAfter (update_on true third_folder log_two) third_left log_two first_ran log_three
 other_bytes_log =
     migrates first_ran _ (copy_from a_path b_path) ((a_path, Some []) ∷ []) (b_digested 3 6)
     (records (Start 1 ∷ []) log_two 1 (copy_from x_path a_path) ((x_path, Some (8 ∷ [])) ∷ []) (a_digested 6 5 (8 ∷ [])) (starts [] log_two 1 begins) refl refl
-    (clean_x true third_folder log_two (8 ∷ []) refl) (record { text = refl; outs = refl; ins = refl; digests = refl }))
+    (clean_x true third_folder log_two (8 ∷ []) refl) (record { text = refl; outs = ((refl, refl), tt); ins = ((refl, refl), tt); digests = (refl, (([], refl, refl), tt), ((8 ∷ [], refl, refl), tt)) }))
     (record {
       by_digest = refl;
       number = 2;
@@ -400,9 +404,8 @@ other_bytes_log =
       not_started = λ c. absent (starts_of 2) first_ran refl (Start 2) refl c;
       close = close_of true third_folder log_two (8 ∷ []) refl first_ran a_path b_path (Some []) (a_after true third_folder log_two (8 ∷ []) refl);
       is_fresh = third_second;
-      is_new = is_new (b_path ∷ []) _ (b_digested 3 2) (b_digested 3 6) 2 6 a_path refl refl refl (λ e. omega (arith, e));
     })
-    (record { text = refl; outs = refl; ins = refl; digests = refl })
+    (record { text = refl; outs = ((refl, refl), tt); ins = ((refl, refl), tt); digests = (refl, (([], refl, refl), tt), (([], refl, refl), tt)) }) (is_new (b_path ∷ []) _ (b_digested 3 2) (b_digested 3 6) 2 6 a_path refl refl refl (λ e. omega (arith, e)))
 
 abbrev fourth_folder : Folder
 fourth_folder = all_stand 7 (9 ∷ []) 6 3
@@ -437,21 +440,24 @@ fifth_second =
 unchanged : IsRun (update_on true fifth_folder log_four) []
 unchanged = run_none true fifth_folder log_four (9 ∷ []) refl fifth_first fifth_second
 
-unchanged_log : IsLogAfter (update_on true fifth_folder log_four) log_four [] log_five
+-- the first step is to get a record with digests
+to_migrate : IsToMigrate (update_on true fifth_folder log_four) [] (copy_from x_path a_path) ((x_path, Some (9 ∷ [])) ∷ [])
+to_migrate = record {
+  by_digest = refl;
+  number = 1;
+  at = refl;
+  needed = needed_first true fifth_folder log_four (9 ∷ []) refl [];
+  not_started = λ c. Contains_nil (Start 1) c;
+  close = close_x true fifth_folder log_four (9 ∷ []) refl [];
+  is_fresh = fifth_first;
+}
+
+unchanged_log : IsLogAfter (update_on true fifth_folder log_four) fifth_folder log_four [] log_five
 unchanged_log =
     migrates [] _ (copy_from a_path b_path) ((a_path, Some []) ∷ []) (b_digested 9 8)
     (migrates [] log_four (copy_from x_path a_path) ((x_path, Some (9 ∷ [])) ∷ []) (a_digested 8 7 (9 ∷ [])) begins
-    (record {
-      by_digest = refl;
-      number = 1;
-      at = refl;
-      needed = needed_first true fifth_folder log_four (9 ∷ []) refl [];
-      not_started = λ c. Contains_nil (Start 1) c;
-      close = close_x true fifth_folder log_four (9 ∷ []) refl [];
-      is_fresh = fifth_first;
-      is_new = is_new_kind (a_path ∷ []) log_four (a_stamped 8 7) (a_digested 8 7 (9 ∷ [])) refl refl;
-    })
-    (record { text = refl; outs = refl; ins = refl; digests = refl }))
+    to_migrate
+    (record { text = refl; outs = ((refl, refl), tt); ins = ((refl, refl), tt); digests = (refl, (([], refl, refl), tt), ((9 ∷ [], refl, refl), tt)) }) (is_new_kind (a_path ∷ []) log_four (a_stamped 8 7) (a_digested 8 7 (9 ∷ [])) refl refl))
     (record {
       by_digest = refl;
       number = 2;
@@ -460,9 +466,8 @@ unchanged_log =
       not_started = λ c. Contains_nil (Start 2) c;
       close = close_of true fifth_folder log_four (9 ∷ []) refl [] a_path b_path (Some []) (a_fresh true fifth_folder log_four (9 ∷ []) refl fifth_first);
       is_fresh = fifth_second;
-      is_new = is_new_kind (b_path ∷ []) _ (b_stamped 9 8) (b_digested 9 8) refl refl;
     })
-    (record { text = refl; outs = refl; ins = refl; digests = refl })
+    (record { text = refl; outs = ((refl, refl), tt); ins = ((refl, refl), tt); digests = (refl, (([], refl, refl), tt), (([], refl, refl), tt)) }) (is_new_kind (b_path ∷ []) _ (b_stamped 9 8) (b_digested 9 8) refl refl)
 
 -- the last records are those of the files as they stand
 noted_first : IsNotedStep (update_on true fifth_folder log_four) fifth_folder log_five (copy_from x_path a_path) ((x_path, Some (9 ∷ [])) ∷ [])
@@ -480,22 +485,30 @@ noted_second = record {
 }
 
 unchanged_all : AllMigrated (update_on true fifth_folder log_four) [] fifth_folder log_five
-unchanged_all on i step members needed at not_started close f = elim (needed_is true fifth_folder log_four (9 ∷ []) refl [] i needed) [
+unchanged_all step members to = elim (needed_is true fifth_folder log_four (9 ∷ []) refl [] to.number to.needed) [
   | inl e ↦ same 1 (copy_from x_path a_path) ((x_path, Some (9 ∷ [])) ∷ []) e refl (close_x true fifth_folder log_four (9 ∷ []) refl []) noted_first
   | inr e ↦
       same 2 (copy_from a_path b_path) ((a_path, Some []) ∷ []) e refl
       (close_of true fifth_folder log_four (9 ∷ []) refl [] a_path b_path (Some []) (a_fresh true fifth_folder log_four (9 ∷ []) refl fifth_first)) noted_second
 ]
   where
-    same : (k : ℕ) (other : Step) (others : List (List ℕ × Value)) → i ≡ k → step_at (build_on fifth_folder).steps k ≡ Some other → IsClose (build_on fifth_folder) (on_settled (update_on true fifth_folder log_four) []) other others → IsNotedStep (update_on true fifth_folder log_four) fifth_folder log_five other others
-        → IsNotedStep (update_on true fifth_folder log_four) fifth_folder log_five step members
+    same : (k : ℕ) (other : Step) (others : List (List ℕ × Value)) → to.number ≡ k → step_at (build_on fifth_folder).steps k ≡ Some other → IsClose (build_on fifth_folder) (on_settled (update_on true fifth_folder log_four) []) other others
+        → IsNotedStep (update_on true fifth_folder log_four) fifth_folder log_five other others → IsNotedStep (update_on true fifth_folder log_four) fifth_folder log_five step members
     same k other others e at_k close_k n =
         let u = update_on true fifth_folder log_four in
         let whole = apart true fifth_folder log_four (9 ∷ []) refl in
-        let here : step_at (build_on fifth_folder).steps i ≡ Some other = subst (λ j. step_at (build_on fifth_folder).steps j ≡ Some other) (sym e) at_k in
-        let is : other ≡ step = one_step (build_on fifth_folder).steps i other step here at in
-        let one : others ≡ members = same_members u whole i other step here at others members ((close_on_settled u [] other others whole).0 close_k).0 ((close_on_settled u [] step members whole).0 close).0 in
+        let here : step_at (build_on fifth_folder).steps to.number ≡ Some other = subst (λ j. step_at (build_on fifth_folder).steps j ≡ Some other) (sym e) at_k in
+        let is : other ≡ step = one_step (build_on fifth_folder).steps to.number other step here to.at in
+        let one : others ≡ members = same_members u whole to.number other step here to.at others members ((close_on_settled u [] other others whole).0 close_k).0 ((close_on_settled u [] step members whole).0 to.close).0 in
         subst₂ (λ s ms. IsNotedStep u fifth_folder log_five s ms) is one n
+
+unchanged_not : ¬ AllMigrated (update_on true fifth_folder log_four) [] fifth_folder log_four
+unchanged_not all =
+    let n = all (copy_from x_path a_path) ((x_path, Some (9 ∷ [])) ∷ []) to_migrate in
+    let f : Some (a_stamped 8 7) ≡ Some n.last = n.found in
+    let same : a_stamped 8 7 ≡ n.last = cc in
+    let e : true ≡ false = subst (λ (r : Record). HasDigestsOf (update_on true fifth_folder log_four) fifth_folder (copy_from x_path a_path) ((x_path, Some (9 ∷ [])) ∷ []) r.digests) (sym same) n.is_record.digests in
+    cc
 
 pub digests_hold : DigestsHold
 digests_hold = record {
@@ -509,4 +522,5 @@ digests_hold = record {
   unchanged = unchanged;
   unchanged_log = unchanged_log;
   unchanged_all = unchanged_all;
+  unchanged_not = unchanged_not;
 }

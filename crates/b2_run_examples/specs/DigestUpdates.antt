@@ -1,4 +1,4 @@
-use Rattle.std.specs.Prelude.{ℕ, Bool, true, false, List, [], ◌∷◌, ◌++◌, Some, None, codes, if◌then◌else◌}
+use Rattle.std.specs.Prelude.{ℕ, Bool, true, false, List, [], ◌∷◌, ◌++◌, Some, None, codes, refl, if◌then◌else◌}
 use Rattle.std.specs.List.{flat_map}
 use Rattle.std.specs.Str.{bytes_eq}
 use Rattle.b2_host.specs.declared.children.ChildEvent.{ChildEvent}
@@ -37,7 +37,7 @@ build_on folder = record {
 
 -- an update of it, by digests or by stamps; the digest of bytes is the bytes
 abbrev pub update_on : Bool → Folder → List LogLine → Update
-update_on by_digest folder log = record { build = build_on folder; log = log; scanned = λ path. false; digest = λ bytes. bytes; by_digest = by_digest; all = false; quit = false; jobs = 1 }
+update_on by_digest folder log = record { build = build_on folder; log = log; scanned = λ path. false; unscanned = λ path bytes e. refl; digest = λ bytes. bytes; by_digest = by_digest; all = false; quit = false; jobs = 1 }
 
 -- the record of `a`, from `x` with this stamp and digest; and that of `b`
 abbrev pub a_digested : ℕ → ℕ → List ℕ → Record
@@ -90,13 +90,15 @@ pub record DigestsHold : Type 0 where
   pub new : IsRun (update_on true (x_alone 1 (7 ∷ [])) []) both_ran
   -- `x` was written again with the same bytes: nothing runs, and `a` gets a record with the new stamp
   pub same_bytes : IsRun (update_on true (all_stand 4 (7 ∷ []) 2 3) log_one) []
-  pub same_bytes_log : IsLogAfter (update_on true (all_stand 4 (7 ∷ []) 2 3) log_one) log_one [] log_two
+  pub same_bytes_log : IsLogAfter (update_on true (all_stand 4 (7 ∷ []) 2 3) log_one) (all_stand 4 (7 ∷ []) 2 3) log_one [] log_two
   -- .. with other bytes: `a` runs, and `b` does not, for `a` has the bytes that it had
   pub other_bytes : IsRun (update_on true (all_stand 5 (8 ∷ []) 2 3) log_two) first_ran
-  pub other_bytes_log : IsLogAfter (update_on true (all_stand 5 (8 ∷ []) 2 3) log_two) log_two first_ran log_three
+  pub other_bytes_log : IsLogAfter (update_on true (all_stand 5 (8 ∷ []) 2 3) log_two) (all_stand 5 (8 ∷ []) 6 3) log_two first_ran log_three
   -- .. with other bytes, judged by stamps: both run
   pub by_stamps : IsRun (update_on false (all_stand 7 (9 ∷ []) 6 3) log_three) both_ran
   -- nothing was done: nothing runs, and both get records with digests
   pub unchanged : IsRun (update_on true (all_stand 7 (9 ∷ []) 8 9) log_four) []
-  pub unchanged_log : IsLogAfter (update_on true (all_stand 7 (9 ∷ []) 8 9) log_four) log_four [] log_five
+  pub unchanged_log : IsLogAfter (update_on true (all_stand 7 (9 ∷ []) 8 9) log_four) (all_stand 7 (9 ∷ []) 8 9) log_four [] log_five
   pub unchanged_all : AllMigrated (update_on true (all_stand 7 (9 ∷ []) 8 9) log_four) [] (all_stand 7 (9 ∷ []) 8 9) log_five
+  -- .. which they did not have
+  pub unchanged_not : ¬ AllMigrated (update_on true (all_stand 7 (9 ∷ []) 8 9) log_four) [] (all_stand 7 (9 ∷ []) 8 9) log_four

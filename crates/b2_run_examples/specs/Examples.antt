@@ -1,4 +1,4 @@
-use Rattle.std.specs.Prelude.{◌≡◌, ℕ, ◌<◌, length, true, false, List, [], ◌∷◌, ◌++◌, Some, None, codes, if◌then◌else◌}
+use Rattle.std.specs.Prelude.{◌≡◌, ℕ, ◌<◌, length, true, false, List, [], ◌∷◌, ◌++◌, Some, None, codes, refl, if◌then◌else◌}
 use Rattle.std.specs.List.{flat_map}
 use Rattle.std.specs.Str.{bytes_eq}
 use Rattle.b2_host.specs.declared.children.ChildEvent.{ChildEvent}
@@ -6,7 +6,7 @@ use Rattle.b2_host.specs.declared.children.ChildEvent.TheVariants.{Start, Done}
 use Rattle.b2_host.specs.Disks.{File, Folder, Disk, Past, put}
 use Rattle.b2_host.specs.ChildProcesses.{Given, Child, Family, Ends}
 use Rattle.b2_plan.specs.declared.step.Step.{Step}
-use Rattle.b2_plan.specs.Plans.{Apart}
+use Rattle.b2_plan.specs.Plans.{Apart, log_path}
 use Rattle.b2_plan.specs.Sources.{Build}
 use Rattle.b2_plan.specs.Closures.{Value}
 use Rattle.b2_log.specs.declared.line.Record.{Record}
@@ -57,7 +57,7 @@ plan_from ins = record {
 
 -- an update of it without a log
 abbrev pub update_from : List (List ℕ) → Update
-update_from ins = record { build = plan_from ins; log = []; scanned = λ path. false; digest = λ bytes. bytes; by_digest = false; all = false; quit = false; jobs = 1 }
+update_from ins = record { build = plan_from ins; log = []; scanned = λ path. false; unscanned = λ path bytes e. refl; digest = λ bytes. bytes; by_digest = false; all = false; quit = false; jobs = 1 }
 
 -- the update of the plan that copies `in` to `bin/out`
 abbrev pub copying : Update
@@ -121,6 +121,10 @@ pub record CopyingHolds : Type 0 where
 abbrev pub copy_bytes : List ℕ
 copy_bytes = codes "+1" ++ 9 ∷ codes "cat" ++ 9 ∷ codes "1" ++ 9 ∷ codes "bin/out" ++ 9 ∷ codes "2" ++ 9 ∷ codes "1" ++ 9 ∷ codes "in" ++ 9 ∷ codes "1" ++ 9 ∷ codes "." ++ 10 ∷ []
 
+-- the files after the update, and these bytes in the log's file
+abbrev pub with_log : List ℕ → Folder
+with_log bytes = put log_path (Some (record { stamp = 3; bytes = bytes })) disk_after.now
+
 -- A file of these bytes counts as that log, is true, and tells the record. Where bytes of its end are missing it is still
 -- true, and tells nothing. It is not true where nothing has stood.
 pub record CopyingFiled : Type 0 where
@@ -131,10 +135,12 @@ pub record CopyingFiled : Type 0 where
   pub torn : (part missing : List ℕ) → copy_bytes ≡ part ++ missing → 0 < length missing → IsTrueFile (making copying) disk_after.past part × FileTells part (out_path ∷ []) None
   pub not_true : ¬ IsTrueFile (making copying) [] copy_bytes
   -- the update that copies leaves it where no log stood; one that was cut off leaves any first part of it
-  pub whole : IsLogWhole copying None copied (Some copy_bytes)
-  pub cut : (part missing : List ℕ) → copy_bytes ≡ part ++ missing → IsLogCut copying None copied (Some part)
+  pub whole : IsLogWhole copying copied (with_log copy_bytes)
+  pub cut : (part missing : List ℕ) → copy_bytes ≡ part ++ missing → IsLogCut copying copied (with_log part)
   -- but never no log
-  pub some_log : ¬ IsLogWhole copying None copied None
+  pub some_log : ¬ IsLogWhole copying copied disk_after.now
+  -- and the next update, wherever it is cut off, keeps all of these bytes
+  pub kept : (part missing : List ℕ) (events : List ChildEvent) → copy_bytes ≡ part ++ missing → 0 < length missing → ¬ IsLogCut (next_update copying (with_log copy_bytes) log_after false 1) events (with_log part)
 
 -- the step that copies, and its closure
 abbrev pub copy_step : Step
@@ -193,7 +199,7 @@ tailed_copies = record {
 }
 
 abbrev pub tailed : Update
-tailed = record { build = tailed_copies; log = []; scanned = λ path. false; digest = λ bytes. bytes; by_digest = false; all = false; quit = false; jobs = 2 }
+tailed = record { build = tailed_copies; log = []; scanned = λ path. false; unscanned = λ path bytes e. refl; digest = λ bytes. bytes; by_digest = false; all = false; quit = false; jobs = 2 }
 
 -- It is one of an apart plan. Its run without events is a whole run, and leaves all three steps stuck. The walk goes from
 -- the first step to the second, the third and the second again, so the first step, where it starts, is not in the list.

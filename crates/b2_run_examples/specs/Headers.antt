@@ -37,7 +37,7 @@ with_header = record {
 }
 
 abbrev pub header_update : Update
-header_update = record { build = with_header; log = []; scanned = λ path. bytes_eq path b_path; digest = λ bytes. bytes; by_digest = false; all = false; quit = false; jobs = 1 }
+header_update = record { build = with_header; log = []; scanned = λ path. bytes_eq path b_path; unscanned = λ path bytes none. λ i. if none i then header ∷ [] else []; digest = λ bytes. bytes; by_digest = false; all = false; quit = false; jobs = 1 }
 
 -- the including file is made first, though its step is not the lowest
 abbrev pub b_made : List ChildEvent

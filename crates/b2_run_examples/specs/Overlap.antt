@@ -1,4 +1,4 @@
-use Rattle.std.specs.Prelude.{ℕ, true, false, List, [], ◌∷◌, Some, None, codes, if◌then◌else◌}
+use Rattle.std.specs.Prelude.{ℕ, true, false, List, [], ◌∷◌, Some, None, codes, refl, if◌then◌else◌}
 use Rattle.std.specs.List.{flat_map}
 use Rattle.std.specs.Str.{bytes_eq}
 use Rattle.b2_host.specs.declared.children.ChildEvent.{ChildEvent}
@@ -40,7 +40,7 @@ three_copies = record {
 
 -- they are built for the first time, two at once
 abbrev pub two_at_once : Update
-two_at_once = record { build = three_copies; log = []; scanned = λ path. false; digest = λ bytes. bytes; by_digest = false; all = false; quit = false; jobs = 2 }
+two_at_once = record { build = three_copies; log = []; scanned = λ path. false; unscanned = λ path bytes e. refl; digest = λ bytes. bytes; by_digest = false; all = false; quit = false; jobs = 2 }
 
 -- The second child ends first, so the step that waits for it starts while the first child still runs.
 abbrev pub overlapping : List ChildEvent

@@ -51,7 +51,7 @@ start_is_fed u events disk i can apart sound =
     }
 
 -- the members of an open step's closure are settled
-open_inside : (u : Update) (events : List ChildEvent) → Apart u.build.steps u.build.roots → IsRunSoFar u events → (child : Child) → (a : IsAtWork u events child) → (member : List ℕ) (value : Value) → Contains a.fed.members (member, value) → Settled u events member
+pub open_inside : (u : Update) (events : List ChildEvent) → Apart u.build.steps u.build.roots → IsRunSoFar u events → (child : Child) → (a : IsAtWork u events child) → (member : List ℕ) (value : Value) → Contains a.fed.members (member, value) → Settled u events member
 open_inside u events apart run child a m y c =
     let (others, on) = started_has_closure u events child.step a.fed.step apart run a.is_open.0 a.fed.at in
     let (close_other, inside) = (close_on_settled u events a.fed.step others apart).0 on in

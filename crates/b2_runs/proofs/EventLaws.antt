@@ -5,11 +5,13 @@ use Rattle.std.proofs.lemmas.List.Sums.{sum_by-append}
 use Rattle.std.proofs.lemmas.List.Elements.{Contains-append_left, Contains-push, Contains-push_cases}
 use Rattle.b2_host.specs.declared.children.ChildEvent.{ChildEvent}
 use Rattle.b2_host.specs.declared.children.ChildEvent.TheVariants.{Start, Done}
+use Rattle.b2_plan.specs.declared.step.Step.{Step}
+use Rattle.b2_plan.specs.Plans.{step_at}
 use Rattle.b2_runs.specs.Staleness.{Update}
-use Rattle.b2_runs.specs.Events.{is_start, is_done, AreOnce, MayFollow, FollowFrom, is_among, counted, as_counted}
+use Rattle.b2_runs.specs.Events.{is_start, is_done, AreOnce, MayFollow, FollowFrom, is_among, counted, as_counted, AreShort, ShortTold}
 use Rattle.b2_runs.specs.Runs.{MayCome, RunFrom, OpenEnds}
-use Rattle.b2_runs.specs.EventLaws.{OrderGoesOn, OrderHasBegun, OpenWithinJobs, DoneWasStarted, DoneOnce, EachEventOnce, RunIsInOrder, BegunIsInOrder, CountedInOrder, BadByCount, GoodByCount, CountedAsTheyAre}
-use Rattle.b2_runs.proofs.ElementLemmas.{Contains_here, Contains_there, Contains_cases, Contains_nil}
+use Rattle.b2_runs.specs.EventLaws.{OrderGoesOn, OrderHasBegun, OpenWithinJobs, DoneWasStarted, DoneOnce, EachEventOnce, RunIsInOrder, BegunIsInOrder, CountedInOrder, BadByCount, GoodByCount, CountedAsTheyAre, CountedWhereVisible, ShortIsFailed, ShortOwesFiles}
+use Rattle.b2_runs.proofs.ElementLemmas.{one_step, Contains_here, Contains_there, Contains_cases, Contains_nil}
 
 -- what one event more holds of starts and ends
 pub start_in_start : (events : List ChildEvent) (i k : ℕ) → Contains (events ++ Start i ∷ []) (Start k) → Contains events (Start k) ⊎ (i ≡ k)
@@ -26,23 +28,23 @@ done_in_done events i k well w c = elim (Contains-push_cases events (Done i well
 
 -- ---- in order
 
-order_push : (jobs : ℕ) (before events : List ChildEvent) (event : ChildEvent) → FollowFrom jobs before events → MayFollow jobs (before ++ events) event → FollowFrom jobs before (events ++ event ∷ [])
-order_push jobs before [] event r m = (subst (λ es. MayFollow jobs es event) (append-nil before) m, tt)
-order_push jobs before (e ∷ events) event (m_e, r) m = (m_e, order_push jobs (before ++ e ∷ []) events event r (subst (λ es. MayFollow jobs es event) (sym (append_assoc before (e ∷ []) events)) m))
+order_push : (steps : List Step) (jobs : ℕ) (before events : List ChildEvent) (event : ChildEvent) → FollowFrom steps jobs before events → MayFollow steps jobs (before ++ events) event → FollowFrom steps jobs before (events ++ event ∷ [])
+order_push steps jobs before [] event r m = (subst (λ es. MayFollow steps jobs es event) (append-nil before) m, tt)
+order_push steps jobs before (e ∷ events) event (m_e, r) m = (m_e, order_push steps jobs (before ++ e ∷ []) events event r (subst (λ es. MayFollow steps jobs es event) (sym (append_assoc before (e ∷ []) events)) m))
 
 pub order_goes_on : OrderGoesOn
-order_goes_on jobs events event r m = order_push jobs [] events event r m
+order_goes_on steps jobs events event r m = order_push steps jobs [] events event r m
 
-order_front : (jobs : ℕ) (before front rest : List ChildEvent) → FollowFrom jobs before (front ++ rest) → FollowFrom jobs before front
-order_front jobs before [] rest r = tt
-order_front jobs before (e ∷ front) rest (m, r) = (m, order_front jobs (before ++ e ∷ []) front rest r)
+order_front : (steps : List Step) (jobs : ℕ) (before front rest : List ChildEvent) → FollowFrom steps jobs before (front ++ rest) → FollowFrom steps jobs before front
+order_front steps jobs before [] rest r = tt
+order_front steps jobs before (e ∷ front) rest (m, r) = (m, order_front steps jobs (before ++ e ∷ []) front rest r)
 
 pub order_has_begun : OrderHasBegun
-order_has_begun jobs front rest r = order_front jobs [] front rest r
+order_has_begun steps jobs front rest r = order_front steps jobs [] front rest r
 
-order_append : (jobs : ℕ) (before front rest : List ChildEvent) → FollowFrom jobs before front → FollowFrom jobs (before ++ front) rest → FollowFrom jobs before (front ++ rest)
-order_append jobs before [] rest r s = subst (λ es. FollowFrom jobs es rest) (append-nil before) s
-order_append jobs before (e ∷ front) rest (m, r) s = (m, order_append jobs (before ++ e ∷ []) front rest r (subst (λ es. FollowFrom jobs es rest) (sym (append_assoc before (e ∷ []) front)) s))
+order_append : (steps : List Step) (jobs : ℕ) (before front rest : List ChildEvent) → FollowFrom steps jobs before front → FollowFrom steps jobs (before ++ front) rest → FollowFrom steps jobs before (front ++ rest)
+order_append steps jobs before [] rest r s = subst (λ es. FollowFrom steps jobs es rest) (append-nil before) s
+order_append steps jobs before (e ∷ front) rest (m, r) s = (m, order_append steps jobs (before ++ e ∷ []) front rest r (subst (λ es. FollowFrom steps jobs es rest) (sym (append_assoc before (e ∷ []) front)) s))
 
 pub count_one : (p : ChildEvent → Bool) (events : List ChildEvent) (e : ChildEvent) → count_by p (events ++ e ∷ []) ≡ count_by p events + cond (p e) 1 0
 count_one p events e = let f = sum_by-append (λ x. cond (p x) 1 0) events (e ∷ []) in omega arith
@@ -50,68 +52,68 @@ count_one p events e = let f = sum_by-append (λ x. cond (p x) 1 0) events (e �
 pub count_first : (p : ChildEvent → Bool) (events : List ChildEvent) (e : ChildEvent) → count_by p (e ∷ events) ≡ cond (p e) 1 0 + count_by p events
 count_first p events e = let f = sum_by-append (λ x. cond (p x) 1 0) (e ∷ []) events in omega arith
 
-within_along : (jobs : ℕ) (before events : List ChildEvent) → FollowFrom jobs before events → count_by is_start before ≤ count_by is_done before + jobs → count_by is_start (before ++ events) ≤ count_by is_done (before ++ events) + jobs
-within_along jobs before [] r h = subst (λ es. count_by is_start es ≤ count_by is_done es + jobs) (sym (append-nil before)) h
-within_along jobs before (Start i ∷ events) (m, r) h =
+within_along : (steps : List Step) (jobs : ℕ) (before events : List ChildEvent) → FollowFrom steps jobs before events → count_by is_start before ≤ count_by is_done before + jobs → count_by is_start (before ++ events) ≤ count_by is_done (before ++ events) + jobs
+within_along steps jobs before [] r h = subst (λ es. count_by is_start es ≤ count_by is_done es + jobs) (sym (append-nil before)) h
+within_along steps jobs before (Start i ∷ events) (m, r) h =
     let room = m.1 in
     let f = count_one is_start before (Start i) in
     let g = count_one is_done before (Start i) in
-    subst (λ es. count_by is_start es ≤ count_by is_done es + jobs) (append_assoc before (Start i ∷ []) events) (within_along jobs (before ++ Start i ∷ []) events r (omega arith))
-within_along jobs before (Done i well ∷ events) (m, r) h =
+    subst (λ es. count_by is_start es ≤ count_by is_done es + jobs) (append_assoc before (Start i ∷ []) events) (within_along steps jobs (before ++ Start i ∷ []) events r (omega arith))
+within_along steps jobs before (Done i well ∷ events) (m, r) h =
     let f = count_one is_start before (Done i well) in
     let g = count_one is_done before (Done i well) in
-    subst (λ es. count_by is_start es ≤ count_by is_done es + jobs) (append_assoc before (Done i well ∷ []) events) (within_along jobs (before ++ Done i well ∷ []) events r (omega arith))
+    subst (λ es. count_by is_start es ≤ count_by is_done es + jobs) (append_assoc before (Done i well ∷ []) events) (within_along steps jobs (before ++ Done i well ∷ []) events r (omega arith))
 
 -- no more steps are open than there are jobs
 pub open_within_jobs : OpenWithinJobs
-open_within_jobs jobs front rest r = within_along jobs [] front (order_front jobs [] front rest r) (omega arith)
+open_within_jobs steps jobs front rest r = within_along steps jobs [] front (order_front steps jobs [] front rest r) (omega arith)
 
 -- a step that is done was started
-order_done : (jobs : ℕ) (before events : List ChildEvent) (i : ℕ) (well : Bool) → ((k : ℕ) (w : Bool) → Contains before (Done k w) → Contains before (Start k)) → FollowFrom jobs before events → Contains events (Done i well) → Contains (before ++ events) (Start i)
-order_done jobs before [] i well known r c = absurd (Contains_nil (Done i well) c)
-order_done jobs before (e ∷ events) i well known (m, r) c = elim (Contains_cases e (Done i well) events c) [
-  | inl same ↦ Contains-append_left before (e ∷ events) (Start i) (let h : MayFollow jobs before (Done i well) = subst (MayFollow jobs before) same m in h.0)
-  | inr later ↦ subst (λ es. Contains es (Start i)) (append_assoc before (e ∷ []) events) (order_done jobs (before ++ e ∷ []) events i well more r later)
+order_done : (steps : List Step) (jobs : ℕ) (before events : List ChildEvent) (i : ℕ) (well : Bool) → ((k : ℕ) (w : Bool) → Contains before (Done k w) → Contains before (Start k)) → FollowFrom steps jobs before events → Contains events (Done i well) → Contains (before ++ events) (Start i)
+order_done steps jobs before [] i well known r c = absurd (Contains_nil (Done i well) c)
+order_done steps jobs before (e ∷ events) i well known (m, r) c = elim (Contains_cases e (Done i well) events c) [
+  | inl same ↦ Contains-append_left before (e ∷ events) (Start i) (let h : MayFollow steps jobs before (Done i well) = subst (MayFollow steps jobs before) same m in h.0)
+  | inr later ↦ subst (λ es. Contains es (Start i)) (append_assoc before (e ∷ []) events) (order_done steps jobs (before ++ e ∷ []) events i well more r later)
 ]
   where
     more : (k : ℕ) (w : Bool) → Contains (before ++ e ∷ []) (Done k w) → Contains (before ++ e ∷ []) (Start k)
     more k w d = Contains-append_left before (e ∷ []) (Start k) (elim (Contains-push_cases before e (Done k w) d) [
       | inl old ↦ known k w old
-      | inr new ↦ (let h : MayFollow jobs before (Done k w) = subst (MayFollow jobs before) new m in h.0)
+      | inr new ↦ (let h : MayFollow steps jobs before (Done k w) = subst (MayFollow steps jobs before) new m in h.0)
     ])
 
 pub done_was_started : DoneWasStarted
-done_was_started jobs events i well r c = order_done jobs [] events i well (λ k w d. absurd (Contains_nil (Done k w) d)) r c
+done_was_started steps jobs events i well r c = order_done steps jobs [] events i well (λ k w d. absurd (Contains_nil (Done k w) d)) r c
 
 -- no step that was done before is done later
-once_before : (jobs : ℕ) (before events : List ChildEvent) (i : ℕ) (well other : Bool) → FollowFrom jobs before events → Contains before (Done i well) → Contains events (Done i other) → ⊥
-once_before jobs before [] i well other r old c = Contains_nil (Done i other) c
-once_before jobs before (e ∷ events) i well other (m, r) old c = elim (Contains_cases e (Done i other) events c) [
-  | inl same ↦ (let h : MayFollow jobs before (Done i other) = subst (MayFollow jobs before) same m in h.1 well old)
-  | inr later ↦ once_before jobs (before ++ e ∷ []) events i well other r (Contains-append_left before (e ∷ []) (Done i well) old) later
+once_before : (steps : List Step) (jobs : ℕ) (before events : List ChildEvent) (i : ℕ) (well other : Bool) → FollowFrom steps jobs before events → Contains before (Done i well) → Contains events (Done i other) → ⊥
+once_before steps jobs before [] i well other r old c = Contains_nil (Done i other) c
+once_before steps jobs before (e ∷ events) i well other (m, r) old c = elim (Contains_cases e (Done i other) events c) [
+  | inl same ↦ (let h : MayFollow steps jobs before (Done i other) = subst (MayFollow steps jobs before) same m in h.1 well old)
+  | inr later ↦ once_before steps jobs (before ++ e ∷ []) events i well other r (Contains-append_left before (e ∷ []) (Done i well) old) later
 ]
 
-order_once : (jobs : ℕ) (before events : List ChildEvent) (i : ℕ) (well other : Bool) → FollowFrom jobs before events → Contains events (Done i well) → Contains events (Done i other) → well ≡ other
-order_once jobs before [] i well other r c d = absurd (Contains_nil (Done i well) c)
-order_once jobs before (e ∷ events) i well other (m, r) c d = go (Contains_cases e (Done i well) events c) (Contains_cases e (Done i other) events d) (order_once jobs (before ++ e ∷ []) events i well other r)
+order_once : (steps : List Step) (jobs : ℕ) (before events : List ChildEvent) (i : ℕ) (well other : Bool) → FollowFrom steps jobs before events → Contains events (Done i well) → Contains events (Done i other) → well ≡ other
+order_once steps jobs before [] i well other r c d = absurd (Contains_nil (Done i well) c)
+order_once steps jobs before (e ∷ events) i well other (m, r) c d = go (Contains_cases e (Done i well) events c) (Contains_cases e (Done i other) events d) (order_once steps jobs (before ++ e ∷ []) events i well other r)
   where
     here : (w : Bool) → e ≡ Done i w → Contains (before ++ e ∷ []) (Done i w)
     here w same = subst (λ x. Contains (before ++ e ∷ []) x) same (Contains-push before e)
 
     go : (e ≡ Done i well) ⊎ Contains events (Done i well) → (e ≡ Done i other) ⊎ Contains events (Done i other) → (Contains events (Done i well) → Contains events (Done i other) → well ≡ other) → well ≡ other
     go (inl p) (inl q) later = let f : Done i well ≡ Done i other = sym p ∙ q in cc
-    go (inl p) (inr q) later = absurd (once_before jobs (before ++ e ∷ []) events i well other r (here well p) q)
-    go (inr p) (inl q) later = absurd (once_before jobs (before ++ e ∷ []) events i other well r (here other q) p)
+    go (inl p) (inr q) later = absurd (once_before steps jobs (before ++ e ∷ []) events i well other r (here well p) q)
+    go (inr p) (inl q) later = absurd (once_before steps jobs (before ++ e ∷ []) events i other well r (here other q) p)
     go (inr p) (inr q) later = later p q
 
 pub done_once : DoneOnce
-done_once jobs events i well other r c d = order_once jobs [] events i well other r c d
+done_once steps jobs events i well other r c d = order_once steps jobs [] events i well other r c d
 
 -- no event that was there before comes later, and none comes twice
-order_each : (jobs : ℕ) (before events : List ChildEvent) → FollowFrom jobs before events → ((event : ChildEvent) → Contains events event → Contains before event → ⊥) × AreOnce events
-order_each jobs before [] r = (λ event c old. Contains_nil event c, tt)
-order_each jobs before (e ∷ events) (m, r) =
-    let (new, once) = order_each jobs (before ++ e ∷ []) events r in (
+order_each : (steps : List Step) (jobs : ℕ) (before events : List ChildEvent) → FollowFrom steps jobs before events → ((event : ChildEvent) → Contains events event → Contains before event → ⊥) × AreOnce events
+order_each steps jobs before [] r = (λ event c old. Contains_nil event c, tt)
+order_each steps jobs before (e ∷ events) (m, r) =
+    let (new, once) = order_each steps jobs (before ++ e ∷ []) events r in (
       λ event c old. elim (Contains_cases e event events c) [
         | inl same ↦ first e m (subst (Contains before) (sym same) old)
         | inr later ↦ new event later (Contains-append_left before (e ∷ []) event old)
@@ -119,19 +121,19 @@ order_each jobs before (e ∷ events) (m, r) =
       (λ c. new e c (Contains-push before e), once),
     )
   where
-    first : (event : ChildEvent) → MayFollow jobs before event → Contains before event → ⊥
+    first : (event : ChildEvent) → MayFollow steps jobs before event → Contains before event → ⊥
     first (Start i) may old = may.0 old
     first (Done i well) may old = may.1 well old
 
 pub each_event_once : EachEventOnce
-each_event_once jobs events r = (order_each jobs [] events r).1
+each_event_once steps jobs events r = (order_each steps jobs [] events r).1
 
 -- what may come may follow
-may_follow : (u : Update) (before : List ChildEvent) (event : ChildEvent) → MayCome u before event → MayFollow u.jobs before event
-may_follow u before (Start i) may = (may.0.not_started, may.0.room)
+may_follow : (u : Update) (before : List ChildEvent) (event : ChildEvent) → MayCome u before event → MayFollow u.build.steps u.jobs before event
+may_follow u before (Start i) may = (may.0.not_started, may.0.room, (may.0.step, may.0.at))
 may_follow u before (Done i well) may = may.0
 
-run_follows : (u : Update) (before events : List ChildEvent) → RunFrom u before events → FollowFrom u.jobs before events
+run_follows : (u : Update) (before events : List ChildEvent) → RunFrom u before events → FollowFrom u.build.steps u.jobs before events
 run_follows u before [] r = tt
 run_follows u before (e ∷ events) (m, r) = (may_follow u before e m, run_follows u (before ++ e ∷ []) events r)
 
@@ -139,13 +141,13 @@ pub run_is_in_order : RunIsInOrder
 run_is_in_order u events r = run_follows u [] events r
 
 -- ends of open steps may follow
-ends_follow : (jobs : ℕ) (before rest : List ChildEvent) → OpenEnds before rest → FollowFrom jobs before rest
-ends_follow jobs before [] ends = tt
-ends_follow jobs before (Start i ∷ rest) ends = absurd ends.0
-ends_follow jobs before (Done i well ∷ rest) ends = (ends.0, ends_follow jobs (before ++ Done i well ∷ []) rest ends.1)
+ends_follow : (steps : List Step) (jobs : ℕ) (before rest : List ChildEvent) → OpenEnds before rest → FollowFrom steps jobs before rest
+ends_follow steps jobs before [] ends = tt
+ends_follow steps jobs before (Start i ∷ rest) ends = absurd ends.0
+ends_follow steps jobs before (Done i well ∷ rest) ends = (ends.0, ends_follow steps jobs (before ++ Done i well ∷ []) rest ends.1)
 
 pub begun_is_in_order : BegunIsInOrder
-begun_is_in_order u events b = subst (FollowFrom u.jobs []) (sym b.whole) (order_append u.jobs [] b.front b.rest (run_is_in_order u b.front b.run) (ends_follow u.jobs b.front b.rest b.ends))
+begun_is_in_order u events b = subst (FollowFrom u.build.steps u.jobs []) (sym b.whole) (order_append u.build.steps u.jobs [] b.front b.rest (run_is_in_order u b.front b.run) (ends_follow u.build.steps u.jobs b.front b.rest b.ends))
 
 -- ---- as they count
 
@@ -195,20 +197,20 @@ done_count short (Start i ∷ events) = count_first is_done (as_counted short ev
 done_count short (Done i well ∷ events) =
     count_first is_done (as_counted short events) (counted short (Done i well)) ∙ ap (λ n. 1 + n) (done_count short events) ∙ sym (count_first is_done events (Done i well))
 
-follows_counted : (jobs : ℕ) (short : List ℕ) (before : List ChildEvent) (e : ChildEvent) → MayFollow jobs before e → MayFollow jobs (as_counted short before) (counted short e)
-follows_counted jobs short before (Start i) (new, room) = (λ c. new (start_out short before i c), (let f = start_count short before in let g = done_count short before in omega (arith, room)))
-follows_counted jobs short before (Done i well) (begun, going) = (counted_in short before (Start i) begun, λ w c. let (v, there, kind) = done_out short before i w c in going v there)
+follows_counted : (steps : List Step) (jobs : ℕ) (short : List ℕ) (before : List ChildEvent) (e : ChildEvent) → MayFollow steps jobs before e → MayFollow steps jobs (as_counted short before) (counted short e)
+follows_counted steps jobs short before (Start i) (new, room, there) = (λ c. new (start_out short before i c), (let f = start_count short before in let g = done_count short before in omega (arith, room)), there)
+follows_counted steps jobs short before (Done i well) (begun, going) = (counted_in short before (Start i) begun, λ w c. let (v, there, kind) = done_out short before i w c in going v there)
 
 counted_append : (short : List ℕ) (before : List ChildEvent) (e : ChildEvent) → as_counted short before ++ counted short e ∷ [] ≡ as_counted short (before ++ e ∷ [])
 counted_append short [] e = refl
 counted_append short (x ∷ xs) e = ap (λ (l : List ChildEvent). counted short x ∷ l) (counted_append short xs e)
 
-counted_along : (jobs : ℕ) (short : List ℕ) (before events : List ChildEvent) → FollowFrom jobs before events → FollowFrom jobs (as_counted short before) (as_counted short events)
-counted_along jobs short before [] r = tt
-counted_along jobs short before (e ∷ events) (m, r) = (follows_counted jobs short before e m, subst (λ es. FollowFrom jobs es (as_counted short events)) (sym (counted_append short before e)) (counted_along jobs short (before ++ e ∷ []) events r))
+counted_along : (steps : List Step) (jobs : ℕ) (short : List ℕ) (before events : List ChildEvent) → FollowFrom steps jobs before events → FollowFrom steps jobs (as_counted short before) (as_counted short events)
+counted_along steps jobs short before [] r = tt
+counted_along steps jobs short before (e ∷ events) (m, r) = (follows_counted steps jobs short before e m, subst (λ es. FollowFrom steps jobs es (as_counted short events)) (sym (counted_append short before e)) (counted_along steps jobs short (before ++ e ∷ []) events r))
 
 pub counted_in_order : CountedInOrder
-counted_in_order jobs short events r = counted_along jobs short [] events r
+counted_in_order steps jobs short events r = counted_along steps jobs short [] events r
 
 -- whether a number is among others
 among_cases : (i x : ℕ) (xs : List ℕ) (t : Bool) → (x == i) ≡ t → (t || is_among i xs) ≡ true → (is_among i xs ≡ true → Contains xs i) → Contains (x ∷ xs) i
@@ -277,3 +279,16 @@ pub counted_as_they_are : CountedAsTheyAre
 counted_as_they_are [] = refl
 counted_as_they_are (Start i ∷ events) = ap (λ (l : List ChildEvent). Start i ∷ l) (counted_as_they_are events)
 counted_as_they_are (Done i well ∷ events) = let first = and_true well in let rest = counted_as_they_are events in λ k. Done i (first k) ∷ rest k
+
+pub counted_where_visible : CountedWhereVisible
+counted_where_visible disk short events none = ap (λ (l : List ℕ). as_counted l events) none ∙ counted_as_they_are events
+
+pub short_is_failed : ShortIsFailed
+short_is_failed steps events short i are c = (bad_by_count short events i).1 (inr ((are i c).0, c))
+
+pub short_owes_files : ShortOwesFiles
+short_owes_files steps events short i step are at none c =
+    let (other, at_other, file) = (are i c).1 in
+    let same : other ≡ step = one_step steps i other step at_other at in
+    let f : true ≡ false = sym none ∙ ap (λ (s : Step). s.notfile) (sym same) ∙ file in
+    cc

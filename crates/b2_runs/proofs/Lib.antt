@@ -27,7 +27,11 @@ pub mod StepCycleIsOne
 pub mod StepCycleIsThere
 pub mod TakenOut
 pub mod ChildLaws
+pub mod PlanChildren
+pub mod ReadLaws
 pub mod LogFileLaws
 pub mod ProperLines
 pub mod LogCourseLaws
+pub mod LogAlong
+pub mod LogAtExit
 pub mod RunIsPrefix

@@ -116,7 +116,7 @@ kept_if : (b : Bool) (line : LogLine) (later : List LogLine) (x : LogLine) → C
 kept_if true line later x c = Contains_cases line x (kept later) c
 kept_if false line later x c = inr c
 
-kept_among : (log : List LogLine) (x : LogLine) → Contains (kept log) x → Contains log x
+pub kept_among : (log : List LogLine) (x : LogLine) → Contains (kept log) x → Contains log x
 kept_among [] x c = c
 kept_among (line ∷ later) x c = elim (kept_if (is_kept line later) line later x c) [
   | inl e ↦ subst (λ z. Contains (line ∷ later) z) e (Contains_here line later)

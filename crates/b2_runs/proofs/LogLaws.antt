@@ -1,5 +1,6 @@
-use Rattle.std.proofs.Common.{◌≡◌, ◌==◌, ℕ, Bool, true, false, List, [], ◌∷◌, inl, inr, refl, ap, subst, ◌∙◌, Option, Some, None, map, option_and_then, if◌then◌else◌, eqb-true}
+use Rattle.std.proofs.Common.{◌≡◌, ◌==◌, ℕ, Bool, true, false, List, [], ◌∷◌, ◌++◌, inl, inr, refl, ap, subst, ◌∙◌, Option, Some, None, map, option_and_then, if◌then◌else◌, eqb-true}
 use Rattle.std.specs.List.{Contains, AllZip}
+use Rattle.std.proofs.lemmas.Bool.Decides.{Decides-eqb}
 use Rattle.std.proofs.lemmas.List.Elements.{Contains-push_cases, Contains-append_left}
 use Rattle.b2_host.specs.Disks.{Past}
 use Rattle.b2_log.specs.declared.line.Record.{Record}
@@ -8,7 +9,7 @@ use Rattle.b2_log.specs.declared.line.LogLine.{LogLine}
 use Rattle.b2_log.specs.declared.line.LogLine.TheVariants as lines
 use Rattle.b2_log.specs.declared.subject.Subject.{Subject}
 use Rattle.b2_log.specs.declared.subject.Subject.TheVariants as subjects
-use Rattle.b2_log.specs.Finding.{path_of, subject_of, told, record_in, scan_in, find_record}
+use Rattle.b2_log.specs.Finding.{path_of, subject_of, told, record_in, scan_in, find_record, find_scan}
 use Rattle.b2_log.proofs.LastLines as telling
 use Rattle.b2_runs.specs.Logs.{Making, InputStood, IsTrueRecord, IsTrueScan, IsTrueLine, LogTrue}
 use Rattle.b2_runs.specs.LogLaws.{FoundIsThere, ScanIsThere, LastRecord, LastDrop, OthersUnsaid, OthersUnsaidThoughTorn, TrueByKind, EmptyIsTrue, LineTrueAsPastGrows, TrueAsPastGrows, TrueWithLine, TruePrefix, TrueAfterTornAppend, TrueWithFewer, ScansTrueWithLine, ScansTrueAsPastGrows, ScansTrueWithFewer}
@@ -28,7 +29,7 @@ path_seen : Subject → List ℕ
 path_seen (subjects.Outputs outs) = []
 path_seen (subjects.Scanned path) = path
 
-path_same : (path other : List ℕ) → subjects.Scanned path ≡ subjects.Scanned other → path ≡ other
+pub path_same : (path other : List ℕ) → subjects.Scanned path ≡ subjects.Scanned other → path ≡ other
 unfolding path_seen
 path_same path other e = ap path_seen e
 
@@ -139,3 +140,15 @@ scans_true_as_past_grows m past more log grows old s c = scan_grows m past more 
 
 pub scans_true_with_fewer : ScansTrueWithFewer
 scans_true_with_fewer m past log kept among whole s c = whole s (among (lines.Scan s) c)
+
+-- a line says nothing of a scan of another path
+pub scans_unsaid : (path : List ℕ) (stamp : ℕ) (log : List LogLine) (line : LogLine) → (subject_of line ≡ subjects.Scanned path → ⊥) → find_scan path stamp (log ++ line ∷ []) ≡ find_scan path stamp log
+scans_unsaid path stamp log line differ = ap (option_and_then (scan_in stamp)) (telling.others_unsaid (subjects.Scanned path) log line differ)
+
+-- outputs are no path that was scanned
+pub outs_not_scanned : (outs : List (List ℕ)) (path : List ℕ) → subjects.Outputs outs ≡ subjects.Scanned path → ⊥
+outs_not_scanned outs path e = let f : subjects.Outputs outs ≡ subjects.Scanned path = e in cc
+
+-- a scan line at the end has the last word on its path
+pub last_scan : (log : List LogLine) (s : ScanLine) → find_scan s.path s.stamp (log ++ lines.Scan s ∷ []) ≡ Some s
+last_scan log s = ap (option_and_then (scan_in s.stamp)) (telling.last_word log (lines.Scan s)) ∙ (let e : (s.stamp == s.stamp) ≡ true = (Decides-eqb s.stamp s.stamp).1 refl in ap (λ t. if t then Some s else None) e)

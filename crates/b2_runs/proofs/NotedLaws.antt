@@ -72,7 +72,7 @@ pub settled_still : (u : Update) (events : List ChildEvent) (before after : Disk
 settled_still u events before after apart d path s = d.others path (settled_not_log u events apart path s) (λ i step makes loose. loose_not_settled u events apart i loose step path makes s)
 
 -- the members of a step that is done well are settled
-done_inside : (u : Update) (events : List ChildEvent) → Apart u.build.steps u.build.roots → IsRunSoFar u events → (i : ℕ) (step : Step) (members : List (List ℕ × Value)) → step_at u.build.steps i ≡ Some step → Contains events (Start i) → IsClose u.build (Clean u.build) step members
+pub done_inside : (u : Update) (events : List ChildEvent) → Apart u.build.steps u.build.roots → IsRunSoFar u events → (i : ℕ) (step : Step) (members : List (List ℕ × Value)) → step_at u.build.steps i ≡ Some step → Contains events (Start i) → IsClose u.build (Clean u.build) step members
     → (member : List ℕ) (value : Value) → Contains members (member, value) → Settled u events member
 done_inside u events apart run i step members at started close m y c =
     let (others, on) = started_has_closure u events i step apart run started at in

@@ -3,6 +3,7 @@ use Rattle.std.specs.List.{Contains}
 use Rattle.std.proofs.lemmas.List.Elements.{Contains-append_left, Contains-push}
 use Rattle.b2_host.specs.declared.children.ChildEvent.{ChildEvent}
 use Rattle.b2_host.specs.declared.children.ChildEvent.TheVariants.{Start, Done}
+use Rattle.b2_plan.specs.declared.step.Step.{Step}
 use Rattle.b2_runs.specs.Events.{IsOpen, is_start, is_done, FollowFrom, AreInOrder}
 use Rattle.b2_runs.specs.StuckLaws.{StartsAreDone}
 use Rattle.b2_runs.proofs.ElementLemmas.{Contains_here, Contains_there, Contains_cases, Contains_nil}
@@ -91,14 +92,14 @@ opens_done events i well opens o opened w = record {
   ];
 }
 
-opens_along : (jobs : ℕ) (before events : List ChildEvent) (opens : List ℕ) → AreOpens before opens → FollowFrom jobs before events → (later : List ℕ) × AreOpens (before ++ events) later
-opens_along jobs before [] opens o r = (opens, subst (λ es. AreOpens es opens) (sym (append-nil before)) o)
-opens_along jobs before (Start i ∷ events) opens o (m, r) =
-    let (later, all) = opens_along jobs (before ++ Start i ∷ []) events (i ∷ opens) (opens_start before i opens o m.0) r in
+opens_along : (steps : List Step) (jobs : ℕ) (before events : List ChildEvent) (opens : List ℕ) → AreOpens before opens → FollowFrom steps jobs before events → (later : List ℕ) × AreOpens (before ++ events) later
+opens_along steps jobs before [] opens o r = (opens, subst (λ es. AreOpens es opens) (sym (append-nil before)) o)
+opens_along steps jobs before (Start i ∷ events) opens o (m, r) =
+    let (later, all) = opens_along steps jobs (before ++ Start i ∷ []) events (i ∷ opens) (opens_start before i opens o m.0) r in
     (later, subst (λ es. AreOpens es later) (append_assoc before (Start i ∷ []) events) all)
-opens_along jobs before (Done i well ∷ events) opens o (m, r) =
+opens_along steps jobs before (Done i well ∷ events) opens o (m, r) =
     let w = without opens i o.apart (o.whole i m) in
-    let (later, all) = opens_along jobs (before ++ Done i well ∷ []) events w.rest (opens_done before i well opens o m w) r in
+    let (later, all) = opens_along steps jobs (before ++ Done i well ∷ []) events w.rest (opens_done before i well opens o m w) r in
     (later, subst (λ es. AreOpens es later) (append_assoc before (Done i well ∷ []) events) all)
 
 no_opens : AreOpens [] []
@@ -111,12 +112,12 @@ no_opens = record {
 }
 
 -- the steps that are open after events in order
-pub opens_of : (jobs : ℕ) (events : List ChildEvent) → AreInOrder jobs events → (opens : List ℕ) × AreOpens events opens
-opens_of jobs events r = opens_along jobs [] events [] no_opens r
+pub opens_of : (steps : List Step) (jobs : ℕ) (events : List ChildEvent) → AreInOrder steps jobs events → (opens : List ℕ) × AreOpens events opens
+opens_of steps jobs events r = opens_along steps jobs [] events [] no_opens r
 
 -- where nothing is open, as many are done as were started
 pub starts_are_done : StartsAreDone
-starts_are_done u events run none = let (opens, o) = opens_of u.jobs events (run_is_in_order u events run) in go opens o
+starts_are_done u events run none = let (opens, o) = opens_of u.build.steps u.jobs events (run_is_in_order u events run) in go opens o
   where
     go : (opens : List ℕ) → AreOpens events opens → count_by is_start events ≡ count_by is_done events
     go [] o = let h = o.count in omega arith

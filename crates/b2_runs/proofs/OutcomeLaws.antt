@@ -6,11 +6,11 @@ use Rattle.b2_host.specs.declared.children.ChildEvent.TheVariants.{Start, Done}
 use Rattle.b2_plan.specs.declared.step.Step.{Step}
 use Rattle.b2_plan.specs.Plans.{Apart, Makes, step_at}
 use Rattle.b2_plan.specs.Sources.{IsGiven, IsMissing}
-use Rattle.b2_plan.specs.Closures.{Known.input}
+use Rattle.b2_plan.specs.Closures.{Known, Known.input}
 use Rattle.b2_runs.specs.Staleness.{Update}
-use Rattle.b2_runs.specs.Runs.{Settled, Settled.source, Settled.done_well, Settled.fresh, IsRunSoFar}
+use Rattle.b2_runs.specs.Runs.{Settled, Settled.source, Settled.done_well, Settled.fresh, on_settled, Needed, IsRunSoFar}
 use Rattle.b2_runs.specs.Outcomes.{IsFailed, IsLeft, Skipped, Skipped.missing, Skipped.failed, Skipped.skipped, Skipped.quits}
-use Rattle.b2_runs.specs.OutcomeLaws.{OutputsSettleTogether, SkippedExactly, AllWentBySettled, AllWentSettles, AllWentMissesNothing, NothingLeftAtEntry, NothingLeftAfterStart, NothingLeftAfterGoodEnd, NothingLeftAfterBadEnd, NothingLeftThroughWork, NothingLeftAfterRemoval, NothingLeftAfterLine}
+use Rattle.b2_runs.specs.OutcomeLaws.{OutputsSettleTogether, ReachesLost, SkippedExactly, SkippedWhereQuits, AllWentBySettled, AllWentSettles, AllWentMissesNothing, NothingLeftAtEntry, NothingLeftAfterStart, NothingLeftAfterGoodEnd, NothingLeftAfterBadEnd, NothingLeftThroughWork, NothingLeftAfterRemoval, NothingLeftAfterLine}
 use Rattle.b2_runs.proofs.ElementLemmas.{one_step, some_element, Contains_nil}
 use Rattle.b2_runs.proofs.ValueRounds.{source_not_made}
 use Rattle.b2_runs.proofs.LogLaws.{others_unsaid}
@@ -51,8 +51,8 @@ lost_not_settled u events path apart run (inl miss) s = miss (settled_given u ev
 lost_not_settled u events path apart run (inr (k, other, makes, inl bad)) s = failed_is_not_settled u events k other path apart run bad makes s
 lost_not_settled u events path apart run (inr (k, other, makes, inr bad)) s = (skipped_left u events k bad).not_settled (outputs_settle_together u events k other path apart makes s)
 
-pub skipped_exactly : SkippedExactly
-skipped_exactly u events i step path apart run needed at known lost = go lost
+lost_is_skipped : (u : Update) (events : List ChildEvent) (i : ℕ) (step : Step) (path : List ℕ) → Apart u.build.steps u.build.roots → IsRunSoFar u events → Needed u events i → step_at u.build.steps i ≡ Some step → Known u.build (on_settled u events) step path → IsLost u events path → Skipped u events i
+lost_is_skipped u events i step path apart run needed at known lost = go lost
   where
     not_closed : (other : Step) → step_at u.build.steps i ≡ Some other → Settled u events path → ⊥
     not_closed other at_other s = lost_not_settled u events path apart run lost s
@@ -76,6 +76,18 @@ skipped_exactly u events i step path apart run needed at known lost = go lost
     go (inl miss) = missing i step path left at known miss
     go (inr (k, other, makes, inl bad)) = failed i step path k other left at known makes bad
     go (inr (k, other, makes, inr bad)) = skipped i step path k other left at known makes bad
+
+pub skipped_exactly : SkippedExactly
+skipped_exactly u events i apart run needed goes_on = (there, λ r. lost_is_skipped u events i r.step r.path apart run needed r.at r.known r.lost)
+  where
+    there : Skipped u events i → ReachesLost u events i
+    there (missing k step path left at known miss) = record { step = step; at = at; path = path; known = known; lost = inl miss }
+    there (failed k step path j other left at known makes bad) = record { step = step; at = at; path = path; known = known; lost = inr (j, other, makes, inl bad) }
+    there (skipped k step path j other left at known makes bad) = record { step = step; at = at; path = path; known = known; lost = inr (j, other, makes, inr bad) }
+    there (quits k j left quit bad) = absurd (goes_on (record { quit = quit; failed = j; bad = bad }))
+
+pub skipped_where_quits : SkippedWhereQuits
+skipped_where_quits u events i q = (skipped_left u events i, λ left. quits i q.failed left q.quit q.bad)
 
 pub all_went_by_settled : AllWentBySettled
 all_went_by_settled u events given settled none_failed = record {

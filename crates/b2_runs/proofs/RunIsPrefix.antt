@@ -40,7 +40,7 @@ numbers_count (Done i well ∷ events) = let f = numbers_count events in let g =
 -- a run has no more events than twice as many as there are steps, and two
 bounded : (u : Update) (events : List ChildEvent) → Apart u.build.steps u.build.roots → IsRunSoFar u events → count_by is_start events + count_by is_done events ≤ 2 * (length u.build.steps + 1)
 bounded u events apart run =
-    let (opens, o) = opens_of u.jobs events (run_is_in_order u events run) in
+    let (opens, o) = opens_of u.build.steps u.jobs events (run_is_in_order u events run) in
     let most : length (numbers events) ≤ length u.build.steps + 1 = few (numbers events) (length u.build.steps + 1) (numbers_apart events (each_event_once u events run)) below in
     let h = numbers_count events in
     let c = o.count in

@@ -162,15 +162,15 @@ started_has_closure u events i step apart r c at =
 
 -- a step that is done in a run was started
 pub done_was_started : DoneWasStarted
-done_was_started u events i well r c = order.done_was_started u.jobs events i well (run_is_in_order u events r) c
+done_was_started u events i well r c = order.done_was_started u.build.steps u.jobs events i well (run_is_in_order u events r) c
 
 -- a step is done once
 pub done_once : DoneOnce
-done_once u events i well other r c d = order.done_once u.jobs events i well other (run_is_in_order u events r) c d
+done_once u events i well other r c d = order.done_once u.build.steps u.jobs events i well other (run_is_in_order u events r) c d
 
 -- each event of a run is there once
 pub each_event_once : EachEventOnce
-each_event_once u events r = order.each_event_once u.jobs events (run_is_in_order u events r)
+each_event_once u events r = order.each_event_once u.build.steps u.jobs events (run_is_in_order u events r)
 
 -- what is settled in a run has a value in the clean build
 pub settled_has_value : SettledHasValue

@@ -144,7 +144,7 @@ fresh_is_clean u events disk i step path members apart sound makes not_started c
     (clean, settled_holds u events disk apart sound path (value_of u.build step members path) (fresh i step path members makes not_started close inside f) clean)
 
 -- an output that is asked for has bytes
-out_bytes : (b : Build) → Apart b.steps b.roots → (n : ℕ) (i : ℕ) (step : Step) (path : List ℕ) (value : Value) → Makes b.steps i step path → step.notfile ≡ false → Val b n path value → (bytes : List ℕ) × (value ≡ Some bytes)
+pub out_bytes : (b : Build) → Apart b.steps b.roots → (n : ℕ) (i : ℕ) (step : Step) (path : List ℕ) (value : Value) → Makes b.steps i step path → step.notfile ≡ false → Val b n path value → (bytes : List ℕ) × (value ≡ Some bytes)
 out_bytes b apart zero i step path value makes file (bytes, s, e) = (bytes, e)
 out_bytes b apart (suc n) i step path value makes file (inl (bytes, s, e)) = (bytes, e)
 out_bytes b apart (suc n) i step path value makes file (inr s) =

@@ -63,3 +63,12 @@ pub removed_at : {X : Type 0} (R : X → X → Type 0) (xs : List X) (place : �
 removed_at R xs place x at p =
     let e = split_at xs place x at in
     subst (λ l. TakenOut R l (remove xs place) x) (sym e) (taken_out R (take place xs) (drop (suc place) xs) x (subst (AllPairs R) e p))
+
+-- what is left without the element at a place was there
+pub removed_among : {X : Type 0} (xs : List X) (place : ℕ) (x : X) → slice_get xs place ≡ Some x → (y : X) → Contains (remove xs place) y → Contains xs y
+removed_among xs place x at y c =
+    let e = split_at xs place x at in
+    subst (λ l. Contains l y) (sym e) (elim (Contains-append_cases (take place xs) (drop (suc place) xs) y c) [
+      | inl d ↦ Contains-append_left (take place xs) (x ∷ drop (suc place) xs) y d
+      | inr d ↦ Contains-append_right (take place xs) (x ∷ drop (suc place) xs) y (Contains_there x y (drop (suc place) xs) d)
+    ])

@@ -45,12 +45,16 @@ pub record IsMigrated (u : Update) (events : List ChildEvent) (now : List ℕ �
   pub inside : (member : List ℕ) (value : Value) → Contains members (member, value) → Settled u events member
   pub noted : IsNotedStep u now log step members
 
+-- of each step that was done well and owes files, no output is older than a member
+abbrev pub NoneDoneOlder : Update → List ChildEvent → Folder → Type 0
+NoneDoneOlder u events now = (i : ℕ) (step : Step) (members : List (List ℕ × Value)) → step_at u.build.steps i ≡ Some step → Contains events (Done i true) → step.notfile ≡ false → IsClose u.build (Clean u.build) step members → NoneOlder now step members
+
 -- The log has the last word on each step, and the files stand so: of a step that was done well it has the record of the
 -- step and of these files, and no output of it is older than a member; of a step that was not started it says what it
 -- said at entry, or the step has been given a record with digests.
 pub record IsNoted (u : Update) (events : List ChildEvent) (now : List ℕ → Option File) (log : List LogLine) : Type 0 where
   pub recorded : (i : ℕ) (step : Step) (members : List (List ℕ × Value)) → step_at u.build.steps i ≡ Some step → Contains events (Done i true) → step.notfile ≡ false → IsClose u.build (Clean u.build) step members → IsNotedStep u now log step members
-  pub none_older : (i : ℕ) (step : Step) (members : List (List ℕ × Value)) → step_at u.build.steps i ≡ Some step → Contains events (Done i true) → step.notfile ≡ false → IsClose u.build (Clean u.build) step members → NoneOlder now step members
+  pub none_older : NoneDoneOlder u events now
   pub not_started : (i : ℕ) (step : Step) → step_at u.build.steps i ≡ Some step → (Contains events (Start i) → ⊥) → (find_record step.outs log ≡ find_record step.outs u.log) ⊎ IsMigrated u events now log step
 
 -- The step's closure is defined on what is settled, and with it the step is fresh.

@@ -1,13 +1,17 @@
-use Rattle.std.specs.Prelude.{ℕ, Bool, List, [], ◌∷◌, ◌++◌, Some}
+use Rattle.std.specs.Prelude.{◌≡◌, ◌≢◌, ℕ, Bool, true, false, List, [], ◌∷◌, ◌++◌, Option, Some}
+use Rattle.std.specs.List.{Contains}
 use Rattle.b2_host.specs.declared.children.ChildEvent.{ChildEvent}
 use Rattle.b2_host.specs.declared.children.ChildEvent.TheVariants.{Start, Done}
 use Rattle.b2_host.specs.Disks.{Disk}
 use Rattle.b2_host.specs.ChildProcesses.{Given, Child, Family, given_at, after_start, MayStart, Ends}
-use Rattle.b2_plan.specs.Plans.{Apart}
+use Rattle.b2_plan.specs.declared.step.Step.{Step}
+use Rattle.b2_plan.specs.Plans.{Apart, step_at}
 use Rattle.b2_runs.specs.Staleness.{Update, paths_with_bytes}
 use Rattle.b2_runs.specs.Events.{IsOpen}
 use Rattle.b2_runs.specs.Runs.{CanStart, IsRunSoFar, IsFed, AreFed}
+use Rattle.b2_runs.specs.Outcomes.{IsSettledStep}
 use Rattle.b2_runs.specs.Soundness.{IsSound, AreAtWork}
+use Rattle.b2_runs.specs.PlanChildren.{MadeBySettled, ArePlanChildren}
 
 -- what the start of a step gives its child that can start
 abbrev pub start_gives : (u : Update) (events : List ChildEvent) (i : ℕ) → CanStart u events i → Disk → Given
@@ -45,3 +49,29 @@ FedAfterStart = (u : Update) (events : List ChildEvent) (given : List Given) (i 
 -- .. and as one ends
 abbrev pub FedAfterEnd : Type 0
 FedAfterEnd = (u : Update) (events : List ChildEvent) (given : List Given) (i : ℕ) (well : Bool) → AreFed u events given → AreFed u (events ++ Done i well ∷ []) given
+
+-- ---- over every host
+
+-- before any start no child runs
+abbrev pub PlanChildrenAtEntry : Type 0
+PlanChildrenAtEntry = (steps : List Step) (settled : ℕ → Bool) → ArePlanChildren steps settled []
+
+-- a step that is not settled and whose child does not run may start, where it reads what settled steps make
+abbrev pub PlanChildMayStart : Type 0
+PlanChildMayStart = (steps : List Step) (roots : List (List ℕ)) (settled : ℕ → Bool) (running : List Child) (i : ℕ) (step : Step) (ins : List (List ℕ)) → Apart steps roots → ArePlanChildren steps settled running → step_at steps i ≡ Some step → settled i ≡ false
+    → ((child : Child) → Contains running child → child.step ≢ i) → MadeBySettled steps settled ins → MayStart running ins step.outs
+
+-- after its start one such child more runs
+abbrev pub PlanChildrenAfterStart : Type 0
+PlanChildrenAfterStart = (steps : List Step) (settled : ℕ → Bool) (family : Family) (i : ℕ) (step : Step) (ins : List (List ℕ)) (disk : Option Disk) → ArePlanChildren steps settled family.running → step_at steps i ≡ Some step → settled i ≡ false → MadeBySettled steps settled ins
+    → ArePlanChildren steps settled (after_start i step.text ins step.outs disk family).running
+
+-- after an end one child less runs, and its number may be settled then, and others that do not run
+abbrev pub PlanChildrenAfterEnd : Type 0
+PlanChildrenAfterEnd = (steps : List Step) (settled later : ℕ → Bool) (made : List ℕ → List (List ℕ × List ℕ) → List ℕ → List ℕ) (old new : Family) (before after : Option Disk) (i : ℕ) (well : Bool) → ArePlanChildren steps settled old.running → Ends made old before i well new after
+    → ((k : ℕ) → settled k ≡ true → later k ≡ true) → ((child : Child) → Contains new.running child → later child.step ≡ false) → ArePlanChildren steps later new.running
+
+-- children at work are such, where each settled step is told settled and no open one is
+abbrev pub AtWorkIsPlanned : Type 0
+AtWorkIsPlanned = (u : Update) (events : List ChildEvent) (settled : ℕ → Bool) (running : List Child) → Apart u.build.steps u.build.roots → IsRunSoFar u events → AreAtWork u events running → ((i : ℕ) → IsSettledStep u events i → settled i ≡ true) → ((i : ℕ) → IsOpen events i → settled i ≡ false)
+    → ArePlanChildren u.build.steps settled running

@@ -2,6 +2,7 @@ use Rattle.std.specs.Prelude.{◌≡◌, ℕ, ◌+◌, ◌<◌, ◌==◌, Bool, 
 use Rattle.std.specs.List.{Contains, list_any}
 use Rattle.b2_host.specs.declared.children.ChildEvent.{ChildEvent}
 use Rattle.b2_host.specs.declared.children.ChildEvent.TheVariants.{Start, Done}
+use Rattle.b2_host.specs.Disks.{Disk}
 use Rattle.b2_plan.specs.declared.step.Step.{Step}
 use Rattle.b2_plan.specs.Plans.{step_at}
 
@@ -31,18 +32,18 @@ AreOnce (event ∷ events) = (Contains events event → ⊥) × AreOnce events
 
 -- With so many jobs this event may follow those: a start of a step that was not started, while fewer steps are open; or an
 -- end of a step that is open.
-abbrev pub MayFollow : ℕ → List ChildEvent → ChildEvent → Type 0
-MayFollow jobs before (Start i) = (Contains before (Start i) → ⊥) × (count_by is_start before < count_by is_done before + jobs)
-MayFollow jobs before (Done i well) = IsOpen before i
+abbrev pub MayFollow : List Step → ℕ → List ChildEvent → ChildEvent → Type 0
+MayFollow steps jobs before (Start i) = (Contains before (Start i) → ⊥) × (count_by is_start before < count_by is_done before + jobs) × ((step : Step) × (step_at steps i ≡ Some step))
+MayFollow steps jobs before (Done i well) = IsOpen before i
 
 -- these events may follow those, one after another
-abbrev pub FollowFrom : ℕ → List ChildEvent → List ChildEvent → Type 0
-FollowFrom jobs before [] = ⊤
-FollowFrom jobs before (event ∷ events) = MayFollow jobs before event × FollowFrom jobs (before ++ event ∷ []) events
+abbrev pub FollowFrom : List Step → ℕ → List ChildEvent → List ChildEvent → Type 0
+FollowFrom steps jobs before [] = ⊤
+FollowFrom steps jobs before (event ∷ events) = MayFollow steps jobs before event × FollowFrom steps jobs (before ++ event ∷ []) events
 
--- what the events of an update with so many jobs may be, over every host
-abbrev pub AreInOrder : ℕ → List ChildEvent → Type 0
-AreInOrder jobs events = FollowFrom jobs [] events
+-- what the events of an update of these steps with so many jobs may be, over every host
+abbrev pub AreInOrder : List Step → ℕ → List ChildEvent → Type 0
+AreInOrder steps jobs events = FollowFrom steps jobs [] events
 
 -- whether a number is among these
 abbrev pub is_among : ℕ → List ℕ → Bool
@@ -60,3 +61,8 @@ as_counted short events = map (counted short) events
 -- the steps that left an output out: each ended with status 0 and owes a file at each output
 abbrev pub AreShort : List Step → List ChildEvent → List ℕ → Type 0
 AreShort steps events short = (i : ℕ) → Contains short i → Contains events (Done i true) × ((step : Step) × (step_at steps i ≡ Some step) × (step.notfile ≡ false))
+
+-- what a host tells of them: where the files are visible no step left an output out; where they are not, nothing
+abbrev pub ShortTold : Option Disk → List ℕ → Type 0
+ShortTold None short = ⊤
+ShortTold (Some disk) short = short ≡ []

@@ -7,7 +7,9 @@ pub mod Outcomes
 pub mod Cycles
 pub mod Numbers
 pub mod Soundness
+pub mod PlanChildren
 pub mod Afterwards
+pub mod FileReads
 pub mod LogFiles
 pub mod LogCourses
 pub mod ClosureLaws
@@ -29,3 +31,4 @@ pub mod StopLaws
 pub mod StaleLaws
 pub mod CompleteLaws
 pub mod ChildLaws
+pub mod ReadLaws

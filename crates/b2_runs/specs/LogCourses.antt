@@ -1,11 +1,11 @@
-use Rattle.std.specs.Prelude.{◌≡◌, ℕ, ◌+◌, ◌*◌, ◌<◌, ◌≤◌, true, false, List, [], ◌∷◌, ◌++◌, length, map, Option, Some, None, is_some}
+use Rattle.std.specs.Prelude.{◌≡◌, ◌≢◌, ℕ, ◌+◌, ◌*◌, ◌<◌, ◌≤◌, true, false, List, [], ◌∷◌, ◌++◌, length, Option, Some, None}
 use Rattle.std.specs.List.{Contains}
 use Rattle.b2_host.specs.declared.children.ChildEvent.{ChildEvent}
 use Rattle.b2_host.specs.declared.children.ChildEvent.TheVariants.{Start, Done}
-use Rattle.b2_host.specs.Disks.{Folder}
+use Rattle.b2_host.specs.Disks.{File, Folder, bytes_at}
 use Rattle.b2_plan.specs.declared.step.Step.{Step}
-use Rattle.b2_plan.specs.Plans.{step_at}
-use Rattle.b2_plan.specs.Closures.{Value, Known, IsClose}
+use Rattle.b2_plan.specs.Plans.{log_path, step_at}
+use Rattle.b2_plan.specs.Closures.{Value, IsClose}
 use Rattle.b2_plan.specs.Cleans.{Clean}
 use Rattle.b2_log.specs.declared.line.Record.{Record}
 use Rattle.b2_log.specs.declared.line.Digests.{Digests}
@@ -14,10 +14,12 @@ use Rattle.b2_log.specs.declared.line.LogLine.{LogLine}
 use Rattle.b2_log.specs.declared.line.LogLine.TheVariants as lines
 use Rattle.b2_log.specs.Lines.{spelling, log_bytes}
 use Rattle.b2_log.specs.Readings.{IsReading}
-use Rattle.b2_log.specs.Finding.{path_of, find_record, find_scan, kept}
+use Rattle.b2_log.specs.Finding.{find_record, find_scan, kept}
 use Rattle.b2_runs.specs.LogFiles.{log_limit}
-use Rattle.b2_runs.specs.Staleness.{Update, IsFresh, paths_with_bytes}
-use Rattle.b2_runs.specs.Runs.{on_settled, Needed, OpenEnds}
+use Rattle.b2_runs.specs.Staleness.{Update, IsFresh}
+use Rattle.b2_runs.specs.Records.{IsRecordOf, IsScanOf}
+use Rattle.b2_runs.specs.Runs.{on_settled, Needed, IsRunSoFar, OpenEnds}
+use Rattle.b2_runs.specs.FileReads.{IsToScan}
 use Rattle.b2_runs.specs.Afterwards.{IsNotedStep}
 
 -- The log's file over a whole update.
@@ -34,14 +36,6 @@ pub data BeginsWith (bytes : List ℕ) : List LogLine → Type 0 where
   long : (log : List LogLine) (good : ℕ) → length bytes ≤ log_limit → IsReading bytes log good → IsLong log → BeginsWith bytes (kept log)
   large : log_limit < length bytes → BeginsWith bytes []
 
--- The record names the step with this closure: its text, its outputs, and its members that have bytes; and it has digests
--- where judging is by them.
-pub record NamesStep (u : Update) (step : Step) (members : List (List ℕ × Value)) (r : Record) : Type 0 where
-  pub text : r.text ≡ step.text
-  pub outs : map path_of r.outs ≡ step.outs
-  pub ins : map path_of r.ins ≡ paths_with_bytes members
-  pub digests : is_some r.digests ≡ u.by_digest
-
 -- The log's last line for these outputs is a record with digests and with the stamps of this record.
 pub record HasDigestsAlready (outs : List (List ℕ)) (log : List LogLine) (r : Record) : Type 0 where
   pub last : Record
@@ -51,18 +45,9 @@ pub record HasDigestsAlready (outs : List (List ℕ)) (log : List LogLine) (r : 
   pub outs_same : last.outs ≡ r.outs
   pub ins_same : last.ins ≡ r.ins
 
--- The path is that of a file that is scanned, and a needed step is known to read it.
-pub record IsToScan (u : Update) (events : List ChildEvent) (path : List ℕ) : Type 0 where
-  pub scanned : u.scanned path ≡ true
-  pub number : ℕ
-  pub needed : Needed u events number
-  pub step : Step
-  pub at : step_at u.build.steps number ≡ Some step
-  pub known : Known u.build (on_settled u events) step path
-
--- A step may get a record with digests though it was not started: judging is by digests, the step is needed and fresh, and
--- the log's last line for it is no such record.
-pub record IsToMigrate (u : Update) (events : List ChildEvent) (log : List LogLine) (step : Step) (members : List (List ℕ × Value)) (r : Record) : Type 0 where
+-- A step with this closure is to have a record with digests though it was not started: judging is by digests, and it is needed
+-- and fresh.
+pub record IsToMigrate (u : Update) (events : List ChildEvent) (step : Step) (members : List (List ℕ × Value)) : Type 0 where
   pub by_digest : u.by_digest ≡ true
   pub number : ℕ
   pub at : step_at u.build.steps number ≡ Some step
@@ -70,49 +55,74 @@ pub record IsToMigrate (u : Update) (events : List ChildEvent) (log : List LogLi
   pub not_started : Contains events (Start number) → ⊥
   pub close : IsClose u.build (on_settled u events) step members
   pub is_fresh : IsFresh u events step members
-  pub is_new : HasDigestsAlready step.outs log r → ⊥
 
--- The lines of the log after the events of an update, from those that it began with. A step that is done well and owes files
--- gets its record; one that is done badly gets a drop where the log has a record for its outputs; and between them stand a
--- line for each file that was scanned, and records with digests of fresh steps.
-pub data IsLogAfter (u : Update) (first : List LogLine) : List ChildEvent → List LogLine → Type 0 where
-  begins : IsLogAfter u first [] first
-  starts : (events : List ChildEvent) (log : List LogLine) (i : ℕ) → IsLogAfter u first events log → IsLogAfter u first (events ++ Start i ∷ []) log
-  records : (events : List ChildEvent) (log : List LogLine) (i : ℕ) (step : Step) (members : List (List ℕ × Value)) (r : Record) → IsLogAfter u first events log → step_at u.build.steps i ≡ Some step → step.notfile ≡ false
-      → IsClose u.build (Clean u.build) step members → NamesStep u step members r → IsLogAfter u first (events ++ Done i true ∷ []) (log ++ lines.Record r ∷ [])
-  owes_none : (events : List ChildEvent) (log : List LogLine) (i : ℕ) (step : Step) → IsLogAfter u first events log → step_at u.build.steps i ≡ Some step → step.notfile ≡ true → IsLogAfter u first (events ++ Done i true ∷ []) log
-  drops : (events : List ChildEvent) (log : List LogLine) (i : ℕ) (step : Step) (r : Record) → IsLogAfter u first events log → step_at u.build.steps i ≡ Some step → find_record step.outs log ≡ Some r
-      → IsLogAfter u first (events ++ Done i false ∷ []) (log ++ lines.Drop step.outs ∷ [])
-  has_none : (events : List ChildEvent) (log : List LogLine) (i : ℕ) (step : Step) → IsLogAfter u first events log → step_at u.build.steps i ≡ Some step → find_record step.outs log ≡ None → IsLogAfter u first (events ++ Done i false ∷ []) log
-  scans : (events : List ChildEvent) (log : List LogLine) (s : ScanLine) → IsLogAfter u first events log → IsToScan u events s.path → find_scan s.path s.stamp log ≡ None → IsLogAfter u first events (log ++ lines.Scan s ∷ [])
-  migrates : (events : List ChildEvent) (log : List LogLine) (step : Step) (members : List (List ℕ × Value)) (r : Record) → IsLogAfter u first events log → IsToMigrate u events log step members r → NamesStep u step members r
-      → IsLogAfter u first events (log ++ lines.Record r ∷ [])
+-- The lines of the log after events, from those that the update began with, by the files as they stand. A step that is done
+-- well and owes files gets its record; one that is done badly gets a drop where the log has a record for its outputs. Between
+-- them, sooner or later, stand scan lines of files that are to have one, where the log has none at this stamp, and records with
+-- digests of steps that are to have one, where the log's last line is no such record with these stamps.
+pub data IsLogAfter (u : Update) (now : Folder) (first : List LogLine) : List ChildEvent → List LogLine → Type 0 where
+  begins : IsLogAfter u now first [] first
+  starts : (events : List ChildEvent) (log : List LogLine) (i : ℕ) → IsLogAfter u now first events log → IsLogAfter u now first (events ++ Start i ∷ []) log
+  records : (events : List ChildEvent) (log : List LogLine) (i : ℕ) (step : Step) (members : List (List ℕ × Value)) (r : Record) → IsLogAfter u now first events log → step_at u.build.steps i ≡ Some step → step.notfile ≡ false
+      → IsClose u.build (Clean u.build) step members → IsRecordOf u now step members r → IsLogAfter u now first (events ++ Done i true ∷ []) (log ++ lines.Record r ∷ [])
+  owes_none : (events : List ChildEvent) (log : List LogLine) (i : ℕ) (step : Step) → IsLogAfter u now first events log → step_at u.build.steps i ≡ Some step → step.notfile ≡ true → IsLogAfter u now first (events ++ Done i true ∷ []) log
+  drops : (events : List ChildEvent) (log : List LogLine) (i : ℕ) (step : Step) (r : Record) → IsLogAfter u now first events log → step_at u.build.steps i ≡ Some step → find_record step.outs log ≡ Some r
+      → IsLogAfter u now first (events ++ Done i false ∷ []) (log ++ lines.Drop step.outs ∷ [])
+  has_none : (events : List ChildEvent) (log : List LogLine) (i : ℕ) (step : Step) → IsLogAfter u now first events log → step_at u.build.steps i ≡ Some step → find_record step.outs log ≡ None → IsLogAfter u now first (events ++ Done i false ∷ []) log
+  scans : (events : List ChildEvent) (log : List LogLine) (path bytes : List ℕ) (s : ScanLine) → IsLogAfter u now first events log → IsToScan u events path bytes → IsScanOf u now path bytes s → find_scan path s.stamp log ≡ None
+      → IsLogAfter u now first events (log ++ lines.Scan s ∷ [])
+  migrates : (events : List ChildEvent) (log : List LogLine) (step : Step) (members : List (List ℕ × Value)) (r : Record) → IsLogAfter u now first events log → IsToMigrate u events step members → IsRecordOf u now step members r → (HasDigestsAlready step.outs log r → ⊥)
+      → IsLogAfter u now first events (log ++ lines.Record r ∷ [])
+
+-- Where judging is by digests, the log has a record with digests of each needed step that is fresh and was not started, with
+-- the stamps of the files as they stand.
+abbrev pub AllMigrated : Update → List ChildEvent → Folder → List LogLine → Type 0
+AllMigrated u events now log = (step : Step) (members : List (List ℕ × Value)) → IsToMigrate u events step members → IsNotedStep u now log step members
+
+-- The log's last scan line of the file has the stamp of the file as it stands, and its includes.
+pub record IsScannedFile (u : Update) (now : List ℕ → Option File) (log : List LogLine) (path bytes : List ℕ) : Type 0 where
+  pub line : ScanLine
+  pub is_scan : IsScanOf u now path bytes line
+  pub found : find_scan path line.stamp log ≡ Some line
+
+-- the log has the scan line of each file that is to have one
+abbrev pub AllScanned : Update → List ChildEvent → Folder → List LogLine → Type 0
+AllScanned u events now log = (path bytes : List ℕ) → IsToScan u events path bytes → IsScannedFile u now log path bytes
 
 -- the bytes of a file, and none where none stands
 abbrev pub held_bytes : Option (List ℕ) → List ℕ
 held_bytes None = []
 held_bytes (Some bytes) = bytes
 
--- The log's file after an update that was not cut off: the lines that the update began with, and after them exactly those that
--- its events call for.
-pub record IsLogWhole (u : Update) (before : Option (List ℕ)) (events : List ChildEvent) (after : Option (List ℕ)) : Type 0 where
+-- the bytes of the log's file in a folder, where it stands
+abbrev pub log_file : Folder → Option (List ℕ)
+log_file folder = bytes_at folder log_path
+
+-- the file that is left where it is to have these bytes: where none stood and there are none, none stands
+abbrev pub left_file : Option (List ℕ) → List ℕ → Option (List ℕ)
+left_file (Some old) bytes = Some bytes
+left_file None [] = None
+left_file None (byte ∷ more) = Some (byte ∷ more)
+
+-- The log's file after an update that was not cut off: the lines that the update began with and those that its events call for,
+-- with no scan line and no record with digests left out.
+pub record IsLogWhole (u : Update) (events : List ChildEvent) (now : List ℕ → Option File) : Type 0 where
   pub first : List LogLine
-  pub begins : BeginsWith (held_bytes before) first
+  pub begins : BeginsWith (held_bytes (log_file u.build.folder)) first
   pub log : List LogLine
-  pub course : IsLogAfter u first events log
-  pub bytes : held_bytes after ≡ log_bytes log
+  pub course : IsLogAfter u now first events log
+  pub migrated : AllMigrated u events now log
+  pub scanned : AllScanned u events now log
+  pub file : log_file now ≡ left_file (log_file u.build.folder) (log_bytes log)
 
--- .. and after one that was cut off: it was not touched; or it was being replaced; or it has the lines that the events call
--- for, up to where no step starts any more, and perhaps a part of one line more.
-pub data IsLogCut (u : Update) (before : Option (List ℕ)) (events : List ChildEvent) (after : Option (List ℕ)) : Type 0 where
-  untouched : events ≡ [] → after ≡ before → IsLogCut u before events after
-  replacing : (first : List LogLine) (part missing : List ℕ) → events ≡ [] → BeginsWith (held_bytes before) first → log_bytes first ≡ part ++ missing → held_bytes after ≡ part → IsLogCut u before events after
-  between : (first log : List LogLine) (front rest : List ChildEvent) → events ≡ front ++ rest → OpenEnds front rest → BeginsWith (held_bytes before) first → IsLogAfter u first front log → held_bytes after ≡ log_bytes log → IsLogCut u before events after
-  within : (first log : List LogLine) (line : LogLine) (front more rest : List ChildEvent) (part missing : List ℕ) → events ≡ front ++ more ++ rest → OpenEnds front (more ++ rest) → BeginsWith (held_bytes before) first → IsLogAfter u first front log
-      → IsLogAfter u first (front ++ more) (log ++ line ∷ []) → spelling line ≡ part ++ missing → held_bytes after ≡ log_bytes log ++ part → IsLogCut u before events after
-
--- Where judging is by digests, the log has a record with digests of each needed step that is fresh and was not started, with
--- the stamps of the files as they stand.
-abbrev pub AllMigrated : Update → List ChildEvent → Folder → List LogLine → Type 0
-AllMigrated u events now log = u.by_digest ≡ true → (i : ℕ) (step : Step) (members : List (List ℕ × Value)) → Needed u events i → step_at u.build.steps i ≡ Some step → (Contains events (Start i) → ⊥)
-    → IsClose u.build (on_settled u events) step members → IsFresh u events step members → IsNotedStep u now log step members
+-- .. and after one that was cut off: it was not touched; or it was being replaced by other bytes; or it has the lines that the
+-- events of a run so far call for, up to where no step starts any more, and perhaps a part of one line more.
+pub data IsLogCut (u : Update) (events : List ChildEvent) (now : Folder) : Type 0 where
+  untouched : events ≡ [] → log_file now ≡ log_file u.build.folder → IsLogCut u events now
+  replacing : (first : List LogLine) (part missing : List ℕ) → events ≡ [] → BeginsWith (held_bytes (log_file u.build.folder)) first → log_bytes first ≢ held_bytes (log_file u.build.folder)
+      → log_bytes first ≡ part ++ missing → log_file now ≡ Some part → IsLogCut u events now
+  between : (first log : List LogLine) (front rest : List ChildEvent) → events ≡ front ++ rest → IsRunSoFar u front → OpenEnds front rest → BeginsWith (held_bytes (log_file u.build.folder)) first → IsLogAfter u now first front log
+      → log_file now ≡ left_file (log_file u.build.folder) (log_bytes log) → IsLogCut u events now
+  within : (first log : List LogLine) (line : LogLine) (front more rest : List ChildEvent) (part missing : List ℕ) → events ≡ front ++ more ++ rest → IsRunSoFar u (front ++ more) → OpenEnds front (more ++ rest)
+      → BeginsWith (held_bytes (log_file u.build.folder)) first → IsLogAfter u now first front log → IsLogAfter u now first (front ++ more) (log ++ line ∷ []) → spelling line ≡ part ++ missing
+      → log_file now ≡ Some (log_bytes log ++ part) → IsLogCut u events now

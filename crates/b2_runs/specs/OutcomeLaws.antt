@@ -1,4 +1,4 @@
-use Rattle.std.specs.Prelude.{◌≡◌, ◌≢◌, ◌⊎◌, ℕ, true, false, List, [], ◌∷◌, ◌++◌, Some, None}
+use Rattle.std.specs.Prelude.{◌≡◌, ◌≢◌, ◌↔◌, ◌⊎◌, ℕ, true, false, List, [], ◌∷◌, ◌++◌, Some, None}
 use Rattle.std.specs.List.{Contains}
 use Rattle.b2_host.specs.declared.children.ChildEvent.{ChildEvent}
 use Rattle.b2_host.specs.declared.children.ChildEvent.TheVariants.{Start, Done}
@@ -13,7 +13,8 @@ use Rattle.b2_log.specs.declared.subject.Subject.TheVariants as subjects
 use Rattle.b2_log.specs.Finding.{subject_of, find_record}
 use Rattle.b2_runs.specs.Staleness.{Update}
 use Rattle.b2_runs.specs.Runs.{Settled, on_settled, Needed, IsRunSoFar}
-use Rattle.b2_runs.specs.Outcomes.{IsSettledStep, IsFailed, IsMissed, Skipped, AllWent, LeavesNothing}
+use Rattle.b2_runs.specs.Outcomes.{IsSettledStep, IsFailed, IsMissed, IsLeft, Skipped, AllWent, LeavesNothing}
+use Rattle.b2_runs.specs.Numbers.{QuitsNow}
 use Rattle.b2_runs.specs.Soundness.{AreAtWork}
 
 -- ---- what is settled, and what is left
@@ -22,10 +23,21 @@ use Rattle.b2_runs.specs.Soundness.{AreAtWork}
 abbrev pub OutputsSettleTogether : Type 0
 OutputsSettleTogether = (u : Update) (events : List ChildEvent) (i : ℕ) (step : Step) (path : List ℕ) → Apart u.build.steps u.build.roots → Makes u.build.steps i step path → Settled u events path → IsSettledStep u events i
 
--- a needed step that is known to read a missing path, or an output of a failed or skipped step, is left, and so skipped
+-- The step is known to read a missing path, or an output of a failed or skipped step.
+pub record ReachesLost (u : Update) (events : List ChildEvent) (i : ℕ) : Type 0 where
+  pub step : Step
+  pub at : step_at u.build.steps i ≡ Some step
+  pub path : List ℕ
+  pub known : Known u.build (on_settled u events) step path
+  pub lost : IsMissing u.build path ⊎ ((k : ℕ) × (other : Step) × Makes u.build.steps k other path × (IsFailed events k ⊎ Skipped u events k))
+
+-- a needed step is skipped exactly where it reaches a failed, skipped or missing thing, unless the update quits
 abbrev pub SkippedExactly : Type 0
-SkippedExactly = (u : Update) (events : List ChildEvent) (i : ℕ) (step : Step) (path : List ℕ) → Apart u.build.steps u.build.roots → IsRunSoFar u events → Needed u events i → step_at u.build.steps i ≡ Some step → Known u.build (on_settled u events) step path
-    → IsMissing u.build path ⊎ ((k : ℕ) × (other : Step) × Makes u.build.steps k other path × (IsFailed events k ⊎ Skipped u events k)) → Skipped u events i
+SkippedExactly = (u : Update) (events : List ChildEvent) (i : ℕ) → Apart u.build.steps u.build.roots → IsRunSoFar u events → Needed u events i → (QuitsNow u events → ⊥) → Skipped u events i ↔ ReachesLost u events i
+
+-- where it quits it is skipped exactly where it is left
+abbrev pub SkippedWhereQuits : Type 0
+SkippedWhereQuits = (u : Update) (events : List ChildEvent) (i : ℕ) → QuitsNow u events → Skipped u events i ↔ IsLeft u events i
 
 -- all went well where each wanted file is given, each needed step is settled, and nothing failed
 abbrev pub AllWentBySettled : Type 0

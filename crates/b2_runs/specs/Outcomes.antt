@@ -1,8 +1,8 @@
-use Rattle.std.specs.Prelude.{◌≡◌, ℕ, ◌<◌, true, false, List, length, Option, Some, None, ◌⊎◌}
+use Rattle.std.specs.Prelude.{◌≡◌, ℕ, ◌<◌, true, false, List, Some, None, ◌⊎◌}
 use Rattle.std.specs.List.{Contains, AllPairs}
 use Rattle.b2_host.specs.declared.children.ChildEvent.{ChildEvent}
 use Rattle.b2_host.specs.declared.children.ChildEvent.TheVariants.{Start, Done}
-use Rattle.b2_host.specs.Disks.{File, Folder, bytes_at}
+use Rattle.b2_host.specs.Disks.{Folder, bytes_at}
 use Rattle.b2_plan.specs.declared.step.Step.{Step}
 use Rattle.b2_plan.specs.Plans.{log_path, step_at, Makes}
 use Rattle.b2_plan.specs.Sources.{Build, IsGiven, IsMissing}
@@ -12,14 +12,6 @@ use Rattle.b2_log.specs.declared.line.LogLine.{LogLine}
 use Rattle.b2_log.specs.Finding.{find_record}
 use Rattle.b2_runs.specs.Staleness.{Update}
 use Rattle.b2_runs.specs.Runs.{Settled, on_settled, Needed}
-
--- how many bytes of a file are scanned at most
-abbrev pub scan_limit : ℕ
-scan_limit = 16777216
-
--- how many bytes of a file are digested at most
-abbrev pub digest_limit : ℕ
-digest_limit = 268435456
 
 -- each output of the step is settled
 abbrev pub IsSettledStep : Update → List ChildEvent → ℕ → Type 0
@@ -94,9 +86,3 @@ pub record LeavesNothing (u : Update) (events : List ChildEvent) (now : Folder) 
 -- nothing but the log and outputs of started steps has changed
 abbrev pub OnlyOutputsChange : Update → List ChildEvent → Folder → Folder → Type 0
 OnlyOutputsChange u events before now = (path : List ℕ) → (path ≡ log_path → ⊥) → ((i : ℕ) (step : Step) → Contains events (Start i) → Makes u.build.steps i step path → ⊥) → now path ≡ before path
-
--- A file is too big: it is scanned, a needed step is known to read it, and it has more bytes than are scanned; or judging is
--- by digests, and it is a member or an output of a needed step, with more bytes than are digested.
-pub data IsTooBig (u : Update) (events : List ChildEvent) (now : List ℕ → Option File) (path : List ℕ) (size : ℕ) : Type 0 where
-  to_scan : (i : ℕ) (step : Step) (bytes : List ℕ) → u.scanned path ≡ true → Needed u events i → step_at u.build.steps i ≡ Some step → Known u.build (on_settled u events) step path → bytes_at now path ≡ Some bytes → size ≡ length bytes → scan_limit < size → IsTooBig u events now path size
-  to_digest : (i : ℕ) (step : Step) (bytes : List ℕ) → u.by_digest ≡ true → Needed u events i → step_at u.build.steps i ≡ Some step → Known u.build (on_settled u events) step path ⊎ Contains step.outs path → bytes_at now path ≡ Some bytes → size ≡ length bytes → digest_limit < size → IsTooBig u events now path size

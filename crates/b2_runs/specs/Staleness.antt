@@ -1,4 +1,4 @@
-use Rattle.std.specs.Prelude.{◌≡◌, ℕ, ◌<◌, ◌≤◌, Bool, true, false, List, Option, Some, None, map}
+use Rattle.std.specs.Prelude.{◌≡◌, ℕ, ◌<◌, ◌≤◌, Bool, true, false, List, [], Option, Some, None, map}
 use Rattle.std.specs.Option.{option_map}
 use Rattle.std.specs.List.{Contains, AllZip}
 use Rattle.b2_host.specs.declared.children.ChildEvent.{ChildEvent}
@@ -18,8 +18,9 @@ use Rattle.b2_runs.specs.Logs.{Making}
 pub record Update : Type 0 where
   pub build : Build
   pub log : List LogLine
-  -- whether a path is that of a file that is scanned
+  -- whether a path is that of a file that is scanned: a file that is not has no includes
   pub scanned : List ℕ → Bool
+  pub unscanned : (path bytes : List ℕ) → scanned path ≡ false → build.inc path bytes ≡ []
   -- the digest of bytes
   pub digest : List ℕ → List ℕ
   -- judging is by digests; else it is by stamps

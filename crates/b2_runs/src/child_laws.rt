@@ -1,5 +1,5 @@
 //! Laws of children beside a run: what they are given, and which of them are at work.
-ghost use Rattle.b2_runs.specs.ChildLaws.{StartIsFed, StartMayBegin, AtWorkAtEntry, AtWorkAfterStart, AtWorkAfterEnd, EndIsOpen, FedAfterStart, FedAfterEnd};
+ghost use Rattle.b2_runs.specs.ChildLaws.{StartIsFed, StartMayBegin, AtWorkAtEntry, AtWorkAfterStart, AtWorkAfterEnd, EndIsOpen, FedAfterStart, FedAfterEnd, PlanChildrenAtEntry, PlanChildMayStart, PlanChildrenAfterStart, PlanChildrenAfterEnd, AtWorkIsPlanned};
 
 /// A step that can start is fed, where it is handed the members of its closure that have bytes.
 pub fn start_is_fed()
@@ -39,4 +39,29 @@ pub fn fed_after_start()
 /// Each start has its entry in what was given, as one ends.
 pub fn fed_after_end()
     ensures { FedAfterEnd }
+{}
+
+/// Over every host: before any start no child runs.
+pub fn plan_children_at_entry()
+    ensures { PlanChildrenAtEntry }
+{}
+
+/// A step that is not settled and whose child does not run may start, where it reads what settled steps make.
+pub fn plan_child_may_start()
+    ensures { PlanChildMayStart }
+{}
+
+/// After its start one such child more runs.
+pub fn plan_children_after_start()
+    ensures { PlanChildrenAfterStart }
+{}
+
+/// After an end one child less runs.
+pub fn plan_children_after_end()
+    ensures { PlanChildrenAfterEnd }
+{}
+
+/// Children at work are such children, where the settled steps are those of the run.
+pub fn at_work_is_planned()
+    ensures { AtWorkIsPlanned }
 {}

@@ -1,5 +1,5 @@
 //! Laws of events: what they may be over every host, and how they count.
-ghost use Rattle.b2_runs.specs.EventLaws.{OrderGoesOn, OrderHasBegun, OpenWithinJobs, DoneWasStarted, DoneOnce, EachEventOnce, RunIsInOrder, BegunIsInOrder, CountedInOrder, BadByCount, GoodByCount, CountedAsTheyAre, NoneIsShort};
+ghost use Rattle.b2_runs.specs.EventLaws.{OrderGoesOn, OrderHasBegun, OpenWithinJobs, DoneWasStarted, DoneOnce, EachEventOnce, RunIsInOrder, BegunIsInOrder, CountedInOrder, BadByCount, GoodByCount, CountedAsTheyAre, NoneIsShort, CountedWhereVisible, ShortIsFailed, ShortOwesFiles};
 
 /// Events in order go on by each event that may follow.
 pub fn order_goes_on()
@@ -64,4 +64,19 @@ pub fn counted_as_they_are()
 /// Over a host that tells its files no step that was done well has left an output out.
 pub fn none_is_short()
     ensures { NoneIsShort }
+{}
+
+/// Where the files are visible, events count as they are.
+pub fn counted_where_visible()
+    ensures { CountedWhereVisible }
+{}
+
+/// A step that left an output out counts as failed.
+pub fn short_is_failed()
+    ensures { ShortIsFailed }
+{}
+
+/// No step left an output out that makes no file.
+pub fn short_owes_files()
+    ensures { ShortOwesFiles }
 {}

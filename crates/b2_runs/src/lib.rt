@@ -12,6 +12,7 @@ pub mod log_laws;
 pub mod noted_laws;
 pub mod number_laws;
 pub mod outcome_laws;
+pub mod read_laws;
 pub mod run_laws;
 pub mod scan_laws;
 pub mod settled_laws;

@@ -1,5 +1,5 @@
 //! Laws of the log over a whole update: what it begins with, and what the events add.
-ghost use Rattle.b2_runs.specs.LogCourseLaws.{BeginsWithOne, BeginTellsRecords, BeginTellsScans, BeginIsRead, LinesAreRead, LogGrows, LogTellsOthers, LogDropsFailed, LogHasRecords, WholeLogCounts, WholeLogIsTrue};
+ghost use Rattle.b2_runs.specs.LogCourseLaws.{BeginsWithOne, BeginTellsRecords, BeginTellsScans, BeginIsRead, LinesAreRead, LogGrows, LogTellsOthers, LogDropsFailed, LogHasRecords, WholeLogCounts, LogTellsOtherScans, ScansOnce, MigratesOnce, LogIsProper, LogMoves, LogStaysTrue, LogIsNoted, LogStaysGood, WholeIsCut, HealthyGrows, CutLogIsTrue, CutLogIsNoted};
 
 /// An update begins with one list of lines.
 pub fn begins_with_one()
@@ -51,7 +51,62 @@ pub fn whole_log_counts()
     ensures { WholeLogCounts }
 {}
 
-/// That file is true where these lines are.
-pub fn whole_log_is_true()
-    ensures { WholeLogIsTrue }
+/// The log says nothing new of a path that at no moment was to have a scan line.
+pub fn log_tells_other_scans()
+    ensures { LogTellsOtherScans }
+{}
+
+/// Once a file has got its scan line, no other is called for.
+pub fn scans_once()
+    ensures { ScansOnce }
+{}
+
+/// Once a step has got its record with digests, no other is called for.
+pub fn migrates_once()
+    ensures { MigratesOnce }
+{}
+
+/// Each line that is appended is proper, where digests have their form.
+pub fn log_is_proper()
+    ensures { LogIsProper }
+{}
+
+/// The lines stay what the events call for as steps that run or failed change their outputs.
+pub fn log_moves()
+    ensures { LogMoves }
+{}
+
+/// They are true where those were that the update began with.
+pub fn log_stays_true()
+    ensures { LogStaysTrue }
+{}
+
+/// They have the last word on each step.
+pub fn log_is_noted()
+    ensures { LogIsNoted }
+{}
+
+/// What is appended to good lines leaves them good.
+pub fn log_stays_good()
+    ensures { LogStaysGood }
+{}
+
+/// What an update leaves that was not cut off is one of the files that one may leave which was.
+pub fn whole_is_cut()
+    ensures { WholeIsCut }
+{}
+
+/// A log that has no torn tail and is neither long nor too large is only appended to.
+pub fn healthy_grows()
+    ensures { HealthyGrows }
+{}
+
+/// Wherever an update was cut off its log is true, where the log at entry was.
+pub fn cut_log_is_true()
+    ensures { CutLogIsTrue }
+{}
+
+/// Wherever an update was cut off, its log has the last word on what was done in a run so far that holds each of its starts.
+pub fn cut_log_is_noted()
+    ensures { CutLogIsNoted }
 {}

@@ -1,5 +1,5 @@
 //! Laws of what an update leaves: what is settled and skipped, and that failures leave nothing.
-ghost use Rattle.b2_runs.specs.OutcomeLaws.{OutputsSettleTogether, SkippedExactly, AllWentBySettled, AllWentSettles, AllWentMissesNothing, NothingLeftAtEntry, NothingLeftAfterStart, NothingLeftAfterGoodEnd, NothingLeftAfterBadEnd, NothingLeftThroughWork, NothingLeftAfterRemoval, NothingLeftAfterLine};
+ghost use Rattle.b2_runs.specs.OutcomeLaws.{OutputsSettleTogether, SkippedExactly, AllWentBySettled, AllWentSettles, AllWentMissesNothing, NothingLeftAtEntry, NothingLeftAfterStart, NothingLeftAfterGoodEnd, NothingLeftAfterBadEnd, NothingLeftThroughWork, NothingLeftAfterRemoval, NothingLeftAfterLine, SkippedWhereQuits};
 
 /// Where one output of a step is settled, all are.
 pub fn outputs_settle_together()
@@ -59,4 +59,9 @@ pub fn nothing_left_after_removal()
 /// What was dropped stays dropped as lines of other steps are appended.
 pub fn nothing_left_after_line()
     ensures { NothingLeftAfterLine }
+{}
+
+/// Where the update quits, a step is skipped exactly where it is left.
+pub fn skipped_where_quits()
+    ensures { SkippedWhereQuits }
 {}

@@ -1,0 +1,5 @@
+use Rattle.b2_runs.proofs.EventLaws.{counted_where_visible}
+use Rattle.b2_runs.proofs.event_laws.counted_where_visible.Goals as goal
+
+pub returns : goal.returns
+returns c = counted_where_visible

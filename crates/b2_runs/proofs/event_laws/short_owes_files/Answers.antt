@@ -1,0 +1,5 @@
+use Rattle.b2_runs.proofs.EventLaws.{short_owes_files}
+use Rattle.b2_runs.proofs.event_laws.short_owes_files.Goals as goal
+
+pub returns : goal.returns
+returns c = short_owes_files

@@ -1,0 +1,5 @@
+use Rattle.b2_runs.proofs.LogAtExit.{healthy_grows}
+use Rattle.b2_runs.proofs.log_course_laws.healthy_grows.Goals as goal
+
+pub returns : goal.returns
+returns c = healthy_grows

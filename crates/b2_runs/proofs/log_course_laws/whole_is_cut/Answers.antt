@@ -1,0 +1,5 @@
+use Rattle.b2_runs.proofs.LogAtExit.{whole_is_cut}
+use Rattle.b2_runs.proofs.log_course_laws.whole_is_cut.Goals as goal
+
+pub returns : goal.returns
+returns c = whole_is_cut

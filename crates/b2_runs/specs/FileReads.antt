@@ -1,0 +1,78 @@
+use Rattle.std.specs.Prelude.{◌≡◌, ◌≢◌, ℕ, ◌<◌, true, false, List, [], length, Option, Some, None, ◌⊎◌}
+use Rattle.std.specs.List.{Contains}
+use Rattle.b2_host.specs.declared.children.ChildEvent.{ChildEvent}
+use Rattle.b2_host.specs.declared.children.ChildEvent.TheVariants.{Start, Done}
+use Rattle.b2_host.specs.Disks.{File, Past, Stood, bytes_at}
+use Rattle.b2_plan.specs.declared.step.Step.{Step}
+use Rattle.b2_plan.specs.Plans.{log_path, step_at, Makes}
+use Rattle.b2_plan.specs.Closures.{Value, Known, IsClose}
+use Rattle.b2_log.specs.declared.line.LogLine.{LogLine}
+use Rattle.b2_log.specs.Readings.{IsReading}
+use Rattle.b2_log.specs.Finding.{find_scan}
+use Rattle.b2_runs.specs.Staleness.{Update}
+use Rattle.b2_runs.specs.Runs.{on_settled, Needed}
+
+-- Which files an update reads, and which are too big for it.
+
+-- how many bytes of a file are scanned at most
+abbrev pub scan_limit : ℕ
+scan_limit = 16777216
+
+-- how many bytes of a file are digested at most
+abbrev pub digest_limit : ℕ
+digest_limit = 268435456
+
+-- a needed step is known to read the file
+pub record IsInput (u : Update) (events : List ChildEvent) (path : List ℕ) : Type 0 where
+  pub number : ℕ
+  pub needed : Needed u events number
+  pub step : Step
+  pub at : step_at u.build.steps number ≡ Some step
+  pub known : Known u.build (on_settled u events) step path
+
+-- the file is an output of a needed step
+pub record IsNeededOut (u : Update) (events : List ChildEvent) (path : List ℕ) : Type 0 where
+  pub number : ℕ
+  pub needed : Needed u events number
+  pub step : Step
+  pub makes : Makes u.build.steps number step path
+
+-- A file is to have a scan line: it is one that is scanned, a needed step is known to read it, and it is settled with these
+-- bytes.
+pub record IsToScan (u : Update) (events : List ChildEvent) (path bytes : List ℕ) : Type 0 where
+  pub scanned : u.scanned path ≡ true
+  pub input : IsInput u events path
+  pub settled : on_settled u events path (Some bytes)
+
+-- A file is to be digested, judging being by digests: a needed step is known to read it, and it is settled with these bytes; or
+-- it is an output that a needed step owes, all of whose closure is settled, and it stands as at entry or was made well.
+pub data IsToDigest (u : Update) (events : List ChildEvent) (now : List ℕ → Option File) (path bytes : List ℕ) : Type 0 where
+  input : u.by_digest ≡ true → IsInput u events path → on_settled u events path (Some bytes) → IsToDigest u events now path bytes
+  output : (out : IsNeededOut u events path) (members : List (List ℕ × Value)) → u.by_digest ≡ true → out.step.notfile ≡ false → IsClose u.build (on_settled u events) out.step members → (Contains events (Start out.number) → ⊥) ⊎ Contains events (Done out.number true) → bytes_at now path ≡ Some bytes → IsToDigest u events now path bytes
+
+-- A file is too big: it is to be scanned and has more bytes than are scanned, or to be digested and has more than are digested.
+pub data IsTooBig (u : Update) (events : List ChildEvent) (now : List ℕ → Option File) (path : List ℕ) (size : ℕ) : Type 0 where
+  to_scan : (bytes : List ℕ) → IsToScan u events path bytes → size ≡ length bytes → scan_limit < size → IsTooBig u events now path size
+  to_digest : (bytes : List ℕ) → IsToDigest u events now path bytes → size ≡ length bytes → digest_limit < size → IsTooBig u events now path size
+
+-- A read of a file: its path, the stamp of the file there, and the stamp of the log's file, each where one stood.
+pub record Read : Type 0 where
+  pub path : List ℕ
+  pub stamp : Option ℕ
+  pub log : Option ℕ
+
+-- the lines of the log as it stood at a read, by the stamp that its file had: those that it was read as, and none where none
+-- stood
+abbrev pub IsLogThen : List Past → Option ℕ → List LogLine → Type 0
+IsLogThen past None log = log ≡ []
+IsLogThen past (Some stamp) log = (bytes : List ℕ) × (good : ℕ) × Stood past log_path (record { stamp = stamp; bytes = bytes }) × IsReading bytes log good
+
+-- A read is called for: it is of a scanned file that a needed step is known to read, at a stamp for which the log as it then
+-- stood has no scan line; or judging is by digests, and it is of a file that a needed step is known to read or makes.
+pub data IsCalledFor (u : Update) (events : List ChildEvent) (past : List Past) (read : Read) : Type 0 where
+  to_scan : (stamp : ℕ) (log : List LogLine) → u.scanned read.path ≡ true → IsInput u events read.path → read.stamp ≡ Some stamp → IsLogThen past read.log log → find_scan read.path stamp log ≡ None → IsCalledFor u events past read
+  to_digest : u.by_digest ≡ true → IsInput u events read.path ⊎ IsNeededOut u events read.path → IsCalledFor u events past read
+
+-- of these reads of an update each is called for, but for those of the log
+abbrev pub ReadsOnce : Update → List ChildEvent → List Past → List Read → Type 0
+ReadsOnce u events past reads = (read : Read) → Contains reads read → read.path ≢ log_path → IsCalledFor u events past read

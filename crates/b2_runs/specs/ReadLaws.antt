@@ -1,0 +1,62 @@
+use Rattle.std.specs.Prelude.{◌≡◌, ◌≢◌, ◌⊎◌, ℕ, ◌<◌, ◌≤◌, true, false, List, [], ◌∷◌, ◌++◌, length, Some}
+use Rattle.std.specs.List.{Contains}
+use Rattle.b2_host.specs.declared.children.ChildEvent.{ChildEvent}
+use Rattle.b2_host.specs.Disks.{Disk, Past, IsOneEach, bytes_at}
+use Rattle.b2_plan.specs.Plans.{log_path, Apart}
+use Rattle.b2_plan.specs.Cleans.{Clean}
+use Rattle.b2_log.specs.declared.line.ScanLine.{ScanLine}
+use Rattle.b2_log.specs.declared.line.LogLine.{LogLine}
+use Rattle.b2_log.specs.Finding.{find_scan}
+use Rattle.b2_runs.specs.Staleness.{Update}
+use Rattle.b2_runs.specs.Runs.{on_settled, MayCome}
+use Rattle.b2_runs.specs.Soundness.{IsSound}
+use Rattle.b2_runs.specs.FileReads.{scan_limit, digest_limit, IsInput, IsNeededOut, IsToScan, IsTooBig, Read, IsLogThen, IsCalledFor, ReadsOnce}
+
+-- ---- files that are too big
+
+-- a file that is to be scanned and has more bytes than are scanned is too big, and stands
+abbrev pub LargeIsTooBig : Type 0
+LargeIsTooBig = (u : Update) (events : List ChildEvent) (disk : Disk) (path bytes : List ℕ) → Apart u.build.steps u.build.roots → IsSound u events disk → IsToScan u events path bytes → scan_limit < length bytes → IsTooBig u events disk.now path (length bytes) × (bytes_at disk.now path ≡ Some bytes)
+
+-- where a file is too big it stands with so many bytes, and these are more than are scanned
+abbrev pub TooBigIsLarge : Type 0
+TooBigIsLarge = (u : Update) (events : List ChildEvent) (disk : Disk) (path : List ℕ) (size : ℕ) → Apart u.build.steps u.build.roots → IsSound u events disk → IsTooBig u events disk.now path size → (bytes : List ℕ) × (bytes_at disk.now path ≡ Some bytes) × (size ≡ length bytes) × (scan_limit < size)
+
+-- No scanned member of a needed closure is above the limit; and where judging is by digests, no member or output of a needed step
+-- is above it, at entry or in the clean build.
+pub record NoneLarge (u : Update) (events : List ChildEvent) : Type 0 where
+  pub scanned : (path bytes : List ℕ) → IsToScan u events path bytes → length bytes ≤ scan_limit
+  pub inputs : u.by_digest ≡ true → (path bytes : List ℕ) → IsInput u events path → on_settled u events path (Some bytes) → length bytes ≤ digest_limit
+  pub at_entry : u.by_digest ≡ true → (path bytes : List ℕ) → IsNeededOut u events path → bytes_at u.build.folder path ≡ Some bytes → length bytes ≤ digest_limit
+  pub in_clean : u.by_digest ≡ true → (path bytes : List ℕ) → IsNeededOut u events path → Clean u.build path (Some bytes) → length bytes ≤ digest_limit
+
+-- there no file is too big
+abbrev pub NothingTooBig : Type 0
+NothingTooBig = (u : Update) (events : List ChildEvent) (disk : Disk) (path : List ℕ) (size : ℕ) → Apart u.build.steps u.build.roots → IsSound u events disk → NoneLarge u events → IsTooBig u events disk.now path size → ⊥
+
+-- ---- reads
+
+-- an update that has read nothing reads once
+abbrev pub ReadsNone : Type 0
+ReadsNone = (u : Update) (events : List ChildEvent) (past : List Past) → ReadsOnce u events past []
+
+-- .. and so does one that then reads the log, or what is called for
+abbrev pub ReadsMore : Type 0
+ReadsMore = (u : Update) (events : List ChildEvent) (past : List Past) (reads : List Read) (read : Read) → ReadsOnce u events past reads → (read.path ≡ log_path) ⊎ IsCalledFor u events past read → ReadsOnce u events past (reads ++ read ∷ [])
+
+-- it stays so as events come
+abbrev pub ReadsAlong : Type 0
+ReadsAlong = (u : Update) (events : List ChildEvent) (event : ChildEvent) (past : List Past) (reads : List Read) → Apart u.build.steps u.build.roots → MayCome u events event → ReadsOnce u events past reads → ReadsOnce u (events ++ event ∷ []) past reads
+
+-- .. and where more has stood
+abbrev pub ReadsAsPastGrows : Type 0
+ReadsAsPastGrows = (u : Update) (events : List ChildEvent) (past more : List Past) (reads : List Read) → ((old : Past) → Contains past old → Contains more old) → ReadsOnce u events past reads → ReadsOnce u events more reads
+
+-- judged by stamps, no file is read whose stamp has a scan line in the log
+abbrev pub ScannedIsNotRead : Type 0
+ScannedIsNotRead = (u : Update) (events : List ChildEvent) (past : List Past) (reads : List Read) (read : Read) (stamp : ℕ) (log : List LogLine) (s : ScanLine) → u.by_digest ≡ false → IsOneEach past → ReadsOnce u events past reads → Contains reads read → read.path ≢ log_path
+    → read.stamp ≡ Some stamp → IsLogThen past read.log log → find_scan read.path stamp log ≡ Some s → ⊥
+
+-- .. and none that is not scanned
+abbrev pub UnscannedIsNotRead : Type 0
+UnscannedIsNotRead = (u : Update) (events : List ChildEvent) (past : List Past) (reads : List Read) (read : Read) → u.by_digest ≡ false → ReadsOnce u events past reads → Contains reads read → read.path ≢ log_path → u.scanned read.path ≡ false → ⊥

@@ -1,0 +1,47 @@
+//! Laws of the files that an update reads, and of those that are too big for it.
+ghost use Rattle.b2_runs.specs.ReadLaws.{LargeIsTooBig, TooBigIsLarge, NothingTooBig, ReadsNone, ReadsMore, ReadsAlong, ReadsAsPastGrows, ScannedIsNotRead, UnscannedIsNotRead};
+
+/// A file that is to be scanned and has more bytes than are scanned is too big, and stands.
+pub fn large_is_too_big()
+    ensures { LargeIsTooBig }
+{}
+
+/// Where a file is too big it stands with so many bytes, which are more than are scanned.
+pub fn too_big_is_large()
+    ensures { TooBigIsLarge }
+{}
+
+/// No file is too big where none is above the limits.
+pub fn nothing_too_big()
+    ensures { NothingTooBig }
+{}
+
+/// An update that has read nothing reads once.
+pub fn reads_none()
+    ensures { ReadsNone }
+{}
+
+/// So does one that then reads the log, or what is called for.
+pub fn reads_more()
+    ensures { ReadsMore }
+{}
+
+/// It stays so as events come.
+pub fn reads_along()
+    ensures { ReadsAlong }
+{}
+
+/// It stays so where more has stood.
+pub fn reads_as_past_grows()
+    ensures { ReadsAsPastGrows }
+{}
+
+/// Judged by stamps, no file is read whose stamp has a scan line in the log.
+pub fn scanned_is_not_read()
+    ensures { ScannedIsNotRead }
+{}
+
+/// Judged by stamps, no file is read that is not scanned.
+pub fn unscanned_is_not_read()
+    ensures { UnscannedIsNotRead }
+{}
