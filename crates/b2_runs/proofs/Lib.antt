@@ -35,3 +35,6 @@ pub mod LogCourseLaws
 pub mod LogAlong
 pub mod LogAtExit
 pub mod RunIsPrefix
+pub mod ReportLaws
+pub mod AnswerLaws
+pub mod SessionLaws

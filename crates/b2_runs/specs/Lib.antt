@@ -12,6 +12,9 @@ pub mod Afterwards
 pub mod FileReads
 pub mod LogFiles
 pub mod LogCourses
+pub mod Reports
+pub mod UpdateAnswers
+pub mod Sessions
 pub mod ClosureLaws
 pub mod CleanLaws
 pub mod LogLaws
@@ -32,3 +35,6 @@ pub mod StaleLaws
 pub mod CompleteLaws
 pub mod ChildLaws
 pub mod ReadLaws
+pub mod ReportLaws
+pub mod AnswerLaws
+pub mod SessionLaws

@@ -2,6 +2,7 @@
 #![tactic(auto)]
 
 pub mod after_laws;
+pub mod answer_laws;
 pub mod child_laws;
 pub mod closure_laws;
 pub mod complete_laws;
@@ -13,8 +14,10 @@ pub mod noted_laws;
 pub mod number_laws;
 pub mod outcome_laws;
 pub mod read_laws;
+pub mod report_laws;
 pub mod run_laws;
 pub mod scan_laws;
+pub mod session_laws;
 pub mod settled_laws;
 pub mod sound_laws;
 pub mod stale_laws;

@@ -1,0 +1,148 @@
+use Rattle.std.specs.Prelude.{◌≡◌, ◌≢◌, ℕ, ◌≤◌, false, List, [], ◌++◌, length, Option, Some, ◌⊎◌, ⊤, IfSome}
+use Rattle.std.specs.List.{Contains}
+use Rattle.b2_host.specs.declared.children.ChildEvent.{ChildEvent}
+use Rattle.b2_host.specs.declared.children.ChildEvent.TheVariants.{Done}
+use Rattle.b2_host.specs.Disks.{File, Folder, Disk}
+use Rattle.b2_host.specs.ChildProcesses.{Given, Child, Family}
+use Rattle.b2_host.specs.Faults.{Rose}
+use Rattle.b2_plan.specs.declared.step.Step.{Step}
+use Rattle.b2_log.specs.declared.line.LogLine.{LogLine}
+use Rattle.b2_runs.specs.LogFiles.{log_limit, IsLogIn}
+use Rattle.b2_runs.specs.Staleness.{Update}
+use Rattle.b2_runs.specs.Events.{AreInOrder, as_counted, AreShort, ShortTold}
+use Rattle.b2_runs.specs.Runs.{IsRun, IsBegun, AreFed}
+use Rattle.b2_runs.specs.Outcomes.{NoneStuck, AllWent, HasCleanBytes, IsCleanBuild, LeavesNothing, OnlyOutputsChange}
+use Rattle.b2_runs.specs.Cycles.{IsStepCycle}
+use Rattle.b2_runs.specs.Soundness.{AreAtWork}
+use Rattle.b2_runs.specs.Afterwards.{IsNoted}
+use Rattle.b2_runs.specs.FileReads.{IsTooBig}
+use Rattle.b2_runs.specs.LogCourses.{held_bytes, log_file, IsLogWhole, IsLogCut}
+use Rattle.b2_runs.specs.Reports.{Lists, no_lists, AreLists, event_lines, report, cycle_line, too_big_line, host_fault_line, TellsStarts, StopsAtWrite}
+
+-- How an update ends, and what its answer says.
+pub data UpdateAnswer : Type 0 where
+  all_went : UpdateAnswer
+  failed : Lists → UpdateAnswer
+  step_cycle : List ℕ → UpdateAnswer
+  too_big : List ℕ → ℕ → UpdateAnswer
+  host_fault : UpdateAnswer
+  sink_fault : UpdateAnswer
+  out_of_memory : UpdateAnswer
+
+-- ---- the counts of faults
+
+-- What the host's count of faults may do after another fault: it is as it was, or a wait for a child that ran failed, so that a
+-- child is left.
+abbrev pub IsQuietHost : ℕ → ℕ → List Child → Type 0
+IsQuietHost host host_after left = (host_after ≡ host) ⊎ (left ≢ [])
+
+-- How the two counts of faults stand to an answer: an answer that is no fault comes only where both are as at entry, and a fault
+-- only where its count rose and the other's is as at entry, but for the waits that follow it.
+abbrev pub CausedBy : ℕ → ℕ → List Child → ℕ → ℕ → UpdateAnswer → Type 0
+CausedBy host host_after left sink sink_after all_went = (host_after ≡ host) × (sink_after ≡ sink)
+CausedBy host host_after left sink sink_after (failed lists) = (host_after ≡ host) × (sink_after ≡ sink)
+CausedBy host host_after left sink sink_after (step_cycle list) = (host_after ≡ host) × (sink_after ≡ sink)
+CausedBy host host_after left sink sink_after (too_big path size) = (host_after ≡ host) × (sink_after ≡ sink)
+CausedBy host host_after left sink sink_after host_fault = Rose host host_after × (sink_after ≡ sink)
+CausedBy host host_after left sink sink_after sink_fault = Rose sink sink_after × IsQuietHost host host_after left
+CausedBy host host_after left sink sink_after out_of_memory = (sink_after ≡ sink) × IsQuietHost host host_after left
+
+-- ---- over every host
+
+-- the steps that an answer names as failed
+abbrev pub failed_of : UpdateAnswer → List ℕ
+failed_of all_went = []
+failed_of (failed lists) = lists.failed
+failed_of (step_cycle list) = []
+failed_of (too_big path size) = []
+failed_of host_fault = []
+failed_of sink_fault = []
+failed_of out_of_memory = []
+
+-- What happened is in order, with so many jobs. Some steps may have left an output out, none where the files are visible; and
+-- each step that the answer names as failed did so, or was done badly.
+pub record HasHappened (steps : List Step) (jobs : ℕ) (disk : Option Disk) (old new : List ChildEvent) (answer : UpdateAnswer) : Type 0 where
+  pub events : List ChildEvent
+  pub are : new ≡ old ++ events
+  pub in_order : AreInOrder steps jobs events
+  pub short : List ℕ
+  pub short_are : AreShort steps events short
+  pub short_told : ShortTold disk short
+  pub named_failed : (i : ℕ) → Contains (failed_of answer) i → Contains (as_counted short events) (Done i false)
+
+-- ---- where the files are visible
+
+-- something failed, was skipped or is missing
+abbrev pub SomethingLacks : Lists → Type 0
+SomethingLacks lists = (lists.failed ≢ []) ⊎ (lists.skipped ≢ []) ⊎ (lists.missing ≢ [])
+
+-- A run has ended: what is settled has the bytes of the clean build, nothing of a failed step is left, the log's file is what
+-- the events call for, and within its limit it has the last word on each step.
+pub record HasEnded (u : Update) (events : List ChildEvent) (now : List ℕ → Option File) : Type 0 where
+  pub run : IsRun u events
+  pub clean : HasCleanBytes u events now
+  pub log : List LogLine
+  pub is_log : IsLogIn now log
+  pub leaves : LeavesNothing u events now log
+  pub whole : IsLogWhole u events now
+  pub noted : length (held_bytes (log_file now)) ≤ log_limit → IsNoted u events now log
+
+-- what an answer says of the run
+abbrev pub AnswerTold : Update → List ChildEvent → Folder → UpdateAnswer → Type 0
+AnswerTold u events now all_went = HasEnded u events now × AllWent u events × IsCleanBuild u.build now
+AnswerTold u events now (failed lists) = HasEnded u events now × NoneStuck u events × AreLists u events lists × SomethingLacks lists
+AnswerTold u events now (step_cycle list) = HasEnded u events now × IsStepCycle u events list
+AnswerTold u events now (too_big path size) = IsTooBig u events now path size
+AnswerTold u events now host_fault = ⊤
+AnswerTold u events now sink_fault = ⊤
+AnswerTold u events now out_of_memory = ⊤
+
+-- All that an update has done between two moments: the events, each start with what it was given, are the beginning of a run,
+-- and those of its children that still run are at work; nothing but the log and outputs of started steps has changed; the log's
+-- file is one that an update may leave that was cut off, and it has the last word on what was done in a run so far that holds
+-- each start.
+pub record HasUpdated (u : Update) (answer : UpdateAnswer) (old new : Family) (before after : Disk) : Type 0 where
+  pub events : List ChildEvent
+  pub events_are : new.events ≡ old.events ++ events
+  pub given : List Given
+  pub given_are : IfSome old.given (λ list. new.given ≡ Some (list ++ given))
+  pub begun : IsBegun u events
+  pub fed : AreFed u events given
+  pub at_work : AreAtWork u events new.running
+  pub changed : OnlyOutputsChange u events before.now after.now
+  pub cut : IsLogCut u events after.now
+  pub noted : (log : List LogLine) → IsLogIn after.now log → length (held_bytes (log_file after.now)) ≤ log_limit → (events ≡ []) ⊎ ((b : IsBegun u events) × IsNoted u b.front after.now log)
+  pub told : AnswerTold u events after.now answer
+
+-- What is said of the log at entry: where the update has come to an end, of the one that stood; where a fault cut it off, of
+-- whatever one stood.
+abbrev pub WithLog : Folder → (List LogLine → Type 0) → UpdateAnswer → Type 0
+WithLog now P all_went = (log : List LogLine) × IsLogIn now log × P log
+WithLog now P (failed lists) = (log : List LogLine) × IsLogIn now log × P log
+WithLog now P (step_cycle list) = (log : List LogLine) × IsLogIn now log × P log
+WithLog now P (too_big path size) = (log : List LogLine) × IsLogIn now log × P log
+WithLog now P host_fault = (log : List LogLine) → IsLogIn now log → P log
+WithLog now P sink_fault = (log : List LogLine) → IsLogIn now log → P log
+WithLog now P out_of_memory = (log : List LogLine) → IsLogIn now log → P log
+
+-- ---- the bytes
+
+-- what an answer says of the bytes that the update wrote; the line of a refusal comes behind them
+abbrev pub WrittenBy : Update → List ChildEvent → UpdateAnswer → List ℕ → Type 0
+WrittenBy u events all_went written = written ≡ report u.build.steps events no_lists
+WrittenBy u events (failed lists) written = written ≡ report u.build.steps events lists
+WrittenBy u events (step_cycle list) written = written ≡ event_lines u.build.steps events
+WrittenBy u events (too_big path size) written = TellsStarts u.build.steps events written
+WrittenBy u events host_fault written = TellsStarts u.build.steps events written
+WrittenBy u events sink_fault written = StopsAtWrite u events written
+WrittenBy u events out_of_memory written = TellsStarts u.build.steps events written ⊎ StopsAtWrite u events written
+
+-- the line of a refusal, which comes last, where there is one
+abbrev pub refusal_line : List Step → UpdateAnswer → List ℕ
+refusal_line steps all_went = []
+refusal_line steps (failed lists) = []
+refusal_line steps (step_cycle list) = cycle_line steps list
+refusal_line steps (too_big path size) = too_big_line path size
+refusal_line steps host_fault = host_fault_line
+refusal_line steps sink_fault = []
+refusal_line steps out_of_memory = []

@@ -1,0 +1,32 @@
+//! Laws of the answers of an update: what each says, and that no two are said of one run.
+ghost use Rattle.b2_runs.specs.AnswerLaws.{ListsAreOne, MayAnswerAllWent, AllWentLacksNothing, AllWentHasNoCycle, FailedHasNoCycle, AllWentStartsNothing};
+
+/// An update may answer that all went well where each needed step is settled and none failed.
+pub fn may_answer_all_went()
+    ensures { MayAnswerAllWent }
+{}
+
+/// It does not answer so where something lacks.
+pub fn all_went_lacks_nothing()
+    ensures { AllWentLacksNothing }
+{}
+
+/// It does not answer so where there is a step cycle.
+pub fn all_went_has_no_cycle()
+    ensures { AllWentHasNoCycle }
+{}
+
+/// It does not answer that something lacks where there is a step cycle.
+pub fn failed_has_no_cycle()
+    ensures { FailedHasNoCycle }
+{}
+
+/// A run has one set of lists.
+pub fn lists_are_one()
+    ensures { ListsAreOne }
+{}
+
+/// After an update that answers that all went well, the next one starts nothing that it need not.
+pub fn all_went_starts_nothing()
+    ensures { AllWentStartsNothing }
+{}
