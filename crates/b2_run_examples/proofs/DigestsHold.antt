@@ -65,7 +65,7 @@ second_step : Step
 second_step = copy_from a_path b_path
 
 -- the last of a log is this record, so it is the one that agrees
-last_agrees : (u : Update) (events : List ChildEvent) (step : Step) (members : List (List ℕ × Value)) (r : Record) → find_record step.outs u.log ≡ Some r → IsRecorded u events step members → Agrees u events step members r
+pub last_agrees : (u : Update) (events : List ChildEvent) (step : Step) (members : List (List ℕ × Value)) (r : Record) → find_record step.outs u.log ≡ Some r → IsRecorded u events step members → Agrees u events step members r
 last_agrees u events step members r e q =
     let f : Some r ≡ Some q.last = sym e ∙ q.found in
     let same : r ≡ q.last = cc in

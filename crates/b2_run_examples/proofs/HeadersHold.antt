@@ -127,13 +127,13 @@ close_x events output = record {
   whole = λ path k. (Some (7 ∷ []), subst (λ p. Contains {X = List ℕ × Value} ((x_path, Some (7 ∷ [])) ∷ []) (p, Some (7 ∷ []))) (known_x (on_settled header_update events) output path k) (Contains_here (x_path, Some (7 ∷ [])) []));
 }
 
-clean_close : (output : List ℕ) → IsClose with_header (Clean with_header) (copy_from x_path output) ((x_path, Some (7 ∷ [])) ∷ [])
+pub clean_close : (output : List ℕ) → IsClose with_header (Clean with_header) (copy_from x_path output) ((x_path, Some (7 ∷ [])) ∷ [])
 clean_close output = ((close_on_settled header_update [] (copy_from x_path output) ((x_path, Some (7 ∷ [])) ∷ []) apart).0 (close_x [] output)).0
 
 a_on : (events : List ChildEvent) → Contains events (Done 1 true) → on_settled header_update events a_path (Some (7 ∷ []))
 a_on events done = (done_well 1 (copy_from x_path a_path) a_path makes_a done, clean_is_made with_header 1 (copy_from x_path a_path) a_path ((x_path, Some (7 ∷ [])) ∷ []) apart makes_a (clean_close a_path))
 
-b_on : (events : List ChildEvent) → Contains events (Done 2 true) → on_settled header_update events b_path (Some (7 ∷ []))
+pub b_on : (events : List ChildEvent) → Contains events (Done 2 true) → on_settled header_update events b_path (Some (7 ∷ []))
 b_on events done = (done_well 2 (copy_from x_path b_path) b_path makes_b done, clean_is_made with_header 2 (copy_from x_path b_path) b_path ((x_path, Some (7 ∷ [])) ∷ []) apart makes_b (clean_close b_path))
 
 abbrev a_member : List ℕ × Value
@@ -166,7 +166,7 @@ close_c events one two = record {
 
 -- ---- needed
 
-needed_c : (events : List ChildEvent) → Needed header_update events 3
+pub needed_c : (events : List ChildEvent) → Needed header_update events 3
 needed_c events = wanted 3 (copy_from b_path c_path) c_path (Contains_here c_path []) makes_c
 
 needed_b : (events : List ChildEvent) → Needed header_update events 2
@@ -187,7 +187,7 @@ one_of_three events i n = number_is (step_of n)
     number_is (step, path, makes) = elim (copies.made_at x_path x_path b_path i step path makes) [ inl (e, p) ↦ inl e | inr (inl (e, p)) ↦ inr (inl e) | inr (inr (e, p)) ↦ inr (inr e) ]
 
 -- before any event `b` is not settled
-b_not_yet : (path : List ℕ) → Settled header_update [] path → b_path ≡ path → ⊥
+pub b_not_yet : (path : List ℕ) → Settled header_update [] path → b_path ≡ path → ⊥
 b_not_yet path (source p bytes s) e = source_not_made with_header apart p bytes s 2 (copy_from x_path b_path) (subst (Makes with_header.steps 2 (copy_from x_path b_path)) e makes_b)
 b_not_yet path (done_well i step p makes done) e = Contains_nil (Done i true) done
 b_not_yet path (fresh i step p members makes not_started close inside f) e = let g : None ≡ Some f.recorded.last = f.recorded.found in cc

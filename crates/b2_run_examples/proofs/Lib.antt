@@ -9,3 +9,8 @@ pub mod TailedHolds
 pub mod FailureHolds
 pub mod DigestsHold
 pub mod HeadersHold
+pub mod ScansHold
+pub mod ReportsHold
+pub mod QuitHolds
+pub mod TwoSources
+pub mod HeaderPlacesHold

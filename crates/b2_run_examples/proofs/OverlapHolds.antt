@@ -78,7 +78,7 @@ two_not_three : ◌≡◌ {A = ℕ} 2 3 → ⊥
 two_not_three e = omega (arith, e)
 
 -- the source, and what is settled
-x_source : IsSource three_copies x_path (7 ∷ [])
+pub x_source : IsSource three_copies x_path (7 ∷ [])
 x_source = record { outside = λ (root, c, u). x_outside root c u; stands = refl }
   where
     x_outside : (root : List ℕ) → Contains (codes "bin" ∷ []) root → IsUnder x_path root → ⊥
@@ -92,7 +92,7 @@ x_settled : (events : List ChildEvent) → on_settled two_at_once events x_path 
 x_settled events = (source x_path (7 ∷ []) x_source, source_clean three_copies apart x_path (7 ∷ []) x_source)
 
 -- what is known of a copy is what it reads
-known_is : (v : Values) (input output path : List ℕ) → Known three_copies v (copy_from input output) path → input ≡ path
+pub known_is : (v : Values) (input output path : List ℕ) → Known three_copies v (copy_from input output) path → input ≡ path
 known_is v input output path (input_of p c) = one_of input p c
 known_is v input output path (include p bytes found k says inc) = absurd (Contains_nil inc.include inc.listed)
 

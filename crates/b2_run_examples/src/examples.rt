@@ -3,6 +3,10 @@ ghost use Rattle.b2_run_examples.specs.Examples.{CopyingHolds, CopyingFiled, Cop
 ghost use Rattle.b2_run_examples.specs.Overlap.{OverlapHolds, FailureHolds};
 ghost use Rattle.b2_run_examples.specs.DigestUpdates.{DigestsHold};
 ghost use Rattle.b2_run_examples.specs.Headers.{HeadersHold};
+ghost use Rattle.b2_run_examples.specs.Scans.{ScansHold};
+ghost use Rattle.b2_run_examples.specs.Reported.{ReportsHold};
+ghost use Rattle.b2_run_examples.specs.Quits.{QuitHolds};
+ghost use Rattle.b2_run_examples.specs.HeaderPlaces.{HeaderLostHolds, HeaderCircleHolds};
 
 /// An update that copies one file: its run is a whole run in which all went well, its disk is sound, its log is true and
 /// has the last word.
@@ -53,4 +57,29 @@ pub fn digests_hold()
 /// there. The file's scan line tells the include.
 pub fn headers_hold()
     ensures { HeadersHold }
+{}
+
+/// Scan lines and reads in that update: a file is scanned once it is settled, its line is demanded, and it is read once.
+pub fn scans_hold()
+    ensures { ScansHold }
+{}
+
+/// The printed bytes of some updates, of steps without a name, and of refusals.
+pub fn reports_hold()
+    ensures { ReportsHold }
+{}
+
+/// An update that is to quit at a failure: nothing starts after it, and all that is left is skipped.
+pub fn quit_holds()
+    ensures { QuitHolds }
+{}
+
+/// A header that is lost from the first place where it is looked for: the closure has that in the second place, and the step runs.
+pub fn header_lost_holds()
+    ensures { HeaderLostHolds }
+{}
+
+/// Two sources that include one another: the closure has both, and the step runs once.
+pub fn header_circle_holds()
+    ensures { HeaderCircleHolds }
 {}

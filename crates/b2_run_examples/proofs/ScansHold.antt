@@ -1,0 +1,82 @@
+use Rattle.std.proofs.Common.{◌≡◌, ℕ, true, false, List, [], ◌∷◌, refl, sym, subst, arith, Option, Some, None, codes}
+use Rattle.std.specs.List.{Contains}
+use Rattle.std.proofs.lemmas.Slice.Eq.{bytes_eq-Decides}
+use Rattle.b2_host.specs.declared.children.ChildEvent.TheVariants.{Start, Done}
+use Rattle.b2_host.specs.Disks.{Folder}
+use Rattle.b2_plan.specs.Plans.{log_path}
+use Rattle.b2_plan.specs.Closures.{Known.input as input_of}
+use Rattle.b2_log.specs.declared.line.LogLine.TheVariants as lines
+use Rattle.b2_log.specs.Finding.{find_scan}
+use Rattle.b2_runs.specs.FileReads.{IsToScan, IsTooBig, IsTooBig.to_scan, IsTooBig.to_digest, IsToDigest, IsToDigest.input, IsToDigest.output, Read, IsCalledFor, IsCalledFor.to_scan as called}
+use Rattle.b2_runs.specs.LogCourses.{IsLogAfter, IsLogAfter.begins, IsLogAfter.starts, IsLogAfter.records, IsLogAfter.scans, IsScannedFile, AllScanned}
+use Rattle.b2_runs.proofs.ElementLemmas.{Contains_here}
+use Rattle.b2_runs.proofs.ReadLaws.{scanned_is_not_read, unscanned_is_not_read}
+use Rattle.b2_run_examples.specs.Overlap.{copy_from, x_path, b_path, c_path}
+use Rattle.b2_run_examples.specs.Headers.{header_update, b_made, b_scan}
+use Rattle.b2_run_examples.specs.Scans.{b_stands, b_record, b_older, recorded, scanned, read_of, ScansHold}
+use Rattle.b2_run_examples.proofs.OneStepPlan.{one_of, different}
+use Rattle.b2_run_examples.proofs.HeadersHold.{needed_c, b_on, b_not_yet, clean_close}
+
+none_yet : (path bytes : List ℕ) → ¬ IsToScan header_update [] path bytes
+none_yet path bytes to = b_not_yet path to.settled.0 (sym ((bytes_eq-Decides path b_path).0 to.scanned))
+
+none_too_big : (now : Folder) (path : List ℕ) (size : ℕ) → ¬ IsTooBig header_update [] now path size
+none_too_big now path size (to_scan bytes to size_is more) = none_yet path bytes to
+none_too_big now path size (to_digest bytes to size_is more) = go to
+  where
+    go : IsToDigest header_update [] now path bytes → ⊥
+    go (input on i s) = let e : false ≡ true = on in cc
+    go (output out members on owes close still stands) = let e : false ≡ true = on in cc
+
+b_done : Contains b_made (Done 2 true)
+b_done = (1, omega arith, refl)
+
+b_to_scan : IsToScan header_update b_made b_path (7 ∷ [])
+b_to_scan = record {
+  scanned = refl;
+  input = record { number = 3; needed = needed_c b_made; step = copy_from b_path c_path; at = refl; known = input_of b_path (Contains_here b_path []) };
+  settled = b_on b_made b_done;
+}
+
+course : IsLogAfter header_update b_stands [] b_made scanned
+course =
+    scans b_made recorded b_path (7 ∷ []) b_scan
+    (records (Start 2 ∷ []) [] 2 (copy_from x_path b_path) ((x_path, Some (7 ∷ [])) ∷ []) b_record (starts [] [] 2 begins) refl refl (clean_close b_path) (record { text = refl; outs = ((refl, refl), tt); ins = ((refl, refl), tt); digests = refl }))
+    b_to_scan (record { path_is = refl; stamp = refl; includes = refl }) refl
+
+all : AllScanned header_update b_made b_stands scanned
+all path bytes to = subst (λ p. IsScannedFile header_update b_stands scanned p bytes) (sym ((bytes_eq-Decides path b_path).0 to.scanned)) (record { line = b_scan; is_scan = record { path_is = refl; stamp = refl; includes = refl }; found = refl })
+
+not_without : ¬ AllScanned header_update b_made b_stands recorded
+not_without all_are =
+    let f = all_are b_path (7 ∷ []) b_to_scan in
+    let e : None ≡ Some f.line = f.found in
+    cc
+
+not_older : ¬ AllScanned header_update b_made b_stands (lines.Record b_record ∷ lines.Scan b_older ∷ [])
+not_older all_are =
+    let f = all_are b_path (7 ∷ []) b_to_scan in
+    let g : Some 2 ≡ Some f.line.stamp = f.is_scan.stamp in
+    let stamp : 2 ≡ f.line.stamp = cc in
+    let e : None ≡ Some f.line = subst (λ n. find_scan b_path n (lines.Record b_record ∷ lines.Scan b_older ∷ []) ≡ Some f.line) (sym stamp) f.found in
+    cc
+
+b_not_log : b_path ≡ log_path → ⊥
+b_not_log e = different b_path log_path refl e
+
+x_not_log : x_path ≡ log_path → ⊥
+x_not_log e = different x_path log_path refl e
+
+pub scans_hold : ScansHold
+scans_hold = record {
+  none_yet = none_yet;
+  none_too_big = none_too_big;
+  to_scan = b_to_scan;
+  course = course;
+  all = all;
+  not_without = not_without;
+  not_older = not_older;
+  read = λ past read c not_log. let e = one_of (read_of b_path 2 None) read c in subst (λ (r : Read). IsCalledFor header_update b_made past r) e (called 2 [] refl b_to_scan.input refl refl refl);
+  not_again = λ past stamp one then once. scanned_is_not_read header_update b_made past (read_of b_path 2 (Some stamp) ∷ []) (read_of b_path 2 (Some stamp)) 2 scanned b_scan refl one once (Contains_here (read_of b_path 2 (Some stamp)) []) b_not_log refl then refl;
+  not_x = λ past once. unscanned_is_not_read header_update b_made past (read_of x_path 1 None ∷ []) (read_of x_path 1 None) refl once (Contains_here (read_of x_path 1 None) []) x_not_log refl;
+}
