@@ -13,7 +13,7 @@ use Rattle.b2_run_examples.proofs.OneStepPlan.{different, only_out, one_of}
 use Rattle.b2_run_examples.proofs.CopyingHolds.{none_older}
 
 -- with nothing to do
-unchanged : IsFresh (after_copying disk_after.now log_after) [] copy_step in_members
+pub unchanged : IsFresh (after_copying disk_after.now log_after) [] copy_step in_members
 unchanged = record {
   not_all = refl;
   not_always = refl;

@@ -14,3 +14,5 @@ pub mod ReportsHold
 pub mod QuitHolds
 pub mod TwoSources
 pub mod HeaderPlacesHold
+pub mod MissingHolds
+pub mod FlagsHold

@@ -6,3 +6,5 @@ pub mod Scans
 pub mod Reported
 pub mod Quits
 pub mod HeaderPlaces
+pub mod Missing
+pub mod Flags

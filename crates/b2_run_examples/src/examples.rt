@@ -7,6 +7,8 @@ ghost use Rattle.b2_run_examples.specs.Scans.{ScansHold};
 ghost use Rattle.b2_run_examples.specs.Reported.{ReportsHold};
 ghost use Rattle.b2_run_examples.specs.Quits.{QuitHolds};
 ghost use Rattle.b2_run_examples.specs.HeaderPlaces.{HeaderLostHolds, HeaderCircleHolds};
+ghost use Rattle.b2_run_examples.specs.Missing.{MissingHolds};
+ghost use Rattle.b2_run_examples.specs.Flags.{FlagsHold};
 
 /// An update that copies one file: its run is a whole run in which all went well, its disk is sound, its log is true and
 /// has the last word.
@@ -82,4 +84,14 @@ pub fn header_lost_holds()
 /// Two sources that include one another: the closure has both, and the step runs once.
 pub fn header_circle_holds()
     ensures { HeaderCircleHolds }
+{}
+
+/// An update whose step reads a path that is missing: the step is skipped, and the path is told.
+pub fn missing_holds()
+    ensures { MissingHolds }
+{}
+
+/// Always-steps and notfile steps: they run each time, and a notfile step leaves no record and owes no file.
+pub fn flags_hold()
+    ensures { FlagsHold }
 {}
