@@ -1,7 +1,8 @@
-use Rattle.std.proofs.Common.{◌≡◌, ◌≢◌, ◌⊎◌, ℕ, ◌≤◌, List, [], ◌∷◌, ◌++◌, length, inl, inr, refl, sym, ap, subst, ◌∙◌, append_assoc, append-nil, length-append, arith, Option, Some, None}
+use Rattle.std.proofs.Common.{◌≡◌, ◌≢◌, ◌⊎◌, ℕ, ◌≤◌, true, List, [], ◌∷◌, ◌++◌, length, inl, inr, refl, sym, ap, subst, ◌∙◌, append_assoc, append-nil, length-append, arith, Option, Some, None}
 use Rattle.std.specs.List.{Contains, AllByRecursion}
 use Rattle.std.proofs.lemmas.List.Concat.{flat_map-append}
 use Rattle.b2_host.specs.declared.children.ChildEvent.{ChildEvent}
+use Rattle.b2_host.specs.declared.children.ChildEvent.TheVariants.{Start, Done}
 use Rattle.b2_host.specs.Disks.{Folder, Disk, Past}
 use Rattle.b2_plan.specs.Plans.{Apart}
 use Rattle.b2_log.specs.declared.line.LogLine.{LogLine}
@@ -18,11 +19,11 @@ use Rattle.b2_runs.specs.Runs.{IsRunSoFar, OpenEnds, IsBegun}
 use Rattle.b2_runs.specs.Soundness.{IsSound}
 use Rattle.b2_runs.specs.Afterwards.{NoneDoneOlder, IsNoted}
 use Rattle.b2_runs.specs.LogCourses.{IsLong, BeginsWith, BeginsWith.as_it_is, IsLogAfter, held_bytes, log_file, left_file, IsLogCut, IsLogCut.untouched, IsLogCut.replacing, IsLogCut.between, IsLogCut.within}
-use Rattle.b2_runs.specs.LogCourseLaws.{AppendsGood, WholeLogCounts, WholeIsCut, HealthyGrows, CutLogIsTrue, CutLogIsNoted}
+use Rattle.b2_runs.specs.LogCourseLaws.{AppendsGood, WholeLogCounts, WholeIsCut, HealthyGrows, CutLogIsTrue, CutLogIsNoted, FinishedIsKept, FinishedIsNotStarted}
 use Rattle.b2_runs.proofs.RunLaws.{run_has_begun}
 use Rattle.b2_runs.proofs.LogLaws.{true_with_fewer}
 use Rattle.b2_runs.proofs.LogFileLaws.{file_is_one_log, true_front, kept_among, torn_append_leaves}
-use Rattle.b2_runs.proofs.StopLaws.{sound_before_ends}
+use Rattle.b2_runs.proofs.StopLaws.{sound_before_ends, finished_is_recorded, no_work_is_lost, begun_holds_earlier}
 use Rattle.b2_runs.proofs.LogCourseLaws.{IsFrom, is_from, begins_with_one, begin_tells_records, begin_is_read, lines_are_read, log_grows}
 use Rattle.b2_runs.proofs.LogAlong.{log_stays_true, log_is_noted, log_stays_good}
 
@@ -174,3 +175,20 @@ cut_log_is_noted u events now log apart good older entry cut limit counts = go c
         last_good : (xs : List LogLine) (x : LogLine) → AllByRecursion IsGood (xs ++ x ∷ []) → IsGood x
         last_good [] x each = each.0
         last_good (y ∷ xs) x each = last_good xs x each.1
+
+-- an update that started a step had events
+some_event : (before after : List ChildEvent) (i : ℕ) (events : List ChildEvent) → events ≡ before ++ Start i ∷ after → events ≡ [] → ⊥
+some_event [] after i events e none = let f : Start i ∷ after ≡ [] = sym e ∙ none in cc
+some_event (x ∷ before) after i events e none = let f : x ∷ (before ++ Start i ∷ after) ≡ [] = sym e ∙ none in cc
+
+pub finished_is_kept : FinishedIsKept
+finished_is_kept u events before after now log quit jobs k i step members apart good older entry cut limit counts e done at file close = elim (cut_log_is_noted u events now log apart good older entry cut limit counts) [
+  | inl none ↦ absurd (some_event before after k events e none)
+  | inr (b, n) ↦ finished_is_recorded u b.front now log quit jobs i step members n at (begun_holds_earlier u events before after k (Done i true) b e done) file close
+]
+
+pub finished_is_not_started : FinishedIsNotStarted
+finished_is_not_started u events before after later disk log quit jobs k i step path apart good sound older entry cut limit counts e done makes calm run_later c = elim (cut_log_is_noted u events disk.now log apart good older entry cut limit counts) [
+  | inl none ↦ some_event before after k events e none
+  | inr (b, n) ↦ no_work_is_lost u events later disk log quit jobs i step path b apart sound n run_later makes (begun_holds_earlier u events before after k (Done i true) b e done) calm c
+]

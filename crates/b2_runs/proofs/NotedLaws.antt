@@ -20,7 +20,7 @@ use Rattle.b2_runs.specs.Records.{HasDigestsOf, IsRecordOf}
 use Rattle.b2_runs.specs.Runs.{Settled, Settled.source, Settled.done_well, Settled.fresh, IsRunSoFar}
 use Rattle.b2_runs.specs.Soundness.{IsLoose, Drifts, IsAtWork}
 use Rattle.b2_runs.specs.Afterwards.{IsNotedStep, IsMigrated, IsNoted}
-use Rattle.b2_runs.specs.NotedLaws.{NotedAtEntry, NotedAfterStart, NotedAfterDrift, NotedAfterOtherEnd, NotedAfterLine, NotedAfterRecord, NotedAfterScan, NotedAfterMigration, OutputsAreNewer, FailedIsStale}
+use Rattle.b2_runs.specs.NotedLaws.{NotedAtEntry, NotedAfterStart, NotedAfterDrift, NotedAfterOtherEnd, NotedAfterLine, NotedAfterRecord, NotedAfterScan, NotedAfterMigration, OutputsAreNewer, FailedIsStale, NoneOlderAtEntry, NoneOlderAfterStart, NoneOlderAfterEnd, NoneOlderAfterDrift}
 use Rattle.b2_runs.proofs.ElementLemmas.{one_step, some_element, Contains_nil}
 use Rattle.b2_runs.proofs.LogLaws.{outs_same, last_record, others_unsaid, scan_is_other}
 use Rattle.b2_runs.proofs.ValueRounds.{source_not_made}
@@ -272,3 +272,24 @@ failed_is_stale u events now log quit jobs i step members apart leaves bad at f 
     let gone : now out ≡ None = leaves.files i step out bad (record { at = at; among = c }) in
     let e : Some file ≡ None = sym stands ∙ gone in
     cc
+
+-- ---- no output that was made is older
+
+pub none_older_at_entry : NoneOlderAtEntry
+none_older_at_entry u now i step members at done file close = absurd (Contains_nil (Done i true) done)
+
+pub none_older_after_start : NoneOlderAfterStart
+none_older_after_start u events now k older i step members at done file close = older i step members at (done_in_start events k i true done) file close
+
+pub none_older_after_end : NoneOlderAfterEnd
+none_older_after_end u events now k well older own i step members at done file close = elim (done_in_done events k i well true done) [
+  | inl old ↦ older i step members at old file close
+  | inr (e, w) ↦ own w step members (subst (λ j. step_at u.build.steps j ≡ Some step) (sym e) at) file close
+]
+
+pub none_older_after_drift : NoneOlderAfterDrift
+none_older_after_drift u events before after apart run d older i step members at done file close =
+    none_older_move before.now after.now step members
+    (λ out c. settled_still u events before after apart d out (done_well i step out (record { at = at; among = c }) done))
+    (λ m y c. settled_still u events before after apart d m (done_inside u events apart run i step members at (done_was_started u events i true run done) close m y c))
+    (older i step members at done file close)

@@ -12,7 +12,7 @@ use Rattle.b2_runs.specs.Events.{IsOpen}
 use Rattle.b2_runs.specs.Runs.{Settled, Settled.done_well, RunFrom, IsRunSoFar, OpenEnds, IsBegun, CanStart}
 use Rattle.b2_runs.specs.Soundness.{IsSound, IsLoose, Drifts}
 use Rattle.b2_runs.specs.Afterwards.{next_update, Restless, Restless.through, IsNoted}
-use Rattle.b2_runs.specs.StopLaws.{RunIsBegun, BegunGoesOn, BegunUpToStart, SoundBeforeEnds, NotedThroughEnds, NotedThoughTorn, FinishedIsRecorded, FreshThoughStopped, NotStartedAgain, NoWorkIsLost}
+use Rattle.b2_runs.specs.StopLaws.{RunIsBegun, BegunGoesOn, BegunUpToStart, SoundBeforeEnds, NotedThroughEnds, NotedThoughTorn, FinishedIsRecorded, FreshThoughStopped, NotStartedAgain, NoWorkIsLost, BegunHoldsEarlier}
 use Rattle.b2_runs.proofs.ElementLemmas.{one_step, Contains_here, Contains_cases, Contains_nil}
 use Rattle.b2_runs.proofs.EventLaws.{start_in_start, done_in_start, start_in_done, done_in_done}
 use Rattle.b2_runs.proofs.RunLaws.{fresh_events, run_has_begun, close_on_settled, same_members}
@@ -167,3 +167,8 @@ not_started_again u events later disk log quit jobs i step path b apart s n run_
 pub no_work_is_lost : NoWorkIsLost
 no_work_is_lost u events later disk log quit jobs i step path b apart s n run_later makes done calm c =
     not_started_again u events later disk log quit jobs i step path b apart s n run_later makes (done_well i step path makes done) calm c
+
+pub begun_holds_earlier : BegunHoldsEarlier
+begun_holds_earlier u events before after i event b e c =
+    let (more, f) = start_within b.front b.rest before after i (start_not_done b.front b.rest b.ends i) (sym b.whole ∙ e) in
+    subst (λ l. Contains l event) (sym f) (Contains-append_left before (Start i ∷ more) event c)

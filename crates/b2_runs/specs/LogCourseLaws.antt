@@ -1,10 +1,10 @@
-use Rattle.std.specs.Prelude.{◌≡◌, ◌≢◌, ◌⊎◌, ℕ, ◌≤◌, true, false, List, [], ◌∷◌, ◌++◌, length, Option, Some, None}
+use Rattle.std.specs.Prelude.{◌≡◌, ◌≢◌, ◌⊎◌, ℕ, ◌≤◌, Bool, true, false, List, [], ◌∷◌, ◌++◌, length, Option, Some, None}
 use Rattle.std.specs.List.{Contains, AllByRecursion}
 use Rattle.b2_host.specs.declared.children.ChildEvent.{ChildEvent}
-use Rattle.b2_host.specs.declared.children.ChildEvent.TheVariants.{Done}
+use Rattle.b2_host.specs.declared.children.ChildEvent.TheVariants.{Start, Done}
 use Rattle.b2_host.specs.Disks.{Folder, Disk, Past}
 use Rattle.b2_plan.specs.declared.step.Step.{Step}
-use Rattle.b2_plan.specs.Plans.{Apart, step_at}
+use Rattle.b2_plan.specs.Plans.{Apart, Makes, step_at}
 use Rattle.b2_plan.specs.Closures.{Value, IsClose}
 use Rattle.b2_plan.specs.Cleans.{Clean}
 use Rattle.b2_log.specs.declared.line.Record.{Record}
@@ -17,14 +17,14 @@ use Rattle.b2_log.specs.Readings.{IsReading}
 use Rattle.b2_log.specs.Finding.{find_record, find_scan}
 use Rattle.b2_runs.specs.Logs.{Making, LogTrue}
 use Rattle.b2_runs.specs.LogFiles.{log_limit, IsLogOf, IsTrueFile, IsLogIn}
-use Rattle.b2_runs.specs.Staleness.{Update, making}
+use Rattle.b2_runs.specs.Staleness.{Update, making, IsRecorded}
 use Rattle.b2_runs.specs.Records.{IsRecordOf, IsScanOf}
 use Rattle.b2_runs.specs.Events.{AreInOrder}
 use Rattle.b2_runs.specs.Runs.{IsRunSoFar, IsBegun}
 use Rattle.b2_runs.specs.Outcomes.{IsFailed}
 use Rattle.b2_runs.specs.Soundness.{IsSound, Drifts}
 use Rattle.b2_runs.specs.FileReads.{IsToScan}
-use Rattle.b2_runs.specs.Afterwards.{NoneDoneOlder, IsNotedStep, IsNoted}
+use Rattle.b2_runs.specs.Afterwards.{next_update, Restless, NoneDoneOlder, IsNotedStep, IsNoted}
 use Rattle.b2_runs.specs.LogCourses.{IsLong, BeginsWith, HasDigestsAlready, IsLogAfter, held_bytes, log_file, IsLogWhole, IsLogCut}
 
 -- ---- what an update begins with
@@ -134,3 +134,16 @@ CutLogIsTrue = (u : Update) (events : List ChildEvent) (disk : Disk) → Apart u
 abbrev pub CutLogIsNoted : Type 0
 CutLogIsNoted = (u : Update) (events : List ChildEvent) (now : Folder) (log : List LogLine) → Apart u.build.steps u.build.roots → AppendsGood u now → ((front rest : List ChildEvent) → events ≡ front ++ rest → IsRunSoFar u front → NoneDoneOlder u front now) → IsLogIn u.build.folder u.log → IsLogCut u events now → length (held_bytes (log_file now)) ≤ log_limit → IsLogIn now log
     → (events ≡ []) ⊎ ((b : IsBegun u events) × IsNoted u b.front now log)
+
+-- What a finished step made is kept, wherever an update was cut off: of a step that was done well before the last start, the log
+-- has a record that agrees with the files, judged as the next update judges it before any event.
+abbrev pub FinishedIsKept : Type 0
+FinishedIsKept = (u : Update) (events before after : List ChildEvent) (now : Folder) (log : List LogLine) (quit : Bool) (jobs k i : ℕ) (step : Step) (members : List (List ℕ × Value)) → Apart u.build.steps u.build.roots → AppendsGood u now
+    → ((front rest : List ChildEvent) → events ≡ front ++ rest → IsRunSoFar u front → NoneDoneOlder u front now) → IsLogIn u.build.folder u.log → IsLogCut u events now → length (held_bytes (log_file now)) ≤ log_limit → IsLogIn now log
+    → events ≡ before ++ Start k ∷ after → Contains before (Done i true) → step_at u.build.steps i ≡ Some step → step.notfile ≡ false → IsClose u.build (Clean u.build) step members → IsRecorded (next_update u now log quit jobs) [] step members
+
+-- so the run of the next update holds no start of it, unless an always-step or a notfile step reaches it
+abbrev pub FinishedIsNotStarted : Type 0
+FinishedIsNotStarted = (u : Update) (events before after later : List ChildEvent) (disk : Disk) (log : List LogLine) (quit : Bool) (jobs k i : ℕ) (step : Step) (path : List ℕ) → Apart u.build.steps u.build.roots → AppendsGood u disk.now → IsSound u events disk
+    → ((front rest : List ChildEvent) → events ≡ front ++ rest → IsRunSoFar u front → NoneDoneOlder u front disk.now) → IsLogIn u.build.folder u.log → IsLogCut u events disk.now → length (held_bytes (log_file disk.now)) ≤ log_limit → IsLogIn disk.now log
+    → events ≡ before ++ Start k ∷ after → Contains before (Done i true) → Makes u.build.steps i step path → (Restless u.build path → ⊥) → IsRunSoFar (next_update u disk.now log quit jobs) later → Contains later (Start i) → ⊥

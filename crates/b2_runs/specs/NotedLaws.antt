@@ -1,4 +1,4 @@
-use Rattle.std.specs.Prelude.{◌≡◌, ℕ, Bool, true, List, [], ◌∷◌, ◌++◌, Some}
+use Rattle.std.specs.Prelude.{◌≡◌, ℕ, Bool, true, false, List, [], ◌∷◌, ◌++◌, Some}
 use Rattle.std.specs.List.{Contains}
 use Rattle.b2_host.specs.declared.children.ChildEvent.{ChildEvent}
 use Rattle.b2_host.specs.declared.children.ChildEvent.TheVariants.{Start, Done}
@@ -20,7 +20,7 @@ use Rattle.b2_runs.specs.Events.{IsOpen}
 use Rattle.b2_runs.specs.Runs.{Settled, CanStart, IsRunSoFar}
 use Rattle.b2_runs.specs.Outcomes.{IsFailed, LeavesNothing}
 use Rattle.b2_runs.specs.Soundness.{IsLoose, Drifts, AreAtWork}
-use Rattle.b2_runs.specs.Afterwards.{next_update, IsNoted}
+use Rattle.b2_runs.specs.Afterwards.{next_update, NoneDoneOlder, IsNoted}
 
 -- before any event a log that says what the one at entry said has the last word
 abbrev pub NotedAtEntry : Type 0
@@ -67,3 +67,23 @@ OutputsAreNewer = (u : Update) (events : List ChildEvent) (old new : Family) (be
 abbrev pub FailedIsStale : Type 0
 FailedIsStale = (u : Update) (events : List ChildEvent) (now : Folder) (log : List LogLine) (quit : Bool) (jobs : ℕ) (i : ℕ) (step : Step) (members : List (List ℕ × Value)) → Apart u.build.steps u.build.roots → LeavesNothing u events now log → IsFailed events i
     → step_at u.build.steps i ≡ Some step → IsFresh (next_update u now log quit jobs) [] step members → ⊥
+
+-- ---- no output that was made is older than what it was made of
+
+-- before any event
+abbrev pub NoneOlderAtEntry : Type 0
+NoneOlderAtEntry = (u : Update) (now : Folder) → NoneDoneOlder u [] now
+
+-- .. as a step starts
+abbrev pub NoneOlderAfterStart : Type 0
+NoneOlderAfterStart = (u : Update) (events : List ChildEvent) (now : Folder) (i : ℕ) → NoneDoneOlder u events now → NoneDoneOlder u (events ++ Start i ∷ []) now
+
+-- .. as a step ends, where its own outputs are not, if it ended well and owes files
+abbrev pub NoneOlderAfterEnd : Type 0
+NoneOlderAfterEnd = (u : Update) (events : List ChildEvent) (now : Folder) (i : ℕ) (well : Bool) → NoneDoneOlder u events now
+    → (well ≡ true → (step : Step) (members : List (List ℕ × Value)) → step_at u.build.steps i ≡ Some step → step.notfile ≡ false → IsClose u.build (Clean u.build) step members → NoneOlder now step members)
+    → NoneDoneOlder u (events ++ Done i well ∷ []) now
+
+-- .. and as steps that run or failed change their outputs
+abbrev pub NoneOlderAfterDrift : Type 0
+NoneOlderAfterDrift = (u : Update) (events : List ChildEvent) (before after : Disk) → Apart u.build.steps u.build.roots → IsRunSoFar u events → Drifts u events before after → NoneDoneOlder u events before.now → NoneDoneOlder u events after.now

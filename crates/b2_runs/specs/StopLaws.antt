@@ -62,3 +62,7 @@ NotStartedAgain = (u : Update) (events later : List ChildEvent) (disk : Disk) (l
 abbrev pub NoWorkIsLost : Type 0
 NoWorkIsLost = (u : Update) (events later : List ChildEvent) (disk : Disk) (log : List LogLine) (quit : Bool) (jobs : ℕ) (i : ℕ) (step : Step) (path : List ℕ) (b : IsBegun u events) → Apart u.build.steps u.build.roots → IsSound u events disk → IsNoted u b.front disk.now log
     → IsRunSoFar (next_update u disk.now log quit jobs) later → Makes u.build.steps i step path → Contains b.front (Done i true) → (Restless u.build path → ⊥) → Contains later (Start i) → ⊥
+
+-- what came before a start of an update that stopped is in the run so far
+abbrev pub BegunHoldsEarlier : Type 0
+BegunHoldsEarlier = (u : Update) (events before after : List ChildEvent) (i : ℕ) (event : ChildEvent) (b : IsBegun u events) → events ≡ before ++ Start i ∷ after → Contains before event → Contains b.front event

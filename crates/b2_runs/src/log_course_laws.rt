@@ -1,5 +1,5 @@
 //! Laws of the log over a whole update: what it begins with, and what the events add.
-ghost use Rattle.b2_runs.specs.LogCourseLaws.{BeginsWithOne, BeginTellsRecords, BeginTellsScans, BeginIsRead, LinesAreRead, LogGrows, LogTellsOthers, LogDropsFailed, LogHasRecords, WholeLogCounts, LogTellsOtherScans, ScansOnce, MigratesOnce, LogIsProper, LogMoves, LogStaysTrue, LogIsNoted, LogStaysGood, WholeIsCut, HealthyGrows, CutLogIsTrue, CutLogIsNoted};
+ghost use Rattle.b2_runs.specs.LogCourseLaws.{BeginsWithOne, BeginTellsRecords, BeginTellsScans, BeginIsRead, LinesAreRead, LogGrows, LogTellsOthers, LogDropsFailed, LogHasRecords, WholeLogCounts, LogTellsOtherScans, ScansOnce, MigratesOnce, LogIsProper, LogMoves, LogStaysTrue, LogIsNoted, LogStaysGood, WholeIsCut, HealthyGrows, CutLogIsTrue, CutLogIsNoted, FinishedIsKept, FinishedIsNotStarted};
 
 /// An update begins with one list of lines.
 pub fn begins_with_one()
@@ -109,4 +109,14 @@ pub fn cut_log_is_true()
 /// Wherever an update was cut off, its log has the last word on what was done in a run so far that holds each of its starts.
 pub fn cut_log_is_noted()
     ensures { CutLogIsNoted }
+{}
+
+/// Of a step that was done well before the last start the log has a record that agrees, wherever the update was cut off.
+pub fn finished_is_kept()
+    ensures { FinishedIsKept }
+{}
+
+/// The next update does not start it, unless an always-step or a notfile step reaches it.
+pub fn finished_is_not_started()
+    ensures { FinishedIsNotStarted }
 {}

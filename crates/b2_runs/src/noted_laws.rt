@@ -1,5 +1,5 @@
 //! Laws of the log beside a run: it has the last word on each step.
-ghost use Rattle.b2_runs.specs.NotedLaws.{NotedAtEntry, NotedAfterStart, NotedAfterDrift, NotedAfterOtherEnd, NotedAfterLine, NotedAfterRecord, NotedAfterScan, NotedAfterMigration, OutputsAreNewer, FailedIsStale};
+ghost use Rattle.b2_runs.specs.NotedLaws.{NotedAtEntry, NotedAfterStart, NotedAfterDrift, NotedAfterOtherEnd, NotedAfterLine, NotedAfterRecord, NotedAfterScan, NotedAfterMigration, OutputsAreNewer, FailedIsStale, NoneOlderAtEntry, NoneOlderAfterStart, NoneOlderAfterEnd, NoneOlderAfterDrift};
 
 /// Before any event a log that says what the one at entry said has the last word.
 pub fn noted_at_entry()
@@ -49,4 +49,24 @@ pub fn outputs_are_newer()
 /// A failed step whose outputs do not stand is stale to the next update.
 pub fn failed_is_stale()
     ensures { FailedIsStale }
+{}
+
+/// Before any event no output that was made is older than what it was made of.
+pub fn none_older_at_entry()
+    ensures { NoneOlderAtEntry }
+{}
+
+/// It stays so as a step starts.
+pub fn none_older_after_start()
+    ensures { NoneOlderAfterStart }
+{}
+
+/// It stays so as a step ends, where its own outputs are not older.
+pub fn none_older_after_end()
+    ensures { NoneOlderAfterEnd }
+{}
+
+/// It stays so as steps that run or failed change their outputs.
+pub fn none_older_after_drift()
+    ensures { NoneOlderAfterDrift }
 {}

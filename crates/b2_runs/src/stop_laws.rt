@@ -1,5 +1,5 @@
 //! Laws of updates that stop anywhere: what was done in the run so far is not done again.
-ghost use Rattle.b2_runs.specs.StopLaws.{RunIsBegun, BegunGoesOn, BegunUpToStart, SoundBeforeEnds, NotedThroughEnds, NotedThoughTorn, FinishedIsRecorded, FreshThoughStopped, NotStartedAgain, NoWorkIsLost};
+ghost use Rattle.b2_runs.specs.StopLaws.{RunIsBegun, BegunGoesOn, BegunUpToStart, SoundBeforeEnds, NotedThroughEnds, NotedThoughTorn, FinishedIsRecorded, FreshThoughStopped, NotStartedAgain, NoWorkIsLost, BegunHoldsEarlier};
 
 /// A run so far has begun, without ends after it.
 pub fn run_is_begun()
@@ -50,4 +50,9 @@ pub fn not_started_again()
 /// So the next update starts no step that was done well in the run so far.
 pub fn no_work_is_lost()
     ensures { NoWorkIsLost }
+{}
+
+/// What came before a start of an update that stopped is in the run so far.
+pub fn begun_holds_earlier()
+    ensures { BegunHoldsEarlier }
 {}
