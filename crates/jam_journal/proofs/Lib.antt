@@ -1,0 +1,9 @@
+pub mod NameLemmas
+pub mod TableLemmas
+pub mod PastLemmas
+pub mod StepLemmas
+pub mod SeeingLemmas
+pub mod SettingLemmas
+pub mod ChangeLemmas
+pub mod VariableLemmas
+pub mod SavedLemmas

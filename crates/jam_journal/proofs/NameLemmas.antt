@@ -1,0 +1,107 @@
+-- Finite maps from texts in which the value at one text is replaced.
+use Rattle.std.proofs.Common.{String, string_bytes, ◌≡◌, true, false, Bool, cond, List, [], ◌∷◌, map as each, Option, Some, None, is_some, refl, sym, ap, ◌∙◌}
+use Rattle.std.specs.Ordering.{nat_cmp}
+use Rattle.std.specs.Str.{bytes_eq}
+use Rattle.std.specs.Map.{lookup}
+use Rattle.std.specs.Cmp.Lexicographic.{slice_cmp}
+use Rattle.std.specs.FinMap.{get, remove, get-insert, get-remove, get-from_entries, same_map}
+use Rattle.std.specs.FinMap.Entries.{find}
+use Rattle.std.proofs.lemmas.Cmp.{nat_list_cmp_total, nat_list_eq_equiv}
+use Rattle.std.proofs.lemmas.Map.Lookups.{exact_bytes}
+use Rattle.std.proofs.lemmas.Map.Text.{is_eq-slice_cmp, hash_map_updates_text}
+use Rattle.std.proofs.lemmas.Slice.Eq.{bytes_eq-Decides}
+use Rattle.std.specs.HashMap.{HashMap, UpdatesBy}
+use Rattle.std.specs.String.{string_eq}
+use Rattle.jam_journal.specs.Tables.{Text, Names, put_name, back_name, names_of}
+
+module _ {X : Type 0} where
+  pub same_names : (m n : Names X) → ((q : Text) → get m q ≡ get n q) → m ≡ n
+  same_names = same_map nat_list_cmp_total exact_bytes
+
+  -- what a map has at a text after another text got a value, or lost it
+  pub get_put_name : (m : Names X) (k : Text) (x : Option X) (q : Text) → get (put_name m k x) q ≡ cond (bytes_eq q k) x (get m q)
+  get_put_name m k None q = get-remove nat_list_cmp_total m k q ∙ ap (λ b. cond b None (get m q)) (is_eq-slice_cmp q k)
+  get_put_name m k (Some v) q = get-insert nat_list_cmp_total m k v q ∙ ap (λ b. cond b (Some v) (get m q)) (is_eq-slice_cmp q k)
+
+  module _ {K : Type 0} (text : K → Text) where
+    -- the entry that is found by a text
+    abbrev pub at_name : List (K × X) → Text → Option X
+    at_name entries name = lookup (λ key. bytes_eq name (text key)) entries
+
+    find_names : (es : List (K × X)) (q : Text) → find (slice_cmp nat_cmp) q (each (λ e. (text e.0, e.1)) es) ≡ at_name es q
+    find_names [] q = refl
+    find_names (e ∷ es) q = λ i. cond (is_eq-slice_cmp q (text e.0) i) (Some e.1) (find_names es q i)
+
+    -- what the map that entries stand for has at a text
+    pub get_names : (es : List (K × X)) (q : Text) → get (names_of text es) q ≡ at_name es q
+    get_names es q = get-from_entries nat_list_cmp_total (each (λ e. (text e.0, e.1)) es) q ∙ find_names es q
+
+    -- entries that differ at one text stand for maps that differ there
+    pub put_names : (es fs : List (K × X)) (s : Text) (w : Option X) → ((q : Text) → at_name fs q ≡ cond (bytes_eq s q) w (at_name es q)) → names_of text fs ≡ put_name (names_of text es) s w
+    put_names es fs s w h = same_names _ _ (λ q.
+        get_names fs q ∙ h q
+        ∙ (λ i. cond (nat_list_eq_equiv.symm s q i) w (sym (get_names es q) i))
+        ∙ sym (get_put_name (names_of text es) s w q))
+
+module _ {X : Type 0} where
+  gone : (m : Names X) (k q : Text) → get m k ≡ None → (t : Bool) → bytes_eq q k ≡ t → cond t None (get m q) ≡ get m q
+  gone m k q e true h = sym e ∙ ap (get m) (sym ((bytes_eq-Decides q k).0 h))
+  gone m k q e false h = refl
+
+  back_none_by : (m : Names X) (k : Text) (o : Option X) → get m k ≡ o → remove m k ≡ cond (is_some o) (remove m k) m
+  back_none_by m k None e = same_names _ _ (λ q. get_put_name m k None q ∙ gone m k q e (bytes_eq q k) refl)
+  back_none_by m k (Some x) e = refl
+
+  -- to take away what is not there changes nothing
+  pub back_none : (m : Names X) (k : Text) → remove m k ≡ back_name m k None
+  back_none m k = back_none_by m k (get m k) refl
+
+  module _ {K : Type 0} (text : K → Text) where
+    -- another value at a text that has one
+    pub back_found : (m : Names X) (es fs : List (K × X)) (k : Text) (w : Option X) → names_of text es ≡ m → is_some (at_name text es k) ≡ true → names_of text fs ≡ put_name (names_of text es) k w → names_of text fs ≡ back_name m k w
+    back_found m es fs k w e found h =
+        h ∙ ap (λ n. put_name n k w) e
+        ∙ sym (ap (λ b. cond b (put_name m k w) m) (ap (λ n. is_some (get n k)) (sym e) ∙ ap is_some (get_names text es k) ∙ found))
+
+    -- a text without a value
+    pub back_absent : (m : Names X) (es fs : List (K × X)) (k : Text) (w : Option X) → names_of text es ≡ m → at_name text es k ≡ None → fs ≡ es → names_of text fs ≡ back_name m k w
+    back_absent m es fs k w e absent same =
+        ap (names_of text) same ∙ e
+        ∙ sym (ap (λ b. cond b (put_name m k w) m) (ap (λ n. is_some (get n k)) (sym e) ∙ ap is_some (get_names text es k) ∙ ap is_some absent))
+
+-- what a change of the map in the code is
+pub put_hash : {Y X S : Type 0} (m n : HashMap (String Y) X S) (bs : Text) (w : Option X) → UpdatesBy string_eq (λ k. bytes_eq bs (string_bytes k)) m n w → names_of string_bytes n.entries ≡ put_name (names_of string_bytes m.entries) bs w
+put_hash m n bs w h = put_names string_bytes m.entries n.entries bs w (hash_map_updates_text bs m n w h)
+
+-- what the map in the code has at a text after another text got a value
+pub at_changed : {Y X S : Type 0} (m n : HashMap (String Y) X S) (bs : Text) (v w : X) → UpdatesBy string_eq (λ k. bytes_eq bs (string_bytes k)) m n (Some v) → v ≡ w → (a : Text) → at_name string_bytes n.entries a ≡ cond (bytes_eq bs a) (Some w) (at_name string_bytes m.entries a)
+at_changed m n bs v w h e a = hash_map_updates_text bs m n (Some v) h a ∙ ap (λ x. cond (bytes_eq bs a) (Some x) (at_name string_bytes m.entries a)) e
+
+module _ {X : Type 0} where
+  name_twice : (t : Bool) (x y z : Option X) → cond t y (cond t x z) ≡ cond t y z
+  name_twice true x y z = refl
+  name_twice false x y z = refl
+
+  name_stays : (m : Names X) (k q : Text) (t : Bool) → bytes_eq q k ≡ t → cond t (get m k) (get m q) ≡ get m q
+  name_stays m k q true e = ap (get m) (sym ((bytes_eq-Decides q k).0 e))
+  name_stays m k q false e = refl
+
+  pub name_there : (m : Names X) (k : Text) (x : Option X) → get (put_name m k x) k ≡ x
+  name_there m k x = get_put_name m k x k ∙ ap (λ b. cond b x (get m k)) ((bytes_eq-Decides k k).1 refl)
+
+  -- what stood at a text is put back over what came after it
+  pub undo_put_name : (m : Names X) (k : Text) (v : X) → back_name (put_name m k (Some v)) k (get m k) ≡ m
+  undo_put_name m k v =
+      ap (λ b. cond b (put_name (put_name m k (Some v)) k (get m k)) (put_name m k (Some v))) (ap is_some (name_there m k (Some v)))
+      ∙ same_names _ _ (λ q.
+      get_put_name (put_name m k (Some v)) k (get m k) q
+      ∙ ap (cond (bytes_eq q k) (get m k)) (get_put_name m k (Some v) q)
+      ∙ name_twice (bytes_eq q k) (Some v) (get m k) (get m q)
+      ∙ name_stays m k q (bytes_eq q k) refl)
+
+  pub get_back_name_apart : (m : Names X) (k l : Text) (x : Option X) → bytes_eq k l ≡ false → get (back_name m l x) k ≡ get m k
+  get_back_name_apart m k l x e = by (is_some (get m l))
+    where
+      by : (t : Bool) → get (cond t (put_name m l x) m) k ≡ get m k
+      by true = get_put_name m l x k ∙ ap (λ b. cond b x (get m k)) e
+      by false = refl

@@ -1,0 +1,26 @@
+use Rattle.std.proofs.Common.{reverse, ap, ◌∙◌}
+use Rattle.jam_journal.specs.declared.registers.Scope.TheVariants.{Called}
+use Rattle.jam_journal.specs.Marks.{changed}
+use Rattle.jam_journal.specs.Scopes.{enter_call}
+use Rattle.jam_journal.specs.Stacks.{in_call}
+use Rattle.jam_journal.specs.Layers.{layers_of}
+use Rattle.jam_journal.proofs.ChangeLemmas.{call_kept, call_seen}
+use Rattle.jam_journal.proofs.VariableLemmas.{pushed_kept, pushed_seen}
+use Rattle.jam_journal.proofs.variables.Variables.enter_call.Goals as goal
+
+pub invariant_of-self-2 : goal.invariant_of-self-2
+invariant_of-self-2 c =
+    let r = c.self.inside.registers in
+    let older = layers_of c.self.inside.older.items in
+    let changes = reverse c.self.inside.changes.items in
+    pushed_kept older c.self.inside.entries.items changes c.open_call.new.registers (in_call c.args.module.now r) c.open_call.new.entries.items (Called r.owner r.caller) c.in_ok-open_call.ensures.registers c.in_ok-open_call.ensures.entries
+    (call_kept older r (reverse c.self.inside.entries.items) changes c.self.invariant c.args.module.now)
+
+pub returns-clause-ok : goal.returns-clause-ok
+returns-clause-ok c =
+    let r = c.self.inside.registers in
+    let older = layers_of c.self.inside.older.items in
+    let changes = reverse c.self.inside.changes.items in
+    pushed_seen older c.self.inside.entries.items changes c.open_call.new.registers (in_call c.args.module.now r) c.open_call.new.entries.items (Called r.owner r.caller) c.in_ok-open_call.ensures.registers c.in_ok-open_call.ensures.entries
+    ∙ call_seen older r (reverse c.self.inside.entries.items) changes c.self.invariant c.args.module.now
+    ∙ ap (changed (enter_call c.args.module.now)) c.self.view_is

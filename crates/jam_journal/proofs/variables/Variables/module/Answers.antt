@@ -1,0 +1,12 @@
+use Rattle.std.proofs.Common.{◌++◌, reverse, sym, ap, ◌∙◌}
+use Rattle.jam_journal.specs.Marks.{Marked}
+use Rattle.jam_journal.specs.Scopes.{Scopes, module_of}
+use Rattle.jam_journal.specs.Stacks.{entries_of}
+use Rattle.jam_journal.specs.Layers.{layers_of}
+use Rattle.jam_journal.proofs.SeeingLemmas.{module_is}
+use Rattle.jam_journal.proofs.ChangeLemmas.{here}
+use Rattle.jam_journal.proofs.variables.Variables.module.Goals as goal
+
+pub returns : goal.returns
+returns c =
+    c.as_str.ensures ∙ sym (module_is (reverse c.self.inside.entries.items ++ entries_of (layers_of c.self.inside.older.items)) c.self.inside.registers (here (layers_of c.self.inside.older.items) c.self.inside.registers (reverse c.self.inside.entries.items) (reverse c.self.inside.changes.items) c.self.invariant).agree) ∙ ap (λ (p : Marked Scopes). module_of p.0.frames) c.self.view_is
