@@ -1,5 +1,7 @@
 //! The attributes of features.
 ghost use Rattle.std.specs.Prelude.{◌≡◌};
+ghost use Rattle.std.specs.List.{list_any};
+ghost use Rattle.std.specs.Str.{bytes_eq};
 ghost use Rattle.b2_features.specs.Attributes.{name_of, has, is_attribute};
 
 use b2_base::text::Text;
@@ -54,17 +56,31 @@ impl Attribute {
     }
 }
 
+/// How the attributes are written.
+static NAMES: [&str; 9] = [
+    "implicit",
+    "composite",
+    "free",
+    "optional",
+    "propagated",
+    "symmetric",
+    "incidental",
+    "path",
+    "dependency",
+];
+
+fn is_among(word: &str, names: &[&str]) -> bool
+    ensures { result ≡ list_any (λ name. bytes_eq word.now name.now) names.now }
+{
+    match names {
+        [] => false,
+        [first, more @ ..] => word == *first || is_among(word, more),
+    }
+}
+
 /// Whether a word is an attribute; takes no memory.
 pub fn is_attribute_word(word: &str) -> bool
     ensures { result ≡ is_attribute word.now }
 {
-    word == "implicit"
-        || word == "composite"
-        || word == "free"
-        || word == "optional"
-        || word == "propagated"
-        || word == "symmetric"
-        || word == "incidental"
-        || word == "path"
-        || word == "dependency"
+    is_among(word, &NAMES)
 }
