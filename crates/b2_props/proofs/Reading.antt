@@ -67,18 +67,19 @@ with_equals (x ∷ xs) ys = or_true (eqb x 61) (with_equals xs ys)
     or_true false e = e
 
 -- what stands before and after the first `=`
-pub halves_of : (text : List ℕ) (r : Option (Bor (List ℕ) × Bor (List ℕ))) → IsSplitOnceResult 61 text r → HasNoZero text → MatchOption r (words.is_named text ≡ false) (λ parts. (words.is_named text ≡ true) × (parts.0.now ≡ before_first is_equals text) × (parts.1.now ≡ after_first is_equals text) × HasNoZero parts.0.now × HasNoZero parts.1.now)
+pub halves_of : (text : List ℕ) (r : Option (Bor (List ℕ) × Bor (List ℕ))) → IsSplitOnceResult 61 text r → HasNoZero text → MatchOption r (words.is_named text ≡ false) (λ parts. words.AreHalves text parts.0.now parts.1.now)
 halves_of text None h zero_free = no_equals text (split_parts 61 text None h (lit< tt))
 halves_of text (Some x) h zero_free =
     let cuts = split_once_first 61 text (Some x) h (lit< tt) in
     let parts = split_parts 61 text (Some x) h (lit< tt) in
-    let ends = ends_by_recursion (λ byte. 0 < byte) x.0.now 61 x.1.now (subst (AllByRecursion (λ byte. 0 < byte)) parts.0 (recursion_from_All (λ byte. 0 < byte) text zero_free)) in (
-      ap (list_any is_equals) parts.0 ∙ with_equals x.0.now x.1.now,
-      cuts.1,
-      cuts.2,
-      All-from_recursion (λ byte. 0 < byte) x.0.now ends.0,
-      All-from_recursion (λ byte. 0 < byte) x.1.now ends.1,
-    )
+    let ends = ends_by_recursion (λ byte. 0 < byte) x.0.now 61 x.1.now (subst (AllByRecursion (λ byte. 0 < byte)) parts.0 (recursion_from_All (λ byte. 0 < byte) text zero_free)) in
+    record {
+      named = ap (list_any is_equals) parts.0 ∙ with_equals x.0.now x.1.now;
+      before_it = cuts.1;
+      after_it = cuts.2;
+      before_text = All-from_recursion (λ byte. 0 < byte) x.0.now ends.0;
+      after_text = All-from_recursion (λ byte. 0 < byte) x.1.now ends.1;
+    }
 
 -- ---- all of a list
 

@@ -1,6 +1,7 @@
-use Rattle.std.specs.Prelude.{◌≡◌, ℕ, ◌==◌, Bool, not, ◌||◌, List, [], ◌∷◌, Option, Some, None, map, filter, is_some, option_map, if◌then◌else◌}
+use Rattle.std.specs.Prelude.{◌≡◌, ℕ, ◌==◌, Bool, true, not, ◌||◌, List, [], ◌∷◌, Option, Some, None, map, filter, is_some, option_map, if◌then◌else◌}
 use Rattle.std.specs.List.{list_any, list_all, filter_map, slice_split, before_first, after_first}
 use Rattle.std.specs.Option.{option_or, option_map_or}
+use Rattle.b2_base.specs.Bytes.{HasNoZero}
 use Rattle.b2_features.specs.declared.attribute.Attribute.TheVariants.{Free}
 use Rattle.b2_features.specs.Attributes.{has}
 use Rattle.b2_features.specs.Table.{Declared, lists, feature_of, implicit_of}
@@ -21,6 +22,14 @@ is_equals byte = byte == 61
 -- whether a segment has a `=`
 abbrev pub is_named : List ℕ → Bool
 is_named segment = list_any is_equals segment
+
+-- what stands before the first `=` of a segment, and what stands after it
+pub record AreHalves (segment before after : List ℕ) : Type 0 where
+  pub named : is_named segment ≡ true
+  pub before_it : before ≡ before_first is_equals segment
+  pub after_it : after ≡ after_first is_equals segment
+  pub before_text : HasNoZero before
+  pub after_text : HasNoZero after
 
 -- whether a value stands for itself
 abbrev pub is_implicit : List Declared → List ℕ → Bool

@@ -10,6 +10,7 @@ ghost use Rattle.b2_props.specs.Refinement.{components, default_pair, defaults};
 ghost use Rattle.b2_props.specs.Holding.{Holds, Gains, Takes, HasOneMore, HasValue};
 
 use crate::lookups::{is_with, parts_in};
+use crate::pair_list::pair_with;
 use crate::props::Props;
 use b2_base::fault::OutOfMemory;
 use b2_base::text::Text;
@@ -43,8 +44,8 @@ impl Draft {
     fn add_free(&mut self, feature: &Text, value: &Text) -> Result<(), OutOfMemory>
         ensures { OnOk result (HasOneMore (feature.now, value.now) self.old self.new) }
     {
-        if self.known.insert((feature.copy()?, value.copy()?))? {
-            self.free.push((feature.copy()?, value.copy()?))?;
+        if self.known.insert(pair_with(feature, value)?)? {
+            self.free.push(pair_with(feature, value)?)?;
         }
         Ok(())
     }
@@ -169,7 +170,7 @@ impl Draft {
         }
         match self.values.get(&feature.name) {
             None => Ok(None),
-            Some(value) => Ok(Some((feature.name.copy()?, value.copy()?))),
+            Some(value) => Ok(Some(pair_with(&feature.name, value)?)),
         }
     }
 

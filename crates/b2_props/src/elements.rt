@@ -9,6 +9,7 @@ ghost use Rattle.b2_props.specs.Elements.{propagated, shows_beside, shows, eleme
 
 use crate::draft::Draft;
 use crate::lookups::is_with;
+use crate::pair_list::copy_pair;
 use crate::props::Props;
 use b2_base::fault::OutOfMemory;
 use b2_base::text::Text;
@@ -25,7 +26,7 @@ pub fn propagated(alloc: Global, registry: &Registry, set: &Props) -> Result<Pro
     let mut pairs = Vec::new(alloc);
     for pair in set.pairs() {
         if is_with(registry, Attribute::Propagated, pair.0.as_str()) {
-            pairs.push((pair.0.copy()?, pair.1.copy()?))?;
+            pairs.push(copy_pair(pair)?)?;
         }
     }
     Ok(Props::from_vec(pairs))

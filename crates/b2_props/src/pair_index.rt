@@ -4,6 +4,7 @@ ghost use Rattle.std.specs.List.{list_all};
 ghost use Rattle.b2_props.specs.Sets.{Pair};
 ghost use Rattle.b2_props.specs.Indexing.{is_indexed, IsIndexOf};
 
+use crate::pair_list::copy_pair;
 use b2_base::fault::OutOfMemory;
 use b2_base::text::Text;
 use std::alloc::Global;
@@ -27,7 +28,7 @@ impl PairIndex {
     fn add(&mut self, pair: &(Text, Text)) -> Result<(), OutOfMemory>
         ensures { (pairs : List Pair) → IsIndexOf pairs self.old → OnOk result (IsIndexOf (pairs ++ pair.now ∷ []) self.new) }
     {
-        let _is_new = self.known.insert((pair.0.copy()?, pair.1.copy()?))?;
+        let _is_new = self.known.insert(copy_pair(pair)?)?;
         Ok(())
     }
 

@@ -6,6 +6,20 @@ use b2_base::text::Text;
 use std::alloc::Global;
 use std::marker::Model;
 
+/// A feature and a value as a pair.
+pub(crate) fn pair_with(feature: &Text, value: &Text) -> Result<(Text, Text), OutOfMemory>
+    ensures { IfOk result (λ made. made ≡ (feature.now, value.now)) }
+{
+    Ok((feature.copy()?, value.copy()?))
+}
+
+/// The same pair again.
+pub(crate) fn copy_pair(pair: &(Text, Text)) -> Result<(Text, Text), OutOfMemory>
+    ensures { IfOk result (λ made. made ≡ pair.now) }
+{
+    pair_with(&pair.0, &pair.1)
+}
+
 /// The same pairs, in order.
 pub(crate) fn copy_pairs(
     alloc: Global,
@@ -15,7 +29,7 @@ pub(crate) fn copy_pairs(
 {
     let mut made = Vec::new(alloc);
     for pair in pairs {
-        made.push((pair.0.copy()?, pair.1.copy()?))?;
+        made.push(copy_pair(pair)?)?;
     }
     Ok(made)
 }

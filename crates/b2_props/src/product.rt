@@ -4,6 +4,7 @@ ghost use Rattle.std.specs.List.{flat_map};
 ghost use Rattle.b2_props.specs.Requests.{product};
 
 use crate::choice::{Choice, Factor};
+use crate::pair_list::copy_pair;
 use b2_base::fault::OutOfMemory;
 use std::alloc::Global;
 
@@ -11,7 +12,7 @@ fn copy(choice: &Choice) -> Result<Choice, OutOfMemory>
     ensures { IfOk result (λ made. made ≡ choice.now) }
 {
     Ok(Choice {
-        pair: (choice.pair.0.copy()?, choice.pair.1.copy()?),
+        pair: copy_pair(&choice.pair)?,
         word: choice.word,
     })
 }

@@ -11,6 +11,7 @@ ghost use Rattle.b2_props.specs.Laws.{HasRequired, KeepsOthers, KeepsValues, Has
 
 use crate::draft::Draft;
 use crate::lookups::{is_with, parts_in};
+use crate::pair_list::copy_pair;
 use crate::props::Props;
 use b2_base::fault::OutOfMemory;
 use b2_base::text::Text;
@@ -82,7 +83,7 @@ fn bring(
 {
     for part in parts {
         if is_with(registry, Attribute::Free, part.0.as_str()) || taken.get(&part.0).is_none() {
-            whole.push((part.0.copy()?, part.1.copy()?))?;
+            whole.push(copy_pair(part)?)?;
         }
     }
     Ok(())
@@ -101,7 +102,7 @@ fn complete(
     take_all(&mut taken, required)?;
     let mut whole = Vec::new(alloc);
     for pair in required {
-        whole.push((pair.0.copy()?, pair.1.copy()?))?;
+        whole.push(copy_pair(pair)?)?;
         let parts = parts_in(registry, pair);
         bring(&mut whole, registry, &taken, parts)?;
         take_all(&mut taken, parts)?;

@@ -8,6 +8,7 @@ ghost use Rattle.b2_props.specs.Ways.{ways_in, IsPlaced};
 
 use crate::choice::Choice;
 use crate::clashes::row_clash;
+use crate::pair_list::copy_pair;
 use crate::product::product;
 use crate::props::Props;
 use crate::refinement::set_of;
@@ -116,7 +117,7 @@ fn row_set(alloc: Global, registry: &Registry, row: &[Choice]) -> Result<Props, 
 {
     let mut pairs = Vec::new(alloc);
     for choice in row {
-        pairs.push((choice.pair.0.copy()?, choice.pair.1.copy()?))?;
+        pairs.push(copy_pair(&choice.pair)?)?;
     }
     set_of(alloc, registry, pairs.as_slice())
 }

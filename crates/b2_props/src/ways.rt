@@ -8,6 +8,7 @@ ghost use Rattle.b2_props.specs.Ways.{ways_of, ways_in, place_of, longer_at, IsP
 
 use crate::choice::{Choice, Factor};
 use crate::lookups::is_with;
+use crate::pair_list::copy_pair;
 use b2_base::fault::OutOfMemory;
 use b2_base::text::Text;
 use b2_base::text_map::TextMap;
@@ -33,7 +34,7 @@ pub(crate) fn choices_of(
     let mut made = Vec::new(alloc);
     for pair in pairs {
         made.push(Choice {
-            pair: (pair.0.copy()?, pair.1.copy()?),
+            pair: copy_pair(pair)?,
             word: place,
         })?;
     }

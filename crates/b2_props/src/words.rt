@@ -1,12 +1,13 @@
 //! The words of a request.
 ghost use Rattle.std.specs.Prelude.{◌≡◌, List, [], ◌∷◌, ◌++◌, None, IfOk, IfErr, OnOk, MatchOption, map, true, false, All};
-ghost use Rattle.std.specs.List.{before_first, after_first, list_all, filter_map};
+ghost use Rattle.std.specs.List.{list_all, filter_map};
 ghost use Rattle.std.specs.Option.{option_copied, option_to_list};
 ghost use Rattle.b2_base.specs.Bytes.{HasNoZero};
 ghost use Rattle.b2_base.specs.Segments.{texts};
 ghost use Rattle.b2_features.specs.Table.{implicit_of};
-ghost use Rattle.b2_props.specs.Words.{cut, first_of, is_equals, is_named, is_implicit, is_property, implicit_pair, segment_pairs, pair_fault, segment_fault, IsBy};
+ghost use Rattle.b2_props.specs.Words.{cut, first_of, is_named, AreHalves, is_implicit, is_property, implicit_pair, segment_pairs, pair_fault, segment_fault, IsBy};
 
+use crate::pair_list::pair_with;
 use crate::request_fault::RequestFault;
 use b2_base::fault::OutOfMemory;
 use b2_base::text::Text;
@@ -55,7 +56,7 @@ fn all_implicit(registry: &Registry, segment: &str) -> bool
 
 /// What stands before and after the first `=`, where there is one.
 fn halves(segment: &Text) -> Option<(&str, &str)>
-    ensures { MatchOption result (is_named segment.now ≡ false) (λ parts. (is_named segment.now ≡ true) × (parts.0.now ≡ before_first is_equals segment.now) × (parts.1.now ≡ after_first is_equals segment.now) × HasNoZero parts.0.now × HasNoZero parts.1.now) }
+    ensures { MatchOption result (is_named segment.now ≡ false) (λ parts. AreHalves segment.now parts.0.now parts.1.now) }
 {
     segment.as_str().split_once('=')
 }
@@ -109,7 +110,7 @@ fn take_pair(
     ensures cause { IfErr result (IsBy (pair_fault registry.now word.now (feature.now, value.now))) }
 {
     check_pair(registry, word, feature, value)?;
-    made.push((feature.copy()?, value.copy()?))?;
+    made.push(pair_with(feature, value)?)?;
     Ok(())
 }
 

@@ -1,4 +1,4 @@
-use Rattle.std.proofs.Common.{◌≡◌, ◌∙◌, ◌++◌, ◌∷◌, ◌||◌, [], List, ℕ, is_some, sym, ap, ap₂, take, drop, not, Bool, ◌+◌}
+use Rattle.std.proofs.Common.{◌≡◌, ◌∙◌, ◌++◌, ◌∷◌, ◌||◌, [], List, is_some, sym, ap, ap₂, take, drop, not, Bool, ◌+◌}
 use Rattle.std.specs.List.{filter}
 use Rattle.b2_features.specs.declared.attribute.Attribute.TheVariants.{Free}
 use Rattle.b2_features.specs.Faults.{is_with}
@@ -28,8 +28,7 @@ loop-pair-preserved c =
     let x = c.pair-item.result in
     let seen : List Pair = required ++ components table (take i required) in
     let parts : c.parts_in-parts.result.now ≡ parts_in table x = c.parts_in-parts.ensures in
-    let copied : (c.in_ok-copy.field-0, c.in_ok-copy-2.field-0) ≡ x = ap₂ (λ (f v : List ℕ). let made : Pair = (f, v) in made) c.in_ok-copy.ensures c.in_ok-copy-2.ensures in
-    let kept : c.push.new.self.items ≡ c.loop-pair.whole.items ++ x ∷ [] = c.in_ok-push.ensures.items ∙ ap (λ (p : Pair). c.loop-pair.whole.items ++ p ∷ []) copied in
+    let kept : c.push.new.self.items ≡ c.loop-pair.whole.items ++ x ∷ [] = c.in_ok-push.ensures.items ∙ ap (λ (p : Pair). c.loop-pair.whole.items ++ p ∷ []) c.in_ok-copy_pair.ensures in
     let test = λ (part : Pair). is_with Free table part.0 || not (is_some (map.get c.loop-pair.taken part.0)) in
     let more : filter test c.parts_in-parts.result.now ≡ brought table seen x = ap (filter test) parts ∙ brought_by table seen x (λ q. is_some (map.get c.loop-pair.taken q)) c.loop-pair.invariant.taken in
     let all : c.bring.new.whole.items ≡ (c.loop-pair.whole.items ++ x ∷ []) ++ filter test c.parts_in-parts.result.now =
