@@ -9,8 +9,9 @@
 //!   `lists NAME VALUE`, `default_value NAME`, `parts_of PROPERTY`, `name ATTRIBUTE`, `stands_in ATTRIBUTE WORDS` and
 //!   `is_attribute_word WORD` ask the table, its features and the attributes.
 //! - `set_of PROPERTIES`, `expand` and `refine PROPERTIES` put a set in place and show it; the last two make it of the set
-//!   at hand. `propagated`, `dir_of` and `contains PROPERTY` ask the set at hand.
-//! - `push` adds the set at hand to a list of sets, which it shows.
+//!   at hand. `propagated`, `dir_of` and `contains PROPERTY` ask the set at hand, `has_all PROPERTIES` its `PairIndex`.
+//! - `copy` adds a copy of the set at hand to a list of sets, which it shows; `equals` compares the set at hand with each
+//!   set of that list.
 //! - `read_request WORDS` shows the targets and the sets of a request, or its refusal.
 #![tactic(auto)]
 

@@ -1,7 +1,7 @@
 //! The commands by their names.
 use crate::features::{ask, compose, feature};
-use crate::sets::{contains, dir_of, expanded, given, handed, made, refined, request};
-use crate::shown::{ok, set_line, sets_lines};
+use crate::sets::{contains, dir_of, expanded, given, handed, has_all, refined, request};
+use crate::shown::{ok, set_line, sets_lines, truth_word};
 use crate::words::no_words;
 use b2_features::registry::Registry;
 use b2_props::props::Props;
@@ -12,7 +12,7 @@ use transcript::case_fault::CaseFault;
 use transcript::command::{Command, Word};
 use transcript::session::Session;
 
-/// The table and the set at hand, and the sets that were pushed.
+/// The table and the set at hand, and the sets that were copied.
 #[derive(Drop)]
 pub struct Cases {
     registry: Registry,
@@ -47,11 +47,21 @@ impl Cases {
         set_line(alloc, &self.set)
     }
 
-    fn push(&mut self, alloc: Global, words: &[Word]) -> Result<Answer, CaseFault> {
+    fn copy(&mut self, alloc: Global, words: &[Word]) -> Result<Answer, CaseFault> {
         no_words(words)?;
-        let set = made(alloc, &self.registry, self.set.pairs())?;
+        let set = self.set.copy(alloc)?;
         self.sets.push(set)?;
         sets_lines(alloc, &self.sets)
+    }
+
+    /// Compares the set at hand with each set of the list.
+    fn equals(&self, alloc: Global, words: &[Word]) -> Result<Answer, CaseFault> {
+        no_words(words)?;
+        let mut answer = Answer::new(alloc);
+        for set in self.sets.as_slice() {
+            answer.push_line(truth_word(self.set.equals(set)))?;
+        }
+        Ok(answer)
     }
 
     /// Asks the set at hand.
@@ -60,6 +70,8 @@ impl Cases {
             "propagated" => handed(alloc, &self.registry, &self.set, words),
             "dir_of" => dir_of(alloc, &self.registry, &self.set, words),
             "contains" => contains(alloc, &self.set, words),
+            "equals" => self.equals(alloc, words),
+            "has_all" => has_all(alloc, &self.set, words),
             "read_request" => request(alloc, &self.registry, words),
             _ => ask(alloc, &self.registry, name, words),
         }
@@ -85,7 +97,7 @@ impl Cases {
                 self.put(alloc, set)
             }
             "new_set" => self.renew_set(alloc, words),
-            "push" => self.push(alloc, words),
+            "copy" => self.copy(alloc, words),
             _ => self.ask_set(alloc, name, words),
         }
     }

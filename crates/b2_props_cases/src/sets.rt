@@ -8,6 +8,7 @@ use b2_base::fault::OutOfMemory;
 use b2_base::text::Text;
 use b2_features::registry::Registry;
 use b2_props::elements;
+use b2_props::pair_index::PairIndex;
 use b2_props::props::Props;
 use b2_props::refinement::{expand, refine, set_of};
 use b2_props::request::{Request, read_request};
@@ -82,6 +83,13 @@ pub fn dir_of(
 pub fn contains(alloc: Global, set: &Props, words: &[Word]) -> Result<Answer, CaseFault> {
     let (feature, value) = pair(alloc, only(words)?)?;
     truth(alloc, set.contains(feature.as_str(), value.as_str()))
+}
+
+/// Whether the index of the set at hand has all of some pairs.
+pub fn has_all(alloc: Global, set: &Props, words: &[Word]) -> Result<Answer, CaseFault> {
+    let others = pairs(alloc, words)?;
+    let index = PairIndex::new(alloc, set.pairs())?;
+    truth(alloc, index.has_all(others.as_slice()))
 }
 
 fn word_of(fault: &RequestFault) -> Result<&Text, CaseFault> {

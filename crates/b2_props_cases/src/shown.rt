@@ -11,12 +11,12 @@ pub fn ok(alloc: Global) -> Result<Answer, CaseFault> {
     Answer::line(alloc, "ok")
 }
 
+pub fn truth_word(holds: bool) -> &'static str {
+    if holds { "true" } else { "false" }
+}
+
 pub fn truth(alloc: Global, holds: bool) -> Result<Answer, CaseFault> {
-    if holds {
-        Answer::line(alloc, "true")
-    } else {
-        Answer::line(alloc, "false")
-    }
+    Answer::line(alloc, truth_word(holds))
 }
 
 pub fn text_or_none(alloc: Global, found: Option<&str>) -> Result<Answer, CaseFault> {
