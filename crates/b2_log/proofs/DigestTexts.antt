@@ -1,12 +1,12 @@
 -- A digest is text.
-use Rattle.std.proofs.Common.{◌≡◌, ℕ, ◌+◌, ◌<◌, ◌≤◌, Bool, true, false, List, [], ◌∷◌, ◌++◌, length, get_or, sym, subst, ◌∙◌, inl, inr, arith}
+use Rattle.std.proofs.Common.{◌≡◌, ℕ, ◌<◌, true, false, List, ◌++◌, length, get_or, sym, subst, ◌∙◌, inl, inr, arith}
 use Rattle.std.proofs.lemmas.Str.{IsUtf8-from_ascii}
 use Rattle.std.proofs.lemmas.Bool.{cases_lt}
 use Rattle.std.proofs.lemmas.Bool.Decides.{leb_tells}
 use Rattle.std.proofs.lemmas.List.{get_or_past}
 use Rattle.b2_log.specs.Lines.{field}
 use Rattle.b2_log.specs.Good.{IsText, IsHex, IsDigest}
-use Rattle.b2_log.specs.Readings.{Begins, BeginsNone}
+use Rattle.b2_log.specs.Readings.{BeginsNone}
 use Rattle.b2_log.proofs.Fields.{field_free}
 
 record IsInRange (byte : ℕ) : Type 0 where

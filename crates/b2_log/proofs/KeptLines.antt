@@ -6,15 +6,14 @@ use Rattle.std.proofs.lemmas.Bool.{cases_Bool}
 use Rattle.std.proofs.lemmas.List.{append-nil}
 use Rattle.std.proofs.lemmas.List.Concat.{flat_map-append}
 use Rattle.b2_log.specs.declared.line.LogLine.{LogLine}
-use Rattle.b2_log.specs.declared.line.LogLine.TheVariants as lines
 use Rattle.b2_log.specs.declared.subject.Subject.{Subject}
 use Rattle.b2_log.specs.Lines.{spelling, log_bytes}
-use Rattle.b2_log.specs.Good.{IsProper, IsGood}
+use Rattle.b2_log.specs.Good.{IsGood}
 use Rattle.b2_log.specs.Readings.{IsReading}
 use Rattle.b2_log.specs.Finding.{subject_of, is_about, is_drop, last_line, told_by, told, is_kept, kept}
 use Rattle.b2_log.specs.Laws.{KeptIsTold, KeptAgain}
-use Rattle.b2_log.specs.Places.{IsIndexed, option_is, kept_at}
-use Rattle.b2_log.proofs.LastLines.{false_true, subject_is, subject_self, or_first, last_cons, told_is_there, contains_here, contains_there}
+use Rattle.b2_log.specs.Places.{IsIndexed, kept_at}
+use Rattle.b2_log.proofs.LastLines.{false_true, subject_is, subject_self, or_first, last_cons, told_is_there}
 use Rattle.b2_log.proofs.Places.{kept_by_place}
 use Rattle.b2_log.proofs.ReadLogs.{reading_whole}
 

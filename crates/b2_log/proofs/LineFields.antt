@@ -1,16 +1,15 @@
 -- The fields of a line, read in one way.
-use Rattle.std.proofs.Common.{◌≡◌, ℕ, Bool, List, [], ◌∷◌, ◌++◌, length, Option, Some, None, map, refl, sym, ap, ◌∙◌, append_assoc}
+use Rattle.std.proofs.Common.{◌≡◌, ℕ, Bool, List, ◌++◌, length, Option, Some, None, map, refl, ap, ◌∙◌}
 use Rattle.std.specs.List.{zip}
 use Rattle.std.proofs.lemmas.Slice.Zip.{firsts-zip, seconds-zip}
 use Rattle.b2_log.specs.declared.line.Record.{Record}
 use Rattle.b2_log.specs.declared.line.Digests.{Digests}
-use Rattle.b2_log.specs.declared.line.ScanLine.{ScanLine}
 use Rattle.b2_log.specs.declared.line.LogLine.{LogLine}
 use Rattle.b2_log.specs.declared.line.LogLine.TheVariants as lines
 use Rattle.b2_log.specs.declared.tag.Tag.{Tag}
 use Rattle.b2_log.specs.declared.tag.Tag.TheVariants as tags
-use Rattle.b2_log.specs.Lines.{field, number, stamped, digested, included, counted, file_fields, fields_of, record_tag, tag_of}
-use Rattle.b2_log.specs.Good.{IsText, IsPath, IsNumber, IsStamped, IsDigested, IsIncluded, IsCounted, HasDigests, IsGoodScan}
+use Rattle.b2_log.specs.Lines.{field, number, stamped, digested, included, counted, file_fields, fields_of, record_tag}
+use Rattle.b2_log.specs.Good.{IsText, IsPath, IsNumber, IsStamped, IsDigested, IsIncluded, IsCounted, HasDigests}
 use Rattle.b2_log.specs.Readings.{Begins, BeginsNone, IsReadRecord, IsReadAs}
 use Rattle.b2_log.proofs.Parts.{IsFree, both, AreBoth, both_is_free, both_found, both_firstless, both_secondless, IsMade, made_free, made_none, field_is_free, number_is_free, stamped_is_free, digested_is_free, included_is_free, counted_is_free}
 use Rattle.b2_log.proofs.Digesting.{zipped, unzipped_files, unzipped_digests}

@@ -226,6 +226,10 @@ read_more {X} spell IsSo bytes xs rest i x after r b = record {
     push [] each = (b.so, tt)
     push (y ∷ ys) each = (each.0, push ys each.1)
 
+-- the same of a list that is longer by one
+pub read_pushed : {X : Type 0} (spell : X → List ℕ) (IsSo : X → Type 0) (bytes : List ℕ) (xs more : List X) (rest : List ℕ) (i : ℕ) (x : X) (after : List ℕ) → ReadSo spell IsSo bytes xs rest i → Begins spell IsSo rest x after → more ≡ xs ++ x ∷ [] → ReadSo spell IsSo bytes more after (i + 1)
+read_pushed {X} spell IsSo bytes xs more rest i x after r b e = subst (λ (ys : List X). ReadSo spell IsSo bytes ys after (i + 1)) (sym e) (read_more spell IsSo bytes xs rest i x after r b)
+
 -- there are too few
 pub list_ends : {X : Type 0} (spell : X → List ℕ) (IsSo : X → Type 0) → IsFree spell IsSo → (bytes start : List ℕ) (n : ℕ) (xs : List X) (rest : List ℕ) (i : ℕ) → Begins number IsNumber bytes n start → ReadSo spell IsSo start xs rest i → i < n → BeginsNone spell IsSo rest
     → BeginsNone (counted spell) (IsCounted IsSo) bytes

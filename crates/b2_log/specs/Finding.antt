@@ -1,5 +1,5 @@
 -- What a log tells of a subject: of the outputs of a step, or of a path that was scanned.
-use Rattle.std.specs.Prelude.{◌≡◌, ℕ, ◌==◌, Bool, false, true, not, ◌&&◌, List, [], ◌∷◌, Option, Some, None, map, reverse, find, option_and_then, if◌then◌else◌}
+use Rattle.std.specs.Prelude.{ℕ, ◌==◌, Bool, false, true, not, ◌&&◌, List, [], ◌∷◌, Option, Some, None, map, reverse, find, option_and_then, if◌then◌else◌}
 use Rattle.std.specs.List.{list_any}
 use Rattle.std.specs.Cmp.Lexicographic.{pointwise}
 use Rattle.std.specs.Str.{bytes_eq}

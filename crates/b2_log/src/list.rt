@@ -35,8 +35,8 @@ pub fn stamped_at(alloc: Global, bytes: &[u8]) -> Result<(StampedPaths, &[u8]), 
     let mut files = StampedPaths::new(alloc);
     let mut rest = start;
     for _ in 0..count {
-        let ((path, stamp), after) = file_at(alloc, rest)?;
-        files.push((path, stamp))?;
+        let (file, after) = file_at(alloc, rest)?;
+        files.push(file)?;
         rest = after;
     }
     Ok((files, rest))
@@ -142,8 +142,8 @@ pub fn includes_at(alloc: Global, bytes: &[u8]) -> Result<(IncludeList, &[u8]), 
     let mut includes = IncludeList::new(alloc);
     let mut rest = start;
     for _ in 0..count {
-        let ((name, quoted), after) = include_at(alloc, rest)?;
-        includes.push((name, quoted))?;
+        let (include, after) = include_at(alloc, rest)?;
+        includes.push(include)?;
         rest = after;
     }
     Ok((includes, rest))

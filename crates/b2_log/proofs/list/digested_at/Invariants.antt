@@ -1,7 +1,3 @@
-use Rattle.std.proofs.Common.{◌≡◌, length}
-use Rattle.std.specs.List.{zip}
-use Rattle.b2_log.specs.Lines.{digested}
-use Rattle.b2_log.specs.Good.{IsDigested}
 use Rattle.b2_log.proofs.Digesting.{ReadBoth}
 use Rattle.b2_log.proofs.list.digested_at.Given as goal
 

@@ -1,6 +1,3 @@
-use Rattle.std.proofs.Common.{ℕ, ◌<◌, sym, subst, arith}
-use Rattle.std.specs.List.{zip}
-use Rattle.b2_log.specs.Good.{IsNumber}
 use Rattle.b2_log.proofs.Counting.{written_start, written_more, written_whole, written_all}
 use Rattle.b2_log.proofs.Digesting.{pair_at, named_files}
 use Rattle.b2_log.proofs.write.push_digested.Goals as goal
