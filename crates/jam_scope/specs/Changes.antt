@@ -1,0 +1,91 @@
+-- What the calls of a world change.
+use Rattle.std.specs.Prelude.{◌≡◌, ℕ, ◌+◌, true, false, List, [], ◌∷◌, ◌++◌, Option, Some, None, length, if◌then◌else◌}
+use Rattle.std.specs.FinMap as map
+use Rattle.jam_journal.specs.Tables.{Text, Key, Table}
+use Rattle.jam_journal.specs.Scopes.{Value, Scopes, module_of, first_scopes}
+use Rattle.jam_scope.specs.declared.body.RuleBody.{RuleBody}
+use Rattle.jam_scope.specs.declared.body.ActionBody.{ActionBody}
+use Rattle.jam_scope.specs.Rules.{Rule}
+use Rattle.jam_scope.specs.Texts.{here, first_roots}
+use Rattle.jam_scope.specs.Worlds.{World, Worlds}
+
+-- the world at first: no frame, nothing in any module, no own value, the directory `.`, and three roots that are not frozen
+abbrev pub first_world : World
+first_world = record {
+  scopes = first_scopes;
+  rules = map.empty;
+  actions = map.empty;
+  parents = map.empty;
+  own = map.empty;
+  place = here;
+  roots = first_roots;
+  frozen = false;
+}
+
+abbrev pub first_worlds : Worlds
+first_worlds = record { now = first_world; marked = [] }
+
+-- a change of the present world alone, and one of its scopes alone
+abbrev pub changed : (World → World) → Worlds → Worlds
+changed change ws = record ws { now = change ws.now }
+
+abbrev pub rescoped : (Scopes → Scopes) → Worlds → Worlds
+rescoped change = changed (λ w. record w { scopes = change w.scopes })
+
+-- marking: the present world is the newest of the marked ones
+abbrev pub mark : Worlds → Worlds
+mark ws = record ws { marked = ws.now ∷ ws.marked }
+
+-- rolling back: the newest marked world is the present one, and is marked no more; without a mark nothing changes
+abbrev pub newest_of : Worlds → List World → Worlds
+newest_of ws [] = ws
+newest_of ws (world ∷ worlds) = record { now = world; marked = worlds }
+
+abbrev pub roll_back : Worlds → Worlds
+roll_back ws = newest_of ws ws.marked
+
+-- a mark is the number of those that were there before it: it is the newest one where one more is there now
+abbrev pub IsNewest : ℕ → Worlds → Type 0
+IsNewest mark ws = length ws.marked ≡ mark + 1
+
+-- how many frames the newest marked world has; none where no world is marked
+abbrev pub frames_at_mark : List World → ℕ
+frames_at_mark [] = 0
+frames_at_mark (world ∷ worlds) = length world.scopes.frames
+
+-- the present module
+abbrev pub module_in : World → Text
+module_in w = module_of w.scopes.frames
+
+-- the present module has the rule from now on, and it is the rule's home
+abbrev pub define_rule : Text → RuleBody → World → World
+define_rule name body w = record w { rules = map.insert w.rules (module_in w, name) record { home = module_in w; body = body } }
+
+abbrev pub define_actions : Text → ActionBody → World → World
+define_actions name body w = record w { actions = map.insert w.actions (module_in w, name) body }
+
+abbrev pub with_rule : Option Rule → Key → Table Rule → Table Rule
+with_rule None key rules = rules
+with_rule (Some rule) key rules = map.insert rules key rule
+
+-- a module has a rule that stands at a key, with the body and home that it has there now; where none stands, nothing changes
+abbrev pub import_rule : Key → Text → Text → World → World
+import_rule at owner name w = record w { rules = with_rule (map.get w.rules at) (owner, name) w.rules }
+
+-- the module above a module is this one
+abbrev pub set_parent : Text → Text → World → World
+set_parent owner parent w = record w { parents = map.insert w.parents (owner, []) parent }
+
+-- the target has this own value of the name
+abbrev pub set_on : Text → Text → Value → World → World
+set_on target name value w = record w { own = map.insert w.own (target, name) value }
+
+abbrev pub set_place : Text → World → World
+set_place dir w = record w { place = dir }
+
+-- further roots come after those that are there, unless they are frozen
+abbrev pub add_roots : List Text → World → World
+add_roots dirs w = if w.frozen then w else record w { roots = w.roots ++ dirs }
+
+abbrev pub freeze_roots : World → World
+freeze_roots w = record w { frozen = true }

@@ -1,0 +1,110 @@
+//! The world of a running build file.
+ghost use Rattle.std.specs.Prelude.{◌≡◌, IfOk};
+ghost use Rattle.b2_base.specs.Segments.{normal_of};
+ghost use Rattle.jam_scope.specs.Texts.{here, first_roots};
+
+use crate::body::ActionBody;
+use crate::rule::Rule;
+use b2_base::fault::OutOfMemory;
+use b2_base::path::Path;
+use b2_base::path_list::PathList;
+use b2_base::text_list::TextList;
+use jam_journal::name::Name;
+use jam_journal::past::Past;
+use jam_journal::saved::Saved;
+use jam_journal::variables::Variables;
+use std::alloc::Global;
+use std::marker::Model;
+
+mod frames;
+mod marks;
+mod project;
+mod rules;
+mod scopes;
+
+/// Modules with variables, rules and actions, and a module above each that has one; frames, which bind names for a time; own
+/// values of targets; the directory of the project that is being loaded or whose step is being made; and the output roots. The
+/// global module is the one with the empty name. It is seen as the present world and the marked ones, the newest first.
+///
+/// A call that answers no `Result` takes no memory. After an error the world is as before.
+#[derive(Drop)]
+pub struct World {
+    alloc: Global,
+    variables: Variables,
+    rules: Past<Rule>,
+    actions: Past<ActionBody>,
+    parents: Past<Name>,
+    own: Past<TextList>,
+    place: Saved<Path>,
+    roots: Saved<PathList>,
+    frozen: Saved<bool>,
+}
+
+impl Model for World {
+    ghost use Rattle.std.specs.Prelude.{◌≡◌, length};
+    ghost use Rattle.jam_scope.specs.Worlds.{Worlds};
+    ghost use Rattle.jam_scope.specs.WorldCodes.{worlds_code};
+    ghost use Rattle.jam_scope.specs.Parts.{together, worlds_of};
+
+    ghost Value = { Worlds };
+
+    ghost coded = { worlds_code };
+
+    ghost view = { λ w. worlds_of (together w.variables (together w.rules (together w.actions (together w.parents (together w.own (together w.place (together w.roots w.frozen))))))) };
+
+    ghost invariant = { λ w. length w.variables.1 ≡ length (together w.variables (together w.rules (together w.actions (together w.parents (together w.own (together w.place (together w.roots w.frozen))))))).1 };
+}
+
+impl World {
+    ghost use Rattle.std.specs.Prelude.{◌≡◌, IfOk};
+    ghost use Rattle.jam_scope.specs.Changes.{first_worlds};
+
+    /// The world at first: no frame, nothing in any module, no own value, the directory `.`, the output roots `bin`, `stage` and
+    /// `dist`, which are not frozen, and no mark.
+    pub fn new(alloc: Global) -> Result<World, OutOfMemory>
+        ensures { IfOk result (λ made. made ≡ first_worlds) }
+    {
+        let variables = Variables::new(alloc)?;
+        let place = first_place(alloc)?;
+        let roots = first_roots(alloc)?;
+        Ok(World {
+            alloc,
+            variables,
+            rules: Past::new(alloc),
+            actions: Past::new(alloc),
+            parents: Past::new(alloc),
+            own: Past::new(alloc),
+            place: Saved::new(alloc, place),
+            roots: Saved::new(alloc, roots),
+            frozen: Saved::new(alloc, false),
+        })
+    }
+}
+
+/// The path of a text.
+fn path_of(alloc: Global, text: &str) -> Result<Path, OutOfMemory>
+    ensures { IfOk result (λ made. made ≡ normal_of text.now) }
+{
+    match Path::normal(alloc, text) {
+        Ok(path) => Ok(path),
+        Err(_) => Err(OutOfMemory),
+    }
+}
+
+/// The directory of the first world.
+fn first_place(alloc: Global) -> Result<Path, OutOfMemory>
+    ensures { IfOk result (λ made. made ≡ here) }
+{
+    path_of(alloc, ".")
+}
+
+/// The output roots of the first world.
+fn first_roots(alloc: Global) -> Result<PathList, OutOfMemory>
+    ensures { IfOk result (λ made. made ≡ first_roots) }
+{
+    let mut roots = PathList::new(alloc);
+    roots.push(path_of(alloc, "bin")?)?;
+    roots.push(path_of(alloc, "stage")?)?;
+    roots.push(path_of(alloc, "dist")?)?;
+    Ok(roots)
+}

@@ -1,0 +1,75 @@
+//! Rules and actions.
+use super::World;
+use crate::body::{ActionBody, RuleBody};
+use crate::rule::Rule;
+use crate::rule_ref::RuleRef;
+use b2_base::fault::OutOfMemory;
+
+impl World {
+    ghost use Rattle.std.specs.Prelude.{◌≡◌, IfOk, OnOk, OnErr, is_some};
+    ghost use Rattle.std.specs.Option.{option_copied};
+    ghost use Rattle.std.specs.FinMap as map;
+    ghost use Rattle.jam_scope.specs.Changes.{changed, define_rule, define_actions, import_rule};
+
+    /// The rule that stands at a place, none exactly where its module has no rule of that name. Takes no memory.
+    pub fn rule(&self, at: &RuleRef<'_>) -> Option<&Rule>
+        ensures { option_copied result ≡ map.get self.now.now.rules (at.now.module.now, at.now.name.now) }
+    {
+        self.rules.get(at.module, at.name)
+    }
+
+    /// The actions that stand at a place, none exactly where their module has no actions of that name. Takes no memory.
+    pub fn action_body(&self, at: &RuleRef<'_>) -> Option<&ActionBody>
+        ensures { option_copied result ≡ map.get self.now.now.actions (at.now.module.now, at.now.name.now) }
+    {
+        self.actions.get(at.module, at.name)
+    }
+
+    /// The present module has the rule from now on, and is its home. After an error the world is as before.
+    pub fn define_rule(&mut self, name: &str, body: RuleBody) -> Result<(), OutOfMemory>
+        ensures ok { OnOk result (self.new ≡ changed (define_rule name.now body) self.old) }
+        ensures err { OnErr result (self.new ≡ self.old) }
+    {
+        let rule = Rule::new(self.alloc, self.variables.module(), body)?;
+        self.rules.insert(self.variables.module(), name, rule)?;
+        Ok(())
+    }
+
+    /// The present module has the actions from now on. After an error the world is as before.
+    pub fn define_actions(&mut self, name: &str, body: ActionBody) -> Result<(), OutOfMemory>
+        ensures ok { OnOk result (self.new ≡ changed (define_actions name.now body) self.old) }
+        ensures err { OnErr result (self.new ≡ self.old) }
+    {
+        self.actions.insert(self.variables.module(), name, body)?;
+        Ok(())
+    }
+
+    /// A rule that stands at a place, whose body is shared, if one does.
+    fn shared(&self, at: &RuleRef<'_>) -> Result<Option<Rule>, OutOfMemory>
+        ensures { IfOk result (λ found. found ≡ map.get self.now.now.rules (at.now.module.now, at.now.name.now)) }
+    {
+        match self.rule(at) {
+            Some(rule) => Ok(Some(rule.share(self.alloc)?)),
+            None => Ok(None),
+        }
+    }
+
+    /// Puts a rule, with the body and home that it has now, into a module under a name. Answers false, and changes nothing,
+    /// exactly where no rule stands there. After an error the world is as before.
+    pub fn import_rule(
+        &mut self,
+        at: &RuleRef<'_>,
+        module: &str,
+        name: &str,
+    ) -> Result<bool, OutOfMemory>
+        ensures found { IfOk result (λ found. found ≡ is_some (map.get self.old.now.rules (at.now.module.now, at.now.name.now))) }
+        ensures ok { OnOk result (self.new ≡ changed (import_rule (at.now.module.now, at.now.name.now) «module».now name.now) self.old) }
+        ensures err { OnErr result (self.new ≡ self.old) }
+    {
+        let Some(rule) = self.shared(at)? else {
+            return Ok(false);
+        };
+        self.rules.insert(module, name, rule)?;
+        Ok(true)
+    }
+}
