@@ -12,9 +12,11 @@
 //! - `evaluate` shows the set, or the two sets of which neither stays, or the fault of a rule.
 //! - `alternative CONDITION` adds an alternative; `choose` shows which one is chosen for the set at hand.
 //! - `register_type NAME SUFFIXES` and `register ID SOURCES : TARGETS : REQUIRED` answer whether they registered it.
-//!   `type_of PATH`, `suffix_of NAME` and `generator ID` ask the table.
+//!   `type_of PATH`, `suffix_of NAME` and `generator ID` ask the table. `chain FROM TO PROPERTIES` shows the ids of the
+//!   chain in the set that the properties make, or why there is none.
 #![tactic(auto)]
 
+mod chains;
 mod rules;
 mod session;
 mod shown;

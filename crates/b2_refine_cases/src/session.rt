@@ -1,4 +1,5 @@
 //! The commands by their names.
+use crate::chains::found_chain;
 use crate::rules::Rules;
 use crate::shown::{ok, set_line};
 use crate::steps::{
@@ -79,6 +80,7 @@ impl Cases {
             "row" => add_row(alloc, &mut self.rules, row(alloc, words)?),
             "fault" => add_row(alloc, &mut self.rules, fault_row(alloc, words)?),
             "alternative" => self.add_alternative(alloc, words),
+            "chain" => found_chain(alloc, &self.registry, &self.types, words),
             _ => ask_types(alloc, &mut self.types, name, words),
         }
     }
