@@ -31,7 +31,7 @@ stock_put givers target places type = ap (λ o. unwrap_or o []) (get_put givers 
 pub stock_none : (type : List ℕ) → stock (from_entries []) type ≡ []
 stock_none type = ap (λ o. unwrap_or o []) (get-from_entries nat_list_cmp_total [] type)
 
--- a place is added behind what stood at a type
+-- a place is added after what stood at a type
 pub stock_add : (old mid new : Givers) (target taken places : List ℕ) (place : ℕ) → taken ≡ stock old target → mid ≡ insert old target [] → places ≡ taken ++ place ∷ [] → new ≡ cond (is_some (get mid target)) (insert mid target places) mid
     → (type : List ℕ) → stock new type ≡ cond (bytes_eq type target) (stock old target ++ place ∷ []) (stock old type)
 stock_add old mid new target taken places place was left more set type =

@@ -44,7 +44,7 @@ pub record IsChain (generators : List Generator) (set : List Pair) (from to : Li
   pub ends : last_type from types ≡ to
   pub once : HasNoRepeat (from ∷ types)
 
--- a chain than which none is shorter
+-- a shortest chain
 pub record IsShortest (generators : List Generator) (set : List Pair) (from to : List ℕ) (places : List ℕ) : Type 0 where
   pub chain : IsChain generators set from to places
   pub least : (other : List ℕ) → IsChain generators set from to other → length places ≤ length other

@@ -19,7 +19,7 @@ Givers = map.FinMap (slice_cmp nat_cmp) (List ℕ)
 abbrev pub stock : Givers → List ℕ → List ℕ
 stock givers type = unwrap_or (map.get givers type) []
 
--- a place was put behind those that stood at a type
+-- a place was put after those that stood at a type
 abbrev pub AddsAtOne : ℕ → List ℕ → Givers → Givers → Type 0
 AddsAtOne place target old new = (type : List ℕ) → stock new type ≡ (if bytes_eq type target then stock old target ++ place ∷ [] else stock old type)
 

@@ -14,7 +14,7 @@ pub enum ChildEvent {
     Done(u32, bool),
 }
 
-/// Child processes that run beside one another, over the files.
+/// Child processes over the files, of which several may run at a time.
 pub trait Children: Files {
     /// The bytes that a text makes of named inputs, at an output.
     ghost made: { List ℕ → List (List ℕ × List ℕ) → List ℕ → List ℕ };
@@ -32,5 +32,6 @@ pub trait Children: Files {
 
     ghost use Rattle.std.specs.Prelude.{is_some};
 
+    /// What each start gave is visible where the files are.
     ghost told_alike: { (host : Self) → is_some (Self.outside host).disk ≡ is_some (Self.outside host).children.given };
 }

@@ -33,7 +33,7 @@ pub trait Files {
         ensures effect { Looks (outside self.old) (outside self.new) result }
         ensures answer { IfOk result (λ stamp. IfSome (outside self.old).disk (λ disk. StatTold path.now stamp disk.now)) };
 
-    /// The bytes of the file at a path, where it has no more than `most`. The read is noted, whatever it answers.
+    /// The bytes of the file at a path, where it has no more than `most`. A read that is answered is noted.
     fn read(&mut self, path: &Path, most: u64) -> Result<ReadAnswer, IoFault>
         ensures effect { Reads path.now (outside self.old) (outside self.new) result }
         ensures answer { IfOk result (λ answer. IfSome (outside self.old).disk (λ disk. ReadTold path.now most answer disk.now)) };
@@ -55,9 +55,11 @@ pub trait Files {
     fn remove(&mut self, path: &Path) -> Result<(), Failed>
         ensures { Removes path.now (outside self.old) (outside self.new) result };
 
+    /// What stands is among what stood, and a path and a stamp have one content.
     ghost consistent: { (files : Self) → IfSome (outside files).disk IsConsistent };
 
     ghost use Rattle.std.specs.Prelude.{◌≡◌, is_some};
 
+    /// Reads are visible where the files are.
     ghost reads_alike: { (files : Self) → is_some (outside files).disk ≡ is_some (outside files).reads };
 }

@@ -28,7 +28,7 @@ use std::rc::Rc;
 ///
 /// Stamps count from 1. Each write takes the next one, be it an edit, an append, a replacement or an output of a child, and
 /// so does a write that fails, after which a file stands with what was left of the piece. A deletion takes none.
-/// What a child writes is settled when it starts, by the bytes that its inputs have then, and stands when it ends.
+/// What a child writes is decided when it starts, by the bytes that its inputs have then, and stands when it ends.
 /// `stat`, `remove`, `wait_one` and `reopen` take no memory.
 #[derive(Drop)]
 pub struct MemoryHost {

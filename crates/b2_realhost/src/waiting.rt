@@ -27,7 +27,7 @@ fn ended(processes: &mut Vec<Child>) -> io::Result<Option<(usize, bool)>>
     Ok(None)
 }
 
-/// The next pause: a quarter longer, but for the longest.
+/// The next pause: a quarter longer, up to the longest.
 fn longer(micros: u64) -> u64 {
     micros.saturating_add(micros / 4).min(LONGEST_PAUSE_MICROS)
 }

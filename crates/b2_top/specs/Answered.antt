@@ -1,5 +1,5 @@
--- What a call of the build command promises, from the moment of its start to that of its answer. Each definition here that
--- ends with `Told` speaks of visible files.
+-- What a call of the build command promises, from the moment of its start to that of its answer. Definitions of this file whose
+-- names end with `Told` speak of visible files.
 use Rattle.std.specs.Prelude.{◌≡◌, ◌≢◌, ℕ, List, [], Ok}
 use Rattle.b2_host.specs.Disks.{Disk}
 use Rattle.b2_host.specs.ChildProcesses.{BothTold}
