@@ -53,8 +53,8 @@ fn bracket<'a>(alloc: Global, rest: &'a [Token], depth: u8) -> Result<(Arg, &'a 
     ensures { MatchResult result (λ r. Completes (spelling.Key marks.SquareOpen ∷ []) (OneInner ∷ Key marks.SquareClose ∷ []) rest.now depth (arg_syms r.0) r.1.now) (λ e. EndsBy (OneInner ∷ Key marks.SquareClose ∷ []) rest.now depth e) }
 {
     let (inner, after) = inside(alloc, rest, depth + 1)?;
-    let after = key_here(after, Mark::SquareClose, depth)?;
     let inner = Box::new(alloc, inner)?;
+    let after = key_here(after, Mark::SquareClose, depth)?;
     Ok((Arg::Bracket(inner), after))
 }
 

@@ -1,5 +1,5 @@
 //! Reading conditions.
-ghost use Rattle.std.specs.Prelude.{◌≡◌, ◌<◌, ◌≤◌, ◌∷◌, ◌++◌, [], false, MatchResult};
+ghost use Rattle.std.specs.Prelude.{◌≡◌, ◌<◌, ◌≤◌, ◌∷◌, ◌++◌, [], false, IfOk, MatchResult};
 ghost use Rattle.jam_grammar.specs.Spelling.{Anywhere, WithinOr, WithinAnd, expr_syms, arg_syms};
 ghost use Rattle.jam_grammar.specs.Spelling as spelling;
 ghost use Rattle.jam_grammar.specs.Grammar.{OneExpr, Both, Single, OrTail, AndTail, OneArg, Compared, Args, Key};
@@ -9,6 +9,7 @@ ghost use Rattle.jam_parser.specs.Parts.{IsRead, Completes, EndsBy};
 
 use crate::args::{MAX_OPEN, arg, args};
 use crate::reading::{Fault, key_here, past};
+use b2_base::fault::OutOfMemory;
 use b2_base::token::Token;
 use jam_grammar::mark::Mark;
 use jam_grammar::tree::{Arg, Expr};
@@ -34,6 +35,16 @@ pub fn expr<'a>(
     }
 }
 
+/// Two conditions as members.
+fn pair_of(alloc: Global, first: Expr, second: Expr) -> Result<Vec<Expr>, OutOfMemory>
+    ensures { IfOk result (λ made. made.items ≡ first ∷ second ∷ []) }
+{
+    let mut made = Vec::new(alloc);
+    made.push(first)?;
+    made.push(second)?;
+    Ok(made)
+}
+
 /// Reads what stands after the first `||` of a condition.
 #[cycle(exprs)]
 fn or_rest<'a>(
@@ -45,10 +56,8 @@ fn or_rest<'a>(
     requires { depth ≤ 64 }
     ensures { MatchResult result (λ r. Completes (expr_syms WithinOr first ++ spelling.Key marks.Or ∷ []) (Both ∷ OrTail ∷ []) rest.now depth (expr_syms Anywhere r.0) r.1.now) (λ e. EndsBy (Both ∷ OrTail ∷ []) rest.now depth e) }
 {
-    let mut members = Vec::new(alloc);
     let (second, mut left) = both(alloc, rest, depth)?;
-    members.push(first)?;
-    members.push(second)?;
+    let mut members = pair_of(alloc, first, second)?;
     'each: while let Some(after) = past(left, Mark::Or) {
         let (one, after) = both(alloc, after, depth)?;
         members.push(one)?;
@@ -84,10 +93,8 @@ fn and_rest<'a>(
     requires { depth ≤ 64 }
     ensures { MatchResult result (λ r. Completes (expr_syms WithinAnd first ++ spelling.Key marks.And ∷ []) (Single ∷ AndTail ∷ []) rest.now depth (expr_syms WithinOr r.0) r.1.now) (λ e. EndsBy (Single ∷ AndTail ∷ []) rest.now depth e) }
 {
-    let mut members = Vec::new(alloc);
     let (second, mut left) = single(alloc, rest, depth)?;
-    members.push(first)?;
-    members.push(second)?;
+    let mut members = pair_of(alloc, first, second)?;
     'each: while let Some(after) = past(left, Mark::And) {
         let (one, after) = single(alloc, after, depth)?;
         members.push(one)?;
@@ -149,8 +156,8 @@ fn group<'a>(alloc: Global, rest: &'a [Token], depth: u8) -> Result<(Expr, &'a [
     ensures { MatchResult result (λ r. Completes (spelling.Key marks.ParenOpen ∷ []) (OneExpr ∷ Key marks.ParenClose ∷ []) rest.now depth (expr_syms WithinAnd r.0) r.1.now) (λ e. EndsBy (OneExpr ∷ Key marks.ParenClose ∷ []) rest.now depth e) }
 {
     let (inner, after) = expr(alloc, rest, depth + 1)?;
-    let after = key_here(after, Mark::ParenClose, depth)?;
     let inner = Box::new(alloc, inner)?;
+    let after = key_here(after, Mark::ParenClose, depth)?;
     Ok((Expr::Group(inner), after))
 }
 

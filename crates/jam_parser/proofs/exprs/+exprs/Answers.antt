@@ -7,7 +7,7 @@ use Rattle.jam_grammar.specs.Spelling.{Anywhere, WithinOr, WithinAnd, spell_expr
 use Rattle.jam_grammar.specs.Grammar.{OneExpr, Both, OrTail, Single, AndTail, Shut, Key}
 use Rattle.jam_grammar.proofs.RowTrees.{or_is, and_is}
 use Rattle.jam_parser.proofs.Sequences.{chain, then_all, then_fault, composed, led, in_order, first_fault, later_fault, shut, shut_fault, takes_past, opens_past, stay}
-use Rattle.jam_parser.proofs.ReadExprs.{raise_and, raise_or, more_members, two_members, two_pushed, or_comes, and_comes, no_or_comes, no_and_comes}
+use Rattle.jam_parser.proofs.ReadExprs.{raise_and, raise_or, more_members, two_members, or_comes, and_comes, no_or_comes, no_and_comes}
 use Rattle.jam_parser.proofs.exprs.+exprs.Goals as goal
 
 pub single-returns-in-Some : goal.single-returns-in-Some
@@ -65,8 +65,8 @@ both-returns-in-None t c =
 pub and_rest-each-init : goal.and_rest-each-init
 and_rest-each-init t c =
     let d = c.args.depth in
-    let items = c.push-2.new.self.items in
-    let two = two_pushed c.args.first c.in_ok-second.second c.new-members.ensures.items c.in_ok-push.ensures.items c.in_ok-push-2.ensures.items in
+    let items = c.in_ok-members.members.items in
+    let two = c.in_ok-members.ensures in
     record {
       long = omega (arith, ap length two);
       continues = record {
@@ -80,10 +80,10 @@ pub and_rest-each-preserved : goal.and_rest-each-preserved
 and_rest-each-preserved t c =
     let d = c.args.depth in
     let old = c.each.members.items in
-    let new = c.push-in-Some.new.self.items in
+    let new = c.push.new.self.items in
     let one = c.in_ok-one.one in
     let inv = c.each.invariant in
-    let grown = c.in_ok-push-3.ensures.items in
+    let grown = c.in_ok-push.ensures.items in
     let prefix = expr_syms WithinAnd c.args.first ++ spelling.Key marks.And ∷ [] in
     let left = c.each.left.now in
     record {
@@ -144,8 +144,8 @@ expr-returns-in-None t c =
 pub or_rest-each-init : goal.or_rest-each-init
 or_rest-each-init t c =
     let d = c.args.depth in
-    let items = c.push-2.new.self.items in
-    let two = two_pushed c.args.first c.in_ok-second.second c.new-members.ensures.items c.in_ok-push.ensures.items c.in_ok-push-2.ensures.items in
+    let items = c.in_ok-members.members.items in
+    let two = c.in_ok-members.ensures in
     record {
       long = omega (arith, ap length two);
       continues = record {
@@ -159,10 +159,10 @@ pub or_rest-each-preserved : goal.or_rest-each-preserved
 or_rest-each-preserved t c =
     let d = c.args.depth in
     let old = c.each.members.items in
-    let new = c.push-in-Some.new.self.items in
+    let new = c.push.new.self.items in
     let one = c.in_ok-one.one in
     let inv = c.each.invariant in
-    let grown = c.in_ok-push-3.ensures.items in
+    let grown = c.in_ok-push.ensures.items in
     let prefix = expr_syms WithinOr c.args.first ++ spelling.Key marks.Or ∷ [] in
     let left = c.each.left.now in
     record {
