@@ -1,5 +1,5 @@
 -- Bodies: their words, their white space, and the texts that are made of them.
-use Rattle.std.proofs.Common.{◌≡◌, ℕ, ◌+◌, ◌-◌, ◌<◌, ◌≤◌, true, false, cond, List, [], ◌∷◌, ◌++◌, length, take, drop, get_or, reverse, slice_range, refl, ap, sym, ◌∙◌, subst, append_assoc, arith, Result, Ok, Err, ◌⊎◌, inl, inr}
+use Rattle.std.proofs.Common.{◌≡◌, ℕ, ◌+◌, ◌-◌, ◌<◌, ◌≤◌, true, false, cond, List, [], ◌∷◌, ◌++◌, length, take, drop, get_or, reverse, slice_range, refl, ap, ap₂, sym, ◌∙◌, subst, append_assoc, arith, Ok, Err, ◌⊎◌, inl, inr}
 use Rattle.std.specs.List.{All, AllByRecursion, position_or_len, prefix_len, suffix_len, join_with_byte}
 use Rattle.std.proofs.lemmas.List.{take_more, drop_more, length-append, length-take, get_or-take, drop_at, get_or_at, get_or-reverse, append-nil}
 use Rattle.std.proofs.lemmas.List.Elements.{All-tail, All-take, All-drop, recursion_from_All, All-from_recursion, filter-append}
@@ -26,15 +26,25 @@ join-push (x ∷ []) y h = simp append_assoc
 join-push (x ∷ z ∷ xs) y h = let more : join_with_byte 32 ((z ∷ xs) ++ y ∷ []) ≡ (join_with_byte 32 (z ∷ xs) ++ 32 ∷ []) ++ y = join-push (z ∷ xs) y (omega arith) in rw more (simp append_assoc)
 
 -- one more text written
-pub join_more : (texts : List (List ℕ)) (i : ℕ) (d : List ℕ) → i < length texts → 0 < i → join_with_byte 32 (take (i + 1) texts) ≡ (join_with_byte 32 (take i texts) ++ 32 ∷ []) ++ get_or texts i d
+join_more : (texts : List (List ℕ)) (i : ℕ) (d : List ℕ) → i < length texts → 0 < i → join_with_byte 32 (take (i + 1) texts) ≡ (join_with_byte 32 (take i texts) ++ 32 ∷ []) ++ get_or texts i d
 join_more texts i d h p = ap (join_with_byte 32) (take_more texts i d h) ∙ join-push (take i texts) (get_or texts i d) (rw length-take (omega arith))
 
 -- the first text written
-pub join_first : (texts : List (List ℕ)) (d : List ℕ) → 0 < length texts → join_with_byte 32 (take 1 texts) ≡ get_or texts 0 d
+join_first : (texts : List (List ℕ)) (d : List ℕ) → 0 < length texts → join_with_byte 32 (take 1 texts) ≡ get_or texts 0 d
 join_first [] d h = grind arith
 join_first (x ∷ xs) d h = refl
 
-pub ruleset joins = (join_more, join_first, append_assoc)
+-- the same beside the text before
+pub joined_more : (texts : List (List ℕ)) (i : ℕ) (x old : List ℕ) → i < length texts → 0 < i → x ≡ get_or texts i x → old ≡ join_with_byte 32 (take i texts) → (old ++ 32 ∷ []) ++ x ≡ join_with_byte 32 (take (i + 1) texts)
+joined_more texts i x old h p is e = ap₂ (λ (a b : List ℕ). (a ++ 32 ∷ []) ++ b) e is ∙ sym (join_more texts i x h p)
+
+at_first : (texts : List (List ℕ)) (x old : List ℕ) → 0 < length texts → x ≡ get_or texts 0 x → old ≡ join_with_byte 32 (take 0 texts) → old ++ x ≡ join_with_byte 32 (take (0 + 1) texts)
+at_first texts x old h is e = ap (λ (o : List ℕ). o ++ x) e ∙ is ∙ sym (join_first texts x h)
+
+pub joined_first : (texts : List (List ℕ)) (i : ℕ) (x old : List ℕ) → i < length texts → i ≤ 0 → x ≡ get_or texts i x → old ≡ join_with_byte 32 (take i texts) → old ++ x ≡ join_with_byte 32 (take (i + 1) texts)
+joined_first texts i x old h z is e =
+    let zero : 0 ≡ i = omega arith in
+    subst (λ k. k < length texts → x ≡ get_or texts k x → old ≡ join_with_byte 32 (take k texts) → old ++ x ≡ join_with_byte 32 (take (k + 1) texts)) zero (at_first texts x old) h is e
 
 -- ---- a cut text
 

@@ -70,7 +70,6 @@ fn push_white(made: &mut String, white: u8) -> Result<(), OutOfMemory>
 }
 
 /// The texts with one space between them.
-#[tactic(auto, using(crate::proofs::BodyLemmas::joins))]
 fn joined(alloc: Global, texts: &[Text]) -> Result<String, OutOfMemory>
     ensures value { IfOk result (λ made. string_bytes made ≡ join_with_byte 32 texts.now) }
     ensures no_zero { IfOk result (λ made. HasNoZero (string_bytes made)) }

@@ -158,18 +158,25 @@ fn rooted(alloc: Global, root: &Option<Text>, parts: &NameParts) -> Result<Strin
     Ok(text)
 }
 
+/// The element, taken apart and put together.
+fn taken_apart(alloc: Global, modifiers: &Modifiers, element: &Text) -> Result<String, OutOfMemory>
+    ensures exact { IfOk result (λ made. string_bytes made ≡ rooted modifiers.now.root (picked_parts modifiers.now (parts_of element.now))) }
+    ensures no_zero { IfOk result (λ made. HasNoZero (string_bytes made)) }
+{
+    let name = parts(alloc, element.as_str())?;
+    let kept = modifiers.picked_parts(alloc, name)?;
+    rooted(alloc, &modifiers.root, &kept)
+}
+
 /// The element, taken apart and put together where a modifier asks for it.
 fn uncased(alloc: Global, modifiers: &Modifiers, element: &Text) -> Result<String, OutOfMemory>
     ensures exact { IfOk result (λ made. string_bytes made ≡ (if takes_apart modifiers.now then rooted modifiers.now.root (picked_parts modifiers.now (parts_of element.now)) else element.now)) }
     ensures no_zero { IfOk result (λ made. HasNoZero (string_bytes made)) }
 {
-    let element = element.as_str();
     if modifiers.takes_apart() {
-        let name = parts(alloc, element)?;
-        let kept = modifiers.picked_parts(alloc, name)?;
-        rooted(alloc, &modifiers.root, &kept)
+        taken_apart(alloc, modifiers, element)
     } else {
-        Ok(String::from_str(alloc, element)?)
+        Ok(String::from_str(alloc, element.as_str())?)
     }
 }
 

@@ -2,8 +2,8 @@
 ghost use Rattle.std.specs.Prelude.{◌≡◌, ◌≢◌, ◌∷◌, ◌⊎◌, Some, None, MatchBool, IfOk};
 ghost use Rattle.b2_base.specs.Bytes.{HasNoZero};
 ghost use Rattle.b2_base.specs.declared.expand_fault.ExpandFault.TheVariants as faults;
-ghost use Rattle.jam_expand.specs.Limits.{IsGivenBy};
-ghost use Rattle.jam_expand.specs.Modifiers.{no_modifiers, alone, valued, modified};
+ghost use Rattle.jam_expand.specs.Limits.{IsGivenBy, IsLeftBy};
+ghost use Rattle.jam_expand.specs.Modifiers.{no_modifiers, alone, valued, modified, modified_after};
 ghost use Rattle.jam_expand.specs.Reading.{IsShorterEnd, IsReadOn};
 
 use crate::cut::{after_sign, first_ascii, split_before};
@@ -165,23 +165,32 @@ fn add_modifier<'a>(
     }
 }
 
+/// Adds the modifiers that stand in a text.
+fn add_all(alloc: Global, modifiers: &mut Modifiers, text: &str) -> Result<(), ExpandFault>
+    requires { HasNoZero text.now }
+    ensures { IsLeftBy result modifiers.new (modified_after 0 text.now modifiers.old) }
+{
+    let mut rest = text;
+    'letters: while let Some((letter, after)) = first_ascii(rest) {
+        if letter == b':' {
+            rest = after;
+        } else {
+            rest = add_modifier(alloc, modifiers, letter, rest, after)?;
+        }
+    }
+    if rest.is_empty() {
+        Ok(())
+    } else {
+        Err(bad_modifier(alloc, rest))
+    }
+}
+
 /// The modifiers that stand in a text.
 pub fn read_modifiers(alloc: Global, text: &str) -> Result<Modifiers, ExpandFault>
     requires { HasNoZero text.now }
     ensures { IsGivenBy result (modified text.now) }
 {
     let mut modifiers = Modifiers::new();
-    let mut rest = text;
-    'letters: while let Some((letter, after)) = first_ascii(rest) {
-        if letter == b':' {
-            rest = after;
-        } else {
-            rest = add_modifier(alloc, &mut modifiers, letter, rest, after)?;
-        }
-    }
-    if rest.is_empty() {
-        Ok(modifiers)
-    } else {
-        Err(bad_modifier(alloc, rest))
-    }
+    add_all(alloc, &mut modifiers, text)?;
+    Ok(modifiers)
 }

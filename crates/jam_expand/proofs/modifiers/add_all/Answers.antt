@@ -2,10 +2,10 @@ use Rattle.std.proofs.Common.{◌≡◌, ◌∷◌, [], sym, ap, ◌∙◌, Err,
 use Rattle.std.proofs.lemmas.Bool.{eqb-true, true≢false}
 use Rattle.std.proofs.lemmas.List.{nil_from_length}
 use Rattle.b2_base.specs.declared.expand_fault.ExpandFault.TheVariants as faults
-use Rattle.jam_expand.specs.Modifiers.{modified_after, modified}
+use Rattle.jam_expand.specs.Modifiers.{modified_after}
 use Rattle.jam_expand.proofs.ModifierLemmas.{read_colon, read_nothing, bad_letter, bad_or_none}
 use Rattle.jam_expand.proofs.CutLemmas.{rest_no_zero}
-use Rattle.jam_expand.proofs.modifiers.read_modifiers.Goals as goal
+use Rattle.jam_expand.proofs.modifiers.add_all.Goals as goal
 
 pub letters-preserved-then-letter-eq58 : goal.letters-preserved-then-letter-eq58
 letters-preserved-then-letter-eq58 c =
@@ -24,5 +24,5 @@ returns-then-is_empty c =
 
 pub returns-else-is_empty : goal.returns-else-is_empty
 returns-else-is_empty c =
-    let bad : modified c.args.text.now ≡ Err (faults.BadModifier c.letters.rest.now) = sym c.letters.invariant.read ∙ bad_letter c.letters.rest.now c.letters.modifiers c.in_default.ensures.exact (λ nothing. true≢false (sym (c.if-is_empty.ensures ∙ ap (λ s. eqb (length s) 0) nothing))) in
+    let bad : modified_after 0 c.args.text.now c.args.modifiers.now ≡ Err (faults.BadModifier c.letters.rest.now) = sym c.letters.invariant.read ∙ bad_letter c.letters.rest.now c.letters.modifiers c.in_default.ensures.exact (λ nothing. true≢false (sym (c.if-is_empty.ensures ∙ ap (λ s. eqb (length s) 0) nothing))) in
     bad_or_none c.letters.rest.now c.bad_modifier.result _ bad c.bad_modifier.ensures
