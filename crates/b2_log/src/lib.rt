@@ -31,6 +31,6 @@ pub mod log;
 pub mod proper;
 mod read;
 mod refusal;
-pub mod subject;
-pub mod tag;
+mod subject;
+mod tag;
 pub mod write;
