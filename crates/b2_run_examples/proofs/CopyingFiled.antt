@@ -90,7 +90,7 @@ reading = subst (λ (w : List ℕ). IsReading w log_after (length (log_bytes log
 small : length copy_bytes ≤ log_limit
 small = omega arith
 
-counts : IsLogOf copy_bytes log_after
+pub counts : IsLogOf copy_bytes log_after
 counts = is_read (length (log_bytes log_after)) small reading
 
 -- the first part of it
@@ -114,10 +114,10 @@ module _ (bytes : List ℕ) where
   after_start : IsLogAfter copying (with_log bytes) [] (Start 1 ∷ []) []
   after_start = starts [] [] 1 begins
 
-  course : IsLogAfter copying (with_log bytes) [] copied log_after
+  pub course : IsLogAfter copying (with_log bytes) [] copied log_after
   course = records (Start 1 ∷ []) [] 1 copy_step in_members copy_record after_start refl refl close (record { text = refl; outs = ((refl, refl), tt); ins = ((refl, refl), tt); digests = refl })
 
-whole : IsLogWhole copying copied (with_log copy_bytes)
+pub whole : IsLogWhole copying copied (with_log copy_bytes)
 whole = record {
   first = [];
   begins = begins_empty;

@@ -115,7 +115,7 @@ none_skipped i (failed k step path j other left at known makes bad) = left.not_s
 none_skipped i (skipped k step path j other left at known makes bad) = left.not_settled (all_settled i)
 none_skipped i (quits k j left quit bad) = left.not_settled (all_settled i)
 
-went : AllWent copying copied
+pub went : AllWent copying copied
 went = record {
   given = λ path c. inr (1, copy_step, subst (Makes copying.build.steps 1 copy_step) (one_of out_path path c) (makes_out (in_path ∷ [])));
   none_failed = λ i c. elim (Contains_cases (Start 1) (Done i false) (Done 1 true ∷ []) c) [
@@ -160,7 +160,7 @@ keeps_before = record {
   stands = λ path file e. subst (Contains (in_past ∷ [])) (entry_file path file e) (Contains_here in_past []);
 }
 
-one_each_after : IsOneEach disk_after.past
+pub one_each_after : IsOneEach disk_after.past
 one_each_after path stamp x y a b = go (Contains_cases in_past (record { path = path; file = record { stamp = stamp; bytes = x } }) (out_past ∷ []) a) (Contains_cases in_past (record { path = path; file = record { stamp = stamp; bytes = y } }) (out_past ∷ []) b)
   where
     go : (◌≡◌ {A = Past} in_past (record { path = path; file = record { stamp = stamp; bytes = x } })) ⊎ Contains (out_past ∷ []) (record { path = path; file = record { stamp = stamp; bytes = x } })
@@ -170,7 +170,7 @@ one_each_after path stamp x y a b = go (Contains_cases in_past (record { path = 
     go (inl p) (inr q) = absurd (let e : 1 ≡ stamp = ap (λ (r : Past). r.file.stamp) p in let f : 2 ≡ stamp = ap (λ (r : Past). r.file.stamp) (one_of out_past _ q) in omega (arith, e, f))
     go (inr p) (inl q) = absurd (let e : 2 ≡ stamp = ap (λ (r : Past). r.file.stamp) (one_of out_past _ p) in let f : 1 ≡ stamp = ap (λ (r : Past). r.file.stamp) q in omega (arith, e, f))
 
-stands_after : (path : List ℕ) (file : File) → disk_after.now path ≡ Some file → Stood disk_after.past path file
+pub stands_after : (path : List ℕ) (file : File) → disk_after.now path ≡ Some file → Stood disk_after.past path file
 stands_after path file e = go (bytes_eq out_path path) refl e
   where
     go : (t : Bool) → bytes_eq out_path path ≡ t → (if t then Some out_file else at_entry path) ≡ Some file → Stood disk_after.past path file
@@ -184,7 +184,7 @@ stands_after path file e = go (bytes_eq out_path path) refl e
 keeps_after : IsConsistent disk_after
 keeps_after = record { one_each = one_each_after; stands = stands_after }
 
-others_after : (path : List ℕ) → (out_path ≡ path → ⊥) → disk_after.now path ≡ at_entry path
+pub others_after : (path : List ℕ) → (out_path ≡ path → ⊥) → disk_after.now path ≡ at_entry path
 others_after path differ = go (bytes_eq out_path path) refl
   where
     go : (t : Bool) → bytes_eq out_path path ≡ t → (if t then Some out_file else at_entry path) ≡ at_entry path

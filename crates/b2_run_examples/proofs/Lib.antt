@@ -16,3 +16,4 @@ pub mod TwoSources
 pub mod HeaderPlacesHold
 pub mod MissingHolds
 pub mod FlagsHold
+pub mod CopySessionHolds

@@ -8,3 +8,4 @@ pub mod Quits
 pub mod HeaderPlaces
 pub mod Missing
 pub mod Flags
+pub mod CopySession

@@ -9,6 +9,7 @@ ghost use Rattle.b2_run_examples.specs.Quits.{QuitHolds};
 ghost use Rattle.b2_run_examples.specs.HeaderPlaces.{HeaderLostHolds, HeaderCircleHolds};
 ghost use Rattle.b2_run_examples.specs.Missing.{MissingHolds};
 ghost use Rattle.b2_run_examples.specs.Flags.{FlagsHold};
+ghost use Rattle.b2_run_examples.specs.CopySession.{CopySessionHolds};
 
 /// An update that copies one file: its run is a whole run in which all went well, its disk is sound, its log is true and
 /// has the last word.
@@ -94,4 +95,9 @@ pub fn missing_holds()
 /// Always-steps and notfile steps: they run each time, and a notfile step leaves no record and owes no file.
 pub fn flags_hold()
     ensures { FlagsHold }
+{}
+
+/// The update that copies has done all that an update does which answers that all went well, and is a session.
+pub fn copy_session_holds()
+    ensures { CopySessionHolds }
 {}

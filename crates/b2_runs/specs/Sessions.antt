@@ -8,6 +8,7 @@ use Rattle.b2_plan.specs.Plans.{log_path, Apart, step_at}
 use Rattle.b2_runs.specs.Logs.{Making}
 use Rattle.b2_runs.specs.LogFiles.{IsTrueOn}
 use Rattle.b2_runs.specs.Staleness.{Update, making}
+use Rattle.b2_runs.specs.Events.{IsOpen}
 use Rattle.b2_runs.specs.Runs.{OpenEnds}
 use Rattle.b2_runs.specs.Afterwards.{at_present}
 use Rattle.b2_runs.specs.UpdateAnswers.{UpdateAnswer, HasUpdated, WithLog}
@@ -56,6 +57,7 @@ pub record IsReopened (events : List ChildEvent) (before after : Moment) : Type 
   pub ends : List ChildEvent
   pub events_are : after.family.events ≡ before.family.events ++ ends
   pub open_ends : OpenEnds events ends
+  pub all_end : (i : ℕ) → IsOpen (events ++ ends) i → ⊥
   pub worked : ChangesOnlyOutputs before.family.running before.disk after.disk
   pub keeps : IsConsistent after.disk
 

@@ -1,0 +1,155 @@
+use Rattle.std.proofs.Common.{◌≡◌, ◌⊎◌, ℕ, ◌≤◌, Bool, true, false, List, [], ◌∷◌, ◌++◌, inl, inr, refl, sym, ap, subst, subst₂, ◌∙◌, arith, Option, Some, None, if◌then◌else◌}
+use Rattle.std.specs.List.{Contains}
+use Rattle.std.specs.Str.{bytes_eq}
+use Rattle.std.proofs.lemmas.Slice.Eq.{bytes_eq-Decides}
+use Rattle.std.proofs.lemmas.List.Elements.{Contains-append_left, Contains-push_cases}
+use Rattle.b2_host.specs.declared.children.ChildEvent.{ChildEvent}
+use Rattle.b2_host.specs.declared.children.ChildEvent.TheVariants.{Start, Done}
+use Rattle.b2_host.specs.Disks.{File, Past, Stood, IsOneEach, IsConsistent, bytes_at}
+use Rattle.b2_plan.specs.declared.step.Step.{Step}
+use Rattle.b2_plan.specs.Plans.{log_path, step_at, Makes}
+use Rattle.b2_plan.specs.Closures.{Value}
+use Rattle.b2_plan.specs.Cleans.{Clean}
+use Rattle.b2_log.specs.declared.line.LogLine.{LogLine}
+use Rattle.b2_runs.specs.Logs.{LogTrue}
+use Rattle.b2_runs.specs.LogFiles.{IsLogIn}
+use Rattle.b2_runs.specs.Staleness.{making, NoneOlder}
+use Rattle.b2_runs.specs.Runs.{IsBegun, IsFed}
+use Rattle.b2_runs.specs.Outcomes.{HasCleanBytes, IsCleanBuild, OnlyOutputsChange}
+use Rattle.b2_runs.specs.Soundness.{AreAtWork}
+use Rattle.b2_runs.specs.Afterwards.{NoneDoneOlder, IsNoted}
+use Rattle.b2_runs.specs.UpdateAnswers.{UpdateAnswer.all_went, HasEnded, HasUpdated}
+use Rattle.b2_runs.specs.Sessions.{IsUpdate}
+use Rattle.b2_run_examples.specs.Examples.{in_path, out_path, copying, copied, at_entry, disk_before, disk_after, in_past, out_past, copy_bytes, log_after, with_log, copy_given, family_after, copy_step, in_members}
+use Rattle.b2_run_examples.specs.CopySession.{log_past, disk_logged, family_idle, moment_before, moment_after, CopySessionHolds}
+use Rattle.b2_runs.proofs.ElementLemmas.{Contains_here, Contains_cases, Contains_nil}
+use Rattle.b2_runs.proofs.CleanLaws.{clean_is_made}
+use Rattle.b2_runs.proofs.LogLaws.{true_as_past_grows}
+use Rattle.b2_runs.proofs.LogFileLaws.{file_is_one_log}
+use Rattle.b2_runs.proofs.RunLaws.{same_members}
+use Rattle.b2_runs.proofs.JudgedByPresent.{none_older_move}
+use Rattle.b2_runs.proofs.LogAlong.{log_is_noted}
+use Rattle.b2_runs.proofs.LogAtExit.{whole_is_cut}
+use Rattle.b2_run_examples.proofs.OneStepPlan.{one_of, only_is, only_number, only_out, makes_out}
+use Rattle.b2_run_examples.proofs.CopyingHolds.{apart, run, went, close, none_older, log_true, one_each_after, stands_after, others_after}
+use Rattle.b2_run_examples.proofs.CopyingFiled.{counts, course, whole}
+
+-- ---- the disk
+
+-- what stood before the log has lower stamps
+lower : (p : Past) → Contains (in_past ∷ out_past ∷ []) p → p.file.stamp ≤ 2
+lower p c = elim (Contains_cases in_past p (out_past ∷ []) c) [
+  | inl e ↦ subst (λ (q : Past). q.file.stamp ≤ 2) e (omega arith)
+  | inr d ↦ subst (λ (q : Past). q.file.stamp ≤ 2) (one_of out_past p d) (omega arith)
+]
+
+one_each : IsOneEach disk_logged.past
+one_each path stamp x y a b = go (Contains-push_cases (in_past ∷ out_past ∷ []) log_past (record { path = path; file = record { stamp = stamp; bytes = x } }) a) (Contains-push_cases (in_past ∷ out_past ∷ []) log_past (record { path = path; file = record { stamp = stamp; bytes = y } }) b)
+  where
+    go : Contains (in_past ∷ out_past ∷ []) (record { path = path; file = record { stamp = stamp; bytes = x } }) ⊎ (◌≡◌ {A = Past} log_past (record { path = path; file = record { stamp = stamp; bytes = x } }))
+        → Contains (in_past ∷ out_past ∷ []) (record { path = path; file = record { stamp = stamp; bytes = y } }) ⊎ (◌≡◌ {A = Past} log_past (record { path = path; file = record { stamp = stamp; bytes = y } })) → x ≡ y
+    go (inl p) (inl q) = one_each_after path stamp x y p q
+    go (inr p) (inr q) = sym (ap (λ (r : Past). r.file.bytes) p) ∙ ap (λ (r : Past). r.file.bytes) q
+    go (inl p) (inr q) = absurd (let l : stamp ≤ 2 = lower _ p in let f : 3 ≡ stamp = ap (λ (r : Past). r.file.stamp) q in omega (arith, l, f))
+    go (inr p) (inl q) = absurd (let l : stamp ≤ 2 = lower _ q in let f : 3 ≡ stamp = ap (λ (r : Past). r.file.stamp) p in omega (arith, l, f))
+
+stands : (path : List ℕ) (file : File) → with_log copy_bytes path ≡ Some file → Stood disk_logged.past path file
+stands path file e = go (bytes_eq log_path path) refl e
+  where
+    go : (t : Bool) → bytes_eq log_path path ≡ t → (if t then Some (record { stamp = 3; bytes = copy_bytes }) else disk_after.now path) ≡ Some file → Stood disk_logged.past path file
+    go true f g =
+        let p : log_path ≡ path = (bytes_eq-Decides log_path path).0 f in
+        let q : record { stamp = 3; bytes = copy_bytes } ≡ file = (let h : Some (record { stamp = 3; bytes = copy_bytes }) ≡ Some file = g in cc) in
+        let same : ◌≡◌ {A = Past} log_past (record { path = path; file = file }) = λ i. record { path = p i; file = q i } in
+        subst (Contains (in_past ∷ out_past ∷ log_past ∷ [])) same (2, omega arith, refl)
+    go false f g = Contains-append_left (in_past ∷ out_past ∷ []) (log_past ∷ []) (record { path = path; file = file }) (stands_after path file g)
+
+keeps : IsConsistent disk_logged
+keeps = record { one_each = one_each; stands = stands }
+
+changed : OnlyOutputsChange copying copied at_entry (with_log copy_bytes)
+changed path not_log unmade = go (bytes_eq log_path path) refl
+  where
+    go : (t : Bool) → bytes_eq log_path path ≡ t → (if t then Some (record { stamp = 3; bytes = copy_bytes }) else disk_after.now path) ≡ at_entry path
+    go true f = absurd (not_log (sym ((bytes_eq-Decides log_path path).0 f)))
+    go false f = others_after path (λ e. unmade 1 copy_step (Contains_here (Start 1) (Done 1 true ∷ [])) (subst (Makes copying.build.steps 1 copy_step) e (makes_out (in_path ∷ []))))
+
+-- ---- the log
+
+log_is : (log : List LogLine) → IsLogIn (with_log copy_bytes) log → log ≡ log_after
+log_is log is = file_is_one_log copy_bytes log log_after is counts
+
+true_logged : LogTrue (making copying) disk_logged.past log_after
+true_logged = true_as_past_grows (making copying) disk_after.past disk_logged.past log_after (λ old c. Contains-append_left (in_past ∷ out_past ∷ []) (log_past ∷ []) old c) log_true
+
+older : NoneDoneOlder copying copied (with_log copy_bytes)
+older i step members at done file close_members =
+    let here : i ≡ 1 = only_number (in_path ∷ []) i step at in
+    let same : copy_step ≡ step = only_is (in_path ∷ []) i step at in
+    let one : in_members ≡ members = same_members copying apart 1 copy_step step refl (subst (λ j. step_at copying.build.steps j ≡ Some step) here at) in_members members close close_members in
+    subst₂ (λ s ms. NoneOlder (with_log copy_bytes) s ms) same one
+    (none_older_move disk_after.now (with_log copy_bytes) copy_step in_members (λ out c. subst (λ o. with_log copy_bytes o ≡ disk_after.now o) (one_of out_path out c) refl)
+    (λ m y c. subst (λ o. with_log copy_bytes o ≡ disk_after.now o) (ap (λ (z : List ℕ × Value). z.0) (one_of (in_path, Some (7 ∷ [])) (m, y) c)) refl) none_older)
+
+noted : IsNoted copying copied (with_log copy_bytes) log_after
+noted = log_is_noted copying (with_log copy_bytes) [] log_after copied apart run.each (λ outs. refl) older (course copy_bytes)
+
+-- ---- the answer
+
+-- the output is that of the clean build
+out_is_clean : (path : List ℕ) → out_path ≡ path → (bytes : List ℕ) × Clean copying.build path (Some bytes) × (bytes_at (with_log copy_bytes) path ≡ Some bytes)
+out_is_clean path e = subst (λ p. (bytes : List ℕ) × Clean copying.build p (Some bytes) × (bytes_at (with_log copy_bytes) p ≡ Some bytes)) e (7 ∷ [], clean_is_made copying.build 1 copy_step out_path in_members apart (makes_out (in_path ∷ [])) close, refl)
+
+clean : HasCleanBytes copying copied (with_log copy_bytes)
+clean i step path needed makes settled file = out_is_clean path (only_out (in_path ∷ []) i step path makes)
+
+clean_build : IsCleanBuild copying.build (with_log copy_bytes)
+clean_build path c = inl (out_is_clean path (one_of out_path path c))
+
+abbrev begun : IsBegun copying copied
+begun = record { front = copied; rest = []; whole = refl; run = run.each; ends = tt }
+
+ended : HasEnded copying copied (with_log copy_bytes)
+ended = record {
+  run = run;
+  clean = clean;
+  log = log_after;
+  is_log = counts;
+  leaves = record { files = λ i step path bad makes. absurd (went.none_failed i bad); records = λ i step bad at. absurd (went.none_failed i bad) };
+  whole = whole;
+  noted = λ fits. noted;
+}
+
+at_work : AreAtWork copying copied []
+at_work = record { each = λ child c. absurd (Contains_nil child c); once = λ i j d lt h. absurd (omega arith); whole = λ i o. absurd (run.none_open i o) }
+
+fed : IsFed copying 1 copy_given
+fed = record { step = copy_step; at = refl; members = in_members; close = close; step_is = refl; text = refl; ins = refl; outs = refl; held = refl }
+
+updated : HasUpdated copying all_went family_idle family_after disk_before disk_logged
+updated = record {
+  events = copied;
+  events_are = refl;
+  given = copy_given ∷ [];
+  given_are = refl;
+  begun = begun;
+  fed = (fed, tt);
+  at_work = at_work;
+  changed = changed;
+  cut = whole_is_cut copying copied (with_log copy_bytes) run.each whole;
+  noted = λ log is fits. inr (begun, subst (IsNoted copying copied (with_log copy_bytes)) (sym (log_is log is)) noted);
+  told = (ended, went, clean_build);
+}
+
+is_update : IsUpdate copying all_went moment_before moment_after
+is_update = record {
+  apart = apart;
+  idle = refl;
+  planned = λ child c. absurd (Contains_nil child c);
+  keeps = keeps;
+  stays_true = λ t log is. subst (LogTrue (making copying) disk_logged.past) (sym (log_is log is)) true_logged;
+  has = ([], refl, updated);
+}
+
+pub copy_session_holds : CopySessionHolds
+copy_session_holds = record { updated = updated; session = (moment_after, all_went ∷ [], [], refl, (all_went, refl, is_update), (refl, refl)) }
