@@ -9,7 +9,7 @@ use thiserror::Error;
 #[derive(Debug, Drop, Error)]
 pub enum LexFault {
     /// The byte at this offset is zero, or no whole character in UTF-8 begins there.
-    #[error("byte {at} is no text")]
+    #[error("byte {at} is not text")]
     NotUtf8 { at: u32 },
     /// The quotes of a word that begins on this line are not closed.
     #[error("line {line}: open quote")]
