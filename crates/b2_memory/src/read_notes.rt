@@ -27,8 +27,8 @@ impl ReadNotes {
         }
     }
 
-    #[tactic(auto, using(crate::proofs::Notes::reads_more))]
     /// One more read. After an error the reads are as before.
+    #[tactic(auto, using(crate::proofs::Notes::reads_more))]
     pub fn add(
         &mut self,
         path: &Path,
@@ -45,8 +45,8 @@ impl ReadNotes {
         Ok(())
     }
 
-    #[tactic(auto, using(crate::proofs::Notes::paths_are))]
     /// The paths of the reads.
+    #[tactic(auto, using(crate::proofs::Notes::paths_are))]
     pub fn paths(&self) -> &[Path]
         ensures { map (λ read. read.path) (noted_reads self.now) ≡ result.now }
     {
