@@ -251,7 +251,11 @@ fn push_scan(alloc: Global, line: &mut Vec<u8>, scan: &ScanLine) -> Result<(), O
 }
 
 /// Appends a line.
-pub(crate) fn push_line(alloc: Global, bytes: &mut Vec<u8>, line: &LogLine) -> Result<(), OutOfMemory>
+pub(crate) fn push_line(
+    alloc: Global,
+    bytes: &mut Vec<u8>,
+    line: &LogLine,
+) -> Result<(), OutOfMemory>
     ensures pushes { OnOk result (bytes.new.items ≡ bytes.old.items ++ spelling line.now) }
     ensures good { OnOk result (IsProper line.now → IsGood line.now) }
 {
