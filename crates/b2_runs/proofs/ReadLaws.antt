@@ -1,7 +1,8 @@
 use Rattle.std.proofs.Common.{◌≡◌, ◌⊎◌, ℕ, ◌<◌, ◌≤◌, true, false, List, [], ◌∷◌, ◌++◌, length, inl, inr, refl, sym, ap, ap₂, subst, ◌∙◌, arith, Option, Some, None, option_map}
 use Rattle.std.specs.List.{Contains}
-use Rattle.std.proofs.lemmas.List.Elements.{Contains-push_cases}
+use Rattle.std.proofs.lemmas.List.Elements.{Contains-push_cases, Contains-append_left}
 use Rattle.b2_host.specs.declared.children.ChildEvent.{ChildEvent}
+use Rattle.b2_host.specs.declared.children.ChildEvent.TheVariants.{Start, Done}
 use Rattle.b2_host.specs.Disks.{File, Disk, Past, IsOneEach, bytes_at}
 use Rattle.b2_plan.specs.Plans.{log_path, Apart}
 use Rattle.b2_plan.specs.Cleans.{Clean}
@@ -10,14 +11,17 @@ use Rattle.b2_log.specs.Readings.{IsReading}
 use Rattle.b2_log.specs.Finding.{find_scan}
 use Rattle.b2_log.proofs.ReadLogs.{one_reading}
 use Rattle.b2_runs.specs.Staleness.{Update}
-use Rattle.b2_runs.specs.Runs.{Settled, on_settled, MayCome}
+use Rattle.b2_runs.specs.Runs.{Settled, Settled.done_well, on_settled, MayCome}
 use Rattle.b2_runs.specs.Soundness.{Holds, IsSound}
-use Rattle.b2_runs.specs.FileReads.{scan_limit, digest_limit, IsInput, IsNeededOut, IsToDigest, IsToDigest.input, IsToDigest.output, IsTooBig.to_scan, IsTooBig.to_digest, Read, IsLogThen, IsCalledFor, IsCalledFor.to_scan as called_to_scan, IsCalledFor.to_digest as called_to_digest}
-use Rattle.b2_runs.specs.ReadLaws.{LargeIsTooBig, TooBigIsLarge, NothingTooBig, ReadsNone, ReadsMore, ReadsAlong, ReadsAsPastGrows, ScannedIsNotRead, UnscannedIsNotRead}
+use Rattle.b2_runs.specs.FileReads.{scan_limit, digest_limit, IsInput, IsNeededOut, IsToDigest, IsToDigest.input, IsToDigest.output, IsTooBig, IsTooBig.to_scan, IsTooBig.to_digest, Read, IsLogThen, IsCalledFor, IsCalledFor.to_scan as called_to_scan, IsCalledFor.to_digest as called_to_digest}
+use Rattle.b2_runs.specs.ReadLaws.{LargeIsTooBig, TooBigIsLarge, NothingTooBig, TooBigThroughEnd, TooBigThroughDrift, ReadsNone, ReadsMore, ReadsAlong, ReadsAsPastGrows, ScannedIsNotRead, UnscannedIsNotRead}
 use Rattle.b2_runs.proofs.ElementLemmas.{Contains_nil}
-use Rattle.b2_runs.proofs.ClosureLaws.{known_grows}
-use Rattle.b2_runs.proofs.SettledLaws.{settled_holds, unstarted_kept, out_bytes}
-use Rattle.b2_runs.proofs.RunLaws.{settled_grows, needed_up}
+use Rattle.b2_runs.proofs.ClosureLaws.{known_grows, close_stays}
+use Rattle.b2_runs.proofs.CleanLaws.{clean_is_one}
+use Rattle.b2_runs.proofs.EventLaws.{start_in_done}
+use Rattle.b2_runs.proofs.SettledLaws.{settled_holds, unstarted_kept, out_bytes, out_not_log}
+use Rattle.b2_runs.proofs.RunLaws.{settled_grows, settled_after_end, needed_up}
+use Rattle.b2_runs.proofs.NotedLaws.{settled_still}
 
 -- ---- files that are too big
 
@@ -50,6 +54,49 @@ nothing_too_big u events disk path size apart sound none (to_digest bytes to siz
         let at : bytes_at disk.now path ≡ Some b = subst (Holds disk.now path) e holds in
         none.in_clean on path bytes out (subst (Clean u.build path) (e ∙ sym at ∙ stands) clean)
 
+-- what a needed step reads or makes stays so where more is settled
+input_up : (u : Update) (events more : List ChildEvent) (path : List ℕ) → ((p : List ℕ) → Settled u events p → Settled u more p) → IsInput u events path → IsInput u more path
+input_up u events more path grows i = record {
+  number = i.number;
+  needed = needed_up u events more grows i.number i.needed;
+  step = i.step;
+  at = i.at;
+  known = known_grows (on_settled u events) (on_settled u more) u.build i.step path (λ p x s. (grows p s.0, s.1)) i.known;
+}
+
+abbrev out_up : (u : Update) (events more : List ChildEvent) (path : List ℕ) → ((p : List ℕ) → Settled u events p → Settled u more p) → IsNeededOut u events path → IsNeededOut u more path
+out_up u events more path grows o = record { number = o.number; needed = needed_up u events more grows o.number o.needed; step = o.step; makes = o.makes }
+
+pub too_big_through_end : TooBigThroughEnd
+too_big_through_end u events now path size i well apart opened big = go big
+  where
+    grows : (p : List ℕ) → Settled u events p → Settled u (events ++ Done i well ∷ []) p
+    grows p s = settled_after_end u events i well p apart opened s
+
+    digested : (bytes : List ℕ) → IsToDigest u events now path bytes → IsToDigest u (events ++ Done i well ∷ []) now path bytes
+    digested bytes (input on read s) = input on (input_up u events (events ++ Done i well ∷ []) path grows read) (grows path s.0, s.1)
+    digested bytes (output out members on owes close still stands) =
+        output (out_up u events (events ++ Done i well ∷ []) path grows out) members on owes
+        (close_stays (on_settled u events) (on_settled u (events ++ Done i well ∷ [])) u.build out.step members (λ p x s. (grows p s.0, s.1)) (λ p x y s t. clean_is_one u.build apart p x y s.1 t.1) close)
+        (elim still [ inl not_started ↦ inl (λ c. not_started (start_in_done events i out.number well c)) | inr done ↦ inr (Contains-append_left events (Done i well ∷ []) (Done out.number true) done) ])
+        stands
+
+    go : IsTooBig u events now path size → IsTooBig u (events ++ Done i well ∷ []) now path size
+    go (to_scan bytes to size_is more) = to_scan bytes (record { scanned = to.scanned; input = input_up u events (events ++ Done i well ∷ []) path grows to.input; settled = (grows path to.settled.0, to.settled.1) }) size_is more
+    go (to_digest bytes to size_is more) = to_digest bytes (digested bytes to) size_is more
+
+pub too_big_through_drift : TooBigThroughDrift
+too_big_through_drift u events before after path size apart d (to_scan bytes to size_is more) = to_scan bytes to size_is more
+too_big_through_drift u events before after path size apart d (to_digest bytes to size_is more) = to_digest bytes (go to) size_is more
+  where
+    go : IsToDigest u events before.now path bytes → IsToDigest u events after.now path bytes
+    go (input on read s) = input on read s
+    go (output out members on owes close (inl not_started) stands) =
+        output out members on owes close (inl not_started)
+        (ap (option_map (λ (file : File). file.bytes)) (d.others path (out_not_log u.build apart out.number out.step path out.makes) (λ k other makes loose. not_started (subst (λ j. Contains events (Start j)) (apart.one_maker k out.number other out.step path makes out.makes) loose.0))) ∙ stands)
+    go (output out members on owes close (inr done) stands) =
+        output out members on owes close (inr done) (ap (option_map (λ (file : File). file.bytes)) (settled_still u events before after apart d path (done_well out.number out.step path out.makes done)) ∙ stands)
+
 -- ---- reads
 
 pub reads_none : ReadsNone
@@ -63,18 +110,10 @@ reads_more u events past reads read once may other c not_log = elim (Contains-pu
 
 -- what a needed step reads or makes stays so as events come
 input_along : (u : Update) (events : List ChildEvent) (event : ChildEvent) (path : List ℕ) → Apart u.build.steps u.build.roots → MayCome u events event → IsInput u events path → IsInput u (events ++ event ∷ []) path
-input_along u events event path apart may i =
-    let grows : (p : List ℕ) → Settled u events p → Settled u (events ++ event ∷ []) p = settled_grows u events apart event may in
-    record {
-      number = i.number;
-      needed = needed_up u events (events ++ event ∷ []) grows i.number i.needed;
-      step = i.step;
-      at = i.at;
-      known = known_grows (on_settled u events) (on_settled u (events ++ event ∷ [])) u.build i.step path (λ p x s. (grows p s.0, s.1)) i.known;
-    }
+input_along u events event path apart may i = input_up u events (events ++ event ∷ []) path (settled_grows u events apart event may) i
 
 out_along : (u : Update) (events : List ChildEvent) (event : ChildEvent) (path : List ℕ) → Apart u.build.steps u.build.roots → MayCome u events event → IsNeededOut u events path → IsNeededOut u (events ++ event ∷ []) path
-out_along u events event path apart may o = record { number = o.number; needed = needed_up u events (events ++ event ∷ []) (settled_grows u events apart event may) o.number o.needed; step = o.step; makes = o.makes }
+out_along u events event path apart may o = out_up u events (events ++ event ∷ []) path (settled_grows u events apart event may) o
 
 pub reads_along : ReadsAlong
 reads_along u events event past reads apart may once read c not_log = go (once read c not_log)

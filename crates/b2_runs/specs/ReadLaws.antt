@@ -1,15 +1,17 @@
-use Rattle.std.specs.Prelude.{◌≡◌, ◌≢◌, ◌⊎◌, ℕ, ◌<◌, ◌≤◌, true, false, List, [], ◌∷◌, ◌++◌, length, Some}
+use Rattle.std.specs.Prelude.{◌≡◌, ◌≢◌, ◌⊎◌, ℕ, ◌<◌, ◌≤◌, Bool, true, false, List, [], ◌∷◌, ◌++◌, length, Some}
 use Rattle.std.specs.List.{Contains}
 use Rattle.b2_host.specs.declared.children.ChildEvent.{ChildEvent}
-use Rattle.b2_host.specs.Disks.{Disk, Past, IsOneEach, bytes_at}
+use Rattle.b2_host.specs.declared.children.ChildEvent.TheVariants.{Done}
+use Rattle.b2_host.specs.Disks.{Folder, Disk, Past, IsOneEach, bytes_at}
 use Rattle.b2_plan.specs.Plans.{log_path, Apart}
 use Rattle.b2_plan.specs.Cleans.{Clean}
 use Rattle.b2_log.specs.declared.line.ScanLine.{ScanLine}
 use Rattle.b2_log.specs.declared.line.LogLine.{LogLine}
 use Rattle.b2_log.specs.Finding.{find_scan}
 use Rattle.b2_runs.specs.Staleness.{Update}
+use Rattle.b2_runs.specs.Events.{IsOpen}
 use Rattle.b2_runs.specs.Runs.{on_settled, MayCome}
-use Rattle.b2_runs.specs.Soundness.{IsSound}
+use Rattle.b2_runs.specs.Soundness.{IsSound, Drifts}
 use Rattle.b2_runs.specs.FileReads.{scan_limit, digest_limit, IsInput, IsNeededOut, IsToScan, IsTooBig, Read, IsLogThen, IsCalledFor, ReadsOnce}
 
 -- ---- files that are too big
@@ -33,6 +35,14 @@ pub record NoneLarge (u : Update) (events : List ChildEvent) : Type 0 where
 -- there no file is too big
 abbrev pub NothingTooBig : Type 0
 NothingTooBig = (u : Update) (events : List ChildEvent) (disk : Disk) (path : List ℕ) (size : ℕ) → Apart u.build.steps u.build.roots → IsSound u events disk → NoneLarge u events → IsTooBig u events disk.now path size → ⊥
+
+-- a file that is too big stays so as a step ends
+abbrev pub TooBigThroughEnd : Type 0
+TooBigThroughEnd = (u : Update) (events : List ChildEvent) (now : Folder) (path : List ℕ) (size i : ℕ) (well : Bool) → Apart u.build.steps u.build.roots → IsOpen events i → IsTooBig u events now path size → IsTooBig u (events ++ Done i well ∷ []) now path size
+
+-- .. and as steps that run or failed change their outputs: so it is what was told, wherever the update ends
+abbrev pub TooBigThroughDrift : Type 0
+TooBigThroughDrift = (u : Update) (events : List ChildEvent) (before after : Disk) (path : List ℕ) (size : ℕ) → Apart u.build.steps u.build.roots → Drifts u events before after → IsTooBig u events before.now path size → IsTooBig u events after.now path size
 
 -- ---- reads
 

@@ -1,5 +1,5 @@
 //! Laws of the files that an update reads, and of those that are too big for it.
-ghost use Rattle.b2_runs.specs.ReadLaws.{LargeIsTooBig, TooBigIsLarge, NothingTooBig, ReadsNone, ReadsMore, ReadsAlong, ReadsAsPastGrows, ScannedIsNotRead, UnscannedIsNotRead};
+ghost use Rattle.b2_runs.specs.ReadLaws.{LargeIsTooBig, TooBigIsLarge, NothingTooBig, ReadsNone, ReadsMore, ReadsAlong, ReadsAsPastGrows, ScannedIsNotRead, UnscannedIsNotRead, TooBigThroughEnd, TooBigThroughDrift};
 
 /// A file that is to be scanned and has more bytes than are scanned is too big, and stands.
 pub fn large_is_too_big()
@@ -44,4 +44,14 @@ pub fn scanned_is_not_read()
 /// Judged by stamps, no file is read that is not scanned.
 pub fn unscanned_is_not_read()
     ensures { UnscannedIsNotRead }
+{}
+
+/// A file that is too big stays so as a step ends.
+pub fn too_big_through_end()
+    ensures { TooBigThroughEnd }
+{}
+
+/// It stays so as steps that run or failed change their outputs.
+pub fn too_big_through_drift()
+    ensures { TooBigThroughDrift }
 {}
