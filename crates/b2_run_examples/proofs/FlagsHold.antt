@@ -1,8 +1,8 @@
-use Rattle.std.proofs.Common.{◌≡◌, ◌⊎◌, ℕ, zero, suc, ◌<◌, ◌+◌, Bool, true, false, List, [], ◌∷◌, inl, inr, refl, sym, ap, subst, ◌∙◌, arith, Option, Some, None, codes}
+use Rattle.std.proofs.Common.{◌≡◌, ℕ, zero, suc, ◌<◌, ◌+◌, Bool, true, false, List, [], ◌∷◌, inl, inr, refl, sym, subst, arith, Some, None, codes}
 use Rattle.std.specs.List.{Contains}
 use Rattle.b2_host.specs.declared.children.ChildEvent.{ChildEvent}
 use Rattle.b2_host.specs.declared.children.ChildEvent.TheVariants.{Start, Done}
-use Rattle.b2_host.specs.Disks.{File, Folder, bytes_at}
+use Rattle.b2_host.specs.Disks.{Folder, bytes_at}
 use Rattle.b2_plan.specs.declared.step.Step.{Step}
 use Rattle.b2_plan.specs.Plans.{Apart, Makes, step_at}
 use Rattle.b2_plan.specs.Sources.{Build, IsSource}
@@ -11,8 +11,8 @@ use Rattle.b2_plan.specs.Cleans.{Clean}
 use Rattle.b2_log.specs.declared.line.LogLine.{LogLine}
 use Rattle.b2_runs.specs.Staleness.{Update, NoneDone, Agrees.by_stamps, IsFresh, IsStale}
 use Rattle.b2_runs.specs.Events.{IsOpen}
-use Rattle.b2_runs.specs.Runs.{Settled.source, Settled.done_well, on_settled, Needed, Needed.wanted, CanStart, IsRun}
-use Rattle.b2_runs.specs.Outcomes.{AllWent, IsSettledStep, IsCleanBuild, Skipped}
+use Rattle.b2_runs.specs.Runs.{Settled.source, Settled.done_well, on_settled, Needed.wanted, CanStart, IsRun}
+use Rattle.b2_runs.specs.Outcomes.{AllWent}
 use Rattle.b2_runs.specs.Afterwards.{Restless.always as is_always}
 use Rattle.b2_runs.specs.LogCourses.{IsLogAfter.begins, IsLogAfter.starts, IsLogAfter.owes_none}
 use Rattle.b2_run_examples.specs.Examples.{in_path, out_path, copy_step, at_entry, disk_after, copy_record, log_after, copied, in_members}
@@ -21,7 +21,7 @@ use Rattle.b2_runs.proofs.ElementLemmas.{Contains_here, Contains_cases, Contains
 use Rattle.b2_runs.proofs.SettledLaws.{source_clean}
 use Rattle.b2_runs.proofs.OutcomeLaws.{all_went_by_settled}
 use Rattle.b2_runs.proofs.NumberLaws.{cannot_start_fresh}
-use Rattle.b2_run_examples.proofs.OneStepPlan.{one_of, only_out, in_outside, is_apart, makes_out}
+use Rattle.b2_run_examples.proofs.OneStepPlan.{one_of, in_outside, is_apart}
 use Rattle.b2_run_examples.proofs.CopyingJudged.{unchanged}
 use Rattle.b2_run_examples.proofs.OverlapHolds.{skip, start_not_done, start_number}
 

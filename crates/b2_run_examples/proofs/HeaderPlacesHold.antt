@@ -1,4 +1,4 @@
-use Rattle.std.proofs.Common.{◌≡◌, ◌⊎◌, ℕ, ◌<◌, Bool, true, false, List, [], ◌∷◌, ◌++◌, length, inl, inr, refl, sym, ap, subst, ◌∙◌, arith, Option, Some, None, codes, if◌then◌else◌}
+use Rattle.std.proofs.Common.{◌≡◌, ◌⊎◌, ℕ, ◌<◌, Bool, true, false, List, [], ◌∷◌, ◌++◌, length, inl, inr, refl, sym, ap, subst, ◌∙◌, arith, Some, None, codes, if◌then◌else◌}
 use Rattle.std.specs.List.{Contains, AllByRecursion}
 use Rattle.std.specs.Str.{bytes_eq}
 use Rattle.std.proofs.lemmas.Slice.Eq.{bytes_eq-Decides}
@@ -7,7 +7,7 @@ use Rattle.b2_base.specs.Normal.{IsUnder, parts}
 use Rattle.b2_host.specs.declared.children.ChildEvent.TheVariants.{Done}
 use Rattle.b2_host.specs.Disks.{File, Folder, bytes_at}
 use Rattle.b2_plan.specs.declared.step.Step.{Step}
-use Rattle.b2_plan.specs.Sources.{Build, Include, IsInRoots, IsSource, IsGiven, IsMissing, IsFound, Includes}
+use Rattle.b2_plan.specs.Sources.{Build, Include, IsInRoots, IsSource, IsGiven, IsMissing, Includes}
 use Rattle.b2_plan.specs.Closures.{Value, Values, Known, Known.input as input_of, Known.include as include_of}
 use Rattle.b2_runs.specs.Staleness.{Update, NoneOlder, NoneDone, Agrees, Agrees.by_stamps, Agrees.by_digests, IsFresh, IsStale}
 use Rattle.b2_run_examples.specs.Examples.{in_path, out_path, copy_step}

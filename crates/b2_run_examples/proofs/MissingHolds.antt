@@ -7,7 +7,6 @@ use Rattle.b2_plan.specs.Sources.{IsMissing}
 use Rattle.b2_plan.specs.Closures.{Values, Known, Known.input as input_of}
 use Rattle.b2_runs.specs.Runs.{Settled, Settled.source, Settled.done_well, Settled.fresh, on_settled, Needed, Needed.wanted, Needed.member, CanStart, IsRun}
 use Rattle.b2_runs.specs.Outcomes.{IsMissed, IsLeft, Skipped, Skipped.missing}
-use Rattle.b2_runs.specs.OutcomeLaws.{ReachesLost}
 use Rattle.b2_run_examples.specs.Examples.{out_path, step_from}
 use Rattle.b2_run_examples.specs.Missing.{gone_path, lacking, MissingHolds}
 use Rattle.b2_runs.proofs.ElementLemmas.{Contains_here, Contains_nil}

@@ -1,9 +1,9 @@
-use Rattle.std.proofs.Common.{◌≡◌, ℕ, ◌<◌, ◌+◌, Bool, true, false, List, [], ◌∷◌, ◌⊎◌, inl, inr, refl, sym, ap, subst, ◌∙◌, arith, Some, None, count_by}
+use Rattle.std.proofs.Common.{◌≡◌, ℕ, ◌<◌, ◌+◌, Bool, true, false, List, [], ◌∷◌, ◌⊎◌, inl, inr, refl, sym, subst, arith, Some, None, count_by}
 use Rattle.std.specs.List.{Contains}
 use Rattle.b2_host.specs.declared.children.ChildEvent.{ChildEvent}
 use Rattle.b2_host.specs.declared.children.ChildEvent.TheVariants.{Start, Done}
 use Rattle.b2_plan.specs.declared.step.Step.{Step}
-use Rattle.b2_plan.specs.Plans.{Makes, step_at}
+use Rattle.b2_plan.specs.Plans.{Makes}
 use Rattle.b2_plan.specs.Sources.{IsGiven}
 use Rattle.b2_plan.specs.Closures.{Value, Known, IsClose, Known.input as input_of}
 use Rattle.b2_runs.specs.Staleness.{Update}
@@ -17,9 +17,8 @@ use Rattle.b2_runs.proofs.ValueRounds.{source_not_made}
 use Rattle.b2_runs.proofs.SettledLaws.{source_clean}
 use Rattle.b2_runs.proofs.TakenOut.{pairs_first}
 use Rattle.b2_run_examples.proofs.OneStepPlan.{one_of}
-use Rattle.b2_run_examples.proofs.ThreeCopies.{number_of}
 use Rattle.b2_run_examples.proofs.DigestsHold.{absent, starts_of}
-use Rattle.b2_run_examples.proofs.OverlapHolds.{which, made_at, numbered, apart, makes_a, makes_b, makes_c, x_source, known_is, skip, start_not_done, done_number, start_number, wants_a, wants_b, wants_c}
+use Rattle.b2_run_examples.proofs.OverlapHolds.{which, made_at, apart, makes_a, makes_b, makes_c, x_source, known_is, skip, start_not_done, done_number, start_number, wants_a, wants_b, wants_c}
 
 module _ (quit : Bool) where
   abbrev U : Update

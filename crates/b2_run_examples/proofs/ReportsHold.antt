@@ -1,4 +1,4 @@
-use Rattle.std.proofs.Common.{◌≡◌, arith, refl}
+use Rattle.std.proofs.Common.{arith, refl}
 use Rattle.std.proofs.lemmas.Fmt.{decimal_digit}
 use Rattle.b2_run_examples.specs.Reported.{ReportsHold}
 

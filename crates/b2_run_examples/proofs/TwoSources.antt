@@ -1,15 +1,15 @@
-use Rattle.std.proofs.Common.{◌≡◌, ◌⊎◌, ℕ, ◌<◌, ◌+◌, true, false, List, [], ◌∷◌, inl, inr, refl, sym, subst, arith, Some, count_by}
+use Rattle.std.proofs.Common.{◌≡◌, ◌⊎◌, ℕ, ◌<◌, ◌+◌, true, false, List, [], ◌∷◌, inl, inr, refl, sym, subst, arith, Some}
 use Rattle.std.specs.List.{Contains}
 use Rattle.b2_host.specs.declared.children.ChildEvent.{ChildEvent}
 use Rattle.b2_host.specs.declared.children.ChildEvent.TheVariants.{Start, Done}
 use Rattle.b2_host.specs.Disks.{Folder}
-use Rattle.b2_plan.specs.Plans.{Makes, Apart}
+use Rattle.b2_plan.specs.Plans.{Apart}
 use Rattle.b2_plan.specs.Sources.{Build, Include, IsSource}
 use Rattle.b2_plan.specs.Closures.{Value, Values, Known, Before, IsClose}
 use Rattle.b2_plan.specs.Cleans.{Clean}
 use Rattle.b2_log.specs.declared.line.LogLine.{LogLine}
 use Rattle.b2_runs.specs.Staleness.{Update, IsFresh, IsStale}
-use Rattle.b2_runs.specs.Events.{is_start, is_done, IsOpen}
+use Rattle.b2_runs.specs.Events.{IsOpen}
 use Rattle.b2_runs.specs.Runs.{Settled.source, on_settled, Needed, Needed.wanted, CanStart, IsRun}
 use Rattle.b2_run_examples.specs.Examples.{in_path, out_path, copy_step, copied}
 use Rattle.b2_run_examples.specs.HeaderPlaces.{including, update_with}

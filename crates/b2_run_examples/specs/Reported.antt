@@ -1,4 +1,4 @@
-use Rattle.std.specs.Prelude.{◌≡◌, List, [], ◌∷◌, ◌++◌, codes}
+use Rattle.std.specs.Prelude.{◌≡◌, [], ◌∷◌, ◌++◌, codes}
 use Rattle.b2_runs.specs.Reports.{no_lists, report, start_line, failed_line, cycle_line, too_big_line, host_fault_line}
 use Rattle.b2_run_examples.specs.Examples.{copying, copied, copy_step, tailed, in_path}
 use Rattle.b2_run_examples.specs.Overlap.{three_copies, failing}

@@ -6,9 +6,8 @@ use Rattle.std.proofs.lemmas.List.Elements.{Contains-append_left, Contains-push,
 use Rattle.b2_host.specs.declared.children.ChildEvent.{ChildEvent}
 use Rattle.b2_host.specs.declared.children.ChildEvent.TheVariants.{Start, Done}
 use Rattle.b2_plan.specs.declared.step.Step.{Step}
-use Rattle.b2_plan.specs.Plans.{step_at}
 use Rattle.b2_runs.specs.Staleness.{Update}
-use Rattle.b2_runs.specs.Events.{is_start, is_done, AreOnce, MayFollow, FollowFrom, is_among, counted, as_counted, AreShort, ShortTold}
+use Rattle.b2_runs.specs.Events.{is_start, is_done, AreOnce, MayFollow, FollowFrom, is_among, counted, as_counted}
 use Rattle.b2_runs.specs.Runs.{MayCome, RunFrom, OpenEnds}
 use Rattle.b2_runs.specs.EventLaws.{OrderGoesOn, OrderHasBegun, OpenWithinJobs, DoneWasStarted, DoneOnce, EachEventOnce, RunIsInOrder, BegunIsInOrder, CountedInOrder, BadByCount, GoodByCount, CountedAsTheyAre, CountedWhereVisible, ShortIsFailed, ShortOwesFiles}
 use Rattle.b2_runs.proofs.ElementLemmas.{one_step, Contains_here, Contains_there, Contains_cases, Contains_nil}

@@ -1,11 +1,11 @@
-use Rattle.std.proofs.Common.{◌≡◌, ◌⊎◌, ℕ, true, false, List, [], ◌∷◌, ◌++◌, inl, inr, refl, sym, ap, subst, ◌∙◌, append_assoc, append-nil, Option, Some, None, option_map}
+use Rattle.std.proofs.Common.{◌≡◌, ℕ, true, false, List, [], ◌∷◌, ◌++◌, inl, inr, refl, sym, ap, subst, ◌∙◌, append_assoc, append-nil, Option, Some, None, option_map}
 use Rattle.std.specs.List.{Contains, AllByRecursion}
 use Rattle.std.proofs.lemmas.List.Elements.{Contains-append_left, Contains-push, Contains-push_cases}
 use Rattle.b2_host.specs.declared.children.ChildEvent.{ChildEvent}
 use Rattle.b2_host.specs.declared.children.ChildEvent.TheVariants.{Start, Done}
 use Rattle.b2_host.specs.Disks.{File, Folder, Disk, Stood}
 use Rattle.b2_plan.specs.declared.step.Step.{Step}
-use Rattle.b2_plan.specs.Plans.{Apart, Makes, step_at}
+use Rattle.b2_plan.specs.Plans.{Apart, step_at}
 use Rattle.b2_plan.specs.Closures.{Value, IsClose, with_bytes}
 use Rattle.b2_plan.specs.Cleans.{Clean}
 use Rattle.b2_log.specs.declared.line.Record.{Record}
@@ -14,16 +14,15 @@ use Rattle.b2_log.specs.declared.line.ScanLine.{ScanLine}
 use Rattle.b2_log.specs.declared.line.LogLine.{LogLine}
 use Rattle.b2_log.specs.declared.line.LogLine.TheVariants as lines
 use Rattle.b2_log.specs.Good.{IsGood, IsProper}
-use Rattle.b2_log.specs.Finding.{find_record}
 use Rattle.b2_runs.specs.Logs.{IsTrueScan, LogTrue}
-use Rattle.b2_runs.specs.Staleness.{Update, making, stamp_at, paths_with_bytes}
+use Rattle.b2_runs.specs.Staleness.{Update, making, paths_with_bytes}
 use Rattle.b2_runs.specs.Records.{HasDigestsOf, IsRecordOf, IsScanOf}
 use Rattle.b2_runs.specs.Events.{IsOpen}
 use Rattle.b2_runs.specs.Runs.{Settled, Settled.done_well, Settled.fresh, CanStart, MayCome, RunFrom, IsRunSoFar}
 use Rattle.b2_runs.specs.Soundness.{IsSound}
-use Rattle.b2_runs.specs.Afterwards.{NoneDoneOlder, IsNoted}
-use Rattle.b2_runs.specs.LogCourses.{IsToMigrate, IsLogAfter, IsLogAfter.begins, IsLogAfter.starts, IsLogAfter.records, IsLogAfter.owes_none, IsLogAfter.drops, IsLogAfter.has_none, IsLogAfter.scans, IsLogAfter.migrates, HasDigestsAlready}
-use Rattle.b2_runs.specs.LogCourseLaws.{LogIsProper, LogMoves, LogStaysTrue, LogIsNoted, AppendsGood, LogStaysGood}
+use Rattle.b2_runs.specs.Afterwards.{NoneDoneOlder}
+use Rattle.b2_runs.specs.LogCourses.{IsToMigrate, IsLogAfter, IsLogAfter.begins, IsLogAfter.starts, IsLogAfter.records, IsLogAfter.owes_none, IsLogAfter.drops, IsLogAfter.has_none, IsLogAfter.scans, IsLogAfter.migrates}
+use Rattle.b2_runs.specs.LogCourseLaws.{LogIsProper, LogMoves, LogStaysTrue, LogIsNoted, LogStaysGood}
 use Rattle.b2_runs.proofs.StampedFiles.{whole_file, stamped_move, digested_move, path_in_back, with_bytes_in}
 use Rattle.b2_runs.proofs.LogLaws.{true_with_line}
 use Rattle.b2_runs.proofs.SettledLaws.{settled_holds}

@@ -1,10 +1,9 @@
-use Rattle.std.proofs.Common.{◌≡◌, ◌≢◌, ◌⊎◌, ℕ, ◌≤◌, true, List, [], ◌∷◌, ◌++◌, length, inl, inr, refl, sym, ap, subst, ◌∙◌, append_assoc, append-nil, length-append, arith, Option, Some, None}
-use Rattle.std.specs.List.{Contains, AllByRecursion}
+use Rattle.std.proofs.Common.{◌≡◌, ◌⊎◌, ℕ, ◌≤◌, true, List, [], ◌∷◌, ◌++◌, length, inl, inr, refl, sym, ap, subst, ◌∙◌, append_assoc, append-nil, length-append, arith, Option, Some, None}
+use Rattle.std.specs.List.{AllByRecursion}
 use Rattle.std.proofs.lemmas.List.Concat.{flat_map-append}
 use Rattle.b2_host.specs.declared.children.ChildEvent.{ChildEvent}
 use Rattle.b2_host.specs.declared.children.ChildEvent.TheVariants.{Start, Done}
-use Rattle.b2_host.specs.Disks.{Folder, Disk, Past}
-use Rattle.b2_plan.specs.Plans.{Apart}
+use Rattle.b2_host.specs.Disks.{Folder, Past}
 use Rattle.b2_log.specs.declared.line.LogLine.{LogLine}
 use Rattle.b2_log.specs.Lines.{spelling, log_bytes}
 use Rattle.b2_log.specs.Good.{IsGood}
@@ -13,18 +12,17 @@ use Rattle.b2_log.specs.Finding.{find_record, kept}
 use Rattle.b2_log.proofs.WholeLines.{line_long}
 use Rattle.b2_log.proofs.ReadLogs.{reading_whole}
 use Rattle.b2_runs.specs.Logs.{Making, LogTrue}
-use Rattle.b2_runs.specs.LogFiles.{log_limit, IsLogOf, IsTrueFile, IsLogHeld, IsLogIn}
+use Rattle.b2_runs.specs.LogFiles.{log_limit, IsLogOf, IsTrueFile, IsLogHeld}
 use Rattle.b2_runs.specs.Staleness.{Update, making}
-use Rattle.b2_runs.specs.Runs.{IsRunSoFar, OpenEnds, IsBegun}
-use Rattle.b2_runs.specs.Soundness.{IsSound}
-use Rattle.b2_runs.specs.Afterwards.{NoneDoneOlder, IsNoted}
-use Rattle.b2_runs.specs.LogCourses.{IsLong, BeginsWith, BeginsWith.as_it_is, IsLogAfter, held_bytes, log_file, left_file, IsLogCut, IsLogCut.untouched, IsLogCut.replacing, IsLogCut.between, IsLogCut.within}
-use Rattle.b2_runs.specs.LogCourseLaws.{AppendsGood, WholeLogCounts, WholeIsCut, HealthyGrows, CutLogIsTrue, CutLogIsNoted, FinishedIsKept, FinishedIsNotStarted}
+use Rattle.b2_runs.specs.Runs.{OpenEnds, IsBegun}
+use Rattle.b2_runs.specs.Afterwards.{IsNoted}
+use Rattle.b2_runs.specs.LogCourses.{BeginsWith, BeginsWith.as_it_is, IsLogAfter, held_bytes, log_file, left_file, IsLogCut, IsLogCut.untouched, IsLogCut.replacing, IsLogCut.between, IsLogCut.within}
+use Rattle.b2_runs.specs.LogCourseLaws.{WholeLogCounts, WholeIsCut, HealthyGrows, CutLogIsTrue, CutLogIsNoted, FinishedIsKept, FinishedIsNotStarted}
 use Rattle.b2_runs.proofs.RunLaws.{run_has_begun}
 use Rattle.b2_runs.proofs.LogLaws.{true_with_fewer}
 use Rattle.b2_runs.proofs.LogFileLaws.{file_is_one_log, true_front, kept_among, torn_append_leaves}
 use Rattle.b2_runs.proofs.StopLaws.{sound_before_ends, finished_is_recorded, no_work_is_lost, begun_holds_earlier}
-use Rattle.b2_runs.proofs.LogCourseLaws.{IsFrom, is_from, begins_with_one, begin_tells_records, begin_is_read, lines_are_read, log_grows}
+use Rattle.b2_runs.proofs.LogCourseLaws.{is_from, begins_with_one, begin_tells_records, begin_is_read, lines_are_read, log_grows}
 use Rattle.b2_runs.proofs.LogAlong.{log_stays_true, log_is_noted, log_stays_good}
 
 -- ---- bytes and lines

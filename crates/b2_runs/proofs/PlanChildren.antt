@@ -1,18 +1,12 @@
-use Rattle.std.proofs.Common.{◌≡◌, ℕ, Bool, true, false, List, [], ◌∷◌, ◌++◌, inl, inr, sym, ap, subst, ◌∙◌, Option, Some, option_map}
+use Rattle.std.proofs.Common.{◌≡◌, Bool, true, false, inl, inr, sym, subst, ◌∙◌, Some, option_map}
 use Rattle.std.specs.List.{Contains}
 use Rattle.std.proofs.lemmas.List.Elements.{Contains-push_cases}
-use Rattle.b2_host.specs.declared.children.ChildEvent.{ChildEvent}
-use Rattle.b2_host.specs.Disks.{Disk}
-use Rattle.b2_host.specs.ChildProcesses.{Child, Family, given_at}
-use Rattle.b2_plan.specs.declared.step.Step.{Step}
-use Rattle.b2_plan.specs.Plans.{Makes, step_at}
+use Rattle.b2_host.specs.ChildProcesses.{given_at}
 use Rattle.b2_plan.specs.Closures.{with_bytes}
-use Rattle.b2_runs.specs.Staleness.{Update}
 use Rattle.b2_runs.specs.PlanChildren.{IsPlanChild}
 use Rattle.b2_runs.specs.ChildLaws.{PlanChildrenAtEntry, PlanChildMayStart, PlanChildrenAfterStart, PlanChildrenAfterEnd, AtWorkIsPlanned}
 use Rattle.b2_runs.proofs.ElementLemmas.{Contains_nil}
 use Rattle.b2_runs.proofs.StampedFiles.{with_bytes_in, path_in_back}
-use Rattle.b2_runs.proofs.SoundLaws.{contains_at}
 use Rattle.b2_runs.proofs.TakenOut.{removed_among}
 use Rattle.b2_runs.proofs.ChildLaws.{open_inside}
 use Rattle.b2_runs.proofs.OutcomeLaws.{outputs_settle_together}

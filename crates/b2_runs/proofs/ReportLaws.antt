@@ -1,10 +1,7 @@
-use Rattle.std.proofs.Common.{◌≡◌, ℕ, Bool, true, List, [], ◌∷◌, ◌++◌, refl, sym, ap, ◌∙◌, append_assoc, append-nil}
-use Rattle.std.specs.List.{AllByRecursion}
+use Rattle.std.proofs.Common.{ℕ, Bool, List, [], ◌∷◌, ◌++◌, refl, sym, ap, ◌∙◌, append_assoc, append-nil}
 use Rattle.std.proofs.lemmas.List.Concat.{flat_map-append}
 use Rattle.b2_host.specs.declared.children.ChildEvent.{ChildEvent}
 use Rattle.b2_host.specs.declared.children.ChildEvent.TheVariants.{Done}
-use Rattle.b2_plan.specs.declared.step.Step.{Step}
-use Rattle.b2_runs.specs.Events.{is_done}
 use Rattle.b2_runs.specs.Reports.{first_path, start_text, event_line, AreEnds}
 use Rattle.b2_runs.specs.ReportLaws.{UnnamedStartsSilently, LinesFollow, AllIsTold, ToldThroughEnds, StoppedAtLine, StoppedThroughEnds}
 

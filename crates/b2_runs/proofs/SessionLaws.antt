@@ -1,24 +1,20 @@
-use Rattle.std.proofs.Common.{◌≡◌, ◌⊎◌, ℕ, ◌≤◌, Bool, true, false, List, [], ◌∷◌, ◌++◌, length, inl, inr, refl, sym, ap, subst, subst₂, ◌∙◌, append_assoc, Option, Some, None, option_map}
+use Rattle.std.proofs.Common.{◌≡◌, ℕ, ◌≤◌, Bool, true, false, List, [], ◌∷◌, ◌++◌, length, inl, inr, refl, sym, ap, subst, ◌∙◌, append_assoc, Option, Some, None, option_map}
 use Rattle.std.specs.List.{Contains}
 use Rattle.std.specs.Str.{bytes_eq}
 use Rattle.std.proofs.lemmas.Slice.Eq.{bytes_eq-Decides}
 use Rattle.std.proofs.lemmas.List.Elements.{Contains-append_left}
 use Rattle.b2_host.specs.Disks.{File, Folder, Disk, Past, bytes_at}
-use Rattle.b2_host.specs.ChildProcesses.{Child, IsWritten, ChangesOnlyOutputs}
+use Rattle.b2_host.specs.ChildProcesses.{Child, ChangesOnlyOutputs}
 use Rattle.b2_plan.specs.declared.step.Step.{Step}
-use Rattle.b2_plan.specs.Plans.{log_path, Apart, Makes, step_at}
+use Rattle.b2_plan.specs.Plans.{log_path, Apart, step_at}
 use Rattle.b2_plan.specs.Sources.{Build, IsInRoots}
-use Rattle.b2_plan.specs.Cleans.{Clean}
-use Rattle.b2_log.specs.declared.line.LogLine.{LogLine}
-use Rattle.b2_runs.specs.Logs.{Making}
 use Rattle.b2_runs.specs.LogFiles.{log_limit, IsLogHeld, IsTrueOn}
 use Rattle.b2_runs.specs.Staleness.{Update, making}
-use Rattle.b2_runs.specs.Runs.{IsBegun}
 use Rattle.b2_runs.specs.Outcomes.{IsCleanBuild}
-use Rattle.b2_runs.specs.Afterwards.{at_present, IsNoted}
-use Rattle.b2_runs.specs.LogCourses.{held_bytes, log_file}
-use Rattle.b2_runs.specs.UpdateAnswers.{UpdateAnswer, UpdateAnswer.all_went, HasUpdated}
-use Rattle.b2_runs.specs.Sessions.{Moment, Happening, Happening.edit, Happening.update, Happening.stop, IsEdited, IsEdit, IsUpdate, IsStop, IsReopened, Comes, IsSession, AllMake}
+use Rattle.b2_runs.specs.Afterwards.{at_present}
+use Rattle.b2_runs.specs.LogCourses.{held_bytes}
+use Rattle.b2_runs.specs.UpdateAnswers.{UpdateAnswer, UpdateAnswer.all_went}
+use Rattle.b2_runs.specs.Sessions.{Moment, Happening, Happening.edit, Happening.update, Happening.stop, IsEdited, IsUpdate, IsSession}
 use Rattle.b2_runs.specs.SessionLaws.{TrueThroughEdit, TrueThroughStop, TrueThroughSession, UpdateLeavesClean, SessionEndsClean, NotedThroughReopen}
 use Rattle.b2_runs.proofs.LogFileLaws.{true_where_missing, true_where_still}
 use Rattle.b2_runs.proofs.SettledLaws.{log_in_roots}

@@ -9,8 +9,7 @@ use Rattle.b2_plan.specs.Sources.{IsGiven}
 use Rattle.b2_runs.specs.LogFiles.{log_limit}
 use Rattle.b2_runs.specs.Staleness.{Update}
 use Rattle.b2_runs.specs.Runs.{Needed, IsRunSoFar}
-use Rattle.b2_runs.specs.Outcomes.{IsSettledStep, IsFailed, AllWent, IsCleanBuild}
-use Rattle.b2_runs.specs.Cycles.{IsStepCycle}
+use Rattle.b2_runs.specs.Outcomes.{IsSettledStep, IsFailed}
 use Rattle.b2_runs.specs.Soundness.{IsSound}
 use Rattle.b2_runs.specs.Afterwards.{next_update, Restless}
 use Rattle.b2_runs.specs.LogCourses.{held_bytes, log_file}

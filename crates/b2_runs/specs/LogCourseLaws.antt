@@ -1,8 +1,8 @@
-use Rattle.std.specs.Prelude.{◌≡◌, ◌≢◌, ◌⊎◌, ℕ, ◌≤◌, Bool, true, false, List, [], ◌∷◌, ◌++◌, length, Option, Some, None}
+use Rattle.std.specs.Prelude.{◌≡◌, ◌≢◌, ◌⊎◌, ℕ, ◌≤◌, Bool, true, false, List, [], ◌∷◌, ◌++◌, length, Some, None}
 use Rattle.std.specs.List.{Contains, AllByRecursion}
 use Rattle.b2_host.specs.declared.children.ChildEvent.{ChildEvent}
 use Rattle.b2_host.specs.declared.children.ChildEvent.TheVariants.{Start, Done}
-use Rattle.b2_host.specs.Disks.{Folder, Disk, Past}
+use Rattle.b2_host.specs.Disks.{Folder, Disk}
 use Rattle.b2_plan.specs.declared.step.Step.{Step}
 use Rattle.b2_plan.specs.Plans.{Apart, Makes, step_at}
 use Rattle.b2_plan.specs.Closures.{Value, IsClose}
@@ -15,7 +15,7 @@ use Rattle.b2_log.specs.Lines.{log_bytes}
 use Rattle.b2_log.specs.Good.{IsDigest, IsGood, IsProper}
 use Rattle.b2_log.specs.Readings.{IsReading}
 use Rattle.b2_log.specs.Finding.{find_record, find_scan}
-use Rattle.b2_runs.specs.Logs.{Making, LogTrue}
+use Rattle.b2_runs.specs.Logs.{LogTrue}
 use Rattle.b2_runs.specs.LogFiles.{log_limit, IsLogOf, IsTrueFile, IsLogIn}
 use Rattle.b2_runs.specs.Staleness.{Update, making, IsRecorded}
 use Rattle.b2_runs.specs.Records.{IsRecordOf, IsScanOf}
