@@ -1,11 +1,12 @@
 -- Registers, entries and changes as the code holds them, the newest last.
-use Rattle.std.proofs.Common.{◌≡◌, ◌≢◌, ℕ, suc, ◌+◌, ◌<◌, ◌≤◌, ◌==◌, true, false, Bool, cond, List, [], ◌∷◌, ◌++◌, map as each, reverse, length, refl, sym, ap, subst, ◌∙◌, arith}
+use Rattle.std.proofs.Common.{IsTrue, ◌↔◌, ◌≡◌, ◌≢◌, ℕ, suc, ◌+◌, ◌<◌, ◌≤◌, ◌==◌, true, false, Bool, cond, List, [], ◌∷◌, ◌++◌, map as each, reverse, length, refl, sym, ap, subst, ◌∙◌, arith}
 use Rattle.std.specs.FinMap as map
 use Rattle.std.specs.Option.{option_map}
 use Rattle.std.specs.Ordering.{nat_cmp}
 use Rattle.std.specs.Cmp.Lexicographic.{slice_cmp}
 use Rattle.std.proofs.lemmas.Bool.Decides.{Decides-eqb}
-use Rattle.std.proofs.lemmas.List.{length-map, length-reverse}
+use Rattle.std.specs.List.{list_any}
+use Rattle.std.proofs.lemmas.List.{length-map, length-reverse, reverse-append}
 use Rattle.jam_journal.specs.declared.past.Replaced.{Replaced}
 use Rattle.jam_journal.specs.declared.registers.Cell.{Cell}
 use Rattle.jam_journal.specs.declared.registers.Registers.{Registers}
@@ -16,7 +17,7 @@ use Rattle.jam_journal.specs.Tables.{Text, Key, Table, key_cmp}
 use Rattle.jam_journal.specs.Marks.{changed}
 use Rattle.jam_journal.specs.Pasts.{replaced}
 use Rattle.jam_journal.specs.Scopes.{Value, Frame, assign, append, first_scopes, frames_at_mark}
-use Rattle.jam_journal.specs.Stacks.{value_at, values_of, stamp_of, stamp_at, put_cell, opened, frames_by, Layers, entries_of, back, scopes_by, AllKept}
+use Rattle.jam_journal.specs.Stacks.{value_at, values_of, stamp_of, stamp_at, put_cell, opens, opened, frames_by, Layers, entries_of, back, scopes_by, AllKept}
 use Rattle.jam_journal.specs.Layers.{layers_of}
 use Rattle.jam_journal.proofs.PastLemmas.{reverse_push}
 use Rattle.jam_journal.proofs.SeeingLemmas.{count_is, get_values_of}
@@ -132,3 +133,42 @@ module _ (r : Registers) (cells : r.cells ≡ map.empty) (innermost : r.innermos
 pub marked_length : (older : Layers) (r : Registers) (es : List Scope) (cs : List (Replaced Cell)) → length (scopes_by r es cs older).1 ≡ length older
 marked_length [] r es cs = refl
 marked_length (l ∷ ls) r es cs = ap suc (marked_length ls (back r es cs) l.0 l.1)
+
+-- ---- whether there is a newer frame
+
+any_opened : (es : List Scope) → list_any opens es ≡ true → 0 < opened es
+any_opened [] h = cc
+any_opened (Opened o ∷ es) h = omega arith
+any_opened (Called o c ∷ es) h = omega arith
+any_opened (Bound n b u ∷ es) h = any_opened es h
+
+opened_any : (es : List Scope) → 0 < opened es → list_any opens es ≡ true
+opened_any [] h = absurd (omega arith)
+opened_any (Opened o ∷ es) h = refl
+opened_any (Called o c ∷ es) h = refl
+opened_any (Bound n b u ∷ es) h = opened_any es h
+
+opened_reverse : (es : List Scope) → opened (reverse es) ≡ opened es
+opened_reverse [] = refl
+opened_reverse (e ∷ es) =
+    let turned : opened (reverse (e ∷ es)) ≡ opened (reverse es ++ e ∷ []) = ap opened (reverse-append (e ∷ []) es) in
+    let one : opened (reverse es ++ e ∷ []) ≡ opened (reverse es) + opened (e ∷ []) = opened_append (reverse es) (e ∷ []) in
+    let two : opened (e ∷ es) ≡ opened (e ∷ []) + opened es = opened_append (e ∷ []) es in
+    let again : opened (reverse es) ≡ opened es = opened_reverse es in
+    omega arith
+
+less : (a b m n : ℕ) → n ≡ a + b → m ≡ b → 0 < a → m < n
+less a b m n e f g = omega arith
+
+newer : (older : Layers) (r : Registers) (es : List Scope) (cs : List (Replaced Cell)) → 0 < opened es → frames_at_mark (scopes_by r es cs older).1 < length (scopes_by r es cs older).0.frames
+newer [] r es cs h = less (opened es) 0 0 (length (frames_by r (es ++ []))) (count_is (es ++ []) r ∙ opened_append es []) refl h
+newer (l ∷ ls) r es cs h =
+    less (opened es) (opened (entries_of (l ∷ ls))) (length (frames_by (back r es cs) (entries_of (l ∷ ls)))) (length (frames_by r (es ++ entries_of (l ∷ ls))))
+    (count_is (es ++ entries_of (l ∷ ls)) r ∙ opened_append es (entries_of (l ∷ ls))) (count_is (entries_of (l ∷ ls)) (back r es cs)) h
+
+-- the test for it
+pub may_leave_is : (older : Layers) (r : Registers) (es : List Scope) (cs : List (Replaced Cell)) (b : Bool) → b ≡ list_any opens es → IsTrue b ↔ (frames_at_mark (scopes_by r (reverse es) cs older).1 < length (scopes_by r (reverse es) cs older).0.frames)
+may_leave_is older r es cs b e = (
+  (λ h. newer older r (reverse es) cs (subst (λ n. 0 < n) (sym (opened_reverse es)) (any_opened es (sym e ∙ h)))),
+  (λ h. e ∙ opened_any es (subst (λ n. 0 < n) (opened_reverse es) (may_leave older r (reverse es) cs h))),
+)

@@ -88,6 +88,12 @@ left_by (Opened owner ∷ entries) r = (step_back (Opened owner) r, entries)
 left_by (Called owner caller ∷ entries) r = (step_back (Called owner caller) r, entries)
 left_by (Bound name before outer ∷ entries) r = left_by entries (step_back (Bound name before outer) r)
 
+-- whether an entry opens a frame
+abbrev pub opens : Scope → Bool
+opens (Opened owner) = true
+opens (Called owner caller) = true
+opens (Bound name before outer) = false
+
 -- how many frames some entries open
 abbrev pub opened : List Scope → ℕ
 opened [] = 0

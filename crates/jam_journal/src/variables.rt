@@ -54,7 +54,7 @@ impl Model for Variables {
 }
 
 impl Variables {
-    ghost use Rattle.std.specs.Prelude.{◌≡◌, ◌≢◌, ◌<◌, [], length, IfOk, OnOk, OnErr};
+    ghost use Rattle.std.specs.Prelude.{◌≡◌, ◌≢◌, ◌<◌, ◌↔◌, [], length, IfOk, IsTrue, OnOk, OnErr};
     ghost use Rattle.jam_journal.specs.Marks.{changed, marked, rolled};
     ghost use Rattle.jam_journal.specs.Scopes.{look, assign, append, enter, enter_call, leave, bind, module_of, caller_of, first_scopes, frames_at_mark};
 
@@ -116,6 +116,13 @@ impl Variables {
     {
         opening::open_call(self.alloc, &mut self.registers, &mut self.entries, module)?;
         Ok(())
+    }
+
+    /// Whether the newest frame was opened after the newest mark.
+    pub fn may_leave(&self) -> bool
+        ensures { IsTrue result ↔ (frames_at_mark self.now.1 < length self.now.0.frames) }
+    {
+        closing::opens_frame(self.entries.as_slice())
     }
 
     /// Closes the newest frame, which was opened after the newest mark. Its bindings go with it; what was assigned elsewhere

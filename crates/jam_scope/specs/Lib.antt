@@ -4,4 +4,6 @@ pub mod RuleCodes
 pub mod Worlds
 pub mod WorldCodes
 pub mod Changes
+pub mod Lines
 pub mod Parts
+pub mod Heights

@@ -6,3 +6,6 @@ use Rattle.jam_scope.specs.declared.body.RuleBody.{RuleBody}
 pub record Rule : Type 0 where
   pub home : Text
   pub body : RuleBody
+
+abbrev pub rule_of : Text → RuleBody → Rule
+rule_of home body = record { home = home; body = body }

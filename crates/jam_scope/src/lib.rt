@@ -3,6 +3,7 @@
 
 pub mod body;
 pub mod mark;
+mod parents;
 pub mod rule;
 pub mod rule_ref;
 pub mod world;

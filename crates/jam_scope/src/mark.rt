@@ -24,4 +24,11 @@ impl Mark {
     {
         Mark { before }
     }
+
+    /// How many others came before it; takes no memory.
+    pub(crate) fn before(&self) -> usize
+        ensures { result ≡ self.now }
+    {
+        self.before
+    }
 }

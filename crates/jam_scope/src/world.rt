@@ -4,18 +4,19 @@ ghost use Rattle.b2_base.specs.Segments.{normal_of};
 ghost use Rattle.jam_scope.specs.Texts.{here, first_roots};
 
 use crate::body::ActionBody;
+use crate::parents::Parents;
 use crate::rule::Rule;
 use b2_base::fault::OutOfMemory;
 use b2_base::path::Path;
 use b2_base::path_list::PathList;
 use b2_base::text_list::TextList;
-use jam_journal::name::Name;
 use jam_journal::past::Past;
 use jam_journal::saved::Saved;
 use jam_journal::variables::Variables;
 use std::alloc::Global;
 use std::marker::Model;
 
+mod finding;
 mod frames;
 mod marks;
 mod project;
@@ -33,7 +34,7 @@ pub struct World {
     variables: Variables,
     rules: Past<Rule>,
     actions: Past<ActionBody>,
-    parents: Past<Name>,
+    parents: Parents,
     own: Past<TextList>,
     place: Saved<Path>,
     roots: Saved<PathList>,
@@ -72,7 +73,7 @@ impl World {
             variables,
             rules: Past::new(alloc),
             actions: Past::new(alloc),
-            parents: Past::new(alloc),
+            parents: Parents::new(alloc),
             own: Past::new(alloc),
             place: Saved::new(alloc, place),
             roots: Saved::new(alloc, roots),

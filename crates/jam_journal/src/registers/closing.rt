@@ -1,8 +1,23 @@
 //! Taking entries back.
 ghost use Rattle.std.specs.Prelude.{◌≡◌, [], reverse};
-ghost use Rattle.jam_journal.specs.Stacks.{step_back, closed, left_by};
+ghost use Rattle.std.specs.List.{list_any};
+ghost use Rattle.jam_journal.specs.Stacks.{step_back, closed, left_by, opens};
 
 use super::{Registers, Scope, is_special};
+
+/// Whether an entry opens a frame.
+fn opens(entry: &Scope) -> bool
+    ensures { result ≡ opens entry.now }
+{
+    matches!(entry, Scope::Opened { .. } | Scope::Called { .. })
+}
+
+/// Whether some entry opens a frame. Takes no memory.
+pub fn opens_frame(entries: &[Scope]) -> bool
+    ensures { result ≡ list_any opens entries.now }
+{
+    entries.iter().any(|entry| opens(entry))
+}
 
 /// Takes an entry back, and tells whether a frame was opened by it. Takes no memory.
 fn step_back(registers: &mut Registers, entry: Scope)

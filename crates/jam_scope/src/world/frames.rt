@@ -3,7 +3,7 @@ use super::World;
 use b2_base::fault::OutOfMemory;
 
 impl World {
-    ghost use Rattle.std.specs.Prelude.{◌≡◌, ◌<◌, length, OnOk, OnErr};
+    ghost use Rattle.std.specs.Prelude.{◌≡◌, ◌<◌, ◌↔◌, length, IsTrue, OnOk, OnErr};
     ghost use Rattle.jam_journal.specs.Scopes.{enter, enter_call, leave, caller_of, module_of};
     ghost use Rattle.jam_scope.specs.Changes.{rescoped, frames_at_mark};
 
@@ -24,6 +24,13 @@ impl World {
     {
         self.variables.enter_call(module)?;
         Ok(())
+    }
+
+    /// Whether the newest frame was opened after the newest mark. Takes no memory.
+    pub fn may_leave(&self) -> bool
+        ensures { IsTrue result ↔ (frames_at_mark self.now.marked < length self.now.now.scopes.frames) }
+    {
+        self.variables.may_leave()
     }
 
     /// Closes the newest frame, which was opened after the newest mark. Its bindings go with it; what was assigned elsewhere

@@ -4,12 +4,28 @@ ghost use Rattle.jam_journal.specs.Marks.{marked};
 
 use super::World;
 use crate::mark::Mark;
+use crate::parents::Parents;
 use b2_base::fault::OutOfMemory;
 use jam_journal::past::Past;
 use jam_journal::saved::Saved;
 
 /// Marks two tables, or none of them.
 fn mark_two<A: Drop, B: Drop>(first: &mut Past<A>, second: &mut Past<B>) -> Result<(), OutOfMemory>
+    ensures first { OnOk result (first.new ≡ marked first.old) }
+    ensures second { OnOk result (second.new ≡ marked second.old) }
+    ensures same_first { OnErr result (first.new ≡ first.old) }
+    ensures same_second { OnErr result (second.new ≡ second.old) }
+{
+    first.mark()?;
+    if let Err(fault) = second.mark() {
+        first.roll_back();
+        return Err(fault);
+    }
+    Ok(())
+}
+
+/// Marks parents and a table, or none of them.
+fn mark_parents<A: Drop>(first: &mut Parents, second: &mut Past<A>) -> Result<(), OutOfMemory>
     ensures first { OnOk result (first.new ≡ marked first.old) }
     ensures second { OnOk result (second.new ≡ marked second.old) }
     ensures same_first { OnErr result (first.new ≡ first.old) }
@@ -49,13 +65,13 @@ fn mark_three<A: Drop, B: Drop, C: Drop>(
     Ok(())
 }
 
-/// Marks two tables and three values, or none of them.
-fn mark_five<A: Drop, B: Drop, C: Drop, D: Drop, E: Drop>(
-    first: &mut Past<A>,
-    second: &mut Past<B>,
-    third: &mut Saved<C>,
-    fourth: &mut Saved<D>,
-    fifth: &mut Saved<E>,
+/// Marks parents, a table and three values, or none of them.
+fn mark_five<A: Drop, B: Drop, C: Drop, D: Drop>(
+    first: &mut Parents,
+    second: &mut Past<A>,
+    third: &mut Saved<B>,
+    fourth: &mut Saved<C>,
+    fifth: &mut Saved<D>,
 ) -> Result<(), OutOfMemory>
     ensures first { OnOk result (first.new ≡ marked first.old) }
     ensures second { OnOk result (second.new ≡ marked second.old) }
@@ -69,7 +85,7 @@ fn mark_five<A: Drop, B: Drop, C: Drop, D: Drop, E: Drop>(
     ensures same_fifth { OnErr result (fifth.new ≡ fifth.old) }
 {
     mark_three(third, fourth, fifth)?;
-    if let Err(fault) = mark_two(first, second) {
+    if let Err(fault) = mark_parents(first, second) {
         third.roll_back();
         fourth.roll_back();
         fifth.roll_back();
@@ -108,6 +124,14 @@ impl World {
             return Err(fault);
         }
         Ok(Mark::after(before))
+    }
+
+    /// Whether a mark is the newest one that was not yet used. Takes no memory.
+    pub fn is_newest(&self, mark: &Mark) -> bool
+        ensures { IsTrue result ↔ IsNewest mark.now self.now }
+    {
+        let marks = self.variables.marks();
+        marks > mark.before() && marks - mark.before() == 1
     }
 
     /// Goes back to the world of the newest mark, whatever stood between, and uses that mark up. Takes no memory.

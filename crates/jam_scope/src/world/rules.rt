@@ -7,15 +7,26 @@ use b2_base::fault::OutOfMemory;
 
 impl World {
     ghost use Rattle.std.specs.Prelude.{◌≡◌, IfOk, OnOk, OnErr, is_some};
-    ghost use Rattle.std.specs.Option.{option_copied};
+    ghost use Rattle.std.specs.Option.{option_copied, option_map};
     ghost use Rattle.std.specs.FinMap as map;
+    ghost use Rattle.jam_scope.specs.Rules.{rule_of};
     ghost use Rattle.jam_scope.specs.Changes.{changed, define_rule, define_actions, import_rule};
 
     /// The rule that stands at a place, none exactly where its module has no rule of that name. Takes no memory.
-    pub fn rule(&self, at: &RuleRef<'_>) -> Option<&Rule>
+    fn rule(&self, at: &RuleRef<'_>) -> Option<&Rule>
         ensures { option_copied result ≡ map.get self.now.now.rules (at.now.module.now, at.now.name.now) }
     {
         self.rules.get(at.module, at.name)
+    }
+
+    /// The home and the body of a rule, none exactly where its module has no rule of that name. Takes no memory.
+    pub fn rule_body(&self, at: &RuleRef<'_>) -> Option<(&str, &RuleBody)>
+        ensures { option_map (λ rule. rule_of rule.0.now rule.1.now) result ≡ map.get self.now.now.rules (at.now.module.now, at.now.name.now) }
+    {
+        match self.rules.get(at.module, at.name) {
+            Some(rule) => Some((rule.home(), rule.body())),
+            None => None,
+        }
     }
 
     /// The actions that stand at a place, none exactly where their module has no actions of that name. Takes no memory.
