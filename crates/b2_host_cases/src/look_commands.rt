@@ -1,7 +1,6 @@
 //! Commands that look at the host in memory.
 use b2_base::path::Path;
 use b2_host::children::ChildEvent;
-use b2_memory::entry::Entry;
 use b2_memory::job::Job;
 use b2_memory::memory::MemoryHost;
 use std::alloc::Global;
@@ -31,10 +30,11 @@ fn push_file(
     alloc: Global,
     answer: &mut Answer,
     stamp: u64,
-    entry: &Entry,
+    path: &Path,
+    bytes: &[u8],
 ) -> Result<(), CaseFault> {
-    let path = entry.path.as_str();
-    let bytes = shown(alloc, entry.bytes.as_ref().as_slice())?;
+    let path = path.as_str();
+    let bytes = shown(alloc, bytes)?;
     let bytes = bytes.as_str();
     answer.push_line(format!(in alloc; "{stamp} {path} \"{bytes}\"")?.as_str())
 }
@@ -42,10 +42,16 @@ fn push_file(
 /// `files`: the files that stand, in order of stamps.
 fn files(alloc: Global, host: &MemoryHost) -> Result<Answer, CaseFault> {
     let mut answer = Answer::new(alloc);
-    for (place, entry) in host.past().iter().enumerate() {
+    for (place, version) in host.past().iter().enumerate() {
         let stamp = place as u64 + 1;
-        if host.stamp_of(&entry.path) == Some(stamp) {
-            push_file(alloc, &mut answer, stamp, entry)?;
+        if host.stamp_of(&version.path) == Some(stamp) {
+            push_file(
+                alloc,
+                &mut answer,
+                stamp,
+                &version.path,
+                host.bytes_of(version),
+            )?;
         }
     }
     Ok(answer)
@@ -54,8 +60,15 @@ fn files(alloc: Global, host: &MemoryHost) -> Result<Answer, CaseFault> {
 /// `past`: the files that stood or stand, in order of stamps.
 fn past(alloc: Global, host: &MemoryHost) -> Result<Answer, CaseFault> {
     let mut answer = Answer::new(alloc);
-    for (place, entry) in host.past().iter().enumerate() {
-        push_file(alloc, &mut answer, place as u64 + 1, entry)?;
+    for (place, version) in host.past().iter().enumerate() {
+        let stamp = place as u64 + 1;
+        push_file(
+            alloc,
+            &mut answer,
+            stamp,
+            &version.path,
+            host.bytes_of(version),
+        )?;
     }
     Ok(answer)
 }

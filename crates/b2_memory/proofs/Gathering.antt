@@ -17,10 +17,9 @@ use Rattle.std.proofs.lemmas.Map.Keys.{Less-from_sorted, sorted_tail}
 use Rattle.std.proofs.lemmas.Slice.Eq.{bytes_eq-Decides}
 use Rattle.b2_host.specs.Disks.{File, Folder}
 use Rattle.b2_host.specs.Listings.{IsDirectlyIn, IsListed}
-use Rattle.b2_memory.specs.declared.entry.Entry.{Entry}
 use Rattle.b2_memory.specs.Keys.{AreKeys}
 use Rattle.b2_memory.specs.Names.{IsNameIn, lead_in, AddsName, Gathered}
-use Rattle.b2_memory.specs.Stores.{PlaceMap, is_known, file_at, standing}
+use Rattle.b2_memory.specs.Stores.{Write, PlaceMap, is_known, file_at, standing}
 
 -- ---- orders and lists
 
@@ -157,7 +156,7 @@ gathered_all folder dir keys i names low g =
 -- ---- all paths
 
 -- a path at which a file stands is known
-stands_known : (past : List Entry) (m : PlaceMap) (path : List ℕ) (file : File) → standing past m path ≡ Some file → is_known m path ≡ true
+stands_known : (past : List Write) (m : PlaceMap) (path : List ℕ) (file : File) → standing past m path ≡ Some file → is_known m path ≡ true
 stands_known past m path file h = go (get m path) h
   where
     go : (o : Option (Option ℕ)) → option_and_then (file_at past) (unwrap_or o None) ≡ Some file → is_some o ≡ true
@@ -172,7 +171,7 @@ any_in path (p ∷ paths) h = go (bytes_eq path p) refl h (any_in path paths)
     go true e k more = subst (λ q. Contains (q ∷ paths) path) ((bytes_eq-Decides path p).0 e) (first_in path paths)
     go false e k more = later_in p paths path (more k)
 
-pub listed : (past : List Entry) (m : PlaceMap) (dir : List ℕ) (paths names : List (List ℕ)) → AreKeys (is_known m) paths → Gathered (standing past m) dir paths [] names → IsListed (standing past m) dir names
+pub listed : (past : List Write) (m : PlaceMap) (dir : List ℕ) (paths names : List (List ℕ)) → AreKeys (is_known m) paths → Gathered (standing past m) dir paths [] names → IsListed (standing past m) dir names
 listed past m dir paths names keys g = record {
   each = λ name. (
     (λ a. let s = g.sound name a in record { path = lead_in dir ++ name; file = s.0; visible = s.1; rooted = s.2.rooted; goes_on = s.2.goes_on; not_above = s.2.not_above }),
@@ -182,6 +181,6 @@ listed past m dir paths names keys g = record {
 }
 
 -- the same of a result
-pub all_listed : {E : Type 0} (past : List Entry) (m : PlaceMap) (dir : List ℕ) (paths : List (List ℕ)) (r : Result (List (List ℕ)) E) → AreKeys (is_known m) paths → IfOk r (Gathered (standing past m) dir paths []) → IfOk r (λ names. IsListed (standing past m) dir names)
+pub all_listed : {E : Type 0} (past : List Write) (m : PlaceMap) (dir : List ℕ) (paths : List (List ℕ)) (r : Result (List (List ℕ)) E) → AreKeys (is_known m) paths → IfOk r (Gathered (standing past m) dir paths []) → IfOk r (λ names. IsListed (standing past m) dir names)
 all_listed past m dir paths (Ok names) keys g = listed past m dir paths names keys g
 all_listed past m dir paths (Err e) keys g = tt

@@ -4,6 +4,7 @@ pub mod KeyLists
 pub mod NameLemmas
 pub mod Gathering
 pub mod Standing
+pub mod Keeping
 pub mod Countdowns
 pub mod PlaceMaps
 pub mod StorePut

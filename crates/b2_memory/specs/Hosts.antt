@@ -1,6 +1,8 @@
 use Rattle.std.specs.Prelude.{Bool, List, map, Some}
 use Rattle.b2_host.specs.ChildProcesses.{Child, Family}
 use Rattle.b2_host.specs.Outside.{Outside}
+use Rattle.b2_memory.specs.Buffers.{buffers_of}
+use Rattle.b2_memory.specs.Stores.{Write, write_in}
 use Rattle.b2_memory.specs.StoreDisks.{told}
 use Rattle.b2_memory.specs.Families.{child_with}
 use Rattle.b2_memory.specs.Jobs.{given_of}
@@ -10,6 +12,7 @@ use Rattle.b2_memory.specs.Memories.{Memory}
 use Rattle.b2_memory.specs.declared.child_table.ChildTable.{ChildTable}
 use Rattle.b2_memory.specs.declared.memory.MemoryHost.{MemoryHost}
 use Rattle.b2_memory.specs.declared.running.Running.{Running}
+use Rattle.b2_memory.specs.declared.version.Version.{Version}
 
 -- children that run, by what they were given
 abbrev pub running_children : List Running → List Child
@@ -26,6 +29,10 @@ family_of table = record {
   events = table.events.items;
   given = Some (map (λ job. given_of job.value) table.given.items);
 }
+
+-- a file that stood, as a write
+abbrev pub write_told : MemoryHost → Version → Write
+write_told host version = write_in (buffers_of host.store.contents) version
 
 -- what a host in memory is to its callers
 abbrev pub told_outside : MemoryHost → Outside

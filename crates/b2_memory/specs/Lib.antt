@@ -6,6 +6,7 @@ pub mod Scripts
 pub mod Listings
 pub mod Keys
 pub mod Names
+pub mod Buffers
 pub mod Stores
 pub mod StoreDisks
 pub mod Consistency

@@ -1,11 +1,16 @@
 use Rattle.std.specs.Prelude.{ℕ, Bool, List}
 use Rattle.b2_host.specs.Disks.{Disk}
-use Rattle.b2_memory.specs.Stores.{is_known, disk_of}
+use Rattle.b2_memory.specs.Buffers.{buffers_of}
+use Rattle.b2_memory.specs.Stores.{is_known, Write, writes_in, disk_of}
 use Rattle.b2_memory.specs.declared.store.Store.{Store}
+
+-- all that was written, in order
+abbrev pub writes_told : Store → List Write
+writes_told store = writes_in (buffers_of store.contents) store.past.items
 
 -- what a store tells
 abbrev pub told : Store → Disk
-told store = disk_of store.past.items store.places
+told store = disk_of (writes_told store) store.places
 
 -- the path is known to a store
 abbrev pub knows : Store → List ℕ → Bool

@@ -1,4 +1,4 @@
-//! A file that stood.
+//! A file that a child is given, or is to write.
 ghost use Rattle.std.specs.Prelude.{◌≡◌, IfOk};
 
 use b2_base::fault::OutOfMemory;
@@ -6,7 +6,7 @@ use b2_base::path::Path;
 use std::alloc::Global;
 use std::rc::Rc;
 
-/// A path with the bytes that stood there. The bytes never change, so a child that was given them shares them.
+/// A path with bytes, which never change, so that all who hold them share them.
 #[derive(Drop)]
 pub struct Entry {
     pub path: Path,
@@ -21,16 +21,6 @@ impl Entry {
     {
         let path = path.copy()?;
         let bytes = Rc::new(alloc, bytes)?;
-        Ok(Entry { path, bytes })
-    }
-
-    /// The same entry again, which shares the bytes.
-    pub fn share(&self) -> Result<Entry, OutOfMemory>
-        ensures path { IfOk result (λ entry. entry.path ≡ self.now.path) }
-        ensures bytes { IfOk result (λ entry. entry.bytes.value.items ≡ self.now.bytes.value.items) }
-    {
-        let path = self.path.copy()?;
-        let bytes = self.bytes.clone()?;
         Ok(Entry { path, bytes })
     }
 }

@@ -25,11 +25,16 @@ pub struct Job {
 }
 
 /// Adds an input with its bytes, if it stands.
-fn hold_one(held: &mut Vec<Entry>, store: &Store, path: &Path) -> Result<(), OutOfMemory>
+fn hold_one(
+    alloc: Global,
+    held: &mut Vec<Entry>,
+    store: &Store,
+    path: &Path,
+) -> Result<(), OutOfMemory>
     ensures { OnOk result (map write_of held.new.items ≡ map write_of held.old.items ++ option_to_list (read_at (told store.now).now path.now)) }
 {
-    if let Some(entry) = store.entry(path) {
-        held.push(entry.share()?)?;
+    if let Some(entry) = store.held(alloc, path)? {
+        held.push(entry)?;
     }
     Ok(())
 }
@@ -41,7 +46,7 @@ fn hold(alloc: Global, store: &Store, ins: &[Path]) -> Result<Vec<Entry>, OutOfM
 {
     let mut held = Vec::new(alloc);
     for path in ins {
-        hold_one(&mut held, store, path)?;
+        hold_one(alloc, &mut held, store, path)?;
     }
     Ok(held)
 }

@@ -3,6 +3,7 @@
 #![tactic(auto)]
 
 mod child_table;
+pub mod contents;
 pub mod entry;
 pub mod job;
 mod made;
@@ -16,3 +17,4 @@ pub mod result_laws;
 pub mod running;
 mod script;
 mod store;
+pub mod version;

@@ -3,11 +3,13 @@ ghost use Rattle.std.specs.Prelude.{◌≡◌, ◌≢◌, ◌+◌, ◌≤◌, �
 ghost use Rattle.std.specs.Option.{IfSome};
 ghost use Rattle.b2_host.specs.Disks.{StatTold};
 ghost use Rattle.b2_host.specs.FileCalls.{log_path};
+ghost use Rattle.b2_memory.specs.Buffers.{buffers_of, bytes_in, is_within};
 ghost use Rattle.b2_memory.specs.Scripts.{with_calls, with_starts, with_picks, left_of};
 ghost use Rattle.b2_memory.specs.Stores.{all_known, stood};
 ghost use Rattle.b2_memory.specs.PendingWrites.{promised};
 
 use crate::child_table::ChildTable;
+use crate::contents::Content;
 use crate::entry::Entry;
 use crate::job::Job;
 use crate::read_notes::ReadNotes;
@@ -15,6 +17,7 @@ use crate::running::Running;
 pub use crate::script::CallKind;
 use crate::script::{Script, raise};
 use crate::store::Store;
+use crate::version::Version;
 use b2_base::fault::OutOfMemory;
 use b2_base::path::Path;
 use b2_base::text_list::TextList;
@@ -59,7 +62,7 @@ impl MemoryHost {
     ghost use Rattle.b2_memory.specs.Jobs.{IsLeft, given_of};
     ghost use Rattle.b2_memory.specs.StoreDisks.{knows};
     ghost use Rattle.b2_memory.specs.Memories.{new_memory, with_listed, with_fuse, with_tear, with_edit, with_child, with_entry, Writes, Ended, Reopens};
-    ghost use Rattle.b2_memory.specs.Hosts.{memory_of, running_children, fates_of};
+    ghost use Rattle.b2_memory.specs.Hosts.{memory_of, running_children, fates_of, write_told};
 
     /// No files, no children, no reads and no faults; nothing is listed.
     pub fn new(alloc: Global) -> Result<MemoryHost, OutOfMemory>
@@ -88,10 +91,9 @@ impl MemoryHost {
                 Ok(())
             }
             Some(bytes) => {
-                let bytes = Vec::from_slice(self.alloc, bytes)?;
-                let entry = Entry::new(self.alloc, path, bytes)?;
-                self.make_ready(path)?;
-                self.put(entry);
+                let content = Content::whole(self.alloc, bytes)?;
+                let version = self.make_ready(path, content)?;
+                self.put(version);
                 Ok(())
             }
         }
@@ -178,10 +180,17 @@ impl MemoryHost {
     }
 
     /// Each file that stood or stands, in order of stamps: the first has the stamp 1.
-    pub fn past(&self) -> &[Entry]
-        ensures { IfSome (memory_of self.now).outside.disk (λ disk. disk.past ≡ stood 0 result.now) }
+    pub fn past(&self) -> &[Version]
+        ensures { IfSome (memory_of self.now).outside.disk (λ disk. disk.past ≡ stood 0 (map (write_told self.now) result.now)) }
     {
         self.store.past.as_slice()
+    }
+
+    /// The bytes of a file that stood.
+    pub fn bytes_of<'a>(&'a self, version: &'a Version) -> &'a [u8]
+        ensures { (write_told self.now version.now).1 ≡ result.now }
+    {
+        self.store.contents.bytes(&version.content)
     }
 
     /// The stamp of the file at a path, which is no call that can fail or that is counted.
@@ -205,32 +214,37 @@ impl MemoryHost {
         self.failed_waits
     }
 
-    /// Makes a path known, and takes the room for one more entry beside those that the children will write.
-    fn make_ready(&mut self, path: &Path) -> Result<(), OutOfMemory>
+    /// A version of a file, once its path is known and room is taken for it beside what the children will write.
+    fn make_ready(&mut self, path: &Path, content: Content) -> Result<Version, OutOfMemory>
         ensures memory { memory_of self.new ≡ memory_of self.old }
+        ensures contents { self.new.store.contents ≡ self.old.store.contents }
+        ensures version { IfOk result (λ version. version ≡ record { path = path.now; content = content }) }
         ensures known { OnOk result (IsTrue (knows self.new.store path.now)) }
         ensures room { OnOk result (vec_len self.new.store.past + self.new.child_table.pending < vec_capacity self.new.store.past) }
     {
         let more = self.child_table.pending_with(1)?;
-        self.store.prepare_one(path, more)
+        self.store.prepare_one(path, more)?;
+        let path = path.copy()?;
+        Ok(Version { path, content })
     }
 
-    /// Puts an entry, whose path is known, into room that was taken.
-    fn put(&mut self, entry: Entry)
-        requires known { IsTrue (knows self.old.store entry.path) }
+    /// Puts a version, whose path is known, into room that was taken.
+    fn put(&mut self, version: Version)
+        requires known { IsTrue (knows self.old.store version.path) }
+        requires within { IsTrue (is_within (buffers_of self.old.store.contents) version.content) }
         requires room { vec_len self.old.store.past + self.old.child_table.pending < vec_capacity self.old.store.past }
-        ensures { memory_of self.new ≡ with_entry entry.path entry.bytes.value.items (memory_of self.old) }
+        ensures { memory_of self.new ≡ with_entry version.path (bytes_in (buffers_of self.old.store.contents) version.content) (memory_of self.old) }
     {
-        self.store.put(entry);
+        self.store.put(version);
     }
 
-    /// Writes bytes to a path by a call of a kind. They hold what such a call leaves of its piece.
-    fn write(&mut self, kind: CallKind, path: &Path, bytes: Vec<u8>) -> Result<(), IoFault>
-        ensures { Writes kind path.now (λ disk. bytes.items) (memory_of self.old) (memory_of self.new) result }
+    /// Writes a content to a path by a call of a kind. It holds what such a call leaves of its piece.
+    fn write(&mut self, kind: CallKind, path: &Path, content: Content) -> Result<(), IoFault>
+        requires { IsTrue (is_within (buffers_of self.old.store.contents) content) }
+        ensures { Writes kind path.now (λ disk. bytes_in (buffers_of self.old.store.contents) content) (memory_of self.old) (memory_of self.new) result }
     {
-        let entry = Entry::new(self.alloc, path, bytes)?;
-        self.make_ready(path)?;
-        self.put(entry);
+        let version = self.make_ready(path, content)?;
+        self.put(version);
         if self.script.fails(kind) {
             return Err(IoFault::Failed);
         }
@@ -271,6 +285,7 @@ impl Files for MemoryHost {
     ghost use Rattle.b2_host.specs.FileCalls as calls;
     ghost use Rattle.b2_host.specs.Listings.{IsListed};
     ghost use Rattle.b2_memory.specs.Consistency.{kept_disk};
+    ghost use Rattle.b2_memory.specs.StoreDisks.{writes_told};
     ghost use Rattle.b2_memory.specs.Memories.{Calls, IoCalls, looked, noted, with_removed, Appends, Replaces};
     ghost use Rattle.b2_memory.specs.Hosts.{told_outside, memory_of};
 
@@ -318,8 +333,8 @@ impl Files for MemoryHost {
         ensures exact { Appends path.now piece.now (memory_of self.old) (memory_of self.new) result }
     {
         let left = self.script.left_of(CallKind::Append, piece);
-        let bytes = self.store.with_piece(self.alloc, path, left)?;
-        self.write(CallKind::Append, path, bytes)
+        let content = self.store.add(self.alloc, path, left)?;
+        self.write(CallKind::Append, path, content)
     }
 
     fn replace(&mut self, path: &Path, piece: &[u8]) -> Result<(), IoFault>
@@ -327,8 +342,8 @@ impl Files for MemoryHost {
         ensures exact { Replaces path.now piece.now (memory_of self.old) (memory_of self.new) result }
     {
         let left = self.script.left_of(CallKind::Replace, piece);
-        let bytes = Vec::from_slice(self.alloc, left)?;
-        self.write(CallKind::Replace, path, bytes)
+        let content = Content::whole(self.alloc, left)?;
+        self.write(CallKind::Replace, path, content)
     }
 
     fn remove(&mut self, path: &Path) -> Result<(), Failed>
@@ -342,7 +357,7 @@ impl Files for MemoryHost {
         Ok(())
     }
 
-    ghost consistent = { λ host. kept_disk host.store.past.items host.store.places host.store.placed };
+    ghost consistent = { λ host. kept_disk (writes_told host.store) host.store.places host.store.placed };
 
     ghost use Rattle.std.specs.Prelude.{refl};
 

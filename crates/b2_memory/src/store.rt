@@ -11,13 +11,16 @@ ghost use Rattle.b2_host.specs.Disks.{bytes_at, StatTold, ReadTold, without};
 ghost use Rattle.b2_host.specs.ChildProcesses.{read_at};
 ghost use Rattle.b2_host.specs.FileCalls.{with_piece};
 ghost use Rattle.b2_host.specs.Listings.{IsListed};
+ghost use Rattle.b2_memory.specs.Buffers.{buffers_of, bytes_in, is_within};
 ghost use Rattle.b2_memory.specs.Names.{AddsName, Gathered};
 ghost use Rattle.b2_memory.specs.Writes.{written, all_written};
-ghost use Rattle.b2_memory.specs.Stores.{place_of, all_known, write_of, input_of, IsPlaced};
+ghost use Rattle.b2_memory.specs.Stores.{place_of, all_known, all_within, write_of, writes_in, IsPlaced};
 
+use crate::contents::{Content, Contents};
 use crate::entry::Entry;
 use crate::names::name_in;
 use crate::places::Places;
+use crate::version::Version;
 use b2_base::fault::OutOfMemory;
 use b2_base::path::Path;
 use b2_base::text::Text;
@@ -28,9 +31,11 @@ use std::alloc::Global;
 /// All that ever stood, in order, and where the file of each path is among it.
 #[derive(Drop)]
 pub struct Store {
-    pub past: Vec<Entry>,
+    pub past: Vec<Version>,
     pub places: Places,
-    ghost placed: { IsPlaced past.items places } by { Prim.hlevel props },
+    pub contents: Contents,
+    ghost placed: { IsPlaced (writes_in (buffers_of contents) past.items) places } by { Prim.hlevel props },
+    ghost within: { IsTrue (all_within (buffers_of contents) past.items) },
 }
 
 impl Store {
@@ -44,6 +49,7 @@ impl Store {
         Store {
             past: Vec::new(alloc),
             places: Places::new(alloc),
+            contents: Contents::new(alloc),
         }
     }
 
@@ -64,24 +70,28 @@ impl Store {
         }
     }
 
-    /// The file at a path.
-    pub fn entry(&self, path: &Path) -> Option<&Entry>
-        ensures file { option_map input_of result ≡ read_at (told self.now).now path.now }
-        ensures bytes { option_map (λ entry. entry.now.bytes.value.items) result ≡ bytes_at (told self.now).now path.now }
-    {
-        match self.place(path) {
-            None => None,
-            Some(place) => Some(&self.past[place]),
-        }
-    }
-
     /// The bytes at a path.
     pub fn bytes(&self, path: &Path) -> Option<&[u8]>
         ensures { option_copied result ≡ bytes_at (told self.now).now path.now }
     {
-        match self.entry(path) {
+        match self.place(path) {
             None => None,
-            Some(entry) => Some(entry.bytes.as_ref().as_slice()),
+            Some(place) => Some(self.contents.bytes(&self.past[place].content)),
+        }
+    }
+
+    /// The file at a path, for a child that is given it.
+    pub fn held(&self, alloc: Global, path: &Path) -> Result<Option<Entry>, OutOfMemory>
+        ensures { IfOk result (λ found. option_map write_of found ≡ read_at (told self.now).now path.now) }
+    {
+        match self.place(path) {
+            None => Ok(None),
+            Some(place) => {
+                let version = &self.past[place];
+                let bytes = self.contents.share(alloc, &version.content)?;
+                let path = version.path.copy()?;
+                Ok(Some(Entry { path, bytes }))
+            }
         }
     }
 
@@ -102,18 +112,19 @@ impl Store {
         }
     }
 
-    /// The bytes at a path, or none, and a piece after them.
-    pub fn with_piece(
-        &self,
-        alloc: Global,
-        path: &Path,
-        piece: &[u8],
-    ) -> Result<Vec<u8>, OutOfMemory>
-        ensures { IfOk result (λ bytes. bytes.items ≡ with_piece path.now piece.now (told self.now)) }
+    /// The bytes at a path, or none, and a piece after them. What stands stays as it is.
+    pub fn add(&mut self, alloc: Global, path: &Path, piece: &[u8]) -> Result<Content, OutOfMemory>
+        ensures bytes { IfOk result (λ made. bytes_in (buffers_of self.new.contents) made ≡ with_piece path.now piece.now (told self.old)) }
+        ensures within { IfOk result (λ made. IsTrue (is_within (buffers_of self.new.contents) made)) }
+        ensures disk { told self.new ≡ told self.old }
+        ensures places { self.new.places ≡ self.old.places }
+        ensures len { vec_len self.new.past ≡ vec_len self.old.past }
+        ensures room { vec_capacity self.new.past ≡ vec_capacity self.old.past }
     {
-        let mut bytes = Vec::from_slice(alloc, self.bytes(path).unwrap_or(&[]))?;
-        bytes.extend_from_slice(piece)?;
-        Ok(bytes)
+        match self.place(path) {
+            None => Content::whole(alloc, piece),
+            Some(place) => self.contents.add(alloc, &self.past[place].content, piece),
+        }
     }
 
     /// Leaves no file at a path.
@@ -133,6 +144,7 @@ impl Store {
         ensures past { self.new.past.items ≡ self.old.past.items }
         ensures len { vec_len self.new.past ≡ vec_len self.old.past }
         ensures places { self.new.places ≡ self.old.places }
+        ensures contents { self.new.contents ≡ self.old.contents }
     {
         self.past.reserve(more)?;
         Ok(())
@@ -143,6 +155,7 @@ impl Store {
         ensures known { OnOk result (IsTrue (knows self.new path.now)) }
         ensures stays { (other : List ℕ) → IsTrue (knows self.old other) → IsTrue (knows self.new other) }
         ensures disk { told self.new ≡ told self.old }
+        ensures contents { self.new.contents ≡ self.old.contents }
         ensures len { vec_len self.new.past ≡ vec_len self.old.past }
         ensures room { vec_capacity self.new.past ≡ vec_capacity self.old.past }
     {
@@ -155,6 +168,7 @@ impl Store {
         ensures known { OnOk result (IsTrue (all_known self.new.places entries.now)) }
         ensures stays { (other : List ℕ) → IsTrue (knows self.old other) → IsTrue (knows self.new other) }
         ensures disk { told self.new ≡ told self.old }
+        ensures contents { self.new.contents ≡ self.old.contents }
         ensures len { vec_len self.new.past ≡ vec_len self.old.past }
         ensures room { vec_capacity self.new.past ≡ vec_capacity self.old.past }
     {
@@ -170,6 +184,7 @@ impl Store {
         ensures ok { OnOk result (vec_len self.new.past + more ≤ vec_capacity self.new.past) }
         ensures stays { (other : List ℕ) → IsTrue (knows self.old other) → IsTrue (knows self.new other) }
         ensures disk { told self.new ≡ told self.old }
+        ensures contents { self.new.contents ≡ self.old.contents }
         ensures len { vec_len self.new.past ≡ vec_len self.old.past }
         ensures room { vec_capacity self.old.past ≤ vec_capacity self.new.past }
     {
@@ -183,6 +198,7 @@ impl Store {
         ensures ok { OnOk result (vec_len self.new.past + more ≤ vec_capacity self.new.past) }
         ensures stays { (other : List ℕ) → IsTrue (knows self.old other) → IsTrue (knows self.new other) }
         ensures disk { told self.new ≡ told self.old }
+        ensures contents { self.new.contents ≡ self.old.contents }
         ensures len { vec_len self.new.past ≡ vec_len self.old.past }
         ensures room { vec_capacity self.old.past ≤ vec_capacity self.new.past }
     {
@@ -190,8 +206,23 @@ impl Store {
         self.make_room(more)
     }
 
+    /// Puts a version, whose path is known, into room that was taken.
+    pub fn put(&mut self, version: Version)
+        requires known { IsTrue (knows self.old version.path) }
+        requires within { IsTrue (is_within (buffers_of self.old.contents) version.content) }
+        requires room { vec_len self.old.past < vec_capacity self.old.past }
+        ensures disk { told self.new ≡ written version.path (bytes_in (buffers_of self.old.contents) version.content) (told self.old) }
+        ensures known { (other : List ℕ) → knows self.new other ≡ knows self.old other }
+        ensures len { vec_len self.new.past ≡ vec_len self.old.past + 1 }
+        ensures room { vec_capacity self.new.past ≡ vec_capacity self.old.past }
+    {
+        let place = self.past.len();
+        self.places.set(&version.path, Some(place));
+        self.past.push_reserved(version);
+    }
+
     /// Puts an entry, whose path is known, into room that was taken.
-    pub fn put(&mut self, entry: Entry)
+    fn put_entry(&mut self, entry: Entry)
         requires known { IsTrue (knows self.old entry.path) }
         requires room { vec_len self.old.past < vec_capacity self.old.past }
         ensures disk { told self.new ≡ written entry.path entry.bytes.value.items (told self.old) }
@@ -199,9 +230,9 @@ impl Store {
         ensures len { vec_len self.new.past ≡ vec_len self.old.past + 1 }
         ensures room { vec_capacity self.new.past ≡ vec_capacity self.old.past }
     {
-        let place = self.past.len();
-        self.places.set(&entry.path, Some(place));
-        self.past.push_reserved(entry);
+        let Entry { path, bytes } = entry;
+        let content = Content::Whole(bytes);
+        self.put(Version { path, content });
     }
 
     /// Puts entries, whose paths are known, into room that was taken.
@@ -214,7 +245,7 @@ impl Store {
         ensures room { vec_capacity self.new.past ≡ vec_capacity self.old.past }
     {
         for entry in entries {
-            self.put(entry);
+            self.put_entry(entry);
         }
     }
 

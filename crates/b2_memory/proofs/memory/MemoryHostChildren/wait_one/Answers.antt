@@ -2,6 +2,7 @@ use Rattle.std.proofs.Common.{ℕ, cond, ap, ◌∙◌}
 use Rattle.b2_memory.specs.Consistency.{stamp_within}
 use Rattle.b2_memory.specs.Hosts.{told_outside, memory_of}
 use Rattle.b2_memory.specs.Scripts.{raised}
+use Rattle.b2_memory.specs.StoreDisks.{writes_told}
 use Rattle.b2_memory.proofs.Effects.{awaits_told}
 use Rattle.b2_memory.proofs.memory.MemoryHostChildren.wait_one.Goals as goal
 
@@ -9,5 +10,5 @@ pub returns-clause-effect : goal.returns-clause-effect
 returns-clause-effect c =
     let host = c.args.self.now in
     let same = c.pick-place.ensures.faults ∙ c.fails.ensures.faults ∙ ap (λ b. cond b (raised host.script.faults) host.script.faults) c.if-fails.false in
-    awaits_told c.pick-place.result (memory_of host) _ (memory_of c.end.new.self) c.end.result.0 c.end.result.1 (stamp_within host.store.past.items)
+    awaits_told c.pick-place.result (memory_of host) _ (memory_of c.end.new.self) c.end.result.0 c.end.result.1 (stamp_within (writes_told host.store))
     (ap (λ (f : ℕ). record (told_outside host) { faults = f }) same) c.end.ensures.ended

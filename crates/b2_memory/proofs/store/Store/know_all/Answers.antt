@@ -9,7 +9,8 @@ loop-entry-preserved c =
     record {
       known = known_more c.loop-entry.self.places c.know.new.self.places c.args.entries.now c.loop-entry.entry-index c.entry-item.result c.loop-entry-test.true c.know.ensures.stays c.loop-entry.invariant.known (sym here ∙ c.in_ok-know.ensures.known);
       stays = λ q k. c.know.ensures.stays q (c.loop-entry.invariant.stays q k);
-      told = c.know.ensures.disk ∙ c.loop-entry.invariant.told;
+      disk = c.know.ensures.disk ∙ c.loop-entry.invariant.disk;
+      contents = c.know.ensures.contents ∙ c.loop-entry.invariant.contents;
       len = c.know.ensures.len ∙ c.loop-entry.invariant.len;
       room = c.know.ensures.room ∙ c.loop-entry.invariant.room;
     }

@@ -5,6 +5,7 @@ use Rattle.std.specs.Cmp.Lexicographic.{slice_cmp}
 use Rattle.b2_base.specs.Segments.{texts}
 use Rattle.b2_memory.specs.Keys.{AreKeys}
 use Rattle.b2_memory.specs.Stores.{is_known}
+use Rattle.b2_memory.specs.StoreDisks.{writes_told}
 use Rattle.b2_memory.proofs.Gathering.{all_listed}
 use Rattle.b2_memory.proofs.store.Store.list.Goals as goal
 
@@ -14,4 +15,4 @@ list_names-requires c = subst (λ xs. IsStrictlySortedBy (slice_cmp nat_cmp) (te
 pub returns : goal.returns
 returns c =
     let store = c.args.self.now in
-    all_listed store.past.items store.places c.args.dir.now (texts c.as_slice.result.now) c.list_names.result (subst (λ xs. AreKeys (is_known store.places) (texts xs)) (sym c.as_slice.ensures.value) c.in_ok-paths.ensures) c.list_names.ensures
+    all_listed (writes_told store) store.places c.args.dir.now (texts c.as_slice.result.now) c.list_names.result (subst (λ xs. AreKeys (is_known store.places) (texts xs)) (sym c.as_slice.ensures.value) c.in_ok-paths.ensures) c.list_names.ensures
