@@ -1,0 +1,38 @@
+//! The cases of the world of a build file. A world is at hand, which is new at first, and the marks that were made of it.
+//! Each command that makes a call has its name; VALUE stands for any number of words.
+//!
+//! - `new` puts a new world in place, without a mark.
+//! - `look NAME` shows the texts of a name, each on a line. `set NAME VALUE`, `append NAME VALUE` and `bind NAME VALUE` set,
+//!   append and bind; `bind` answers `no frame` where none was opened since the newest mark.
+//! - `enter MODULE`, `enter_call MODULE` and `leave` open and close frames; `leave` answers `no frame` where none was opened
+//!   since the newest mark. `module` and `caller` show the present module, and the one that the innermost call keeps.
+//! - `mark` and `roll_back` mark the world and go back to the newest mark; `marked` tells whether there is one.
+//! - `define_rule NAME LINE` defines a rule without statements that stands in that line, and `define_actions NAME BODY`
+//!   actions. `find_rule NAME` and `find_actions NAME` show the module and the name where they are found, with the rule's home
+//!   and line, or the body. `import_rule MODULE NAME MODULE NAME` puts a rule into a module under a name.
+//! - `set_on TARGET NAME VALUE` and `on_target TARGET NAME` set and show an own value of a target.
+//! - `set_place DIR`, `place`, `add_roots DIRS`, `freeze_roots` and `roots` are about the project's directory and the output
+//!   roots.
+//! - `sets COUNT NAME VALUE` and `appends COUNT NAME VALUE` set and append so often, `marked_sets COUNT NAME VALUE` makes a
+//!   mark before each setting, and `roll_backs COUNT` goes back so often. `look_size NAME` shows how many texts a name has.
+#![tactic(auto)]
+
+mod answers;
+mod marking;
+mod naming;
+mod project;
+mod rules;
+mod session;
+mod words;
+
+use crate::session::Cases;
+use std::io;
+use std::process::ExitCode;
+use transcript::session::run;
+
+fn main(rt: HostRuntime) -> io::Result<ExitCode> {
+    match Cases::new(rt.alloc()) {
+        Ok(mut cases) => run(&rt, &mut cases),
+        Err(_) => Err(io::Error::from(io::ErrorKind::OutOfMemory)),
+    }
+}

@@ -1,0 +1,61 @@
+//! Commands on own values of targets, the project's directory and the output roots.
+use crate::answers::{paths_answer, texts_answer};
+use crate::words::{first, no_words, only, path, paths, texts};
+use jam_scope::world::World;
+use std::alloc::Global;
+use transcript::answer::Answer;
+use transcript::case_fault::CaseFault;
+use transcript::command::{Command, Word};
+
+fn set_on(alloc: Global, world: &mut World, words: &[Word]) -> Result<Answer, CaseFault> {
+    let (target, others) = first(words)?;
+    let (name, value) = first(others)?;
+    world.set_on(target, name, texts(alloc, value)?)?;
+    Ok(Answer::new(alloc))
+}
+
+fn on_target(alloc: Global, world: &World, words: &[Word]) -> Result<Answer, CaseFault> {
+    let (target, others) = first(words)?;
+    match world.on_target(target, only(others)?) {
+        Some(texts) => texts_answer(alloc, texts),
+        None => Answer::line(alloc, "none"),
+    }
+}
+
+fn set_place(alloc: Global, world: &mut World, words: &[Word]) -> Result<Answer, CaseFault> {
+    let dir = path(alloc, only(words)?)?;
+    world.set_place(&dir)?;
+    Ok(Answer::new(alloc))
+}
+
+fn add_roots(alloc: Global, world: &mut World, words: &[Word]) -> Result<Answer, CaseFault> {
+    let dirs = paths(alloc, words)?;
+    let added = world.add_roots(dirs.as_slice())?;
+    Answer::line(alloc, if added { "added" } else { "frozen" })
+}
+
+fn freeze_roots(alloc: Global, world: &mut World, words: &[Word]) -> Result<Answer, CaseFault> {
+    no_words(words)?;
+    world.freeze_roots();
+    Ok(Answer::new(alloc))
+}
+
+/// The answer to a command on a project; none where it is another command.
+pub fn answer_project(
+    alloc: Global,
+    command: &Command,
+    world: &mut World,
+) -> Result<Option<Answer>, CaseFault> {
+    let words = command.words();
+    let answer = match command.name() {
+        "set_on" => set_on(alloc, world, words)?,
+        "on_target" => on_target(alloc, world, words)?,
+        "set_place" => set_place(alloc, world, words)?,
+        "place" => Answer::line(alloc, world.place().as_str())?,
+        "add_roots" => add_roots(alloc, world, words)?,
+        "freeze_roots" => freeze_roots(alloc, world, words)?,
+        "roots" => paths_answer(alloc, world.roots())?,
+        _ => return Ok(None),
+    };
+    Ok(Some(answer))
+}
