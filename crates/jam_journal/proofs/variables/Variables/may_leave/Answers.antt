@@ -1,4 +1,4 @@
-use Rattle.std.proofs.Common.{◌<◌, ◌↔◌, IsTrue, length, reverse, sym, subst, ap, ◌∙◌}
+use Rattle.std.proofs.Common.{◌<◌, ◌↔◌, IsTrue, length, reverse, subst, ap, ◌∙◌}
 use Rattle.std.specs.List.{list_any}
 use Rattle.jam_journal.specs.Marks.{Marked}
 use Rattle.jam_journal.specs.Scopes.{Scopes, frames_at_mark}
