@@ -3,9 +3,9 @@ use crate::case_host::Calls;
 use b2_base::fault::OutOfMemory;
 use b2_base::path::Path;
 use b2_host::children::ChildEvent;
-use b2_memory::entry::Entry;
 use b2_memory::job::Job;
 use b2_memory::memory::MemoryHost;
+use b2_memory::version::Version;
 use b2_top::answer::Answer as Ended;
 use b2_update::failed_lists::FailedLists;
 use std::alloc::Global;
@@ -91,13 +91,13 @@ fn push_file(
     alloc: Global,
     answer: &mut Answer,
     host: &MemoryHost,
-    entry: &Entry,
+    version: &Version,
     stamp: u64,
 ) -> Result<(), CaseFault> {
-    match host.stamp_of(&entry.path) {
+    match host.stamp_of(&version.path) {
         Some(standing) if standing == stamp => {
-            let path = entry.path.as_str();
-            let bytes = shown(alloc, entry.bytes.as_ref().as_slice())?;
+            let path = version.path.as_str();
+            let bytes = shown(alloc, host.bytes_of(version))?;
             answer.push_line(format!(in alloc; "{path}, stamp {stamp}: {bytes}")?.as_str())
         }
         _ => Ok(()),
@@ -107,9 +107,9 @@ fn push_file(
 /// What stands, in order of stamps.
 pub fn files_shown(alloc: Global, host: &MemoryHost) -> Result<Answer, CaseFault> {
     let mut answer = Answer::new(alloc);
-    for (place, entry) in host.past().iter().enumerate() {
+    for (place, version) in host.past().iter().enumerate() {
         let stamp = (place + 1) as u64;
-        push_file(alloc, &mut answer, host, entry, stamp)?;
+        push_file(alloc, &mut answer, host, version, stamp)?;
     }
     Ok(answer)
 }
