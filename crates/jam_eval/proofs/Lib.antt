@@ -1,0 +1,2 @@
+mod FramesStay
+mod KeptByEval

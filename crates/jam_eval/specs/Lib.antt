@@ -1,0 +1,17 @@
+pub mod Faults
+pub mod Worlds
+pub mod Finding
+pub mod States
+pub mod Settings
+pub mod Outcomes
+pub mod Levels
+pub mod Params
+pub mod Args
+pub mod Conds
+pub mod Includes
+pub mod Calls
+pub mod Forms
+pub mod Eval
+pub mod Rolled
+pub mod Kept
+pub mod Laws

@@ -1,0 +1,77 @@
+-- What evaluation is given and never changes.
+use Rattle.std.specs.Prelude.{◌≡◌, ◌↔◌, ℕ, ◌<◌, ◌≤◌, Bool, IsTrue, List, length, Some, None, Err}
+use Rattle.std.specs.Str.{chars}
+use Rattle.b2_base.specs.declared.expand_fault.ExpandFault.{ExpandFault}
+use Rattle.b2_base.specs.declared.token.Token.{Token}
+use Rattle.b2_host.specs.Disks.{Folder, bytes_at}
+use Rattle.jam_path.specs.Patterns.{Match}
+use Rattle.jam_lexer.specs.declared.fault.LexFault.{LexFault}
+use Rattle.jam_lexer.specs.Tokens.{AreTokens}
+use Rattle.jam_lexer.specs.Answers.{IsAnswer}
+use Rattle.jam_grammar.specs.Trees.{StmtTrees}
+use Rattle.jam_grammar.specs.Readings.{ReadsTree, IsFirstFault}
+use Rattle.jam_journal.specs.Tables.{Text}
+use Rattle.jam_journal.specs.Scopes.{Value}
+use Rattle.jam_eval.specs.Faults.{NativeFault}
+use Rattle.jam_eval.specs.Worlds.{Worlds}
+
+-- what a native rule asks for: nothing, since it is none; a value; an end with a text; or a call of a rule for each item,
+-- whose values are joined, or by which items are kept
+pub data NativeStep : Type 0 where
+  is_unknown : NativeStep
+  is_value : Value → NativeStep
+  ends_with : Text → NativeStep
+  for_each : Value → Value → Bool → NativeStep
+
+-- why a native rule has no step
+pub data Refusal : Type 0 where
+  of_native : NativeFault → Refusal
+  of_arity : Refusal
+  of_expansion : ExpandFault → Refusal
+
+-- what a native rule answers, or what the recording of a call answers, with the worlds and what the natives keep after it
+pub data Told (A R : Type 0) : Type 0 where
+  answers : A → Worlds → R → Told A R
+  refuses : Refusal → Worlds → R → Told A R
+
+-- What natives mean. `call` is asked for each call that no rule answers, by name, lists, line, and the files; `acted` for
+-- each call of a name that has actions, and tells whether it recorded the call.
+pub record Natives (R : Type 0) : Type 0 where
+  pub call : Text → List Value → ℕ → Folder → Worlds → R → Told NativeStep R
+  pub acted : Text → List Value → ℕ → Worlds → R → Told Bool R
+
+-- what reading a file gives
+pub data Reading : Type 0 where
+  is_missing : Reading
+  is_too_big : ℕ → Reading
+  has_no_tokens : LexFault → Reading
+  has_no_tree : ℕ → Text → Reading
+  is_file : StmtTrees → Reading
+
+-- the most bytes of a file
+abbrev pub file_limit : ℕ
+file_limit = 1048576
+
+-- the file at a path reads so
+abbrev pub IsReading : Folder → Text → Reading → Type 0
+IsReading folder path is_missing = folder path ≡ None
+IsReading folder path (is_too_big size) = (bytes : List ℕ) × (bytes_at folder path ≡ Some bytes) × (size ≡ length bytes) × (file_limit < size)
+IsReading folder path (has_no_tokens fault) = (bytes : List ℕ) × (bytes_at folder path ≡ Some bytes) × (length bytes ≤ file_limit) × IsAnswer bytes (Err fault)
+IsReading folder path (has_no_tree line found) =
+    (bytes : List ℕ) × (tokens : List Token) × (bytes_at folder path ≡ Some bytes) × (length bytes ≤ file_limit) × AreTokens bytes tokens × IsFirstFault tokens line found
+IsReading folder path (is_file tree) =
+    (bytes : List ℕ) × (tokens : List Token) × (bytes_at folder path ≡ Some bytes) × (length bytes ≤ file_limit) × AreTokens bytes tokens × ReadsTree tokens tree
+
+-- the turns that there were at first, which the fault Turns names; what natives mean; the files; how each of them reads;
+-- and which patterns match which texts
+pub record Setting (R : Type 0) : Type 0 where
+  pub budget : ℕ
+  pub natives : Natives R
+  pub folder : Folder
+  pub reading : Text → Reading
+  pub matching : Text → Text → Bool
+
+-- the setting says of files and patterns what is so
+pub record IsSetting {R : Type 0} (setting : Setting R) : Type 0 where
+  pub reads : (path : Text) → IsReading setting.folder path (setting.reading path)
+  pub matches : (pattern text : Text) → IsTrue (setting.matching pattern text) ↔ Match (chars pattern) (chars text)

@@ -1,0 +1,4 @@
+//! What it means to evaluate the language of build files: definitions and laws.
+#![tactic(auto)]
+
+pub mod laws;
