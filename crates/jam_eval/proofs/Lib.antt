@@ -1,2 +1,3 @@
+mod ExamplesHold
 mod FramesStay
 mod KeptByEval

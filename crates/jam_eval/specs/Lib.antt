@@ -15,3 +15,4 @@ pub mod Eval
 pub mod Rolled
 pub mod Kept
 pub mod Laws
+pub mod Examples
