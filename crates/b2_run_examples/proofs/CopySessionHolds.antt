@@ -1,9 +1,11 @@
-use Rattle.std.proofs.Common.{◌≡◌, ◌⊎◌, ℕ, ◌≤◌, Bool, true, false, List, [], ◌∷◌, inl, inr, refl, sym, ap, subst, subst₂, ◌∙◌, arith, Some, if◌then◌else◌}
+use Rattle.std.proofs.Common.{◌≡◌, ◌⊎◌, ℕ, ◌<◌, ◌≤◌, Bool, true, false, List, [], ◌∷◌, inl, inr, refl, sym, ap, subst, subst₂, ◌∙◌, arith, Some, if◌then◌else◌}
 use Rattle.std.specs.List.{Contains}
 use Rattle.std.specs.Str.{bytes_eq}
 use Rattle.std.proofs.lemmas.Slice.Eq.{bytes_eq-Decides}
 use Rattle.std.proofs.lemmas.List.Elements.{Contains-append_left, Contains-push_cases}
 use Rattle.b2_host.specs.declared.children.ChildEvent.TheVariants.{Start, Done}
+use Rattle.b2_host.specs.Limits.{greatest_count}
+use Rattle.b2_host.specs.Outside.{Read}
 use Rattle.b2_host.specs.Disks.{File, Past, Stood, IsOneEach, IsConsistent, bytes_at}
 use Rattle.b2_plan.specs.Plans.{log_path, step_at, Makes}
 use Rattle.b2_plan.specs.Closures.{Value}
@@ -18,8 +20,8 @@ use Rattle.b2_runs.specs.Soundness.{AreAtWork}
 use Rattle.b2_runs.specs.Afterwards.{NoneDoneOlder, IsNoted}
 use Rattle.b2_runs.specs.UpdateAnswers.{UpdateAnswer.all_went, HasEnded, HasUpdated}
 use Rattle.b2_runs.specs.Sessions.{IsUpdate}
-use Rattle.b2_run_examples.specs.Examples.{in_path, out_path, copying, copied, at_entry, disk_before, disk_after, in_past, out_past, copy_bytes, log_after, with_log, copy_given, family_after, copy_step, in_members}
-use Rattle.b2_run_examples.specs.CopySession.{log_past, disk_logged, family_idle, moment_before, moment_after, CopySessionHolds}
+use Rattle.b2_run_examples.specs.Examples.{in_path, out_path, copying, copied, at_entry, disk_before, disk_after, in_past, out_past, copy_bytes, log_after, with_log, copy_given, copy_step, in_members}
+use Rattle.b2_run_examples.specs.CopySession.{log_past, disk_logged, log_read, moment_before, moment_after, CopySessionHolds}
 use Rattle.b2_runs.proofs.ElementLemmas.{Contains_here, Contains_cases, Contains_nil}
 use Rattle.b2_runs.proofs.CleanLaws.{clean_is_made}
 use Rattle.b2_runs.proofs.LogLaws.{true_as_past_grows}
@@ -28,6 +30,7 @@ use Rattle.b2_runs.proofs.RunLaws.{same_members}
 use Rattle.b2_runs.proofs.JudgedByPresent.{none_older_move}
 use Rattle.b2_runs.proofs.LogAlong.{log_is_noted}
 use Rattle.b2_runs.proofs.LogAtExit.{whole_is_cut}
+use Rattle.b2_runs.proofs.SessionLaws.{update_counts_fault, stop_counts_fault}
 use Rattle.b2_run_examples.proofs.OneStepPlan.{one_of, only_is, only_number, only_out, makes_out}
 use Rattle.b2_run_examples.proofs.CopyingHolds.{apart, run, went, close, none_older, log_true, one_each_after, stands_after, others_after}
 use Rattle.b2_run_examples.proofs.CopyingFiled.{counts, course, whole}
@@ -124,7 +127,7 @@ at_work = record { each = λ child c. absurd (Contains_nil child c); once = λ i
 fed : IsFed copying 1 copy_given
 fed = record { step = copy_step; at = refl; members = in_members; close = close; step_is = refl; text = refl; ins = refl; outs = refl; held = refl }
 
-updated : HasUpdated copying all_went family_idle family_after disk_before disk_logged
+updated : HasUpdated copying all_went moment_before.host moment_after.host disk_before disk_logged
 updated = record {
   events = copied;
   events_are = refl;
@@ -134,6 +137,9 @@ updated = record {
   fed = (fed, tt);
   at_work = at_work;
   changed = changed;
+  reads = log_read ∷ [];
+  reads_are = refl;
+  once = λ read c not_log. absurd (not_log (sym (ap (λ (r : Read). r.path) (one_of log_read read c))));
   cut = whole_is_cut copying copied (with_log copy_bytes) run.each whole;
   noted = λ log is fits. inr (begun, subst (IsNoted copying copied (with_log copy_bytes)) (sym (log_is log is)) noted);
   told = (ended, went, clean_build);
@@ -141,13 +147,28 @@ updated = record {
 
 is_update : IsUpdate copying all_went moment_before moment_after
 is_update = record {
+  old = disk_before;
+  shows = refl;
+  new = disk_logged;
+  shows_then = refl;
   apart = apart;
+  jobs = (omega arith, omega arith);
   idle = refl;
   planned = λ child c. absurd (Contains_nil child c);
+  none_left = inl refl;
+  caused = record { host = refl; waits = refl; sink = refl };
   keeps = keeps;
   stays_true = λ t log is. subst (LogTrue (making copying) disk_logged.past) (sym (log_is log is)) true_logged;
   has = ([], refl, updated);
 }
 
+few : 0 < greatest_count
+few = omega arith
+
 pub copy_session_holds : CopySessionHolds
-copy_session_holds = record { updated = updated; session = (moment_after, all_went ∷ [], [], refl, (all_went, refl, is_update), (refl, refl)) }
+copy_session_holds = record {
+  updated = updated;
+  session = (moment_after, all_went ∷ [], [], refl, (all_went, refl, is_update, refl), (refl, refl));
+  no_silent_update = λ s. let more : 0 < 0 = update_counts_fault copying moment_before moment_before few s in omega (arith, more);
+  no_silent_stop = λ s. let more : 0 < 0 = stop_counts_fault copying moment_before moment_before few s in omega (arith, more);
+}

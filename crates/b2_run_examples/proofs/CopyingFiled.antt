@@ -17,7 +17,7 @@ use Rattle.b2_log.specs.declared.line.LogLine.{LogLine}
 use Rattle.b2_log.specs.declared.line.Record.{Record}
 use Rattle.b2_log.proofs.WholeLines.{line_long}
 use Rattle.b2_runs.specs.Staleness.{making}
-use Rattle.b2_runs.specs.LogCourses.{BeginsWith, BeginsWith.as_it_is, IsLogAfter, IsLogAfter.begins, IsLogAfter.starts, IsLogAfter.records, left_file, IsLogWhole, IsLogCut, IsLogCut.within}
+use Rattle.b2_runs.specs.LogCourses.{FirstLines, FirstLines.as_it_is, IsLogAfter, IsLogAfter.begins, IsLogAfter.starts, IsLogAfter.records, left_file, IsLogWhole, IsLogCut, IsLogCut.within}
 use Rattle.b2_runs.specs.Runs.{IsRunSoFar}
 use Rattle.b2_runs.specs.Afterwards.{next_update}
 use Rattle.b2_runs.proofs.LogLaws.{found_is_there}
@@ -107,7 +107,7 @@ torn part missing split more =
 empty_reading : IsReading [] [] 0
 empty_reading = reading_whole [] tt
 
-begins_empty : BeginsWith [] []
+begins_empty : FirstLines [] []
 begins_empty = as_it_is [] (omega arith) empty_reading (λ much. omega (arith, much))
 
 module _ (bytes : List ℕ) where

@@ -200,7 +200,7 @@ not_one i step path makes e = elim (copies.made_at x_path x_path b_path i step p
   | inr (inr (f, p)) ↦ absurd (let g : 3 ≡ 1 = sym f ∙ e in omega (arith, g))
 ]
 
--- .. so it is not needed yet
+-- so it is not needed yet
 a_not_yet : (i : ℕ) → Needed header_update [] i → i ≡ 1 → ⊥
 a_not_yet i (wanted k step path c makes) e = different a_path c_path refl (not_one k step path makes e ∙ sym (one_of c_path path c))
 a_not_yet i (member k step j other path needed at known makes) e = reads (copies.which x_path x_path b_path j other at)

@@ -3,11 +3,12 @@ use Rattle.std.specs.List.{Contains}
 use Rattle.std.proofs.lemmas.Slice.Eq.{bytes_eq-Decides}
 use Rattle.b2_host.specs.declared.children.ChildEvent.TheVariants.{Start, Done}
 use Rattle.b2_host.specs.Disks.{Folder}
+use Rattle.b2_host.specs.Outside.{Read}
 use Rattle.b2_plan.specs.Plans.{log_path}
 use Rattle.b2_plan.specs.Closures.{Known.input as input_of}
 use Rattle.b2_log.specs.declared.line.LogLine.TheVariants as lines
 use Rattle.b2_log.specs.Finding.{find_scan}
-use Rattle.b2_runs.specs.FileReads.{IsToScan, IsTooBig, IsTooBig.to_scan, IsTooBig.to_digest, IsToDigest, IsToDigest.input, IsToDigest.output, Read, IsCalledFor, IsCalledFor.to_scan as called}
+use Rattle.b2_runs.specs.FileReads.{IsToScan, IsTooBig, IsTooBig.to_scan, IsTooBig.to_digest, IsToDigest, IsToDigest.input, IsToDigest.output, IsCalledFor, IsCalledFor.to_scan as called}
 use Rattle.b2_runs.specs.LogCourses.{IsLogAfter, IsLogAfter.begins, IsLogAfter.starts, IsLogAfter.records, IsLogAfter.scans, IsScannedFile, AllScanned}
 use Rattle.b2_runs.proofs.ElementLemmas.{Contains_here}
 use Rattle.b2_runs.proofs.ReadLaws.{scanned_is_not_read, unscanned_is_not_read}

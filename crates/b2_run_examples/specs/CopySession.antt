@@ -1,10 +1,13 @@
-use Rattle.std.specs.Prelude.{[], ◌∷◌, Some}
+use Rattle.std.specs.Prelude.{[], ◌∷◌, Some, None}
 use Rattle.b2_host.specs.Disks.{Disk, Past}
 use Rattle.b2_host.specs.ChildProcesses.{Family}
+use Rattle.b2_host.specs.Outside.{Read}
 use Rattle.b2_plan.specs.Plans.{log_path}
-use Rattle.b2_runs.specs.UpdateAnswers.{UpdateAnswer.all_went, HasUpdated}
-use Rattle.b2_runs.specs.Sessions.{Moment, Happening.update, IsSession}
-use Rattle.b2_run_examples.specs.Examples.{copying, disk_before, in_past, out_past, copy_bytes, with_log, family_after}
+use Rattle.b2_runs.specs.Reports.{no_lists, report}
+use Rattle.b2_runs.specs.Moments.{Moment}
+use Rattle.b2_runs.specs.UpdateAnswers.{UpdateAnswer.all_went, UpdateAnswer.host_fault, HasUpdated}
+use Rattle.b2_runs.specs.Sessions.{Happening.update, Happening.stop, IsSession}
+use Rattle.b2_run_examples.specs.Examples.{copying, copied, disk_before, in_past, out_past, copy_bytes, with_log, family_after}
 
 -- what stands and stood after the update that copies, the log's file among it
 abbrev pub log_past : Past
@@ -17,13 +20,26 @@ disk_logged = record { now = with_log copy_bytes; past = in_past ∷ out_past �
 abbrev pub family_idle : Family
 family_idle = record { running = []; events = []; given = Some [] }
 
+-- it reads the log, where none stands, and nothing else
+abbrev pub log_read : Read
+log_read = record { path = log_path; stamp = None; log = None }
+
 abbrev pub moment_before : Moment
-moment_before = record { disk = disk_before; family = family_idle }
+moment_before = record {
+  host = record { disk = Some disk_before; reads = Some []; children = family_idle; faults = 0; failed_waits = 0 };
+  out = record { written = Some []; faults = 0 };
+}
 
 abbrev pub moment_after : Moment
-moment_after = record { disk = disk_logged; family = family_after }
+moment_after = record {
+  host = record { disk = Some disk_logged; reads = Some (log_read ∷ []); children = family_after; faults = 0; failed_waits = 0 };
+  out = record { written = Some (report copying.build.steps copied no_lists); faults = 0 };
+}
 
 -- The update that copies has done all that an update does which answers that all went well; so it alone is a session.
 pub record CopySessionHolds : Type 0 where
-  pub updated : HasUpdated copying all_went family_idle family_after disk_before disk_logged
+  pub updated : HasUpdated copying all_went moment_before.host moment_after.host disk_before disk_logged
   pub session : IsSession moment_before (update copying ∷ []) (all_went ∷ []) moment_after
+  -- but no session has an update or a stop that answers a fault of the host where no call failed
+  pub no_silent_update : ¬ IsSession moment_before (update copying ∷ []) (host_fault ∷ []) moment_before
+  pub no_silent_stop : ¬ IsSession moment_before (stop copying ∷ []) (host_fault ∷ []) moment_before

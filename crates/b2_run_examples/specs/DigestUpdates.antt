@@ -91,14 +91,14 @@ pub record DigestsHold : Type 0 where
   -- `x` was written again with the same bytes: nothing runs, and `a` gets a record with the new stamp
   pub same_bytes : IsRun (update_on true (all_stand 4 (7 ∷ []) 2 3) log_one) []
   pub same_bytes_log : IsLogAfter (update_on true (all_stand 4 (7 ∷ []) 2 3) log_one) (all_stand 4 (7 ∷ []) 2 3) log_one [] log_two
-  -- .. with other bytes: `a` runs, and `b` does not, for `a` has the bytes that it had
+  -- `x` was written with other bytes: `a` runs, and `b` does not, for `a` has the bytes that it had
   pub other_bytes : IsRun (update_on true (all_stand 5 (8 ∷ []) 2 3) log_two) first_ran
   pub other_bytes_log : IsLogAfter (update_on true (all_stand 5 (8 ∷ []) 2 3) log_two) (all_stand 5 (8 ∷ []) 6 3) log_two first_ran log_three
-  -- .. with other bytes, judged by stamps: both run
+  -- the same, judged by stamps: both run
   pub by_stamps : IsRun (update_on false (all_stand 7 (9 ∷ []) 6 3) log_three) both_ran
   -- nothing was done: nothing runs, and both get records with digests
   pub unchanged : IsRun (update_on true (all_stand 7 (9 ∷ []) 8 9) log_four) []
   pub unchanged_log : IsLogAfter (update_on true (all_stand 7 (9 ∷ []) 8 9) log_four) (all_stand 7 (9 ∷ []) 8 9) log_four [] log_five
   pub unchanged_all : AllMigrated (update_on true (all_stand 7 (9 ∷ []) 8 9) log_four) [] (all_stand 7 (9 ∷ []) 8 9) log_five
-  -- .. which they did not have
+  -- the log before did not have these
   pub unchanged_not : ¬ AllMigrated (update_on true (all_stand 7 (9 ∷ []) 8 9) log_four) [] (all_stand 7 (9 ∷ []) 8 9) log_four

@@ -1,11 +1,12 @@
 use Rattle.std.specs.Prelude.{ℕ, List, [], ◌∷◌, Option, Some, None, codes, if◌then◌else◌}
 use Rattle.std.specs.Str.{bytes_eq}
 use Rattle.b2_host.specs.Disks.{Folder, Past, IsOneEach}
+use Rattle.b2_host.specs.Outside.{Read}
 use Rattle.b2_log.specs.declared.line.Record.{Record}
 use Rattle.b2_log.specs.declared.line.ScanLine.{ScanLine}
 use Rattle.b2_log.specs.declared.line.LogLine.{LogLine}
 use Rattle.b2_log.specs.declared.line.LogLine.TheVariants as lines
-use Rattle.b2_runs.specs.FileReads.{IsToScan, IsTooBig, Read, IsLogThen, ReadsOnce}
+use Rattle.b2_runs.specs.FileReads.{IsToScan, IsTooBig, IsLogThen, ReadsOnce}
 use Rattle.b2_runs.specs.LogCourses.{IsLogAfter, AllScanned}
 use Rattle.b2_run_examples.specs.Overlap.{x_path, b_path}
 use Rattle.b2_run_examples.specs.Headers.{header, header_update, b_made, b_scan}

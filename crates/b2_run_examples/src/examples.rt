@@ -12,7 +12,7 @@ ghost use Rattle.b2_run_examples.specs.Flags.{FlagsHold};
 ghost use Rattle.b2_run_examples.specs.CopySession.{CopySessionHolds};
 
 /// An update that copies one file: its run is a whole run in which all went well, its disk is sound, its log is true and
-/// has the last word.
+/// tells what was done.
 pub fn copying_holds()
     ensures { CopyingHolds }
 {}
@@ -97,7 +97,7 @@ pub fn flags_hold()
     ensures { FlagsHold }
 {}
 
-/// The update that copies has done all that an update does which answers that all went well, and is a session.
+/// The update that copies has done all that an update does which answers that all went well, and is a session. A session is none whose answer is a fault that no count tells.
 pub fn copy_session_holds()
     ensures { CopySessionHolds }
 {}

@@ -5,10 +5,12 @@ use Rattle.b2_plan.specs.Closures.{Before}
 use Rattle.b2_runs.specs.Staleness.{Update}
 use Rattle.b2_runs.specs.Outcomes.{IsListOf, ArePathsOf, NoneStuck}
 use Rattle.b2_runs.specs.Cycles.{IsStepCycle}
-use Rattle.b2_runs.specs.AnswerLaws.{MayAnswerAllWent, AllWentLacksNothing, AllWentHasNoCycle, FailedHasNoCycle, ListsAreOne, AllWentStartsNothing}
+use Rattle.b2_runs.specs.AnswerLaws.{MayAnswerAllWent, AllWentLacksNothing, AllWentHasNoCycle, FailedHasNoCycle, ListsAreOne, AllWentStartsNothing, CycleEndsNoReport, AllWentHasNoBadEnd, SinkFaultIsFirst, UpdateReadsOnce}
 use Rattle.b2_runs.proofs.ElementLemmas.{same_ordered, Contains_here}
 use Rattle.b2_runs.proofs.ClosureLaws.{Before_irrefl, Before_trans}
 use Rattle.b2_runs.proofs.SettledLaws.{wanted_is_clean}
+use Rattle.b2_runs.proofs.EventLaws.{bad_by_count}
+use Rattle.b2_runs.proofs.ReadLaws.{scanned_is_not_read}
 use Rattle.b2_runs.proofs.OutcomeLaws.{all_went_by_settled, all_went_misses_nothing}
 use Rattle.b2_runs.proofs.AfterLaws.{nothing_starts_afterwards}
 
@@ -58,3 +60,18 @@ lists_are_one u events lists others p q =
 pub all_went_starts_nothing : AllWentStartsNothing
 all_went_starts_nothing u events later disk quit jobs i step path apart sound told fits run_later makes calm c =
     nothing_starts_afterwards u events later disk told.0.log quit jobs i step path apart told.0.run.each sound (told.0.noted fits) told.1 run_later makes calm c
+
+pub cycle_ends_no_report : CycleEndsNoReport
+cycle_ends_no_report u events list written cycle stops = none_stuck_none_cycle u events list stops.none_stuck cycle
+
+pub all_went_has_no_bad_end : AllWentHasNoBadEnd
+all_went_has_no_bad_end steps jobs disk old new i h c = h.none_failed refl i ((bad_by_count h.short h.events i).1 (inl c))
+
+pub sink_fault_is_first : SinkFaultIsFirst
+sink_fault_is_first before after below (rose, quiet) same = elim quiet [
+  | inl stay ↦ stay.0
+  | inr failed ↦ absurd (let more : before.host.failed_waits < after.host.failed_waits = failed.waits.more below in omega (arith, more, same))
+]
+
+pub update_reads_once : UpdateReadsOnce
+update_reads_once u answer old new before after read stamp log s off one h c not_log at then found = scanned_is_not_read u h.events after.past h.reads read stamp log s off one h.once c not_log at then found

@@ -145,7 +145,7 @@ lines_true u all disk first log events apart run grows sound true_first (migrate
 pub log_stays_true : LogStaysTrue
 log_stays_true u events disk first log apart run sound true_first c = lines_true u events disk first log events apart run (λ p s. s) sound true_first c
 
--- ---- the last word
+-- ---- the last line
 
 -- nothing that was done is older before the last event
 older_before : (u : Update) (events : List ChildEvent) (event : ChildEvent) (now : Folder) → NoneDoneOlder u (events ++ event ∷ []) now → NoneDoneOlder u events now

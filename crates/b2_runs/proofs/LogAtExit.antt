@@ -16,7 +16,7 @@ use Rattle.b2_runs.specs.LogFiles.{log_limit, IsLogOf, IsTrueFile, IsLogHeld}
 use Rattle.b2_runs.specs.Staleness.{Update, making}
 use Rattle.b2_runs.specs.Runs.{OpenEnds, IsBegun}
 use Rattle.b2_runs.specs.Afterwards.{IsNoted}
-use Rattle.b2_runs.specs.LogCourses.{BeginsWith, BeginsWith.as_it_is, IsLogAfter, held_bytes, log_file, left_file, IsLogCut, IsLogCut.untouched, IsLogCut.replacing, IsLogCut.between, IsLogCut.within}
+use Rattle.b2_runs.specs.LogCourses.{FirstLines, FirstLines.as_it_is, IsLogAfter, held_bytes, log_file, left_file, IsLogCut, IsLogCut.untouched, IsLogCut.replacing, IsLogCut.between, IsLogCut.within}
 use Rattle.b2_runs.specs.LogCourseLaws.{WholeLogCounts, WholeIsCut, HealthyGrows, CutLogIsTrue, CutLogIsNoted, FinishedIsKept, FinishedIsNotStarted}
 use Rattle.b2_runs.proofs.RunLaws.{run_has_begun}
 use Rattle.b2_runs.proofs.LogLaws.{true_with_fewer}
@@ -33,7 +33,7 @@ held_left (Some old) bytes = refl
 held_left None [] = refl
 held_left None (byte ∷ more) = refl
 
--- .. and counts as the lines that they spell
+-- the file that is left counts as the lines that its bytes spell
 left_counts : (before : Option (List ℕ)) (log : List LogLine) → AllByRecursion IsGood log → length (log_bytes log) ≤ log_limit → IsLogHeld (left_file before (log_bytes log)) log
 left_counts (Some old) log each fits_in = lines_are_read log each fits_in
 left_counts None [] each fits_in = refl
@@ -63,7 +63,7 @@ bytes_pushed : (log : List LogLine) (line : LogLine) → log_bytes (log ++ line 
 bytes_pushed log line = flat_map-append spelling log (line ∷ []) ∙ ap (λ (w : List ℕ). log_bytes log ++ w) (append-nil (spelling line))
 
 -- what an update begins with is true where its log at entry is
-first_true : (m : Making) (past : List Past) (bytes : List ℕ) (first : List LogLine) → IsTrueFile m past bytes → BeginsWith bytes first → LogTrue m past first
+first_true : (m : Making) (past : List Past) (bytes : List ℕ) (first : List LogLine) → IsTrueFile m past bytes → FirstLines bytes first → LogTrue m past first
 first_true m past bytes first whole b =
     let f = is_from bytes first b in
     elim f.same [
@@ -100,10 +100,10 @@ healthy_grows u events now bytes log at fits_in r short cut = go cut
     same : log_bytes log ≡ bytes
     same = sym (whole_bytes bytes log r)
 
-    first_same : (first : List LogLine) → BeginsWith (held_bytes (log_file u.build.folder)) first → log_bytes first ≡ bytes
-    first_same first b = ap log_bytes (begins_with_one bytes first log (subst (λ o. BeginsWith (held_bytes o) first) at b) (as_it_is log fits_in r short)) ∙ same
+    first_same : (first : List LogLine) → FirstLines (held_bytes (log_file u.build.folder)) first → log_bytes first ≡ bytes
+    first_same first b = ap log_bytes (begins_with_one bytes first log (subst (λ o. FirstLines (held_bytes o) first) at b) (as_it_is log fits_in r short)) ∙ same
 
-    more_of : (first later : List LogLine) (front : List ChildEvent) → BeginsWith (held_bytes (log_file u.build.folder)) first → IsLogAfter u now first front later → (more : List ℕ) × (log_bytes later ≡ bytes ++ more)
+    more_of : (first later : List LogLine) (front : List ChildEvent) → FirstLines (held_bytes (log_file u.build.folder)) first → IsLogAfter u now first front later → (more : List ℕ) × (log_bytes later ≡ bytes ++ more)
     more_of first later front b c = let (more, e) = grown u now first later front c in (more, e ∙ ap (λ (w : List ℕ). w ++ more) (first_same first b))
 
     go : IsLogCut u events now → (more : List ℕ) × (log_file now ≡ Some (bytes ++ more))
@@ -119,10 +119,10 @@ healthy_grows u events now bytes log at fits_in r short cut = go cut
 pub cut_log_is_true : CutLogIsTrue
 cut_log_is_true u events disk apart sound good entry cut = go cut
   where
-    each_first : (first : List LogLine) → BeginsWith (held_bytes (log_file u.build.folder)) first → AllByRecursion IsGood first
+    each_first : (first : List LogLine) → FirstLines (held_bytes (log_file u.build.folder)) first → AllByRecursion IsGood first
     each_first first b = (begin_is_read (held_bytes (log_file u.build.folder)) first b).0
 
-    true_lines : (first log : List LogLine) (b : IsBegun u events) → BeginsWith (held_bytes (log_file u.build.folder)) first → IsLogAfter u disk.now first b.front log → LogTrue (making u) disk.past log
+    true_lines : (first log : List LogLine) (b : IsBegun u events) → FirstLines (held_bytes (log_file u.build.folder)) first → IsLogAfter u disk.now first b.front log → LogTrue (making u) disk.past log
     true_lines first log b begins c =
         log_stays_true u b.front disk first log apart b.run (sound_before_ends u events disk b sound) (first_true (making u) disk.past (held_bytes (log_file u.build.folder)) first entry begins) c
 
@@ -145,13 +145,13 @@ cut_log_is_true u events disk apart sound good entry cut = go cut
 pub cut_log_is_noted : CutLogIsNoted
 cut_log_is_noted u events now log apart good older entry cut limit counts = go cut
   where
-    same : (first : List LogLine) → BeginsWith (held_bytes (log_file u.build.folder)) first → (outs : List (List ℕ)) → find_record outs first ≡ find_record outs u.log
+    same : (first : List LogLine) → FirstLines (held_bytes (log_file u.build.folder)) first → (outs : List (List ℕ)) → find_record outs first ≡ find_record outs u.log
     same first b outs = begin_tells_records (held_bytes (log_file u.build.folder)) first u.log outs b (held_counts (log_file u.build.folder) u.log entry)
 
-    each_of : (first later : List LogLine) (front : List ChildEvent) → BeginsWith (held_bytes (log_file u.build.folder)) first → IsLogAfter u now first front later → AllByRecursion IsGood later
+    each_of : (first later : List LogLine) (front : List ChildEvent) → FirstLines (held_bytes (log_file u.build.folder)) first → IsLogAfter u now first front later → AllByRecursion IsGood later
     each_of first later front b c = log_stays_good u now first later front apart good (begin_is_read (held_bytes (log_file u.build.folder)) first b).0 c
 
-    noted : (first later : List LogLine) (b : IsBegun u events) → BeginsWith (held_bytes (log_file u.build.folder)) first → IsLogAfter u now first b.front later → log ≡ later → (events ≡ []) ⊎ ((b : IsBegun u events) × IsNoted u b.front now log)
+    noted : (first later : List LogLine) (b : IsBegun u events) → FirstLines (held_bytes (log_file u.build.folder)) first → IsLogAfter u now first b.front later → log ≡ later → (events ≡ []) ⊎ ((b : IsBegun u events) × IsNoted u b.front now log)
     noted first later b begins c e = inr (b, subst (IsNoted u b.front now) (sym e) (log_is_noted u now first later b.front apart b.run (same first begins) (older b.front b.rest b.whole b.run) c))
 
     go : IsLogCut u events now → (events ≡ []) ⊎ ((b : IsBegun u events) × IsNoted u b.front now log)

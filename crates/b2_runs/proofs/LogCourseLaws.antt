@@ -23,8 +23,8 @@ use Rattle.b2_runs.specs.Events.{IsOpen, MayFollow, FollowFrom}
 use Rattle.b2_runs.specs.Outcomes.{IsFailed}
 use Rattle.b2_runs.specs.FileReads.{IsToScan}
 use Rattle.b2_runs.specs.Afterwards.{IsNotedStep}
-use Rattle.b2_runs.specs.LogCourses.{IsLong, BeginsWith, BeginsWith.as_it_is, BeginsWith.torn, BeginsWith.long, BeginsWith.large, HasDigestsAlready, IsLogAfter.begins, IsLogAfter.starts, IsLogAfter.records, IsLogAfter.owes_none, IsLogAfter.drops, IsLogAfter.has_none, IsLogAfter.scans, IsLogAfter.migrates}
-use Rattle.b2_runs.specs.LogCourseLaws.{BeginsWithOne, BeginTellsRecords, BeginTellsScans, BeginIsRead, LinesAreRead, LogGrows, LogTellsOthers, LogTellsOtherScans, ScansOnce, MigratesOnce, LogDropsFailed, LogHasRecords}
+use Rattle.b2_runs.specs.LogCourses.{IsLong, FirstLines, FirstLines.as_it_is, FirstLines.torn, FirstLines.long, FirstLines.large, HasDigestsAlready, IsLogAfter.begins, IsLogAfter.starts, IsLogAfter.records, IsLogAfter.owes_none, IsLogAfter.drops, IsLogAfter.has_none, IsLogAfter.scans, IsLogAfter.migrates}
+use Rattle.b2_runs.specs.LogCourseLaws.{FirstLinesAreOne, BeginTellsRecords, BeginTellsScans, BeginIsRead, LinesAreRead, LogGrows, LogTellsOthers, LogTellsOtherScans, ScansOnce, MigratesOnce, LogDropsFailed, LogHasRecords}
 use Rattle.b2_runs.proofs.ElementLemmas.{one_step, Contains_nil}
 use Rattle.b2_runs.proofs.LogLaws.{outs_same, path_same, last_record, last_drop, last_scan, others_unsaid, scans_unsaid, scan_is_other, outs_not_scanned}
 use Rattle.b2_runs.proofs.StampedFiles.{stamped_paths}
@@ -41,14 +41,14 @@ pub record IsFrom (bytes : List ℕ) (first : List LogLine) : Type 0 where
   pub counts : IsLogOf bytes log
   pub same : (first ≡ log) ⊎ (first ≡ kept log)
 
-pub is_from : (bytes : List ℕ) (first : List LogLine) → BeginsWith bytes first → IsFrom bytes first
+pub is_from : (bytes : List ℕ) (first : List LogLine) → FirstLines bytes first → IsFrom bytes first
 is_from bytes first (as_it_is log within r short) = record { log = log; counts = is_read (length bytes) within r; same = inl refl }
 is_from bytes first (torn log good within r less) = record { log = log; counts = is_read good within r; same = inr refl }
 is_from bytes first (long log good within r much) = record { log = log; counts = is_read good within r; same = inr refl }
 is_from bytes first (large above) = record { log = []; counts = is_large above refl; same = inl refl }
 
 -- so they tell the same
-told_same : (bytes : List ℕ) (first log : List LogLine) (subject : Subject) → BeginsWith bytes first → IsLogOf bytes log → told subject first ≡ told subject log
+told_same : (bytes : List ℕ) (first log : List LogLine) (subject : Subject) → FirstLines bytes first → IsLogOf bytes log → told subject first ≡ told subject log
 told_same bytes first log subject b is =
     let f = is_from bytes first b in
     let one : f.log ≡ log = file_is_one_log bytes f.log log f.counts is in
@@ -74,7 +74,7 @@ begin_is_read bytes first b =
       | inr e ↦ subst (λ (l : List LogLine). AllByRecursion IsGood l × (length (log_bytes l) ≤ 268435456)) (sym e) (kept_good f.log w.each, omega (arith, size, shorter))
     ]
 
-pub begins_with_one : BeginsWithOne
+pub begins_with_one : FirstLinesAreOne
 begins_with_one bytes first other (as_it_is log w r short) (as_it_is l v s few) = (one_reading bytes log l (length bytes) (length bytes) r s).0
 begins_with_one bytes first other (as_it_is log w r short) (torn l g v s less) = let e = (one_reading bytes log l (length bytes) g r s).1 in absurd (omega (arith, e, less))
 begins_with_one bytes first other (as_it_is log w r short) (long l g v s much) = let e = (one_reading bytes log l (length bytes) g r s).0 in absurd (short (subst IsLong (sym e) much))

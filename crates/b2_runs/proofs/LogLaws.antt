@@ -63,7 +63,7 @@ scan_is_there path stamp log s e = go (told (subjects.Scanned path) log) refl e
         let (c, p) = telling.told_is_there (subjects.Scanned path) log (lines.Scan q) is in
         subst (λ (z : ScanLine). Contains log (lines.Scan z) × (z.path ≡ path) × (z.stamp ≡ stamp)) same (c, path_same q.path path p, has)
 
--- a record at the end has the last word on its outputs
+-- a record at the end is the last line on its outputs
 pub last_record : LastRecord
 last_record log r = ap (option_and_then record_in) (telling.last_word log (lines.Record r))
 
@@ -149,6 +149,6 @@ scans_unsaid path stamp log line differ = ap (option_and_then (scan_in stamp)) (
 pub outs_not_scanned : (outs : List (List ℕ)) (path : List ℕ) → subjects.Outputs outs ≡ subjects.Scanned path → ⊥
 outs_not_scanned outs path e = let f : subjects.Outputs outs ≡ subjects.Scanned path = e in cc
 
--- a scan line at the end has the last word on its path
+-- a scan line at the end is the last line on its path
 pub last_scan : (log : List LogLine) (s : ScanLine) → find_scan s.path s.stamp (log ++ lines.Scan s ∷ []) ≡ Some s
 last_scan log s = ap (option_and_then (scan_in s.stamp)) (telling.last_word log (lines.Scan s)) ∙ (let e : (s.stamp == s.stamp) ≡ true = (Decides-eqb s.stamp s.stamp).1 refl in ap (λ t. if t then Some s else None) e)

@@ -160,7 +160,7 @@ line_for u now log step line members other n = record { last = n.last; found = o
 migrated_for : (u : Update) (events : List ChildEvent) (now : Folder) (log : List LogLine) (step : Step) (line : LogLine) → (subject_of line ≡ subjects.Outputs step.outs → ⊥) → IsMigrated u events now log step → IsMigrated u events now (log ++ line ∷ []) step
 migrated_for u events now log step line other g = record { by_digest = g.by_digest; members = g.members; close = g.close; inside = g.inside; noted = line_for u now log step line g.members other g.noted }
 
--- .. so it leaves all, where it is about no step that was done well or not started
+-- such a line leaves all, where it is about no step that was done well or not started
 other_line : (u : Update) (events : List ChildEvent) (now : Folder) (log : List LogLine) (line : LogLine) → ((i : ℕ) (step : Step) → step_at u.build.steps i ≡ Some step → Contains events (Done i true) ⊎ (Contains events (Start i) → ⊥) → subject_of line ≡ subjects.Outputs step.outs → ⊥)
     → IsNoted u events now log → IsNoted u events now (log ++ line ∷ [])
 other_line u events now log line other n = record {
@@ -187,7 +187,7 @@ noted_after_line u events now log i step line apart at loose subject n =
 pub noted_after_scan : NotedAfterScan
 noted_after_scan u events now log s n = other_line u events now log (lines.Scan s) (λ k other at_k settled e. scan_is_other other.outs s e) n
 
--- the record of a step has the last word on it
+-- the record of a step is the last line on it
 step_recorded : (u : Update) (now : Folder) (log : List LogLine) (step : Step) (members : List (List ℕ × Value)) (r : Record) → IsRecordOf u now step members r → IsNotedStep u now (log ++ lines.Record r ∷ []) step members
 step_recorded u now log step members r is = record {
   last = r;
@@ -195,7 +195,7 @@ step_recorded u now log step members r is = record {
   is_record = is;
 }
 
--- the record of a step that was done well has the last word on it, and says nothing of others
+-- the record of a step that was done well is the last line on it, and says nothing of others
 pub noted_after_record : NotedAfterRecord
 noted_after_record u events now log i step members r apart n opened at close is older = record {
   recorded = λ k other others at_k done file close_k. elim (done_in_done events i k true true done) [

@@ -4,6 +4,7 @@ use Rattle.std.proofs.lemmas.List.Elements.{Contains-push_cases, Contains-append
 use Rattle.b2_host.specs.declared.children.ChildEvent.{ChildEvent}
 use Rattle.b2_host.specs.declared.children.ChildEvent.TheVariants.{Start, Done}
 use Rattle.b2_host.specs.Disks.{File, Disk, Past, IsOneEach, bytes_at}
+use Rattle.b2_host.specs.Outside.{Read}
 use Rattle.b2_plan.specs.Plans.{log_path, Apart}
 use Rattle.b2_plan.specs.Cleans.{Clean}
 use Rattle.b2_log.specs.declared.line.LogLine.{LogLine}
@@ -13,7 +14,7 @@ use Rattle.b2_log.proofs.ReadLogs.{one_reading}
 use Rattle.b2_runs.specs.Staleness.{Update}
 use Rattle.b2_runs.specs.Runs.{Settled, Settled.done_well, on_settled, MayCome}
 use Rattle.b2_runs.specs.Soundness.{Holds, IsSound}
-use Rattle.b2_runs.specs.FileReads.{scan_limit, digest_limit, IsInput, IsNeededOut, IsToDigest, IsToDigest.input, IsToDigest.output, IsTooBig, IsTooBig.to_scan, IsTooBig.to_digest, Read, IsLogThen, IsCalledFor, IsCalledFor.to_scan as called_to_scan, IsCalledFor.to_digest as called_to_digest}
+use Rattle.b2_runs.specs.FileReads.{scan_limit, digest_limit, IsInput, IsNeededOut, IsToDigest, IsToDigest.input, IsToDigest.output, IsTooBig, IsTooBig.to_scan, IsTooBig.to_digest, IsLogThen, IsCalledFor, IsCalledFor.to_scan as called_to_scan, IsCalledFor.to_digest as called_to_digest}
 use Rattle.b2_runs.specs.ReadLaws.{LargeIsTooBig, TooBigIsLarge, NothingTooBig, TooBigThroughEnd, TooBigThroughDrift, ReadsNone, ReadsMore, ReadsAlong, ReadsAsPastGrows, ScannedIsNotRead, UnscannedIsNotRead}
 use Rattle.b2_runs.proofs.ElementLemmas.{Contains_nil}
 use Rattle.b2_runs.proofs.ClosureLaws.{known_grows, close_stays}

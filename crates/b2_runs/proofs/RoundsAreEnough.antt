@@ -17,7 +17,7 @@ record At (b : Build) (n place : ℕ) : Type 0 where
   members : List (List ℕ × Value)
   close : IsClose b (Val b n) step members
 
--- .. by few rounds, where those of the list are not among them
+-- the same by few rounds, where those of the list are not among them
 record Low (b : Build) (tower : List ℕ) (place : ℕ) : Type 0 where
   r : ℕ
   few : r + suc (length tower) ≤ length b.steps

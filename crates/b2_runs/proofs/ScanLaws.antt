@@ -1,6 +1,6 @@
 use Rattle.std.proofs.Common.{◌≡◌, refl, sym, ap, subst, subst₂, ◌∙◌, Some}
 use Rattle.b2_host.specs.Disks.{bytes_at}
-use Rattle.b2_runs.specs.Staleness.{stamp_at}
+use Rattle.b2_host.specs.FileCalls.{stamp_at}
 use Rattle.b2_runs.specs.ScanLaws.{ScanIsTrue, ScanTells, FoundScanTells}
 use Rattle.b2_runs.proofs.StampedFiles.{whole_file}
 use Rattle.b2_runs.proofs.LogLaws.{scan_is_there}

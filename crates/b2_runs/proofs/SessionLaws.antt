@@ -1,4 +1,5 @@
-use Rattle.std.proofs.Common.{◌≡◌, ℕ, ◌≤◌, Bool, true, false, List, [], ◌∷◌, ◌++◌, length, inl, inr, refl, sym, ap, subst, ◌∙◌, append_assoc, Option, Some, None, option_map}
+use Rattle.std.proofs.Common.{◌≡◌, ◌≢◌, ℕ, ◌<◌, ◌≤◌, Bool, true, false, List, [], ◌∷◌, ◌++◌, length, inl, inr, refl, sym, ap, subst, subst₂, ◌∙◌, append_assoc, Option, Some, None, option_map}
+use Rattle.std.specs.Option.{IfSome}
 use Rattle.std.specs.List.{Contains}
 use Rattle.std.specs.Str.{bytes_eq}
 use Rattle.std.proofs.lemmas.Slice.Eq.{bytes_eq-Decides}
@@ -8,14 +9,16 @@ use Rattle.b2_host.specs.ChildProcesses.{Child, ChangesOnlyOutputs}
 use Rattle.b2_plan.specs.declared.step.Step.{Step}
 use Rattle.b2_plan.specs.Plans.{log_path, Apart, step_at}
 use Rattle.b2_plan.specs.Sources.{Build, IsInRoots}
+use Rattle.b2_runs.specs.Logs.{Making}
 use Rattle.b2_runs.specs.LogFiles.{log_limit, IsLogHeld, IsTrueOn}
 use Rattle.b2_runs.specs.Staleness.{Update, making}
 use Rattle.b2_runs.specs.Outcomes.{IsCleanBuild}
 use Rattle.b2_runs.specs.Afterwards.{at_present}
 use Rattle.b2_runs.specs.LogCourses.{held_bytes}
-use Rattle.b2_runs.specs.UpdateAnswers.{UpdateAnswer, UpdateAnswer.all_went}
-use Rattle.b2_runs.specs.Sessions.{Moment, Happening, Happening.edit, Happening.update, Happening.stop, IsEdited, IsUpdate, IsSession}
-use Rattle.b2_runs.specs.SessionLaws.{TrueThroughEdit, TrueThroughStop, TrueThroughSession, UpdateLeavesClean, SessionEndsClean, NotedThroughReopen}
+use Rattle.b2_runs.specs.UpdateAnswers.{UpdateAnswer, UpdateAnswer.all_went, UpdateAnswer.host_fault}
+use Rattle.b2_runs.specs.Moments.{Moment, Shows}
+use Rattle.b2_runs.specs.Sessions.{Happening, Happening.edit, Happening.update, Happening.stop, IsEdited, IsTrueAt, IsUpdate, IsStop, IsSession}
+use Rattle.b2_runs.specs.SessionLaws.{TrueThroughEdit, TrueThroughStop, TrueThroughSession, UpdateLeavesClean, SessionEndsClean, NotedThroughReopen, UpdateCountsFault, StopCountsFault, UpdateLeavesNone, StopLeavesNone}
 use Rattle.b2_runs.proofs.LogFileLaws.{true_where_missing, true_where_still}
 use Rattle.b2_runs.proofs.SettledLaws.{log_in_roots}
 use Rattle.b2_runs.proofs.SoundLaws.{work_drifts}
@@ -28,20 +31,37 @@ use Rattle.b2_runs.proofs.StopLaws.{noted_through_ends}
 bytes_same : (now later : Folder) (path : List ℕ) → later path ≡ now path → bytes_at later path ≡ bytes_at now path
 bytes_same now later path e = ap (option_map (λ (file : File). file.bytes)) e
 
-pub true_through_edit : TrueThroughEdit
-true_through_edit m path bytes before after e t = go (bytes_eq path log_path) refl
+-- the log at a moment that shows these files is true, where it is true on them
+true_shown : (m : Making) (moment : Moment) (disk : Disk) → Shows moment disk → IsTrueAt m moment → IsTrueOn m disk
+true_shown m moment disk shows t = subst (λ o. IfSome o (IsTrueOn m)) shows t
+
+true_at : (m : Making) (moment : Moment) (disk : Disk) → Shows moment disk → IsTrueOn m disk → IsTrueAt m moment
+true_at m moment disk shows t = subst (λ o. IfSome o (IsTrueOn m)) (sym shows) t
+
+-- a moment shows one disk
+shown_is_one : (moment : Moment) (disk other : Disk) → Shows moment disk → Shows moment other → disk ≡ other
+shown_is_one moment disk other shows also = let e : Some disk ≡ Some other = sym shows ∙ also in cc
+
+-- an edit leaves the log of the one disk true on the other
+edit_keeps : (m : Making) (path : List ℕ) (bytes : Option (List ℕ)) (old new : Disk) → (path ≡ log_path → bytes ≡ None) → IsEdited old bytes (new.now path) → ((other : List ℕ) → other ≢ path → new.now other ≡ old.now other) → ((past : Past) → Contains old.past past → Contains new.past past)
+    → IsTrueOn m old → IsTrueOn m new
+edit_keeps m path bytes old new not_log edited others grows t = go (bytes_eq path log_path) refl
   where
-    gone : path ≡ log_path → (b : Option (List ℕ)) → b ≡ None → IsEdited before.disk b (after.disk.now path) → after.disk.now path ≡ None
+    gone : path ≡ log_path → (b : Option (List ℕ)) → b ≡ None → IsEdited old b (new.now path) → new.now path ≡ None
     gone same None none is = is
     gone same (Some x) none is = absurd (let f : Some x ≡ None = none in cc)
 
-    go : (b : Bool) → bytes_eq path log_path ≡ b → IsTrueOn m after.disk
+    go : (b : Bool) → bytes_eq path log_path ≡ b → IsTrueOn m new
     go true is =
         let same : path ≡ log_path = (bytes_eq-Decides path log_path).0 is in
-        let none : after.disk.now log_path ≡ None = subst (λ p. after.disk.now p ≡ None) same (gone same bytes (e.not_log same) e.edited) in
-        true_where_missing m after.disk (ap (option_map (λ (file : File). file.bytes)) none)
+        let none : new.now log_path ≡ None = subst (λ p. new.now p ≡ None) same (gone same bytes (not_log same) edited) in
+        true_where_missing m new (ap (option_map (λ (file : File). file.bytes)) none)
     go false is =
-        true_where_still m before.disk after.disk (bytes_same before.disk.now after.disk.now log_path (e.others log_path (λ same. let f : false ≡ true = sym is ∙ (bytes_eq-Decides path log_path).1 (sym same) in cc))) e.grows t
+        true_where_still m old new (bytes_same old.now new.now log_path (others log_path (λ same. let f : false ≡ true = sym is ∙ (bytes_eq-Decides path log_path).1 (sym same) in cc))) grows t
+
+pub true_through_edit : TrueThroughEdit
+true_through_edit m path bytes before after e t =
+    subst (IsTrueAt m) (sym e.same) (edit_keeps m path bytes e.old e.new e.not_log e.edited e.others e.grows (true_shown m before e.old e.shows t))
 
 -- children of steps of the plan do not write the log
 work_leaves_log : (steps : List Step) (roots : List (List ℕ)) (running : List Child) (before after : Disk) → Apart steps roots → ((child : Child) → Contains running child → (step : Step) × (step_at steps child.step ≡ Some step) × (child.outs ≡ step.outs)) → ChangesOnlyOutputs running before after
@@ -56,17 +76,23 @@ past_grows running before after worked old c = subst (λ past. Contains past old
 
 pub true_through_stop : TrueThroughStop
 true_through_stop u answer before after s t =
-    let between = s.between in
-    true_where_still (making u) between.disk after.disk (work_leaves_log u.build.steps u.build.roots between.family.running between.disk after.disk s.updated.apart s.updated.planned s.reopened.worked)
-    (past_grows between.family.running between.disk after.disk s.reopened.worked) (s.updated.stays_true t)
+    let running = s.between.host.children.running in
+    let now : Disk = s.reopened.old in
+    let true_now : IsTrueOn (making u) now =
+    subst (IsTrueOn (making u)) (shown_is_one s.between s.updated.new now s.updated.shows_then s.reopened.shows) (s.updated.stays_true (true_shown (making u) before s.updated.old s.updated.shows t)) in
+    subst (IsTrueAt (making u)) (sym s.reopened.same)
+    (true_where_still (making u) now s.reopened.new (work_leaves_log u.build.steps u.build.roots running now s.reopened.new s.updated.apart s.updated.planned s.reopened.worked) (past_grows running now s.reopened.new s.reopened.worked) true_now)
+
+true_through_update : (u : Update) (answer : UpdateAnswer) (before after : Moment) → IsUpdate u answer before after → IsTrueAt (making u) before → IsTrueAt (making u) after
+true_through_update u answer before after is t = true_at (making u) after is.new is.shows_then (is.stays_true (true_shown (making u) before is.old is.shows t))
 
 pub true_through_session : TrueThroughSession
-true_through_session m first last [] answers make (none, same) t = subst (λ (w : Moment). IsTrueOn m w.disk) (sym same) t
+true_through_session m first last [] answers make (none, same) t = subst (IsTrueAt m) (sym same) t
 true_through_session m first last (edit path bytes ∷ more) answers make (next, here, later, e, (none, is), rest) t = true_through_session m next last more later make rest (true_through_edit m path bytes first next is t)
-true_through_session m first last (update u ∷ more) answers (make, others) (next, here, later, e, (answer, one, is), rest) t =
-    true_through_session m next last more later others rest (subst (λ k. IsTrueOn k next.disk) make (is.stays_true (subst (λ k. IsTrueOn k first.disk) (sym make) t)))
+true_through_session m first last (update u ∷ more) answers (make, others) (next, here, later, e, (answer, one, is, idle), rest) t =
+    true_through_session m next last more later others rest (subst (λ k. IsTrueAt k next) make (true_through_update u answer first next is (subst (λ k. IsTrueAt k first) (sym make) t)))
 true_through_session m first last (stop u ∷ more) answers (make, others) (next, here, later, e, (answer, one, is), rest) t =
-    true_through_session m next last more later others rest (subst (λ k. IsTrueOn k next.disk) make (true_through_stop u answer first next is (subst (λ k. IsTrueOn k first.disk) (sym make) t)))
+    true_through_session m next last more later others rest (subst (λ k. IsTrueAt k next) make (true_through_stop u answer first next is (subst (λ k. IsTrueAt k first) (sym make) t)))
 
 -- ---- the clean build
 
@@ -80,9 +106,10 @@ clean_now b now same clean path c = elim (clean path c) [
 pub update_leaves_clean : UpdateLeavesClean
 update_leaves_clean u before after is =
     let (log, is_log, h) = is.has in
-    let b = (at_present u before.disk.now log).build in
-    clean_now b after.disk.now
-    (λ path outside. h.changed path (λ e. outside (subst (IsInRoots u.build.roots) (sym e) (log_in_roots u.build is.apart))) (λ i step started makes. outside (is.apart.under_root i step path makes))) h.told.2
+    let b = (at_present u is.old.now log).build in
+    subst (λ o. IfSome o (λ (disk : Disk). IsCleanBuild (record u.build { folder = disk.now }) disk.now)) (sym is.shows_then)
+    (clean_now b is.new.now
+    (λ path outside. h.changed path (λ e. outside (subst (IsInRoots u.build.roots) (sym e) (log_in_roots u.build is.apart))) (λ i step started makes. outside (is.apart.under_root i step path makes))) h.told.2)
 
 -- a list with a last element is not empty
 some_last : (zs : List UpdateAnswer) (z : UpdateAnswer) → [] ≡ zs ++ z ∷ [] → ⊥
@@ -99,7 +126,7 @@ last_same (z ∷ xs) (w ∷ ys) x y e = last_same xs ys x y (let f : z ∷ (xs +
 -- the last update of a session, and its answer
 session_last : (u : Update) (first last : Moment) (happenings : List Happening) (answers : List UpdateAnswer) → IsSession first (happenings ++ update u ∷ []) answers last
     → (before : Moment) × (more : List UpdateAnswer) × (answer : UpdateAnswer) × (answers ≡ more ++ answer ∷ []) × IsUpdate u answer before last
-session_last u first last [] answers (next, here, later, e, (answer, one, is), (none, same)) =
+session_last u first last [] answers (next, here, later, e, (answer, one, is, idle), (none, same)) =
     (first, [], answer, e ∙ (λ i. one i ++ none i), subst (IsUpdate u answer first) (sym same) is)
 session_last u first last (h ∷ more) answers (next, here, later, e, comes, rest) =
     let (before, others, answer, f, is) = session_last u next last more later rest in
@@ -113,9 +140,38 @@ session_ends_clean u first last happenings answers s =
 -- ---- stops
 
 pub noted_through_reopen : NotedThroughReopen
-noted_through_reopen u answer old before between after log apart h r is fits =
-    let still = work_leaves_log u.build.steps u.build.roots between.family.running between.disk after.disk apart (λ child c. let a = h.at_work.each child c in (a.fed.step, a.fed.at, a.outs ∙ a.fed.outs)) r.worked in
+noted_through_reopen u answer old before now between after log apart shows h r is fits =
+    let running = between.host.children.running in
+    let worked : ChangesOnlyOutputs running now r.new = subst (λ d. ChangesOnlyOutputs running d r.new) (sym (shown_is_one between now r.old shows r.shows)) r.worked in
+    let still = work_leaves_log u.build.steps u.build.roots running now r.new apart (λ child c. let a = h.at_work.each child c in (a.fed.step, a.fed.at, a.outs ∙ a.fed.outs)) worked in
     elim (h.noted log (subst (λ o. IsLogHeld o log) still is) (subst (λ (o : Option (List ℕ)). length (held_bytes o) ≤ log_limit) still fits)) [
       | inl none ↦ inl none
-      | inr (b, n) ↦ inr (b, noted_through_ends u h.events between.disk after.disk log b apart (work_drifts u h.events between.family.running between.disk after.disk h.at_work r.keeps r.worked) n)
+      | inr (b, n) ↦ inr (b, noted_through_ends u h.events now r.new log b apart (work_drifts u h.events running now r.new h.at_work r.keeps worked) n)
     ]
+
+-- the one update or stop of a session, with its answer
+only_update : (u : Update) (answer : UpdateAnswer) (first last : Moment) → IsSession first (update u ∷ []) (answer ∷ []) last → IsUpdate u answer first last × (last.host.children.running ≡ [])
+only_update u answer first last (next, here, later, e, (other, one, is, idle), (none, same)) =
+    let f : answer ∷ [] ≡ other ∷ [] = e ∙ (λ i. one i ++ none i) in
+    let g : answer ≡ other = cc in
+    (subst₂ (λ a w. IsUpdate u a first w) (sym g) (sym same) is, subst (λ (w : Moment). w.host.children.running ≡ []) (sym same) idle)
+
+only_stop : (u : Update) (answer : UpdateAnswer) (first last : Moment) → IsSession first (stop u ∷ []) (answer ∷ []) last → IsStop u answer first last
+only_stop u answer first last (next, here, later, e, (other, one, is), (none, same)) =
+    let f : answer ∷ [] ≡ other ∷ [] = e ∙ (λ i. one i ++ none i) in
+    let g : answer ≡ other = cc in
+    subst₂ (λ a w. IsStop u a first w) (sym g) (sym same) is
+
+pub update_counts_fault : UpdateCountsFault
+update_counts_fault u first last below s = (only_update u host_fault first last s).0.caused.0.more below
+
+pub stop_counts_fault : StopCountsFault
+stop_counts_fault u first last below s =
+    let is : IsStop u host_fault first last = only_stop u host_fault first last s in
+    subst (λ (w : Moment). first.host.faults < w.host.faults) (sym is.reopened.same) (is.updated.caused.0.more below)
+
+pub update_leaves_none : UpdateLeavesNone
+update_leaves_none u answer first last s = (only_update u answer first last s).1
+
+pub stop_leaves_none : StopLeavesNone
+stop_leaves_none u answer first last s = ap (λ (w : Moment). w.host.children.running) (only_stop u answer first last s).reopened.same

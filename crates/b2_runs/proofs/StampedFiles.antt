@@ -4,7 +4,8 @@ use Rattle.b2_host.specs.Disks.{File, Folder, Past, Stood, IsOneEach, bytes_at}
 use Rattle.b2_plan.specs.Closures.{Value, with_bytes}
 use Rattle.b2_runs.specs.Logs.{InputStood, NoCollision}
 use Rattle.b2_log.specs.Finding.{path_of}
-use Rattle.b2_runs.specs.Staleness.{stamp_at, AreStamped, AreDigested, path_in}
+use Rattle.b2_host.specs.FileCalls.{stamp_at}
+use Rattle.b2_runs.specs.Staleness.{AreStamped, AreDigested, path_in}
 use Rattle.b2_runs.specs.Soundness.{Holds}
 use Rattle.b2_runs.proofs.ElementLemmas.{Contains_here, Contains_there, Contains_cases, Contains_nil}
 

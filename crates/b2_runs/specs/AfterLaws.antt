@@ -45,7 +45,7 @@ abbrev pub ClosureByPresent : Type 0
 ClosureByPresent = (u : Update) (events : List ChildEvent) (disk : Disk) (step : Step) (members : List (List ℕ × Value)) → Apart u.build.steps u.build.roots → IsRunSoFar u events → IsSound u events disk
     → IsClose (record u.build { folder = disk.now }) (seen_settled u events disk.now) step members ↔ IsClose u.build (on_settled u events) step members
 
--- .. and what it is known to read is the same
+-- what a step is known to read is the same
 abbrev pub KnownByPresent : Type 0
 KnownByPresent = (u : Update) (events : List ChildEvent) (disk : Disk) (step : Step) (path : List ℕ) → Apart u.build.steps u.build.roots → IsRunSoFar u events → IsSound u events disk
     → Known (record u.build { folder = disk.now }) (seen_settled u events disk.now) step path ↔ Known u.build (on_settled u events) step path

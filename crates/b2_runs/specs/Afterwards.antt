@@ -49,7 +49,7 @@ pub record IsMigrated (u : Update) (events : List ChildEvent) (now : List ℕ �
 abbrev pub NoneDoneOlder : Update → List ChildEvent → Folder → Type 0
 NoneDoneOlder u events now = (i : ℕ) (step : Step) (members : List (List ℕ × Value)) → step_at u.build.steps i ≡ Some step → Contains events (Done i true) → step.notfile ≡ false → IsClose u.build (Clean u.build) step members → NoneOlder now step members
 
--- The log has the last word on each step, and the files stand so: of a step that was done well it has the record of the
+-- The log's last line on each step is the right one, and the files stand so: of a step that was done well it has the record of the
 -- step and of these files, and no output of it is older than a member; of a step that was not started it says what it
 -- said at entry, or the step has been given a record with digests.
 pub record IsNoted (u : Update) (events : List ChildEvent) (now : List ℕ → Option File) (log : List LogLine) : Type 0 where

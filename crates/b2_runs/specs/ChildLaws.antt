@@ -21,7 +21,7 @@ start_gives u events i can disk = given_at i can.step.text (paths_with_bytes can
 abbrev pub StartIsFed : Type 0
 StartIsFed = (u : Update) (events : List ChildEvent) (disk : Disk) (i : ℕ) (can : CanStart u events i) → Apart u.build.steps u.build.roots → IsSound u events disk → IsFed u i (start_gives u events i can disk)
 
--- .. and may start beside the children that are at work
+-- a step that can start may start while the others are at work
 abbrev pub StartMayBegin : Type 0
 StartMayBegin = (u : Update) (events : List ChildEvent) (running : List Child) (i : ℕ) (can : CanStart u events i) → Apart u.build.steps u.build.roots → IsRunSoFar u events → AreAtWork u events running → MayStart running (paths_with_bytes can.members) can.step.outs
 
@@ -46,7 +46,7 @@ EndIsOpen = (u : Update) (events : List ChildEvent) (old new : Family) (before a
 abbrev pub FedAfterStart : Type 0
 FedAfterStart = (u : Update) (events : List ChildEvent) (given : List Given) (i : ℕ) (new : Given) → AreFed u events given → IsFed u i new → AreFed u (events ++ Start i ∷ []) (given ++ new ∷ [])
 
--- .. and as one ends
+-- each start has its entry, as one ends
 abbrev pub FedAfterEnd : Type 0
 FedAfterEnd = (u : Update) (events : List ChildEvent) (given : List Given) (i : ℕ) (well : Bool) → AreFed u events given → AreFed u (events ++ Done i well ∷ []) given
 

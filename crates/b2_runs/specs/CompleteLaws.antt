@@ -19,7 +19,7 @@ pub record CleanIsDefined (u : Update) (events : List ChildEvent) : Type 0 where
 abbrev pub NothingIsLeft : Type 0
 NothingIsLeft = (u : Update) (events : List ChildEvent) → Apart u.build.steps u.build.roots → 1 ≤ u.jobs → IsRun u events → CleanIsDefined u events → ((i : ℕ) → ¬ IsFailed events i) → (i : ℕ) → ¬ IsLeft u events i
 
--- .. and no path is missing
+-- where the clean build is defined no path is missing
 abbrev pub NothingIsMissed : Type 0
 NothingIsMissed = (u : Update) (events : List ChildEvent) → Apart u.build.steps u.build.roots → CleanIsDefined u events → (path : List ℕ) → ¬ IsMissed u events path
 

@@ -3,6 +3,7 @@ use Rattle.std.specs.List.{Contains}
 use Rattle.b2_host.specs.declared.children.ChildEvent.{ChildEvent}
 use Rattle.b2_host.specs.declared.children.ChildEvent.TheVariants.{Start, Done}
 use Rattle.b2_host.specs.Disks.{File, Past, Stood, bytes_at}
+use Rattle.b2_host.specs.Outside.{Read}
 use Rattle.b2_plan.specs.declared.step.Step.{Step}
 use Rattle.b2_plan.specs.Plans.{log_path, step_at, Makes}
 use Rattle.b2_plan.specs.Closures.{Value, Known, IsClose}
@@ -54,12 +55,6 @@ pub data IsToDigest (u : Update) (events : List ChildEvent) (now : List ℕ → 
 pub data IsTooBig (u : Update) (events : List ChildEvent) (now : List ℕ → Option File) (path : List ℕ) (size : ℕ) : Type 0 where
   to_scan : (bytes : List ℕ) → IsToScan u events path bytes → size ≡ length bytes → scan_limit < size → IsTooBig u events now path size
   to_digest : (bytes : List ℕ) → IsToDigest u events now path bytes → size ≡ length bytes → digest_limit < size → IsTooBig u events now path size
-
--- A read of a file: its path, the stamp of the file there, and the stamp of the log's file, each where one stood.
-pub record Read : Type 0 where
-  pub path : List ℕ
-  pub stamp : Option ℕ
-  pub log : Option ℕ
 
 -- the lines of the log as it stood at a read, by the stamp that its file had: those that it was read as, and none where none
 -- stood

@@ -13,6 +13,7 @@ pub mod FileReads
 pub mod LogFiles
 pub mod LogCourses
 pub mod Reports
+pub mod Moments
 pub mod UpdateAnswers
 pub mod Sessions
 pub mod ClosureLaws

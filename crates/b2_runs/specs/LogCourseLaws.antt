@@ -25,25 +25,25 @@ use Rattle.b2_runs.specs.Outcomes.{IsFailed}
 use Rattle.b2_runs.specs.Soundness.{IsSound, Drifts}
 use Rattle.b2_runs.specs.FileReads.{IsToScan}
 use Rattle.b2_runs.specs.Afterwards.{next_update, Restless, NoneDoneOlder, IsNotedStep, IsNoted}
-use Rattle.b2_runs.specs.LogCourses.{IsLong, BeginsWith, HasDigestsAlready, IsLogAfter, held_bytes, log_file, IsLogWhole, IsLogCut}
+use Rattle.b2_runs.specs.LogCourses.{IsLong, FirstLines, HasDigestsAlready, IsLogAfter, held_bytes, log_file, IsLogWhole, IsLogCut}
 
 -- ---- what an update begins with
 
 -- an update begins with one list of lines
-abbrev pub BeginsWithOne : Type 0
-BeginsWithOne = (bytes : List ℕ) (first other : List LogLine) → BeginsWith bytes first → BeginsWith bytes other → first ≡ other
+abbrev pub FirstLinesAreOne : Type 0
+FirstLinesAreOne = (bytes : List ℕ) (first other : List LogLine) → FirstLines bytes first → FirstLines bytes other → first ≡ other
 
 -- the lines that an update begins with tell of each step what the file at entry told
 abbrev pub BeginTellsRecords : Type 0
-BeginTellsRecords = (bytes : List ℕ) (first log : List LogLine) (outs : List (List ℕ)) → BeginsWith bytes first → IsLogOf bytes log → find_record outs first ≡ find_record outs log
+BeginTellsRecords = (bytes : List ℕ) (first log : List LogLine) (outs : List (List ℕ)) → FirstLines bytes first → IsLogOf bytes log → find_record outs first ≡ find_record outs log
 
--- .. and of each file that was scanned
+-- the lines that an update begins with tell of each scanned file what the file of the log at entry told
 abbrev pub BeginTellsScans : Type 0
-BeginTellsScans = (bytes : List ℕ) (first log : List LogLine) (path : List ℕ) (stamp : ℕ) → BeginsWith bytes first → IsLogOf bytes log → find_scan path stamp first ≡ find_scan path stamp log
+BeginTellsScans = (bytes : List ℕ) (first log : List LogLine) (path : List ℕ) (stamp : ℕ) → FirstLines bytes first → IsLogOf bytes log → find_scan path stamp first ≡ find_scan path stamp log
 
 -- they are good, and within the limit: so the file that has them is read as these lines
 abbrev pub BeginIsRead : Type 0
-BeginIsRead = (bytes : List ℕ) (first : List LogLine) → BeginsWith bytes first → AllByRecursion IsGood first × (length (log_bytes first) ≤ log_limit)
+BeginIsRead = (bytes : List ℕ) (first : List LogLine) → FirstLines bytes first → AllByRecursion IsGood first × (length (log_bytes first) ≤ log_limit)
 
 -- a file of good lines within the limit counts as them
 abbrev pub LinesAreRead : Type 0
@@ -59,7 +59,7 @@ LogGrows = (u : Update) (now : Folder) (first log : List LogLine) (events : List
 abbrev pub LogTellsOthers : Type 0
 LogTellsOthers = (u : Update) (now : Folder) (first log : List LogLine) (events : List ChildEvent) (outs : List (List ℕ)) → IsLogAfter u now first events log → ((i : ℕ) (step : Step) → step_at u.build.steps i ≡ Some step → step.outs ≢ outs) → find_record outs log ≡ find_record outs first
 
--- .. and of a path that at no moment was to have a scan line
+-- they say nothing of a path that at no moment was to have a scan line
 abbrev pub LogTellsOtherScans : Type 0
 LogTellsOtherScans = (u : Update) (now : Folder) (first log : List LogLine) (events : List ChildEvent) (path : List ℕ) (stamp : ℕ) → IsLogAfter u now first events log
     → ((front rest : List ChildEvent) (bytes : List ℕ) → events ≡ front ++ rest → IsToScan u front path bytes → ⊥) → find_scan path stamp log ≡ find_scan path stamp first
@@ -89,7 +89,7 @@ LogMoves = (u : Update) (events : List ChildEvent) (before after : Disk) (first 
 abbrev pub LogStaysTrue : Type 0
 LogStaysTrue = (u : Update) (events : List ChildEvent) (disk : Disk) (first log : List LogLine) → Apart u.build.steps u.build.roots → IsRunSoFar u events → IsSound u events disk → LogTrue (making u) disk.past first → IsLogAfter u disk.now first events log → LogTrue (making u) disk.past log
 
--- and they have the last word on each step, where no output that was made is older than what it was made of
+-- their last lines are on what was done with each step, where no output that was made is older than what it was made of
 abbrev pub LogIsNoted : Type 0
 LogIsNoted = (u : Update) (now : Folder) (first log : List LogLine) (events : List ChildEvent) → Apart u.build.steps u.build.roots → IsRunSoFar u events → ((outs : List (List ℕ)) → find_record outs first ≡ find_record outs u.log) → NoneDoneOlder u events now
     → IsLogAfter u now first events log → IsNoted u events now log
@@ -129,7 +129,7 @@ abbrev pub CutLogIsTrue : Type 0
 CutLogIsTrue = (u : Update) (events : List ChildEvent) (disk : Disk) → Apart u.build.steps u.build.roots → IsSound u events disk → AppendsGood u disk.now → IsTrueFile (making u) disk.past (held_bytes (log_file u.build.folder)) → IsLogCut u events disk.now
     → IsTrueFile (making u) disk.past (held_bytes (log_file disk.now))
 
--- Wherever an update was cut off, its log has the last word on what was done in a run so far that holds each of its starts; but
+-- Wherever an update was cut off, its log's last lines are on what was done in a run so far that holds each of its starts; but
 -- before any event it may have lost records of earlier updates, where it was being replaced.
 abbrev pub CutLogIsNoted : Type 0
 CutLogIsNoted = (u : Update) (events : List ChildEvent) (now : Folder) (log : List LogLine) → Apart u.build.steps u.build.roots → AppendsGood u now → ((front rest : List ChildEvent) → events ≡ front ++ rest → IsRunSoFar u front → NoneDoneOlder u front now) → IsLogIn u.build.folder u.log → IsLogCut u events now → length (held_bytes (log_file now)) ≤ log_limit → IsLogIn now log

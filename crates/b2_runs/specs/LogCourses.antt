@@ -30,11 +30,11 @@ IsLong log = 2 * length (kept log) + 100 < length log
 
 -- The lines that an update begins with, by the bytes of the log's file at entry: the kept ones where the file has a torn tail
 -- or is long, none where it is above the limit, and else all of them.
-pub data BeginsWith (bytes : List ℕ) : List LogLine → Type 0 where
-  as_it_is : (log : List LogLine) → length bytes ≤ log_limit → IsReading bytes log (length bytes) → (IsLong log → ⊥) → BeginsWith bytes log
-  torn : (log : List LogLine) (good : ℕ) → length bytes ≤ log_limit → IsReading bytes log good → good < length bytes → BeginsWith bytes (kept log)
-  long : (log : List LogLine) (good : ℕ) → length bytes ≤ log_limit → IsReading bytes log good → IsLong log → BeginsWith bytes (kept log)
-  large : log_limit < length bytes → BeginsWith bytes []
+pub data FirstLines (bytes : List ℕ) : List LogLine → Type 0 where
+  as_it_is : (log : List LogLine) → length bytes ≤ log_limit → IsReading bytes log (length bytes) → (IsLong log → ⊥) → FirstLines bytes log
+  torn : (log : List LogLine) (good : ℕ) → length bytes ≤ log_limit → IsReading bytes log good → good < length bytes → FirstLines bytes (kept log)
+  long : (log : List LogLine) (good : ℕ) → length bytes ≤ log_limit → IsReading bytes log good → IsLong log → FirstLines bytes (kept log)
+  large : log_limit < length bytes → FirstLines bytes []
 
 -- The log's last line for these outputs is a record with digests and with the stamps of this record.
 pub record HasDigestsAlready (outs : List (List ℕ)) (log : List LogLine) (r : Record) : Type 0 where
@@ -108,21 +108,21 @@ left_file None (byte ∷ more) = Some (byte ∷ more)
 -- with no scan line and no record with digests left out.
 pub record IsLogWhole (u : Update) (events : List ChildEvent) (now : List ℕ → Option File) : Type 0 where
   pub first : List LogLine
-  pub begins : BeginsWith (held_bytes (log_file u.build.folder)) first
+  pub begins : FirstLines (held_bytes (log_file u.build.folder)) first
   pub log : List LogLine
   pub course : IsLogAfter u now first events log
   pub migrated : AllMigrated u events now log
   pub scanned : AllScanned u events now log
   pub file : log_file now ≡ left_file (log_file u.build.folder) (log_bytes log)
 
--- .. and after one that was cut off: it was not touched; or it was being replaced by other bytes; or it has the lines that the
--- events of a run so far call for, up to where no step starts any more, and perhaps a part of one line more.
+-- The log's file after an update that was cut off: it was not touched; or it was being replaced by other bytes; or it has the
+-- lines that the events of a run so far call for, up to where no step starts any more, and perhaps a part of one line more.
 pub data IsLogCut (u : Update) (events : List ChildEvent) (now : Folder) : Type 0 where
   untouched : events ≡ [] → log_file now ≡ log_file u.build.folder → IsLogCut u events now
-  replacing : (first : List LogLine) (part missing : List ℕ) → events ≡ [] → BeginsWith (held_bytes (log_file u.build.folder)) first → log_bytes first ≢ held_bytes (log_file u.build.folder)
+  replacing : (first : List LogLine) (part missing : List ℕ) → events ≡ [] → FirstLines (held_bytes (log_file u.build.folder)) first → log_bytes first ≢ held_bytes (log_file u.build.folder)
       → log_bytes first ≡ part ++ missing → log_file now ≡ Some part → IsLogCut u events now
-  between : (first log : List LogLine) (front rest : List ChildEvent) → events ≡ front ++ rest → IsRunSoFar u front → OpenEnds front rest → BeginsWith (held_bytes (log_file u.build.folder)) first → IsLogAfter u now first front log
+  between : (first log : List LogLine) (front rest : List ChildEvent) → events ≡ front ++ rest → IsRunSoFar u front → OpenEnds front rest → FirstLines (held_bytes (log_file u.build.folder)) first → IsLogAfter u now first front log
       → log_file now ≡ left_file (log_file u.build.folder) (log_bytes log) → IsLogCut u events now
   within : (first log : List LogLine) (line : LogLine) (front more rest : List ChildEvent) (part missing : List ℕ) → events ≡ front ++ more ++ rest → IsRunSoFar u (front ++ more) → OpenEnds front (more ++ rest)
-      → BeginsWith (held_bytes (log_file u.build.folder)) first → IsLogAfter u now first front log → IsLogAfter u now first (front ++ more) (log ++ line ∷ []) → spelling line ≡ part ++ missing
+      → FirstLines (held_bytes (log_file u.build.folder)) first → IsLogAfter u now first front log → IsLogAfter u now first (front ++ more) (log ++ line ∷ []) → spelling line ≡ part ++ missing
       → log_file now ≡ Some (log_bytes log ++ part) → IsLogCut u events now

@@ -27,7 +27,7 @@ use Rattle.b2_runs.specs.Soundness.{AreAtWork}
 abbrev pub FileIsOneLog : Type 0
 FileIsOneLog = (bytes : List ℕ) (log other : List LogLine) → IsLogOf bytes log → IsLogOf bytes other → log ≡ other
 
--- .. and there is no file that counts as none
+-- there is no file that counts as no list of lines
 abbrev pub FileIsSomeLog : Type 0
 FileIsSomeLog = (bytes : List ℕ) → ¬ ((log : List LogLine) → ¬ IsLogOf bytes log)
 
@@ -55,7 +55,7 @@ TrueFront = (m : Making) (past : List Past) (front rest : List ℕ) (log : List 
 abbrev pub TrueWithSpelling : Type 0
 TrueWithSpelling = (m : Making) (past : List Past) (bytes : List ℕ) (log : List LogLine) (line : LogLine) → IsReading bytes log (length bytes) → IsTrueFile m past bytes → IsGood line → IsTrueLine m past line → IsTrueFile m past (bytes ++ spelling line)
 
--- .. and where only the first part of the spelling is
+-- it stays true where only the first part of the spelling is appended
 abbrev pub TrueWithTornSpelling : Type 0
 TrueWithTornSpelling = (m : Making) (past : List Past) (bytes : List ℕ) (log : List LogLine) (line : LogLine) (part missing : List ℕ) → IsReading bytes log (length bytes) → IsTrueFile m past bytes → IsGood line → IsTrueLine m past line
     → spelling line ≡ part ++ missing → IsTrueFile m past (bytes ++ part)
@@ -100,7 +100,7 @@ ReadTellsLog = (folder : Folder) (answer : ReadAnswer) (log : List LogLine) → 
 abbrev pub TrueByFile : Type 0
 TrueByFile = (m : Making) (disk : Disk) (bytes : List ℕ) → bytes_at disk.now log_path ≡ Some bytes → IsTrueOn m disk ↔ IsTrueFile m disk.past bytes
 
--- .. and where none stands
+-- the log on a disk is true where no file of it stands
 abbrev pub TrueWhereMissing : Type 0
 TrueWhereMissing = (m : Making) (disk : Disk) → bytes_at disk.now log_path ≡ None → IsTrueOn m disk
 
@@ -112,6 +112,6 @@ TrueWhereStill = (m : Making) (before after : Disk) → bytes_at after.now log_p
 abbrev pub TrueThroughWork : Type 0
 TrueThroughWork = (u : Update) (events : List ChildEvent) (running : List Child) (before after : Disk) → Apart u.build.steps u.build.roots → AreAtWork u events running → ChangesOnlyOutputs running before after → IsTrueOn (making u) before → IsTrueOn (making u) after
 
--- .. and where an output is removed
+-- the log on a disk stays true where an output is removed
 abbrev pub TrueThroughRemoval : Type 0
 TrueThroughRemoval = (b : Build) (m : Making) (disk : Disk) (i : ℕ) (step : Step) (path : List ℕ) → Apart b.steps b.roots → Makes b.steps i step path → IsTrueOn m disk → IsTrueOn m (without path disk)

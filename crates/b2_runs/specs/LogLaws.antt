@@ -19,7 +19,7 @@ FoundIsThere = (outs : List (List ℕ)) (log : List LogLine) (r : Record) → fi
 abbrev pub ScanIsThere : Type 0
 ScanIsThere = (path : List ℕ) (stamp : ℕ) (log : List LogLine) (s : ScanLine) → find_scan path stamp log ≡ Some s → Contains log (lines.Scan s) × (s.path ≡ path) × (s.stamp ≡ stamp)
 
--- a record at the end has the last word on its outputs
+-- a record at the end is the last line on its outputs
 abbrev pub LastRecord : Type 0
 LastRecord = (log : List LogLine) (r : Record) → find_record (map path_of r.outs) (log ++ lines.Record r ∷ []) ≡ Some r
 
@@ -73,10 +73,10 @@ TrueWithFewer = (m : Making) (past : List Past) (log kept : List LogLine) → ((
 abbrev pub ScansTrueWithLine : Type 0
 ScansTrueWithLine = (m : Making) (past : List Past) (log : List LogLine) (line : LogLine) → ScansTrue m past log → IsTrueLine m past line → ScansTrue m past (log ++ line ∷ [])
 
--- .. where more has stood
+-- true scan lines stay true where more has stood
 abbrev pub ScansTrueAsPastGrows : Type 0
 ScansTrueAsPastGrows = (m : Making) (past more : List Past) (log : List LogLine) → ((old : Past) → Contains past old → Contains more old) → ScansTrue m past log → ScansTrue m more log
 
--- .. and where lines are left out
+-- true scan lines stay true where lines are left out
 abbrev pub ScansTrueWithFewer : Type 0
 ScansTrueWithFewer = (m : Making) (past : List Past) (log kept : List LogLine) → ((line : LogLine) → Contains kept line → Contains log line) → ScansTrue m past log → ScansTrue m past kept

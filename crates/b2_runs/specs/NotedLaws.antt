@@ -22,37 +22,37 @@ use Rattle.b2_runs.specs.Outcomes.{IsFailed, LeavesNothing}
 use Rattle.b2_runs.specs.Soundness.{IsLoose, Drifts, AreAtWork}
 use Rattle.b2_runs.specs.Afterwards.{next_update, NoneDoneOlder, IsNoted}
 
--- before any event a log that says what the one at entry said has the last word
+-- before any event a log is right that says what the one at entry said
 abbrev pub NotedAtEntry : Type 0
 NotedAtEntry = (u : Update) (now : Folder) (log : List LogLine) → ((outs : List (List ℕ)) → find_record outs log ≡ find_record outs u.log) → IsNoted u [] now log
 
--- .. and as a step starts
+-- it stays right as a step starts
 abbrev pub NotedAfterStart : Type 0
 NotedAfterStart = (u : Update) (events : List ChildEvent) (now : Folder) (log : List LogLine) (i : ℕ) → Apart u.build.steps u.build.roots → CanStart u events i → IsNoted u events now log → IsNoted u (events ++ Start i ∷ []) now log
 
--- .. as steps that run or failed change their outputs
+-- it stays right as steps that run or failed change their outputs
 abbrev pub NotedAfterDrift : Type 0
 NotedAfterDrift = (u : Update) (events : List ChildEvent) (before after : Disk) (log : List LogLine) → Apart u.build.steps u.build.roots → IsRunSoFar u events → Drifts u events before after → IsNoted u events before.now log → IsNoted u events after.now log
 
--- .. as a step is done badly, or as one is done that has no record
+-- it stays right as a step is done badly, or as one is done that has no record
 abbrev pub NotedAfterOtherEnd : Type 0
 NotedAfterOtherEnd = (u : Update) (events : List ChildEvent) (now : Folder) (log : List LogLine) (i : ℕ) (step : Step) (well : Bool) → Apart u.build.steps u.build.roots → IsOpen events i → step_at u.build.steps i ≡ Some step → (well ≡ true → step.notfile ≡ true) → IsNoted u events now log → IsNoted u (events ++ Done i well ∷ []) now log
 
--- .. as a line is appended for the outputs of a step that runs or failed, as one that drops its record
+-- it stays right as a line is appended for the outputs of a step that runs or failed, as one that drops its record
 abbrev pub NotedAfterLine : Type 0
 NotedAfterLine = (u : Update) (events : List ChildEvent) (now : Folder) (log : List LogLine) (i : ℕ) (step : Step) (line : LogLine) → Apart u.build.steps u.build.roots → step_at u.build.steps i ≡ Some step → IsLoose events i → subject_of line ≡ subjects.Outputs step.outs → IsNoted u events now log → IsNoted u events now (log ++ line ∷ [])
 
--- .. and as a step is done well and its record is appended
+-- it stays right as a step is done well and its record is appended
 abbrev pub NotedAfterRecord : Type 0
 NotedAfterRecord = (u : Update) (events : List ChildEvent) (now : Folder) (log : List LogLine) (i : ℕ) (step : Step) (members : List (List ℕ × Value)) (r : Record) → Apart u.build.steps u.build.roots → IsNoted u events now log → IsOpen events i
     → step_at u.build.steps i ≡ Some step → IsClose u.build (Clean u.build) step members → IsRecordOf u now step members r → NoneOlder now step members
     → IsNoted u (events ++ Done i true ∷ []) now (log ++ lines.Record r ∷ [])
 
--- .. as a scan line is appended
+-- it stays right as a scan line is appended
 abbrev pub NotedAfterScan : Type 0
 NotedAfterScan = (u : Update) (events : List ChildEvent) (now : Folder) (log : List LogLine) (s : ScanLine) → IsNoted u events now log → IsNoted u events now (log ++ lines.Scan s ∷ [])
 
--- .. and as a record with digests is appended of a step that was not started, all of whose closure is settled
+-- it stays right as a record with digests is appended of a step that was not started, all of whose closure is settled
 abbrev pub NotedAfterMigration : Type 0
 NotedAfterMigration = (u : Update) (events : List ChildEvent) (now : Folder) (log : List LogLine) (i : ℕ) (step : Step) (members : List (List ℕ × Value)) (r : Record) → Apart u.build.steps u.build.roots → IsNoted u events now log → u.by_digest ≡ true
     → step_at u.build.steps i ≡ Some step → (Contains events (Start i) → ⊥) → (Contains events (Done i true) → ⊥) → IsClose u.build (Clean u.build) step members → ((member : List ℕ) (value : Value) → Contains members (member, value) → Settled u events member) → IsRecordOf u now step members r
@@ -74,16 +74,16 @@ FailedIsStale = (u : Update) (events : List ChildEvent) (now : Folder) (log : Li
 abbrev pub NoneOlderAtEntry : Type 0
 NoneOlderAtEntry = (u : Update) (now : Folder) → NoneDoneOlder u [] now
 
--- .. as a step starts
+-- it stays so as a step starts
 abbrev pub NoneOlderAfterStart : Type 0
 NoneOlderAfterStart = (u : Update) (events : List ChildEvent) (now : Folder) (i : ℕ) → NoneDoneOlder u events now → NoneDoneOlder u (events ++ Start i ∷ []) now
 
--- .. as a step ends, where its own outputs are not, if it ended well and owes files
+-- it stays so as a step ends, where its own outputs are not older, if it ended well and owes files
 abbrev pub NoneOlderAfterEnd : Type 0
 NoneOlderAfterEnd = (u : Update) (events : List ChildEvent) (now : Folder) (i : ℕ) (well : Bool) → NoneDoneOlder u events now
     → (well ≡ true → (step : Step) (members : List (List ℕ × Value)) → step_at u.build.steps i ≡ Some step → step.notfile ≡ false → IsClose u.build (Clean u.build) step members → NoneOlder now step members)
     → NoneDoneOlder u (events ++ Done i well ∷ []) now
 
--- .. and as steps that run or failed change their outputs
+-- it stays so as steps that run or failed change their outputs
 abbrev pub NoneOlderAfterDrift : Type 0
 NoneOlderAfterDrift = (u : Update) (events : List ChildEvent) (before after : Disk) → Apart u.build.steps u.build.roots → IsRunSoFar u events → Drifts u events before after → NoneDoneOlder u events before.now → NoneDoneOlder u events after.now

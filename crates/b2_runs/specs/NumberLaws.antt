@@ -55,7 +55,7 @@ ClosedBySettled = (u : Update) (events : List ChildEvent) (step : Step) (names :
 abbrev pub NeedsGrow : Type 0
 NeedsGrow = (u : Update) (events : List ChildEvent) (event : ChildEvent) (i k : ℕ) → Apart u.build.steps u.build.roots → MayCome u events event → NeedsStep u events i k → NeedsStep u (events ++ event ∷ []) i k
 
--- .. and what it lacks it lacks
+-- a source that a step lacks it lacks as a run goes on
 abbrev pub LacksGrow : Type 0
 LacksGrow = (u : Update) (events : List ChildEvent) (event : ChildEvent) (i : ℕ) → Apart u.build.steps u.build.roots → MayCome u events event → LacksSource u events i → LacksSource u (events ++ event ∷ []) i
 

@@ -47,7 +47,7 @@ AllWentBySettled = (u : Update) (events : List ChildEvent) → ((path : List ℕ
 abbrev pub AllWentSettles : Type 0
 AllWentSettles = (u : Update) (events : List ChildEvent) (i : ℕ) → AllWent u events → Needed u events i → IsSettledStep u events i
 
--- .. and no path is missing
+-- where all went well no path is missing
 abbrev pub AllWentMissesNothing : Type 0
 AllWentMissesNothing = (u : Update) (events : List ChildEvent) (path : List ℕ) → Apart u.build.steps u.build.roots → IsRunSoFar u events → AllWent u events → IsMissed u events path → ⊥
 

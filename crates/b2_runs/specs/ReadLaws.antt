@@ -3,6 +3,7 @@ use Rattle.std.specs.List.{Contains}
 use Rattle.b2_host.specs.declared.children.ChildEvent.{ChildEvent}
 use Rattle.b2_host.specs.declared.children.ChildEvent.TheVariants.{Done}
 use Rattle.b2_host.specs.Disks.{Folder, Disk, Past, IsOneEach, bytes_at}
+use Rattle.b2_host.specs.Outside.{Read}
 use Rattle.b2_plan.specs.Plans.{log_path, Apart}
 use Rattle.b2_plan.specs.Cleans.{Clean}
 use Rattle.b2_log.specs.declared.line.ScanLine.{ScanLine}
@@ -12,7 +13,7 @@ use Rattle.b2_runs.specs.Staleness.{Update}
 use Rattle.b2_runs.specs.Events.{IsOpen}
 use Rattle.b2_runs.specs.Runs.{on_settled, MayCome}
 use Rattle.b2_runs.specs.Soundness.{IsSound, Drifts}
-use Rattle.b2_runs.specs.FileReads.{scan_limit, digest_limit, IsInput, IsNeededOut, IsToScan, IsTooBig, Read, IsLogThen, IsCalledFor, ReadsOnce}
+use Rattle.b2_runs.specs.FileReads.{scan_limit, digest_limit, IsInput, IsNeededOut, IsToScan, IsTooBig, IsLogThen, IsCalledFor, ReadsOnce}
 
 -- ---- files that are too big
 
@@ -40,7 +41,7 @@ NothingTooBig = (u : Update) (events : List ChildEvent) (disk : Disk) (path : Li
 abbrev pub TooBigThroughEnd : Type 0
 TooBigThroughEnd = (u : Update) (events : List ChildEvent) (now : Folder) (path : List ℕ) (size i : ℕ) (well : Bool) → Apart u.build.steps u.build.roots → IsOpen events i → IsTooBig u events now path size → IsTooBig u (events ++ Done i well ∷ []) now path size
 
--- .. and as steps that run or failed change their outputs: so it is what was told, wherever the update ends
+-- a file that is too big stays so as steps that run or failed change their outputs: so it is what was told, wherever the update ends
 abbrev pub TooBigThroughDrift : Type 0
 TooBigThroughDrift = (u : Update) (events : List ChildEvent) (before after : Disk) (path : List ℕ) (size : ℕ) → Apart u.build.steps u.build.roots → Drifts u events before after → IsTooBig u events before.now path size → IsTooBig u events after.now path size
 
@@ -50,7 +51,7 @@ TooBigThroughDrift = (u : Update) (events : List ChildEvent) (before after : Dis
 abbrev pub ReadsNone : Type 0
 ReadsNone = (u : Update) (events : List ChildEvent) (past : List Past) → ReadsOnce u events past []
 
--- .. and so does one that then reads the log, or what is called for
+-- an update that reads once still does when it then reads the log, or what is called for
 abbrev pub ReadsMore : Type 0
 ReadsMore = (u : Update) (events : List ChildEvent) (past : List Past) (reads : List Read) (read : Read) → ReadsOnce u events past reads → (read.path ≡ log_path) ⊎ IsCalledFor u events past read → ReadsOnce u events past (reads ++ read ∷ [])
 
@@ -58,7 +59,7 @@ ReadsMore = (u : Update) (events : List ChildEvent) (past : List Past) (reads : 
 abbrev pub ReadsAlong : Type 0
 ReadsAlong = (u : Update) (events : List ChildEvent) (event : ChildEvent) (past : List Past) (reads : List Read) → Apart u.build.steps u.build.roots → MayCome u events event → ReadsOnce u events past reads → ReadsOnce u (events ++ event ∷ []) past reads
 
--- .. and where more has stood
+-- it reads once where more has stood
 abbrev pub ReadsAsPastGrows : Type 0
 ReadsAsPastGrows = (u : Update) (events : List ChildEvent) (past more : List Past) (reads : List Read) → ((old : Past) → Contains past old → Contains more old) → ReadsOnce u events past reads → ReadsOnce u events more reads
 
@@ -67,6 +68,6 @@ abbrev pub ScannedIsNotRead : Type 0
 ScannedIsNotRead = (u : Update) (events : List ChildEvent) (past : List Past) (reads : List Read) (read : Read) (stamp : ℕ) (log : List LogLine) (s : ScanLine) → u.by_digest ≡ false → IsOneEach past → ReadsOnce u events past reads → Contains reads read → read.path ≢ log_path
     → read.stamp ≡ Some stamp → IsLogThen past read.log log → find_scan read.path stamp log ≡ Some s → ⊥
 
--- .. and none that is not scanned
+-- judged by stamps, no file is read that is not scanned
 abbrev pub UnscannedIsNotRead : Type 0
 UnscannedIsNotRead = (u : Update) (events : List ChildEvent) (past : List Past) (reads : List Read) (read : Read) → u.by_digest ≡ false → ReadsOnce u events past reads → Contains reads read → read.path ≢ log_path → u.scanned read.path ≡ false → ⊥

@@ -5,7 +5,8 @@ use Rattle.b2_plan.specs.Closures.{Value}
 use Rattle.b2_log.specs.declared.line.Record.{Record}
 use Rattle.b2_log.specs.declared.line.Digests.{Digests}
 use Rattle.b2_log.specs.declared.line.ScanLine.{ScanLine}
-use Rattle.b2_runs.specs.Staleness.{Update, AreStamped, AreDigested, stamp_at, paths_with_bytes}
+use Rattle.b2_host.specs.FileCalls.{stamp_at}
+use Rattle.b2_runs.specs.Staleness.{Update, AreStamped, AreDigested, paths_with_bytes}
 
 -- where judging is by digests a record has them: those of the step's outputs and of its members that have bytes
 abbrev pub HasDigestsOf : Update → Folder → Step → List (List ℕ × Value) → Option Digests → Type 0

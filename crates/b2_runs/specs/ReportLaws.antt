@@ -16,7 +16,7 @@ LinesFollow = (steps : List Step) (front rest : List ChildEvent) → event_lines
 abbrev pub AllIsTold : Type 0
 AllIsTold = (steps : List Step) (events : List ChildEvent) → TellsStarts steps events (event_lines steps events)
 
--- .. and it stays told as a step ends
+-- each start stays told as a step ends
 abbrev pub ToldThroughEnds : Type 0
 ToldThroughEnds = (steps : List Step) (events : List ChildEvent) (written : List ℕ) (i : ℕ) (well : Bool) → TellsStarts steps events written → TellsStarts steps (events ++ Done i well ∷ []) written
 
@@ -24,6 +24,6 @@ ToldThroughEnds = (steps : List Step) (events : List ChildEvent) (written : List
 abbrev pub StoppedAtLine : Type 0
 StoppedAtLine = (steps : List Step) (events : List ChildEvent) (event : ChildEvent) (part : List ℕ) → event_line steps event ≢ [] → IsFrontOf part (event_line steps event) → StopsAtEvent steps (events ++ event ∷ []) (event_lines steps events ++ part)
 
--- .. and there it stopped, as steps end
+-- where the writing stopped at an event, there it stopped as steps end
 abbrev pub StoppedThroughEnds : Type 0
 StoppedThroughEnds = (steps : List Step) (events : List ChildEvent) (written : List ℕ) (i : ℕ) (well : Bool) → StopsAtEvent steps events written → StopsAtEvent steps (events ++ Done i well ∷ []) written

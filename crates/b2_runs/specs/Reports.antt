@@ -8,7 +8,7 @@ use Rattle.b2_plan.specs.Plans.{step_at}
 use Rattle.b2_runs.specs.Staleness.{Update}
 use Rattle.b2_runs.specs.Events.{is_done}
 use Rattle.b2_runs.specs.Runs.{IsRun}
-use Rattle.b2_runs.specs.Outcomes.{IsListOf, ArePathsOf, IsFailed, Skipped, IsMissed}
+use Rattle.b2_runs.specs.Outcomes.{NoneStuck, IsListOf, ArePathsOf, IsFailed, Skipped, IsMissed}
 
 -- What an update prints. Events are taken as they count.
 
@@ -143,9 +143,10 @@ pub record StopsAtEvent (steps : List Step) (events : List ChildEvent) (written 
   pub begins : IsFrontOf part (event_line steps event)
   pub lines : written ≡ event_lines steps front ++ part
 
--- The writing stopped after the events of a whole run, in the end of its report.
+-- The writing stopped after the events of a whole run that left no step stuck, in the end of its report.
 pub record StopsAtEnd (u : Update) (events : List ChildEvent) (written : List ℕ) : Type 0 where
   pub run : IsRun u events
+  pub none_stuck : NoneStuck u events
   pub lists : Lists
   pub are : AreLists u events lists
   pub part : List ℕ

@@ -22,7 +22,7 @@ RunHasBegun = (u : Update) (front rest : List ChildEvent) → IsRunSoFar u (fron
 abbrev pub SettledAfterStart : Type 0
 SettledAfterStart = (u : Update) (events : List ChildEvent) (i : ℕ) (path : List ℕ) → Apart u.build.steps u.build.roots → CanStart u events i → Settled u events path → Settled u (events ++ Start i ∷ []) path
 
--- .. and as a step ends
+-- what is settled stays settled as a step ends
 abbrev pub SettledAfterEnd : Type 0
 SettledAfterEnd = (u : Update) (events : List ChildEvent) (i : ℕ) (well : Bool) (path : List ℕ) → Apart u.build.steps u.build.roots → IsOpen events i → Settled u events path → Settled u (events ++ Done i well ∷ []) path
 
@@ -62,7 +62,7 @@ abbrev pub VerdictStays : Type 0
 VerdictStays = (u : Update) (events : List ChildEvent) (event : ChildEvent) (step : Step) (members : List (List ℕ × Value)) → Apart u.build.steps u.build.roots → MayCome u events event → ((member : List ℕ) (value : Value) → Contains members (member, value) → Settled u events member)
     → IsFresh u events step members ↔ IsFresh u (events ++ event ∷ []) step members
 
--- .. and its closure stays as it is
+-- the closure of a step on what is settled stays as it is
 abbrev pub CloseOnSettledStays : Type 0
 CloseOnSettledStays = (u : Update) (events : List ChildEvent) (event : ChildEvent) (step : Step) (members : List (List ℕ × Value)) → Apart u.build.steps u.build.roots → MayCome u events event → IsClose u.build (on_settled u events) step members → IsClose u.build (on_settled u (events ++ event ∷ [])) step members
 

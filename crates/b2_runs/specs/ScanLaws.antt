@@ -4,7 +4,7 @@ use Rattle.b2_log.specs.declared.line.ScanLine.{ScanLine}
 use Rattle.b2_log.specs.declared.line.LogLine.{LogLine}
 use Rattle.b2_log.specs.Finding.{find_scan}
 use Rattle.b2_runs.specs.Logs.{Making, IsTrueScan, ScansTrue}
-use Rattle.b2_runs.specs.Staleness.{stamp_at}
+use Rattle.b2_host.specs.FileCalls.{stamp_at}
 
 -- the scan line of a file that was read is true
 abbrev pub ScanIsTrue : Type 0

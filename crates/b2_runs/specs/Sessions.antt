@@ -1,8 +1,8 @@
-use Rattle.std.specs.Prelude.{◌≡◌, ◌≢◌, ℕ, ◌<◌, List, [], ◌∷◌, ◌++◌, Option, Some, None, ⊤}
+use Rattle.std.specs.Prelude.{◌≡◌, ◌≢◌, ℕ, ◌<◌, ◌≤◌, List, [], ◌∷◌, ◌++◌, Option, Some, None, ⊤, IfSome}
 use Rattle.std.specs.List.{Contains}
 use Rattle.b2_host.specs.declared.children.ChildEvent.{ChildEvent}
 use Rattle.b2_host.specs.Disks.{File, Disk, Past, IsConsistent}
-use Rattle.b2_host.specs.ChildProcesses.{Child, Family, ChangesOnlyOutputs}
+use Rattle.b2_host.specs.ChildProcesses.{Child, ChangesOnlyOutputs}
 use Rattle.b2_plan.specs.declared.step.Step.{Step}
 use Rattle.b2_plan.specs.Plans.{log_path, Apart, step_at}
 use Rattle.b2_runs.specs.Logs.{Making}
@@ -11,17 +11,14 @@ use Rattle.b2_runs.specs.Staleness.{Update, making}
 use Rattle.b2_runs.specs.Events.{IsOpen}
 use Rattle.b2_runs.specs.Runs.{OpenEnds}
 use Rattle.b2_runs.specs.Afterwards.{at_present}
-use Rattle.b2_runs.specs.UpdateAnswers.{UpdateAnswer, HasUpdated, WithLog}
+use Rattle.b2_runs.specs.Moments.{Moment, Shows, with_disk}
+use Rattle.b2_runs.specs.UpdateAnswers.{UpdateAnswer, CausedBy, LeavesNone, WithLog, HasUpdated}
 
 -- Sessions: edits, updates, and updates that are stopped.
 
--- what a host tells at a moment
-pub record Moment : Type 0 where
-  pub disk : Disk
-  pub family : Family
-
--- What happens in a session: a file is written or deleted; an update of some plan, whose own files and log do not matter here;
--- and such an update that is stopped somewhere, after which the host is opened again.
+-- What happens in a session: a file is written or deleted; an update, whose own files and log do not matter here, for these are
+-- the present ones; and such an update after which the host is opened again, wherever it stopped. Who says that something is a
+-- session says which updates these are: nothing here says that they are of a plan that somebody asked for.
 pub data Happening : Type 0 where
   edit : List ℕ → Option (List ℕ) → Happening
   update : Update → Happening
@@ -32,47 +29,65 @@ abbrev pub IsEdited : Disk → Option (List ℕ) → Option File → Type 0
 IsEdited before None now = now ≡ None
 IsEdited before (Some bytes) now = (file : File) × (now ≡ Some file) × (file.bytes ≡ bytes) × ((old : Past) → Contains before.past old → old.file.stamp < file.stamp)
 
--- An edit changes nothing else, and does not write the log, though it may delete it.
+-- An edit changes nothing but a file, and does not write the log, though it may delete it.
 pub record IsEdit (path : List ℕ) (bytes : Option (List ℕ)) (before after : Moment) : Type 0 where
+  pub old : Disk
+  pub shows : Shows before old
+  pub new : Disk
+  pub same : after ≡ with_disk new before
   pub not_log : path ≡ log_path → bytes ≡ None
-  pub edited : IsEdited before.disk bytes (after.disk.now path)
-  pub others : (other : List ℕ) → other ≢ path → after.disk.now other ≡ before.disk.now other
-  pub keeps : IsConsistent after.disk
-  pub grows : (old : Past) → Contains before.disk.past old → Contains after.disk.past old
-  pub same : after.family ≡ before.family
+  pub edited : IsEdited old bytes (new.now path)
+  pub others : (other : List ℕ) → other ≢ path → new.now other ≡ old.now other
+  pub keeps : IsConsistent new
+  pub grows : (past : Past) → Contains old.past past → Contains new.past past
 
--- An update of a plan has come between two moments, with this answer: no child ran before it, those that run after it write
--- outputs of the plan, and a true log stays true.
+-- the log at a moment is true, where the files are visible
+abbrev pub IsTrueAt : Making → Moment → Type 0
+IsTrueAt m moment = IfSome moment.host.disk (IsTrueOn m)
+
+-- An update of a plan with 1 to 64 jobs has come between two moments, with this answer, which the counts of faults allow. No
+-- child ran before it; those that run after it write outputs of the plan, and are there only where a wait failed. A true log stays
+-- true.
 pub record IsUpdate (u : Update) (answer : UpdateAnswer) (before after : Moment) : Type 0 where
+  pub old : Disk
+  pub shows : Shows before old
+  pub new : Disk
+  pub shows_then : Shows after new
   pub apart : Apart u.build.steps u.build.roots
-  pub idle : before.family.running ≡ []
-  pub planned : (child : Child) → Contains after.family.running child → (step : Step) × (step_at u.build.steps child.step ≡ Some step) × (child.outs ≡ step.outs)
-  pub keeps : IsConsistent after.disk
-  pub stays_true : IsTrueOn (making u) before.disk → IsTrueOn (making u) after.disk
-  pub has : WithLog before.disk.now (λ log. HasUpdated (at_present u before.disk.now log) answer before.family after.family before.disk after.disk) answer
+  pub jobs : (1 ≤ u.jobs) × (u.jobs ≤ 64)
+  pub idle : before.host.children.running ≡ []
+  pub planned : (child : Child) → Contains after.host.children.running child → (step : Step) × (step_at u.build.steps child.step ≡ Some step) × (child.outs ≡ step.outs)
+  pub none_left : LeavesNone before.host after.host
+  pub caused : CausedBy before after answer
+  pub keeps : IsConsistent new
+  pub stays_true : IsTrueOn (making u) old → IsTrueOn (making u) new
+  pub has : WithLog old.now (λ log. HasUpdated (at_present u old.now log) answer before.host after.host old new) answer
 
 -- The host is opened again after an update with these events: no child runs, and each that ran has ended, and worked until then.
+-- What each start gave, the reads and the counts of faults are as they were, and so is the sink.
 pub record IsReopened (events : List ChildEvent) (before after : Moment) : Type 0 where
-  pub none_runs : after.family.running ≡ []
+  pub old : Disk
+  pub shows : Shows before old
+  pub new : Disk
   pub ends : List ChildEvent
-  pub events_are : after.family.events ≡ before.family.events ++ ends
+  pub same : after ≡ record before { host = record before.host { disk = Some new; children = record before.host.children { running = []; events = before.host.children.events ++ ends } } }
   pub open_ends : OpenEnds events ends
   pub all_end : (i : ℕ) → IsOpen (events ++ ends) i → ⊥
-  pub worked : ChangesOnlyOutputs before.family.running before.disk after.disk
-  pub keeps : IsConsistent after.disk
+  pub worked : ChangesOnlyOutputs before.host.children.running old new
+  pub keeps : IsConsistent new
 
 -- An update was stopped, and the host was opened again.
 pub record IsStop (u : Update) (answer : UpdateAnswer) (before after : Moment) : Type 0 where
   pub between : Moment
   pub updated : IsUpdate u answer before between
   pub events : List ChildEvent
-  pub events_are : between.family.events ≡ before.family.events ++ events
+  pub events_are : between.host.children.events ≡ before.host.children.events ++ events
   pub reopened : IsReopened events between after
 
 -- what comes between two neighbouring moments, and the answers that it gives
 abbrev pub Comes : Happening → Moment → List UpdateAnswer → Moment → Type 0
 Comes (edit path bytes) before answers after = (answers ≡ []) × IsEdit path bytes before after
-Comes (update u) before answers after = (answer : UpdateAnswer) × (answers ≡ answer ∷ []) × IsUpdate u answer before after
+Comes (update u) before answers after = (answer : UpdateAnswer) × (answers ≡ answer ∷ []) × IsUpdate u answer before after × (after.host.children.running ≡ [])
 Comes (stop u) before answers after = (answer : UpdateAnswer) × (answers ≡ answer ∷ []) × IsStop u answer before after
 
 -- a session: from moment to moment, with the answers of its updates and stops in order

@@ -8,6 +8,6 @@ use Rattle.b2_runs.specs.Staleness.{Update, IsStale, StalePoint}
 abbrev pub StaleByPoint : Type 0
 StaleByPoint = (u : Update) (events : List ChildEvent) (step : Step) (members : List (List ℕ × Value)) → StalePoint u events step members → IsStale u events step members
 
--- .. and nowhere else: where none holds it is not stale
+-- a step is not stale where none of the five points holds
 abbrev pub StaleByPointAlone : Type 0
 StaleByPointAlone = (u : Update) (events : List ChildEvent) (step : Step) (members : List (List ℕ × Value)) → ¬ StalePoint u events step members → ¬ IsStale u events step members

@@ -1,9 +1,9 @@
 use Rattle.std.specs.Prelude.{◌≡◌, ℕ, ◌<◌, ◌≤◌, Bool, true, false, List, [], Option, Some, None, map}
-use Rattle.std.specs.Option.{option_map}
 use Rattle.std.specs.List.{Contains, AllZip}
 use Rattle.b2_host.specs.declared.children.ChildEvent.{ChildEvent}
 use Rattle.b2_host.specs.declared.children.ChildEvent.TheVariants.{Done}
 use Rattle.b2_host.specs.Disks.{File, Folder, bytes_at}
+use Rattle.b2_host.specs.FileCalls.{stamp_at}
 use Rattle.b2_plan.specs.declared.step.Step.{Step}
 use Rattle.b2_plan.specs.Plans.{Makes}
 use Rattle.b2_plan.specs.Sources.{Build}
@@ -35,10 +35,6 @@ pub record Update : Type 0 where
 -- what is made of bytes in an update
 abbrev pub making : Update → Making
 making u = record { made = u.build.made; inc = u.build.inc; digest = u.digest }
-
--- the stamp of the file at a path
-abbrev pub stamp_at : Folder → List ℕ → Option ℕ
-stamp_at folder path = option_map (λ file. file.stamp) (folder path)
 
 -- these are the paths, in order, with the stamps of the files there
 abbrev pub AreStamped : Folder → List (List ℕ) → List (List ℕ × ℕ) → Type 0

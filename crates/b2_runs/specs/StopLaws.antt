@@ -15,7 +15,7 @@ use Rattle.b2_runs.specs.Soundness.{IsSound, Drifts}
 use Rattle.b2_runs.specs.Afterwards.{next_update, Restless, IsNoted, IsFreshStep}
 
 -- Of an update that stops anywhere, the events are a run so far, with each start in it, followed by ends of steps that it
--- left open. What was done in the run so far is kept: the log has the last word on it, whatever the children do that end
+-- left open. What was done in the run so far is kept: the log's last lines are on it, whatever the children do that end
 -- after it.
 
 -- a run so far has begun
@@ -34,11 +34,11 @@ BegunUpToStart = (u : Update) (events before after : List ChildEvent) (i : ℕ) 
 abbrev pub SoundBeforeEnds : Type 0
 SoundBeforeEnds = (u : Update) (events : List ChildEvent) (disk : Disk) (b : IsBegun u events) → IsSound u events disk → IsSound u b.front disk
 
--- of what was done in the run so far the log keeps the last word, as steps that run or failed change their outputs
+-- of what was done in the run so far the last lines of the log stay, as steps that run or failed change their outputs
 abbrev pub NotedThroughEnds : Type 0
 NotedThroughEnds = (u : Update) (events : List ChildEvent) (before after : Disk) (log : List LogLine) (b : IsBegun u events) → Apart u.build.steps u.build.roots → Drifts u events before after → IsNoted u b.front before.now log → IsNoted u b.front after.now log
 
--- .. and through an append that was torn: it has left the lines as they were, or the whole line after them
+-- so do they through an append that was torn: it has left the lines as they were, or the whole line after them
 abbrev pub NotedThoughTorn : Type 0
 NotedThoughTorn = (u : Update) (events : List ChildEvent) (now : Folder) (log after : List LogLine) (line : LogLine) → (after ≡ log) ⊎ (after ≡ log ++ line ∷ []) → IsNoted u events now log → IsNoted u events now (log ++ line ∷ []) → IsNoted u events now after
 
@@ -53,7 +53,7 @@ abbrev pub FreshThoughStopped : Type 0
 FreshThoughStopped = (u : Update) (events : List ChildEvent) (disk : Disk) (log : List LogLine) (quit : Bool) (jobs : ℕ) (i : ℕ) (step : Step) (path : List ℕ) (b : IsBegun u events) → Apart u.build.steps u.build.roots → IsSound u events disk → IsNoted u b.front disk.now log
     → Makes u.build.steps i step path → Settled u b.front path → (Restless u.build path → ⊥) → IsFreshStep (next_update u disk.now log quit jobs) [] step
 
--- .. and the run of the next update, however far it has gone, holds no start of it
+-- the run of the next update, however far it has gone, holds no start of such a step
 abbrev pub NotStartedAgain : Type 0
 NotStartedAgain = (u : Update) (events later : List ChildEvent) (disk : Disk) (log : List LogLine) (quit : Bool) (jobs : ℕ) (i : ℕ) (step : Step) (path : List ℕ) (b : IsBegun u events) → Apart u.build.steps u.build.roots → IsSound u events disk → IsNoted u b.front disk.now log
     → IsRunSoFar (next_update u disk.now log quit jobs) later → Makes u.build.steps i step path → Settled u b.front path → (Restless u.build path → ⊥) → Contains later (Start i) → ⊥

@@ -3,7 +3,8 @@ use Rattle.std.specs.List.{Contains}
 use Rattle.b2_host.specs.declared.children.ChildEvent.{ChildEvent}
 use Rattle.b2_host.specs.declared.children.ChildEvent.TheVariants.{Done}
 use Rattle.b2_host.specs.Disks.{File, Folder, Disk}
-use Rattle.b2_host.specs.ChildProcesses.{Given, Child, Family}
+use Rattle.b2_host.specs.ChildProcesses.{Given}
+use Rattle.b2_host.specs.Outside.{Read, Outside}
 use Rattle.b2_host.specs.Faults.{Rose}
 use Rattle.b2_plan.specs.declared.step.Step.{Step}
 use Rattle.b2_log.specs.declared.line.LogLine.{LogLine}
@@ -15,9 +16,10 @@ use Rattle.b2_runs.specs.Outcomes.{NoneStuck, AllWent, HasCleanBytes, IsCleanBui
 use Rattle.b2_runs.specs.Cycles.{IsStepCycle}
 use Rattle.b2_runs.specs.Soundness.{AreAtWork}
 use Rattle.b2_runs.specs.Afterwards.{IsNoted}
-use Rattle.b2_runs.specs.FileReads.{IsTooBig}
+use Rattle.b2_runs.specs.FileReads.{IsTooBig, ReadsOnce}
 use Rattle.b2_runs.specs.LogCourses.{held_bytes, log_file, IsLogWhole, IsLogCut}
 use Rattle.b2_runs.specs.Reports.{Lists, no_lists, AreLists, event_lines, report, cycle_line, too_big_line, host_fault_line, TellsStarts, StopsAtWrite}
+use Rattle.b2_runs.specs.Moments.{Moment}
 
 -- How an update ends, and what its answer says.
 pub data UpdateAnswer : Type 0 where
@@ -31,21 +33,35 @@ pub data UpdateAnswer : Type 0 where
 
 -- ---- the counts of faults
 
--- What the host's count of faults may do after another fault: it is as it was, or a wait for a child that ran failed, so that a
--- child is left.
-abbrev pub IsQuietHost : ℕ → ℕ → List Child → Type 0
-IsQuietHost host host_after left = (host_after ≡ host) ⊎ (left ≢ [])
+-- no count of faults has changed, that of failed waits neither
+pub record CountsStay (before after : Moment) : Type 0 where
+  pub host : after.host.faults ≡ before.host.faults
+  pub waits : after.host.failed_waits ≡ before.host.failed_waits
+  pub sink : after.out.faults ≡ before.out.faults
 
--- How the two counts of faults stand to an answer: an answer that is no fault comes only where both are as at entry, and a fault
--- only where its count rose and the other's is as at entry, but for the waits that follow it.
-abbrev pub CausedBy : ℕ → ℕ → List Child → ℕ → ℕ → UpdateAnswer → Type 0
-CausedBy host host_after left sink sink_after all_went = (host_after ≡ host) × (sink_after ≡ sink)
-CausedBy host host_after left sink sink_after (failed lists) = (host_after ≡ host) × (sink_after ≡ sink)
-CausedBy host host_after left sink sink_after (step_cycle list) = (host_after ≡ host) × (sink_after ≡ sink)
-CausedBy host host_after left sink sink_after (too_big path size) = (host_after ≡ host) × (sink_after ≡ sink)
-CausedBy host host_after left sink sink_after host_fault = Rose host host_after × (sink_after ≡ sink)
-CausedBy host host_after left sink sink_after sink_fault = Rose sink sink_after × IsQuietHost host host_after left
-CausedBy host host_after left sink sink_after out_of_memory = (sink_after ≡ sink) × IsQuietHost host host_after left
+-- a wait for a child failed: both counts of the host rose
+pub record WaitFailed (before after : Outside) : Type 0 where
+  pub faults : Rose before.faults after.faults
+  pub waits : Rose before.failed_waits after.failed_waits
+
+-- what the host's counts may do after a fault that is not the host's: they stay, or a wait for a child that ran failed
+abbrev pub IsQuietHost : Outside → Outside → Type 0
+IsQuietHost before after = ((after.faults ≡ before.faults) × (after.failed_waits ≡ before.failed_waits)) ⊎ WaitFailed before after
+
+-- How the counts of faults stand to an answer, which names the first fault: an answer that is no fault comes only where they
+-- stay, and a fault only where its count rose and the other's is as at entry, but for the waits after a fault of the sink.
+abbrev pub CausedBy : Moment → Moment → UpdateAnswer → Type 0
+CausedBy before after all_went = CountsStay before after
+CausedBy before after (failed lists) = CountsStay before after
+CausedBy before after (step_cycle list) = CountsStay before after
+CausedBy before after (too_big path size) = CountsStay before after
+CausedBy before after host_fault = Rose before.host.faults after.host.faults × (after.out.faults ≡ before.out.faults)
+CausedBy before after sink_fault = Rose before.out.faults after.out.faults × IsQuietHost before.host after.host
+CausedBy before after out_of_memory = (after.out.faults ≡ before.out.faults) × IsQuietHost before.host after.host
+
+-- no child is left, unless a wait for it failed
+abbrev pub LeavesNone : Outside → Outside → Type 0
+LeavesNone before after = (after.children.running ≡ []) ⊎ WaitFailed before after
 
 -- ---- over every host
 
@@ -59,8 +75,8 @@ failed_of host_fault = []
 failed_of sink_fault = []
 failed_of out_of_memory = []
 
--- What happened is in order, with so many jobs. Some steps may have left an output out, none where the files are visible; and
--- each step that the answer names as failed did so, or was done badly.
+-- What happened is in order, with so many jobs. Some steps may have left an output out, none where the files are visible.
+-- Where the answer is that all went well no step did so, and none was done badly; each that it names as failed did, or was.
 pub record HasHappened (steps : List Step) (jobs : ℕ) (disk : Option Disk) (old new : List ChildEvent) (answer : UpdateAnswer) : Type 0 where
   pub events : List ChildEvent
   pub are : new ≡ old ++ events
@@ -68,6 +84,7 @@ pub record HasHappened (steps : List Step) (jobs : ℕ) (disk : Option Disk) (ol
   pub short : List ℕ
   pub short_are : AreShort steps events short
   pub short_told : ShortTold disk short
+  pub none_failed : answer ≡ all_went → (i : ℕ) → Contains (as_counted short events) (Done i false) → ⊥
   pub named_failed : (i : ℕ) → Contains (failed_of answer) i → Contains (as_counted short events) (Done i false)
 
 -- ---- where the files are visible
@@ -77,7 +94,7 @@ abbrev pub SomethingLacks : Lists → Type 0
 SomethingLacks lists = (lists.failed ≢ []) ⊎ (lists.skipped ≢ []) ⊎ (lists.missing ≢ [])
 
 -- A run has ended: what is settled has the bytes of the clean build, nothing of a failed step is left, the log's file is what
--- the events call for, and within its limit it has the last word on each step.
+-- the events call for, and within its limit its last line on each step is what was done with it.
 pub record HasEnded (u : Update) (events : List ChildEvent) (now : List ℕ → Option File) : Type 0 where
   pub run : IsRun u events
   pub clean : HasCleanBytes u events now
@@ -97,25 +114,28 @@ AnswerTold u events now host_fault = ⊤
 AnswerTold u events now sink_fault = ⊤
 AnswerTold u events now out_of_memory = ⊤
 
--- All that an update has done between two moments: the events, each start with what it was given, are the beginning of a run,
--- and those of its children that still run are at work; nothing but the log and outputs of started steps has changed; the log's
--- file is one that an update may leave that was cut off, and it has the last word on what was done in a run so far that holds
--- each start.
-pub record HasUpdated (u : Update) (answer : UpdateAnswer) (old new : Family) (before after : Disk) : Type 0 where
+-- All that an update has done between two moments at which the files are visible. The events, each start with what it was
+-- given, are the beginning of a run, and those of its children that still run are at work. Nothing but the log and outputs of
+-- started steps has changed. Each read was called for. The log's file is one that an update may leave that was cut off, and its
+-- last lines are on what was done in a run so far that holds each start.
+pub record HasUpdated (u : Update) (answer : UpdateAnswer) (old new : Outside) (before after : Disk) : Type 0 where
   pub events : List ChildEvent
-  pub events_are : new.events ≡ old.events ++ events
+  pub events_are : new.children.events ≡ old.children.events ++ events
   pub given : List Given
-  pub given_are : IfSome old.given (λ list. new.given ≡ Some (list ++ given))
+  pub given_are : IfSome old.children.given (λ list. new.children.given ≡ Some (list ++ given))
   pub begun : IsBegun u events
   pub fed : AreFed u events given
-  pub at_work : AreAtWork u events new.running
+  pub at_work : AreAtWork u events new.children.running
   pub changed : OnlyOutputsChange u events before.now after.now
+  pub reads : List Read
+  pub reads_are : IfSome old.reads (λ list. new.reads ≡ Some (list ++ reads))
+  pub once : ReadsOnce u events after.past reads
   pub cut : IsLogCut u events after.now
   pub noted : (log : List LogLine) → IsLogIn after.now log → length (held_bytes (log_file after.now)) ≤ log_limit → (events ≡ []) ⊎ ((b : IsBegun u events) × IsNoted u b.front after.now log)
   pub told : AnswerTold u events after.now answer
 
--- What is said of the log at entry: where the update has come to an end, of the one that stood; where a fault cut it off, of
--- whatever one stood.
+-- What is said of the log at entry: where the update has come to an end, of the lines that it was read as; where a fault cut it
+-- off, of every list of lines that it may be read as.
 abbrev pub WithLog : Folder → (List LogLine → Type 0) → UpdateAnswer → Type 0
 WithLog now P all_went = (log : List LogLine) × IsLogIn now log × P log
 WithLog now P (failed lists) = (log : List LogLine) × IsLogIn now log × P log
@@ -127,7 +147,7 @@ WithLog now P out_of_memory = (log : List LogLine) → IsLogIn now log → P log
 
 -- ---- the bytes
 
--- what an answer says of the bytes that the update wrote; the line of a refusal comes behind them
+-- what an answer says of the bytes that the update wrote; the line of a refusal comes after them
 abbrev pub WrittenBy : Update → List ChildEvent → UpdateAnswer → List ℕ → Type 0
 WrittenBy u events all_went written = written ≡ report u.build.steps events no_lists
 WrittenBy u events (failed lists) written = written ≡ report u.build.steps events lists

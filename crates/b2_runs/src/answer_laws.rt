@@ -1,5 +1,5 @@
 //! Laws of the answers of an update: what each says, and that no two are said of one run.
-ghost use Rattle.b2_runs.specs.AnswerLaws.{ListsAreOne, MayAnswerAllWent, AllWentLacksNothing, AllWentHasNoCycle, FailedHasNoCycle, AllWentStartsNothing};
+ghost use Rattle.b2_runs.specs.AnswerLaws.{ListsAreOne, MayAnswerAllWent, AllWentLacksNothing, AllWentHasNoCycle, FailedHasNoCycle, AllWentStartsNothing, CycleEndsNoReport, AllWentHasNoBadEnd, SinkFaultIsFirst, UpdateReadsOnce};
 
 /// An update may answer that all went well where each needed step is settled and none failed.
 pub fn may_answer_all_went()
@@ -29,4 +29,24 @@ pub fn lists_are_one()
 /// After an update that answers that all went well, the next one starts nothing that it need not.
 pub fn all_went_starts_nothing()
     ensures { AllWentStartsNothing }
+{}
+
+/// Where there is a step cycle no part of the end of a report is written.
+pub fn cycle_ends_no_report()
+    ensures { CycleEndsNoReport }
+{}
+
+/// Over every host an update that answers that all went well has had no bad end.
+pub fn all_went_has_no_bad_end()
+    ensures { AllWentHasNoBadEnd }
+{}
+
+/// After a fault of the sink the host's count of faults is as at entry, unless a wait failed.
+pub fn sink_fault_is_first()
+    ensures { SinkFaultIsFirst }
+{}
+
+/// Judged by stamps, an update reads no file whose scan line the log had then.
+pub fn update_reads_once()
+    ensures { UpdateReadsOnce }
 {}

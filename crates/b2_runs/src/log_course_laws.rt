@@ -1,9 +1,9 @@
 //! Laws of the log over a whole update: what it begins with, and what the events add.
-ghost use Rattle.b2_runs.specs.LogCourseLaws.{BeginsWithOne, BeginTellsRecords, BeginTellsScans, BeginIsRead, LinesAreRead, LogGrows, LogTellsOthers, LogDropsFailed, LogHasRecords, WholeLogCounts, LogTellsOtherScans, ScansOnce, MigratesOnce, LogIsProper, LogMoves, LogStaysTrue, LogIsNoted, LogStaysGood, WholeIsCut, HealthyGrows, CutLogIsTrue, CutLogIsNoted, FinishedIsKept, FinishedIsNotStarted};
+ghost use Rattle.b2_runs.specs.LogCourseLaws.{FirstLinesAreOne, BeginTellsRecords, BeginTellsScans, BeginIsRead, LinesAreRead, LogGrows, LogTellsOthers, LogDropsFailed, LogHasRecords, WholeLogCounts, LogTellsOtherScans, ScansOnce, MigratesOnce, LogIsProper, LogMoves, LogStaysTrue, LogIsNoted, LogStaysGood, WholeIsCut, HealthyGrows, CutLogIsTrue, CutLogIsNoted, FinishedIsKept, FinishedIsNotStarted};
 
 /// An update begins with one list of lines.
 pub fn begins_with_one()
-    ensures { BeginsWithOne }
+    ensures { FirstLinesAreOne }
 {}
 
 /// The lines that an update begins with tell of each step what the file at entry told.
@@ -81,7 +81,7 @@ pub fn log_stays_true()
     ensures { LogStaysTrue }
 {}
 
-/// They have the last word on each step.
+/// Their last lines are on what was done with each step.
 pub fn log_is_noted()
     ensures { LogIsNoted }
 {}
@@ -106,7 +106,7 @@ pub fn cut_log_is_true()
     ensures { CutLogIsTrue }
 {}
 
-/// Wherever an update was cut off, its log has the last word on what was done in a run so far that holds each of its starts.
+/// Wherever an update was cut off, its log's last lines are on what was done in a run so far that holds each of its starts.
 pub fn cut_log_is_noted()
     ensures { CutLogIsNoted }
 {}

@@ -11,12 +11,12 @@ pub fn scan_is_there()
     ensures { ScanIsThere }
 {}
 
-/// A record at the end has the last word on its outputs.
+/// A record at the end is the last line on its outputs.
 pub fn last_record()
     ensures { LastRecord }
 {}
 
-/// A drop at the end has the last word on its outputs.
+/// A drop at the end is the last line on its outputs.
 pub fn last_drop()
     ensures { LastDrop }
 {}

@@ -1,42 +1,42 @@
-//! Laws of the log beside a run: it has the last word on each step.
+//! Laws of the log along a run: its last line on each step is the right one.
 ghost use Rattle.b2_runs.specs.NotedLaws.{NotedAtEntry, NotedAfterStart, NotedAfterDrift, NotedAfterOtherEnd, NotedAfterLine, NotedAfterRecord, NotedAfterScan, NotedAfterMigration, OutputsAreNewer, FailedIsStale, NoneOlderAtEntry, NoneOlderAfterStart, NoneOlderAfterEnd, NoneOlderAfterDrift};
 
-/// Before any event a log that says what the one at entry said has the last word.
+/// Before any event a log is right that says what the one at entry said.
 pub fn noted_at_entry()
     ensures { NotedAtEntry }
 {}
 
-/// The log has the last word as a step starts.
+/// The log stays right as a step starts.
 pub fn noted_after_start()
     ensures { NotedAfterStart }
 {}
 
-/// The log has the last word as steps that run or failed change their outputs.
+/// The log stays right as steps that run or failed change their outputs.
 pub fn noted_after_drift()
     ensures { NotedAfterDrift }
 {}
 
-/// The log has the last word as a step is done badly, or as one is done well that has no record.
+/// The log stays right as a step is done badly, or as one is done well that has no record.
 pub fn noted_after_other_end()
     ensures { NotedAfterOtherEnd }
 {}
 
-/// The log has the last word as a line is appended for the outputs of a step that runs or failed.
+/// The log stays right as a line is appended for the outputs of a step that runs or failed.
 pub fn noted_after_line()
     ensures { NotedAfterLine }
 {}
 
-/// The log has the last word as a step is done well and its record is appended.
+/// The log stays right as a step is done well and its record is appended.
 pub fn noted_after_record()
     ensures { NotedAfterRecord }
 {}
 
-/// The log has the last word as a scan line is appended.
+/// The log stays right as a scan line is appended.
 pub fn noted_after_scan()
     ensures { NotedAfterScan }
 {}
 
-/// The log has the last word as a record with digests is appended of a step that was not started.
+/// The log stays right as a record with digests is appended of a step that was not started.
 pub fn noted_after_migration()
     ensures { NotedAfterMigration }
 {}

@@ -1,0 +1,5 @@
+use Rattle.b2_runs.proofs.AnswerLaws.{update_reads_once}
+use Rattle.b2_runs.proofs.answer_laws.update_reads_once.Goals as goal
+
+pub returns : goal.returns
+returns c = update_reads_once

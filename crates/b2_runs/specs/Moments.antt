@@ -1,0 +1,17 @@
+use Rattle.std.specs.Prelude.{◌≡◌, Option, Some}
+use Rattle.b2_host.specs.Disks.{Disk}
+use Rattle.b2_host.specs.Outside.{Outside}
+use Rattle.b2_host.specs.Output.{Output}
+
+-- A host and a sink at one moment, as their callers see them.
+pub record Moment : Type 0 where
+  pub host : Outside
+  pub out : Output
+
+-- these are the files, which are visible
+abbrev pub Shows : Moment → Disk → Type 0
+Shows moment disk = moment.host.disk ≡ Some disk
+
+-- the moment with these files
+abbrev pub with_disk : Disk → Moment → Moment
+with_disk disk moment = record moment { host = record moment.host { disk = Some disk } }
