@@ -1,22 +1,25 @@
-use Rattle.std.proofs.Common.{◌≡◌, ◌⊎◌, ℕ, ◌<◌, ◌≤◌, Bool, true, false, List, [], ◌∷◌, inl, inr, refl, sym, ap, subst, subst₂, ◌∙◌, arith, Some, if◌then◌else◌}
+use Rattle.std.proofs.Common.{◌≡◌, ◌⊎◌, ℕ, ◌<◌, ◌≤◌, Bool, true, false, List, [], ◌∷◌, ◌++◌, append_assoc, inl, inr, refl, sym, ap, subst, subst₂, ◌∙◌, arith, Some, None, if◌then◌else◌}
 use Rattle.std.specs.List.{Contains}
 use Rattle.std.specs.Str.{bytes_eq}
 use Rattle.std.proofs.lemmas.Slice.Eq.{bytes_eq-Decides}
-use Rattle.std.proofs.lemmas.List.Elements.{Contains-append_left, Contains-push_cases}
+use Rattle.std.proofs.lemmas.List.Elements.{Contains-append_left, Contains-push, Contains-push_cases}
+use Rattle.b2_host.specs.declared.children.ChildEvent.{ChildEvent}
 use Rattle.b2_host.specs.declared.children.ChildEvent.TheVariants.{Start, Done}
 use Rattle.b2_host.specs.Limits.{greatest_count}
 use Rattle.b2_host.specs.Outside.{Read}
-use Rattle.b2_host.specs.Disks.{File, Past, Stood, IsOneEach, IsConsistent, bytes_at}
+use Rattle.b2_host.specs.Disks.{File, Folder, Past, Stood, IsOneEach, IsConsistent, bytes_at}
 use Rattle.b2_plan.specs.Plans.{log_path, step_at, Makes}
 use Rattle.b2_plan.specs.Closures.{Value}
 use Rattle.b2_plan.specs.Cleans.{Clean}
 use Rattle.b2_log.specs.declared.line.LogLine.{LogLine}
+use Rattle.b2_log.specs.Lines.{log_bytes}
 use Rattle.b2_runs.specs.Logs.{LogTrue}
 use Rattle.b2_runs.specs.LogFiles.{IsLogIn}
 use Rattle.b2_runs.specs.Staleness.{making, NoneOlder}
 use Rattle.b2_runs.specs.Runs.{IsBegun, IsFed}
 use Rattle.b2_runs.specs.Outcomes.{HasCleanBytes, IsCleanBuild, OnlyOutputsChange}
 use Rattle.b2_runs.specs.Soundness.{AreAtWork}
+use Rattle.b2_runs.specs.LogCourses.{IsLogAfter, IsLogAfter.begins, IsLogAfter.starts, IsLogAfter.records, IsLogAfter.owes_none, IsLogAfter.drops, IsLogAfter.has_none, IsLogAfter.scans, IsLogAfter.migrates, left_file, IsLogCut, IsLogCut.untouched, IsLogCut.replacing, IsLogCut.between, IsLogCut.within}
 use Rattle.b2_runs.specs.Afterwards.{NoneDoneOlder, IsNoted}
 use Rattle.b2_runs.specs.UpdateAnswers.{UpdateAnswer.all_went, HasEnded, HasUpdated}
 use Rattle.b2_runs.specs.Sessions.{IsUpdate}
@@ -28,12 +31,13 @@ use Rattle.b2_runs.proofs.LogLaws.{true_as_past_grows}
 use Rattle.b2_runs.proofs.LogFileLaws.{file_is_one_log}
 use Rattle.b2_runs.proofs.RunLaws.{same_members}
 use Rattle.b2_runs.proofs.JudgedByPresent.{none_older_move}
+use Rattle.b2_runs.proofs.LogCourseLaws.{begins_with_one}
 use Rattle.b2_runs.proofs.LogAlong.{log_is_noted}
 use Rattle.b2_runs.proofs.LogAtExit.{whole_is_cut}
 use Rattle.b2_runs.proofs.SessionLaws.{update_counts_fault, stop_counts_fault}
 use Rattle.b2_run_examples.proofs.OneStepPlan.{one_of, only_is, only_number, only_out, makes_out}
 use Rattle.b2_run_examples.proofs.CopyingHolds.{apart, run, went, close, none_older, log_true, one_each_after, stands_after, others_after}
-use Rattle.b2_run_examples.proofs.CopyingFiled.{counts, course, whole}
+use Rattle.b2_run_examples.proofs.CopyingFiled.{begins_empty, counts, course, whole}
 
 -- ---- the disk
 
@@ -137,6 +141,7 @@ updated = record {
   fed = (fed, tt);
   at_work = at_work;
   changed = changed;
+  done_well = λ i step path makes well. let (bytes, clean, at) = out_is_clean path (only_out (in_path ∷ []) i step path makes) in (Some bytes, clean, at);
   reads = log_read ∷ [];
   reads_are = refl;
   once = λ read c not_log. absurd (not_log (sym (ap (λ (r : Read). r.path) (one_of log_read read c))));
@@ -162,12 +167,46 @@ is_update = record {
   has = ([], refl, updated);
 }
 
+-- ---- the log before a step is done
+
+-- it has no line
+no_line : (now : Folder) (events : List ChildEvent) (log : List LogLine) → IsLogAfter copying now [] events log → ((i : ℕ) (well : Bool) → Contains events (Done i well) → ⊥) → log ≡ []
+no_line now events log begins none = refl
+no_line now events log (starts es l i c) none = no_line now es l c (λ k well d. none k well (Contains-append_left es (Start i ∷ []) (Done k well) d))
+no_line now events log (records es l i step members r c at file close is) none = absurd (none i true (Contains-push es (Done i true)))
+no_line now events log (owes_none es l i step c at no_file) none = absurd (none i true (Contains-push es (Done i true)))
+no_line now events log (drops es l i step r c at found) none = absurd (none i false (Contains-push es (Done i false)))
+no_line now events log (has_none es l i step c at found) none = absurd (none i false (Contains-push es (Done i false)))
+no_line now events log (scans es l path bytes s c to is new) none = absurd (let e : false ≡ true = to.scanned in cc)
+no_line now events log (migrates es l step members r c to is new) none = absurd (let e : false ≡ true = to.by_digest in cc)
+
+-- of the start alone no step is done
+none_done : (front rest : List ChildEvent) → Start 1 ∷ [] ≡ front ++ rest → (i : ℕ) (well : Bool) → Contains front (Done i well) → ⊥
+none_done front rest whole i well c =
+    let e : Start 1 ≡ Done i well = one_of (Start 1) (Done i well) (subst (λ l. Contains l (Done i well)) (sym whole) (Contains-append_left front rest (Done i well) c)) in
+    cc
+
+no_record : ¬ IsLogCut copying (Start 1 ∷ []) disk_logged.now
+no_record (untouched none same) = let e : Start 1 ∷ [] ≡ [] = none in cc
+no_record (replacing first part missing none begin other split file) = let e : Start 1 ∷ [] ≡ [] = none in cc
+no_record (between first log front rest is so_far ends begin after file) =
+    let same : first ≡ [] = begins_with_one [] first [] begin begins_empty in
+    let empty : log ≡ [] = no_line disk_logged.now front log (subst (λ l. IsLogAfter copying disk_logged.now l front log) same after) (none_done front rest is) in
+    let e : Some copy_bytes ≡ None = subst (λ l. Some copy_bytes ≡ left_file None (log_bytes l)) empty file in
+    cc
+no_record (within first log line front more rest part missing is so_far ends begin after later split file) =
+    let same : first ≡ [] = begins_with_one [] first [] begin begins_empty in
+    let whole : Start 1 ∷ [] ≡ (front ++ more) ++ rest = is ∙ sym (append_assoc front more rest) in
+    let empty : log ++ line ∷ [] ≡ [] = no_line disk_logged.now (front ++ more) (log ++ line ∷ []) (subst (λ l. IsLogAfter copying disk_logged.now l (front ++ more) (log ++ line ∷ [])) same later) (none_done (front ++ more) rest whole) in
+    Contains_nil line (subst (λ l. Contains l line) empty (Contains-push log line))
+
 few : 0 < greatest_count
 few = omega arith
 
 pub copy_session_holds : CopySessionHolds
 copy_session_holds = record {
   updated = updated;
+  no_record = no_record;
   session = (moment_after, all_went ∷ [], [], refl, (all_went, refl, is_update, refl), (refl, refl));
   no_silent_update = λ s. let more : 0 < 0 = update_counts_fault copying moment_before moment_before few s in omega (arith, more);
   no_silent_stop = λ s. let more : 0 < 0 = stop_counts_fault copying moment_before moment_before few s in omega (arith, more);

@@ -107,7 +107,7 @@ torn part missing split more =
 empty_reading : IsReading [] [] 0
 empty_reading = reading_whole [] tt
 
-begins_empty : FirstLines [] []
+pub begins_empty : FirstLines [] []
 begins_empty = as_it_is [] (omega arith) empty_reading (λ much. omega (arith, much))
 
 module _ (bytes : List ℕ) where

@@ -1,8 +1,10 @@
 use Rattle.std.specs.Prelude.{[], ◌∷◌, Some, None}
+use Rattle.b2_host.specs.declared.children.ChildEvent.TheVariants.{Start}
 use Rattle.b2_host.specs.Disks.{Disk, Past}
 use Rattle.b2_host.specs.ChildProcesses.{Family}
 use Rattle.b2_host.specs.Outside.{Read}
 use Rattle.b2_plan.specs.Plans.{log_path}
+use Rattle.b2_runs.specs.LogCourses.{IsLogCut}
 use Rattle.b2_runs.specs.Reports.{no_lists, report}
 use Rattle.b2_runs.specs.Moments.{Moment}
 use Rattle.b2_runs.specs.UpdateAnswers.{UpdateAnswer.all_went, UpdateAnswer.host_fault, HasUpdated}
@@ -40,6 +42,8 @@ moment_after = record {
 pub record CopySessionHolds : Type 0 where
   pub updated : HasUpdated copying all_went moment_before.host moment_after.host disk_before disk_logged
   pub session : IsSession moment_before (update copying ∷ []) (all_went ∷ []) moment_after
-  -- but no session has an update or a stop that answers a fault of the host where no call failed
+  -- where the writing stopped at the line of the start, the log has no record, though the step was then done well
+  pub no_record : ¬ IsLogCut copying (Start 1 ∷ []) disk_logged.now
+  -- no session has an update or a stop that answers a fault of the host where no call failed
   pub no_silent_update : ¬ IsSession moment_before (update copying ∷ []) (host_fault ∷ []) moment_before
   pub no_silent_stop : ¬ IsSession moment_before (stop copying ∷ []) (host_fault ∷ []) moment_before

@@ -1,14 +1,15 @@
-use Rattle.std.proofs.Common.{◌≡◌, ℕ, ◌<◌, List, [], ◌∷◌, inl, inr, refl, arith}
+use Rattle.std.proofs.Common.{◌≡◌, ℕ, ◌<◌, List, [], ◌∷◌, length, inl, inr, refl, subst, arith}
 use Rattle.std.specs.List.{Contains}
 use Rattle.b2_host.specs.declared.children.ChildEvent.{ChildEvent}
 use Rattle.b2_plan.specs.Closures.{Before}
 use Rattle.b2_runs.specs.Staleness.{Update}
+use Rattle.b2_runs.specs.Soundness.{Holds}
 use Rattle.b2_runs.specs.Outcomes.{IsListOf, ArePathsOf, NoneStuck}
 use Rattle.b2_runs.specs.Cycles.{IsStepCycle}
-use Rattle.b2_runs.specs.AnswerLaws.{MayAnswerAllWent, AllWentLacksNothing, AllWentHasNoCycle, FailedHasNoCycle, ListsAreOne, AllWentStartsNothing, CycleEndsNoReport, AllWentHasNoBadEnd, SinkFaultIsFirst, UpdateReadsOnce}
+use Rattle.b2_runs.specs.AnswerLaws.{MayAnswerAllWent, AllWentLacksNothing, AllWentHasNoCycle, FailedHasNoCycle, ListsAreOne, AllWentStartsNothing, CycleEndsNoReport, AllWentHasNoBadEnd, SinkFaultIsFirst, UpdateReadsOnce, DoneWellStands}
 use Rattle.b2_runs.proofs.ElementLemmas.{same_ordered, Contains_here}
 use Rattle.b2_runs.proofs.ClosureLaws.{Before_irrefl, Before_trans}
-use Rattle.b2_runs.proofs.SettledLaws.{wanted_is_clean}
+use Rattle.b2_runs.proofs.SettledLaws.{wanted_is_clean, out_bytes}
 use Rattle.b2_runs.proofs.EventLaws.{bad_by_count}
 use Rattle.b2_runs.proofs.ReadLaws.{scanned_is_not_read}
 use Rattle.b2_runs.proofs.OutcomeLaws.{all_went_by_settled, all_went_misses_nothing}
@@ -75,3 +76,9 @@ sink_fault_is_first before after below (rose, quiet) same = elim quiet [
 
 pub update_reads_once : UpdateReadsOnce
 update_reads_once u answer old new before after read stamp log s off one h c not_log at then found = scanned_is_not_read u h.events after.past h.reads read stamp log s off one h.once c not_log at then found
+
+pub done_well_stands : DoneWellStands
+done_well_stands u answer old new before after i step path apart h makes owes well =
+    let (value, clean, holds) = h.done_well i step path makes well in
+    let (bytes, e) = out_bytes u.build apart (length u.build.steps) i step path value makes owes clean in
+    (bytes, subst (Holds after.now path) e holds)

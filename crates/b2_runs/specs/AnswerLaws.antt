@@ -1,9 +1,9 @@
-use Rattle.std.specs.Prelude.{◌≡◌, ◌≢◌, ℕ, ◌<◌, ◌≤◌, Bool, false, List, length, Option, Some}
+use Rattle.std.specs.Prelude.{◌≡◌, ◌≢◌, ℕ, ◌<◌, ◌≤◌, Bool, true, false, List, length, Option, Some}
 use Rattle.std.specs.List.{Contains}
 use Rattle.b2_host.specs.declared.children.ChildEvent.{ChildEvent}
 use Rattle.b2_host.specs.declared.children.ChildEvent.TheVariants.{Start, Done}
 use Rattle.b2_host.specs.Limits.{greatest_count}
-use Rattle.b2_host.specs.Disks.{Folder, Disk, IsOneEach}
+use Rattle.b2_host.specs.Disks.{Folder, Disk, IsOneEach, bytes_at}
 use Rattle.b2_host.specs.Outside.{Read, Outside}
 use Rattle.b2_plan.specs.declared.step.Step.{Step}
 use Rattle.b2_plan.specs.Plans.{log_path, Apart, Makes}
@@ -63,6 +63,11 @@ AllWentHasNoBadEnd = (steps : List Step) (jobs : ℕ) (disk : Option Disk) (old 
 -- after a fault of the sink the host's count of faults is as at entry, unless a wait failed
 abbrev pub SinkFaultIsFirst : Type 0
 SinkFaultIsFirst = (before after : Moment) → before.host.failed_waits < greatest_count → CausedBy before after sink_fault → after.host.failed_waits ≡ before.host.failed_waits → after.host.faults ≡ before.host.faults
+
+-- wherever an update ends, each output stands that a step owes which was done well
+abbrev pub DoneWellStands : Type 0
+DoneWellStands = (u : Update) (answer : UpdateAnswer) (old new : Outside) (before after : Disk) (i : ℕ) (step : Step) (path : List ℕ) → Apart u.build.steps u.build.roots → (h : HasUpdated u answer old new before after)
+    → Makes u.build.steps i step path → step.notfile ≡ false → Contains h.events (Done i true) → (bytes : List ℕ) × (bytes_at after.now path ≡ Some bytes)
 
 -- judged by stamps, an update reads no file whose scan line the log had then
 abbrev pub UpdateReadsOnce : Type 0

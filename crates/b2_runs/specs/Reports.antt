@@ -1,4 +1,4 @@
-use Rattle.std.specs.Prelude.{◌≡◌, ◌≢◌, ℕ, Bool, true, false, List, [], ◌∷◌, ◌++◌, Option, Some, None, ◌⊎◌, codes, length, count_by}
+use Rattle.std.specs.Prelude.{◌≡◌, ◌≢◌, ℕ, Bool, true, false, List, [], ◌∷◌, ◌++◌, Option, Some, None, codes, length, count_by}
 use Rattle.std.specs.List.{flat_map, AllByRecursion}
 use Rattle.std.specs.Fmt.{decimal}
 use Rattle.b2_host.specs.declared.children.ChildEvent.{ChildEvent}
@@ -152,7 +152,3 @@ pub record StopsAtEnd (u : Update) (events : List ChildEvent) (written : List �
   pub part : List ℕ
   pub begins : IsFrontOf part (end_lines u.build.steps (count_by is_good_end events) lists)
   pub lines : written ≡ event_lines u.build.steps events ++ part
-
--- where a fault of the sink stops the writing
-abbrev pub StopsAtWrite : Update → List ChildEvent → List ℕ → Type 0
-StopsAtWrite u events written = StopsAtEvent u.build.steps events written ⊎ StopsAtEnd u events written

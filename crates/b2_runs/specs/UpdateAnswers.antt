@@ -1,4 +1,4 @@
-use Rattle.std.specs.Prelude.{◌≡◌, ◌≢◌, ℕ, ◌≤◌, false, List, [], ◌++◌, length, Option, Some, ◌⊎◌, ⊤, IfSome}
+use Rattle.std.specs.Prelude.{◌≡◌, ◌≢◌, ℕ, ◌≤◌, true, false, List, [], ◌∷◌, ◌++◌, length, Option, Some, ◌⊎◌, ⊤, IfSome}
 use Rattle.std.specs.List.{Contains}
 use Rattle.b2_host.specs.declared.children.ChildEvent.{ChildEvent}
 use Rattle.b2_host.specs.declared.children.ChildEvent.TheVariants.{Done}
@@ -7,6 +7,9 @@ use Rattle.b2_host.specs.ChildProcesses.{Given}
 use Rattle.b2_host.specs.Outside.{Read, Outside}
 use Rattle.b2_host.specs.Faults.{Rose}
 use Rattle.b2_plan.specs.declared.step.Step.{Step}
+use Rattle.b2_plan.specs.Plans.{Makes}
+use Rattle.b2_plan.specs.Closures.{Value}
+use Rattle.b2_plan.specs.Cleans.{Clean}
 use Rattle.b2_log.specs.declared.line.LogLine.{LogLine}
 use Rattle.b2_runs.specs.LogFiles.{log_limit, IsLogIn}
 use Rattle.b2_runs.specs.Staleness.{Update}
@@ -14,11 +17,11 @@ use Rattle.b2_runs.specs.Events.{AreInOrder, as_counted, AreShort, ShortTold}
 use Rattle.b2_runs.specs.Runs.{IsRun, IsBegun, AreFed}
 use Rattle.b2_runs.specs.Outcomes.{NoneStuck, AllWent, HasCleanBytes, IsCleanBuild, LeavesNothing, OnlyOutputsChange}
 use Rattle.b2_runs.specs.Cycles.{IsStepCycle}
-use Rattle.b2_runs.specs.Soundness.{AreAtWork}
+use Rattle.b2_runs.specs.Soundness.{AreAtWork, Holds}
 use Rattle.b2_runs.specs.Afterwards.{IsNoted}
 use Rattle.b2_runs.specs.FileReads.{IsTooBig, ReadsOnce}
 use Rattle.b2_runs.specs.LogCourses.{held_bytes, log_file, IsLogWhole, IsLogCut}
-use Rattle.b2_runs.specs.Reports.{Lists, no_lists, AreLists, event_lines, report, cycle_line, too_big_line, host_fault_line, TellsStarts, StopsAtWrite}
+use Rattle.b2_runs.specs.Reports.{Lists, no_lists, AreLists, event_lines, report, cycle_line, too_big_line, host_fault_line, TellsStarts, StopsAtEvent, StopsAtEnd}
 use Rattle.b2_runs.specs.Moments.{Moment}
 
 -- How an update ends, and what its answer says.
@@ -116,7 +119,7 @@ AnswerTold u events now out_of_memory = ⊤
 
 -- All that an update has done between two moments at which the files are visible. The events, each start with what it was
 -- given, are the beginning of a run, and those of its children that still run are at work. Nothing but the log and outputs of
--- started steps has changed. Each read was called for. The log's file is one that an update may leave that was cut off, and its
+-- started steps has changed, and what was done well stands, so that nothing of it was removed. Each read was called for. The log's file is one that an update may leave that was cut off, and its
 -- last lines are on what was done in a run so far that holds each start.
 pub record HasUpdated (u : Update) (answer : UpdateAnswer) (old new : Outside) (before after : Disk) : Type 0 where
   pub events : List ChildEvent
@@ -127,6 +130,7 @@ pub record HasUpdated (u : Update) (answer : UpdateAnswer) (old new : Outside) (
   pub fed : AreFed u events given
   pub at_work : AreAtWork u events new.children.running
   pub changed : OnlyOutputsChange u events before.now after.now
+  pub done_well : (i : ℕ) (step : Step) (path : List ℕ) → Makes u.build.steps i step path → Contains events (Done i true) → (value : Value) × Clean u.build path value × Holds after.now path value
   pub reads : List Read
   pub reads_are : IfSome old.reads (λ list. new.reads ≡ Some (list ++ reads))
   pub once : ReadsOnce u events after.past reads
@@ -147,15 +151,20 @@ WithLog now P out_of_memory = (log : List LogLine) → IsLogIn now log → P log
 
 -- ---- the bytes
 
--- what an answer says of the bytes that the update wrote; the line of a refusal comes after them
-abbrev pub WrittenBy : Update → List ChildEvent → UpdateAnswer → List ℕ → Type 0
-WrittenBy u events all_went written = written ≡ report u.build.steps events no_lists
-WrittenBy u events (failed lists) written = written ≡ report u.build.steps events lists
-WrittenBy u events (step_cycle list) written = written ≡ event_lines u.build.steps events
-WrittenBy u events (too_big path size) written = TellsStarts u.build.steps events written
-WrittenBy u events host_fault written = TellsStarts u.build.steps events written
-WrittenBy u events sink_fault written = StopsAtWrite u events written
-WrittenBy u events out_of_memory written = TellsStarts u.build.steps events written ⊎ StopsAtWrite u events written
+-- Where a fault of the sink stops the writing it stops the log too: what the log's file holds is called for by the events up to
+-- the one at whose line the writing stopped.
+abbrev pub StopsWithLog : Update → List ChildEvent → Folder → List ℕ → Type 0
+StopsWithLog u events now written = ((stop : StopsAtEvent u.build.steps events written) × IsLogCut u (stop.front ++ stop.event ∷ []) now) ⊎ StopsAtEnd u events written
+
+-- what an answer says of the bytes that the update wrote, and of its log where these stop; the line of a refusal comes after them
+abbrev pub WrittenBy : Update → List ChildEvent → Folder → UpdateAnswer → List ℕ → Type 0
+WrittenBy u events now all_went written = written ≡ report u.build.steps events no_lists
+WrittenBy u events now (failed lists) written = written ≡ report u.build.steps events lists
+WrittenBy u events now (step_cycle list) written = written ≡ event_lines u.build.steps events
+WrittenBy u events now (too_big path size) written = TellsStarts u.build.steps events written
+WrittenBy u events now host_fault written = TellsStarts u.build.steps events written
+WrittenBy u events now sink_fault written = StopsWithLog u events now written
+WrittenBy u events now out_of_memory written = TellsStarts u.build.steps events written ⊎ StopsWithLog u events now written
 
 -- the line of a refusal, which comes last, where there is one
 abbrev pub refusal_line : List Step → UpdateAnswer → List ℕ

@@ -1,5 +1,5 @@
 //! Laws of the answers of an update: what each says, and that no two are said of one run.
-ghost use Rattle.b2_runs.specs.AnswerLaws.{ListsAreOne, MayAnswerAllWent, AllWentLacksNothing, AllWentHasNoCycle, FailedHasNoCycle, AllWentStartsNothing, CycleEndsNoReport, AllWentHasNoBadEnd, SinkFaultIsFirst, UpdateReadsOnce};
+ghost use Rattle.b2_runs.specs.AnswerLaws.{ListsAreOne, MayAnswerAllWent, AllWentLacksNothing, AllWentHasNoCycle, FailedHasNoCycle, AllWentStartsNothing, CycleEndsNoReport, AllWentHasNoBadEnd, SinkFaultIsFirst, UpdateReadsOnce, DoneWellStands};
 
 /// An update may answer that all went well where each needed step is settled and none failed.
 pub fn may_answer_all_went()
@@ -49,4 +49,9 @@ pub fn sink_fault_is_first()
 /// Judged by stamps, an update reads no file whose scan line the log had then.
 pub fn update_reads_once()
     ensures { UpdateReadsOnce }
+{}
+
+/// Wherever an update ends, each output stands that a step owes which was done well.
+pub fn done_well_stands()
+    ensures { DoneWellStands }
 {}
