@@ -8,7 +8,7 @@ use Rattle.b2_runs.specs.LogCourses.{IsLogCut}
 use Rattle.b2_runs.specs.Reports.{no_lists, report}
 use Rattle.b2_runs.specs.Moments.{Moment}
 use Rattle.b2_runs.specs.UpdateAnswers.{UpdateAnswer.all_went, UpdateAnswer.host_fault, HasUpdated}
-use Rattle.b2_runs.specs.Sessions.{Happening.update, Happening.stop, IsSession}
+use Rattle.b2_runs.specs.Sessions.{Happening.update, Happening.stop, IsUpdate, IsSession}
 use Rattle.b2_run_examples.specs.Examples.{copying, copied, disk_before, in_past, out_past, copy_bytes, with_log, family_after}
 
 -- what stands and stood after the update that copies, the log's file among it
@@ -41,9 +41,9 @@ moment_after = record {
 -- The update that copies has done all that an update does which answers that all went well; so it alone is a session.
 pub record CopySessionHolds : Type 0 where
   pub updated : HasUpdated copying all_went moment_before.host moment_after.host disk_before disk_logged
-  pub session : IsSession moment_before (update copying ∷ []) (all_went ∷ []) moment_after
+  pub session : IsSession IsUpdate moment_before (update copying ∷ []) (all_went ∷ []) moment_after
   -- where the writing stopped at the line of the start, the log has no record, though the step was then done well
   pub no_record : ¬ IsLogCut copying (Start 1 ∷ []) disk_logged.now
   -- no session has an update or a stop that answers a fault of the host where no call failed
-  pub no_silent_update : ¬ IsSession moment_before (update copying ∷ []) (host_fault ∷ []) moment_before
-  pub no_silent_stop : ¬ IsSession moment_before (stop copying ∷ []) (host_fault ∷ []) moment_before
+  pub no_silent_update : ¬ IsSession IsUpdate moment_before (update copying ∷ []) (host_fault ∷ []) moment_before
+  pub no_silent_stop : ¬ IsSession IsUpdate moment_before (stop copying ∷ []) (host_fault ∷ []) moment_before

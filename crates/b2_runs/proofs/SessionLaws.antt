@@ -17,8 +17,8 @@ use Rattle.b2_runs.specs.Afterwards.{at_present}
 use Rattle.b2_runs.specs.LogCourses.{held_bytes}
 use Rattle.b2_runs.specs.UpdateAnswers.{UpdateAnswer, UpdateAnswer.all_went, UpdateAnswer.host_fault}
 use Rattle.b2_runs.specs.Moments.{Moment, Shows}
-use Rattle.b2_runs.specs.Sessions.{Happening, Happening.edit, Happening.update, Happening.stop, IsEdited, IsTrueAt, IsUpdate, IsStop, IsSession}
-use Rattle.b2_runs.specs.SessionLaws.{TrueThroughEdit, TrueThroughStop, TrueThroughSession, UpdateLeavesClean, SessionEndsClean, NotedThroughReopen, UpdateCountsFault, StopCountsFault, UpdateLeavesNone, StopLeavesNone}
+use Rattle.b2_runs.specs.Sessions.{Happening, Happening.edit, Happening.update, Happening.stop, IsEdited, IsTrueAt, IsUpdate, IsUpdateMaking, IsStop, IsSession}
+use Rattle.b2_runs.specs.SessionLaws.{TrueThroughEdit, TrueThroughStop, LeaveTrue, UpdatesLeaveTrue, TrueThroughSession, SessionEndsWith, UpdateLeavesClean, SessionEndsClean, NotedThroughReopen, UpdateCountsFault, StopCountsFault, UpdateLeavesNone, StopLeavesNone}
 use Rattle.b2_runs.proofs.LogFileLaws.{true_where_missing, true_where_still}
 use Rattle.b2_runs.proofs.SettledLaws.{log_in_roots}
 use Rattle.b2_runs.proofs.SoundLaws.{work_drifts}
@@ -86,13 +86,27 @@ true_through_stop u answer before after s t =
 true_through_update : (u : Update) (answer : UpdateAnswer) (before after : Moment) → IsUpdate u answer before after → IsTrueAt (making u) before → IsTrueAt (making u) after
 true_through_update u answer before after is t = true_at (making u) after is.new is.shows_then (is.stays_true (true_shown (making u) before is.old is.shows t))
 
-pub true_through_session : TrueThroughSession
-true_through_session m first last [] answers make (none, same) t = subst (IsTrueAt m) (sym same) t
-true_through_session m first last (edit path bytes ∷ more) answers make (next, here, later, e, (none, is), rest) t = true_through_session m next last more later make rest (true_through_edit m path bytes first next is t)
-true_through_session m first last (update u ∷ more) answers (make, others) (next, here, later, e, (answer, one, is, idle), rest) t =
-    true_through_session m next last more later others rest (subst (λ k. IsTrueAt k next) make (true_through_update u answer first next is (subst (λ k. IsTrueAt k first) (sym make) t)))
-true_through_session m first last (stop u ∷ more) answers (make, others) (next, here, later, e, (answer, one, is), rest) t =
-    true_through_session m next last more later others rest (subst (λ k. IsTrueAt k next) make (true_through_stop u answer first next is (subst (λ k. IsTrueAt k first) (sym make) t)))
+-- an update of the one kind that was stopped is one of the other kind
+stop_of_making : (m : Making) (u : Update) (answer : UpdateAnswer) (before after : Moment) → IsStop (IsUpdateMaking m) u answer before after → (making u ≡ m) × IsStop IsUpdate u answer before after
+stop_of_making m u answer before after s = (s.updated.0, record { between = s.between; updated = s.updated.1; events = s.events; events_are = s.events_are; reopened = s.reopened })
+
+pub updates_leave_true : UpdatesLeaveTrue
+updates_leave_true m = record {
+  updates = λ u answer before after (make, is) t. subst (λ k. IsTrueAt k after) make (true_through_update u answer before after is (subst (λ k. IsTrueAt k before) (sym make) t));
+  stops = λ u answer before after s t.
+      let (make, is) = stop_of_making m u answer before after s in
+      subst (λ k. IsTrueAt k after) make (true_through_stop u answer before after is (subst (λ k. IsTrueAt k before) (sym make) t));
+}
+
+module _ {Asked Answer : Type 0} (Follows : Asked → Answer → Moment → Moment → Type 0) where
+  pub true_through_session : TrueThroughSession Follows
+  true_through_session m leave first last [] answers (none, same) t = subst (IsTrueAt m) (sym same) t
+  true_through_session m leave first last (edit path bytes ∷ more) answers (next, here, later, e, (none, is), rest) t =
+      true_through_session m leave next last more later rest (true_through_edit m path bytes first next is t)
+  true_through_session m leave first last (update asked ∷ more) answers (next, here, later, e, (answer, one, is, idle), rest) t =
+      true_through_session m leave next last more later rest (leave.updates asked answer first next is t)
+  true_through_session m leave first last (stop asked ∷ more) answers (next, here, later, e, (answer, one, is), rest) t =
+      true_through_session m leave next last more later rest (leave.stops asked answer first next is t)
 
 -- ---- the clean build
 
@@ -111,31 +125,40 @@ update_leaves_clean u before after is =
     (clean_now b is.new.now
     (λ path outside. h.changed path (λ e. outside (subst (IsInRoots u.build.roots) (sym e) (log_in_roots u.build is.apart))) (λ i step started makes. outside (is.apart.under_root i step path makes))) h.told.2)
 
--- a list with a last element is not empty
-some_last : (zs : List UpdateAnswer) (z : UpdateAnswer) → [] ≡ zs ++ z ∷ [] → ⊥
-some_last [] z e = let f : [] ≡ z ∷ [] = e in cc
-some_last (w ∷ zs) z e = let f : [] ≡ w ∷ (zs ++ z ∷ []) = e in cc
+-- ---- the last event of a session
 
--- the last of two lists that are one
-last_same : (xs ys : List UpdateAnswer) (x y : UpdateAnswer) → xs ++ x ∷ [] ≡ ys ++ y ∷ [] → x ≡ y
-last_same [] [] x y e = let f : x ∷ [] ≡ y ∷ [] = e in cc
-last_same [] (z ∷ ys) x y e = absurd (some_last ys y (let f : x ∷ [] ≡ z ∷ (ys ++ y ∷ []) = e in cc))
-last_same (z ∷ xs) [] x y e = absurd (some_last xs x (let f : z ∷ (xs ++ x ∷ []) ≡ y ∷ [] = e in (let g : xs ++ x ∷ [] ≡ [] = cc in sym g)))
-last_same (z ∷ xs) (w ∷ ys) x y e = last_same xs ys x y (let f : z ∷ (xs ++ x ∷ []) ≡ w ∷ (ys ++ y ∷ []) = e in cc)
+module _ {X : Type 0} where
+  -- a list with a last element is not empty
+  some_last : (zs : List X) (z : X) → [] ≡ zs ++ z ∷ [] → ⊥
+  some_last [] z e = let f : [] ≡ z ∷ [] = e in cc
+  some_last (w ∷ zs) z e = let f : [] ≡ w ∷ (zs ++ z ∷ []) = e in cc
 
--- the last update of a session, and its answer
-session_last : (u : Update) (first last : Moment) (happenings : List Happening) (answers : List UpdateAnswer) → IsSession first (happenings ++ update u ∷ []) answers last
-    → (before : Moment) × (more : List UpdateAnswer) × (answer : UpdateAnswer) × (answers ≡ more ++ answer ∷ []) × IsUpdate u answer before last
-session_last u first last [] answers (next, here, later, e, (answer, one, is, idle), (none, same)) =
-    (first, [], answer, e ∙ (λ i. one i ++ none i), subst (IsUpdate u answer first) (sym same) is)
-session_last u first last (h ∷ more) answers (next, here, later, e, comes, rest) =
-    let (before, others, answer, f, is) = session_last u next last more later rest in
-    (before, here ++ others, answer, e ∙ ap (λ (l : List UpdateAnswer). here ++ l) f ∙ sym (append_assoc here others (answer ∷ [])), is)
+  -- the last of two lists that are one
+  last_same : (xs ys : List X) (x y : X) → xs ++ x ∷ [] ≡ ys ++ y ∷ [] → x ≡ y
+  last_same [] [] x y e = let f : x ∷ [] ≡ y ∷ [] = e in cc
+  last_same [] (z ∷ ys) x y e = absurd (some_last ys y (let f : x ∷ [] ≡ z ∷ (ys ++ y ∷ []) = e in cc))
+  last_same (z ∷ xs) [] x y e = absurd (some_last xs x (let f : z ∷ (xs ++ x ∷ []) ≡ y ∷ [] = e in (let g : xs ++ x ∷ [] ≡ [] = cc in sym g)))
+  last_same (z ∷ xs) (w ∷ ys) x y e = last_same xs ys x y (let f : z ∷ (xs ++ x ∷ []) ≡ w ∷ (ys ++ y ∷ []) = e in cc)
+
+module _ {Asked Answer : Type 0} (Follows : Asked → Answer → Moment → Moment → Type 0) where
+  -- what was asked for last in a session, and its answer
+  session_last : (asked : Asked) (first last : Moment) (happenings : List (Happening Asked)) (answers : List Answer) → IsSession Follows first (happenings ++ update asked ∷ []) answers last
+      → (before : Moment) × (more : List Answer) × (answer : Answer) × (answers ≡ more ++ answer ∷ []) × Follows asked answer before last
+  session_last asked first last [] answers (next, here, later, e, (answer, one, is, idle), (none, same)) =
+      (first, [], answer, e ∙ (λ i. one i ++ none i), subst (Follows asked answer first) (sym same) is)
+  session_last asked first last (h ∷ more) answers (next, here, later, e, comes, rest) =
+      let (before, others, answer, f, is) = session_last asked next last more later rest in
+      (before, here ++ others, answer, e ∙ ap (λ (l : List Answer). here ++ l) f ∙ sym (append_assoc here others (answer ∷ [])), is)
+
+  pub session_ends_with : SessionEndsWith Follows
+  session_ends_with asked answer first last happenings answers s =
+      let (before, more, other, e, is) = session_last asked first last happenings (answers ++ answer ∷ []) s in
+      (before, subst (λ a. Follows asked a before last) (sym (last_same answers more answer other e)) is)
 
 pub session_ends_clean : SessionEndsClean
 session_ends_clean u first last happenings answers s =
-    let (before, more, answer, e, is) = session_last u first last happenings (answers ++ all_went ∷ []) s in
-    update_leaves_clean u before last (subst (λ a. IsUpdate u a before last) (sym (last_same answers more all_went answer e)) is)
+    let (before, is) = session_ends_with IsUpdate u all_went first last happenings answers s in
+    update_leaves_clean u before last is
 
 -- ---- stops
 
@@ -150,24 +173,24 @@ noted_through_reopen u answer old before now between after log apart shows h r i
     ]
 
 -- the one update or stop of a session, with its answer
-only_update : (u : Update) (answer : UpdateAnswer) (first last : Moment) → IsSession first (update u ∷ []) (answer ∷ []) last → IsUpdate u answer first last × (last.host.children.running ≡ [])
+only_update : (u : Update) (answer : UpdateAnswer) (first last : Moment) → IsSession IsUpdate first (update u ∷ []) (answer ∷ []) last → IsUpdate u answer first last × (last.host.children.running ≡ [])
 only_update u answer first last (next, here, later, e, (other, one, is, idle), (none, same)) =
     let f : answer ∷ [] ≡ other ∷ [] = e ∙ (λ i. one i ++ none i) in
     let g : answer ≡ other = cc in
     (subst₂ (λ a w. IsUpdate u a first w) (sym g) (sym same) is, subst (λ (w : Moment). w.host.children.running ≡ []) (sym same) idle)
 
-only_stop : (u : Update) (answer : UpdateAnswer) (first last : Moment) → IsSession first (stop u ∷ []) (answer ∷ []) last → IsStop u answer first last
+only_stop : (u : Update) (answer : UpdateAnswer) (first last : Moment) → IsSession IsUpdate first (stop u ∷ []) (answer ∷ []) last → IsStop IsUpdate u answer first last
 only_stop u answer first last (next, here, later, e, (other, one, is), (none, same)) =
     let f : answer ∷ [] ≡ other ∷ [] = e ∙ (λ i. one i ++ none i) in
     let g : answer ≡ other = cc in
-    subst₂ (λ a w. IsStop u a first w) (sym g) (sym same) is
+    subst₂ (λ a w. IsStop IsUpdate u a first w) (sym g) (sym same) is
 
 pub update_counts_fault : UpdateCountsFault
 update_counts_fault u first last below s = (only_update u host_fault first last s).0.caused.0.more below
 
 pub stop_counts_fault : StopCountsFault
 stop_counts_fault u first last below s =
-    let is : IsStop u host_fault first last = only_stop u host_fault first last s in
+    let is : IsStop IsUpdate u host_fault first last = only_stop u host_fault first last s in
     subst (λ (w : Moment). first.host.faults < w.host.faults) (sym is.reopened.same) (is.updated.caused.0.more below)
 
 pub update_leaves_none : UpdateLeavesNone

@@ -13,7 +13,7 @@ use Rattle.b2_runs.specs.Afterwards.{IsNoted}
 use Rattle.b2_runs.specs.LogCourses.{held_bytes, log_file}
 use Rattle.b2_runs.specs.Moments.{Moment, Shows}
 use Rattle.b2_runs.specs.UpdateAnswers.{UpdateAnswer, UpdateAnswer.all_went, UpdateAnswer.host_fault, HasUpdated}
-use Rattle.b2_runs.specs.Sessions.{Happening, Happening.update, Happening.stop, IsEdit, IsTrueAt, IsUpdate, IsStop, IsReopened, IsSession, AllMake}
+use Rattle.b2_runs.specs.Sessions.{Happening, Happening.update, Happening.stop, IsEdit, IsTrueAt, IsUpdate, IsUpdateMaking, IsStop, IsReopened, IsSession}
 
 -- an edit leaves a true log true
 abbrev pub TrueThroughEdit : Type 0
@@ -21,11 +21,21 @@ TrueThroughEdit = (m : Making) (path : List ℕ) (bytes : Option (List ℕ)) (be
 
 -- so does an update that is stopped, with the host opened again after it
 abbrev pub TrueThroughStop : Type 0
-TrueThroughStop = (u : Update) (answer : UpdateAnswer) (before after : Moment) → IsStop u answer before after → IsTrueAt (making u) before → IsTrueAt (making u) after
+TrueThroughStop = (u : Update) (answer : UpdateAnswer) (before after : Moment) → IsStop IsUpdate u answer before after → IsTrueAt (making u) before → IsTrueAt (making u) after
 
--- and so does a whole session
-abbrev pub TrueThroughSession : Type 0
-TrueThroughSession = (m : Making) (first last : Moment) (happenings : List Happening) (answers : List UpdateAnswer) → AllMake m happenings → IsSession first happenings answers last → IsTrueAt m first → IsTrueAt m last
+-- what follows on something that is asked for leaves a true log true, and so it does where it is stopped
+pub record LeaveTrue (m : Making) {Asked Answer : Type 0} (Follows : Asked → Answer → Moment → Moment → Type 0) : Type 0 where
+  pub updates : (asked : Asked) (answer : Answer) (before after : Moment) → Follows asked answer before after → IsTrueAt m before → IsTrueAt m after
+  pub stops : (asked : Asked) (answer : Answer) (before after : Moment) → IsStop Follows asked answer before after → IsTrueAt m before → IsTrueAt m after
+
+-- updates of plans do, whose steps make the same of bytes
+abbrev pub UpdatesLeaveTrue : Type 0
+UpdatesLeaveTrue = (m : Making) → LeaveTrue m (IsUpdateMaking m)
+
+-- and so does a whole session of what does
+abbrev pub TrueThroughSession : {Asked Answer : Type 0} → (Asked → Answer → Moment → Moment → Type 0) → Type 0
+TrueThroughSession {Asked} {Answer} Follows = (m : Making) → LeaveTrue m Follows
+    → (first last : Moment) (happenings : List (Happening Asked)) (answers : List Answer) → IsSession Follows first happenings answers last → IsTrueAt m first → IsTrueAt m last
 
 -- at a moment each wanted file is that of the clean build of the sources as they stand then
 abbrev pub IsCleanAt : Update → Moment → Type 0
@@ -35,9 +45,14 @@ IsCleanAt u moment = IfSome moment.host.disk (λ disk. IsCleanBuild (record u.bu
 abbrev pub UpdateLeavesClean : Type 0
 UpdateLeavesClean = (u : Update) (before after : Moment) → IsUpdate u all_went before after → IsCleanAt u after
 
+-- where a session ends with something that is asked for, it follows between some moment and the last one
+abbrev pub SessionEndsWith : {Asked Answer : Type 0} → (Asked → Answer → Moment → Moment → Type 0) → Type 0
+SessionEndsWith {Asked} {Answer} Follows = (asked : Asked) (answer : Answer) (first last : Moment) (happenings : List (Happening Asked)) (answers : List Answer)
+    → IsSession Follows first (happenings ++ update asked ∷ []) (answers ++ answer ∷ []) last → (before : Moment) × Follows asked answer before last
+
 -- so it is at the end of a session whose last event is such an update
 abbrev pub SessionEndsClean : Type 0
-SessionEndsClean = (u : Update) (first last : Moment) (happenings : List Happening) (answers : List UpdateAnswer) → IsSession first (happenings ++ update u ∷ []) (answers ++ all_went ∷ []) last → IsCleanAt u last
+SessionEndsClean = (u : Update) (first last : Moment) (happenings : List (Happening Update)) (answers : List UpdateAnswer) → IsSession IsUpdate first (happenings ++ update u ∷ []) (answers ++ all_went ∷ []) last → IsCleanAt u last
 
 -- what the log's last lines were on when an update was stopped they still are when the host is opened again
 abbrev pub NotedThroughReopen : Type 0
@@ -46,15 +61,15 @@ NotedThroughReopen = (u : Update) (answer : UpdateAnswer) (old : Outside) (befor
 
 -- an update of a session that answers a fault of the host has raised the host's count of faults, unless it is at the greatest
 abbrev pub UpdateCountsFault : Type 0
-UpdateCountsFault = (u : Update) (first last : Moment) → first.host.faults < greatest_count → IsSession first (update u ∷ []) (host_fault ∷ []) last → first.host.faults < last.host.faults
+UpdateCountsFault = (u : Update) (first last : Moment) → first.host.faults < greatest_count → IsSession IsUpdate first (update u ∷ []) (host_fault ∷ []) last → first.host.faults < last.host.faults
 
 -- and so has one that was stopped
 abbrev pub StopCountsFault : Type 0
-StopCountsFault = (u : Update) (first last : Moment) → first.host.faults < greatest_count → IsSession first (stop u ∷ []) (host_fault ∷ []) last → first.host.faults < last.host.faults
+StopCountsFault = (u : Update) (first last : Moment) → first.host.faults < greatest_count → IsSession IsUpdate first (stop u ∷ []) (host_fault ∷ []) last → first.host.faults < last.host.faults
 
 -- no child runs after an update of a session, nor after one that was stopped and whose host was opened again
 abbrev pub UpdateLeavesNone : Type 0
-UpdateLeavesNone = (u : Update) (answer : UpdateAnswer) (first last : Moment) → IsSession first (update u ∷ []) (answer ∷ []) last → last.host.children.running ≡ []
+UpdateLeavesNone = (u : Update) (answer : UpdateAnswer) (first last : Moment) → IsSession IsUpdate first (update u ∷ []) (answer ∷ []) last → last.host.children.running ≡ []
 
 abbrev pub StopLeavesNone : Type 0
-StopLeavesNone = (u : Update) (answer : UpdateAnswer) (first last : Moment) → IsSession first (stop u ∷ []) (answer ∷ []) last → last.host.children.running ≡ []
+StopLeavesNone = (u : Update) (answer : UpdateAnswer) (first last : Moment) → IsSession IsUpdate first (stop u ∷ []) (answer ∷ []) last → last.host.children.running ≡ []

@@ -16,13 +16,12 @@ use Rattle.b2_runs.specs.UpdateAnswers.{UpdateAnswer, CausedBy, LeavesNone, With
 
 -- Sessions: edits, updates, and updates that are stopped.
 
--- What happens in a session: a file is written or deleted; an update, whose own files and log do not matter here, for these are
--- the present ones; and such an update after which the host is opened again, wherever it stopped. Who says that something is a
--- session says which updates these are: nothing here says that they are of a plan that somebody asked for.
-pub data Happening : Type 0 where
-  edit : List ℕ → Option (List ℕ) → Happening
-  update : Update → Happening
-  stop : Update → Happening
+-- What happens in a session: a file is written or deleted; something is asked for, and an update follows; and such an update that
+-- is stopped, wherever that may be, after which the host is opened again.
+pub data Happening (Asked : Type 0) : Type 0 where
+  edit : List ℕ → Option (List ℕ) → Happening Asked
+  update : Asked → Happening Asked
+  stop : Asked → Happening Asked
 
 -- what is to stand at a path after an edit: nothing, or a file with these bytes and a stamp above all that stood
 abbrev pub IsEdited : Disk → Option (List ℕ) → Option File → Type 0
@@ -76,28 +75,27 @@ pub record IsReopened (events : List ChildEvent) (before after : Moment) : Type 
   pub worked : ChangesOnlyOutputs before.host.children.running old new
   pub keeps : IsConsistent new
 
--- An update was stopped, and the host was opened again.
-pub record IsStop (u : Update) (answer : UpdateAnswer) (before after : Moment) : Type 0 where
+-- the same, of an update whose steps make bytes as is said here
+abbrev pub IsUpdateMaking : Making → Update → UpdateAnswer → Moment → Moment → Type 0
+IsUpdateMaking m u answer before after = (making u ≡ m) × IsUpdate u answer before after
+
+-- An update was stopped, and the host was opened again. What follows on something that is asked for is a relation of the answer and
+-- of the moments before and after: who says that something is a session says what it is, as `IsUpdate` for given plans.
+pub record IsStop {Asked Answer : Type 0} (Follows : Asked → Answer → Moment → Moment → Type 0) (asked : Asked) (answer : Answer) (before after : Moment) : Type 0 where
   pub between : Moment
-  pub updated : IsUpdate u answer before between
+  pub updated : Follows asked answer before between
   pub events : List ChildEvent
   pub events_are : between.host.children.events ≡ before.host.children.events ++ events
   pub reopened : IsReopened events between after
 
--- what comes between two neighbouring moments, and the answers that it gives
-abbrev pub Comes : Happening → Moment → List UpdateAnswer → Moment → Type 0
-Comes (edit path bytes) before answers after = (answers ≡ []) × IsEdit path bytes before after
-Comes (update u) before answers after = (answer : UpdateAnswer) × (answers ≡ answer ∷ []) × IsUpdate u answer before after × (after.host.children.running ≡ [])
-Comes (stop u) before answers after = (answer : UpdateAnswer) × (answers ≡ answer ∷ []) × IsStop u answer before after
+module _ {Asked Answer : Type 0} (Follows : Asked → Answer → Moment → Moment → Type 0) where
+  -- what comes between two neighbouring moments, and the answers that it gives
+  abbrev pub Comes : Happening Asked → Moment → List Answer → Moment → Type 0
+  Comes (edit path bytes) before answers after = (answers ≡ []) × IsEdit path bytes before after
+  Comes (update asked) before answers after = (answer : Answer) × (answers ≡ answer ∷ []) × Follows asked answer before after × (after.host.children.running ≡ [])
+  Comes (stop asked) before answers after = (answer : Answer) × (answers ≡ answer ∷ []) × IsStop Follows asked answer before after
 
--- a session: from moment to moment, with the answers of its updates and stops in order
-abbrev pub IsSession : Moment → List Happening → List UpdateAnswer → Moment → Type 0
-IsSession first [] answers last = (answers ≡ []) × (last ≡ first)
-IsSession first (happening ∷ more) answers last = (next : Moment) × (here : List UpdateAnswer) × (later : List UpdateAnswer) × (answers ≡ here ++ later) × Comes happening first here next × IsSession next more later last
-
--- each update of a session makes the same of bytes
-abbrev pub AllMake : Making → List Happening → Type 0
-AllMake m [] = ⊤
-AllMake m (edit path bytes ∷ more) = AllMake m more
-AllMake m (update u ∷ more) = (making u ≡ m) × AllMake m more
-AllMake m (stop u ∷ more) = (making u ≡ m) × AllMake m more
+  -- a session: from moment to moment, with the answers of its updates and stops in order
+  abbrev pub IsSession : Moment → List (Happening Asked) → List Answer → Moment → Type 0
+  IsSession first [] answers last = (answers ≡ []) × (last ≡ first)
+  IsSession first (happening ∷ more) answers last = (next : Moment) × (here : List Answer) × (later : List Answer) × (answers ≡ here ++ later) × Comes happening first here next × IsSession next more later last

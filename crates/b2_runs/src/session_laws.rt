@@ -1,5 +1,26 @@
 //! Laws of sessions: the log stays true, and what an update leaves is the clean build.
-ghost use Rattle.b2_runs.specs.SessionLaws.{TrueThroughEdit, TrueThroughStop, TrueThroughSession, UpdateLeavesClean, SessionEndsClean, NotedThroughReopen, UpdateCountsFault, StopCountsFault, UpdateLeavesNone, StopLeavesNone};
+ghost use Rattle.std.specs.Prelude.{ℕ};
+ghost use Rattle.b2_runs.specs.Moments.{Moment};
+ghost use Rattle.b2_runs.specs.SessionLaws.{TrueThroughEdit, TrueThroughStop, UpdatesLeaveTrue, TrueThroughSession, SessionEndsWith, UpdateLeavesClean, SessionEndsClean, NotedThroughReopen, UpdateCountsFault, StopCountsFault, UpdateLeavesNone, StopLeavesNone};
+
+use std::marker::Brand;
+
+/// What is asked for in a session, and what follows on it: an answer, and another moment.
+pub trait Follow {
+    ghost Asked: { Type 0 };
+
+    ghost Answer: { Type 0 };
+
+    ghost follows: { Asked → Answer → Moment → Moment → Type 0 };
+}
+
+impl Follow for Brand {
+    ghost Asked = { ℕ };
+
+    ghost Answer = { ℕ };
+
+    ghost follows = { λ asked answer before after. ⊥ };
+}
 
 /// An edit leaves a true log true.
 pub fn true_through_edit()
@@ -11,9 +32,19 @@ pub fn true_through_stop()
     ensures { TrueThroughStop }
 {}
 
-/// So does a whole session.
-pub fn true_through_session()
-    ensures { TrueThroughSession }
+/// Updates of plans do, whose steps make the same of bytes, and they do where they are stopped.
+pub fn updates_leave_true()
+    ensures { UpdatesLeaveTrue }
+{}
+
+/// So does a whole session of what leaves a true log true.
+pub fn true_through_session<F: Follow>()
+    ensures { TrueThroughSession F.follows }
+{}
+
+/// Where a session ends with something that is asked for, it follows between some moment and the last one.
+pub fn session_ends_with<F: Follow>()
+    ensures { SessionEndsWith F.follows }
 {}
 
 /// An update that answers that all went well leaves the clean build of the sources as they stand then.

@@ -2,4 +2,4 @@ use Rattle.b2_runs.proofs.SessionLaws.{true_through_session}
 use Rattle.b2_runs.proofs.session_laws.true_through_session.Goals as goal
 
 pub returns : goal.returns
-returns c = true_through_session
+returns g c = true_through_session g.F.Follow.follows

@@ -1,0 +1,5 @@
+use Rattle.b2_runs.proofs.SessionLaws.{session_ends_with}
+use Rattle.b2_runs.proofs.session_laws.session_ends_with.Goals as goal
+
+pub returns : goal.returns
+returns g c = session_ends_with g.F.Follow.follows

@@ -1,0 +1,5 @@
+use Rattle.b2_runs.proofs.SessionLaws.{updates_leave_true}
+use Rattle.b2_runs.proofs.session_laws.updates_leave_true.Goals as goal
+
+pub returns : goal.returns
+returns c = updates_leave_true
