@@ -1,4 +1,4 @@
-use Rattle.std.proofs.Common.{◌≡◌, ◌⊎◌, ℕ, ◌<◌, ◌≤◌, Bool, true, false, List, [], ◌∷◌, ◌++◌, append_assoc, inl, inr, refl, sym, ap, subst, subst₂, ◌∙◌, arith, Some, None, if◌then◌else◌}
+use Rattle.std.proofs.Common.{◌≡◌, ◌⊎◌, ℕ, ◌<◌, ◌≤◌, Bool, true, false, List, [], ◌∷◌, ◌++◌, inl, inr, refl, sym, ap, subst, subst₂, ◌∙◌, arith, Some, None, if◌then◌else◌}
 use Rattle.std.specs.List.{Contains}
 use Rattle.std.specs.Str.{bytes_eq}
 use Rattle.std.proofs.lemmas.Slice.Eq.{bytes_eq-Decides}
@@ -196,7 +196,7 @@ no_record (between first log front rest is so_far ends begin after file) =
     cc
 no_record (within first log line front more rest part missing is so_far ends begin after later split file) =
     let same : first ≡ [] = begins_with_one [] first [] begin begins_empty in
-    let whole : Start 1 ∷ [] ≡ (front ++ more) ++ rest = is ∙ sym (append_assoc front more rest) in
+    let whole : Start 1 ∷ [] ≡ (front ++ more) ++ rest = is in
     let empty : log ++ line ∷ [] ≡ [] = no_line disk_logged.now (front ++ more) (log ++ line ∷ []) (subst (λ l. IsLogAfter copying disk_logged.now l (front ++ more) (log ++ line ∷ [])) same later) (none_done (front ++ more) rest whole) in
     Contains_nil line (subst (λ l. Contains l line) empty (Contains-push log line))
 
