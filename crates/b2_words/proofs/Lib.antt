@@ -1,0 +1,14 @@
+pub mod Leads
+pub mod Numerals
+pub mod Readings
+pub mod Requests
+pub mod Rows
+pub mod Shown
+pub mod WordShapes
+pub mod Groups
+pub mod Longs
+pub mod Walks
+pub mod Bridge
+pub mod Clean
+pub mod Taken
+pub mod Meanings

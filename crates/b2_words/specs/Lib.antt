@@ -1,0 +1,4 @@
+pub mod Grouped
+pub mod Numbers
+pub mod Parser
+pub mod Words

@@ -1,0 +1,13 @@
+//! The words of the command line: which command they ask for, with which options, and the words that are no options.
+//!
+//! `reader::read_words` answers `Usage` exactly where the words are not of the grammar, which `specs/Words` defines apart
+//! from the code; else it answers what the grammar gives.
+#![tactic(auto)]
+
+pub mod fault;
+mod grouped;
+mod number;
+mod parser;
+pub mod reader;
+mod values;
+pub mod words;

@@ -1,0 +1,81 @@
+//! The command by its name.
+use b2_base::text::Text;
+use b2_words::fault::WordsFault;
+use b2_words::reader::read_words;
+use b2_words::words::{BuildOptions, Command as Asked, View, Words};
+use std::alloc::Global;
+use transcript::answer::Answer;
+use transcript::case_fault::CaseFault;
+use transcript::command::{Command, Word};
+use transcript::session::Session;
+
+/// Nothing is kept from one command to the next.
+#[derive(Drop)]
+pub struct Cases;
+
+fn texts(alloc: Global, words: &[Word]) -> Result<Vec<Text>, CaseFault> {
+    let mut made = Vec::new(alloc);
+    for word in words {
+        made.push(word.as_text(alloc)?)?;
+    }
+    Ok(made)
+}
+
+fn build_line(alloc: Global, options: BuildOptions) -> Result<String, CaseFault> {
+    let jobs = options.jobs;
+    let mut line = format!(in alloc; "build {jobs}")?;
+    if options.all {
+        line.push_str(" all")?;
+    }
+    if options.quit {
+        line.push_str(" quit")?;
+    }
+    if options.digest {
+        line.push_str(" digest")?;
+    }
+    Ok(line)
+}
+
+fn command_line(alloc: Global, command: Asked) -> Result<String, CaseFault> {
+    match command {
+        Asked::Build(options) => build_line(alloc, options),
+        Asked::Look(View::Steps) => Ok(String::from_str(alloc, "look steps")?),
+        Asked::Look(View::Table) => Ok(String::from_str(alloc, "look table")?),
+        Asked::Drill { steps } => Ok(format!(in alloc; "drill {steps}")?),
+    }
+}
+
+fn push_word(alloc: Global, answer: &mut Answer, word: &Text) -> Result<(), CaseFault> {
+    let word = word.as_str();
+    let line = format!(in alloc; "<{word}>")?;
+    answer.push_line(line.as_str())
+}
+
+fn shown(alloc: Global, words: &Words) -> Result<Answer, CaseFault> {
+    let line = command_line(alloc, words.command)?;
+    let mut answer = Answer::line(alloc, line.as_str())?;
+    for word in words.words.as_slice() {
+        push_word(alloc, &mut answer, word)?;
+    }
+    Ok(answer)
+}
+
+fn answer(alloc: Global, words: &[Text]) -> Result<Answer, CaseFault> {
+    match read_words(alloc, words) {
+        Ok(words) => shown(alloc, &words),
+        Err(WordsFault::Usage) => Answer::line(alloc, "usage"),
+        Err(WordsFault::OutOfMemory) => Err(CaseFault::OutOfMemory),
+    }
+}
+
+impl Session for Cases {
+    fn carry_out(&mut self, alloc: Global, command: &Command) -> Result<Answer, CaseFault> {
+        match command.name() {
+            "read_words" => {
+                let texts = texts(alloc, command.words())?;
+                answer(alloc, texts.as_slice())
+            }
+            _ => Err(CaseFault::UnknownCommand),
+        }
+    }
+}
