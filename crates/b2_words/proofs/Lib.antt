@@ -5,6 +5,7 @@ pub mod Requests
 pub mod Rows
 pub mod Shown
 pub mod WordShapes
+pub mod Grouping
 pub mod Groups
 pub mod Longs
 pub mod Walks

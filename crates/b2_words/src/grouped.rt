@@ -7,16 +7,18 @@ ghost use Rattle.b2_words.specs.Grouped.{has_n, is_grouped, any_grouped};
 use b2_base::text::Text;
 
 /// Whether an `n` stands before any `j`, behind which the value of `-j` begins.
-#[tactic(auto, unfolding(crate::specs::Grouped::has_n))]
 fn has_n(letters: &[u8]) -> bool
     ensures { result ≡ has_n letters.now }
 {
-    match letters {
-        [] => false,
-        [b'n', ..] => true,
-        [b'j', ..] => false,
-        [_, rest @ ..] => has_n(rest),
+    for letter in letters {
+        if *letter == b'n' {
+            return true;
+        }
+        if *letter == b'j' {
+            return false;
+        }
     }
+    false
 }
 
 #[tactic(auto, unfolding(crate::specs::Grouped::has_n))]
@@ -31,17 +33,16 @@ fn is_grouped(word: &[u8]) -> bool
 }
 
 /// Whether a word before the first `--` is a group of letters with an `n`.
-#[tactic(auto, unfolding(crate::specs::Grouped::any_grouped))]
 pub fn any_grouped(words: &[Text]) -> bool
     ensures { result ≡ any_grouped words.now }
 {
-    match words {
-        [] => false,
-        [word, rest @ ..] => {
-            if word.as_str() == "--" {
-                return false;
-            }
-            is_grouped(word.as_str().as_bytes()) || any_grouped(rest)
+    for word in words {
+        if word.as_str() == "--" {
+            return false;
+        }
+        if is_grouped(word.as_str().as_bytes()) {
+            return true;
         }
     }
+    false
 }
