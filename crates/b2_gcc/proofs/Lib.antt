@@ -1,0 +1,4 @@
+pub mod Clean
+pub mod Faults
+pub mod Fresh
+pub mod Spelled

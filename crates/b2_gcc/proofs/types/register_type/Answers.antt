@@ -1,0 +1,9 @@
+use Rattle.std.specs.List.{list_all}
+use Rattle.std.proofs.lemmas.Bool.{and_parts}
+use Rattle.b2_base.specs.Segments.{texts}
+use Rattle.b2_gcc.specs.Rows.{is_clean}
+use Rattle.b2_gcc.proofs.Clean.{none_zero}
+use Rattle.b2_gcc.proofs.types.register_type.Goals as goal
+
+pub owned-requires : goal.owned-requires
+owned-requires c = let row = c.args.row.now in none_zero row.suffixes.now (and_parts (is_clean row.name.now) (list_all is_clean (texts row.suffixes.now)) c.requires).1

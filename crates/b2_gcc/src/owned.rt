@@ -1,0 +1,51 @@
+//! The texts and pairs of tables.
+ghost use Rattle.std.specs.Prelude.{◌≡◌, ◌∷◌, [], ◌++◌, All, IfOk, OnOk};
+ghost use Rattle.b2_base.specs.Bytes.{HasNoZero};
+ghost use Rattle.b2_base.specs.Segments.{texts};
+ghost use Rattle.b2_gcc.specs.Rows.{pairs};
+
+use b2_base::fault::OutOfMemory;
+use b2_base::text::Text;
+use b2_base::text_list::TextList;
+use b2_props::pair_list::PairList;
+use std::alloc::Global;
+
+/// Owns some texts.
+pub(crate) fn owned(alloc: Global, words: &[&str]) -> Result<TextList, OutOfMemory>
+    requires { All (λ word. HasNoZero word.now) words.now }
+    ensures { IfOk result (λ made. made ≡ texts words.now) }
+{
+    let mut made = TextList::new(alloc);
+    for word in words {
+        made.push(Text::new(alloc, word)?)?;
+    }
+    Ok(made)
+}
+
+fn push_pair(
+    alloc: Global,
+    made: &mut PairList,
+    feature: &str,
+    value: &str,
+) -> Result<(), OutOfMemory>
+    requires feature { HasNoZero feature.now }
+    requires value { HasNoZero value.now }
+    ensures { OnOk result (made.new ≡ made.old ++ (feature.now, value.now) ∷ []) }
+{
+    let feature = Text::new(alloc, feature)?;
+    let value = Text::new(alloc, value)?;
+    made.push(feature, value)
+}
+
+/// Owns some properties.
+pub(crate) fn owned_pairs(alloc: Global, rows: &[(&str, &str)]) -> Result<PairList, OutOfMemory>
+    requires features { All (λ pair. HasNoZero pair.0.now) rows.now }
+    requires values { All (λ pair. HasNoZero pair.1.now) rows.now }
+    ensures { IfOk result (λ made. made ≡ pairs rows.now) }
+{
+    let mut made = PairList::new(alloc);
+    for pair in rows {
+        push_pair(alloc, &mut made, pair.0, pair.1)?;
+    }
+    Ok(made)
+}
