@@ -71,11 +71,13 @@ pub record IsWritten (running : List Child) (path : List ℕ) : Type 0 where
   pub runs : Contains running child
   pub out : Contains child.outs path
 
--- While these children run, nothing but their outputs changes, and all that stood stays among the past.
+-- While these children run, nothing but their outputs changes. All that stood stays among the past, and what stood besides
+-- stood at their outputs.
 pub record ChangesOnlyOutputs (running : List Child) (before after : Disk) : Type 0 where
   pub others : (path : List ℕ) → (IsWritten running path → ⊥) → after.now path ≡ before.now path
   pub more : List Past
   pub past : after.past ≡ before.past ++ more
+  pub written : (old : Past) → Contains more old → IsWritten running old.path
 
 -- the files are visible before and after, and stand to one another so, or neither time
 abbrev pub BothTold : (Disk → Disk → Type 0) → Option Disk → Option Disk → Type 0

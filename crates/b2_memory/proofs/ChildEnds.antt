@@ -15,7 +15,7 @@ use Rattle.b2_memory.specs.Stores.{PlaceMap, is_known, all_known}
 use Rattle.b2_memory.specs.Families.{child_with}
 use Rattle.b2_memory.specs.PendingWrites.{promised}
 use Rattle.b2_memory.proofs.KnownPaths.{both, and_true}
-use Rattle.b2_memory.proofs.ChildWrites.{is_in, in_contains, paths_of, other_path, more_past, stands_at, writes_in}
+use Rattle.b2_memory.proofs.ChildWrites.{is_in, in_contains, paths_of, other_path, contains_none, more_past, stands_at, writes_in}
 
 -- ---- what is promised is known
 
@@ -79,20 +79,24 @@ contains_at (y ∷ xs) (suc k) x e =
 
 pub still_works : (running : List Child) (o : Option Disk) → BothTold (ChangesOnlyOutputs running) o o
 still_works running None = tt
-still_works running (Some disk) = record { others = λ path none. refl; more = []; past = sym (append-nil disk.past) }
+still_works running (Some disk) = record { others = λ path none. refl; more = []; past = sym (append-nil disk.past); written = λ old c. absurd (contains_none old c) }
 
 -- ---- the child at a place ends
 
--- no other path changes
+-- nothing but the outputs of that child changes
 worked_on : (running : List Child) (place : ℕ) (given : Given) (well : Bool) (before : Disk) → slice_get running place ≡ Some (child_with given) → ChangesOnlyOutputs running before (all_written (writes_of given well) before)
 worked_on running place given well before e = record {
   others = λ path none. go path none (is_in (paths_of (writes_of given well)) path) refl;
-  more = (more_past (writes_of given well) before).0;
-  past = (more_past (writes_of given well) before).1;
+  more = (more_past (writes_of given well) before).more;
+  past = (more_past (writes_of given well) before).past;
+  written = λ old c. by_child old.path ((more_past (writes_of given well) before).among old c);
 }
   where
+    by_child : (path : List ℕ) → is_in (paths_of (writes_of given well)) path ≡ true → IsWritten running path
+    by_child path h = record { child = child_with given; runs = contains_at running place (child_with given) e; out = writes_in given well path h }
+
     go : (path : List ℕ) → (IsWritten running path → ⊥) → (b : Bool) → is_in (paths_of (writes_of given well)) path ≡ b → (all_written (writes_of given well) before).now path ≡ before.now path
-    go path none true h = absurd (none (record { child = child_with given; runs = contains_at running place (child_with given) e; out = writes_in given well path h }))
+    go path none true h = absurd (none (by_child path h))
     go path none false h = other_path (writes_of given well) before path h
 
 -- no stamp is above the number of files that stood

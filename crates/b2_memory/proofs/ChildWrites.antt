@@ -52,13 +52,34 @@ other_path (w ∷ writes) disk path h = go (bytes_eq w.0 path) refl h (other_pat
     go true e k more = cc
     go false e k more = more k ∙ ap (λ b. cond b (Some (next_file w.1 disk)) (disk.now path)) e
 
--- what stood is not forgotten
-pub more_past : (writes : List (List ℕ × List ℕ)) (disk : Disk) → (more : List Past) × ((all_written writes disk).past ≡ disk.past ++ more)
-more_past [] disk = ([], sym (append-nil disk.past))
+-- What stood is not forgotten, and what stood besides stood at some of the paths.
+pub record AddsAt (paths : List (List ℕ)) (before after : Disk) : Type 0 where
+  pub more : List Past
+  pub past : after.past ≡ before.past ++ more
+  pub among : (old : Past) → Contains more old → is_in paths old.path ≡ true
+
+pub contains_none : (old : Past) → Contains [] old → ⊥
+contains_none old (k, low, e) = omega arith
+
+-- one more that stood at one of the paths
+among_more : (p : Past) (more : List Past) (paths : List (List ℕ)) → ((old : Past) → Contains more old → is_in paths old.path ≡ true) → (old : Past) → Contains (p ∷ more) old → is_in (p.path ∷ paths) old.path ≡ true
+among_more p more paths rest old (zero, low, e) = ap (λ b. b || is_in paths old.path) ((bytes_eq-Decides p.path old.path).1 (ap (λ (x : Past). x.path) e))
+among_more p more paths rest old (suc k, low, e) = go (bytes_eq p.path old.path) (rest old (k, omega arith, e))
+  where
+    go : (b : Bool) → is_in paths old.path ≡ true → (b || is_in paths old.path) ≡ true
+    go true h = refl
+    go false h = h
+
+pub more_past : (writes : List (List ℕ × List ℕ)) (disk : Disk) → AddsAt (paths_of writes) disk (all_written writes disk)
+more_past [] disk = record { more = []; past = sym (append-nil disk.past); among = λ old c. absurd (contains_none old c) }
 more_past (w ∷ writes) disk =
     let p : Past = record { path = w.0; file = next_file w.1 disk } in
-    let rest : (more : List Past) × ((all_written writes (written w.0 w.1 disk)).past ≡ (disk.past ++ p ∷ []) ++ more) = more_past writes (written w.0 w.1 disk) in
-    (p ∷ rest.0, rest.1 ∙ append_assoc disk.past (p ∷ []) rest.0)
+    let rest : AddsAt (paths_of writes) (written w.0 w.1 disk) (all_written writes (written w.0 w.1 disk)) = more_past writes (written w.0 w.1 disk) in
+    record {
+      more = p ∷ rest.more;
+      past = rest.past ∙ append_assoc disk.past (p ∷ []) rest.more;
+      among = among_more p rest.more (paths_of writes) rest.among;
+    }
 
 -- At the path stands a file with these bytes, and with a stamp above a number.
 pub record Stands (disk : Disk) (path bytes : List ℕ) (low : ℕ) : Type 0 where

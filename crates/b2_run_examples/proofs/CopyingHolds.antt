@@ -4,7 +4,7 @@ use Rattle.std.specs.Str.{bytes_eq}
 use Rattle.std.proofs.lemmas.Slice.Eq.{bytes_eq-Decides}
 use Rattle.b2_host.specs.declared.children.ChildEvent.{ChildEvent}
 use Rattle.b2_host.specs.declared.children.ChildEvent.TheVariants.{Start, Done}
-use Rattle.b2_host.specs.ChildProcesses.{Given, ChangesOnlyOutputs, HasMade, Ends}
+use Rattle.b2_host.specs.ChildProcesses.{Given, IsWritten, ChangesOnlyOutputs, HasMade, Ends}
 use Rattle.b2_host.specs.Disks.{File, Past, Stood, IsConsistent, IsOneEach}
 use Rattle.b2_plan.specs.declared.step.Step.{Step}
 use Rattle.b2_plan.specs.Plans.{Makes, Apart}
@@ -250,10 +250,14 @@ defined = record {
 
 worked : ChangesOnlyOutputs family_before.running disk_before disk_after
 worked = record {
-  others = λ path none. others_after path (λ e. none (record { child = copy_child; runs = Contains_here copy_child []; out = subst (Contains (out_path ∷ [])) e (Contains_here out_path []) }));
+  others = λ path none. others_after path (λ e. none (written_out path e));
   more = out_past ∷ [];
   past = refl;
+  written = λ old c. written_out old.path (ap (λ (p : Past). p.path) (one_of out_past old c));
 }
+  where
+    written_out : (path : List ℕ) → out_path ≡ path → IsWritten family_before.running path
+    written_out path e = record { child = copy_child; runs = Contains_here copy_child []; out = subst (Contains (out_path ∷ [])) e (Contains_here out_path []) }
 
 has_made : HasMade copying.build.made copy_child disk_before disk_after
 has_made given told out c =
