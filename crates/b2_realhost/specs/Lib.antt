@@ -1,3 +1,4 @@
 pub mod Failures
 pub mod Jobs
 pub mod RealOutside
+pub mod Unfinished

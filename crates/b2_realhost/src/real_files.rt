@@ -4,7 +4,9 @@ ghost use Rattle.b2_host.specs.Faults.{FaultTold, IoFaultTold};
 
 use crate::fault_count::FaultCount;
 use crate::listing::list_at;
-use crate::system_files::{metadata_at, open_to_write, read_at, remove_at, stamp_of};
+use crate::system_files::{
+    finish, metadata_at, open_empty, open_to_write, read_at, remove_at, stamp_of, unfinished_path,
+};
 use b2_base::path::Path;
 use b2_base::text_list::TextList;
 use b2_host::fault::{Failed, IoFault};
@@ -68,38 +70,45 @@ impl<R: Disk + AllocGlobal + Clone + Drop> RealFiles<R> {
         self.counted(names)
     }
 
-    /// Writes the whole piece. From here on an error may leave a part of it, also where it says that memory is short.
-    fn write(&mut self, file: &mut R::File, piece: &[u8]) -> Result<(), IoFault>
+    /// The answer, or the counted fault of a call that may have changed something, also where it says that memory is
+    /// short.
+    fn counted_within(&mut self, answer: io::Result<()>) -> Result<(), IoFault>
         ensures { IoFaultTold self.old.faults.count self.new.faults.count result }
     {
-        match file.write_all(piece) {
+        match answer {
             Ok(()) => Ok(()),
             Err(_error) => Err(self.faults.fail_within()),
-        }
-    }
-
-    /// Opens the file, and writes the piece. Where it cannot be opened, nothing has changed.
-    fn write_to(&mut self, path: &Path, how: &OpenOptions, piece: &[u8]) -> Result<(), IoFault>
-        ensures { IoFaultTold self.old.faults.count self.new.faults.count result }
-    {
-        match open_to_write(&self.rt, path.as_str(), how) {
-            Ok(mut file) => self.write(&mut file, piece),
-            Err(error) => Err(self.faults.fault(&error)),
         }
     }
 
     pub fn append(&mut self, path: &Path, piece: &[u8]) -> Result<(), IoFault>
         ensures { IoFaultTold self.old.faults.count self.new.faults.count result }
     {
-        self.write_to(path, OpenOptions::new().append(true).create(true), piece)
+        let mut how = OpenOptions::new();
+        match open_to_write(&self.rt, path.as_str(), how.append(true).create(true)) {
+            Ok(mut file) => {
+                let written = file.write_all(piece);
+                self.counted_within(written)
+            }
+            Err(error) => Err(self.faults.fault(&error)),
+        }
     }
 
+    /// Writes the piece to a file beside, which then takes the path's name. After an error the old content stands.
     pub fn replace(&mut self, path: &Path, piece: &[u8]) -> Result<(), IoFault>
         ensures { IoFaultTold self.old.faults.count self.new.faults.count result }
     {
-        let mut how = OpenOptions::new();
-        let how = how.write(true).create(true).truncate(true);
-        self.write_to(path, how, piece)
+        let path = path.as_str();
+        let unfinished = unfinished_path(self.rt.alloc(), path)?;
+        let unfinished = unfinished.as_str();
+        match open_empty(&self.rt, unfinished) {
+            Ok(mut file) => {
+                let written = file.write_all(piece);
+                let finished = finish(&self.rt, written, unfinished, path);
+                self.counted_within(finished)
+            }
+            Err(error) => Err(self.faults.fault(&error)),
+        }
     }
 
     pub fn remove(&mut self, path: &Path) -> Result<(), Failed>

@@ -1,6 +1,10 @@
 //! The calls on the files of the system, as the host means them.
+ghost use Rattle.std.specs.Prelude.{◌≡◌, IfOk, string_bytes};
+ghost use Rattle.b2_realhost.specs.Unfinished.{unfinished_path};
 
+use b2_base::fault::OutOfMemory;
 use b2_host::files::ReadAnswer;
+use std::alloc::Global;
 use std::fs::{File, Metadata, OpenOptions};
 use std::io::{ErrorKind, Read};
 use std::path::AsPath;
@@ -105,6 +109,42 @@ pub fn open_to_write<R: Disk>(rt: &R, path: &str, options: &OpenOptions) -> io::
             options.open(rt, path)
         }
     }
+}
+
+/// What the name of a file ends with that takes the place of another one once it is whole.
+const UNFINISHED: &str = ".b2-unfinished";
+
+/// The path of the unfinished file beside a file.
+pub fn unfinished_path(alloc: Global, path: &str) -> Result<String, OutOfMemory>
+    ensures { IfOk result (λ made. string_bytes made ≡ unfinished_path path.now) }
+{
+    let mut unfinished = String::from_str(alloc, path)?;
+    unfinished.push_str(UNFINISHED)?;
+    Ok(unfinished)
+}
+
+/// Opens a file that is empty from then on. Its directory is made where it is missing.
+pub fn open_empty<R: Disk>(rt: &R, path: &str) -> io::Result<R::File> {
+    let mut how = OpenOptions::new();
+    open_to_write(rt, path, how.write(true).create(true).truncate(true))
+}
+
+/// Once the unfinished file was written, it takes the path's name, and what stood there is gone. After an error it is
+/// removed, and what stands at the path is as before.
+pub fn finish(
+    rt: &impl Disk,
+    written: io::Result<()>,
+    unfinished: &str,
+    path: &str,
+) -> io::Result<()> {
+    let finished = match written {
+        Ok(()) => fs::rename(rt, unfinished, path),
+        Err(error) => Err(error),
+    };
+    if finished.is_err() {
+        let _removed = fs::remove_file(rt, unfinished);
+    }
+    finished
 }
 
 /// Leaves no file at a path; a directory there is left.
