@@ -12,7 +12,7 @@ use Rattle.b2_top.specs.declared.jamroot.Stop.TheVariants as stops
 use Rattle.b2_top.specs.declared.fault.ReadFault.{ReadFault}
 use Rattle.b2_top.specs.declared.fault.ReadFault.TheVariants as reads
 use Rattle.b2_top.specs.Jamroots.{PlanOf, FirstBad}
-use Rattle.b2_top.specs.ProjectFiles.{IsShort, IsNotYet, HasLexFault, HasPlan}
+use Rattle.b2_top.specs.ProjectFiles.{jamroot_limit, IsShort, IsNotYet, HasLexFault, HasPlan}
 use Rattle.b2_top.specs.ProjectFiles.IsNotYet.{no_file, too_large, bad_statement}
 use Rattle.b2_top.specs.Stops.{stop_of_lex, IsStop, IsStoppedBy, IsExact}
 use Rattle.b2_top.proofs.LawLemmas.{never_both, one_plan, one_line}
@@ -24,7 +24,7 @@ none_some : {X : Type 0} (x : X) → Some x ≡ None → ⊥
 none_some x e = cc
 
 -- the file stands with this text
-pub short_text : (text : List ℕ) → length text ≤ 1048576 → IsShort (Some text) text
+pub short_text : (text : List ℕ) → length text ≤ jamroot_limit → IsShort (Some text) text
 short_text text fits = record { stands = refl; fits = fits }
 
 -- OutOfMemory may answer anything
@@ -45,10 +45,10 @@ exact_none = record {
     line_is line (bad_statement text tokens short are bad) = absurd (none_some text (sym short.stands))
 
 -- the text is not too large after all
-not_large : (whole text : List ℕ) → 1048576 < length whole → Some whole ≡ Some text → length text ≤ 1048576 → ⊥
+not_large : (whole text : List ℕ) → jamroot_limit < length whole → Some whole ≡ Some text → length text ≤ jamroot_limit → ⊥
 not_large whole text large e fits = let same : length whole ≡ length text = ap length (some_same whole text e) in omega (arith, large, same, fits)
 
-pub exact_large : (whole : List ℕ) → 1048576 < length whole → IsExact (Some whole) (Err (stops.NotYet 0))
+pub exact_large : (whole : List ℕ) → jamroot_limit < length whole → IsExact (Some whole) (Err (stops.NotYet 0))
 exact_large whole large = record {
   not_yet = λ line n. inl (ap (λ l. Err (stops.NotYet l)) (sym (line_is line n)));
   no_tokens = λ fault h. absurd (not_large whole h.text large h.short.stands h.short.fits);
@@ -66,7 +66,7 @@ Follows (Ok tokens) result = ((line : ℕ) → FirstBad tokens line → IsStoppe
 Follows (Err fault) result = result ≡ Err (stops.Lex fault)
 
 -- text that is not too large is answered as its tokens, or its fault, ask
-pub exact_short : (whole : List ℕ) (answer : Result (List Token) LexFault) (result : Result Plan Stop) → length whole ≤ 1048576
+pub exact_short : (whole : List ℕ) (answer : Result (List Token) LexFault) (result : Result Plan Stop) → length whole ≤ jamroot_limit
     → ((other : Result (List Token) LexFault) → IsAnswer whole other → other ≡ answer) → Follows answer result → IsExact (Some whole) result
 exact_short whole answer result fits only follows = record { not_yet = not_yet; no_tokens = no_tokens; planned = planned }
   where
@@ -136,7 +136,7 @@ read_follows tokens (Err (reads.NotYet n)) bad planned = (λ line h. elim (bad l
 read_follows tokens (Err reads.OutOfMemory) bad planned = (λ line h. inr refl, λ steps h. refl)
 
 -- the tokens were read, and the result is what the reader made of them
-pub exact_read : (whole : List ℕ) (tokens : List Token) (r : Result Plan ReadFault) (result : Result Plan Stop) → length whole ≤ 1048576
+pub exact_read : (whole : List ℕ) (tokens : List Token) (r : Result Plan ReadFault) (result : Result Plan Stop) → length whole ≤ jamroot_limit
     → ((other : Result (List Token) LexFault) → IsAnswer whole other → other ≡ Ok tokens) → OnlyBad tokens r → OnlyPlan tokens r → stop_of_read r ≡ result → IsExact (Some whole) result
 exact_read whole tokens r result fits only bad planned e = exact_short whole (Ok tokens) result fits only (subst (Follows (Ok tokens)) e (read_follows tokens r bad planned))
 
@@ -148,14 +148,14 @@ only_this : (whole : List ℕ) (fault : LexFault) → (fault ≡ lex.OutOfMemory
 only_this whole fault kept only other h = elim (only other h) [ inl m ↦ absurd (kept m) | inr same ↦ same ]
 
 -- the lexer answered with a fault
-pub exact_fault : (whole : List ℕ) (fault : LexFault) → length whole ≤ 1048576 → Only whole fault → IsExact (Some whole) (Err (stop_of_lex fault))
+pub exact_fault : (whole : List ℕ) (fault : LexFault) → length whole ≤ jamroot_limit → Only whole fault → IsExact (Some whole) (Err (stop_of_lex fault))
 exact_fault whole (lex.NotUtf8 at) fits only = exact_short whole (Err (lex.NotUtf8 at)) _ fits (only_this whole (lex.NotUtf8 at) (λ e. cc) only) refl
 exact_fault whole (lex.OpenQuote line) fits only = exact_short whole (Err (lex.OpenQuote line)) _ fits (only_this whole (lex.OpenQuote line) (λ e. cc) only) refl
 exact_fault whole (lex.OpenActions line) fits only = exact_short whole (Err (lex.OpenActions line)) _ fits (only_this whole (lex.OpenActions line) (λ e. cc) only) refl
 exact_fault whole lex.OutOfMemory fits only = exact_no_memory (Some whole)
 
 -- the fault is the project's file's own
-pub fault_stops : (whole : List ℕ) (fault : LexFault) → length whole ≤ 1048576 → ((at : ℕ) → fault ≡ lex.NotUtf8 at → IsFirstBad whole at) → ((line : ℕ) → fault ≡ lex.OpenQuote line → IsOpenQuote whole line) → ((line : ℕ) → fault ≡ lex.OpenActions line → IsOpenActions whole line)
+pub fault_stops : (whole : List ℕ) (fault : LexFault) → length whole ≤ jamroot_limit → ((at : ℕ) → fault ≡ lex.NotUtf8 at → IsFirstBad whole at) → ((line : ℕ) → fault ≡ lex.OpenQuote line → IsOpenQuote whole line) → ((line : ℕ) → fault ≡ lex.OpenActions line → IsOpenActions whole line)
     → IsStop (Some whole) (stop_of_lex fault)
 fault_stops whole (lex.NotUtf8 at) fits bad quote body = record { text = whole; short = short_text whole fits; cause = bad at refl }
 fault_stops whole (lex.OpenQuote line) fits bad quote body = record { text = whole; short = short_text whole fits; cause = quote line refl }

@@ -11,6 +11,10 @@ use Rattle.b2_top.specs.Jamroots.{PlanOf, FirstBad}
 abbrev pub jamroot : List ℕ
 jamroot = codes "Jamroot"
 
+-- the most bytes that a project's file may have
+abbrev pub jamroot_limit : ℕ
+jamroot_limit = 1048576
+
 -- the bytes of the project's file
 abbrev pub jamroot_of : Disk → Option (List ℕ)
 jamroot_of disk = bytes_at disk.now jamroot
@@ -18,13 +22,13 @@ jamroot_of disk = bytes_at disk.now jamroot
 -- the file stands with this text, which is not too large
 pub record IsShort (file : Option (List ℕ)) (text : List ℕ) : Type 0 where
   pub stands : file ≡ Some text
-  pub fits : length text ≤ 1048576
+  pub fits : length text ≤ jamroot_limit
 
 -- The project's file is refused as not yet built at this line: it does not stand or is too large (line 0); else it has
 -- tokens, and a statement is of neither form or breaks a rule.
 pub data IsNotYet (file : Option (List ℕ)) (line : ℕ) : Type 0 where
   no_file : file ≡ None → line ≡ 0 → IsNotYet file line
-  too_large : (text : List ℕ) → file ≡ Some text → 1048576 < length text → line ≡ 0 → IsNotYet file line
+  too_large : (text : List ℕ) → file ≡ Some text → jamroot_limit < length text → line ≡ 0 → IsNotYet file line
   bad_statement : (text : List ℕ) (tokens : List Token) → IsShort file text → AreTokens text tokens → FirstBad tokens line → IsNotYet file line
 
 -- the project's file has no tokens, for this cause: a byte that is no text, or an open quote or body, whichever is first

@@ -1,7 +1,7 @@
 //! The project's file, from its bytes to its plan.
 ghost use Rattle.std.specs.Prelude.{◌≡◌, ◌≤◌, length, Some, IfOk, IfErr};
 ghost use Rattle.b2_top.specs.Jamroots.{IsReady};
-ghost use Rattle.b2_top.specs.ProjectFiles.{HasPlan};
+ghost use Rattle.b2_top.specs.ProjectFiles.{jamroot_limit, HasPlan};
 ghost use Rattle.b2_top.specs.Stops.{stop_of_lex, NamesText, IsStop, IsExact};
 
 use crate::fault::ReadFault;
@@ -36,7 +36,7 @@ fn stop_of_lex(fault: LexFault) -> Stop
 
 /// The plan of the bytes of a project's file.
 pub fn plan_of(alloc: Global, bytes: &[u8]) -> Result<Plan, Stop>
-    requires { length bytes.now ≤ 1048576 }
+    requires { length bytes.now ≤ jamroot_limit }
     ensures plan { IfOk result (λ plan. HasPlan (Some bytes.now) plan.steps) }
     ensures ready { IfOk result IsReady }
     ensures stop { IfErr result (IsStop (Some bytes.now)) }

@@ -3,7 +3,7 @@ ghost use Rattle.std.specs.Prelude.{IfOk, IfErr};
 ghost use Rattle.std.specs.Option.{IfSome};
 ghost use Rattle.b2_host.specs.Disks.{Disk, ReadTold};
 ghost use Rattle.b2_top.specs.Jamroots.{IsReady};
-ghost use Rattle.b2_top.specs.ProjectFiles.{jamroot, jamroot_of, HasPlan};
+ghost use Rattle.b2_top.specs.ProjectFiles.{jamroot, jamroot_limit, jamroot_of, HasPlan};
 ghost use Rattle.b2_top.specs.Stops.{NamesText, IsStop, IsExact};
 ghost use Rattle.b2_top.specs.Loads.{LoadReads, IsUnread, EndNamesText, EndTold, IsExactLoad};
 
@@ -15,7 +15,7 @@ use b2_plan::plan::Plan;
 use std::alloc::Global;
 
 /// The most bytes that a project's file may have.
-const MOST: u64 = 1_048_576;
+const MOST_BYTES: u64 = 1_048_576;
 
 /// Why no plan was loaded.
 #[derive(Drop)]
@@ -29,14 +29,14 @@ pub enum LoadEnd {
 /// What reading the project's file answers.
 fn read_jamroot<F: Files>(alloc: Global, files: &mut F) -> Result<ReadAnswer, LoadEnd>
     ensures reads { LoadReads (F.outside files.old) (F.outside files.new) result }
-    ensures answer { IfOk result (λ answer. IfSome (F.outside files.old).disk (λ disk. ReadTold jamroot 1048576 answer disk.now)) }
+    ensures answer { IfOk result (λ answer. IfSome (F.outside files.old).disk (λ disk. ReadTold jamroot jamroot_limit answer disk.now)) }
     ensures unread { IfErr result IsUnread }
     ensures names { IfErr result EndNamesText }
 {
     let Ok(path) = jamroot_path(alloc) else {
         return Err(LoadEnd::Stopped(Stop::OutOfMemory));
     };
-    match files.read(&path, MOST) {
+    match files.read(&path, MOST_BYTES) {
         Ok(answer) => Ok(answer),
         Err(IoFault::Failed) => Err(LoadEnd::Host),
         Err(IoFault::OutOfMemory) => Err(LoadEnd::Stopped(Stop::OutOfMemory)),
@@ -45,17 +45,17 @@ fn read_jamroot<F: Files>(alloc: Global, files: &mut F) -> Result<ReadAnswer, Lo
 
 /// The plan of what a read of the project's file answered.
 fn plan_of_answer(alloc: Global, answer: &ReadAnswer) -> Result<Plan, Stop>
-    ensures plan { IfOk result (λ plan. (disk : Disk) → ReadTold jamroot 1048576 answer.now disk.now → HasPlan (jamroot_of disk) plan.steps) }
+    ensures plan { IfOk result (λ plan. (disk : Disk) → ReadTold jamroot jamroot_limit answer.now disk.now → HasPlan (jamroot_of disk) plan.steps) }
     ensures ready { IfOk result IsReady }
     ensures names { IfErr result NamesText }
-    ensures stop { IfErr result (λ stop. (disk : Disk) → ReadTold jamroot 1048576 answer.now disk.now → IsStop (jamroot_of disk) stop) }
-    ensures exact { (disk : Disk) → ReadTold jamroot 1048576 answer.now disk.now → IsExact (jamroot_of disk) result }
+    ensures stop { IfErr result (λ stop. (disk : Disk) → ReadTold jamroot jamroot_limit answer.now disk.now → IsStop (jamroot_of disk) stop) }
+    ensures exact { (disk : Disk) → ReadTold jamroot jamroot_limit answer.now disk.now → IsExact (jamroot_of disk) result }
 {
     match answer {
         ReadAnswer::Missing => Err(Stop::NotYet { line: 0 }),
         ReadAnswer::TooBig { .. } => Err(Stop::NotYet { line: 0 }),
         ReadAnswer::Bytes(bytes) => {
-            if bytes.len() as u64 > MOST {
+            if bytes.len() as u64 > MOST_BYTES {
                 return Err(Stop::NotYet { line: 0 });
             }
             plan_of(alloc, bytes.as_slice())
