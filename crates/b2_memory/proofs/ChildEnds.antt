@@ -7,14 +7,15 @@ use Rattle.std.proofs.lemmas.Grind.{flat_map-append}
 use Rattle.std.proofs.lemmas.Option.{slice_get-get_or}
 use Rattle.b2_host.specs.Disks.{Past, Disk}
 use Rattle.b2_host.specs.ChildProcesses.{Given, Child, IsWritten, ChangesOnlyOutputs, HasMade, BothTold}
-use Rattle.b2_memory.specs.declared.entry.Entry.{Entry}
+use Rattle.b2_files.specs.declared.entry.Entry.{Entry}
+use Rattle.b2_files.specs.Writes.{all_written}
+use Rattle.b2_files.specs.Stores.{PlaceMap, is_known, all_known}
+use Rattle.b2_files.proofs.KnownPaths.{both, and_true}
 use Rattle.b2_memory.specs.declared.running.Running.{Running}
 use Rattle.b2_memory.specs.Results.{made_of}
-use Rattle.b2_memory.specs.Writes.{all_written, writes_of}
-use Rattle.b2_memory.specs.Stores.{PlaceMap, is_known, all_known}
+use Rattle.b2_memory.specs.ChildWrites.{writes_of}
 use Rattle.b2_memory.specs.Families.{child_with}
 use Rattle.b2_memory.specs.PendingWrites.{promised}
-use Rattle.b2_memory.proofs.KnownPaths.{both, and_true}
 use Rattle.b2_memory.proofs.ChildWrites.{is_in, in_contains, paths_of, other_path, contains_none, more_past, stands_at, writes_in}
 
 -- ---- what is promised is known

@@ -5,8 +5,9 @@ use Rattle.std.proofs.lemmas.List.{append-nil}
 use Rattle.std.proofs.lemmas.Slice.Eq.{bytes_eq-Decides}
 use Rattle.b2_host.specs.Disks.{File, Past, Disk}
 use Rattle.b2_host.specs.ChildProcesses.{Given}
+use Rattle.b2_files.specs.Writes.{next_file, written, all_written}
 use Rattle.b2_memory.specs.Results.{made_of}
-use Rattle.b2_memory.specs.Writes.{next_file, written, all_written, writes_of}
+use Rattle.b2_memory.specs.ChildWrites.{writes_of}
 
 -- ---- paths in lists
 

@@ -8,11 +8,11 @@ use Rattle.b2_host.specs.Disks.{Disk, Past}
 use Rattle.b2_host.specs.Outside.{Outside, Fails}
 use Rattle.b2_host.specs.FileCalls as calls
 use Rattle.b2_host.specs.ChildCalls as child_calls
+use Rattle.b2_files.specs.Writes.{written}
 use Rattle.b2_memory.specs.declared.script.CallKind.{CallKind}
 use Rattle.b2_memory.specs.declared.script.CallKind.TheVariants as kinds
 use Rattle.b2_memory.specs.Results.{made_of}
 use Rattle.b2_memory.specs.Scripts.{left_of}
-use Rattle.b2_memory.specs.Writes.{written}
 use Rattle.b2_memory.specs.Families.{child_with}
 use Rattle.b2_memory.specs.Memories.{Memory, counted, failed, with_disk, Writes, Appends, Replaces, Ended}
 use Rattle.b2_memory.proofs.Counts.{rose}

@@ -14,12 +14,12 @@ use Rattle.std.proofs.lemmas.List.Sums.{fold-append}
 use Rattle.std.proofs.lemmas.List.Elements.{filter_map-append}
 use Rattle.std.proofs.lemmas.Grind.{flat_map-append}
 use Rattle.b2_base.specs.Segments.{texts}
-use Rattle.b2_memory.specs.declared.entry.Entry.{Entry}
+use Rattle.b2_files.specs.declared.entry.Entry.{Entry}
 use Rattle.b2_host.specs.Disks.{Folder}
 use Rattle.b2_host.specs.ChildProcesses.{read_at, read_all}
+use Rattle.b2_files.specs.Stores.{write_of}
 use Rattle.b2_memory.specs.Results.{bytes_named, joined, hexadecimal}
 use Rattle.b2_memory.specs.NamedBytes.{Found, ref_cmp, bytes_found}
-use Rattle.b2_memory.specs.Stores.{write_of}
 
 -- the digits of one byte more
 pub hex_more : (bytes : List ℕ) (i : ℕ) → i < length bytes → hexadecimal (take i bytes) ++ hexadecimal (get_or bytes i 0 ∷ []) ≡ hexadecimal (take (i + 1) bytes)

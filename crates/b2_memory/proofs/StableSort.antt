@@ -6,9 +6,9 @@ use Rattle.std.specs.Cmp.{IsStrictWeakOrder}
 use Rattle.std.specs.Cmp.Lexicographic.{slice_cmp, nat_list_cmp_total}
 use Rattle.std.specs.List.Sorted.{IsSortedBy, IsStableBy, ties}
 use Rattle.std.specs.Borrow.{Bor}
-use Rattle.b2_memory.specs.declared.entry.Entry.{Entry}
+use Rattle.b2_files.specs.declared.entry.Entry.{Entry}
+use Rattle.b2_files.specs.Stores.{write_of, input_of}
 use Rattle.b2_memory.specs.Results.{put_by_path, by_path}
-use Rattle.b2_memory.specs.Stores.{write_of, input_of}
 
 filter-kept : {X : Type 0} (p : X → Bool) (y : X) (ys : List X) → p y ≡ true → filter p (y ∷ ys) ≡ y ∷ filter p ys
 filter-kept p y ys h = cond-true _ _ _ h

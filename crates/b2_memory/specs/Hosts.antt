@@ -1,9 +1,10 @@
 use Rattle.std.specs.Prelude.{Bool, List, map, Some}
 use Rattle.b2_host.specs.ChildProcesses.{Child, Family}
 use Rattle.b2_host.specs.Outside.{Outside}
-use Rattle.b2_memory.specs.Buffers.{buffers_of}
-use Rattle.b2_memory.specs.Stores.{Write, write_in}
-use Rattle.b2_memory.specs.StoreDisks.{told}
+use Rattle.b2_files.specs.Buffers.{buffers_of}
+use Rattle.b2_files.specs.Stores.{Write, write_in}
+use Rattle.b2_files.specs.StoreDisks.{told}
+use Rattle.b2_files.specs.declared.version.Version.{Version}
 use Rattle.b2_memory.specs.Families.{child_with}
 use Rattle.b2_memory.specs.Jobs.{given_of}
 use Rattle.b2_memory.specs.NotedReads.{noted_reads}
@@ -12,7 +13,6 @@ use Rattle.b2_memory.specs.Memories.{Memory}
 use Rattle.b2_memory.specs.declared.child_table.ChildTable.{ChildTable}
 use Rattle.b2_memory.specs.declared.memory.MemoryHost.{MemoryHost}
 use Rattle.b2_memory.specs.declared.running.Running.{Running}
-use Rattle.b2_memory.specs.declared.version.Version.{Version}
 
 -- children that run, by what they were given
 abbrev pub running_children : List Running → List Child

@@ -1,8 +1,8 @@
 use Rattle.std.specs.Prelude.{◌≡◌, Bool, List, map, string_bytes}
 use Rattle.b2_host.specs.ChildProcesses.{Given}
-use Rattle.b2_memory.specs.Writes.{writes_of}
-use Rattle.b2_memory.specs.Stores.{write_of}
-use Rattle.b2_memory.specs.declared.entry.Entry.{Entry}
+use Rattle.b2_files.specs.Stores.{write_of}
+use Rattle.b2_files.specs.declared.entry.Entry.{Entry}
+use Rattle.b2_memory.specs.ChildWrites.{writes_of}
 use Rattle.b2_memory.specs.declared.job.Job.{Job}
 
 -- what a start gave

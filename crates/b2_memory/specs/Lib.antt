@@ -1,15 +1,9 @@
 pub mod Results
 pub mod ResultLaws
 pub mod NamedBytes
-pub mod Writes
+pub mod ChildWrites
 pub mod Scripts
 pub mod Listings
-pub mod Keys
-pub mod Names
-pub mod Buffers
-pub mod Stores
-pub mod StoreDisks
-pub mod Consistency
 pub mod Families
 pub mod Jobs
 pub mod PendingWrites

@@ -10,11 +10,12 @@ use Rattle.b2_host.specs.ChildProcesses.{Given, Family}
 use Rattle.b2_host.specs.Outside.{Outside}
 use Rattle.b2_host.specs.FileCalls.{after_read, removed, with_piece}
 use Rattle.b2_host.specs.ChildCalls.{started}
+use Rattle.b2_files.specs.Writes.{written, all_written, edited, blank}
 use Rattle.b2_memory.specs.declared.script.CallKind.{CallKind}
 use Rattle.b2_memory.specs.declared.script.CallKind.TheVariants as kinds
 use Rattle.b2_memory.specs.Families.{child_with, admitted}
 use Rattle.b2_memory.specs.Scripts.{Listed, nothing_listed, is_to_fail, listed_after, is_bad, starts_after, place_picked, picked, left_of, raised}
-use Rattle.b2_memory.specs.Writes.{written, all_written, edited, writes_of, blank}
+use Rattle.b2_memory.specs.ChildWrites.{writes_of}
 
 -- All that a host in memory is: the outside that it tells; what it was told to do; and whether each child that runs is to
 -- end well, in order of start.

@@ -1,6 +1,6 @@
 use Rattle.std.specs.Prelude.{List}
 use Rattle.std.specs.List.{flat_map}
-use Rattle.b2_memory.specs.declared.entry.Entry.{Entry}
+use Rattle.b2_files.specs.declared.entry.Entry.{Entry}
 use Rattle.b2_memory.specs.declared.running.Running.{Running}
 
 -- what the children that run will write

@@ -2,16 +2,16 @@
 ghost use Rattle.std.specs.Prelude.{◌≡◌, ◌∷◌, [], ◌++◌, codes, map, take, IfOk, OnOk};
 ghost use Rattle.std.specs.Option.{option_to_list};
 ghost use Rattle.b2_host.specs.ChildProcesses.{read_at, read_all, given_at};
+ghost use Rattle.b2_files.specs.Stores.{write_of};
+ghost use Rattle.b2_files.specs.StoreDisks.{told};
 ghost use Rattle.b2_memory.specs.Results.{made_of};
-ghost use Rattle.b2_memory.specs.Stores.{write_of};
-ghost use Rattle.b2_memory.specs.StoreDisks.{told};
 
-use crate::entry::Entry;
 use crate::made::make;
-use crate::store::Store;
 use b2_base::fault::OutOfMemory;
 use b2_base::path::Path;
 use b2_base::path_list::{PathList, copy_paths};
+use b2_files::entry::Entry;
+use b2_files::store::Store;
 use std::alloc::Global;
 
 /// A step's text, what it reads and writes, and the inputs that stood when it started.

@@ -3,18 +3,11 @@
 #![tactic(auto)]
 
 mod child_table;
-pub mod contents;
-pub mod entry;
 pub mod job;
 mod made;
 pub mod memory;
 pub mod memory_sink;
-mod names;
-mod path_map;
-mod places;
 mod read_notes;
 pub mod result_laws;
 pub mod running;
 mod script;
-mod store;
-pub mod version;

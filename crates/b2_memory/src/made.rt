@@ -2,13 +2,13 @@
 ghost use Rattle.std.specs.Prelude.{◌≡◌, ℕ, List, [], ◌∷◌, ◌++◌, map, IfOk, OnOk, string_bytes};
 ghost use Rattle.std.specs.List.{flat_map};
 ghost use Rattle.b2_base.specs.Segments.{texts};
+ghost use Rattle.b2_files.specs.Stores.{write_of, input_of};
 ghost use Rattle.b2_memory.specs.Results.{is_space, words_of, bytes_named, joined, hexadecimal, digest_line, input_text, by_path, whole_text, made_by, made_of};
 ghost use Rattle.b2_memory.specs.NamedBytes.{bytes_found};
-ghost use Rattle.b2_memory.specs.Stores.{write_of, input_of};
 
-use crate::entry::Entry;
 use b2_base::fault::OutOfMemory;
 use b2_base::path::Path;
+use b2_files::entry::Entry;
 use sha2::{Digest, Sha256};
 use std::alloc::Global;
 use std::collections::BTreeMap;

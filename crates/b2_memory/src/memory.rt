@@ -3,24 +3,24 @@ ghost use Rattle.std.specs.Prelude.{◌≡◌, ◌≢◌, ◌+◌, ◌≤◌, �
 ghost use Rattle.std.specs.Option.{IfSome};
 ghost use Rattle.b2_host.specs.Disks.{StatTold};
 ghost use Rattle.b2_host.specs.FileCalls.{log_path};
-ghost use Rattle.b2_memory.specs.Buffers.{buffers_of, bytes_in, is_within};
+ghost use Rattle.b2_files.specs.Buffers.{buffers_of, bytes_in, is_within};
+ghost use Rattle.b2_files.specs.Stores.{all_known, stood};
 ghost use Rattle.b2_memory.specs.Scripts.{with_calls, with_starts, with_picks, left_of};
-ghost use Rattle.b2_memory.specs.Stores.{all_known, stood};
 ghost use Rattle.b2_memory.specs.PendingWrites.{promised};
 
 use crate::child_table::ChildTable;
-use crate::contents::Content;
-use crate::entry::Entry;
 use crate::job::Job;
 use crate::read_notes::ReadNotes;
 use crate::running::Running;
 pub use crate::script::CallKind;
 use crate::script::{Script, raise};
-use crate::store::Store;
-use crate::version::Version;
 use b2_base::fault::OutOfMemory;
 use b2_base::path::Path;
 use b2_base::text_list::TextList;
+use b2_files::contents::Content;
+use b2_files::entry::Entry;
+use b2_files::store::Store;
+use b2_files::version::Version;
 use b2_host::children::{ChildEvent, Children};
 use b2_host::fault::{Failed, IoFault};
 use b2_host::files::{Files, ReadAnswer};
@@ -59,8 +59,8 @@ fn path_of_log(alloc: Global) -> Result<Path, OutOfMemory>
 
 impl MemoryHost {
     ghost use Rattle.std.specs.Prelude.{ℕ, length};
+    ghost use Rattle.b2_files.specs.StoreDisks.{knows};
     ghost use Rattle.b2_memory.specs.Jobs.{IsLeft, given_of};
-    ghost use Rattle.b2_memory.specs.StoreDisks.{knows};
     ghost use Rattle.b2_memory.specs.Memories.{new_memory, with_listed, with_fuse, with_tear, with_edit, with_child, with_entry, Writes, Ended, Reopens};
     ghost use Rattle.b2_memory.specs.Hosts.{memory_of, running_children, fates_of, write_told};
 
@@ -284,8 +284,8 @@ impl Files for MemoryHost {
     ghost use Rattle.b2_host.specs.Outside.{Looks, IoLooks};
     ghost use Rattle.b2_host.specs.FileCalls as calls;
     ghost use Rattle.b2_host.specs.Listings.{IsListed};
-    ghost use Rattle.b2_memory.specs.Consistency.{kept_disk};
-    ghost use Rattle.b2_memory.specs.StoreDisks.{writes_told};
+    ghost use Rattle.b2_files.specs.Consistency.{kept_disk};
+    ghost use Rattle.b2_files.specs.StoreDisks.{writes_told};
     ghost use Rattle.b2_memory.specs.Memories.{Calls, IoCalls, looked, noted, with_removed, Appends, Replaces};
     ghost use Rattle.b2_memory.specs.Hosts.{told_outside, memory_of};
 

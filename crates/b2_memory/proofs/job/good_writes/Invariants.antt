@@ -1,6 +1,6 @@
 use Rattle.std.proofs.Common.{◌≡◌, map, take}
+use Rattle.b2_files.specs.Stores.{write_of}
 use Rattle.b2_memory.specs.Results.{made_of}
-use Rattle.b2_memory.specs.Stores.{write_of}
 use Rattle.b2_memory.proofs.job.good_writes.Given as goal
 
 -- the writes to the outputs so far

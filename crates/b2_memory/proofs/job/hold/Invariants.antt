@@ -1,7 +1,7 @@
 use Rattle.std.proofs.Common.{◌≡◌, map, take}
 use Rattle.b2_host.specs.ChildProcesses.{read_all}
-use Rattle.b2_memory.specs.Stores.{write_of}
-use Rattle.b2_memory.specs.StoreDisks.{told}
+use Rattle.b2_files.specs.Stores.{write_of}
+use Rattle.b2_files.specs.StoreDisks.{told}
 use Rattle.b2_memory.proofs.job.hold.Given as goal
 
 -- the inputs so far

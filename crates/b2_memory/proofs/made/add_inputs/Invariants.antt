@@ -1,7 +1,7 @@
 use Rattle.std.proofs.Common.{◌≡◌, ◌++◌, map, take}
 use Rattle.std.specs.List.{flat_map}
+use Rattle.b2_files.specs.Stores.{input_of}
 use Rattle.b2_memory.specs.Results.{input_text}
-use Rattle.b2_memory.specs.Stores.{input_of}
 use Rattle.b2_memory.proofs.made.add_inputs.Given as goal
 
 -- the inputs so far are added

@@ -1,7 +1,7 @@
 use Rattle.std.proofs.Common.{◌≡◌, ℕ, List, map, take}
+use Rattle.b2_files.specs.Stores.{write_of}
 use Rattle.b2_memory.specs.NamedBytes.{bytes_found}
 use Rattle.b2_memory.specs.Results.{bytes_named}
-use Rattle.b2_memory.specs.Stores.{write_of}
 use Rattle.b2_memory.proofs.made.by_name.Given as goal
 
 -- the inputs so far are found

@@ -1,8 +1,8 @@
 use Rattle.std.proofs.Common.{◌+◌, ◌++◌, map, drop, ap, sym, ◌∙◌, append_assoc}
 use Rattle.std.specs.Str.{bytes_eq}
 use Rattle.b2_base.specs.Segments.{texts}
+use Rattle.b2_files.specs.Stores.{write_of}
 use Rattle.b2_memory.specs.Results.{joined}
-use Rattle.b2_memory.specs.Stores.{write_of}
 use Rattle.b2_memory.proofs.LoopSteps.{join_goes_on}
 use Rattle.b2_memory.proofs.made.join.Goals as goal
 

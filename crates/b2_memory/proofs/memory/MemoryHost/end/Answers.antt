@@ -1,18 +1,19 @@
 use Rattle.std.proofs.Common.{map, remove, Some, ap, sym, ◌∙◌, arith}
 use Rattle.std.specs.Option.{option_map}
 use Rattle.b2_host.specs.ChildProcesses.{Given}
+use Rattle.b2_files.specs.Writes.{all_written}
+use Rattle.b2_files.specs.Stores.{all_known}
+use Rattle.b2_files.specs.StoreDisks.{told}
+use Rattle.b2_files.proofs.KnownPaths.{known_stays}
 use Rattle.b2_memory.specs.declared.job.Job.{Job}
 use Rattle.b2_memory.specs.declared.running.Running.{Running}
-use Rattle.b2_memory.specs.Writes.{all_written, writes_of}
-use Rattle.b2_memory.specs.Stores.{all_known}
-use Rattle.b2_memory.specs.StoreDisks.{told}
+use Rattle.b2_memory.specs.ChildWrites.{writes_of}
 use Rattle.b2_memory.specs.Families.{child_with}
 use Rattle.b2_memory.specs.Jobs.{given_of}
 use Rattle.b2_memory.specs.Memories.{without_child}
 use Rattle.b2_memory.specs.Hosts.{memory_of, family_of, running_children, fates_of}
 use Rattle.b2_memory.proofs.Records.{same_family, same_memory}
 use Rattle.b2_memory.specs.PendingWrites.{promised}
-use Rattle.b2_memory.proofs.KnownPaths.{known_stays}
 use Rattle.b2_memory.proofs.ChildEnds.{known_take, get_map, map_remove}
 use Rattle.b2_memory.proofs.memory.MemoryHost.end.Goals as goal
 

@@ -1,14 +1,14 @@
 use Rattle.std.proofs.Common.{Some, refl, ap, ◌∙◌, subst}
 use Rattle.b2_host.specs.Disks.{Disk}
 use Rattle.b2_host.specs.FileCalls.{with_piece}
+use Rattle.b2_files.specs.Buffers.{buffers_of, bytes_in}
+use Rattle.b2_files.specs.Consistency.{stamp_within}
+use Rattle.b2_files.specs.StoreDisks.{told, writes_told}
 use Rattle.b2_memory.specs.declared.script.CallKind.TheVariants as kinds
-use Rattle.b2_memory.specs.Buffers.{buffers_of, bytes_in}
-use Rattle.b2_memory.specs.Consistency.{stamp_within}
 use Rattle.b2_memory.specs.Hosts.{told_outside, memory_of}
 use Rattle.b2_memory.specs.Listings.{listed_of}
 use Rattle.b2_memory.specs.Memories.{Memory, Writes}
 use Rattle.b2_memory.specs.Scripts.{left_of}
-use Rattle.b2_memory.specs.StoreDisks.{told, writes_told}
 use Rattle.b2_memory.proofs.Effects.{writes_same, appends_told}
 use Rattle.b2_memory.proofs.memory.MemoryHostFiles.append.Goals as goal
 

@@ -1,6 +1,6 @@
 use Rattle.std.proofs.Common.{◌∙◌, arith}
+use Rattle.b2_files.proofs.KnownPaths.{known_stays}
 use Rattle.b2_memory.specs.PendingWrites.{promised}
-use Rattle.b2_memory.proofs.KnownPaths.{known_stays}
 use Rattle.b2_memory.proofs.memory.MemoryHostFiles.remove.Goals as goal
 
 pub invariant_of-self-2 : goal.invariant_of-self-2

@@ -1,11 +1,11 @@
 use Rattle.std.proofs.Common.{refl, ◌∙◌}
+use Rattle.b2_files.specs.Buffers.{buffers_of, bytes_in}
+use Rattle.b2_files.specs.Consistency.{stamp_within}
+use Rattle.b2_files.specs.StoreDisks.{told, writes_told}
 use Rattle.b2_memory.specs.declared.script.CallKind.TheVariants as kinds
-use Rattle.b2_memory.specs.Buffers.{buffers_of, bytes_in}
-use Rattle.b2_memory.specs.Consistency.{stamp_within}
 use Rattle.b2_memory.specs.Hosts.{memory_of}
 use Rattle.b2_memory.specs.Listings.{listed_of}
 use Rattle.b2_memory.specs.Scripts.{left_of}
-use Rattle.b2_memory.specs.StoreDisks.{told, writes_told}
 use Rattle.b2_memory.proofs.Effects.{writes_same, replaces_told}
 use Rattle.b2_memory.proofs.memory.MemoryHostFiles.replace.Goals as goal
 

@@ -1,0 +1,7 @@
+pub mod Keys
+pub mod Names
+pub mod Buffers
+pub mod Writes
+pub mod Stores
+pub mod StoreDisks
+pub mod Consistency

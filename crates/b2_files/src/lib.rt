@@ -1,0 +1,11 @@
+//! Files as data, in memory: what stands at each path, and all that ever stood, with stamps that count from 1. Nothing
+//! here is a call of a host: b2_memory makes the calls of these.
+#![tactic(auto)]
+
+pub mod contents;
+pub mod entry;
+mod names;
+mod path_map;
+pub mod places;
+pub mod store;
+pub mod version;
