@@ -7,3 +7,4 @@ pub mod SettingLemmas
 pub mod ChangeLemmas
 pub mod VariableLemmas
 pub mod SavedLemmas
+pub mod UnsetLemmas

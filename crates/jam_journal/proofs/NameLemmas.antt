@@ -1,17 +1,23 @@
 -- Finite maps from texts in which the value at one text is replaced.
-use Rattle.std.proofs.Common.{String, string_bytes, ◌≡◌, true, false, Bool, cond, List, [], ◌∷◌, map as each, Option, Some, None, is_some, refl, sym, ap, ◌∙◌}
-use Rattle.std.specs.Ordering.{nat_cmp}
+use Rattle.std.proofs.Common.{T, Bor, String, string_bytes, ◌≡◌, true, false, Bool, cond, ◌&&◌, List, [], ◌∷◌, map as each, Option, Some, None, is_some, refl, sym, ap, subst, ◌∙◌}
+use Rattle.std.specs.declared.cmp.Ordering.TheVariants.{Less}
+use Rattle.std.specs.Ordering.{nat_cmp, is_lt}
+use Rattle.std.specs.List.{AllByRecursion}
+use Rattle.std.specs.List.Sorted.{IsStrictlySortedBy}
 use Rattle.std.specs.Str.{bytes_eq}
-use Rattle.std.specs.Map.{lookup}
+use Rattle.std.specs.Map.{lookup, keys_of}
+use Rattle.std.specs.Map.Iter.{deref_pair}
 use Rattle.std.specs.Cmp.Lexicographic.{slice_cmp}
-use Rattle.std.specs.FinMap.{get, remove, get-insert, get-remove, get-from_entries, same_map}
-use Rattle.std.specs.FinMap.Entries.{find}
+use Rattle.std.specs.FinMap.{get, entries, remove, from_sorted, get-insert, get-remove, get-from_entries, get-from_sorted, entries-from_sorted, same_map}
+use Rattle.std.specs.FinMap.Entries.{find, is_sorted, below_all}
 use Rattle.std.proofs.lemmas.Cmp.{nat_list_cmp_total, nat_list_eq_equiv}
 use Rattle.std.proofs.lemmas.Map.Lookups.{exact_bytes}
-use Rattle.std.proofs.lemmas.Map.Text.{is_eq-slice_cmp, hash_map_updates_text}
+use Rattle.std.proofs.lemmas.Map.Text.{is_eq-slice_cmp, hash_map_updates_text, btree_map_updates_text}
 use Rattle.std.proofs.lemmas.Slice.Eq.{bytes_eq-Decides}
+use Rattle.std.specs.BTreeMap as tree
+use Rattle.std.specs.BTreeMap.{BTreeMap, is_at}
 use Rattle.std.specs.HashMap.{HashMap, UpdatesBy}
-use Rattle.std.specs.String.{string_eq}
+use Rattle.std.specs.String.{string_cmp, string_eq}
 use Rattle.jam_journal.specs.Tables.{Text, Names, put_name, back_name, names_of}
 
 module _ {X : Type 0} where
@@ -69,9 +75,44 @@ module _ {X : Type 0} where
         ap (names_of text) same ∙ e
         ∙ sym (ap (λ b. cond b (put_name m k w) m) (ap (λ n. is_some (get n k)) (sym e) ∙ ap is_some (get_names text es k) ∙ ap is_some absent))
 
+-- a tree compares texts, and what is found by a text is found by its bytes
+pub by_bytes : {Y X : Type 0} (es : List (String Y × X)) (q : Text) → lookup (is_at (λ key. slice_cmp nat_cmp q (string_bytes key))) es ≡ at_name string_bytes es q
+by_bytes [] q = refl
+by_bytes (e ∷ es) q = λ i. cond (is_eq-slice_cmp q (string_bytes e.0) i) (Some e.1) (by_bytes es q i)
+
 -- what a change of the map in the code is
-pub put_hash : {Y X S : Type 0} (m n : HashMap (String Y) X S) (bs : Text) (w : Option X) → UpdatesBy string_eq (λ k. bytes_eq bs (string_bytes k)) m n w → names_of string_bytes n.entries ≡ put_name (names_of string_bytes m.entries) bs w
-put_hash m n bs w h = put_names string_bytes m.entries n.entries bs w (hash_map_updates_text bs m n w h)
+pub put_tree : {Y X : Type 0} (m n : BTreeMap (String Y) X) (bs : Text) (w : Option X) → tree.UpdatesBy string_cmp (λ key. slice_cmp nat_cmp bs (string_bytes key)) m n w → names_of string_bytes n.entries ≡ put_name (names_of string_bytes m.entries) bs w
+put_tree m n bs w h =
+    put_names string_bytes m.entries n.entries bs w
+    (λ q. sym (by_bytes n.entries q) ∙ btree_map_updates_text bs m n w h q ∙ ap (cond (bytes_eq bs q) w) (by_bytes m.entries q))
+
+pub both_hold : (a b : Bool) → T a → T b → T (a && b)
+both_hold true b p q = q
+both_hold false b p q = p
+
+module _ {Y X : Type 0} where
+  abbrev pub shown : List (String Y × X) → List (Text × X)
+  shown es = each (λ e. (string_bytes e.0, e.1)) es
+
+  below : (key : String Y) (es : List (String Y × X)) → AllByRecursion (λ other. string_cmp key other ≡ Less) (keys_of es) → T (below_all (slice_cmp nat_cmp) (string_bytes key) (shown es))
+  below key [] h = tt
+  below key (e ∷ es) h = both_hold _ _ (subst (λ r. T (is_lt r)) (sym h.0) tt) (below key es h.1)
+
+  rising : (es : List (String Y × X)) → IsStrictlySortedBy string_cmp (keys_of es) → T (is_sorted (slice_cmp nat_cmp) (shown es))
+  unfolding IsStrictlySortedBy
+  rising [] h = tt
+  rising (e ∷ es) h = both_hold _ _ (below e.0 es h.0) (rising es h.1)
+
+  -- the entries of a tree are those of the map that they stand for
+  pub entries_shown : (es : List (String Y × X)) → IsStrictlySortedBy string_cmp (keys_of es) → entries (names_of string_bytes es) ≡ shown es
+  entries_shown es h =
+      ap entries (same_names (names_of string_bytes es) (from_sorted (shown es)) (λ q. get-from_entries nat_list_cmp_total (shown es) q ∙ sym (get-from_sorted (slice_cmp nat_cmp) (shown es) q (rising es h))))
+      ∙ entries-from_sorted (slice_cmp nat_cmp) (shown es) (rising es h)
+
+  -- entries that are lent
+  pub shown_lent : (lent : List (Bor (String Y) × Bor X)) → each (λ e. (string_bytes e.0.now, e.1.now)) lent ≡ shown (each deref_pair lent)
+  shown_lent [] = refl
+  shown_lent (e ∷ lent) = ap (λ more. (string_bytes e.0.now, e.1.now) ∷ more) (shown_lent lent)
 
 -- what the map in the code has at a text after another text got a value
 pub at_changed : {Y X S : Type 0} (m n : HashMap (String Y) X S) (bs : Text) (v w : X) → UpdatesBy string_eq (λ k. bytes_eq bs (string_bytes k)) m n (Some v) → v ≡ w → (a : Text) → at_name string_bytes n.entries a ≡ cond (bytes_eq bs a) (Some w) (at_name string_bytes m.entries a)

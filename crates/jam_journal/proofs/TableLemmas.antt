@@ -2,19 +2,20 @@
 use Rattle.std.proofs.Common.{◌≡◌, true, false, Bool, cond, not, ◌&&◌, List, [], ◌∷◌, ◌++◌, map as each, Option, Some, None, is_some, refl, sym, ap, ◌∙◌}
 use Rattle.std.specs.declared.cmp.Ordering.{Ordering}
 use Rattle.std.specs.declared.cmp.Ordering.TheVariants.{Less, Equal, Greater}
+use Rattle.std.specs.List.{filter}
 use Rattle.std.specs.Option.{option_or}
 use Rattle.std.specs.Ordering.{nat_cmp, eq_by_cmp, is_eq, ordering_then}
 use Rattle.std.specs.Str.{bytes_eq}
 use Rattle.std.specs.Cmp.{IsTotalOrder, then_total, tied_itself}
 use Rattle.std.specs.Cmp.Lexicographic.{slice_cmp, on_texts}
-use Rattle.std.specs.FinMap.{get, entries, retain_keys, get-empty, get-entries, get-insert, get-remove, get-retain_keys, get-from_entries, same_map, IsAntisymmetric}
+use Rattle.std.specs.FinMap.{get, entries, retain_keys, from_sorted, get-empty, get-entries, get-insert, get-remove, get-retain_keys, get-from_entries, get-from_sorted, entries-from_sorted, same_map, IsAntisymmetric}
 use Rattle.std.specs.FinMap.Entries.{find}
-use Rattle.std.proofs.lemmas.Cmp.{nat_list_eq_equiv, eq_by_cmp_equiv}
+use Rattle.std.proofs.lemmas.Cmp.{nat_list_eq_equiv, nat_list_cmp_total, eq_by_cmp_equiv}
 use Rattle.std.proofs.lemmas.Map.Lookups.{exact_bytes}
 use Rattle.std.proofs.lemmas.Map.Text.{is_eq-slice_cmp}
 use Rattle.std.proofs.lemmas.Slice.Eq.{bytes_eq-Decides}
-use Rattle.jam_journal.specs.Tables.{Text, Key, Names, Table, key_cmp, put_name, back_name, put, put_back, with_row, table_of}
-use Rattle.jam_journal.proofs.NameLemmas.{get_put_name, at_name}
+use Rattle.jam_journal.specs.Tables.{Text, Key, Names, Table, key_cmp, put_name, back_name, put, put_back, row_of, with_row, table_of}
+use Rattle.jam_journal.proofs.NameLemmas.{same_names, get_put_name, at_name}
 
 pub key_order : IsTotalOrder key_cmp
 key_order = then_total (on_texts (λ (k : Key). k.0)) (on_texts (λ (k : Key). k.1))
@@ -244,3 +245,38 @@ module _ {X : Type 0} where
       by : (t : Bool) → is_some (cond t (Some v) (get m l)) ≡ true
       by true = refl
       by false = h
+
+-- ---- rows
+
+module _ {X : Type 0} (f : Text) where
+  abbrev seconds : List (Key × X) → List (Text × X)
+  seconds es = each (λ e. (e.0.1, e.1)) (filter (λ e. bytes_eq e.0.0 f) es)
+
+  found_second : (es : List (Key × X)) (n : Text) → find (slice_cmp nat_cmp) n (seconds es) ≡ find key_cmp (f, n) es
+  found_second [] n = refl
+  found_second (e ∷ es) n =
+      by (bytes_eq e.0.0 f) refl (found_second es n) ∙ ap (λ b. cond b (Some e.1) (find key_cmp (f, n) es)) (sym (by_first f n e.0.0 e.0.1))
+    where
+      by : (b : Bool) → bytes_eq e.0.0 f ≡ b → find (slice_cmp nat_cmp) n (seconds es) ≡ find key_cmp (f, n) es
+          → find (slice_cmp nat_cmp) n (each (λ p. (p.0.1, p.1)) (cond b (e ∷ filter (λ p. bytes_eq p.0.0 f) es) (filter (λ p. bytes_eq p.0.0 f) es)))
+          ≡ cond (bytes_eq f e.0.0 && eq_by_cmp (slice_cmp nat_cmp) n e.0.1) (Some e.1) (find key_cmp (f, n) es)
+      by true is again =
+          ap (cond (eq_by_cmp (slice_cmp nat_cmp) n e.0.1) (Some e.1)) again
+          ∙ ap (λ b. cond (b && eq_by_cmp (slice_cmp nat_cmp) n e.0.1) (Some e.1) (find key_cmp (f, n) es)) (sym (flipped e.0.0 f true is))
+      by false is again = again ∙ ap (λ b. cond (b && eq_by_cmp (slice_cmp nat_cmp) n e.0.1) (Some e.1) (find key_cmp (f, n) es)) (sym (flipped e.0.0 f false is))
+
+  -- what a row has
+  pub get_row : (t : Table X) (n : Text) → get (row_of t f) n ≡ get t (f, n)
+  get_row t n = get-from_entries nat_list_cmp_total (seconds (entries t)) n ∙ found_second (entries t) n ∙ sym (get-entries t (f, n))
+
+  module _ {K : Type 0} (text : K → Text) where
+    -- a row that is kept
+    pub row_kept : (es : List (K × Names X)) (row : Names X) → at_name text es f ≡ Some row → row_of (table_of text es) f ≡ row
+    row_kept es row is = same_names _ _ (λ n. get_row (table_of text es) n ∙ get_table text es f n ∙ ap (λ o. row_at o n) is)
+
+    -- no row
+    pub no_row_kept : (es : List (K × Names X)) → at_name text es f ≡ None → entries (row_of (table_of text es) f) ≡ []
+    no_row_kept es is =
+        ap entries (same_names (row_of (table_of text es) f) (from_sorted []) (λ n.
+        get_row (table_of text es) n ∙ get_table text es f n ∙ ap (λ o. row_at o n) is ∙ sym (get-from_sorted (slice_cmp nat_cmp) [] n tt)))
+        ∙ entries-from_sorted (slice_cmp nat_cmp) [] tt

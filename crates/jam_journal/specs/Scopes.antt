@@ -114,6 +114,11 @@ with_binding b (frame ∷ frames) = record frame { bindings = b ∷ frame.bindin
 abbrev pub bind : Text → Value → Scopes → Scopes
 bind name value s = record s { frames = with_binding (name, value) s.frames }
 
+-- several names are bound in order
+abbrev pub bind_each : List Binding → Scopes → Scopes
+bind_each [] s = s
+bind_each (b ∷ bs) s = bind_each bs (bind b.0 b.1 s)
+
 -- the module that the innermost frame of a call keeps, or the empty text
 abbrev pub caller_of : List Frame → Text
 caller_of [] = []

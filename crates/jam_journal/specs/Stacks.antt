@@ -1,6 +1,8 @@
 -- What the code keeps of names, and what it stands for.
-use Rattle.std.specs.Prelude.{◌≡◌, ℕ, suc, ◌<◌, ◌≤◌, Bool, true, false, ◌||◌, List, [], ◌∷◌, ◌++◌, map as each, length, Option, Some, None, is_some, if◌then◌else◌}
+use Rattle.std.specs.Prelude.{◌≡◌, ℕ, suc, ◌<◌, ◌≤◌, Bool, true, false, not, ◌&&◌, ◌||◌, List, [], ◌∷◌, ◌++◌, map as each, length, Option, Some, None, is_some, if◌then◌else◌}
+use Rattle.std.specs.List.{list_any}
 use Rattle.std.specs.Ordering.{eq_by_cmp}
+use Rattle.std.specs.Str.{bytes_eq}
 use Rattle.std.specs.FinMap as map
 use Rattle.jam_journal.specs.declared.past.Replaced.{Replaced}
 use Rattle.jam_journal.specs.declared.registers.Cell.{Cell}
@@ -55,6 +57,29 @@ found_by r name (Some owner) = value_at r.cells (owner, name)
 
 abbrev pub found : Registers → Text → Value
 found r name = found_by r name (outer_at r.innermost name)
+
+-- the present module before some entries, the newest first
+abbrev pub owner_before : Text → List Scope → Text
+owner_before owner [] = owner
+owner_before owner (Opened before ∷ entries) = owner_before before entries
+owner_before owner (Called before caller ∷ entries) = owner_before before entries
+owner_before owner (Bound name before outer ∷ entries) = owner_before owner entries
+
+-- whether a binding is of a module, and nothing stood there
+abbrev pub is_unset : Text → Text → Option Cell → Bool
+is_unset home owner before = bytes_eq owner home && not (is_some before)
+
+-- the names of a module that some entries bind where nothing stood, so that it has no variable of these names
+abbrev pub unset_by : Text → Text → List Scope → List Text
+unset_by home owner [] = []
+unset_by home owner (Opened before ∷ entries) = unset_by home before entries
+unset_by home owner (Called before caller ∷ entries) = unset_by home before entries
+unset_by home owner (Bound name before outer ∷ entries) =
+    if is_unset home owner before then name ∷ unset_by home owner entries else unset_by home owner entries
+
+-- further names are noted in a set
+abbrev pub AreNoted : Names (Unit {0}) → Names (Unit {0}) → List Text → Type 0
+AreNoted old new names = (name : Text) → is_some (map.get new name) ≡ (is_some (map.get old name) || list_any (bytes_eq name) names)
 
 -- the registers in a frame that is opened, and with a binding, and the entries that lead back
 abbrev pub in_frame : Text → Registers → Registers

@@ -1,5 +1,6 @@
 -- Finite maps from texts, and from pairs of texts.
 use Rattle.std.specs.Prelude.{ℕ, not, List, [], ◌∷◌, ◌++◌, map as each, Option, Some, None, is_some, if◌then◌else◌}
+use Rattle.std.specs.List.{filter}
 use Rattle.std.specs.Str.{bytes_eq}
 use Rattle.std.specs.Ordering.{nat_cmp, ordering_then}
 use Rattle.std.specs.Cmp.Lexicographic.{slice_cmp}
@@ -56,3 +57,7 @@ with_row first row table =
 abbrev pub table_of : {K X : Type 0} → (K → Text) → List (K × Names X) → Table X
 table_of text [] = map.empty
 table_of text (row ∷ rows) = with_row (text row.0) row.1 (table_of text rows)
+
+-- what stands under a first text, by the second ones
+abbrev pub row_of : {X : Type 0} → Table X → Text → Names X
+row_of table first = map.from_entries (each (λ entry. (entry.0.1, entry.1)) (filter (λ entry. bytes_eq entry.0.0 first) (map.entries table)))

@@ -1,19 +1,19 @@
 //! A map from texts, asked by borrowed ones.
-ghost use Rattle.std.specs.Prelude.{◌≡◌, is_some, IfOk, OnOk, OnErr};
+ghost use Rattle.std.specs.Prelude.{◌≡◌, map as each, string_bytes, is_some, IfOk, OnOk, OnErr};
 ghost use Rattle.std.specs.Option.{option_copied};
 ghost use Rattle.std.specs.FinMap as map;
 ghost use Rattle.jam_journal.specs.Tables.{put_name, back_name};
 
 use b2_base::fault::OutOfMemory;
 use std::alloc::Global;
-use std::collections::HashMap;
+use std::collections::BTreeMap;
 use std::marker::Model;
 use std::mem;
 
 /// One value for each of some texts, seen as a finite map from them.
 #[derive(Drop)]
 pub struct Names<V: Drop> {
-    values: HashMap<String, V>,
+    values: BTreeMap<String, V>,
 }
 
 impl<V: Drop> Model for Names<V> {
@@ -37,7 +37,7 @@ impl<V: Drop> Names<V> {
         ensures { result ≡ map.empty }
     {
         Names {
-            values: HashMap::new(alloc),
+            values: BTreeMap::new(alloc),
         }
     }
 
@@ -46,6 +46,13 @@ impl<V: Drop> Names<V> {
         ensures { option_copied result ≡ map.get self.now name.now }
     {
         self.values.get(name)
+    }
+
+    /// The texts that have a value, with their values, in byte order.
+    pub fn entries(&self, alloc: Global) -> Result<Vec<(&String, &V)>, OutOfMemory>
+        ensures { IfOk result (λ row. each (λ entry. (string_bytes entry.0.now, entry.1.now)) row.items ≡ map.entries self.now) }
+    {
+        Ok(self.values.iter().collect(alloc)?)
     }
 
     /// Gives a text a value, and answers the one before. After an error the map is as before.

@@ -52,10 +52,11 @@ impl<V: Drop> Model for Past<V> {
 }
 
 impl<V: Drop> Past<V> {
-    ghost use Rattle.std.specs.Prelude.{◌≡◌, [], ◌∷◌, OnOk, OnErr};
+    ghost use Rattle.std.specs.Prelude.{◌≡◌, [], ◌∷◌, map as each, string_bytes, IfOk, OnOk, OnErr};
     ghost use Rattle.std.specs.Option.{option_copied};
     ghost use Rattle.std.specs.FinMap as map;
     ghost use Rattle.jam_journal.specs.Marks.{rolled, marked};
+    ghost use Rattle.jam_journal.specs.Tables.{row_of};
 
     /// The empty table without a mark; takes no memory.
     pub fn new(alloc: Global) -> Past<V>
@@ -74,6 +75,13 @@ impl<V: Drop> Past<V> {
         ensures { option_copied result ≡ map.get self.now.0 (first.now, second.now) }
     {
         self.table.get(first, second)
+    }
+
+    /// What stands now under a first text: the second texts with their values, in byte order.
+    pub fn row(&self, first: &str) -> Result<Vec<(&String, &V)>, OutOfMemory>
+        ensures { IfOk result (λ row. each (λ entry. (string_bytes entry.0.now, entry.1.now)) row.items ≡ map.entries (row_of self.now.0 first.now)) }
+    {
+        self.table.row(self.alloc, first)
     }
 
     /// Gives a pair a value. After an error the table is as before.

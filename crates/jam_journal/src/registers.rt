@@ -11,6 +11,7 @@ pub mod closing;
 pub mod growing;
 pub mod looking;
 pub mod opening;
+pub mod unset;
 
 /// The present value of a name in a module: that of its innermost binding in this module, else of the module's variable.
 #[derive(Drop)]

@@ -1,9 +1,9 @@
 //! A map from pairs of texts, asked by borrowed ones.
-ghost use Rattle.std.specs.Prelude.{◌≡◌, IfOk, OnOk, OnErr, None, Some, string_bytes};
+ghost use Rattle.std.specs.Prelude.{◌≡◌, map as each, IfOk, OnOk, OnErr, None, Some, string_bytes};
 ghost use Rattle.std.specs.Option.{option_copied};
 ghost use Rattle.std.specs.FinMap as map;
 ghost use Rattle.std.specs.HashMap.{get_by_text};
-ghost use Rattle.jam_journal.specs.Tables.{put_back, table_of};
+ghost use Rattle.jam_journal.specs.Tables.{put_back, row_of, table_of};
 
 use crate::names::Names;
 use b2_base::fault::OutOfMemory;
@@ -75,6 +75,16 @@ impl<V: Drop> Table<V> {
         match self.rows.get(first) {
             Some(row) => row.get(second),
             None => None,
+        }
+    }
+
+    /// The second texts that have a value with this first text, with their values, in byte order.
+    pub fn row(&self, alloc: Global, first: &str) -> Result<Vec<(&String, &V)>, OutOfMemory>
+        ensures { IfOk result (λ row. each (λ entry. (string_bytes entry.0.now, entry.1.now)) row.items ≡ map.entries (row_of self.now first.now)) }
+    {
+        match self.rows.get(first) {
+            Some(row) => row.entries(alloc),
+            None => Ok(Vec::new(alloc)),
         }
     }
 

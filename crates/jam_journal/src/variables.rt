@@ -2,7 +2,7 @@
 use crate::name::Name;
 use crate::names::Names;
 use crate::past::{Replaced, change};
-use crate::registers::{Cell, Registers, Scope, closing, growing, looking, opening};
+use crate::registers::{Cell, Registers, Scope, closing, growing, looking, opening, unset};
 use crate::reserved::push_reserved;
 use crate::table::Table;
 use b2_base::fault::OutOfMemory;
@@ -11,6 +11,8 @@ use b2_base::text_list::TextList;
 use std::alloc::Global;
 use std::marker::Model;
 use std::mem;
+
+mod layers;
 
 /// The frames and bindings, and what was replaced, between two marks.
 #[derive(Drop)]
@@ -54,9 +56,12 @@ impl Model for Variables {
 }
 
 impl Variables {
-    ghost use Rattle.std.specs.Prelude.{◌≡◌, ◌≢◌, ◌<◌, ◌↔◌, [], length, IfOk, IsTrue, OnOk, OnErr};
+    ghost use Rattle.std.specs.Prelude.{◌≡◌, ◌≢◌, ◌<◌, ◌↔◌, [], map as each, string_bytes, length, IfOk, IsTrue, OnOk, OnErr};
+    ghost use Rattle.std.specs.Option.{unwrap_or};
+    ghost use Rattle.std.specs.FinMap as map;
+    ghost use Rattle.jam_journal.specs.Tables.{row_of};
     ghost use Rattle.jam_journal.specs.Marks.{changed, marked, rolled};
-    ghost use Rattle.jam_journal.specs.Scopes.{look, assign, append, enter, enter_call, leave, bind, module_of, caller_of, first_scopes, frames_at_mark};
+    ghost use Rattle.jam_journal.specs.Scopes.{look, assigned, assign, append, enter, enter_call, leave, bind, module_of, caller_of, first_scopes, frames_at_mark};
 
     /// No frame and no variable.
     pub fn new(alloc: Global) -> Result<Variables, OutOfMemory>
@@ -84,6 +89,26 @@ impl Variables {
         ensures { result.now ≡ look self.now.0 name.now }
     {
         looking::found(&self.registers, name)
+    }
+
+    /// The value that `set` would replace, or the empty list.
+    pub fn assigned(&self, name: &str) -> &[Text]
+        ensures { result.now ≡ unwrap_or (assigned self.now.0 name.now) [] }
+    {
+        looking::value_at(&self.registers.cells, self.registers.owner.as_str(), name)
+    }
+
+    /// The names of a module's variables, in byte order. Takes time in proportion to its names and to the bindings that stand.
+    pub fn names(&self, home: &str) -> Result<Vec<&String>, OutOfMemory>
+        ensures { IfOk result (λ names. each (λ name. string_bytes name.now) names.items ≡ map.keys (row_of self.now.0.variables home.now)) }
+    {
+        let mut unset = Names::new(self.alloc);
+        let owner = self.registers.owner.as_str();
+        let entries = self.entries.as_slice();
+        let owner = unset::note_unset(self.alloc, entries, owner, home, &mut unset)?;
+        layers::note_unset(self.alloc, self.older.as_slice(), owner, home, &mut unset)?;
+        let row = self.registers.cells.row(self.alloc, home)?;
+        unset::others(self.alloc, row.as_slice(), &unset)
     }
 
     /// The present module: that of the newest frame, else the global one.
