@@ -172,3 +172,7 @@ may_leave_is older r es cs b e = (
   (λ h. newer older r (reverse es) cs (subst (λ n. 0 < n) (sym (opened_reverse es)) (any_opened es (sym e ∙ h)))),
   (λ h. e ∙ opened_any es (subst (λ n. 0 < n) (opened_reverse es) (may_leave older r (reverse es) cs h))),
 )
+
+-- a frame that was opened last is newer than the newest mark
+pub opened_newer : (older : Layers) (r : Registers) (es fs : List Scope) (cs : List (Replaced Cell)) (s : Scope) → fs ≡ es ++ s ∷ [] → 0 < opened (s ∷ reverse es) → frames_at_mark (scopes_by r (reverse fs) cs older).1 < length (scopes_by r (reverse fs) cs older).0.frames
+opened_newer older r es fs cs s f h = subst (λ (gs : List Scope). frames_at_mark (scopes_by r gs cs older).1 < length (scopes_by r gs cs older).0.frames) (sym (ap reverse f ∙ reverse_push es s)) (newer older r (s ∷ reverse es) cs h)

@@ -128,6 +128,7 @@ impl Variables {
     /// Opens a frame of a module.
     pub fn enter(&mut self, module: &str) -> Result<(), OutOfMemory>
         ensures ok { OnOk result (self.new ≡ changed (enter «module».now) self.old) }
+        ensures newer { OnOk result (frames_at_mark self.new.1 < length self.new.0.frames) }
         ensures err { OnErr result (self.new ≡ self.old) }
     {
         opening::open_frame(self.alloc, &mut self.registers, &mut self.entries, module)?;
@@ -137,6 +138,7 @@ impl Variables {
     /// Opens a frame of a module for a call: it keeps the module that was the present one.
     pub fn enter_call(&mut self, module: &str) -> Result<(), OutOfMemory>
         ensures ok { OnOk result (self.new ≡ changed (enter_call «module».now) self.old) }
+        ensures newer { OnOk result (frames_at_mark self.new.1 < length self.new.0.frames) }
         ensures err { OnErr result (self.new ≡ self.old) }
     {
         opening::open_call(self.alloc, &mut self.registers, &mut self.entries, module)?;

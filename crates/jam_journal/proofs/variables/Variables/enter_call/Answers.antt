@@ -1,11 +1,11 @@
-use Rattle.std.proofs.Common.{reverse, ap, ◌∙◌}
+use Rattle.std.proofs.Common.{reverse, ap, ◌∙◌, arith}
 use Rattle.jam_journal.specs.declared.registers.Scope.TheVariants.{Called}
 use Rattle.jam_journal.specs.Marks.{changed}
 use Rattle.jam_journal.specs.Scopes.{enter_call}
 use Rattle.jam_journal.specs.Stacks.{in_call}
 use Rattle.jam_journal.specs.Layers.{layers_of}
 use Rattle.jam_journal.proofs.ChangeLemmas.{call_kept, call_seen}
-use Rattle.jam_journal.proofs.VariableLemmas.{pushed_kept, pushed_seen}
+use Rattle.jam_journal.proofs.VariableLemmas.{pushed_kept, pushed_seen, opened_newer}
 use Rattle.jam_journal.proofs.variables.Variables.enter_call.Goals as goal
 
 pub invariant_of-self-2 : goal.invariant_of-self-2
@@ -24,3 +24,8 @@ returns-clause-ok c =
     pushed_seen older c.self.inside.entries.items changes c.open_call.new.registers (in_call c.args.module.now r) c.open_call.new.entries.items (Called r.owner r.caller) c.in_ok-open_call.ensures.registers c.in_ok-open_call.ensures.entries
     ∙ call_seen older r (reverse c.self.inside.entries.items) changes c.self.invariant c.args.module.now
     ∙ ap (changed (enter_call c.args.module.now)) c.self.view_is
+
+pub returns-clause-newer : goal.returns-clause-newer
+returns-clause-newer c =
+    let r = c.self.inside.registers in
+    opened_newer (layers_of c.self.inside.older.items) c.open_call.new.registers c.self.inside.entries.items c.open_call.new.entries.items (reverse c.self.inside.changes.items) (Called r.owner r.caller) c.in_ok-open_call.ensures.entries (omega arith)
