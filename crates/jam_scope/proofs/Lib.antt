@@ -1,1 +1,3 @@
 pub mod LineLemmas
+mod NoteLemmas
+mod BindLemmas

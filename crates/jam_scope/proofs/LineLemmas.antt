@@ -1,5 +1,5 @@
 -- The modules above a module.
-use Rattle.std.proofs.Common.{T, not, Bor, lit<, get_or, eqb, ◌≢◌, MatchOption, ◌≡◌, ℕ, suc, ◌+◌, ◌-◌, ◌<◌, ◌≤◌, true, false, Bool, cond, ◌&&◌, ◌||◌, List, [], ◌∷◌, ◌++◌, length, Option, Some, None, is_some, refl, sym, ap, subst, ◌∙◌, arith}
+use Rattle.std.proofs.Common.{T, IsTrue, not, Bor, lit<, get_or, eqb, ◌≢◌, MatchOption, ◌≡◌, ℕ, suc, ◌+◌, ◌-◌, ◌<◌, ◌≤◌, true, false, Bool, cond, ◌&&◌, ◌||◌, List, [], ◌∷◌, ◌++◌, length, Option, Some, None, is_some, refl, sym, ap, subst, ◌∙◌, arith}
 use Rattle.std.specs.List.{list_any, before_first, after_first}
 use Rattle.std.proofs.lemmas.Bool.Decides.{Decides-eqb}
 use Rattle.std.proofs.lemmas.Str.Pattern.{IsSplitOnceResult, split_once_first, split_parts}
@@ -11,8 +11,8 @@ use Rattle.std.specs.FinMap.{get, insert, remove}
 use Rattle.std.proofs.lemmas.Slice.Eq.{bytes_eq-Decides}
 use Rattle.jam_journal.specs.Tables.{Text, Key, Table, key_cmp, put}
 use Rattle.jam_journal.proofs.TableLemmas.{elsewhere, there, by_both, key_itself, key_order}
-use Rattle.jam_scope.specs.Lines.{AreAbove, HasLine, AreLined, MayBeAbove, in_each, first_at, is_dot}
-use Rattle.jam_scope.specs.Heights.{line_by, height, upward, AllLined}
+use Rattle.jam_scope.specs.Lines.{upward, line_by, line, AreAbove, AreLines, may_be_above, in_each, first_at, is_dot}
+use Rattle.jam_scope.specs.Heights.{HasLine, AreLined, height, AllLined}
 
 same_some : (x y : Text) → Some x ≡ Some y → x ≡ y
 same_some x y e = ap (λ o. unwrap_or o x) e
@@ -107,6 +107,43 @@ line_is (suc n) [] t m b h = ap (λ o. upward o (line_by n t)) h
 line_is (suc n) (a ∷ more) t m b h =
     let fits : length more ≤ n = omega arith in
     ap (λ o. upward o (line_by n t)) h.0 ∙ ap (λ l. a ∷ l) (line_is n more t a fits h.1)
+
+-- what is above a module is its line
+whole : (t : Table Text) (m : Text) (above : List Text) → AreAbove t m above → line t m ≡ above
+whole t m above h = line_is (map.len t) above t m (bounded above t m h) h
+
+pub lines : (t : Table Text) → AreLined t → AreLines t
+lines t lined m = subst (AreAbove t m) (sym (whole t m (lined m).line (lined m).are)) (lined m).are
+
+pub line_next : (t : Table Text) (m a : Text) → AreLines t → get t (m, []) ≡ Some a → line t m ≡ a ∷ line t a
+line_next t m a all e = whole t m (a ∷ line t a) (e, all a)
+
+pub line_end : (t : Table Text) (m : Text) → get t (m, []) ≡ None → line t m ≡ []
+line_end t m e = whole t m [] e
+
+-- the same as a relation
+abbrev pub MayBeAbove : Table Text → Text → Text → Type 0
+MayBeAbove t p m = (above : List Text) → AreAbove t p above → list_any (bytes_eq m) (p ∷ above) ≡ false
+
+not_true : (b : Bool) → IsTrue (not b) → b ≡ false
+not_true true h = cc
+not_true false h = refl
+
+pub may_from : (t : Table Text) (p m : Text) → IsTrue (may_be_above t p m) → MayBeAbove t p m
+may_from t p m h above are = ap (λ l. list_any (bytes_eq m) (p ∷ l)) (sym (whole t p above are)) ∙ not_true _ h
+
+-- whether a module is another one or above it, where it is not the one
+abbrev pub is_among : Table Text → Text → Text → Bool
+is_among t m x = list_any (bytes_eq m) (x ∷ line t x)
+
+pub among_next : (t : Table Text) (m x a : Text) → AreLines t → get t (x, []) ≡ Some a → bytes_eq m x ≡ false → is_among t m x ≡ is_among t m a
+among_next t m x a all e apart = (λ i. apart i || list_any (bytes_eq m) (line_next t x a all e i))
+
+pub among_end : (t : Table Text) (m x : Text) → get t (x, []) ≡ None → bytes_eq m x ≡ false → is_among t m x ≡ false
+among_end t m x e apart = (λ i. apart i || list_any (bytes_eq m) (line_end t x e i))
+
+pub among_here : (t : Table Text) (m x : Text) → bytes_eq m x ≡ true → is_among t m x ≡ true
+among_here t m x e = ap (λ b. b || list_any (bytes_eq m) (line t x)) e
 
 height_is : (above : List Text) (t : Table Text) (m : Text) → AreAbove t m above → height t m ≡ length above
 height_is above t m h = ap length (line_is (map.len t) above t m (bounded above t m h) h)

@@ -1,15 +1,19 @@
 -- What the calls of a world change.
 use Rattle.std.specs.Prelude.{◌≡◌, ℕ, ◌+◌, true, false, List, [], ◌∷◌, ◌++◌, Option, Some, None, length, if◌then◌else◌}
+use Rattle.std.specs.Option.{option_map}
 use Rattle.std.specs.FinMap as map
-use Rattle.jam_journal.specs.Tables.{Text, Key, Table}
-use Rattle.jam_journal.specs.Scopes.{Value, Scopes, module_of, first_scopes}
-use Rattle.jam_scope.specs.declared.body.RuleBody.{RuleBody}
-use Rattle.jam_scope.specs.declared.body.ActionBody.{ActionBody}
+use Rattle.jam_grammar.specs.declared.tree.Param.{Param}
+use Rattle.jam_grammar.specs.Trees.{StmtTrees}
+use Rattle.jam_journal.specs.Tables.{Text, Key, Table, row_of}
+use Rattle.jam_journal.specs.Scopes.{Value, Binding, Scopes, module_of, first_scopes}
+use Rattle.jam_scope.specs.declared.notes.StepNotes.{StepNotes}
 use Rattle.jam_scope.specs.Rules.{Rule}
+use Rattle.jam_scope.specs.Steps.{with_input, as_always, as_notfile}
 use Rattle.jam_scope.specs.Texts.{here, first_roots}
 use Rattle.jam_scope.specs.Worlds.{World, Worlds}
 
--- the world at first: no frame, nothing in any module, no own value, the directory `.`, and three roots that are not frozen
+-- the world at first: no frame, nothing in any module, no own value, the directory `.`, three roots that are not frozen, and
+-- no open step
 abbrev pub first_world : World
 first_world = record {
   scopes = first_scopes;
@@ -20,6 +24,7 @@ first_world = record {
   place = here;
   roots = first_roots;
   frozen = false;
+  step = None;
 }
 
 abbrev pub first_worlds : Worlds
@@ -58,10 +63,11 @@ abbrev pub module_in : World → Text
 module_in w = module_of w.scopes.frames
 
 -- the present module has the rule from now on, and it is the rule's home
-abbrev pub define_rule : Text → RuleBody → World → World
-define_rule name body w = record w { rules = map.insert w.rules (module_in w, name) record { home = module_in w; body = body } }
+abbrev pub define_rule : Text → List (List Param) → StmtTrees → Text → ℕ → World → World
+define_rule name params block path line w =
+    record w { rules = map.insert w.rules (module_in w, name) record { home = module_in w; params = params; block = block; path = path; line = line } }
 
-abbrev pub define_actions : Text → ActionBody → World → World
+abbrev pub define_actions : Text → Text → World → World
 define_actions name body w = record w { actions = map.insert w.actions (module_in w, name) body }
 
 abbrev pub with_rule : Option Rule → Key → Table Rule → Table Rule
@@ -80,6 +86,10 @@ set_parent owner parent w = record w { parents = map.insert w.parents (owner, []
 abbrev pub set_on : Text → Text → Value → World → World
 set_on target name value w = record w { own = map.insert w.own (target, name) value }
 
+-- the own values of a target, by name in byte order
+abbrev pub own_of : Text → World → List Binding
+own_of target w = map.entries (row_of w.own target)
+
 abbrev pub set_place : Text → World → World
 set_place dir w = record w { place = dir }
 
@@ -89,3 +99,20 @@ add_roots dirs w = if w.frozen then w else record w { roots = w.roots ++ dirs }
 
 abbrev pub freeze_roots : World → World
 freeze_roots w = record w { frozen = true }
+
+-- a step with these outputs and inputs is open, of which nothing else is noted yet
+abbrev pub open_step : List Text → List Text → World → World
+open_step outs ins w = record w { step = Some record { outs = outs; ins = ins; depends = []; always = false; notfile = false } }
+
+-- of the open step, if there is one: a further input; it is run in each update; its outputs are no files
+abbrev pub noted : (StepNotes → StepNotes) → World → World
+noted change w = record w { step = option_map change w.step }
+
+abbrev pub add_depends : Text → World → World
+add_depends path = noted (with_input path)
+
+abbrev pub set_always : World → World
+set_always = noted as_always
+
+abbrev pub set_notfile : World → World
+set_notfile = noted as_notfile

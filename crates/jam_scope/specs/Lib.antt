@@ -1,9 +1,12 @@
 pub mod Texts
+pub mod TreeCodes
 pub mod Rules
 pub mod RuleCodes
+pub mod Steps
 pub mod Worlds
 pub mod WorldCodes
 pub mod Changes
+pub mod Names
 pub mod Lines
 pub mod Parts
 pub mod Heights

@@ -1,14 +1,14 @@
 -- The parts of a world, each of which keeps its own past.
-use Rattle.std.specs.Prelude.{Bool, List, [], ◌∷◌, map as each}
+use Rattle.std.specs.Prelude.{Bool, List, [], ◌∷◌, map as each, Option}
 use Rattle.jam_journal.specs.Tables.{Text, Table}
 use Rattle.jam_journal.specs.Marks.{Marked}
 use Rattle.jam_journal.specs.Scopes.{Value, Scopes}
-use Rattle.jam_scope.specs.declared.body.ActionBody.{ActionBody}
+use Rattle.jam_scope.specs.declared.notes.StepNotes.{StepNotes}
 use Rattle.jam_scope.specs.Rules.{Rule}
 use Rattle.jam_scope.specs.Worlds.{World, Worlds}
 
 abbrev pub Parts : Type 0
-Parts = Scopes × (Table Rule × (Table ActionBody × (Table Text × (Table Value × (Text × (List Text × Bool))))))
+Parts = Scopes × (Table Rule × (Table Text × (Table Text × (Table Value × (Text × (List Text × (Bool × Option StepNotes)))))))
 
 abbrev pub world_of : Parts → World
 world_of p = record {
@@ -19,7 +19,8 @@ world_of p = record {
   own = p.1.1.1.1.0;
   place = p.1.1.1.1.1.0;
   roots = p.1.1.1.1.1.1.0;
-  frozen = p.1.1.1.1.1.1.1;
+  frozen = p.1.1.1.1.1.1.1.0;
+  step = p.1.1.1.1.1.1.1.1;
 }
 
 -- two lists, element by element

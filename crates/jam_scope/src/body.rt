@@ -1,24 +1,103 @@
 //! What a rule and what actions do.
+ghost use Rattle.std.specs.Prelude.{◌≡◌, map};
+ghost use Rattle.jam_grammar.specs.Trees.{block_tree, params_of};
+
 use b2_base::text::Text;
 use jam_grammar::tree::{Block, Param};
+use std::marker::Model;
 use std::rc::Rc;
 
-/// What a call of a rule does.
+/// What a call of a rule does, seen as plain data.
 #[derive(Drop)]
 pub struct RuleBody {
-    /// The lists of its parameters. A rule without parentheses has no list, and takes any arguments.
-    pub params: Vec<Vec<Param>>,
-    /// Its statements, which it shares with the tree that defined it.
-    pub block: Rc<Block>,
-    /// The file in which it stands.
-    pub path: Text,
-    /// The line of its statement; the first line is 1.
-    pub line: u32,
+    params: Vec<Vec<Param>>,
+    block: Rc<Block>,
+    path: Text,
+    line: u32,
 }
 
-/// What actions run.
+impl Model for RuleBody {
+    ghost use Rattle.jam_grammar.specs.Trees.{block_tree, params_of};
+    ghost use Rattle.jam_scope.specs.Rules.{Body};
+    ghost use Rattle.jam_scope.specs.RuleCodes.{body_code};
+
+    ghost Value = { Body };
+
+    ghost coded = { body_code };
+
+    ghost view = { λ b. record { params = params_of b.params; block = block_tree b.block.value; path = b.path; line = b.line } };
+}
+
+impl RuleBody {
+    /// The body with these lists of parameters and these statements, which stands in a line of a file; the first line is 1. A
+    /// rule without parentheses has no list, and takes any arguments. The statements are shared with the tree that defined it.
+    /// Takes no memory.
+    pub fn new(params: Vec<Vec<Param>>, block: Rc<Block>, path: Text, line: u32) -> RuleBody
+        ensures { result ≡ record { params = params_of params; block = block_tree block.value; path = path; line = line } }
+    {
+        RuleBody {
+            params,
+            block,
+            path,
+            line,
+        }
+    }
+
+    /// The lists of its parameters. Takes no memory.
+    pub fn params(&self) -> &[Vec<Param>]
+        ensures { map (λ list. list.items) result.now ≡ self.now.params }
+    {
+        self.params.as_slice()
+    }
+
+    /// Its statements. Takes no memory.
+    pub fn block(&self) -> &Block
+        ensures { block_tree result.now ≡ self.now.block }
+    {
+        &self.block
+    }
+
+    /// The file in which it stands. Takes no memory.
+    pub fn path(&self) -> &Text
+        ensures { result.now ≡ self.now.path }
+    {
+        &self.path
+    }
+
+    /// The line of its statement. Takes no memory.
+    pub fn line(&self) -> u32
+        ensures { result ≡ self.now.line }
+    {
+        self.line
+    }
+}
+
+/// What actions run, seen as the text between the braces, before its words are expanded.
 #[derive(Drop)]
 pub struct ActionBody {
-    /// The text between the braces, before its words are expanded.
-    pub body: Text,
+    body: Text,
+}
+
+impl Model for ActionBody {
+    ghost use Rattle.std.specs.Prelude.{ℕ, List};
+
+    ghost Value = { List ℕ };
+
+    ghost view = { λ a. a.body };
+}
+
+impl ActionBody {
+    /// The actions with this text. Takes no memory.
+    pub fn new(body: Text) -> ActionBody
+        ensures { result ≡ body }
+    {
+        ActionBody { body }
+    }
+
+    /// The text. Takes no memory.
+    pub fn text(&self) -> &Text
+        ensures { result.now ≡ self.now }
+    {
+        &self.body
+    }
 }

@@ -1,9 +1,12 @@
-//! The world of a running build file: variables in dynamic scopes, rules, own values of targets, and what they were at marks.
+//! The world of a running build file: variables in dynamic scopes, rules, own values of targets, the notes of an open step, and
+//! what they were at marks.
 #![tactic(auto)]
 
 pub mod body;
 pub mod mark;
+pub mod notes;
 mod parents;
 pub mod rule;
 pub mod rule_ref;
+mod steps;
 pub mod world;

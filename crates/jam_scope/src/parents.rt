@@ -29,11 +29,11 @@ impl Model for Parents {
 }
 
 impl Parents {
-    ghost use Rattle.std.specs.Prelude.{◌≡◌, ◌<◌, [], OnOk, OnErr, IfSome, option_map};
+    ghost use Rattle.std.specs.Prelude.{◌≡◌, ◌<◌, [], IsTrue, OnOk, OnErr, IfSome, option_map};
     ghost use Rattle.std.specs.Str.{IsUtf8};
     ghost use Rattle.std.specs.FinMap as map;
     ghost use Rattle.jam_journal.specs.Marks.{marked, rolled};
-    ghost use Rattle.jam_scope.specs.Lines.{AreLined, MayBeAbove};
+    ghost use Rattle.jam_scope.specs.Lines.{AreLines, may_be_above};
     ghost use Rattle.jam_scope.specs.Heights.{height};
 
     /// No module has one above it; takes no memory.
@@ -47,7 +47,7 @@ impl Parents {
 
     /// The modules above each module end.
     pub(crate) fn lined(&self)
-        ensures { AreLined self.now.0 }
+        ensures { AreLines self.now.0 }
     {
         let _ = &self.past;
     }
@@ -64,6 +64,22 @@ impl Parents {
         }
     }
 
+    /// Whether a module may be put above another one: it is another, and the other is not above it. Takes no memory.
+    #[tactic(auto, using(crate::proofs::LineLemmas::among_next, crate::proofs::LineLemmas::among_end, crate::proofs::LineLemmas::among_here))]
+    pub(crate) fn may_be_above(&self, owner: &str, parent: &str) -> bool
+        ensures { result ≡ may_be_above self.now.0 parent.now owner.now }
+    {
+        self.lined();
+        let mut above = parent;
+        'modules: while owner != above {
+            match self.above(above) {
+                Some(next) => above = next,
+                None => return true,
+            }
+        }
+        false
+    }
+
     /// Puts a module above another one. After an error all is as before.
     pub(crate) fn set(
         &mut self,
@@ -71,7 +87,7 @@ impl Parents {
         owner: &str,
         parent: &str,
     ) -> Result<(), OutOfMemory>
-        requires { MayBeAbove self.old.0 parent.now owner.now }
+        requires { IsTrue (may_be_above self.old.0 parent.now owner.now) }
         ensures ok { OnOk result (self.new ≡ (map.insert self.old.0 (owner.now, []) parent.now, self.old.1)) }
         ensures err { OnErr result (self.new ≡ self.old) }
     {

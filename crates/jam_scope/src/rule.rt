@@ -6,7 +6,7 @@ use std::alloc::Global;
 use std::marker::Model;
 use std::rc::Rc;
 
-/// A rule, and the module in which it was defined. Its body is shared by all modules that have it.
+/// A rule, and the module in which it was defined. Its body is shared by all modules that have it, and by those that run it.
 #[derive(Drop)]
 pub struct Rule {
     home: Name,
@@ -14,22 +14,23 @@ pub struct Rule {
 }
 
 impl Model for Rule {
-    ghost use Rattle.jam_scope.specs.Rules.{Rule as Seen};
+    ghost use Rattle.jam_scope.specs.Rules.{Rule as Seen, rule_of};
     ghost use Rattle.jam_scope.specs.RuleCodes.{rule_code};
 
     ghost Value = { Seen };
 
     ghost coded = { rule_code };
 
-    ghost view = { λ r. record { home = r.home; body = r.body.value } };
+    ghost view = { λ r. rule_of r.home r.body.value };
 }
 
 impl Rule {
     ghost use Rattle.std.specs.Prelude.{◌≡◌, IfOk};
+    ghost use Rattle.jam_scope.specs.Rules.{rule_of};
 
     /// The rule of a body that is defined in a module.
     pub(crate) fn new(alloc: Global, home: &str, body: RuleBody) -> Result<Rule, OutOfMemory>
-        ensures { IfOk result (λ made. made ≡ record { home = home.now; body = body }) }
+        ensures { IfOk result (λ made. made ≡ rule_of home.now body) }
     {
         let home = Name::new(alloc, home)?;
         let body = Rc::new(alloc, body)?;
@@ -45,7 +46,7 @@ impl Rule {
 
     /// What it does. Takes no memory.
     pub fn body(&self) -> &RuleBody
-        ensures { result.now ≡ self.now.body }
+        ensures { rule_of self.now.home result.now ≡ self.now }
     {
         &self.body
     }

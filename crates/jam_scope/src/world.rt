@@ -6,6 +6,7 @@ ghost use Rattle.jam_scope.specs.Texts.{here, first_roots};
 use crate::body::ActionBody;
 use crate::parents::Parents;
 use crate::rule::Rule;
+use crate::steps::Steps;
 use b2_base::fault::OutOfMemory;
 use b2_base::path::Path;
 use b2_base::path_list::PathList;
@@ -18,14 +19,17 @@ use std::marker::Model;
 
 mod finding;
 mod frames;
+mod listing;
 mod marks;
 mod project;
 mod rules;
 mod scopes;
+mod step;
 
 /// Modules with variables, rules and actions, and a module above each that has one; frames, which bind names for a time; own
-/// values of targets; the directory of the project that is being loaded or whose step is being made; and the output roots. The
-/// global module is the one with the empty name. It is seen as the present world and the marked ones, the newest first.
+/// values of targets; the directory of the project that is being loaded or whose step is being made; the output roots; and the
+/// notes of the step whose rule is being run. The global module is the one with the empty name. It is seen as the present world
+/// and the marked ones, the newest first.
 ///
 /// A call that answers no `Result` takes no memory. After an error the world is as before.
 #[derive(Drop)]
@@ -39,6 +43,7 @@ pub struct World {
     place: Saved<Path>,
     roots: Saved<PathList>,
     frozen: Saved<bool>,
+    steps: Steps,
 }
 
 impl Model for World {
@@ -51,9 +56,9 @@ impl Model for World {
 
     ghost coded = { worlds_code };
 
-    ghost view = { λ w. worlds_of (together w.variables (together w.rules (together w.actions (together w.parents (together w.own (together w.place (together w.roots w.frozen))))))) };
+    ghost view = { λ w. worlds_of (together w.variables (together w.rules (together w.actions (together w.parents (together w.own (together w.place (together w.roots (together w.frozen w.steps)))))))) };
 
-    ghost invariant = { λ w. length w.variables.1 ≡ length (together w.variables (together w.rules (together w.actions (together w.parents (together w.own (together w.place (together w.roots w.frozen))))))).1 };
+    ghost invariant = { λ w. length w.variables.1 ≡ length (together w.variables (together w.rules (together w.actions (together w.parents (together w.own (together w.place (together w.roots (together w.frozen w.steps)))))))).1 };
 }
 
 impl World {
@@ -61,7 +66,7 @@ impl World {
     ghost use Rattle.jam_scope.specs.Changes.{first_worlds};
 
     /// The world at first: no frame, nothing in any module, no own value, the directory `.`, the output roots `bin`, `stage` and
-    /// `dist`, which are not frozen, and no mark.
+    /// `dist`, which are not frozen, no open step, and no mark.
     pub fn new(alloc: Global) -> Result<World, OutOfMemory>
         ensures { IfOk result (λ made. made ≡ first_worlds) }
     {
@@ -78,6 +83,7 @@ impl World {
             place: Saved::new(alloc, place),
             roots: Saved::new(alloc, roots),
             frozen: Saved::new(alloc, false),
+            steps: Steps::new(alloc),
         })
     }
 }

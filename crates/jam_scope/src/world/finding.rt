@@ -2,7 +2,7 @@
 ghost use Rattle.std.specs.Prelude.{◌≡◌, [], ◌∷◌, true, false, List, option_map, MatchOption};
 ghost use Rattle.std.specs.List.{list_any, before_first, after_first};
 ghost use Rattle.jam_journal.specs.Tables.{Text as Bytes};
-ghost use Rattle.jam_scope.specs.Lines.{AreAbove, is_dot, dotted, in_each, first_at, IsFoundIn};
+ghost use Rattle.jam_scope.specs.Lines.{AreAbove, is_dot, dotted, in_each, first_at, places_from};
 
 use super::World;
 use crate::parents::Parents;
@@ -57,8 +57,9 @@ fn find<'a, V: Drop>(
     owner: &'a str,
     name: &'a str,
 ) -> Option<RuleRef<'a>>
-    ensures { IsFoundIn table.now.0 parents.now.0 owner.now name.now (option_map (λ found. (found.module.now, found.name.now)) result) }
+    ensures { option_map (λ found. (found.module.now, found.name.now)) result ≡ first_at table.now.0 (places_from parents.now.0 owner.now name.now) }
 {
+    parents.lined();
     match in_line(table, parents, owner, name) {
         Some(module) => Some(RuleRef { module, name }),
         None => beyond(table, name),
@@ -66,16 +67,16 @@ fn find<'a, V: Drop>(
 }
 
 impl World {
-    ghost use Rattle.std.specs.Prelude.{◌≡◌, option_map, OnOk, OnErr};
-    ghost use Rattle.jam_scope.specs.Changes.{changed, module_in, set_parent};
-    ghost use Rattle.jam_scope.specs.Lines.{IsRuleAt, AreActionsAt, HasLine, MayBeAbove};
+    ghost use Rattle.std.specs.Prelude.{◌≡◌, IsTrue, option_map, OnOk, OnErr};
+    ghost use Rattle.jam_scope.specs.Changes.{changed, set_parent};
+    ghost use Rattle.jam_scope.specs.Lines.{AreLines, rule_place, actions_place, may_be_above};
 
     /// Where a rule of this name is found: in the present module, else in those above it from the nearest on, else in the
     /// global module, else, for a name with a dot, in the module before the first dot under the rest of the name. Takes no
     /// memory.
     pub fn find_rule<'a>(&'a self, name: &'a str) -> Option<RuleRef<'a>>
-        ensures lined { HasLine self.now.now.parents (module_in self.now.now) }
-        ensures found { IsRuleAt self.now.now name.now (option_map (λ found. (found.module.now, found.name.now)) result) }
+        ensures lines { AreLines self.now.now.parents }
+        ensures found { option_map (λ found. (found.module.now, found.name.now)) result ≡ rule_place name.now self.now.now }
     {
         self.parents.lined();
         find(&self.rules, &self.parents, self.variables.module(), name)
@@ -83,17 +84,22 @@ impl World {
 
     /// The same for actions. Takes no memory.
     pub fn find_actions<'a>(&'a self, name: &'a str) -> Option<RuleRef<'a>>
-        ensures lined { HasLine self.now.now.parents (module_in self.now.now) }
-        ensures found { AreActionsAt self.now.now name.now (option_map (λ found. (found.module.now, found.name.now)) result) }
+        ensures { option_map (λ found. (found.module.now, found.name.now)) result ≡ actions_place name.now self.now.now }
     {
-        self.parents.lined();
         find(&self.actions, &self.parents, self.variables.module(), name)
     }
 
-    /// Sets the module above a module, in which rules are looked for after it. It is another one, and the module is not
-    /// above it. After an error the world is as before.
+    /// Whether a module may be put above another one: it is another, and the other is not above it. Takes no memory.
+    pub fn may_be_above(&self, module: &str, parent: &str) -> bool
+        ensures { result ≡ may_be_above self.now.now.parents parent.now «module».now }
+    {
+        self.parents.may_be_above(module, parent)
+    }
+
+    /// Sets the module above a module, in which rules are looked for after it. It may be put there. After an error the world is
+    /// as before.
     pub fn set_parent(&mut self, module: &str, parent: &str) -> Result<(), OutOfMemory>
-        requires { MayBeAbove self.old.now.parents parent.now «module».now }
+        requires { IsTrue (may_be_above self.old.now.parents parent.now «module».now) }
         ensures ok { OnOk result (self.new ≡ changed (set_parent «module».now parent.now) self.old) }
         ensures err { OnErr result (self.new ≡ self.old) }
     {

@@ -10,6 +10,7 @@ impl World {
     /// Opens a frame of a module, which is the present one until the frame is left. After an error the world is as before.
     pub fn enter(&mut self, module: &str) -> Result<(), OutOfMemory>
         ensures ok { OnOk result (self.new ≡ rescoped (enter «module».now) self.old) }
+        ensures newer { OnOk result (frames_at_mark self.new.marked < length self.new.now.scopes.frames) }
         ensures err { OnErr result (self.new ≡ self.old) }
     {
         self.variables.enter(module)?;
@@ -20,6 +21,7 @@ impl World {
     /// before.
     pub fn enter_call(&mut self, module: &str) -> Result<(), OutOfMemory>
         ensures ok { OnOk result (self.new ≡ rescoped (enter_call «module».now) self.old) }
+        ensures newer { OnOk result (frames_at_mark self.new.marked < length self.new.now.scopes.frames) }
         ensures err { OnErr result (self.new ≡ self.old) }
     {
         self.variables.enter_call(module)?;

@@ -5,6 +5,7 @@ ghost use Rattle.jam_journal.specs.Marks.{marked};
 use super::World;
 use crate::mark::Mark;
 use crate::parents::Parents;
+use crate::steps::Steps;
 use b2_base::fault::OutOfMemory;
 use jam_journal::past::Past;
 use jam_journal::saved::Saved;
@@ -24,16 +25,27 @@ fn mark_two<A: Drop, B: Drop>(first: &mut Past<A>, second: &mut Past<B>) -> Resu
     Ok(())
 }
 
-/// Marks parents and a table, or none of them.
-fn mark_parents<A: Drop>(first: &mut Parents, second: &mut Past<A>) -> Result<(), OutOfMemory>
+/// Marks parents, a table and the notes of a step, or none of them.
+fn mark_parents<A: Drop>(
+    first: &mut Parents,
+    second: &mut Past<A>,
+    third: &mut Steps,
+) -> Result<(), OutOfMemory>
     ensures first { OnOk result (first.new ≡ marked first.old) }
     ensures second { OnOk result (second.new ≡ marked second.old) }
+    ensures third { OnOk result (third.new ≡ marked third.old) }
     ensures same_first { OnErr result (first.new ≡ first.old) }
     ensures same_second { OnErr result (second.new ≡ second.old) }
+    ensures same_third { OnErr result (third.new ≡ third.old) }
 {
     first.mark()?;
     if let Err(fault) = second.mark() {
         first.roll_back();
+        return Err(fault);
+    }
+    if let Err(fault) = third.mark() {
+        first.roll_back();
+        second.roll_back();
         return Err(fault);
     }
     Ok(())
@@ -65,27 +77,30 @@ fn mark_three<A: Drop, B: Drop, C: Drop>(
     Ok(())
 }
 
-/// Marks parents, a table and three values, or none of them.
-fn mark_five<A: Drop, B: Drop, C: Drop, D: Drop>(
+/// Marks parents, a table, three values and the notes of a step, or none of them.
+fn mark_six<A: Drop, B: Drop, C: Drop, D: Drop>(
     first: &mut Parents,
     second: &mut Past<A>,
     third: &mut Saved<B>,
     fourth: &mut Saved<C>,
     fifth: &mut Saved<D>,
+    sixth: &mut Steps,
 ) -> Result<(), OutOfMemory>
     ensures first { OnOk result (first.new ≡ marked first.old) }
     ensures second { OnOk result (second.new ≡ marked second.old) }
     ensures third { OnOk result (third.new ≡ marked third.old) }
     ensures fourth { OnOk result (fourth.new ≡ marked fourth.old) }
     ensures fifth { OnOk result (fifth.new ≡ marked fifth.old) }
+    ensures sixth { OnOk result (sixth.new ≡ marked sixth.old) }
     ensures same_first { OnErr result (first.new ≡ first.old) }
     ensures same_second { OnErr result (second.new ≡ second.old) }
     ensures same_third { OnErr result (third.new ≡ third.old) }
     ensures same_fourth { OnErr result (fourth.new ≡ fourth.old) }
     ensures same_fifth { OnErr result (fifth.new ≡ fifth.old) }
+    ensures same_sixth { OnErr result (sixth.new ≡ sixth.old) }
 {
     mark_three(third, fourth, fifth)?;
-    if let Err(fault) = mark_parents(first, second) {
+    if let Err(fault) = mark_parents(first, second, sixth) {
         third.roll_back();
         fourth.roll_back();
         fifth.roll_back();
@@ -110,12 +125,13 @@ impl World {
             self.variables.roll_back();
             return Err(fault);
         }
-        let marked = mark_five(
+        let marked = mark_six(
             &mut self.parents,
             &mut self.own,
             &mut self.place,
             &mut self.roots,
             &mut self.frozen,
+            &mut self.steps,
         );
         if let Err(fault) = marked {
             self.variables.roll_back();
@@ -148,6 +164,7 @@ impl World {
         self.place.roll_back();
         self.roots.roll_back();
         self.frozen.roll_back();
+        self.steps.roll_back();
     }
 
     /// Whether a mark was not yet used. Takes no memory.

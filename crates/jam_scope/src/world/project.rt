@@ -1,5 +1,7 @@
 //! Own values, the project's directory and the output roots.
-ghost use Rattle.std.specs.Prelude.{◌≡◌, ◌++◌, IfOk};
+ghost use Rattle.std.specs.Prelude.{◌≡◌, ◌≢◌, ℕ, [], ◌++◌, map, take, string_bytes, IfOk, OnOk, OnErr};
+ghost use Rattle.jam_journal.specs.Marks.{changed as with_scopes};
+ghost use Rattle.jam_journal.specs.Scopes.{bind_each};
 
 use super::World;
 use b2_base::fault::OutOfMemory;
@@ -7,6 +9,7 @@ use b2_base::path::Path;
 use b2_base::path_list::{PathList, copy_paths};
 use b2_base::text::Text;
 use b2_base::text_list::TextList;
+use jam_journal::variables::Variables;
 use std::alloc::Global;
 
 /// Output roots, and further ones after them.
@@ -20,11 +23,40 @@ fn more_roots(alloc: Global, roots: &[Path], dirs: &[Path]) -> Result<PathList, 
     Ok(made)
 }
 
+/// The same texts, in order.
+fn copy_texts(alloc: Global, texts: &[Text]) -> Result<TextList, OutOfMemory>
+    ensures { IfOk result (λ made. made ≡ texts.now) }
+{
+    let mut made = TextList::new(alloc);
+    for text in texts {
+        made.push(text.copy()?)?;
+    }
+    Ok(made)
+}
+
+/// Binds the names of a row in the newest frame, which is there. After an error the first ones may be bound.
+fn bind_row(
+    alloc: Global,
+    variables: &mut Variables,
+    row: &[(&String, &TextList)],
+) -> Result<(), OutOfMemory>
+    requires { variables.old.0.frames ≢ [] }
+    ensures ok { OnOk result (variables.new ≡ with_scopes (bind_each (map (λ entry. (string_bytes entry.0.now, entry.1.now)) row.now)) variables.old) }
+    ensures err { OnErr result ((count : ℕ) × (variables.new ≡ with_scopes (bind_each (take count (map (λ entry. (string_bytes entry.0.now, entry.1.now)) row.now))) variables.old)) }
+{
+    for (name, value) in row {
+        let value = copy_texts(alloc, value.as_slice())?;
+        variables.bind(name.as_str(), value)?;
+    }
+    Ok(())
+}
+
 impl World {
-    ghost use Rattle.std.specs.Prelude.{◌≡◌, not, IfOk, OnOk, OnErr};
+    ghost use Rattle.std.specs.Prelude.{◌≡◌, ◌≢◌, ℕ, [], not, take, IfOk, OnOk, OnErr};
     ghost use Rattle.std.specs.Option.{option_copied};
     ghost use Rattle.std.specs.FinMap as map;
-    ghost use Rattle.jam_scope.specs.Changes.{changed, set_on, set_place, add_roots, freeze_roots};
+    ghost use Rattle.jam_journal.specs.Scopes.{bind_each};
+    ghost use Rattle.jam_scope.specs.Changes.{changed, rescoped, own_of, set_on, set_place, add_roots, freeze_roots};
 
     /// Sets an own value of a target. After an error the world is as before.
     pub fn set_on(&mut self, target: &str, name: &str, value: TextList) -> Result<(), OutOfMemory>
@@ -43,6 +75,18 @@ impl World {
             Some(texts) => Some(texts.as_slice()),
             None => None,
         }
+    }
+
+    /// Binds the own values of a target in the newest frame, and needs one. After an error the first of them may be bound, in the
+    /// order of their names, and all else is as before.
+    pub fn bind_own(&mut self, target: &str) -> Result<(), OutOfMemory>
+        requires { self.old.now.scopes.frames ≢ [] }
+        ensures ok { OnOk result (self.new ≡ rescoped (bind_each (own_of target.now self.old.now)) self.old) }
+        ensures err { OnErr result ((count : ℕ) × (self.new ≡ rescoped (bind_each (take count (own_of target.now self.old.now))) self.old)) }
+    {
+        let row = self.own.row(target)?;
+        bind_row(self.alloc, &mut self.variables, row.as_slice())?;
+        Ok(())
     }
 
     /// The directory of the project that is being loaded or whose step is being made. Takes no memory.

@@ -38,7 +38,7 @@ impl World {
 
     /// The present module has the rule from now on, and is its home. After an error the world is as before.
     pub fn define_rule(&mut self, name: &str, body: RuleBody) -> Result<(), OutOfMemory>
-        ensures ok { OnOk result (self.new ≡ changed (define_rule name.now body) self.old) }
+        ensures ok { OnOk result (self.new ≡ changed (define_rule name.now body.params body.block body.path body.line) self.old) }
         ensures err { OnErr result (self.new ≡ self.old) }
     {
         let rule = Rule::new(self.alloc, self.variables.module(), body)?;
@@ -55,8 +55,9 @@ impl World {
         Ok(())
     }
 
-    /// A rule that stands at a place, whose body is shared, if one does.
-    fn shared(&self, at: &RuleRef<'_>) -> Result<Option<Rule>, OutOfMemory>
+    /// A share of the rule that stands at a place, which stays as it is when the world changes; none exactly where its module has
+    /// no rule of that name. Copies nothing of its body.
+    pub fn rule_at(&self, at: &RuleRef<'_>) -> Result<Option<Rule>, OutOfMemory>
         ensures { IfOk result (λ found. found ≡ map.get self.now.now.rules (at.now.module.now, at.now.name.now)) }
     {
         match self.rule(at) {
@@ -77,7 +78,7 @@ impl World {
         ensures ok { OnOk result (self.new ≡ changed (import_rule (at.now.module.now, at.now.name.now) «module».now name.now) self.old) }
         ensures err { OnErr result (self.new ≡ self.old) }
     {
-        let Some(rule) = self.shared(at)? else {
+        let Some(rule) = self.rule_at(at)? else {
             return Ok(false);
         };
         self.rules.insert(module, name, rule)?;

@@ -19,8 +19,17 @@ impl Look for World {
 
 impl World {
     ghost use Rattle.std.specs.Prelude.{◌≡◌, ◌≢◌, [], OnOk, OnErr};
-    ghost use Rattle.jam_journal.specs.Scopes.{append, assign, bind};
+    ghost use Rattle.std.specs.Option.{unwrap_or};
+    ghost use Rattle.jam_journal.specs.Scopes.{append, assign, assigned, bind};
     ghost use Rattle.jam_scope.specs.Changes.{rescoped};
+
+    /// The value that `set` would replace: that of the innermost frame of the present module that binds the name, else of the
+    /// module's variable; else the empty list. Takes no memory.
+    pub fn assigned(&self, name: &str) -> &[Text]
+        ensures { result.now ≡ unwrap_or (assigned self.now.now.scopes name.now) [] }
+    {
+        self.variables.assigned(name)
+    }
 
     /// Sets a name in the innermost frame of the present module that binds it, else as the module's variable. After an
     /// error the world is as before.

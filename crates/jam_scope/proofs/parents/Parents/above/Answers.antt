@@ -3,7 +3,7 @@ use Rattle.std.specs.Option.{option_copied}
 use Rattle.std.specs.FinMap.{get}
 use Rattle.jam_journal.specs.Tables.{Text, Table}
 use Rattle.jam_journal.specs.Marks.{Marked}
-use Rattle.jam_scope.specs.Lines.{AreLined}
+use Rattle.jam_scope.specs.Heights.{AreLined}
 use Rattle.jam_scope.proofs.LineLemmas.{lower}
 use Rattle.jam_scope.proofs.parents.Parents.above.Goals as goal
 
