@@ -1,3 +1,10 @@
+mod CallLemmas
+mod CallsHold
 mod ExamplesHold
+mod FewerTurns
 mod FramesStay
+mod IsKept
 mod KeptByEval
+mod LookLemmas
+mod OwnHold
+mod ReadingLaws

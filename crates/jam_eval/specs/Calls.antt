@@ -1,18 +1,22 @@
 -- What a call does, once its turn is taken and its level is open.
-use Rattle.std.specs.Prelude.{Bool, true, false, List, [], ◌∷◌, Option, Some, None}
+use Rattle.std.specs.Prelude.{ℕ, Bool, true, false, List, [], ◌∷◌, Option, Some, None}
 use Rattle.jam_journal.specs.Tables.{Text, Key}
-use Rattle.jam_journal.specs.Scopes.{Value, Binding, enter_call}
-use Rattle.jam_eval.specs.Faults.{Place, Cause, unknown_rule, arity, expand, exit, native}
-use Rattle.jam_eval.specs.Worlds.{Rule, Worlds}
-use Rattle.jam_eval.specs.Finding.{find_rule, find_actions}
+use Rattle.jam_journal.specs.Scopes.{Value, Binding, bind_each, enter_call}
+use Rattle.jam_eval.specs.declared.native_answer.NativeStep.{NativeStep}
+use Rattle.jam_eval.specs.declared.native_answer.NativeStep.TheVariants as steps
+use Rattle.jam_eval.specs.Faults.{Spot, Cause, unknown_rule, arity, expand, exit, native}
+use Rattle.jam_scope.specs.Rules.{Rule}
+use Rattle.jam_scope.specs.Worlds.{Worlds}
+use Rattle.jam_scope.specs.Lines.{find_rule, actions_place}
 use Rattle.jam_eval.specs.States.{State, with_scopes}
-use Rattle.jam_eval.specs.Settings.{NativeStep, is_unknown, is_value, ends_with, for_each, Refusal, of_native, of_arity, of_expansion, Told, answers, refuses, Setting}
-use Rattle.jam_eval.specs.Outcomes.{Outcome, gives, faults, Flow, goes_on, returns, then_do, fault_at, either, joined, close_frame, bind_each}
+use Rattle.jam_eval.specs.Refused.{refused_here}
+use Rattle.jam_eval.specs.Settings.{NativeCause, of_native, of_arity, of_expansion, Told, answers, refuses, Setting}
+use Rattle.jam_eval.specs.Outcomes.{Outcome, gives, faults, Flow, goes_on, returns, then_do, fault_at, either, joined, close_frame}
 use Rattle.jam_eval.specs.Levels.{Levels}
 use Rattle.jam_eval.specs.Params.{call_binds}
 use Rattle.jam_eval.specs.Conds.{is_true}
 
-abbrev pub cause_of : Text → Refusal → Cause
+abbrev pub cause_of : Text → NativeCause → Cause
 cause_of name (of_native fault) = native fault
 cause_of name of_arity = arity name
 cause_of name (of_expansion fault) = expand fault
@@ -32,56 +36,69 @@ module _ {R : Type 0} where
   value_of (gives (returns value) s) = gives value s
   value_of (faults fault s) = faults fault s
 
+module _ {R : Type 0} (setting : Setting R) where
+  -- what natives answer to a call, and to the telling of a call of a name that has actions
+  abbrev pub native_answer : Text → List Value → ℕ → State R → Told NativeStep R
+  native_answer name given line s = setting.natives.call name given line setting.sight (refused_here setting.refused s.left) s.worlds s.kept
+
+  abbrev pub acted_answer : Text → List Value → ℕ → State R → Told Bool R
+  acted_answer name given line s = setting.natives.acted name given line s.worlds s.kept
+
 module _ {R : Type 0} (setting : Setting R) (deep : Levels R) (body : Rule → State R → Outcome R Flow) where
   -- the values of calls of a rule, one for each item, joined
-  abbrev pub transformed : Value → Value → Value → Place → State R → Outcome R Value
-  transformed rule found [] place s = gives found s
-  transformed rule found (item ∷ items) place s =
-      then_do (deep.bracket_call rule (item ∷ []) place s) (λ value. λ s₁. then_do (joined found value place s₁) (λ more. λ s₂. transformed rule more items place s₂))
+  abbrev pub transformed : Value → Value → Value → Spot → State R → Outcome R Value
+  transformed rule found [] spot s = gives found s
+  transformed rule found (item ∷ items) spot s =
+      then_do (deep.bracket_call rule (item ∷ []) spot s) (λ value. λ s₁. then_do (joined found value spot s₁) (λ more. λ s₂. transformed rule more items spot s₂))
 
   -- the items for which the call's value is true
-  abbrev pub filtered : Value → Value → Place → State R → Outcome R Value
-  filtered rule [] place s = gives [] s
-  filtered rule (item ∷ items) place s =
-      then_do (deep.bracket_call rule (item ∷ []) place s) (λ value. λ s₁. then_do (filtered rule items place s₁) (λ more. λ s₂. gives (kept_if (is_true value) item more) s₂))
+  abbrev pub filtered : Value → Value → Spot → State R → Outcome R Value
+  filtered rule [] spot s = gives [] s
+  filtered rule (item ∷ items) spot s =
+      then_do (deep.bracket_call rule (item ∷ []) spot s) (λ value. λ s₁. then_do (filtered rule items spot s₁) (λ more. λ s₂. gives (kept_if (is_true value) item more) s₂))
 
   -- what a native rule's step asks for is done
-  abbrev pub stepped : Text → Place → NativeStep → State R → Outcome R Value
-  stepped name place is_unknown s = fault_at place (unknown_rule name) s
-  stepped name place (is_value value) s = gives value s
-  stepped name place (ends_with text) s = fault_at place (exit text) s
-  stepped name place (for_each rule items filter) s = either filter (λ s₁. filtered rule items place s₁) (λ s₁. transformed rule [] items place s₁) s
+  abbrev pub stepped : Text → Spot → NativeStep → State R → Outcome R Value
+  stepped name spot steps.Unknown s = fault_at spot (unknown_rule name) s
+  stepped name spot (steps.Value value) s = gives value s
+  stepped name spot (steps.Exit text) s = fault_at spot (exit text) s
+  stepped name spot (steps.Each rule items filter) s = either filter (λ s₁. filtered rule items spot s₁) (λ s₁. transformed rule [] items spot s₁) s
 
-  -- what natives tell is so, or is the fault
-  abbrev pub told : {A : Type 0} → Text → Place → State R → Told A R → (A → State R → Outcome R Value) → Outcome R Value
-  told name place s (answers answer worlds kept) next = next answer (as_told worlds kept s)
-  told name place s (refuses refusal worlds kept) next = fault_at place (cause_of name refusal) (as_told worlds kept s)
+  -- the step that natives tell is done, or their fault is the call's
+  abbrev pub told : Text → Spot → State R → Told NativeStep R → Outcome R Value
+  told name spot s (answers step worlds kept) = stepped name spot step (as_told worlds kept s)
+  told name spot s (refuses cause worlds kept) = fault_at spot (cause_of name cause) (as_told worlds kept s)
 
   -- a native rule of this name, or none
-  abbrev pub native_call : Text → List Value → Place → State R → Outcome R Value
-  native_call name given place s =
-      told name place s (setting.natives.call name given place.line setting.folder s.worlds s.kept) (λ step. λ s₁. stepped name place step s₁)
+  abbrev pub native_call : Text → List Value → Spot → State R → Outcome R Value
+  native_call name given spot s = told name spot s (native_answer setting name given spot.line s)
+
+  -- what natives recorded is so; where they recorded nothing, nothing has changed
+  abbrev pub recorded : Text → Spot → State R → Told Bool R → (Bool → State R → Outcome R Value) → Outcome R Value
+  recorded name spot s (answers true worlds kept) next = next true (as_told worlds kept s)
+  recorded name spot s (answers false worlds kept) next = next false s
+  recorded name spot s (refuses cause worlds kept) next = fault_at spot (cause_of name cause) (as_told worlds kept s)
 
   -- a call of a name that has actions is told to the natives; whether they recorded it
-  abbrev pub acted_at : Option Key → Text → List Value → Place → State R → (Bool → State R → Outcome R Value) → Outcome R Value
-  acted_at None name given place s next = next false s
-  acted_at (Some at) name given place s next = told name place s (setting.natives.acted name given place.line s.worlds s.kept) next
+  abbrev pub acted_at : Option Key → Text → List Value → Spot → State R → (Bool → State R → Outcome R Value) → Outcome R Value
+  acted_at None name given spot s next = next false s
+  acted_at (Some at) name given spot s next = recorded name spot s (acted_answer setting name given spot.line s) next
 
-  abbrev pub acted : Text → List Value → Place → State R → (Bool → State R → Outcome R Value) → Outcome R Value
-  acted name given place s next = acted_at (find_actions name s.worlds.now) name given place s next
+  abbrev pub acted : Text → List Value → Spot → State R → (Bool → State R → Outcome R Value) → Outcome R Value
+  acted name given spot s next = acted_at (actions_place name s.worlds.now) name given spot s next
 
   -- The rule runs in its home, in a frame that keeps the module of the call, with the argument lists and the parameters bound.
-  abbrev pub bound_call : Rule → Text → Option (List Binding) → Place → State R → Outcome R Value
-  bound_call rule name None place s = fault_at place (arity name) s
-  bound_call rule name (Some bindings) place s =
+  abbrev pub bound_call : Rule → Text → Option (List Binding) → Spot → State R → Outcome R Value
+  bound_call rule name None spot s = fault_at spot (arity name) s
+  bound_call rule name (Some bindings) spot s =
       value_of (close_frame (body rule (with_scopes (bind_each bindings) (with_scopes (enter_call rule.home) s))))
 
   -- A rule, and after it the actions of its name; without a rule the actions, whose value is empty, or else the native rule.
-  abbrev pub called : Option Rule → Text → List Value → Place → State R → Outcome R Value
-  called (Some rule) name given place s =
-      then_do (bound_call rule name (call_binds rule.params given) place s) (λ value. λ s₁. acted name given place s₁ (λ recorded. λ s₂. gives value s₂))
-  called None name given place s =
-      acted name given place s (λ recorded. λ s₁. either recorded (λ s₂. gives [] s₂) (λ s₂. native_call name given place s₂) s₁)
+  abbrev pub called : Option Rule → Text → List Value → Spot → State R → Outcome R Value
+  called (Some rule) name given spot s =
+      then_do (bound_call rule name (call_binds rule.params given) spot s) (λ value. λ s₁. acted name given spot s₁ (λ noted. λ s₂. gives value s₂))
+  called None name given spot s =
+      acted name given spot s (λ noted. λ s₁. either noted (λ s₂. gives [] s₂) (λ s₂. native_call name given spot s₂) s₁)
 
-  abbrev pub applied : Text → List Value → Place → State R → Outcome R Value
-  applied name given place s = called (find_rule name s.worlds.now) name given place s
+  abbrev pub applied : Text → List Value → Spot → State R → Outcome R Value
+  applied name given spot s = called (find_rule name s.worlds.now) name given spot s

@@ -5,7 +5,7 @@ use Rattle.std.specs.Str.{bytes_eq}
 use Rattle.jam_grammar.specs.Trees as tree
 use Rattle.jam_grammar.specs.Trees.{ArgTree, ExprTree, ExprTrees}
 use Rattle.jam_journal.specs.Scopes.{Value}
-use Rattle.jam_eval.specs.Faults.{Place}
+use Rattle.jam_eval.specs.Faults.{Spot}
 use Rattle.jam_eval.specs.States.{State}
 use Rattle.jam_eval.specs.Outcomes.{Outcome, gives, then_do, either}
 use Rattle.jam_eval.specs.Levels.{Levels}
@@ -32,20 +32,20 @@ module _ {R : Type 0} (budget : ℕ) (deep : Levels R) where
 
   abbrev mutual
     -- `!` negates; members of `||` and `&&` are evaluated from the left until the answer is known
-    pub expr : ExprTree → Place → State R → Outcome R Bool
-    expr (tree.Or members) place s = any_of members place s
-    expr (tree.And members) place s = all_of members place s
-    expr (tree.Not e) place s = then_do (expr e place s) (λ holds. λ s₁. gives (not holds) s₁)
-    expr (tree.Group e) place s = expr e place s
-    expr (tree.Bare a) place s = then_do (arg budget deep a place s) (λ value. λ s₁. gives (is_true value) s₁)
-    expr (tree.Equal a b) place s = compared is_same (arg budget deep a place s) (arg budget deep b place)
-    expr (tree.Differ a b) place s = compared (λ x y. not (is_same x y)) (arg budget deep a place s) (arg budget deep b place)
-    expr (tree.Within a list) place s = compared is_within (arg budget deep a place s) (args budget deep list place)
+    pub expr : ExprTree → Spot → State R → Outcome R Bool
+    expr (tree.Or members) spot s = any_of members spot s
+    expr (tree.And members) spot s = all_of members spot s
+    expr (tree.Not e) spot s = then_do (expr e spot s) (λ holds. λ s₁. gives (not holds) s₁)
+    expr (tree.Group e) spot s = expr e spot s
+    expr (tree.Bare a) spot s = then_do (arg budget deep a spot s) (λ value. λ s₁. gives (is_true value) s₁)
+    expr (tree.Equal a b) spot s = compared is_same (arg budget deep a spot s) (arg budget deep b spot)
+    expr (tree.Differ a b) spot s = compared (λ x y. not (is_same x y)) (arg budget deep a spot s) (arg budget deep b spot)
+    expr (tree.Within a list) spot s = compared is_within (arg budget deep a spot s) (args budget deep list spot)
 
-    pub any_of : ExprTrees → Place → State R → Outcome R Bool
-    any_of tree.NoExprs place s = gives false s
-    any_of (tree.ExprAnd first rest) place s = then_do (expr first place s) (λ holds. λ s₁. either holds (λ s₂. gives true s₂) (λ s₂. any_of rest place s₂) s₁)
+    pub any_of : ExprTrees → Spot → State R → Outcome R Bool
+    any_of tree.NoExprs spot s = gives false s
+    any_of (tree.ExprAnd first rest) spot s = then_do (expr first spot s) (λ holds. λ s₁. either holds (λ s₂. gives true s₂) (λ s₂. any_of rest spot s₂) s₁)
 
-    pub all_of : ExprTrees → Place → State R → Outcome R Bool
-    all_of tree.NoExprs place s = gives true s
-    all_of (tree.ExprAnd first rest) place s = then_do (expr first place s) (λ holds. λ s₁. either holds (λ s₂. all_of rest place s₂) (λ s₂. gives false s₂) s₁)
+    pub all_of : ExprTrees → Spot → State R → Outcome R Bool
+    all_of tree.NoExprs spot s = gives true s
+    all_of (tree.ExprAnd first rest) spot s = then_do (expr first spot s) (λ holds. λ s₁. either holds (λ s₂. all_of rest spot s₂) (λ s₂. gives false s₂) s₁)

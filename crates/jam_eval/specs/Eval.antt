@@ -3,8 +3,8 @@ use Rattle.std.specs.Prelude.{ℕ, zero, suc, List, [], ◌∷◌}
 use Rattle.jam_grammar.specs.Trees.{StmtTrees}
 use Rattle.jam_journal.specs.Tables.{Text}
 use Rattle.jam_journal.specs.Scopes.{Value}
-use Rattle.jam_eval.specs.Faults.{Place}
-use Rattle.jam_eval.specs.Worlds.{Rule}
+use Rattle.jam_eval.specs.Faults.{Spot}
+use Rattle.jam_scope.specs.Rules.{Rule}
 use Rattle.jam_eval.specs.States.{State}
 use Rattle.jam_eval.specs.Settings.{Setting}
 use Rattle.jam_eval.specs.Outcomes.{Outcome, Flow, in_frame}
@@ -26,10 +26,10 @@ module _ {R : Type 0} (setting : Setting R) where
   -- one level is open, and what may be done in it where this may be done one level deeper
   abbrev pub one_level : Levels R → Levels R
   one_level deep = record {
-    stmts = λ tree path place s. stmts setting deep tree path s;
-    call = λ name lists place s. applied setting deep (rule_body deep) name lists place s;
-    bracket = λ tree place s. inner setting.budget deep tree place s;
-    bracket_call = λ head first place s. call_head setting.budget deep head (first ∷ []) place s;
+    stmts = λ tree path spot s. stmts setting deep tree path s;
+    call = λ name lists spot s. applied setting deep (rule_body deep) name lists spot s;
+    bracket = λ tree spot s. inner setting.budget deep tree spot s;
+    bracket_call = λ head first spot s. call_head setting.budget deep head (first ∷ []) spot s;
   }
 
   -- what may be done where so many levels more may be opened
@@ -38,9 +38,9 @@ module _ {R : Type 0} (setting : Setting R) where
   levels (suc more) = one_level (levels more)
 
   -- A file in a frame of the present module. It is no level itself.
-  abbrev pub run : Text → StmtTrees → State R → Outcome R Flow
+  abbrev pub run : Text → StmtTrees → State R → Outcome R (Unit {0})
   run path tree s = file_ended (in_frame (λ s₁. stmts setting (levels most_levels) tree path s₁) s)
 
   -- a call from outside any statement
-  abbrev pub run_call : Text → List Value → Place → State R → Outcome R Value
-  run_call name lists place s = call setting.budget (levels most_levels) name lists place s
+  abbrev pub run_call : Text → List Value → Spot → State R → Outcome R Value
+  run_call name lists spot s = call setting.budget (levels most_levels) name lists spot s

@@ -1,8 +1,9 @@
 pub mod Faults
-pub mod Worlds
-pub mod Finding
 pub mod States
 pub mod Settings
+pub mod NativeCalls
+pub mod Refused
+pub mod RefusedLaws
 pub mod Outcomes
 pub mod Levels
 pub mod Params

@@ -3,9 +3,9 @@ use Rattle.std.specs.Prelude.{ℕ, zero, suc, Bool, true, false, List, [], ◌�
 use Rattle.b2_base.specs.declared.expand_fault.ExpandFault.{ExpandFault}
 use Rattle.jam_expand.specs.Limits.{within}
 use Rattle.jam_journal.specs.Tables.{Text}
-use Rattle.jam_journal.specs.Scopes.{Value, Scopes, enter, bind, Binding}
-use Rattle.jam_eval.specs.Faults.{Place, Cause, turns, expand, Fault}
-use Rattle.jam_eval.specs.Worlds.{module_in, own_of}
+use Rattle.jam_journal.specs.Scopes.{Value, Binding, enter, bind_each}
+use Rattle.jam_eval.specs.Faults.{Spot, Cause, turns, expand, Fault}
+use Rattle.jam_scope.specs.Changes.{module_in, own_of}
 use Rattle.jam_eval.specs.States.{State, with_scopes, after_frame}
 
 -- a value, or a fault, each with the state that is left
@@ -18,11 +18,6 @@ pub data Flow : Type 0 where
   goes_on : Flow
   returns : Value → Flow
 
--- in order
-abbrev pub bind_each : List Binding → Scopes → Scopes
-bind_each [] scopes = scopes
-bind_each (b ∷ bs) scopes = bind_each bs (bind b.0 b.1 scopes)
-
 module _ {R : Type 0} where
   abbrev pub then_do : {A B : Type 0} → Outcome R A → (A → State R → Outcome R B) → Outcome R B
   then_do (gives a s) next = next a s
@@ -34,8 +29,8 @@ module _ {R : Type 0} where
   then_go (gives (returns value) s) next = gives (returns value) s
   then_go (faults fault s) next = faults fault s
 
-  abbrev pub fault_at : {A : Type 0} → Place → Cause → State R → Outcome R A
-  fault_at place cause s = faults (record { place = place; cause = cause }) s
+  abbrev pub fault_at : {A : Type 0} → Spot → Cause → State R → Outcome R A
+  fault_at spot cause s = faults (record { spot = spot; cause = cause }) s
 
   -- one of two, by a condition
   abbrev pub either : {A : Type 0} → Bool → (State R → Outcome R A) → (State R → Outcome R A) → State R → Outcome R A
@@ -43,21 +38,21 @@ module _ {R : Type 0} where
   either false first second s = second s
 
   -- a turn is taken, or there is none left
-  abbrev pub by_turns : {A : Type 0} → ℕ → ℕ → Place → State R → (State R → Outcome R A) → Outcome R A
-  by_turns zero budget place s next = fault_at place (turns budget) s
-  by_turns (suc left) budget place s next = next (record s { left = left })
+  abbrev pub by_turns : {A : Type 0} → ℕ → ℕ → Spot → State R → (State R → Outcome R A) → Outcome R A
+  by_turns zero budget spot s next = fault_at spot (turns budget) s
+  by_turns (suc left) budget spot s next = next (record s { left = left })
 
-  abbrev pub take_turn : {A : Type 0} → ℕ → Place → State R → (State R → Outcome R A) → Outcome R A
-  take_turn budget place s next = by_turns s.left budget place s next
+  abbrev pub take_turn : {A : Type 0} → ℕ → Spot → State R → (State R → Outcome R A) → Outcome R A
+  take_turn budget spot s next = by_turns s.left budget spot s next
 
   -- an expansion's elements, or its fault
-  abbrev pub expanded : Result Value ExpandFault → Place → State R → Outcome R Value
-  expanded (Ok value) place s = gives value s
-  expanded (Err fault) place s = fault_at place (expand fault) s
+  abbrev pub expanded : Result Value ExpandFault → Spot → State R → Outcome R Value
+  expanded (Ok value) spot s = gives value s
+  expanded (Err fault) spot s = fault_at spot (expand fault) s
 
   -- a list with texts after it, unless it is too large then
-  abbrev pub joined : Value → Value → Place → State R → Outcome R Value
-  joined found value place s = expanded (within (found ++ value)) place s
+  abbrev pub joined : Value → Value → Spot → State R → Outcome R Value
+  joined found value spot s = expanded (within (found ++ value)) spot s
 
   -- the newest frame is closed, also after a fault
   abbrev pub close_frame : {A : Type 0} → Outcome R A → Outcome R A

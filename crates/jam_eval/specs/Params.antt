@@ -1,8 +1,8 @@
 -- How the parameters of a rule take the arguments of a call.
-use Rattle.std.specs.Prelude.{ℕ, zero, suc, ◌==◌, Bool, false, List, [], ◌∷◌, ◌++◌, Option, Some, None, if◌then◌else◌}
+use Rattle.std.specs.Prelude.{ℕ, zero, suc, ◌==◌, List, [], ◌∷◌, ◌++◌, Option, Some, None, if◌then◌else◌}
 use Rattle.std.specs.Option.{option_map}
-use Rattle.std.specs.Str.{bytes_eq}
 use Rattle.jam_grammar.specs.declared.tree.Param.{Param}
+use Rattle.jam_grammar.specs.Spelling.{takes_all}
 use Rattle.jam_journal.specs.Tables.{Text}
 use Rattle.jam_journal.specs.Scopes.{Value, Binding}
 
@@ -52,12 +52,6 @@ abbrev pub list_taken : List Param → Value → Option (List Binding)
 list_taken [] [] = Some []
 list_taken [] (text ∷ texts) = None
 list_taken (p ∷ ps) texts = taken_by p.mark p.name texts (list_taken ps)
-
--- the list `*` (42) alone
-abbrev pub takes_all : List Param → Bool
-takes_all [] = false
-takes_all (p ∷ []) = bytes_eq p.name (42 ∷ [])
-takes_all (p ∷ next ∷ ps) = false
 
 abbrev pub and_those : Option (List Binding) → Option (List Binding) → Option (List Binding)
 and_those None more = None

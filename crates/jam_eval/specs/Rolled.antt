@@ -5,20 +5,20 @@ use Rattle.b2_base.specs.declared.expand_fault.ExpandFault.{ExpandFault}
 use Rattle.jam_expand.specs.Bodies.{body_expansion}
 use Rattle.jam_journal.specs.Tables.{Text, Key}
 use Rattle.jam_journal.specs.Scopes.{Value, look_in}
-use Rattle.jam_eval.specs.Faults.{Place, unknown_rule, expand}
-use Rattle.jam_eval.specs.Worlds.{Rule, Step, World, Worlds}
-use Rattle.jam_eval.specs.Finding.{find_rule, find_actions}
+use Rattle.jam_eval.specs.Faults.{Spot, unknown_rule, expand}
+use Rattle.jam_scope.specs.declared.notes.StepNotes.{StepNotes}
+use Rattle.jam_scope.specs.Rules.{Rule}
+use Rattle.jam_scope.specs.Worlds.{World, Worlds}
+use Rattle.jam_scope.specs.Changes.{mark, open_step}
+use Rattle.jam_scope.specs.Lines.{find_rule, actions_place}
 use Rattle.jam_eval.specs.States.{State, with_world, with_worlds}
 use Rattle.jam_eval.specs.Settings.{Setting}
 use Rattle.jam_eval.specs.Outcomes.{Outcome, gives, faults, then_do, fault_at, in_module}
 use Rattle.jam_eval.specs.Eval.{run_call}
 
 -- no statement is being run
-abbrev pub nowhere : Place
+abbrev pub nowhere : Spot
 nowhere = record { path = []; line = 0 }
-
-abbrev pub marked : Worlds → Worlds
-marked ws = record ws { marked = ws.now ∷ ws.marked }
 
 -- a step whose text is asked for
 pub record Job : Type 0 where
@@ -37,12 +37,8 @@ pub record StepAnswer : Type 0 where
   pub always : Bool
   pub notfile : Bool
 
--- the step of a job, of which nothing is noted yet
-abbrev pub first_step : Job → Step
-first_step job = record { outs = job.outs; ins = job.ins; depends = []; always = false; notfile = false }
-
 abbrev pub step_open : Job → World → World
-step_open job w = record w { step = Some (first_step job) }
+step_open job = open_step job.outs job.ins
 
 abbrev pub is_text : ℕ → ℕ → Text → Bool
 is_text first second [] = false
@@ -58,13 +54,13 @@ abbrev pub or_look : Option Value → Text → Text → World → Value
 or_look None owner name w = look_in owner w.scopes name
 or_look (Some value) owner name w = value
 
--- what a name in a body stands for: `<` and `1` (60 and 49) for the step's outputs, `>` and `2` (62 and 50) for its inputs,
--- others for the own value of the first output, and else for what they are in the module of the actions
-abbrev pub body_names : Job → Text → World → Text → Value
-body_names job owner w name =
-    if is_text 60 49 name then job.outs else (if is_text 62 50 name then job.ins else or_look (own_at job.outs name w) owner name w)
+-- what a name in a body stands for: `<` and `1` (60 and 49) for some texts, `>` and `2` (62 and 50) for others; other names for
+-- the own value of the first target, and else for what they are in the module of the actions
+abbrev pub body_names : List Text → List Text → List Text → Text → World → Text → Value
+body_names outs ins targets owner w name =
+    if is_text 60 49 name then outs else (if is_text 62 50 name then ins else or_look (own_at targets name w) owner name w)
 
-abbrev pub noted : Text → Option Step → StepAnswer
+abbrev pub noted : Text → Option StepNotes → StepAnswer
 noted text None = record { text = text; depends = []; always = false; notfile = false }
 noted text (Some step) = record { text = text; depends = step.depends; always = step.always; notfile = step.notfile }
 
@@ -75,20 +71,21 @@ module _ {R : Type 0} where
   back_to worlds (faults fault s) = faults fault (record s { worlds = worlds })
 
   abbrev pub in_copy : {A : Type 0} → (State R → Outcome R A) → State R → Outcome R A
-  in_copy act s = back_to s.worlds (act (with_worlds marked s))
+  in_copy act s = back_to s.worlds (act (with_worlds mark s))
 
-  abbrev pub text_of : Result Text ExpandFault → Place → State R → Outcome R StepAnswer
-  text_of (Err fault) place s = fault_at place (expand fault) s
-  text_of (Ok text) place s = gives (noted text s.worlds.now.step) s
+  abbrev pub text_of : Result Text ExpandFault → Spot → State R → Outcome R StepAnswer
+  text_of (Err fault) spot s = fault_at spot (expand fault) s
+  text_of (Ok text) spot s = gives (noted text s.worlds.now.step) s
 
-  abbrev pub body_text : Job → Option Text → Text → Place → State R → Outcome R StepAnswer
-  body_text job None owner place s = fault_at place (unknown_rule job.name) s
-  body_text job (Some body) owner place s = text_of (body_expansion (body_names job owner s.worlds.now) body) place s
+  -- the text of a body for a step, whose outputs are its targets
+  abbrev pub body_text : Job → Option Text → Text → Spot → State R → Outcome R StepAnswer
+  body_text job None owner spot s = fault_at spot (unknown_rule job.name) s
+  body_text job (Some body) owner spot s = text_of (body_expansion (body_names job.outs job.ins job.outs owner s.worlds.now) body) spot s
 
   -- the text of the actions of the step's name, which are looked up after its rule has run
-  abbrev pub actions_text : Job → Option Key → Place → State R → Outcome R StepAnswer
-  actions_text job None place s = fault_at place (unknown_rule job.name) s
-  actions_text job (Some at) place s = body_text job (map.get s.worlds.now.actions at) at.0 place s
+  abbrev pub actions_text : Job → Option Key → Spot → State R → Outcome R StepAnswer
+  actions_text job None spot s = fault_at spot (unknown_rule job.name) s
+  actions_text job (Some at) spot s = body_text job (map.get s.worlds.now.actions at) at.0 spot s
 
 module _ {R : Type 0} (setting : Setting R) where
   -- a call whose changes of the world are undone
@@ -96,17 +93,17 @@ module _ {R : Type 0} (setting : Setting R) where
   call_rolled name lists s = in_copy (λ s₁. run_call setting name lists nowhere s₁) s
 
   -- the step's rule, if there is one
-  abbrev pub rule_if : Option Rule → Job → Place → State R → Outcome R Value
-  rule_if None job place s = gives [] s
-  rule_if (Some rule) job place s = run_call setting job.name (job.outs ∷ job.ins ∷ job.props ∷ []) place s
+  abbrev pub rule_if : Option Rule → Job → Spot → State R → Outcome R Value
+  rule_if None job spot s = gives [] s
+  rule_if (Some rule) job spot s = run_call setting job.name (job.outs ∷ job.ins ∷ job.props ∷ []) spot s
 
-  abbrev pub job_place : Job → Place
-  job_place job = record { path = job.path; line = job.line }
+  abbrev pub job_spot : Job → Spot
+  job_spot job = record { path = job.path; line = job.line }
 
   -- a step: its rule is called in its module with outputs, inputs and properties, and then its text is expanded there
   abbrev pub in_step : Job → State R → Outcome R StepAnswer
   in_step job s =
-      then_do (rule_if (find_rule job.name s.worlds.now) job (job_place job) s) (λ value. λ s₁. actions_text job (find_actions job.name s₁.worlds.now) (job_place job) s₁)
+      then_do (rule_if (find_rule job.name s.worlds.now) job (job_spot job) s) (λ value. λ s₁. actions_text job (actions_place job.name s₁.worlds.now) (job_spot job) s₁)
 
   abbrev pub step_text : Job → State R → Outcome R StepAnswer
   step_text job s = in_copy (λ s₁. in_module job.owner (λ s₂. in_step job s₂) (with_world (step_open job) s₁)) s

@@ -1,10 +1,12 @@
 -- What evaluation is given and never changes.
-use Rattle.std.specs.Prelude.{◌≡◌, ◌↔◌, ℕ, ◌<◌, ◌≤◌, Bool, IsTrue, List, length, Some, None, Err}
+use Rattle.std.specs.Prelude.{◌≡◌, ◌↔◌, ℕ, ◌<◌, ◌≤◌, Bool, IsTrue, List, length, Option, Some, None, Err}
 use Rattle.std.specs.Str.{chars}
 use Rattle.b2_base.specs.declared.expand_fault.ExpandFault.{ExpandFault}
 use Rattle.b2_base.specs.declared.token.Token.{Token}
 use Rattle.b2_host.specs.Disks.{Folder, bytes_at}
+use Rattle.b2_host.specs.Listings.{IsListed}
 use Rattle.jam_path.specs.Patterns.{Match}
+use Rattle.jam_patterns.specs.declared.native_fault.NativeFault.{NativeFault}
 use Rattle.jam_lexer.specs.declared.fault.LexFault.{LexFault}
 use Rattle.jam_lexer.specs.Tokens.{AreTokens}
 use Rattle.jam_lexer.specs.Answers.{IsAnswer}
@@ -12,32 +14,36 @@ use Rattle.jam_grammar.specs.Trees.{StmtTrees}
 use Rattle.jam_grammar.specs.Readings.{ReadsTree, IsFirstFault}
 use Rattle.jam_journal.specs.Tables.{Text}
 use Rattle.jam_journal.specs.Scopes.{Value}
-use Rattle.jam_eval.specs.Faults.{NativeFault}
-use Rattle.jam_eval.specs.Worlds.{Worlds}
+use Rattle.jam_scope.specs.Worlds.{Worlds}
+use Rattle.jam_eval.specs.declared.native_answer.NativeStep.{NativeStep}
 
--- what a native rule asks for: nothing, since it is none; a value; an end with a text; or a call of a rule for each item,
--- whose values are joined, or by which items are kept
-pub data NativeStep : Type 0 where
-  is_unknown : NativeStep
-  is_value : Value → NativeStep
-  ends_with : Text → NativeStep
-  for_each : Value → Value → Bool → NativeStep
+-- what is seen of the outside: the files, the names of the files directly in a directory, and which patterns match which texts
+pub record Sight : Type 0 where
+  pub folder : Folder
+  pub names : Text → List Text
+  pub matching : Text → Text → Bool
+
+-- it says of files and patterns what is so
+pub record IsSight (sight : Sight) : Type 0 where
+  pub lists : (dir : Text) → IsListed sight.folder dir (sight.names dir)
+  pub matches : (pattern text : Text) → IsTrue (sight.matching pattern text) ↔ Match (chars pattern) (chars text)
 
 -- why a native rule has no step
-pub data Refusal : Type 0 where
-  of_native : NativeFault → Refusal
-  of_arity : Refusal
-  of_expansion : ExpandFault → Refusal
+pub data NativeCause : Type 0 where
+  of_native : NativeFault → NativeCause
+  of_arity : NativeCause
+  of_expansion : ExpandFault → NativeCause
 
 -- what a native rule answers, or what the recording of a call answers, with the worlds and what the natives keep after it
 pub data Told (A R : Type 0) : Type 0 where
   answers : A → Worlds → R → Told A R
-  refuses : Refusal → Worlds → R → Told A R
+  refuses : NativeCause → Worlds → R → Told A R
 
--- What natives mean. `call` is asked for each call that no rule answers, by name, lists, line, and the files; `acted` for
--- each call of a name that has actions, and tells whether it recorded the call.
-pub record Natives (R : Type 0) : Type 0 where
-  pub call : Text → List Value → ℕ → Folder → Worlds → R → Told NativeStep R
+-- What natives mean. `call` is asked for each call that no rule answers, by name, lists, line, what is seen of the outside, and
+-- the pattern that is refused in this call although it reads as one; `acted` for each call of a name that has actions, and tells
+-- whether it recorded the call.
+pub record Meaning (R : Type 0) : Type 0 where
+  pub call : Text → List Value → ℕ → Sight → Option Text → Worlds → R → Told NativeStep R
   pub acted : Text → List Value → ℕ → Worlds → R → Told Bool R
 
 -- what reading a file gives
@@ -62,16 +68,17 @@ IsReading folder path (has_no_tree line found) =
 IsReading folder path (is_file tree) =
     (bytes : List ℕ) × (tokens : List Token) × (bytes_at folder path ≡ Some bytes) × (length bytes ≤ file_limit) × AreTokens bytes tokens × ReadsTree tokens tree
 
--- the turns that there were at first, which the fault Turns names; what natives mean; the files; how each of them reads;
--- and which patterns match which texts
+-- the turns that there were before any was taken, which the fault Turns names; what natives mean; what is seen of the outside;
+-- how each file reads; and the call that has a pattern which is refused although it reads as one, by the turns left in it, with
+-- that pattern
 pub record Setting (R : Type 0) : Type 0 where
   pub budget : ℕ
-  pub natives : Natives R
-  pub folder : Folder
+  pub natives : Meaning R
+  pub sight : Sight
   pub reading : Text → Reading
-  pub matching : Text → Text → Bool
+  pub refused : Option (ℕ × Text)
 
 -- the setting says of files and patterns what is so
 pub record IsSetting {R : Type 0} (setting : Setting R) : Type 0 where
-  pub reads : (path : Text) → IsReading setting.folder path (setting.reading path)
-  pub matches : (pattern text : Text) → IsTrue (setting.matching pattern text) ↔ Match (chars pattern) (chars text)
+  pub sees : IsSight setting.sight
+  pub reads : (path : Text) → IsReading setting.sight.folder path (setting.reading path)

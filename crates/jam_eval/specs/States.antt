@@ -1,6 +1,7 @@
 -- What evaluation changes.
 use Rattle.std.specs.Prelude.{ℕ}
-use Rattle.jam_eval.specs.Worlds.{World, Worlds, changed, rescoped}
+use Rattle.jam_scope.specs.Worlds.{World, Worlds}
+use Rattle.jam_scope.specs.Changes.{changed, rescoped}
 use Rattle.jam_journal.specs.Scopes.{Scopes, leave}
 
 -- the worlds, the turns that are left, and what the natives keep

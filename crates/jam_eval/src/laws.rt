@@ -1,5 +1,5 @@
 //! Laws of evaluation.
-ghost use Rattle.jam_eval.specs.Laws.{FileTurnsFall, CallTurnsFall, FileKeepsFrames, CallKeepsFrames, RolledKeepsWorlds, StepKeepsWorlds, FileKeepsRest};
+ghost use Rattle.jam_eval.specs.Laws.{FileTurnsFall, CallTurnsFall, FileKeepsFrames, CallKeepsFrames, RolledKeepsWorlds, StepKeepsWorlds, FileKeepsRest, SightHasSetting, FileAsWithMore, CallAsWithMore};
 
 /// No more turns are left after evaluation than before, whatever the natives keep.
 pub fn turns_fall<Kept>()
@@ -7,7 +7,14 @@ pub fn turns_fall<Kept>()
     ensures call { CallTurnsFall Kept }
 {}
 
-/// Over natives that keep the frames and the marked worlds, evaluation keeps them too, also after a fault.
+/// With more turns the outcome is the same, with as many more left, unless the turns ran out.
+pub fn turns_only_run_out<Kept>()
+    ensures file { FileAsWithMore Kept }
+    ensures call { CallAsWithMore Kept }
+{}
+
+/// Over natives that leave the frames, the marked worlds, and whether a step is open, evaluation keeps them too, also after a fault:
+/// each frame has its module and the names that it bound; only their values may have changed.
 pub fn frames_stay<Kept>()
     ensures file { FileKeepsFrames Kept }
     ensures call { CallKeepsFrames Kept }
@@ -23,4 +30,10 @@ pub fn rolled_back<Kept>()
 /// output roots can be added.
 pub fn rest_stays<Kept>()
     ensures { FileKeepsRest Kept }
+{}
+
+/// For what is rightly seen of the outside there is a right setting: each file is missing, too big, or reads as a tree or as the
+/// one fault that it has.
+pub fn each_sight_has_setting<Kept>()
+    ensures { SightHasSetting Kept }
 {}

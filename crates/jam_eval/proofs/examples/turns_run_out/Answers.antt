@@ -1,4 +1,5 @@
-use Rattle.jam_eval.proofs.ExamplesHold.{three_turns, two_run_out, one_runs_out}
+use Rattle.jam_eval.proofs.ExamplesHold.{two_run_out, one_runs_out}
+use Rattle.jam_eval.proofs.CallsHold.{three_turns}
 use Rattle.jam_eval.proofs.examples.turns_run_out.Goals as goal
 
 pub returns-clause-enough : goal.returns-clause-enough

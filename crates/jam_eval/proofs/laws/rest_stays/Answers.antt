@@ -4,4 +4,4 @@ use Rattle.jam_eval.proofs.KeptByEval.{run_keeps}
 use Rattle.jam_eval.proofs.laws.rest_stays.Goals as goal
 
 pub returns : goal.returns
-returns c _ setting natives path trees s = run_keeps setting SameRest (rest_kept setting natives) path trees s
+returns c _ setting natives path trees s = run_keeps setting SameRest SameRest (rest_kept setting natives) path trees s
