@@ -1,8 +1,6 @@
 use Rattle.std.proofs.Common.{◌≡◌, ◌≢◌, ℕ, ◌==◌, Bool, true, false, length, List, [], ◌∷◌, ◌++◌, Option, None, Some, IfSome, Result, Ok, Err, ◌⊎◌, inl, inr, refl, ap, sym, ◌∙◌, subst, arith}
 use Rattle.std.specs.Option.{option_map}
 use Rattle.std.proofs.lemmas.List.{append-nil}
-use Rattle.std.specs.List.{AllByRecursion}
-use Rattle.b2_update.specs.Runs.{is_done}
 use Rattle.b2_host.specs.declared.children.ChildEvent.{ChildEvent}
 use Rattle.b2_host.specs.Disks.{Disk}
 use Rattle.b2_host.specs.Faults.{Rose}
@@ -11,15 +9,18 @@ use Rattle.b2_plan.specs.declared.step.Step.{Step}
 use Rattle.b2_plan.specs.declared.plan.Plan.{Plan}
 use Rattle.b2_update.specs.declared.update_answer.UpdateAnswer.{UpdateAnswer}
 use Rattle.b2_update.specs.declared.update_answer.UpdateAnswer.TheVariants as ends
+use Rattle.b2_runs.specs.Reports.{IsFrontOf, AreEnds}
+use Rattle.b2_runs.specs.Moments.{Moment}
+use Rattle.b2_runs.specs.UpdateAnswers.{UpdateAnswer.all_went, UpdateAnswer.host_fault, UpdateAnswer.out_of_memory, failed_of, CountsStay, IsQuietHost, CausedBy, LeavesNone}
+use Rattle.b2_update.specs.Answers.{answer_of}
 use Rattle.b2_update.specs.Plain.{IsPlain, Made}
-use Rattle.b2_update.specs.Updates.{BeginsWith, FaultsTold, HasUpdated}
-use Rattle.b2_update.specs.Moments.{Moment, moment}
-use Rattle.b2_update.specs.Stops.{CountsStay, LeavesNone}
+use Rattle.b2_update.specs.Updates.{HasRunAll}
+use Rattle.b2_update.specs.Moments.{moment}
 use Rattle.b2_host.specs.Outside.{Outside, Fails}
 use Rattle.b2_host.specs.Output.{Output}
 use Rattle.b2_host.specs.OutsideLaws.{Keeps, keeps_same, keeps_fails}
 use Rattle.b2_host.specs.FileCalls.{after_read}
-use Rattle.b2_update.specs.Turns.{HasTurns, failed_of}
+use Rattle.b2_update.specs.Turns.{HasTurns}
 use Rattle.b2_update.proofs.TurnLemmas.{turns_none}
 use Rattle.jam_lexer.specs.declared.fault.LexFault.{LexFault}
 use Rattle.b2_top.specs.declared.refusal.Fault.{Fault}
@@ -40,7 +41,7 @@ use Rattle.b2_top.proofs.TellLemmas.{TellsLine, TellsFaultLine, line_of, fault_l
 use Rattle.b2_top.proofs.TellLemmas.TellsLine.{line_told as told, line_failed as failed, line_short as no_memory}
 use Rattle.b2_top.proofs.TellLemmas.TellsFaultLine.{fault_line_told as fault_told, fault_line_failed as fault_failed, fault_line_short as fault_no_memory}
 use Rattle.b2_top.specs.Stops.{NamesText, IsStop, IsExact, IsStoppedBy}
-use Rattle.b2_top.specs.Builds.{update_at, IsCutShort, IsOfWords, StartsNone, RefusalIsNotOutOfMemory, failed_in, CountsTold, ShouldBeNotYet, ShouldHaveNoTokens, HasCause, HasHappened, LeavesClean, ShouldEndWell, TellsHostFault, FailsAtWrite, ReportedBy}
+use Rattle.b2_top.specs.Builds.{update_at, IsCutShort, IsOfWords, StartsNone, RefusalIsNotOutOfMemory, run_answer, CountsTold, ShouldBeNotYet, ShouldHaveNoTokens, HasCause, HappenedBy, LeavesClean, ShouldEndWell, TellsHostFault, FailsAtWrite, ReportedBy}
 use Rattle.b2_top.specs.Builds.BeginsSome.{nothing}
 use Rattle.b2_top.specs.Builds.FailsAtWrite.{usage as fails_usage, refusal as fails_refusal}
 use Rattle.b2_top.specs.Answered.{IsAnswered, IsThePlan}
@@ -50,9 +51,9 @@ use Rattle.b2_top.proofs.ReportLemmas.{WroteBy, ReportedIn, reported_plain, repo
 -- what a call promises, told of the parts of its two moments
 pub record IsAnsweredBy (made : Made) (words : List (List ℕ)) (old new : Family) (before after : Option Disk) (host host_after sink sink_after : ℕ) (text text_after : Option (List ℕ)) (result : Answer) : Type 0 where
   pub clean : result ≡ answers.Ok → BothTold (LeavesClean made) before after
-  pub happened : BothTold (HasHappened made words result old new) before after
+  pub happened : BothTold (HappenedBy made words result old new) before after
   pub usage : words ≢ [] → IsOfWords result
-  pub turns : HasTurns (failed_in result) old.events new.events
+  pub turns : (steps : List Step) × HasTurns steps before (run_answer result) old.events new.events
   pub starts_none : StartsNone result old new
   pub not_out_of_memory : RefusalIsNotOutOfMemory result
   pub no_usage : result ≡ answers.Usage → words ≢ []
@@ -98,9 +99,9 @@ has_plan plan (Some b) h = h.0
 -- what an update has done, as the project's plan says it
 pub record IsUpdated (made : Made) (steps : List Step) (old new : Family) (d e : Option Disk) (text text_after : Option (List ℕ)) (r : UpdateAnswer) : Type 0 where
   pub plain : IsPlain steps (outs_of steps)
-  pub done : BothTold (λ before after. HasUpdated (update_at made steps before) old new r before after) d e
+  pub done : BothTold (λ before after. HasRunAll (update_at made steps before) (answer_of r) old new before after) d e
   pub wrote : BothTold (λ before after. WroteBy (update_at made steps before) r old new text text_after) d e
-  pub turns : HasTurns (failed_of r) old.events new.events
+  pub turns : HasTurns steps d (answer_of r) old.events new.events
 
 not_usage : (r : UpdateAnswer) → top_of r ≡ answers.Usage → ⊥
 not_usage ends.Done e = absurd cc
@@ -109,12 +110,12 @@ not_usage ends.HostFault e = absurd cc
 not_usage ends.SinkFault e = absurd cc
 not_usage ends.OutOfMemory e = absurd cc
 
-turns_of : (r : UpdateAnswer) (old new : List ChildEvent) → HasTurns (failed_of r) old new → HasTurns (failed_in (top_of r)) old new
-turns_of ends.Done old new h = h
-turns_of (ends.Failed lists) old new h = h
-turns_of ends.HostFault old new h = h
-turns_of ends.SinkFault old new h = h
-turns_of ends.OutOfMemory old new h = h
+turns_of : (r : UpdateAnswer) (steps : List Step) (disk : Option Disk) (old new : List ChildEvent) → HasTurns steps disk (answer_of r) old new → HasTurns steps disk (run_answer (top_of r)) old new
+turns_of ends.Done steps disk old new h = h
+turns_of (ends.Failed lists) steps disk old new h = h
+turns_of ends.HostFault steps disk old new h = h
+turns_of ends.SinkFault steps disk old new h = h
+turns_of ends.OutOfMemory steps disk old new h = h
 
 none_of : (r : UpdateAnswer) (old new : Family) → StartsNone (top_of r) old new
 none_of ends.Done old new = tt
@@ -130,23 +131,23 @@ no_refusal ends.HostFault = tt
 no_refusal ends.SinkFault = tt
 no_refusal ends.OutOfMemory = tt
 
-pub counts_of : (before after : Moment) (r : UpdateAnswer) → FaultsTold before after r → CountsTold before after (top_of r)
+pub counts_of : (before after : Moment) (r : UpdateAnswer) → CausedBy before after (answer_of r) → CountsTold before after (top_of r)
 counts_of before after ends.Done h = h
 counts_of before after (ends.Failed lists) h = h
 counts_of before after ends.HostFault h = h.0
 counts_of before after ends.SinkFault h = h
 counts_of before after ends.OutOfMemory h = h.0
 
-clean_at : (made : Made) (steps : List Step) (old new : Family) (d e : Option Disk) (r : UpdateAnswer) → IsPlain steps (outs_of steps) → IfSome d (λ b. HasPlan (jamroot_of b) steps)
-    → BothTold (λ before after. HasUpdated (update_at made steps before) old new r before after) d e → top_of r ≡ answers.Ok → BothTold (LeavesClean made) d e
-clean_at made steps old new d e ends.Done plain plan h ok = clean_of made steps old new d e plain plan h
-clean_at made steps old new d e (ends.Failed lists) plain plan h ok = absurd cc
-clean_at made steps old new d e ends.HostFault plain plan h ok = absurd cc
-clean_at made steps old new d e ends.SinkFault plain plan h ok = absurd cc
-clean_at made steps old new d e ends.OutOfMemory plain plan h ok = absurd cc
+clean_at : (made : Made) (steps : List Step) (old new : Family) (d e : Option Disk) (r : UpdateAnswer) → IfSome d (λ b. HasPlan (jamroot_of b) steps)
+    → BothTold (λ before after. HasRunAll (update_at made steps before) (answer_of r) old new before after) d e → top_of r ≡ answers.Ok → BothTold (LeavesClean made) d e
+clean_at made steps old new d e ends.Done plan h ok = clean_of made steps old new d e plan h
+clean_at made steps old new d e (ends.Failed lists) plan h ok = absurd cc
+clean_at made steps old new d e ends.HostFault plan h ok = absurd cc
+clean_at made steps old new d e ends.SinkFault plan h ok = absurd cc
+clean_at made steps old new d e ends.OutOfMemory plan h ok = absurd cc
 
 complete_at : (made : Made) (plan : Plan) (old new : Family) (d e : Option Disk) (f g s t : ℕ) (r : UpdateAnswer) → IsPlain plan.steps (outs_of plan.steps) → IfSome d (IsThePlan plan)
-    → BothTold (λ before after. HasUpdated (update_at made plan.steps before) old new r before after) d e
+    → BothTold (λ before after. HasRunAll (update_at made plan.steps before) (answer_of r) old new before after) d e
     → BothTold (λ b a. (steps : List Step) → ShouldEndWell made [] steps old new b → g ≡ f → t ≡ s → (top_of r ≡ answers.Ok) ⊎ IsCutShort (top_of r)) d e
 complete_at made plan old new d e f g s t ends.Done plain the h = both_map d e (λ b a u steps should c1 c2. inl refl) h
 complete_at made plan old new d e f g s t (ends.Failed lists) plain the h =
@@ -159,10 +160,10 @@ complete_at made plan old new d e f g s t ends.OutOfMemory plain the h = both_ma
 pub answered_plain : (made : Made) (plan : Plan) (old new : Family) (d e : Option Disk) (f g s t : ℕ) (text text_after : Option (List ℕ)) (r : UpdateAnswer)
     → IfSome d (IsThePlan plan) → IsUpdated made plan.steps old new d e text text_after r → (r ≡ ends.HostFault → ⊥) → IsAnsweredBy made [] old new d e f g s t text text_after (top_of r)
 answered_plain made plan old new d e f g s t text text_after r the u other = record {
-  clean = clean_at made plan.steps old new d e r u.plain (has_plan plan d the) u.done;
+  clean = clean_at made plan.steps old new d e r (has_plan plan d the) u.done;
   happened = happened_of made plan.steps old new d e r (has_plan plan d the) u.done;
   usage = λ h. absurd (h refl);
-  turns = turns_of r old.events new.events u.turns;
+  turns = (plan.steps, turns_of r plan.steps d old.events new.events u.turns);
   starts_none = none_of r old new;
   not_out_of_memory = no_refusal r;
   no_usage = λ h. absurd (not_usage r h);
@@ -195,17 +196,29 @@ fault_counts before after mid last result rose same tells = go (fault_line_of ho
     go (fault_failed part is higher prefix taken) = subst (CountsTold before (moment after last)) (sym is) rose
     go (fault_no_memory is count taken) = subst (CountsTold before (moment after last)) (sym is) (count ∙ same)
 
-fault_happened : (made : Made) (words : List (List ℕ)) (old new : Family) (d e : Option Disk) (result : Answer) → IsFaultAnswer result → BothTold (HasHappened made words answers.HostFault old new) d e → BothTold (HasHappened made words result old new) d e
-fault_happened made words old new d e result (is_host same) h = subst (λ r. BothTold (HasHappened made words r old new) d e) (sym same) h
-fault_happened made words old new d e result (is_memory same) h = subst (λ r. BothTold (HasHappened made words r old new) d e) (sym same) (both_map d e (λ b a c. c) h)
+fault_happened : (made : Made) (words : List (List ℕ)) (old new : Family) (d e : Option Disk) (result : Answer) → IsFaultAnswer result → BothTold (HappenedBy made words answers.HostFault old new) d e → BothTold (HappenedBy made words result old new) d e
+fault_happened made words old new d e result (is_host same) h = subst (λ r. BothTold (HappenedBy made words r old new) d e) (sym same) h
+fault_happened made words old new d e result (is_memory same) h = subst (λ r. BothTold (HappenedBy made words r old new) d e) (sym same) (both_map d e (λ b a c. c) h)
 
 none_fault : (old new : Family) (result : Answer) → IsFaultAnswer result → StartsNone result old new
 none_fault old new result (is_host e) = subst (λ r. StartsNone r old new) (sym e) tt
 none_fault old new result (is_memory e) = subst (λ r. StartsNone r old new) (sym e) tt
 
-turns_fault : (old new : List ChildEvent) (result : Answer) → HasTurns [] old new → IsFaultAnswer result → HasTurns (failed_in result) old new
-turns_fault old new result h (is_host e) = subst (λ r. HasTurns (failed_in r) old new) (sym e) h
-turns_fault old new result h (is_memory e) = subst (λ r. HasTurns (failed_in r) old new) (sym e) h
+turns_fault : (steps : List Step) (disk : Option Disk) (old new : List ChildEvent) (result : Answer) → HasTurns steps disk host_fault old new → IsFaultAnswer result → HasTurns steps disk (run_answer result) old new
+turns_fault steps disk old new result h (is_host e) = subst (λ r. HasTurns steps disk (run_answer r) old new) (sym e) h
+turns_fault steps disk old new result h (is_memory e) = subst (λ r. HasTurns steps disk (run_answer r) old new) (sym e) (record {
+  happened = record {
+    events = h.happened.events;
+    are = h.happened.are;
+    in_order = h.happened.in_order;
+    short = h.happened.short;
+    short_are = h.happened.short_are;
+    short_told = h.happened.short_told;
+    none_failed = λ is i c. (let f : out_of_memory ≡ all_went = is in cc);
+    named_failed = h.happened.named_failed;
+  };
+  rising = h.rising;
+})
 
 fault_not_out_of_memory : (result : Answer) → IsFaultAnswer result → RefusalIsNotOutOfMemory result
 fault_not_out_of_memory result (is_host e) = subst RefusalIsNotOutOfMemory (sym e) tt
@@ -228,7 +241,7 @@ answered_fault made plan old new d e f g s t v text mid text_after result the u 
       clean = λ ok. absurd (not_ok result is ok);
       happened = fault_happened made [] old new d e result is (happened_of made plan.steps old new d e ends.HostFault (has_plan plan d the) u.done);
       usage = λ h. absurd (h refl);
-      turns = turns_fault old.events new.events result u.turns is;
+      turns = (plan.steps, turns_fault plan.steps d old.events new.events result u.turns is);
       starts_none = none_fault old new result is;
       not_out_of_memory = fault_not_out_of_memory result is;
       no_usage = λ h. absurd (not_used result is h);
@@ -240,6 +253,13 @@ answered_fault made plan old new d e f g s t v text mid text_after result the u 
 
 -- ---- nothing was started
 
+-- no event happened, as an answer says it
+abbrev IsStill : Option Disk → Family → Answer → Type 0
+IsStill disk family answer = (steps : List Step) × HasTurns steps disk (run_answer answer) family.events family.events
+
+still : (disk : Option Disk) (family : Family) (answer : Answer) → failed_of (run_answer answer) ≡ [] → IsStill disk family answer
+still disk family answer none = ([], turns_none [] disk (run_answer answer) family.events family.events refl none)
+
 -- anything of each told disk
 abbrev Anything : Disk → Type 0
 Anything disk = Unit {0}
@@ -250,7 +270,7 @@ any_some (Some b) = tt
 
 -- the report of one line, where nothing happened
 line_reported : (made : Made) (words : List (List ℕ)) (answer : Answer) (line : List ℕ) (f g : ℕ) (family : Family) (text text_after : Option (List ℕ)) (disk : Disk) (result : Answer)
-    → ((events : List ChildEvent) → ReportedBy made words f g answer disk events line) → ((events : List ChildEvent) (part : List ℕ) → BeginsWith line part → FailsAtWrite made words disk events part)
+    → ((events : List ChildEvent) → ReportedBy made words f g answer disk events line) → ((events : List ChildEvent) (part : List ℕ) → IsFrontOf part line → FailsAtWrite made words disk events part)
     → TellsLine answer line f g text text_after result → ReportedIn made words f g result family family text text_after disk
 line_reported made words answer line f g family None text_after disk result whole begins tells = λ events are. tt
 line_reported made words answer line f g family (Some so_far) text_after disk result whole begins (told is count taken) = λ events are. (line, taken, subst (λ r. ReportedBy made words f g r disk events line) (sym is) (whole events))
@@ -274,16 +294,20 @@ by_line P answer result f g a b c (is_told is count) = subst P (sym is) (a count
 by_line P answer result f g a b c (is_sink is rose) = subst P (sym is) (b rose)
 by_line P answer result f g a b c (is_short is) = subst P (sym is) c
 
+-- the host's counts are as they were
+abbrev pub IsQuiet : Outside → Outside → Type 0
+IsQuiet before after = (after.faults ≡ before.faults) × (after.failed_waits ≡ before.failed_waits)
+
 -- a line was told, or cut short
-pub line_counts : (answer : Answer) (line : List ℕ) (before after : Moment) (result : Answer) → after.host.faults ≡ before.host.faults → (CountsStay before after → CountsTold before after answer) → Tells answer line before.out after.out result → CountsTold before after result
+pub line_counts : (answer : Answer) (line : List ℕ) (before after : Moment) (result : Answer) → IsQuiet before.host after.host → (CountsStay before after → CountsTold before after answer) → Tells answer line before.out after.out result → CountsTold before after result
 line_counts answer line before after result host whole tells = go (line_of answer line before.out after.out result tells)
   where
     go : TellsLine answer line before.out.faults after.out.faults before.out.written after.out.written result → CountsTold before after result
-    go (told is count taken) = subst (CountsTold before after) (sym is) (whole (record { host = host; sink = count }))
+    go (told is count taken) = subst (CountsTold before after) (sym is) (whole (record { host = host.0; waits = host.1; sink = count }))
     go (failed part is rose prefix taken) = subst (CountsTold before after) (sym is) (rose, inl host)
     go (no_memory is count taken) = subst (CountsTold before after) (sym is) count
 
-pub stop_counts : (stop : Stop) (before after : Moment) (result : Answer) → after.host.faults ≡ before.host.faults → TellsStop stop before.out after.out result → CountsTold before after result
+pub stop_counts : (stop : Stop) (before after : Moment) (result : Answer) → IsQuiet before.host after.host → TellsStop stop before.out after.out result → CountsTold before after result
 stop_counts stop before after result host (inl (fault, is, tells)) = line_counts (answers.Refused fault) (fault_line fault) before after result host (λ stay. stay) tells
 stop_counts stop before after result host (inr (is, same)) = subst (CountsTold before after) (sym is) (ap (λ (o : Output). o.faults) same)
 
@@ -294,9 +318,9 @@ answered_usage made words family d f s t text text_after result some idle tells 
     let is : IsLineAnswer answers.Usage result s t = line_answer answers.Usage usage_line s t text text_after result tells in
     record {
       clean = by_line (λ r. r ≡ answers.Ok → BothTold (LeavesClean made) d d) answers.Usage result s t (λ c ok. absurd cc) (λ rose ok. absurd cc) (λ ok. absurd cc) is;
-      happened = both_same (HasHappened made words result family family) Anything d (any_some d) (λ b x. by_line (λ r. HasHappened made words r family family b b) answers.Usage result s t (λ c. (record { family = refl; disk = refl }, some)) (λ rose. inl (record { family = refl; disk = refl })) (inl (record { family = refl; disk = refl })) is);
+      happened = both_same (HappenedBy made words result family family) Anything d (any_some d) (λ b x. by_line (λ r. HappenedBy made words r family family b b) answers.Usage result s t (λ c. (record { family = refl; disk = refl }, some)) (λ rose. inl (record { family = refl; disk = refl })) (inl (record { family = refl; disk = refl })) is);
       usage = λ h. by_line IsOfWords answers.Usage result s t (λ c. inl refl) (λ rose. inr (inl refl)) (inr (inr refl)) is;
-      turns = by_line (λ r. HasTurns (failed_in r) family.events family.events) answers.Usage result s t (λ c. turns_none family.events family.events refl) (λ rose. turns_none family.events family.events refl) (turns_none family.events family.events refl) is;
+      turns = by_line (IsStill d family) answers.Usage result s t (λ c. still d family answers.Usage refl) (λ rose. still d family answers.SinkFault refl) (still d family answers.OutOfMemory refl) is;
       starts_none = by_line (λ r. StartsNone r family family) answers.Usage result s t (λ c. refl) (λ rose. tt) tt is;
       not_out_of_memory = by_line RefusalIsNotOutOfMemory answers.Usage result s t (λ c. tt) (λ rose. tt) tt is;
       no_usage = λ h. some;
@@ -311,8 +335,8 @@ abbrev HasTaken_of : List ℕ → Option (List ℕ) → Option (List ℕ)
 HasTaken_of bytes before = option_map (λ so_far. so_far ++ bytes) before
 
 -- where no event happened, the refusal is the whole report
-at_start : (s t : ℕ) (b : Disk) (events : List ChildEvent) (part : List ℕ) → events ≡ [] → ((part ≡ host_fault_line) × (t ≡ s)) ⊎ (Rose s t × BeginsWith host_fault_line part) → TellsHostFault s t b events part
-at_start s t b events part none ended = record { steps = []; lines = []; planned = inr none; tells = record { prefix = []; rest = events; whole = refl; only_ends = subst (λ (e : List ChildEvent). AllByRecursion (λ event. is_done event ≡ true) e) (sym none) tt; lines = refl }; refusal = part; written_is = refl; ended = ended }
+at_start : (s t : ℕ) (b : Disk) (events : List ChildEvent) (part : List ℕ) → events ≡ [] → ((part ≡ host_fault_line) × (t ≡ s)) ⊎ (Rose s t × IsFrontOf part host_fault_line) → TellsHostFault s t b events part
+at_start s t b events part none ended = record { steps = []; lines = []; planned = inr none; tells = record { front = []; rest = events; whole = refl; only_ends = subst AreEnds (sym none) tt; lines = refl }; refusal = part; written_is = refl; ended = ended }
 
 -- the host failed before anything was started
 pub answered_unread : (made : Made) (family : Family) (d : Option Disk) (f g s t : ℕ) (text text_after : Option (List ℕ)) (result : Answer)
@@ -321,9 +345,9 @@ answered_unread made family d f g s t text text_after result rose idle tells =
     let is : IsFaultAnswer result = fault_answer host_fault_line s t text text_after result tells in
     record {
       clean = λ ok. absurd (not_ok result is ok);
-      happened = both_same (HasHappened made [] result family family) Anything d (any_some d) (λ b x. happened b is);
+      happened = both_same (HappenedBy made [] result family family) Anything d (any_some d) (λ b x. happened b is);
       usage = λ h. absurd (h refl);
-      turns = turns_fault family.events family.events result (turns_none family.events family.events refl) is;
+      turns = ([], turns_fault [] d family.events family.events result (turns_none [] d host_fault family.events family.events refl refl) is);
       starts_none = none_fault family family result is;
       not_out_of_memory = fault_not_out_of_memory result is;
       no_usage = λ h. absurd (not_used result is h);
@@ -333,9 +357,9 @@ answered_unread made family d f g s t text text_after result rose idle tells =
       reported = both_same (λ b a. ReportedIn made [] s t result family family text text_after b) Anything d (any_some d) (λ b x. reported b text refl);
     }
   where
-    happened : (b : Disk) → IsFaultAnswer result → HasHappened made [] result family family b b
-    happened b (is_host e) = subst (λ r. HasHappened made [] r family family b b) (sym e) (inl (record { family = refl; disk = refl }))
-    happened b (is_memory e) = subst (λ r. HasHappened made [] r family family b b) (sym e) (inl (record { family = refl; disk = refl }))
+    happened : (b : Disk) → IsFaultAnswer result → HappenedBy made [] result family family b b
+    happened b (is_host e) = subst (λ r. HappenedBy made [] r family family b b) (sym e) (inl (record { family = refl; disk = refl }))
+    happened b (is_memory e) = subst (λ r. HappenedBy made [] r family family b b) (sym e) (inl (record { family = refl; disk = refl }))
 
     told_fault : (b : Disk) (events : List ChildEvent) (written : List ℕ) → events ≡ [] → TellsFaultLine host_fault_line s t text text_after result → written ≡ [] → (so_far : List ℕ) → text ≡ Some so_far → (all : List ℕ) × (text_after ≡ Some (so_far ++ all)) × ReportedBy made [] s t result b events all
     told_fault b events written none (fault_told is count taken) nil so_far e =
@@ -411,9 +435,9 @@ answered_refused made family d f s t text text_after result fault holds the idle
     let is : IsLineAnswer (answers.Refused fault) result s t = line_answer (answers.Refused fault) (fault_line fault) s t text text_after result tells in
     record {
       clean = by_line (λ r. r ≡ answers.Ok → BothTold (LeavesClean made) d d) (answers.Refused fault) result s t (λ c ok. absurd cc) (λ rose ok. absurd cc) (λ ok. absurd cc) is;
-      happened = both_same (HasHappened made [] result family family) (IsTheFault fault) d the (λ b x. by_line (λ r. HasHappened made [] r family family b b) (answers.Refused fault) result s t (λ c. (record { family = refl; disk = refl }, x.cause)) (λ rose. inl (record { family = refl; disk = refl })) (inl (record { family = refl; disk = refl })) is);
+      happened = both_same (HappenedBy made [] result family family) (IsTheFault fault) d the (λ b x. by_line (λ r. HappenedBy made [] r family family b b) (answers.Refused fault) result s t (λ c. (record { family = refl; disk = refl }, x.cause)) (λ rose. inl (record { family = refl; disk = refl })) (inl (record { family = refl; disk = refl })) is);
       usage = λ h. absurd (h refl);
-      turns = by_line (λ r. HasTurns (failed_in r) family.events family.events) (answers.Refused fault) result s t (λ c. turns_none family.events family.events refl) (λ rose. turns_none family.events family.events refl) (turns_none family.events family.events refl) is;
+      turns = by_line (IsStill d family) (answers.Refused fault) result s t (λ c. still d family (answers.Refused fault) refl) (λ rose. still d family answers.SinkFault refl) (still d family answers.OutOfMemory refl) is;
       starts_none = by_line (λ r. StartsNone r family family) (answers.Refused fault) result s t (λ c. refl) (λ rose. tt) tt is;
       not_out_of_memory = by_line RefusalIsNotOutOfMemory (answers.Refused fault) result s t (λ c. holds) (λ rose. tt) tt is;
       no_usage = λ e. absurd (by_line (λ r. r ≡ answers.Usage → ⊥) (answers.Refused fault) result s t (λ c e. cc) (λ rose e. cc) (λ e. cc) is e);
@@ -428,9 +452,9 @@ answered_memory : (made : Made) (family : Family) (d : Option Disk) (f s t : ℕ
     → family.running ≡ [] → result ≡ answers.OutOfMemory → t ≡ s → text_after ≡ text → IsAnsweredBy made [] family family d d f f s t text text_after result
 answered_memory made family d f s t text text_after result idle is count same = subst (IsAnsweredBy made [] family family d d f f s t text text_after) (sym is) (record {
   clean = λ ok. absurd cc;
-  happened = both_same (HasHappened made [] answers.OutOfMemory family family) Anything d (any_some d) (λ b x. inl (record { family = refl; disk = refl }));
+  happened = both_same (HappenedBy made [] answers.OutOfMemory family family) Anything d (any_some d) (λ b x. inl (record { family = refl; disk = refl }));
   usage = λ h. absurd (h refl);
-  turns = turns_none family.events family.events refl;
+  turns = still d family answers.OutOfMemory refl;
   starts_none = tt;
   not_out_of_memory = tt;
   no_usage = λ e. absurd cc;
@@ -454,11 +478,11 @@ answered_stop made family d f out later result stop names the idle tells = elim 
 
 -- what an update has done, as the plan's own wanted files and roots say it
 pub updated_at : (made : Made) (steps : List Step) (wants folders : List (List ℕ)) (old new : Family) (d e : Option Disk) (text text_after : Option (List ℕ)) (r : UpdateAnswer)
-    → wants ≡ outs_of steps → folders ≡ roots → IsPlain steps wants → BothTold (λ before after. HasUpdated (began made steps wants folders before) old new r before after) d e → BothTold (λ before after. WroteBy (began made steps wants folders before) r old new text text_after) d e → HasTurns (failed_of r) old.events new.events
+    → wants ≡ outs_of steps → folders ≡ roots → IsPlain steps wants → BothTold (λ before after. HasRunAll (began made steps wants folders before) (answer_of r) old new before after) d e → BothTold (λ before after. WroteBy (began made steps wants folders before) r old new text text_after) d e → HasTurns steps d (answer_of r) old.events new.events
     → IsUpdated made steps old new d e text text_after r
 updated_at made steps wants folders old new d e text text_after r w fr plain done wrote turns = record {
   plain = subst (IsPlain steps) w plain;
-  done = at_plan (λ u. BothTold (λ before after. HasUpdated (u before) old new r before after) d e) made steps wants folders w fr done;
+  done = at_plan (λ u. BothTold (λ before after. HasRunAll (u before) (answer_of r) old new before after) d e) made steps wants folders w fr done;
   wrote = at_plan (λ u. BothTold (λ before after. WroteBy (u before) r old new text text_after) d e) made steps wants folders w fr wrote;
   turns = turns;
 }
@@ -483,15 +507,19 @@ answered_at made words before after result h counts alone = record {
   turns = h.turns;
 }
 
+quiet_read : (path : List ℕ) (before after : Outside) → IsQuietHost (after_read path before) after → IsQuietHost before after
+quiet_read path before after (inl same) = inl same
+quiet_read path before after (inr left) = inr (record { faults = left.faults; waits = left.waits })
+
 -- what a call promises does not depend on what was read before
 counts_read : (before after : Moment) (path : List ℕ) (result : Answer) → CountsTold (moment (after_read path before.host) before.out) after result → CountsTold before after result
-counts_read before after path answers.Ok h = record { host = h.host; sink = h.sink }
-counts_read before after path (answers.Failed lists) h = record { host = h.host; sink = h.sink }
-counts_read before after path (answers.Refused fault) h = record { host = h.host; sink = h.sink }
-counts_read before after path answers.Usage h = record { host = h.host; sink = h.sink }
+counts_read before after path answers.Ok h = record { host = h.host; waits = h.waits; sink = h.sink }
+counts_read before after path (answers.Failed lists) h = record { host = h.host; waits = h.waits; sink = h.sink }
+counts_read before after path (answers.Refused fault) h = record { host = h.host; waits = h.waits; sink = h.sink }
+counts_read before after path answers.Usage h = record { host = h.host; waits = h.waits; sink = h.sink }
 counts_read before after path answers.HostFault h = h
 counts_read before after path answers.OutOfMemory h = h
-counts_read before after path answers.SinkFault h = h
+counts_read before after path answers.SinkFault h = (h.0, quiet_read path before.host after.host h.1)
 
 answered_read : (made : Made) (words : List (List ℕ)) (before after : Moment) (path : List ℕ) (result : Answer) → words ≡ [] → IsAnswered made [] (moment (after_read path before.host) before.out) after result → IsAnswered made words before after result
 answered_read made words before after path result none h = subst (λ w. IsAnswered made w before after result) (sym none) (record {
@@ -533,12 +561,12 @@ pub record IsAsBefore (before after : Outside) : Type 0 where
   pub disk : after.disk ≡ before.disk
   pub keeps : Keeps before after
 
-pub load_stopped : (before after : Outside) (fault : LoadEnd) (stop : Stop) → fault ≡ ends_of_load.Stopped stop → LoadReads {T = Plan} before after (Err fault) → IsAsBefore before after × (after.faults ≡ before.faults)
+pub load_stopped : (before after : Outside) (fault : LoadEnd) (stop : Stop) → fault ≡ ends_of_load.Stopped stop → LoadReads {T = Plan} before after (Err fault) → IsAsBefore before after × IsQuiet before after
 load_stopped before after fault stop e reads = go (subst (λ x. LoadReads {T = Plan} before after (Err x)) e reads)
   where
-    go : (after ≡ after_read jamroot before) ⊎ (after ≡ before) → IsAsBefore before after × (after.faults ≡ before.faults)
-    go (inl read) = (record { children = ap (λ (o : Outside). o.children) read; disk = ap (λ (o : Outside). o.disk) read; keeps = keeps_load before after read }, ap (λ (o : Outside). o.faults) read)
-    go (inr same) = (record { children = ap (λ (o : Outside). o.children) same; disk = ap (λ (o : Outside). o.disk) same; keeps = keeps_same before after same }, ap (λ (o : Outside). o.faults) same)
+    go : (after ≡ after_read jamroot before) ⊎ (after ≡ before) → IsAsBefore before after × IsQuiet before after
+    go (inl read) = (record { children = ap (λ (o : Outside). o.children) read; disk = ap (λ (o : Outside). o.disk) read; keeps = keeps_load before after read }, (ap (λ (o : Outside). o.faults) read, ap (λ (o : Outside). o.failed_waits) read))
+    go (inr same) = (record { children = ap (λ (o : Outside). o.children) same; disk = ap (λ (o : Outside). o.disk) same; keeps = keeps_same before after same }, (ap (λ (o : Outside). o.faults) same, ap (λ (o : Outside). o.failed_waits) same))
 
 pub load_failed : (before after : Outside) (fault : LoadEnd) → fault ≡ ends_of_load.Host → LoadReads {T = Plan} before after (Err fault) → IsAsBefore before after × Rose before.faults after.faults
 load_failed before after fault e reads =

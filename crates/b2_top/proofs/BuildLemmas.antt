@@ -12,18 +12,21 @@ use Rattle.b2_plan.specs.Closures.Known.{input, include}
 use Rattle.b2_update.specs.declared.failed_lists.FailedLists.{FailedLists}
 use Rattle.b2_update.specs.declared.update_answer.UpdateAnswer.{UpdateAnswer}
 use Rattle.b2_update.specs.declared.update_answer.UpdateAnswer.TheVariants as ends
-use Rattle.b2_update.specs.Runs.{Update, on_settled, Needed}
-use Rattle.b2_update.specs.Runs.Needed.{wanted}
-use Rattle.b2_update.specs.Outcomes.{IsMissed, Skipped, nothing_lacks, IsCleanBuild}
-use Rattle.b2_update.specs.Outcomes.Skipped.{missing as skip_missing, failed as skip_failed, skipped as skip_skipped, quits as skip_quits}
-use Rattle.b2_update.specs.Plain.{IsPlain, Made, build_of, update_all}
-use Rattle.b2_update.specs.Updates.{HasEnded, HasUpdated, SomethingLacks}
+use Rattle.b2_runs.specs.Staleness.{Update}
+use Rattle.b2_runs.specs.Runs.{on_settled}
+use Rattle.b2_runs.specs.Outcomes.{IsMissed, Skipped}
+use Rattle.b2_runs.specs.Outcomes.Skipped.{missing as skip_missing, failed as skip_failed, skipped as skip_skipped, quits as skip_quits}
+use Rattle.b2_runs.specs.Reports.{AreLists}
+use Rattle.b2_runs.specs.UpdateAnswers.{SomethingLacks}
+use Rattle.b2_update.specs.Answers.{lists_of, answer_of}
+use Rattle.b2_update.specs.Plain.{IsPlain, Made, update_all}
+use Rattle.b2_update.specs.Updates.{HasRunAll}
 use Rattle.b2_top.specs.declared.answer.Answer.{Answer}
 use Rattle.b2_top.specs.declared.answer.Answer.TheVariants as answers
 use Rattle.b2_top.specs.Rules.{roots}
 use Rattle.b2_top.specs.Jamroots.{outs_of}
 use Rattle.b2_top.specs.ProjectFiles.{jamroot_of, HasPlan}
-use Rattle.b2_top.specs.Builds.{build_at, update_at, HasBuilt, HasHappened, LeavesClean, ShouldEndWell}
+use Rattle.b2_top.specs.Builds.{build_at, update_at, HasBuilt, HappenedBy, LeavesClean, ShouldEndWell}
 
 -- nothing is in the empty list
 pub not_in_nil : {X Y : Type 0} (x : X) → Contains [] x → Y
@@ -51,14 +54,14 @@ none_skipped made steps disk events sources well i (skip_skipped j step path k o
 none_skipped made steps disk events sources well i (skip_quits j k left quit failed) = absurd cc
 
 -- nothing lacks where all sources stand and no step failed
-none_lack : (made : Made) (words : List (List ℕ)) (steps : List Step) (old new : Family) (before after : Disk) (events : List ChildEvent) (lists : FailedLists)
-    → IsPlain steps (outs_of steps) → ShouldEndWell made words steps old new before → new.events ≡ old.events ++ events → HasEnded (update_at made steps before) events after.now lists → SomethingLacks lists → ⊥
-none_lack made words steps old new before after events lists plain should are ended lacks =
+none_lack : (made : Made) (words : List (List ℕ)) (steps : List Step) (old new : Family) (before : Disk) (events : List ChildEvent) (lists : FailedLists)
+    → IsPlain steps (outs_of steps) → ShouldEndWell made words steps old new before → new.events ≡ old.events ++ events → AreLists (update_at made steps before) events (lists_of lists) → SomethingLacks (lists_of lists) → ⊥
+none_lack made words steps old new before events lists plain should are named lacks =
     elim lacks [
-      | inl some ↦ some (empty_list lists.failed (λ i among. well i (ended.lacking.failed.each i among)))
+      | inl some ↦ some (empty_list lists.failed (λ i among. well i (named.failed.each i among)))
       | inr more ↦ elim more [
-        | inl some ↦ some (empty_list lists.skipped (λ i among. none_skipped made steps before events should.sources well i (ended.lacking.skipped.each i among)))
-        | inr some ↦ some (empty_list lists.missing (λ path among. no_missing path (ended.lacking.missing.each path among)))
+        | inl some ↦ some (empty_list lists.skipped (λ i among. none_skipped made steps before events should.sources well i (named.skipped.each i among)))
+        | inr some ↦ some (empty_list lists.missing (λ path among. no_missing path (named.missing.each path among)))
       ]
     ]
   where
@@ -71,20 +74,6 @@ none_lack made words steps old new before after events lists plain should are en
       | inr needs ↦ missed.missing (should.sources needs.0 needs.1 path needs.3 needs.4)
     ]
 
--- where nothing lacks, each wanted file has the bytes of the clean build
-clean_build : (made : Made) (steps : List Step) (before after : Disk) (events : List ChildEvent)
-    → IsPlain steps (outs_of steps) → HasEnded (update_at made steps before) events after.now nothing_lacks → IsCleanBuild (build_at made steps before) after.now
-clean_build made steps before after events plain ended path is_wanted =
-    let maker = plain.wanted_made path is_wanted in
-    let needed : Needed (update_at made steps before) events maker.0 = wanted maker.0 maker.1 path is_wanted maker.2 in
-    elim (ended.none_stuck maker.0 needed) [
-      | inl settled ↦ inl (ended.clean maker.0 maker.1 path needed maker.2 (settled maker.1 path maker.2) (plain.leaves_files maker.0 maker.1 maker.2.at))
-      | inr other ↦ elim other [
-        | inl failed ↦ not_in_nil maker.0 (ended.lacking.failed.whole maker.0 failed)
-        | inr was ↦ not_in_nil maker.0 (ended.lacking.skipped.whole maker.0 was)
-      ]
-    ]
-
 -- the answer of the program to an update's
 abbrev pub top_of : UpdateAnswer → Answer
 top_of ends.Done = answers.Ok
@@ -95,7 +84,7 @@ top_of ends.OutOfMemory = answers.OutOfMemory
 
 -- the update of a plan with these wanted files and roots
 abbrev pub began : Made → List Step → List (List ℕ) → List (List ℕ) → Disk → Update
-began made steps wants folders disk = update_all (build_of steps wants folders made disk.now)
+began made steps wants folders disk = update_all steps wants folders made disk.now
 
 -- what an update has done, as the plan's own wanted files and roots say it
 pub at_plan : (P : (Disk → Update) → Type 0) (made : Made) (steps : List Step) (wants folders : List (List ℕ)) → wants ≡ outs_of steps → folders ≡ roots → P (began made steps wants folders) → P (update_at made steps)
@@ -103,34 +92,34 @@ at_plan P made steps wants folders w r h = subst (λ x. P (began made steps x ro
 
 -- what happened in an update is what happened in the call
 pub happened_of : (made : Made) (steps : List Step) (old new : Family) (d e : Option Disk) (r : UpdateAnswer)
-    → IfSome d (λ before. HasPlan (jamroot_of before) steps) → BothTold (λ before after. HasUpdated (update_at made steps before) old new r before after) d e → BothTold (HasHappened made [] (top_of r) old new) d e
+    → IfSome d (λ before. HasPlan (jamroot_of before) steps) → BothTold (λ before after. HasRunAll (update_at made steps before) (answer_of r) old new before after) d e → BothTold (HappenedBy made [] (top_of r) old new) d e
 happened_of made steps old new None None r plan told = tt
 happened_of made steps old new None (Some after) r plan told = told
 happened_of made steps old new (Some before) None r plan told = told
 happened_of made steps old new (Some before) (Some after) r plan told = go r told
   where
-    built : (q : UpdateAnswer) → (u : HasUpdated (update_at made steps before) old new q before after) → HasBuilt made [] steps u.events old new before after
+    built : (q : UpdateAnswer) → (u : HasRunAll (update_at made steps before) (answer_of q) old new before after) → HasBuilt made [] steps u.events old new before after
     built q u = record { no_word = refl; plan = plan; ran = u.ran }
 
-    go : (q : UpdateAnswer) → HasUpdated (update_at made steps before) old new q before after → HasHappened made [] (top_of q) old new before after
+    go : (q : UpdateAnswer) → HasRunAll (update_at made steps before) (answer_of q) old new before after → HappenedBy made [] (top_of q) old new before after
     go ends.Done u = (steps, u.events, built ends.Done u, u.told)
-    go (ends.Failed lists) u = ((steps, u.events, built (ends.Failed lists) u, u.told.0), u.told.1)
+    go (ends.Failed lists) u = (steps, u.events, built (ends.Failed lists) u, u.told)
     go ends.HostFault u = inr (steps, u.events, built ends.HostFault u)
     go ends.SinkFault u = inr (steps, u.events, built ends.SinkFault u)
     go ends.OutOfMemory u = inr (steps, u.events, built ends.OutOfMemory u)
 
 -- after an update that is done the wanted files are clean
 pub clean_of : (made : Made) (steps : List Step) (old new : Family) (d e : Option Disk)
-    → IsPlain steps (outs_of steps) → IfSome d (λ before. HasPlan (jamroot_of before) steps) → BothTold (λ before after. HasUpdated (update_at made steps before) old new ends.Done before after) d e → BothTold (LeavesClean made) d e
-clean_of made steps old new None None plain plan told = tt
-clean_of made steps old new None (Some after) plain plan told = told
-clean_of made steps old new (Some before) None plain plan told = told
-clean_of made steps old new (Some before) (Some after) plain plan told = (steps, plan, clean_build made steps before after told.events plain told.told)
+    → IfSome d (λ before. HasPlan (jamroot_of before) steps) → BothTold (λ before after. HasRunAll (update_at made steps before) (answer_of ends.Done) old new before after) d e → BothTold (LeavesClean made) d e
+clean_of made steps old new None None plan told = tt
+clean_of made steps old new None (Some after) plan told = told
+clean_of made steps old new (Some before) None plan told = told
+clean_of made steps old new (Some before) (Some after) plan told = (steps, plan, told.told.2)
 
 -- an update that failed did not have all that it needs to end well
 pub complete_of : (made : Made) (steps : List Step) (old new : Family) (d e : Option Disk) (lists : FailedLists)
-    → IsPlain steps (outs_of steps) → BothTold (λ before after. HasUpdated (update_at made steps before) old new (ends.Failed lists) before after) d e → BothTold (λ before after. ShouldEndWell made [] steps old new before → ⊥) d e
+    → IsPlain steps (outs_of steps) → BothTold (λ before after. HasRunAll (update_at made steps before) (answer_of (ends.Failed lists)) old new before after) d e → BothTold (λ before after. ShouldEndWell made [] steps old new before → ⊥) d e
 complete_of made steps old new None None lists plain told = tt
 complete_of made steps old new None (Some after) lists plain told = told
 complete_of made steps old new (Some before) None lists plain told = told
-complete_of made steps old new (Some before) (Some after) lists plain told = λ should. none_lack made [] steps old new before after told.events lists plain should told.ran.events_are told.told.0 told.told.1
+complete_of made steps old new (Some before) (Some after) lists plain told = λ should. none_lack made [] steps old new before told.events lists plain should told.ran.events_are told.told.2 told.told.3

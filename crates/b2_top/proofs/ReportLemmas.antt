@@ -8,9 +8,11 @@ use Rattle.b2_host.specs.ChildProcesses.{Family, BothTold}
 use Rattle.b2_plan.specs.declared.step.Step.{Step}
 use Rattle.b2_update.specs.declared.update_answer.UpdateAnswer.{UpdateAnswer}
 use Rattle.b2_update.specs.declared.update_answer.UpdateAnswer.TheVariants as ends
-use Rattle.b2_update.specs.Updates.{TellsStarts, WrittenBy}
+use Rattle.b2_runs.specs.Staleness.{Update}
+use Rattle.b2_runs.specs.Reports.{TellsStarts}
+use Rattle.b2_update.specs.Answers.{answer_of}
 use Rattle.b2_update.specs.Plain.{Made}
-use Rattle.b2_update.specs.Runs.{Update}
+use Rattle.b2_update.specs.Updates.{BytesTold}
 use Rattle.b2_top.specs.declared.answer.Answer.{Answer}
 use Rattle.b2_top.specs.ProjectFiles.{jamroot_of, HasPlan}
 use Rattle.b2_top.specs.Refusals.{host_fault_line}
@@ -23,7 +25,7 @@ use Rattle.b2_top.proofs.BuildLemmas.{top_of}
 
 -- what an update has written, told of its events and of the bytes before and after
 abbrev pub WroteBy : Update → UpdateAnswer → Family → Family → Option (List ℕ) → Option (List ℕ) → Type 0
-WroteBy u answer old new text text_after = (events : List ChildEvent) → new.events ≡ old.events ++ events → IfSome text (λ so_far. (written : List ℕ) × (text_after ≡ Some (so_far ++ written)) × WrittenBy u events answer written)
+WroteBy u answer old new text text_after = (events : List ChildEvent) → new.events ≡ old.events ++ events → IfSome text (λ so_far. (written : List ℕ) × (text_after ≡ Some (so_far ++ written)) × BytesTold u events (answer_of answer) written)
 
 -- the bytes that were written in a call, told of its events, of the sink's counts and of the bytes before and after
 abbrev pub ReportedIn : Made → List (List ℕ) → ℕ → ℕ → Answer → Family → Family → Option (List ℕ) → Option (List ℕ) → Disk → Type 0
@@ -43,7 +45,7 @@ no_event (x ∷ old) events e = no_event old events (tail_same old (old ++ event
 
 -- an update's bytes are the call's, but for a fault of the host
 by_plain : (made : Made) (steps : List Step) (f g : ℕ) (disk : Disk) (events : List ChildEvent) (written : List ℕ) (r : UpdateAnswer)
-    → HasPlan (jamroot_of disk) steps → (r ≡ ends.HostFault → ⊥) → WrittenBy (update_at made steps disk) events r written → ReportedBy made [] f g (top_of r) disk events written
+    → HasPlan (jamroot_of disk) steps → (r ≡ ends.HostFault → ⊥) → BytesTold (update_at made steps disk) events (answer_of r) written → ReportedBy made [] f g (top_of r) disk events written
 by_plain made steps f g disk events written ends.Done plan other w = (steps, plan, w)
 by_plain made steps f g disk events written (ends.Failed lists) plan other w = (steps, plan, w)
 by_plain made steps f g disk events written ends.HostFault plan other w = absurd (other refl)

@@ -3,7 +3,7 @@ use Rattle.b2_host.specs.declared.fault.IoFault.{IoFault}
 use Rattle.b2_host.specs.declared.fault.IoFault.TheVariants as faults
 use Rattle.b2_host.specs.Faults.{Rose}
 use Rattle.b2_host.specs.Output.{Output, Prints, WriteFails}
-use Rattle.b2_update.specs.Updates.{BeginsWith}
+use Rattle.b2_runs.specs.Reports.{IsFrontOf}
 use Rattle.b2_top.specs.declared.answer.Answer.{Answer}
 use Rattle.b2_top.specs.declared.answer.Answer.TheVariants as answers
 use Rattle.b2_top.specs.Tells.{FailsIn, Tells, TellsFault}
@@ -18,13 +18,13 @@ HasTaken bytes before after = after ≡ option_map (λ so_far. so_far ++ bytes) 
 -- what is told of a line, by the counts of faults and the bytes before and after
 pub data TellsLine (answer : Answer) (line : List ℕ) (faults faults_after : ℕ) (before after : Option (List ℕ)) (result : Answer) : Type 0 where
   line_told : result ≡ answer → faults_after ≡ faults → HasTaken line before after → TellsLine answer line faults faults_after before after result
-  line_failed : (part : List ℕ) → result ≡ answers.SinkFault → Rose faults faults_after → BeginsWith line part → HasTaken part before after → TellsLine answer line faults faults_after before after result
+  line_failed : (part : List ℕ) → result ≡ answers.SinkFault → Rose faults faults_after → IsFrontOf part line → HasTaken part before after → TellsLine answer line faults faults_after before after result
   line_short : result ≡ answers.OutOfMemory → faults_after ≡ faults → HasTaken [] before after → TellsLine answer line faults faults_after before after result
 
 -- the same of the line of a fault of the host
 pub data TellsFaultLine (line : List ℕ) (faults faults_after : ℕ) (before after : Option (List ℕ)) (result : Answer) : Type 0 where
   fault_line_told : result ≡ answers.HostFault → faults_after ≡ faults → HasTaken line before after → TellsFaultLine line faults faults_after before after result
-  fault_line_failed : (part : List ℕ) → result ≡ answers.HostFault → Rose faults faults_after → BeginsWith line part → HasTaken part before after → TellsFaultLine line faults faults_after before after result
+  fault_line_failed : (part : List ℕ) → result ≡ answers.HostFault → Rose faults faults_after → IsFrontOf part line → HasTaken part before after → TellsFaultLine line faults faults_after before after result
   fault_line_short : result ≡ answers.OutOfMemory → faults_after ≡ faults → HasTaken [] before after → TellsFaultLine line faults faults_after before after result
 
 -- where nothing was written, nothing was taken

@@ -1,5 +1,5 @@
 -- What a call of the build command promises, from the moment of its start to that of its answer. Definitions of this file whose
--- names end with `Told` speak of visible files.
+-- names end with `Told`, but for `TurnsTold`, speak of visible files.
 use Rattle.std.specs.Prelude.{◌≡◌, ◌≢◌, ℕ, List, [], Ok}
 use Rattle.b2_host.specs.Disks.{Disk}
 use Rattle.b2_host.specs.ChildProcesses.{BothTold}
@@ -7,7 +7,7 @@ use Rattle.b2_host.specs.Outside.{Outside}
 use Rattle.b2_plan.specs.declared.step.Step.{Step}
 use Rattle.b2_plan.specs.declared.plan.Plan.{Plan}
 use Rattle.b2_update.specs.Plain.{Made}
-use Rattle.b2_update.specs.Moments.{Moment}
+use Rattle.b2_runs.specs.Moments.{Moment}
 use Rattle.b2_update.specs.Turns.{HasTurns}
 use Rattle.jam_lexer.specs.declared.fault.LexFault.{LexFault}
 use Rattle.b2_top.specs.declared.refusal.Fault.TheVariants as faults
@@ -16,7 +16,7 @@ use Rattle.b2_top.specs.declared.answer.Answer.TheVariants as answers
 use Rattle.b2_top.specs.ProjectFiles.{jamroot, jamroot_of, HasPlan}
 use Rattle.b2_top.specs.Stops.{IsExact}
 use Rattle.b2_top.specs.Refusals.{no_tokens}
-use Rattle.b2_top.specs.Builds.{IsOrCutShort, IsOfWords, StartsNone, RefusalIsNotOutOfMemory, failed_in, CountsTold, ShouldBeNotYet, ShouldHaveNoTokens, HasHappened, LeavesClean, ShouldEndWell, HasReported}
+use Rattle.b2_top.specs.Builds.{IsOrCutShort, IsOfWords, StartsNone, RefusalIsNotOutOfMemory, run_answer, CountsTold, ShouldBeNotYet, ShouldHaveNoTokens, HappenedBy, LeavesClean, ShouldEndWell, HasReported}
 
 -- each wanted file has the bytes of the clean build of the sources at entry
 abbrev pub CleanTold : Made → Outside → Outside → Type 0
@@ -24,7 +24,7 @@ CleanTold made before after = BothTold (LeavesClean made) before.disk after.disk
 
 -- what happened, by the answer
 abbrev pub HappenedTold : Made → List (List ℕ) → Outside → Outside → Answer → Type 0
-HappenedTold made words before after result = BothTold (HasHappened made words result before.children after.children) before.disk after.disk
+HappenedTold made words before after result = BothTold (HappenedBy made words result before.children after.children) before.disk after.disk
 
 -- a project's file that is not yet built at a line is refused at that line, or the call was cut short
 abbrev pub NotYetTold : List (List ℕ) → Outside → Outside → Answer → Type 0
@@ -47,6 +47,10 @@ abbrev pub ReportTold : Made → List (List ℕ) → Moment → Moment → Answe
 ReportTold made words before after result =
     BothTold (λ disk later. HasReported made words before after result disk) before.host.disk after.host.disk
 
+-- over any host, what happened is in order, one step at a time, for some list of steps
+abbrev pub TurnsTold : Outside → Outside → Answer → Type 0
+TurnsTold before after result = (steps : List Step) × HasTurns steps before.disk (run_answer result) before.children.events after.children.events
+
 -- All that a call of the build command with these words promises.
 pub record IsAnswered (made : Made) (words : List (List ℕ)) (before after : Moment) (result : Answer) : Type 0 where
   pub clean : result ≡ answers.Ok → CleanTold made before.host after.host
@@ -61,7 +65,7 @@ pub record IsAnswered (made : Made) (words : List (List ℕ)) (before after : Mo
   pub without_tokens : NoTokensTold words before.host after.host result
   pub complete : CompleteTold made words before after result
   pub reported : ReportTold made words before after result
-  pub turns : HasTurns (failed_in result) before.host.children.events after.host.children.events
+  pub turns : TurnsTold before.host after.host result
 
 -- the plan was read from the project's file, and nothing else can have been
 abbrev pub IsThePlan : Plan → Disk → Type 0

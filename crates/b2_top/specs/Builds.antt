@@ -8,14 +8,15 @@ use Rattle.b2_host.specs.Faults.{Rose}
 use Rattle.b2_plan.specs.declared.step.Step.{Step}
 use Rattle.b2_plan.specs.Plans.{step_at}
 use Rattle.b2_plan.specs.Sources.{Build, IsGiven}
-use Rattle.b2_update.specs.declared.failed_lists.FailedLists.{FailedLists}
-use Rattle.b2_update.specs.Runs.{Update}
-use Rattle.b2_update.specs.Outcomes.{IsCleanBuild, nothing_lacks}
-use Rattle.b2_update.specs.Reports.{report}
+use Rattle.b2_runs.specs.Staleness.{Update}
+use Rattle.b2_runs.specs.Outcomes.{IsCleanBuild}
+use Rattle.b2_runs.specs.Reports.{Lists, no_lists, report, IsFrontOf, TellsStarts}
+use Rattle.b2_runs.specs.Moments.{Moment}
+use Rattle.b2_runs.specs.UpdateAnswers.{UpdateAnswer as RunAnswer, CountsStay, IsQuietHost}
+use Rattle.b2_runs.specs.UpdateAnswers.UpdateAnswer.{all_went, failed as some_failed, host_fault, sink_fault, out_of_memory}
+use Rattle.b2_update.specs.Answers.{lists_of}
 use Rattle.b2_update.specs.Plain.{Made, build_of, update_all}
-use Rattle.b2_update.specs.Moments.{Moment}
-use Rattle.b2_update.specs.Stops.{CountsStay, IsQuietHost}
-use Rattle.b2_update.specs.Updates.{HasRun, HasEnded, SomethingLacks, TellsStarts, BeginsWith, StopsAtWrite, StopsSomewhere}
+use Rattle.b2_update.specs.Updates.{HasRun, RunTold, StopsAtWrite, StopsSomewhere}
 use Rattle.jam_lexer.specs.declared.fault.LexFault.{LexFault}
 use Rattle.b2_top.specs.declared.refusal.Fault.{Fault}
 use Rattle.b2_top.specs.declared.refusal.Fault.TheVariants as faults
@@ -32,7 +33,7 @@ build_at made steps disk = build_of steps (outs_of steps) roots made disk.now
 
 -- the update of a plan from the files of a disk
 abbrev pub update_at : Made → List Step → Disk → Update
-update_at made steps disk = update_all (build_at made steps disk)
+update_at made steps disk = update_all steps (outs_of steps) roots made disk.now
 
 -- an answer that may take the place of any other: a fault of the host or of the sink, or OutOfMemory
 abbrev pub IsCutShort : Answer → Type 0
@@ -42,9 +43,9 @@ IsCutShort answer = (answer ≡ answers.HostFault) ⊎ (answer ≡ answers.SinkF
 abbrev pub IsOrCutShort : Answer → Answer → Type 0
 IsOrCutShort result answer = (result ≡ answer) ⊎ IsCutShort result
 
--- How the counts of faults stand to an answer: Ok, Failed, Refused and Usage come only where both are as at entry, and a
--- fault only where its count rose. The first fault decides: with SinkFault the host's count is as at entry, unless the wait
--- for the child that ran failed after it, so that the child is left; with HostFault the sink may have failed at its line.
+-- How the counts of faults stand to an answer: Ok, Failed, Refused and Usage come only where they are as at entry, and a
+-- fault only where its count rose. The first fault decides: with SinkFault the host's count is as at entry, unless a wait
+-- for the child that ran failed after it; with HostFault the sink may have failed at its line.
 abbrev pub CountsTold : Moment → Moment → Answer → Type 0
 CountsTold before after answers.Ok = CountsStay before after
 CountsTold before after (answers.Failed lists) = CountsStay before after
@@ -78,15 +79,15 @@ RefusalIsNotOutOfMemory answers.HostFault = ⊤
 RefusalIsNotOutOfMemory answers.OutOfMemory = ⊤
 RefusalIsNotOutOfMemory answers.SinkFault = ⊤
 
--- the steps that an answer names as failed
-abbrev pub failed_in : Answer → List ℕ
-failed_in answers.Ok = []
-failed_in (answers.Failed lists) = lists.failed
-failed_in (answers.Refused fault) = []
-failed_in answers.Usage = []
-failed_in answers.HostFault = []
-failed_in answers.OutOfMemory = []
-failed_in answers.SinkFault = []
+-- The answer of the update in a call. Where there was none it stands like that of a fault: it names no step.
+abbrev pub run_answer : Answer → RunAnswer
+run_answer answers.Ok = all_went
+run_answer (answers.Failed lists) = some_failed (lists_of lists)
+run_answer (answers.Refused fault) = host_fault
+run_answer answers.Usage = host_fault
+run_answer answers.HostFault = host_fault
+run_answer answers.OutOfMemory = out_of_memory
+run_answer answers.SinkFault = sink_fault
 
 -- the words are none, and the project's file is refused as not yet built at this line
 abbrev pub ShouldBeNotYet : List (List ℕ) → Disk → ℕ → Type 0
@@ -116,21 +117,21 @@ pub record IsUntouched (old new : Family) (before after : Disk) : Type 0 where
 abbrev pub HasBegun : Made → List (List ℕ) → Family → Family → Disk → Disk → Type 0
 HasBegun made words old new before after = (steps : List Step) × (events : List ChildEvent) × HasBuilt made words steps events old new before after
 
--- the project has a plan, and this is a whole run of it, which ended with these lists
-abbrev pub HasRunOut : Made → List (List ℕ) → FailedLists → Family → Family → Disk → Disk → Type 0
-HasRunOut made words lists old new before after =
-    (steps : List Step) × (events : List ChildEvent) × HasBuilt made words steps events old new before after × HasEnded (update_at made steps before) events after.now lists
+-- the project has a plan, and this is a whole run of it, of which the answer of its update holds
+abbrev pub HasRunOut : Made → List (List ℕ) → RunAnswer → Family → Family → Disk → Disk → Type 0
+HasRunOut made words answer old new before after =
+    (steps : List Step) × (events : List ChildEvent) × HasBuilt made words steps events old new before after × RunTold (update_at made steps before) events after.now answer
 
 -- What happened, by the answer: a run that has ended where the answer is Ok or Failed; nothing where it is Refused or
 -- Usage; and with any other answer nothing, or the beginning of a run.
-abbrev pub HasHappened : Made → List (List ℕ) → Answer → Family → Family → Disk → Disk → Type 0
-HasHappened made words answers.Ok old new before after = HasRunOut made words nothing_lacks old new before after
-HasHappened made words (answers.Failed lists) old new before after = HasRunOut made words lists old new before after × SomethingLacks lists
-HasHappened made words (answers.Refused fault) old new before after = IsUntouched old new before after × HasCause words before fault
-HasHappened made words answers.Usage old new before after = IsUntouched old new before after × (words ≢ [])
-HasHappened made words answers.HostFault old new before after = IsUntouched old new before after ⊎ HasBegun made words old new before after
-HasHappened made words answers.OutOfMemory old new before after = IsUntouched old new before after ⊎ HasBegun made words old new before after
-HasHappened made words answers.SinkFault old new before after = IsUntouched old new before after ⊎ HasBegun made words old new before after
+abbrev pub HappenedBy : Made → List (List ℕ) → Answer → Family → Family → Disk → Disk → Type 0
+HappenedBy made words answers.Ok old new before after = HasRunOut made words all_went old new before after
+HappenedBy made words (answers.Failed lists) old new before after = HasRunOut made words (some_failed (lists_of lists)) old new before after
+HappenedBy made words (answers.Refused fault) old new before after = IsUntouched old new before after × HasCause words before fault
+HappenedBy made words answers.Usage old new before after = IsUntouched old new before after × (words ≢ [])
+HappenedBy made words answers.HostFault old new before after = IsUntouched old new before after ⊎ HasBegun made words old new before after
+HappenedBy made words answers.OutOfMemory old new before after = IsUntouched old new before after ⊎ HasBegun made words old new before after
+HappenedBy made words answers.SinkFault old new before after = IsUntouched old new before after ⊎ HasBegun made words old new before after
 
 -- each wanted file of the project's plan has the bytes of the clean build of the sources at entry
 abbrev pub LeavesClean : Made → Disk → Disk → Type 0
@@ -152,32 +153,32 @@ pub record TellsHostFault (sink sink_after : ℕ) (disk : Disk) (events : List C
   pub tells : TellsStarts steps events lines
   pub refusal : List ℕ
   pub written_is : written ≡ lines ++ refusal
-  pub ended : ((refusal ≡ host_fault_line) × (sink_after ≡ sink)) ⊎ (Rose sink sink_after × BeginsWith host_fault_line refusal)
+  pub ended : ((refusal ≡ host_fault_line) × (sink_after ≡ sink)) ⊎ (Rose sink sink_after × IsFrontOf refusal host_fault_line)
 
 -- Where a write failed: at the line that the words, or a refusal with its cause, ask for, or at one of the plan's update, after
 -- which nothing was started.
 pub data FailsAtWrite (made : Made) (words : List (List ℕ)) (disk : Disk) (events : List ChildEvent) (written : List ℕ) : Type 0 where
-  usage : words ≢ [] → BeginsWith usage_line written → FailsAtWrite made words disk events written
-  refusal : (fault : Fault) → HasCause words disk fault → BeginsWith (fault_line fault) written → FailsAtWrite made words disk events written
+  usage : words ≢ [] → IsFrontOf written usage_line → FailsAtWrite made words disk events written
+  refusal : (fault : Fault) → HasCause words disk fault → IsFrontOf written (fault_line fault) → FailsAtWrite made words disk events written
   update : (steps : List Step) → HasPlan (jamroot_of disk) steps → StopsAtWrite (update_at made steps disk) events written
       → FailsAtWrite made words disk events written
 
 -- A beginning of a report: of the line that the words, or a refusal with its cause, ask for, or of the plan's update.
 pub data BeginsSome (made : Made) (words : List (List ℕ)) (disk : Disk) (events : List ChildEvent) (written : List ℕ) : Type 0 where
   nothing : events ≡ [] → written ≡ [] → BeginsSome made words disk events written
-  usage : words ≢ [] → BeginsWith usage_line written → BeginsSome made words disk events written
-  refusal : (fault : Fault) → HasCause words disk fault → BeginsWith (fault_line fault) written → BeginsSome made words disk events written
+  usage : words ≢ [] → IsFrontOf written usage_line → BeginsSome made words disk events written
+  refusal : (fault : Fault) → HasCause words disk fault → IsFrontOf written (fault_line fault) → BeginsSome made words disk events written
   update : (steps : List Step) → HasPlan (jamroot_of disk) steps → StopsSomewhere (update_at made steps disk) events written
       → BeginsSome made words disk events written
 
 -- the report of a whole run of the project's plan that ended with these lists
-abbrev pub IsReport : Disk → List ChildEvent → FailedLists → List ℕ → Type 0
+abbrev pub IsReport : Disk → List ChildEvent → Lists → List ℕ → Type 0
 IsReport disk events lists written = (steps : List Step) × HasPlan (jamroot_of disk) steps × (written ≡ report steps events lists)
 
 -- what an answer says of the bytes that were written
 abbrev pub ReportedBy : Made → List (List ℕ) → ℕ → ℕ → Answer → Disk → List ChildEvent → List ℕ → Type 0
-ReportedBy made words sink sink_after answers.Ok disk events written = IsReport disk events nothing_lacks written
-ReportedBy made words sink sink_after (answers.Failed lists) disk events written = IsReport disk events lists written
+ReportedBy made words sink sink_after answers.Ok disk events written = IsReport disk events no_lists written
+ReportedBy made words sink sink_after (answers.Failed lists) disk events written = IsReport disk events (lists_of lists) written
 ReportedBy made words sink sink_after (answers.Refused fault) disk events written = written ≡ fault_line fault
 ReportedBy made words sink sink_after answers.Usage disk events written = written ≡ usage_line
 ReportedBy made words sink sink_after answers.HostFault disk events written = TellsHostFault sink sink_after disk events written

@@ -2,7 +2,7 @@ use Rattle.std.specs.Prelude.{◌≢◌, ℕ, List, ◌++◌, ⊤, codes}
 use Rattle.std.specs.Fmt.{decimal}
 use Rattle.jam_lexer.specs.declared.fault.LexFault.{LexFault}
 use Rattle.jam_lexer.specs.declared.fault.LexFault.TheVariants as lex
-use Rattle.b2_update.specs.Reports.{line}
+use Rattle.b2_runs.specs.Reports.{line}
 use Rattle.b2_top.specs.ProjectFiles.{jamroot}
 use Rattle.b2_top.specs.declared.refusal.Fault.{Fault}
 use Rattle.b2_top.specs.declared.refusal.Fault.TheVariants as faults

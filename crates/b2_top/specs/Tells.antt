@@ -2,7 +2,7 @@ use Rattle.std.specs.Prelude.{◌≡◌, ℕ, List, ◌++◌, ◌⊎◌}
 use Rattle.std.specs.Option.{option_map}
 use Rattle.b2_host.specs.Faults.{Rose}
 use Rattle.b2_host.specs.Output.{Output, with_written}
-use Rattle.b2_update.specs.Updates.{BeginsWith}
+use Rattle.b2_runs.specs.Reports.{IsFrontOf}
 use Rattle.b2_top.specs.declared.refusal.Fault.{Fault}
 use Rattle.b2_top.specs.declared.refusal.Fault.TheVariants as faults
 use Rattle.b2_top.specs.declared.jamroot.Stop.{Stop}
@@ -15,7 +15,7 @@ use Rattle.b2_top.specs.declared.answer.Answer.TheVariants as answers
 -- The write of a line failed: a beginning of it was written, and the count of faults rose.
 pub record FailsIn (line : List ℕ) (before after : Output) : Type 0 where
   pub part : List ℕ
-  pub begins : BeginsWith line part
+  pub begins : IsFrontOf part line
   pub rose : Rose before.faults after.faults
   pub written : after.written ≡ option_map (λ so_far. so_far ++ part) before.written
 

@@ -2,12 +2,11 @@
 ghost use Rattle.std.specs.Prelude.{◌≡◌, ◌≢◌, []};
 ghost use Rattle.std.specs.Option.{IfSome};
 ghost use Rattle.b2_host.specs.OutsideLaws.{Keeps};
+ghost use Rattle.b2_runs.specs.UpdateAnswers.{LeavesNone};
 ghost use Rattle.b2_update.specs.Moments.{moment};
-ghost use Rattle.b2_update.specs.Stops.{LeavesNone};
-ghost use Rattle.b2_update.specs.Turns.{HasTurns};
 ghost use Rattle.b2_top.specs.Jamroots.{IsReady};
-ghost use Rattle.b2_top.specs.Builds.{IsOfWords, StartsNone, RefusalIsNotOutOfMemory, failed_in, CountsTold};
-ghost use Rattle.b2_top.specs.Answered.{CleanTold, HappenedTold, NotYetTold, NoTokensTold, CompleteTold, ReportTold, IsAnswered, IsThePlan};
+ghost use Rattle.b2_top.specs.Builds.{IsOfWords, StartsNone, RefusalIsNotOutOfMemory, CountsTold};
+ghost use Rattle.b2_top.specs.Answered.{CleanTold, HappenedTold, NotYetTold, NoTokensTold, CompleteTold, ReportTold, TurnsTold, IsAnswered, IsThePlan};
 
 use crate::answer::Answer;
 use crate::load::{LoadEnd, load};
@@ -89,8 +88,9 @@ pub fn run_b2<H: Children, S: Sink>(
     ensures complete { CompleteTold H.made words.now (moment (H.outside host.old) (S.output out.old)) (moment (H.outside host.new) (S.output out.new)) result }
     // What was written is the report.
     ensures reported { ReportTold H.made words.now (moment (H.outside host.old) (S.output out.old)) (moment (H.outside host.new) (S.output out.new)) result }
-    // The events are in turn, over every host: one step is open at a time, none starts twice, and each failed step was done.
-    ensures turns { HasTurns (failed_in result) (H.outside host.old).children.events (H.outside host.new).children.events }
+    // The events are in order, over every host: one step is open at a time, and none starts twice. Each failed step was done
+    // badly, or left an output out; with Ok none did so.
+    ensures turns { TurnsTold (H.outside host.old) (H.outside host.new) result }
     // No child is left, unless a wait for it failed, and then both counts of the host rose.
     ensures none_left { LeavesNone (H.outside host.old) (H.outside host.new) }
     // No count falls, visible files stay visible, and all that stood stays among the past.

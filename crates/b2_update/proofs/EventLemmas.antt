@@ -1,62 +1,35 @@
-use Rattle.std.proofs.Common.{◌≡◌, ℕ, zero, suc, ◌+◌, ◌<◌, ◌≤◌, ◌↔◌, Bool, true, false, cond, List, [], ◌∷◌, ◌++◌, length, ◌⊎◌, inl, inr, refl, sym, ap, subst, subst₂, arith, ◌∙◌, Option, Some, None, IfSome, slice_get, count_by, append_assoc, append-nil, filter_map, option_map}
-use Rattle.std.specs.List.{Contains, AllPairs, AllZip}
-use Rattle.std.proofs.lemmas.List.Elements.{Contains-push_cases, Contains-append_left, filter_map-append}
-use Rattle.std.proofs.lemmas.List.Sums.{sum_by-append}
+use Rattle.std.proofs.Common.{◌≡◌, ℕ, zero, suc, ◌+◌, ◌<◌, ◌≤◌, ◌↔◌, Bool, true, false, List, [], ◌∷◌, ◌++◌, length, ◌⊎◌, inl, inr, refl, sym, ap, subst, subst₂, arith, ◌∙◌, Option, Some, None, IfSome, slice_get, count_by, append_assoc}
+use Rattle.std.specs.List.{Contains, AllPairs}
+use Rattle.std.proofs.lemmas.List.Elements.{Contains-append_left}
 use Rattle.std.proofs.lemmas.Option.{slice_get_within}
 use Rattle.b2_host.specs.declared.children.ChildEvent.{ChildEvent}
 use Rattle.b2_host.specs.declared.children.ChildEvent.TheVariants.{Start, Done}
-use Rattle.b2_host.specs.Disks.{File, Folder, bytes_at}
-use Rattle.b2_host.specs.ChildProcesses.{Family, Given}
+use Rattle.b2_host.specs.Disks.{Disk, Folder, IsConsistent, bytes_at}
+use Rattle.b2_host.specs.ChildProcesses.{Family, Given, one_more, after_start, ChangesOnlyOutputs, Ends}
 use Rattle.b2_plan.specs.declared.step.Step.{Step}
-use Rattle.b2_plan.specs.Plans.{step_at, Makes}
-use Rattle.b2_plan.specs.Sources.{IsGiven}
-use Rattle.b2_plan.specs.Closures.{Known.input, Before, IsClose}
-use Rattle.b2_plan.specs.Cleans.{Val}
+use Rattle.b2_plan.specs.Plans.{log_path, step_at, Makes}
+use Rattle.b2_plan.specs.Closures.{Value, Known.input, Before, IsClose}
+use Rattle.b2_plan.specs.Cleans.{Clean}
+use Rattle.b2_runs.specs.Staleness.{Update, IsFresh, paths_with_bytes}
+use Rattle.b2_runs.specs.Events.{is_start, is_done}
+use Rattle.b2_runs.specs.Runs.{Settled, Settled.source, Settled.done_well, Settled.fresh, on_settled, Needed, Needed.wanted, CanStart}
+use Rattle.b2_runs.specs.Soundness.{Holds, Distinguishes, Drifts, IsAtWork}
+use Rattle.b2_runs.specs.ChildLaws.{start_gives}
+use Rattle.b2_runs.proofs.ElementLemmas.{one_step, some_element}
+use Rattle.b2_runs.proofs.EventLaws.{start_in_start, start_in_done}
+use Rattle.b2_runs.proofs.RunLaws.{run_goes_on, done_was_started, done_once}
+use Rattle.b2_runs.proofs.SettledLaws.{source_clean, settled_is_clean, settled_holds, out_bytes}
+use Rattle.b2_runs.proofs.SoundLaws.{sound_after_start, sound_after_drift, sound_after_end, work_drifts}
+use Rattle.b2_runs.proofs.OutcomeLaws.{settled_given}
+use Rattle.b2_runs.proofs.ChildLaws.{start_is_fed, at_work_after_start, at_work_after_end, end_is_open, fed_after_start, fed_after_end}
 use Rattle.b2_update.specs.declared.outcome.Outcome.{Outcome}
 use Rattle.b2_update.specs.declared.outcome.Outcome.TheVariants as outcomes
 use Rattle.b2_update.specs.Plain.{Made}
-use Rattle.b2_update.specs.Runs.{Update, Settled, Settled.source, Settled.done_well, Settled.fresh, on_settled, Needed, Needed.wanted, is_start, is_done, CanStart, MayCome, RunFrom, started, IsFed, AreFed}
-use Rattle.b2_update.specs.Outcomes.{OnlyOutputsChange}
 use Rattle.b2_update.specs.Inputs.{outcome_at}
-use Rattle.b2_update.specs.Progress.{IsWhole, IsMade, WasSkipped, Became, IsUnderWay, IsDue}
-use Rattle.b2_update.proofs.ListLemmas.{some_element}
-use Rattle.b2_update.proofs.ValueLemmas.{val_le, close_of, members_of}
+use Rattle.b2_update.specs.Progress.{IsWhole, WasSkipped, Became, IsUnderWay, IsDue}
+use Rattle.b2_update.proofs.ValueLemmas.{members_of, close_of}
 
--- the step that an event is about
-abbrev pub about : ChildEvent → ℕ
-about (Start i) = i
-about (Done i well) = i
-
-pub start_old : (events : List ChildEvent) (e : ChildEvent) (i : ℕ) → (about e ≡ i → ⊥) → Contains (events ++ e ∷ []) (Start i) → Contains events (Start i)
-start_old events e i other c = elim (Contains-push_cases events e (Start i) c) [ inl d ↦ d | inr f ↦ absurd (other (ap about f)) ]
-
-pub done_old : (events : List ChildEvent) (e : ChildEvent) (i : ℕ) (well : Bool) → (about e ≡ i → ⊥) → Contains (events ++ e ∷ []) (Done i well) → Contains events (Done i well)
-done_old events e i well other c = elim (Contains-push_cases events e (Done i well) c) [ inl d ↦ d | inr f ↦ absurd (other (ap about f)) ]
-
-pub done_not_new : (events : List ChildEvent) (i k : ℕ) (well : Bool) → Contains (events ++ Start i ∷ []) (Done k well) → Contains events (Done k well)
-done_not_new events i k well c = elim (Contains-push_cases events (Start i) (Done k well) c) [ inl d ↦ d | inr f ↦ absurd (let g : Start i ≡ Done k well = f in cc) ]
-
-pub start_not_new : (events : List ChildEvent) (i k : ℕ) (well : Bool) → Contains (events ++ Done i well ∷ []) (Start k) → Contains events (Start k)
-start_not_new events i k well c = elim (Contains-push_cases events (Done i well) (Start k) c) [ inl d ↦ d | inr f ↦ absurd (let g : Done i well ≡ Start k = f in cc) ]
-
-pub run_grows : (u : Update) (before events : List ChildEvent) (e : ChildEvent) → RunFrom u before events → MayCome u (before ++ events) e → RunFrom u before (events ++ e ∷ [])
-run_grows u before [] e r may = (subst (λ z. MayCome u z e) (append-nil before) may, tt)
-run_grows u before (x ∷ events) e (m, r) may = (m, run_grows u (before ++ x ∷ []) events e r (subst (λ z. MayCome u z e) (sym (append_assoc before (x ∷ []) events)) may))
-
-pub count_one : (p : ChildEvent → Bool) (events : List ChildEvent) (e : ChildEvent) → count_by p (events ++ e ∷ []) ≡ count_by p events + cond (p e) 1 0
-count_one p events e = let f = sum_by-append (λ x. cond (p x) 1 0) events (e ∷ []) in omega arith
-
-zip_push : {A B : Type 0} (R : A → B → Type 0) (xs : List A) (ys : List B) (x : A) (y : B) → AllZip R xs ys → R x y → AllZip R (xs ++ x ∷ []) (ys ++ y ∷ [])
-zip_push R [] [] x y z r = (r, tt)
-zip_push R [] (b ∷ ys) x y z r = absurd z
-zip_push R (a ∷ xs) [] x y z r = absurd z
-zip_push R (a ∷ xs) (b ∷ ys) x y (h, t) r = (h, zip_push R xs ys x y t r)
-
-pub fed_start : (u : Update) (events : List ChildEvent) (given : List Given) (i : ℕ) (g : Given) → AreFed u events given → IsFed u i g → AreFed u (events ++ Start i ∷ []) (given ++ g ∷ [])
-fed_start u events given i g f new = subst (λ l. AllZip (IsFed u) l (given ++ g ∷ [])) (sym (filter_map-append started events (Start i ∷ []))) (zip_push (IsFed u) (filter_map started events) given i g f new)
-
-pub fed_done : (u : Update) (events : List ChildEvent) (given : List Given) (i : ℕ) (well : Bool) → AreFed u events given → AreFed u (events ++ Done i well ∷ []) given
-fed_done u events given i well f = subst (λ l. AllZip (IsFed u) l given) (sym (filter_map-append started events (Done i well ∷ []) ∙ append-nil (filter_map started events))) f
+-- ---- outcomes by numbers
 
 -- an outcome stands at each number up to the length, and at no other
 pub outcome_within : (list : List Outcome) (i : ℕ) (o : Outcome) → outcome_at list i ≡ Some o → (0 < i) × (i ≤ length list)
@@ -91,8 +64,14 @@ pub outcome_old : (list : List Outcome) (new : Outcome) (i : ℕ) (o : Outcome) 
 outcome_old list new zero o e = e
 outcome_old list new (suc place) o e = get_old list new place o e
 
-pub one_step : (u : Update) (i : ℕ) (step other : Step) → step_at u.build.steps i ≡ Some step → step_at u.build.steps i ≡ Some other → step ≡ other
-one_step u i step other a b = let e : Some step ≡ Some other = sym a ∙ b in cc
+pub outcome_new : (list : List Outcome) (o : Outcome) → outcome_at (list ++ o ∷ []) (length list + 1) ≡ Some o
+outcome_new list o = let one : suc (length list) ≡ length list + 1 = omega arith in subst (λ k. outcome_at (list ++ o ∷ []) k ≡ Some o) one (get_new list o)
+  where
+    get_new : (xs : List Outcome) (y : Outcome) → slice_get (xs ++ y ∷ []) (length xs) ≡ Some y
+    get_new [] y = refl
+    get_new (z ∷ xs) y = get_new xs y
+
+-- ---- what is needed, settled and can start
 
 -- Each step is needed, since it has an output, and all outputs are wanted.
 pub all_needed : (u : Update) → IsWhole u → (events : List ChildEvent) (i : ℕ) (step : Step) → step_at u.build.steps i ≡ Some step → Needed u events i
@@ -101,206 +80,170 @@ all_needed u w events i step at =
     let makes : Makes u.build.steps i step path = record { at = at; among = c } in
     wanted i step path (w.plain.all_wanted i step path makes) makes
 
+-- where all is to run, no step is fresh
+pub none_fresh : (u : Update) → IsWhole u → (events : List ChildEvent) (step : Step) (members : List (List ℕ × Value)) → IsFresh u events step members → ⊥
+none_fresh u w events step members f = let e : true ≡ false = sym w.all ∙ f.not_all in cc
+
+-- where judging is by stamps, digests tell apart all that they are asked to
+pub by_stamp : (u : Update) → IsWhole u → (disk : Disk) → Distinguishes u disk.past
+by_stamp u w disk on = absurd (w.by_stamp on)
+
 -- an output of a step that was not done well is not settled
 pub not_settled : (u : Update) → IsWhole u → (events : List ChildEvent) (i : ℕ) (step : Step) (path : List ℕ) → Makes u.build.steps i step path → (Contains events (Done i true) → ⊥) → Settled u events path → ⊥
 not_settled u w events i step path makes not_well (source p bytes s) = s.outside (w.apart.under_root i step p makes)
 not_settled u w events i step path makes not_well (done_well k other p makes_k done) = not_well (subst (λ j. Contains events (Done j true)) (w.apart.one_maker k i other step p makes_k makes) done)
-not_settled u w events i step path makes not_well (fresh k other p members makes_k not_started close inside stale) = let e : true ≡ false = sym (w.stale events k members) ∙ stale in cc
+not_settled u w events i step path makes not_well (fresh k other p members makes_k not_started close inside f) = none_fresh u w events other members f
 
--- what is settled is a source or an output
-settled_given : (u : Update) (events : List ChildEvent) (path : List ℕ) → Settled u events path → IsGiven u.build path
-settled_given u events path (source p bytes s) = inl (bytes, s)
-settled_given u events path (done_well k other p makes done) = inr (k, other, makes)
-settled_given u events path (fresh k other p members makes ns close inside stale) = inr (k, other, makes)
+-- a step that was done badly, or was skipped, was not done well
+pub not_well : (u : Update) (old : Family) (list : List Outcome) (events : List ChildEvent) (fam : Family) (disk : Disk) → IsUnderWay u old list events fam disk
+    → (k : ℕ) → (outcome_at list k ≡ Some outcomes.Failed) ⊎ (outcome_at list k ≡ Some outcomes.Skipped) → Contains events (Done k true) → ⊥
+not_well u old list events fam disk core k (inl failed) done = let e : true ≡ false = done_once u events k true false core.run done (core.became k outcomes.Failed failed) in cc
+not_well u old list events fam disk core k (inr skipped) done = (core.became k outcomes.Skipped skipped).not_started (done_was_started u events k true core.run done)
 
--- a member of a step that was skipped is not settled
-pub skipped_unsettled : (u : Update) → IsWhole u → (old : Family) (list : List Outcome) (events : List ChildEvent) (new : Family) (now : Folder) → IsUnderWay u old list events new now → (i : ℕ) → (s : WasSkipped u events list i) → Settled u events s.path → ⊥
-skipped_unsettled u w old list events new now core i s settled = elim s.why [
+-- an input for which a step was skipped is not settled
+pub skipped_unsettled : (u : Update) → IsWhole u → (old : Family) (list : List Outcome) (events : List ChildEvent) (fam : Family) (disk : Disk) → IsUnderWay u old list events fam disk
+    → (i : ℕ) → (s : WasSkipped u events list i) → Settled u events s.path → ⊥
+skipped_unsettled u w old list events fam disk core i s settled = elim s.why [
   | inl missing ↦ missing (settled_given u events s.path settled)
-  | inr (k, other, makes, why) ↦ not_settled u w events k other s.path makes
-      (λ done. elim why [
-        | inl failed ↦ (core.became k outcomes.Failed failed).not_well done
-        | inr skipped ↦ (core.became k outcomes.Skipped skipped).not_started (core.begun k true done)
-      ]) settled
+  | inr (k, other, makes, why) ↦ not_settled u w events k other s.path makes (not_well u old list events fam disk core k why) settled
 ]
 
 -- a step that was started, or skipped, cannot start
-pub cannot_start : (u : Update) → IsWhole u → (old : Family) (list : List Outcome) (events : List ChildEvent) (new : Family) (now : Folder) → IsUnderWay u old list events new now → (k : ℕ) → k ≤ length list → CanStart u events k → ⊥
-cannot_start u w old list events new now core zero h can = let e : None ≡ Some can.step = can.at in cc
-cannot_start u w old list events new now core (suc place) h can =
+pub cannot_start : (u : Update) → IsWhole u → (old : Family) (list : List Outcome) (events : List ChildEvent) (fam : Family) (disk : Disk) → IsUnderWay u old list events fam disk → (k : ℕ) → k ≤ length list → CanStart u events k → ⊥
+cannot_start u w old list events fam disk core zero h can = let e : None ≡ Some can.step = can.at in cc
+cannot_start u w old list events fam disk core (suc place) h can =
     let (o, at) = outcome_some list (suc place) (omega arith) h in go o (core.became (suc place) o at)
   where
-    go : (o : Outcome) → Became u events now list (suc place) o → ⊥
-    go outcomes.Settled b = can.not_started b.started
-    go outcomes.Failed b = can.not_started b.started
+    go : (o : Outcome) → Became u events list (suc place) o → ⊥
+    go outcomes.Settled b = can.not_started (done_was_started u events (suc place) true core.run b)
+    go outcomes.Failed b = can.not_started (done_was_started u events (suc place) false core.run b)
     go outcomes.Skipped b =
-        let same : b.step ≡ can.step = one_step u (suc place) b.step can.step b.at can.at in
+        let same : b.step ≡ can.step = one_step u.build.steps (suc place) b.step can.step b.at can.at in
         let (value, inside) = can.close.whole b.path (input b.path (subst (λ (s : Step). Contains s.ins b.path) same b.among)) in
-        skipped_unsettled u w old list events new now core (suc place) b (can.close.each b.path value inside).1.0
-
--- An input that can be read is settled, and stands with its bytes of the clean build.
-pub record IsReadyInput (u : Update) (events : List ChildEvent) (now : Folder) (rank : ℕ) (path : List ℕ) : Type 0 where
-  pub settled : Settled u events path
-  pub made : IsMade u.build now rank path
-
-pub ready_input : (u : Update) (made : Made) (old : Family) (list : List Outcome) (events : List ChildEvent) (new : Family) (now : Folder) (number : ℕ) (step : Step) → IsDue u made list number step → IsUnderWay u old list events new now
-    → (path : List ℕ) → Contains step.ins path → IsReadyInput u events now (length list) path
-ready_input u made old list events new now number step due core path c = elim (due.ready path c) [
-  | inl (bytes, s) ↦ record {
-    settled = source path bytes s;
-    made = record {
-      bytes = bytes;
-      value = val_le u due.whole 0 (length list) (omega arith) path (Some bytes) (bytes, s, refl);
-      stands = ap (option_map (λ (x : File). x.bytes)) (core.changed path (λ i other start makes. s.outside (due.whole.apart.under_root i other path makes))) ∙ s.stands;
-    };
-  }
-  | inr (k, other, makes, settled) ↦
-      let b = core.became k outcomes.Settled settled in
-      let left = b.left other path makes in
-      record {
-        settled = done_well k other path makes b.done;
-        made = record { bytes = left.bytes; value = val_le u due.whole k (length list) (outcome_within list k outcomes.Settled settled).1 path (Some left.bytes) left.value; stands = left.stands };
-      }
-]
-
--- the clean build's value, of what stands ready
-ready_value : (u : Update) → IsWhole u → (events : List ChildEvent) (now : Folder) (n m : ℕ) → n ≤ m → (path : List ℕ) → IsReadyInput u events now n path → Val u.build m path (bytes_at now path)
-ready_value u w events now n m h path r = subst (λ z. Val u.build m path z) (sym r.made.stands) (val_le u w n m h path (Some r.made.bytes) r.made.value)
-
--- a step of the plan has a number up to the length
-pub step_within : (steps : List Step) (place : ℕ) (step : Step) → step_at steps (suc place) ≡ Some step → place < length steps
-step_within steps place step at = slice_get_within steps place step at
-
--- the closure of a step that is ready
-pub ready_close : (u : Update) → IsWhole u → (events : List ChildEvent) (now : Folder) (n m : ℕ) → n ≤ m → (step : Step) (ins : List (List ℕ)) → AllPairs Before ins → ((path : List ℕ) → Contains ins path ↔ Contains step.ins path)
-    → ((path : List ℕ) → Contains step.ins path → IsReadyInput u events now n path) → IsClose u.build (Val u.build m) step (members_of now ins)
-ready_close u w events now n m h step ins rising same ready = close_of u w (Val u.build m) step now ins rising same (λ path c. ready_value u w events now n m h path (ready path c))
-
--- the next step may start
-pub may_start : (u : Update) → IsWhole u → (old : Family) (list : List Outcome) (events : List ChildEvent) (new : Family) (now : Folder) → IsUnderWay u old list events new now → count_by is_start events ≡ count_by is_done events
-    → ((i : ℕ) → Contains events (Start i) → i ≤ length list) → (step : Step) → step_at u.build.steps (length list + 1) ≡ Some step → (ins : List (List ℕ)) → AllPairs Before ins → ((path : List ℕ) → Contains ins path ↔ Contains step.ins path)
-    → ((path : List ℕ) → Contains step.ins path → IsReadyInput u events now (length list) path) → MayCome u events (Start (length list + 1))
-may_start u w old list events new now core even within step at ins rising same ready = (
-  record {
-    step = step;
-    at = at;
-    needed = all_needed u w events (length list + 1) step at;
-    not_started = λ c. let h = within (length list + 1) c in omega arith;
-    members = members_of now ins;
-    close = close_of u w (on_settled u events) step now ins rising same (λ path c. ((ready path c).settled, ready_value u w events now (length list) (length u.build.steps) short path (ready path c)));
-    stale = w.stale events (length list + 1) (members_of now ins);
-    room = (let j = w.one in omega arith);
-    goes_on = λ quits. absurd (let e : false ≡ true = sym w.goes_on ∙ quits in cc);
-  },
-  λ k less. cannot_start u w old list events new now core k (omega arith),
-)
-  where
-    short : length list ≤ length u.build.steps
-    short = let one : length list + 1 ≡ suc (length list) = omega arith in
-        let h : length list < length u.build.steps = step_within u.build.steps (length list) step (subst (λ k. step_at u.build.steps k ≡ Some step) one at) in omega arith
+        skipped_unsettled u w old list events fam disk core (suc place) b (can.close.each b.path value inside).1.0
 
 -- while one step is open, none can start
 pub none_starts : (u : Update) → IsWhole u → (events : List ChildEvent) → count_by is_start events ≡ count_by is_done events + 1 → (k : ℕ) → CanStart u events k → ⊥
 none_starts u w events odd k can = let r = can.room in let j = w.one in omega arith
 
--- What a step's outputs become changes nothing of the other steps.
-pub under_drift : (u : Update) → IsWhole u → (old : Family) (list : List Outcome) (events : List ChildEvent) (new : Family) (now later : Folder) (i : ℕ) (step : Step) → step_at u.build.steps i ≡ Some step → Contains events (Start i) → length list < i
-    → ((path : List ℕ) → (Contains step.outs path → ⊥) → later path ≡ now path) → IsUnderWay u old list events new now → IsUnderWay u old list events new later
-under_drift u w old list events new now later i step at started after others core = record {
+-- An input that can be read is settled, and stands with its bytes of the clean build.
+pub record IsReadyInput (u : Update) (events : List ChildEvent) (now : Folder) (path : List ℕ) : Type 0 where
+  pub settled : Settled u events path
+  pub bytes : List ℕ
+  pub clean : Clean u.build path (Some bytes)
+  pub stands : bytes_at now path ≡ Some bytes
+
+pub ready_input : (u : Update) (made : Made) (old : Family) (list : List Outcome) (events : List ChildEvent) (fam : Family) (disk : Disk) (number : ℕ) (step : Step) → IsDue u made list number step → IsUnderWay u old list events fam disk
+    → (path : List ℕ) → Contains step.ins path → IsReadyInput u events disk.now path
+ready_input u made old list events fam disk number step due core path c = elim (due.ready path c) [
+  | inl (bytes, s) ↦
+      let clean = source_clean u.build due.whole.apart path bytes s in
+      record { settled = source path bytes s; bytes = bytes; clean = clean; stands = settled_holds u events disk due.whole.apart core.sound path (Some bytes) (source path bytes s) clean }
+  | inr (k, other, makes, done) ↦
+      let settled : Settled u events path = done_well k other path makes (core.became k outcomes.Settled done) in
+      let (value, clean, holds) = settled_is_clean u events disk path due.whole.apart core.sound settled in
+      let (bytes, e) = out_bytes u.build due.whole.apart (length u.build.steps) k other path value makes (due.whole.plain.leaves_files k other makes.at) clean in
+      record { settled = settled; bytes = bytes; clean = subst (Clean u.build path) e clean; stands = subst (Holds disk.now path) e holds }
+]
+
+-- the closure of a step whose inputs can be read: its inputs with their bytes
+pub ready_close : (u : Update) → IsWhole u → (events : List ChildEvent) (now : Folder) (step : Step) (ins : List (List ℕ)) → AllPairs Before ins → ((path : List ℕ) → Contains ins path ↔ Contains step.ins path)
+    → ((path : List ℕ) → Contains step.ins path → IsReadyInput u events now path) → IsClose u.build (on_settled u events) step (members_of now ins)
+ready_close u w events now step ins rising same ready = close_of u w (on_settled u events) step now ins rising same (λ path c. let r = ready path c in (r.settled, subst (Clean u.build path) (sym r.stands) r.clean))
+
+-- ---- an update goes on
+
+given_more : (before now : Option (List Given)) (given : List Given) (g : Given) → IfSome before (λ list. now ≡ Some (list ++ given)) → IfSome before (λ list. one_more now (Some g) ≡ Some (list ++ (given ++ g ∷ [])))
+given_more None now given g a = tt
+given_more (Some list) now given g a = ap (λ z. one_more z (Some g)) a ∙ ap Some (append_assoc list given (g ∷ []))
+
+-- an event about a later step leaves the outcomes
+became_start : (u : Update) (events : List ChildEvent) (list : List Outcome) (i k : ℕ) (o : Outcome) → (i ≡ k → ⊥) → Became u events list k o → Became u (events ++ Start i ∷ []) list k o
+became_start u events list i k outcomes.Settled other b = Contains-append_left events (Start i ∷ []) (Done k true) b
+became_start u events list i k outcomes.Failed other b = Contains-append_left events (Start i ∷ []) (Done k false) b
+became_start u events list i k outcomes.Skipped other b = record { not_started = λ c. elim (start_in_start events i k c) [ inl d ↦ b.not_started d | inr e ↦ other e ]; step = b.step; at = b.at; path = b.path; among = b.among; why = b.why }
+
+became_done : (u : Update) (events : List ChildEvent) (list : List Outcome) (i k : ℕ) (well : Bool) (o : Outcome) → Became u events list k o → Became u (events ++ Done i well ∷ []) list k o
+became_done u events list i k well outcomes.Settled b = Contains-append_left events (Done i well ∷ []) (Done k true) b
+became_done u events list i k well outcomes.Failed b = Contains-append_left events (Done i well ∷ []) (Done k false) b
+became_done u events list i k well outcomes.Skipped b = record { not_started = λ c. b.not_started (start_in_done events i k well c); step = b.step; at = b.at; path = b.path; among = b.among; why = b.why }
+
+-- a later step has started
+pub under_start : (u : Update) → IsWhole u → (old : Family) (list : List Outcome) (events : List ChildEvent) (fam : Family) (disk : Disk) (i : ℕ) → length list < i → IsUnderWay u old list events fam disk
+    → (can : CanStart u events i) → ((k : ℕ) → k < i → CanStart u events k → ⊥) → IsUnderWay u old list (events ++ Start i ∷ []) (after_start i can.step.text (paths_with_bytes can.members) can.step.outs (Some disk) fam) disk
+under_start u w old list events fam disk i later core can lowest = record {
+  events_are = ap (λ l. l ++ Start i ∷ []) core.events_are ∙ append_assoc old.events events (Start i ∷ []);
+  given = core.given ++ start_gives u events i can disk ∷ [];
+  given_are = given_more old.given fam.given core.given (start_gives u events i can disk) core.given_are;
+  run = run_goes_on u events (Start i) core.run (can, lowest);
+  fed = fed_after_start u events core.given i (start_gives u events i can disk) core.fed (start_is_fed u events disk i can w.apart core.sound);
+  at_work = at_work_after_start u events disk fam i can w.apart core.run core.sound core.at_work;
+  sound = sound_after_start u events disk i core.sound;
+  log = core.log;
+  became = λ k o e. became_start u events list i k o (λ same. let h = (outcome_within list k o e).1 in omega arith) (core.became k o e);
+}
+
+-- a drift leaves the log, where the steps that run or failed do not write it
+pub under_drift : (u : Update) → IsWhole u → (old : Family) (list : List Outcome) (events : List ChildEvent) (fam : Family) (before after : Disk) → Drifts u events before after → after.now log_path ≡ before.now log_path
+    → IsUnderWay u old list events fam before → IsUnderWay u old list events fam after
+under_drift u w old list events fam before after drifts log core = record {
   events_are = core.events_are;
   given = core.given;
   given_are = core.given_are;
   run = core.run;
-  begun = core.begun;
   fed = core.fed;
-  changed = λ path none. others path (λ c. none i step started (record { at = at; among = c })) ∙ core.changed path none;
-  became = λ k o e. stay k o (outcome_within list k o e).1 (core.became k o e);
-}
-  where
-    apart : (k : ℕ) → k ≤ length list → (other : Step) (path : List ℕ) → Makes u.build.steps k other path → later path ≡ now path
-    apart k h other path makes = others path (λ c. let e : k ≡ i = w.apart.one_maker k i other step path makes (record { at = at; among = c }) in omega arith)
-
-    stay : (k : ℕ) (o : Outcome) → k ≤ length list → Became u events now list k o → Became u events later list k o
-    stay k outcomes.Settled h b = record {
-      started = b.started;
-      done = b.done;
-      not_badly = b.not_badly;
-      left = λ other path makes. let m = b.left other path makes in record { bytes = m.bytes; value = m.value; stands = ap (option_map (λ (x : File). x.bytes)) (apart k h other path makes) ∙ m.stands };
-    }
-    stay k outcomes.Failed h b = record { started = b.started; done = b.done; not_well = b.not_well; gone = λ other path makes. apart k h other path makes ∙ b.gone other path makes }
-    stay k outcomes.Skipped h b = b
-
--- an event about a later step leaves the outcomes
-became_grows : (u : Update) (events : List ChildEvent) (now : Folder) (list : List Outcome) (e : ChildEvent) (k : ℕ) (o : Outcome) → (about e ≡ k → ⊥) → Became u events now list k o → Became u (events ++ e ∷ []) now list k o
-became_grows u events now list e k outcomes.Settled other b = record {
-  started = Contains-append_left events (e ∷ []) (Start k) b.started;
-  done = Contains-append_left events (e ∷ []) (Done k true) b.done;
-  not_badly = λ c. b.not_badly (done_old events e k false other c);
-  left = b.left;
-}
-became_grows u events now list e k outcomes.Failed other b = record {
-  started = Contains-append_left events (e ∷ []) (Start k) b.started;
-  done = Contains-append_left events (e ∷ []) (Done k false) b.done;
-  not_well = λ c. b.not_well (done_old events e k true other c);
-  gone = b.gone;
-}
-became_grows u events now list e k outcomes.Skipped other b = record { not_started = λ c. b.not_started (start_old events e k other c); step = b.step; at = b.at; path = b.path; among = b.among; why = b.why }
-
-changed_grows : (u : Update) (events : List ChildEvent) (e : ChildEvent) (before now : Folder) → OnlyOutputsChange u events before now → OnlyOutputsChange u (events ++ e ∷ []) before now
-changed_grows u events e before now changed path none = changed path (λ i step c. none i step (Contains-append_left events (e ∷ []) (Start i) c))
-
-given_more : (before now : Option (List Given)) (given : List Given) (g : Given) (next : Option (List Given)) → IfSome before (λ list. now ≡ Some (list ++ given)) → ((list : List Given) → now ≡ Some list → next ≡ Some (list ++ g ∷ [])) → IfSome before (λ list. next ≡ Some (list ++ (given ++ g ∷ [])))
-given_more None now given g next a f = tt
-given_more (Some list) now given g next a f = f (list ++ given) a ∙ ap Some (append_assoc list given (g ∷ []))
-
--- the next step has started
-pub under_start : (u : Update) (old : Family) (list : List Outcome) (events : List ChildEvent) (new next : Family) (now : Folder) (i : ℕ) (g : Given) → length list < i → IsUnderWay u old list events new now → MayCome u events (Start i) → IsFed u i g
-    → next.events ≡ new.events ++ Start i ∷ [] → ((list : List Given) → new.given ≡ Some list → next.given ≡ Some (list ++ g ∷ [])) → IsUnderWay u old list (events ++ Start i ∷ []) next now
-under_start u old list events new next now i g after core may fed events_next given_next = record {
-  events_are = events_next ∙ ap (λ l. l ++ Start i ∷ []) core.events_are ∙ append_assoc old.events events (Start i ∷ []);
-  given = core.given ++ g ∷ [];
-  given_are = given_more old.given new.given core.given g next.given core.given_are given_next;
-  run = run_grows u [] events (Start i) core.run may;
-  begun = λ k well c. Contains-append_left events (Start i ∷ []) (Start k) (core.begun k well (done_not_new events i k well c));
-  fed = fed_start u events core.given i g core.fed fed;
-  changed = changed_grows u events (Start i) u.build.folder now core.changed;
-  became = λ k o e. became_grows u events now list (Start i) k o (λ same. let h = (outcome_within list k o e).1 in omega arith) (core.became k o e);
+  at_work = core.at_work;
+  sound = sound_after_drift u events before after w.apart core.sound drifts (by_stamp u w after);
+  log = log ∙ core.log;
+  became = core.became;
 }
 
--- it has ended
-pub under_done : (u : Update) (old : Family) (list : List Outcome) (events : List ChildEvent) (new next : Family) (now : Folder) (i : ℕ) (well : Bool) → length list < i → IsUnderWay u old list events new now → MayCome u events (Done i well)
-    → next.events ≡ new.events ++ Done i well ∷ [] → next.given ≡ new.given → IsUnderWay u old list (events ++ Done i well ∷ []) next now
-under_done u old list events new next now i well after core may events_next given_next = record {
-  events_are = events_next ∙ ap (λ l. l ++ Done i well ∷ []) core.events_are ∙ append_assoc old.events events (Done i well ∷ []);
+-- children at work do not write the log
+log_stays : (u : Update) → IsWhole u → (old : Family) (list : List Outcome) (events : List ChildEvent) (fam : Family) (before after : Disk) → IsUnderWay u old list events fam before → ChangesOnlyOutputs fam.running before after → after.now log_path ≡ before.now log_path
+log_stays u w old list events fam before after core worked = worked.others log_path (λ x.
+    let a : IsAtWork u events x.child = core.at_work.each x.child x.runs in
+    w.apart.not_log x.child.step a.fed.step (record { at = a.fed.at; among = subst (λ outs. Contains outs log_path) (a.outs ∙ a.fed.outs) x.out }))
+
+-- children have worked
+pub under_work : (u : Update) → IsWhole u → (old : Family) (list : List Outcome) (events : List ChildEvent) (fam : Family) (before after : Disk) → IsConsistent after → IsUnderWay u old list events fam before
+    → ChangesOnlyOutputs fam.running before after → IsUnderWay u old list events fam after
+under_work u w old list events fam before after consistent core worked =
+    under_drift u w old list events fam before after (work_drifts u events fam.running before after core.at_work consistent worked) (log_stays u w old list events fam before after core worked) core
+
+-- a child has ended
+pub under_done : (u : Update) → IsWhole u → (old : Family) (list : List Outcome) (events : List ChildEvent) (fam new : Family) (before after : Disk) (i : ℕ) (well : Bool) → IsConsistent after → IsUnderWay u old list events fam before
+    → count_by is_start events ≡ count_by is_done events + 1 → Ends u.build.made fam (Some before) i well new (Some after) → IsUnderWay u old list (events ++ Done i well ∷ []) new after
+under_done u w old list events fam new before after i well consistent core odd ends = record {
+  events_are = ends.events ∙ ap (λ l. l ++ Done i well ∷ []) core.events_are ∙ append_assoc old.events events (Done i well ∷ []);
   given = core.given;
-  given_are = subst (λ z. IfSome old.given (λ before. z ≡ Some (before ++ core.given))) (sym given_next) core.given_are;
-  run = run_grows u [] events (Done i well) core.run may;
-  begun = λ k w c. elim (Contains-push_cases events (Done i well) (Done k w) c) [
-    | inl d ↦ Contains-append_left events (Done i well ∷ []) (Start k) (core.begun k w d)
-    | inr f ↦ Contains-append_left events (Done i well ∷ []) (Start k) (subst (λ j. Contains events (Start j)) (ap about f) may.0.0)
-  ];
-  fed = fed_done u events core.given i well core.fed;
-  changed = changed_grows u events (Done i well) u.build.folder now core.changed;
-  became = λ k o e. became_grows u events now list (Done i well) k o (λ same. let h = (outcome_within list k o e).1 in omega arith) (core.became k o e);
+  given_are = subst (λ z. IfSome old.given (λ list. z ≡ Some (list ++ core.given))) (sym ends.given) core.given_are;
+  run = run_goes_on u events (Done i well) core.run (end_is_open u events fam new before after i well core.at_work ends, none_starts u w events odd);
+  fed = fed_after_end u events core.given i well core.fed;
+  at_work = at_work_after_end u events fam new before after i well core.at_work ends;
+  sound = sound_after_end u events fam new before after i well w.apart core.at_work core.sound consistent ends (by_stamp u w after);
+  log = log_stays u w old list events fam before after core ends.worked ∙ core.log;
+  became = λ k o e. became_done u events list i k well o (core.became k o e);
 }
 
 -- what became of the next step is known
-pub under_outcome : (u : Update) (old : Family) (list : List Outcome) (events : List ChildEvent) (new : Family) (now : Folder) (o : Outcome) → IsUnderWay u old list events new now → Became u events now (list ++ o ∷ []) (length list + 1) o → IsUnderWay u old (list ++ o ∷ []) events new now
-under_outcome u old list events new now o core new_became = record {
+pub under_outcome : (u : Update) (old : Family) (list : List Outcome) (events : List ChildEvent) (fam : Family) (disk : Disk) (o : Outcome) → IsUnderWay u old list events fam disk → Became u events (list ++ o ∷ []) (length list + 1) o
+    → IsUnderWay u old (list ++ o ∷ []) events fam disk
+under_outcome u old list events fam disk o core new_became = record {
   events_are = core.events_are;
   given = core.given;
   given_are = core.given_are;
   run = core.run;
-  begun = core.begun;
   fed = core.fed;
-  changed = core.changed;
+  at_work = core.at_work;
+  sound = core.sound;
+  log = core.log;
   became = λ k x e. elim (outcome_push list o k x e) [
     | inl at ↦ keep k x (core.became k x at)
-    | inr (place, same) ↦ subst₂ (λ j z. Became u events now (list ++ o ∷ []) j z) (sym place) same new_became
+    | inr (place, same) ↦ subst₂ (λ j z. Became u events (list ++ o ∷ []) j z) (sym place) same new_became
   ];
 }
   where
-    keep : (k : ℕ) (x : Outcome) → Became u events now list k x → Became u events now (list ++ o ∷ []) k x
+    keep : (k : ℕ) (x : Outcome) → Became u events list k x → Became u events (list ++ o ∷ []) k x
     keep k outcomes.Settled b = b
     keep k outcomes.Failed b = b
     keep k outcomes.Skipped b = record {

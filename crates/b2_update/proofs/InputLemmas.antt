@@ -8,9 +8,10 @@ use Rattle.b2_plan.specs.declared.step.Step.{Step}
 use Rattle.b2_plan.specs.Plans.{step_at, maker_of}
 use Rattle.b2_plan.specs.Sources.{Build, IsInRoots, IsSource, IsMissing}
 use Rattle.b2_plan.specs.Closures.{Before}
-use Rattle.b2_update.specs.Inputs.{IsInput, IsMissingInput}
-use Rattle.b2_update.specs.Outcomes.{ArePathsOf}
-use Rattle.b2_update.proofs.ListLemmas.{taken_more, taken_old, taken_new, Contains-nil, Contains-cases, AllPairs-head, AllPairs-tail}
+use Rattle.b2_runs.specs.Outcomes.{ArePathsOf}
+use Rattle.b2_runs.proofs.ElementLemmas.{Contains_nil, Contains_cases, AllPairs_head, AllPairs_tail}
+use Rattle.b2_update.specs.Inputs.{IsStepInput, IsMissingInput}
+use Rattle.b2_update.proofs.ListLemmas.{taken_more, taken_old, taken_new}
 use Rattle.b2_update.proofs.MakerLemmas.{maker_makes, none_makes}
 
 -- what is told of a disk, where it is told
@@ -43,10 +44,6 @@ source_stands b path stamp outside told = go (b.folder path) refl
 pub stat_source : (b : Build) (path : List ℕ) (stamp : Option ℕ) (answer : Bool) → (IsInRoots b.roots path → ⊥) → StatTold path stamp b.folder → answer ≡ is_some stamp → IsTrue answer ↔ ((bytes : List ℕ) × IsSource b path bytes)
 stat_source b path stamp answer outside told e = subst (λ a. IsTrue a ↔ ((bytes : List ℕ) × IsSource b path bytes)) (sym e) (source_stands b path stamp outside told)
 
--- what lies under a root is no source
-pub root_source : (b : Build) (path : List ℕ) → IsInRoots b.roots path → IsTrue false ↔ ((bytes : List ℕ) × IsSource b path bytes)
-root_source b path inside = (λ t. absurd (let f : false ≡ true = t in cc), λ (bytes, s). absurd (s.outside inside))
-
 -- what a step makes is not missing
 pub made_given : (b : Build) (path : List ℕ) (maker : Option ℕ) → maker ≡ maker_of b.steps path → IsTrue (is_some maker) → IsTrue false ↔ IsMissing b path
 made_given b path None e some = absurd (let f : false ≡ true = some in cc)
@@ -67,10 +64,10 @@ source_given b path None false e none h = (
 -- what is among the first few stands before the next
 taken_before : (paths : List (List ℕ)) (i : ℕ) (d x : List ℕ) → i < length paths → AllPairs Before paths → Contains (take i paths) x → Before x (get_or paths i d)
 taken_before [] i d x h rising c = absurd (omega arith)
-taken_before (p ∷ paths) zero d x h rising c = absurd (Contains-nil x c)
-taken_before (p ∷ paths) (suc i) d x h rising c = elim (Contains-cases p x (take i paths) c) [
-  | inl e ↦ subst (λ z. Before z (get_or paths i d)) e (AllPairs-head Before p (get_or paths i d) paths rising (Contains-get_or paths i d (omega arith)))
-  | inr b ↦ taken_before paths i d x (omega arith) (AllPairs-tail Before p paths rising) b
+taken_before (p ∷ paths) zero d x h rising c = absurd (Contains_nil x c)
+taken_before (p ∷ paths) (suc i) d x h rising c = elim (Contains_cases p x (take i paths) c) [
+  | inl e ↦ subst (λ z. Before z (get_or paths i d)) e (AllPairs_head Before p (get_or paths i d) paths rising (Contains-get_or paths i d (omega arith)))
+  | inr b ↦ taken_before paths i d x (omega arith) (AllPairs_tail Before p paths rising) b
 ]
 
 -- a path more is looked at
@@ -106,34 +103,27 @@ number_new : (steps : List Step) (step : Step) → step_at (steps ++ step ∷ []
 number_new steps step = get_new steps step
 
 -- the steps from the first on, and one more
-input_push : (steps : List Step) (step : Step) (path : List ℕ) → IsInput (steps ++ step ∷ []) path ↔ (IsInput steps path ⊎ Contains step.ins path)
+input_push : (steps : List Step) (step : Step) (path : List ℕ) → IsStepInput (steps ++ step ∷ []) path ↔ (IsStepInput steps path ⊎ Contains step.ins path)
 input_push steps step path = (there, back)
   where
-    there : IsInput (steps ++ step ∷ []) path → IsInput steps path ⊎ Contains step.ins path
+    there : IsStepInput (steps ++ step ∷ []) path → IsStepInput steps path ⊎ Contains step.ins path
     there i = elim (number_push steps step i.number i.step i.at) [
       | inl at ↦ inl (record { number = i.number; step = i.step; at = at; among = i.among })
       | inr same ↦ inr (subst (λ (s : Step). Contains s.ins path) (sym same) i.among)
     ]
 
-    back : IsInput steps path ⊎ Contains step.ins path → IsInput (steps ++ step ∷ []) path
+    back : IsStepInput steps path ⊎ Contains step.ins path → IsStepInput (steps ++ step ∷ []) path
     back (inl i) = record { number = i.number; step = i.step; at = number_old steps step i.number i.step i.at; among = i.among }
     back (inr c) = record { number = suc (length steps); step = step; at = number_new steps step; among = c }
 
-pub input_more : (steps : List Step) (i : ℕ) (d : Step) (old new : List (List ℕ)) → i < length steps → new ≡ old ++ (get_or steps i d).ins → ((path : List ℕ) → Contains old path ↔ IsInput (take i steps) path) → (path : List ℕ) → Contains new path ↔ IsInput (take (i + 1) steps) path
+pub input_more : (steps : List Step) (i : ℕ) (d : Step) (old new : List (List ℕ)) → i < length steps → new ≡ old ++ (get_or steps i d).ins → ((path : List ℕ) → Contains old path ↔ IsStepInput (take i steps) path) → (path : List ℕ) → Contains new path ↔ IsStepInput (take (i + 1) steps) path
 input_more steps i d old new h e so_far path =
     let step = get_or steps i d in
     let all = input_push (take i steps) step path in
-    subst₂ (λ l t. Contains l path ↔ IsInput t path) (sym e) (sym (take_more steps i d h)) (
+    subst₂ (λ l t. Contains l path ↔ IsStepInput t path) (sym e) (sym (take_more steps i d h)) (
       λ c. elim (Contains-append_cases old step.ins path c) [ inl a ↦ all.1 (inl ((so_far path).0 a)) | inr b ↦ all.1 (inr b) ],
       λ i. elim (all.0 i) [ inl a ↦ Contains-append_left old step.ins path ((so_far path).1 a) | inr b ↦ Contains-append_right old step.ins path b ],
     )
-
-pub no_input : (path : List ℕ) → Contains {X = List ℕ} [] path ↔ IsInput [] path
-no_input path = (λ c. absurd (Contains-nil path c), λ i. absurd (none i.number i.step i.at))
-  where
-    none : (k : ℕ) (step : Step) → step_at [] k ≡ Some step → ⊥
-    none zero step e = let f : None ≡ Some step = e in cc
-    none (suc k) step e = let f : None ≡ Some step = e in cc
 
 -- what the paths that are missing so far are, and whether the next one is
 pub missing_more : (b : Build) (paths missing new : List (List ℕ)) (i : ℕ) (d : List ℕ) (answer : Bool) → i < length paths → (IsTrue answer ↔ IsMissing b (get_or paths i d)) → new ≡ cond answer (missing ++ get_or paths i d ∷ []) missing
@@ -171,7 +161,7 @@ rising_next paths missing new i d true h e rising so_far within = subst (AllPair
 rising_next paths missing new i d false h e rising so_far within = subst (AllPairs Before) (sym e) so_far
 
 -- the missing inputs are those of the paths that are missing
-pub are_missing : (b : Build) (paths missing : List (List ℕ)) → AllPairs Before missing → ((path : List ℕ) → Contains paths path ↔ IsInput b.steps path) → ((path : List ℕ) → Contains missing path ↔ (Contains paths path × IsMissing b path)) → ArePathsOf (IsMissingInput b) missing
+pub are_missing : (b : Build) (paths missing : List (List ℕ)) → AllPairs Before missing → ((path : List ℕ) → Contains paths path ↔ IsStepInput b.steps path) → ((path : List ℕ) → Contains missing path ↔ (Contains paths path × IsMissing b path)) → ArePathsOf (IsMissingInput b) missing
 are_missing b paths missing rising inputs told = record {
   rising = rising;
   each = λ path c. let (a, m) = (told path).0 c in record { input = (inputs path).0 a; missing = m };

@@ -1,3 +1,4 @@
+pub mod LineLemmas
 pub mod OrderLemmas
 pub mod ListLemmas
 pub mod WritingLemmas

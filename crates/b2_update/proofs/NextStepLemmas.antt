@@ -1,26 +1,30 @@
-use Rattle.std.proofs.Common.{◌≡◌, ◌≢◌, ℕ, zero, suc, ◌+◌, ◌<◌, ◌↔◌, Bool, true, false, List, [], ◌∷◌, ◌++◌, length, ◌⊎◌, inl, inr, refl, sym, ap, subst, arith, Result, Ok, Err, ◌∙◌, Option, Some, None, IfSome, option_map}
+use Rattle.std.proofs.Common.{◌≡◌, ℕ, zero, suc, ◌+◌, ◌<◌, ◌↔◌, Bool, true, false, List, [], ◌∷◌, ◌++◌, length, ◌⊎◌, inl, inr, refl, sym, ap, subst, arith, Result, Ok, Err, ◌∙◌, Option, Some, None, IfSome}
 use Rattle.std.specs.List.{Contains, AllPairs}
-use Rattle.b2_host.specs.Disks.{File, Disk, bytes_at}
+use Rattle.std.proofs.lemmas.List.Elements.{Contains-push}
+use Rattle.b2_host.specs.declared.children.ChildEvent.TheVariants.{Done}
+use Rattle.b2_host.specs.Disks.{Disk, IsConsistent, bytes_at}
 use Rattle.b2_host.specs.Outside.{Outside}
 use Rattle.b2_host.specs.ChildCalls.{Awaits, AwaitFails}
 use Rattle.b2_plan.specs.declared.step.Step.{Step}
 use Rattle.b2_plan.specs.Plans.{step_at, Makes, maker_of}
 use Rattle.b2_plan.specs.Sources.{IsSource, IsMissing}
 use Rattle.b2_plan.specs.Closures.{Before}
+use Rattle.b2_runs.specs.Staleness.{Update}
+use Rattle.b2_runs.specs.Reports.{start_line}
+use Rattle.b2_runs.specs.Moments.{Moment}
+use Rattle.b2_runs.proofs.SettledLaws.{none_is_short}
 use Rattle.b2_update.specs.declared.outcome.Outcome.{Outcome}
 use Rattle.b2_update.specs.declared.outcome.Outcome.TheVariants as outcomes
 use Rattle.b2_update.specs.declared.stop.Stop.{Stop}
-use Rattle.b2_update.specs.Runs.{Update}
-use Rattle.b2_update.specs.Reports.{start_line}
 use Rattle.b2_update.specs.Inputs.{outcome_at, IsReadable, IsReadableBy}
 use Rattle.b2_update.specs.declared.stop.Stop.TheVariants as stops
-use Rattle.b2_update.specs.Moments.{Moment, moment}
+use Rattle.b2_update.specs.Moments.{moment}
 use Rattle.b2_update.specs.Plain.{Made}
 use Rattle.b2_update.specs.Outputs.{AllStand}
 use Rattle.b2_update.specs.Stops.{StopLooks}
-use Rattle.b2_update.specs.Runners.{WaitsOne, HasRunChild, HasStopped, RunsChild, started}
+use Rattle.b2_update.specs.Runners.{WaitsOne, HasRunChild, HasStopped, RunsChild, with_child}
 use Rattle.b2_update.specs.Writings.{Adds}
-use Rattle.b2_update.specs.Progress.{IsPrepared, IsDue, Stands, HasEndedChild, Stopped}
+use Rattle.b2_update.specs.Progress.{IsWhole, IsPrepared, IsDue, Stands, HasEndedChild, Stopped}
 use Rattle.b2_update.proofs.MakerLemmas.{maker_makes, none_makes}
 use Rattle.b2_update.proofs.EventLemmas.{outcome_some}
 use Rattle.b2_update.proofs.StepLemmas.{has_ended_child, has_stopped, stopped_unmoved, stands_skipped}
@@ -39,22 +43,22 @@ stopped_look u entry stops.Host here host failed s =
 stopped_look u entry stops.Sink here host told s = absurd told
 stopped_look u entry stops.OutOfMemory here host same s = subst (λ h. Stopped u entry stops.OutOfMemory (moment h here.out)) (sym same) s
 
-stands_some : (o : Option File) (bytes : List ℕ) → option_map (λ file. file.bytes) o ≡ Some bytes → o ≢ None
-stands_some None bytes e n = let f : None ≡ Some bytes = e in cc
-stands_some (Some file) bytes e n = let f : Some file ≡ None = n in cc
-
 -- where an output is told to be missing, the step ended badly
-pub ended_badly : (u : Update) (entry : Moment) (list : List Outcome) (step : Step) (well left : Bool) (here : Moment) → step_at u.build.steps (length list + 1) ≡ Some step → HasEndedChild u entry list well here
+pub ended_badly : (u : Update) (entry : Moment) (list : List Outcome) (step : Step) (well left : Bool) (here : Moment) → IsWhole u → step_at u.build.steps (length list + 1) ≡ Some step → HasEndedChild u entry list well here
     → IfSome here.host.disk (λ disk. well ≡ true → AllStand step.outs disk → left ≡ true) → left ≡ false → HasEndedChild u entry list false here
-ended_badly u entry list step false left here at come told bad = come
-ended_badly u entry list step true left here at come told bad =
+ended_badly u entry list step false left here w at come told bad = come
+ended_badly u entry list step true left here w at come told bad =
     let all = subst (λ d. IfSome d (λ (disk : Disk). true ≡ true → AllStand step.outs disk → left ≡ true)) come.now_is told in
-    let is_left : left ≡ true = all refl (λ path c. let m = come.left refl step path (record { at = at; among = c }) in stands_some (come.now.now path) m.bytes m.stands) in
+    let stand : AllStand step.outs come.now = λ path c n.
+    let i : ℕ = length list + 1 in
+    let (file, is) = none_is_short u (come.front ++ Done i true ∷ []) come.now i step path w.apart come.core.sound (record { at = at; among = c }) (w.plain.leaves_files i step at) (Contains-push come.front (Done i true)) in
+    let f : Some file ≡ None = sym is ∙ n in cc in
+    let is_left : left ≡ true = all refl stand in
     absurd (let f : true ≡ false = sym is_left ∙ bad in cc)
 
 -- a child has run, or the wait for it failed
 pub child_ran : (made : Made) (number : ℕ) (step : Step) (ins : List (List ℕ)) (line : List ℕ) (before after : Moment) (host : Outside) (r : Result Bool Stop)
-    → host ≡ started number step ins before.host → WaitsOne made host after.host r → Adds line before.out.written after.out.written → RunsChild made number step ins line before after r
+    → host ≡ with_child number step ins before.host → WaitsOne made host after.host r → Adds line before.out.written after.out.written → RunsChild made number step ins line before after r
 child_ran made number step ins line before after host (Ok well) e (which, ended) adds = record { which = which; ended = subst (λ h. Awaits made h which well after.host) e ended; told = adds }
 child_ran made number step ins line before after host (Err stops.Host) e failed adds = record { at = inr (inr (λ f. cc, inr (subst (λ h. AwaitFails h after.host) e failed), adds)) }
 child_ran made number step ins line before after host (Err stops.Sink) e told adds = absurd told
@@ -63,16 +67,16 @@ child_ran made number step ins line before after host (Err stops.OutOfMemory) e 
 -- the same of a child by its number
 pub come_at : (u : Update) (made : Made) (entry : Moment) (list : List Outcome) (number : ℕ) (step : Step) (ins : List (List ℕ)) (line : List ℕ) (well : Bool) (here there : Moment)
     → IsDue u made list number step → Stands u entry list here → here.host.children.running ≡ [] → AllPairs Before ins → ((path : List ℕ) → Contains ins path ↔ Contains step.ins path) → line ≡ start_line step
-    → HasRunChild made number step ins line well here there → HasEndedChild u entry list well there
-come_at u made entry list number step ins line well here there due s idle rising same line_is ran =
-    has_ended_child u made entry list step ins line well here there (subst (λ n. IsDue u made list n step) due.place due) s idle rising same line_is
+    → IfSome there.host.disk IsConsistent → HasRunChild made number step ins line well here there → HasEndedChild u entry list well there
+come_at u made entry list number step ins line well here there due s idle rising same line_is consistent ran =
+    has_ended_child u made entry list step ins line well here there (subst (λ n. IsDue u made list n step) due.place due) s idle rising same line_is consistent
     (subst (λ n. HasRunChild made n step ins line well here there) due.place ran)
 
 pub stopped_at : (u : Update) (made : Made) (entry : Moment) (list : List Outcome) (number : ℕ) (step : Step) (ins : List (List ℕ)) (line : List ℕ) (stop : Stop) (here there : Moment)
     → IsDue u made list number step → Stands u entry list here → here.host.children.running ≡ [] → AllPairs Before ins → ((path : List ℕ) → Contains ins path ↔ Contains step.ins path) → line ≡ start_line step
-    → HasStopped made number step ins line stop here there → Stopped u entry stop there
-stopped_at u made entry list number step ins line stop here there due s idle rising same line_is ran =
-    has_stopped u made entry list step ins line stop here there (subst (λ n. IsDue u made list n step) due.place due) s idle rising same line_is
+    → IfSome there.host.disk IsConsistent → HasStopped made number step ins line stop here there → Stopped u entry stop there
+stopped_at u made entry list number step ins line stop here there due s idle rising same line_is consistent ran =
+    has_stopped u made entry list step ins line stop here there (subst (λ n. IsDue u made list n step) due.place due) s idle rising same line_is consistent
     (subst (λ n. HasStopped made n step ins line stop here there) due.place ran)
 
 pub due_at : (u : Update) (made : Made) (list : List Outcome) (number : ℕ) (step : Step) → IsDue u made list number step → step_at u.build.steps (length list + 1) ≡ Some step

@@ -1,28 +1,12 @@
-use Rattle.std.proofs.Common.{◌≡◌, ℕ, zero, suc, ◌+◌, ◌<◌, ◌≤◌, ◌↔◌, Bool, true, false, cond, List, [], ◌∷◌, ◌++◌, take, length, get_or, inl, inr, refl, sym, ap, subst, ◌∙◌, Some, IsTrue, slice_get, arith}
+use Rattle.std.proofs.Common.{◌≡◌, ℕ, zero, suc, ◌+◌, ◌<◌, ◌≤◌, ◌↔◌, Bool, true, false, cond, List, [], ◌∷◌, ◌++◌, take, length, get_or, inl, inr, refl, sym, ap, subst, ◌∙◌, Some, IsTrue, arith}
 use Rattle.std.specs.List.{Contains}
 use Rattle.std.proofs.lemmas.List.{take_more}
 use Rattle.std.proofs.lemmas.List.Quantifiers.{all_pairs_push}
 use Rattle.std.proofs.lemmas.List.Elements.{Contains-push_cases, Contains-append_left, Contains-push, Contains-get_or}
+use Rattle.b2_runs.specs.Outcomes.{IsListOf}
 use Rattle.b2_update.specs.declared.outcome.Outcome.{Outcome}
 use Rattle.b2_update.specs.Inputs.{outcome_at}
-use Rattle.b2_update.specs.Outcomes.{IsListOf}
-use Rattle.b2_update.proofs.ListLemmas.{Contains-nil}
-use Rattle.b2_update.proofs.EventLemmas.{outcome_push, outcome_old, outcome_within}
-
-outcome_new : (list : List Outcome) (o : Outcome) → outcome_at (list ++ o ∷ []) (length list + 1) ≡ Some o
-outcome_new list o = let one : suc (length list) ≡ length list + 1 = omega arith in subst (λ k. outcome_at (list ++ o ∷ []) k ≡ Some o) one (get_new list o)
-  where
-    get_new : (xs : List Outcome) (y : Outcome) → slice_get (xs ++ y ∷ []) (length xs) ≡ Some y
-    get_new [] y = refl
-    get_new (z ∷ xs) y = get_new xs y
-
--- no number has an outcome in the empty list
-pub no_numbers : (wanted : Outcome) → IsListOf (λ i. outcome_at [] i ≡ Some wanted) []
-no_numbers wanted = record {
-  rising = λ i j d h k. absurd (omega arith);
-  each = λ i c. absurd (Contains-nil i c);
-  whole = λ i e. let h = outcome_within [] i wanted e in absurd (omega arith);
-}
+use Rattle.b2_update.proofs.EventLemmas.{outcome_push, outcome_old, outcome_new, outcome_within}
 
 -- one outcome more
 numbers_push : (list : List Outcome) (o wanted : Outcome) (numbers : List ℕ) (noted : Bool) → (IsTrue noted ↔ (o ≡ wanted)) → IsListOf (λ i. outcome_at list i ≡ Some wanted) numbers

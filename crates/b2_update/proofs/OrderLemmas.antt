@@ -24,10 +24,6 @@ pairs_in_order cmp (x ∷ xs) s = AllPairs-cons (λ x y. cmp x y ≡ Less) x xs 
 cmp_same : (x y : List ℕ) → slice_cmp nat_cmp x y ≡ Equal → x ≡ y
 cmp_same x y e = same_bytes x y (sym (is_eq-slice_cmp x y) ∙ ap is_eq e)
 
-same_true : (b : Bool) → (b ≡ false → ⊥) → b ≡ true
-same_true true f = refl
-same_true false f = absurd (f refl)
-
 bytes_itself : (x : List ℕ) → bytes_eq x x ≡ true
 bytes_itself x = grind (arith, bytes_eq-Decides)
 

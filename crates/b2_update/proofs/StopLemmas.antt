@@ -1,7 +1,7 @@
-use Rattle.std.proofs.Common.{◌≡◌, ◌≢◌, ℕ, zero, suc, ◌+◌, ◌<◌, List, [], ◌++◌, length, get_or, refl, sym, ap, subst, arith, ◌∙◌, Option, Some, None, IfSome, append-nil, Result, Ok, Err, MatchResult, inl, inr}
+use Rattle.std.proofs.Common.{◌≡◌, ◌≢◌, ℕ, zero, suc, ◌+◌, ◌<◌, true, false, List, [], ◌++◌, length, get_or, refl, sym, ap, subst, arith, ◌∙◌, Option, Some, None, IfSome, append-nil, Result, Ok, Err, MatchResult, inl, inr}
 use Rattle.std.proofs.lemmas.Option.{slice_get_read}
-use Rattle.b2_host.specs.declared.children.ChildEvent.TheVariants.{Start, Done}
-use Rattle.b2_host.specs.Disks.{Disk, Folder}
+use Rattle.b2_host.specs.declared.children.ChildEvent.TheVariants.{Start}
+use Rattle.b2_host.specs.Disks.{Disk, Folder, IsConsistent}
 use Rattle.b2_host.specs.ChildProcesses.{Family, Given}
 use Rattle.b2_host.specs.Outside.{Outside}
 use Rattle.b2_host.specs.Output.{Output, with_written}
@@ -9,21 +9,28 @@ use Rattle.b2_host.specs.Faults.{Rose}
 use Rattle.b2_host.specs.OutsideLaws.{Keeps, keeps_same, keeps_fails}
 use Rattle.b2_plan.specs.declared.plan.Plan.{Plan}
 use Rattle.b2_plan.specs.declared.step.Step.{Step}
-use Rattle.b2_plan.specs.Plans.{step_at, Apart}
+use Rattle.b2_plan.specs.Plans.{log_path, step_at, Apart}
+use Rattle.b2_runs.specs.Staleness.{Update}
+use Rattle.b2_runs.specs.Moments.{Moment}
+use Rattle.b2_runs.specs.UpdateAnswers.{CountsStay, IsQuietHost, CausedBy, LeavesNone}
+use Rattle.b2_runs.specs.Soundness.{AreAtWork}
+use Rattle.b2_runs.proofs.ElementLemmas.{Contains_nil}
+use Rattle.b2_runs.proofs.SoundLaws.{sound_at_entry}
+use Rattle.b2_runs.proofs.OutcomeLaws.{nothing_left_at_entry}
+use Rattle.b2_runs.proofs.ChildLaws.{at_work_at_entry}
 use Rattle.b2_update.specs.declared.outcome.Outcome.{Outcome}
 use Rattle.b2_update.specs.declared.stop.Stop.{Stop}
 use Rattle.b2_update.specs.declared.stop.Stop.TheVariants as stops
 use Rattle.b2_update.specs.declared.failed_lists.FailedLists.{FailedLists}
 use Rattle.b2_update.specs.declared.update_answer.UpdateAnswer.{UpdateAnswer}
 use Rattle.b2_update.specs.declared.update_answer.UpdateAnswer.TheVariants as answers
-use Rattle.b2_update.specs.Updates.{FaultsTold, IsEndOf, stop_answer}
-use Rattle.b2_update.specs.Runs.{Update}
+use Rattle.b2_update.specs.Answers.{answer_of, stop_answer, IsEndOf}
 use Rattle.b2_update.specs.Plain.{IsPlain, Made, update_of}
-use Rattle.b2_update.specs.Stops.{Says, HostTold, StopLooks, ChangesFiles, CountsStay, IsQuietHost, StopTold, CountsTold, LeavesNone, IsCalm, Halts, Proceeds}
+use Rattle.b2_update.specs.Stops.{Says, HostTold, StopLooks, ChangesFiles, FaultsTold, StopCausedBy, IsCalm, Halts, Proceeds}
 use Rattle.b2_update.specs.Inputs.{outcome_at}
 use Rattle.b2_update.specs.Progress.{IsWhole, Stands, Stopped, GoesOn}
-use Rattle.b2_update.specs.Moments.{Moment, moment}
-use Rattle.b2_update.proofs.ListLemmas.{Contains-nil}
+use Rattle.b2_update.specs.Moments.{moment}
+use Rattle.b2_update.proofs.EventLemmas.{by_stamp}
 use Rattle.b2_update.proofs.WritingLemmas.{adds_nothing}
 
 given_none : (given : Option (List Given)) → IfSome given (λ before. given ≡ Some (before ++ []))
@@ -35,8 +42,8 @@ no_outcome zero o e = let f : None ≡ Some o = e in cc
 no_outcome (suc place) o e = let f : None ≡ Some o = e in cc
 
 -- an update begins with no outcome
-pub stands_begin : (u : Update) (entry : Moment) (before : Disk) → entry.host.disk ≡ Some before → u.build.folder ≡ before.now → Stands u entry [] entry
-stands_begin u entry before now_is folder = record {
+pub stands_begin : (u : Update) → IsWhole u → (entry : Moment) (before : Disk) → entry.host.disk ≡ Some before → u.build.folder ≡ before.now → entry.host.children.running ≡ [] → IfSome entry.host.disk IsConsistent → Stands u entry [] entry
+stands_begin u w entry before now_is folder idle consistent = record {
   now = before;
   now_is = now_is;
   events = [];
@@ -45,13 +52,15 @@ stands_begin u entry before now_is folder = record {
     given = [];
     given_are = given_none entry.host.children.given;
     run = tt;
-    begun = λ i well c. absurd (Contains-nil (Done i well) c);
     fed = tt;
-    changed = λ path none. ap (λ f. f path) (sym folder);
+    at_work = subst (AreAtWork u []) (sym idle) (at_work_at_entry u);
+    sound = sound_at_entry u before (subst (λ d. IfSome d IsConsistent) now_is consistent) (λ off. absurd (let e : true ≡ false = sym w.all ∙ off in cc)) (λ path. ap (λ f. f path) folder) (by_stamp u w before);
+    log = ap (λ f. f log_path) (sym folder);
     became = λ i o e. absurd (no_outcome i o e);
   };
+  gone = nothing_left_at_entry u before.now [];
   even = refl;
-  within = λ i c. absurd (Contains-nil (Start i) c);
+  within = λ i c. absurd (Contains_nil (Start i) c);
   settled = refl;
   lines = adds_nothing entry.out.written;
 }
@@ -62,8 +71,9 @@ whole_update plan made before apart plain = record {
   apart = apart;
   plain = plain;
   inc = λ path bytes. refl;
-  stale = λ events i members. refl;
-  goes_on = refl;
+  all = refl;
+  by_stamp = λ on. (let e : false ≡ true = on in cc);
+  goes_on = λ quits. (let e : false ≡ true = quits in cc);
   one = refl;
 }
 
@@ -87,9 +97,6 @@ look_stops before after stops.OutOfMemory told e = let f : stops.OutOfMemory ≡
 pub no_sink : (stop : Stop) → stop ≡ stops.OutOfMemory → stop ≢ stops.Sink
 no_sink stop e f = let g : stops.OutOfMemory ≡ stops.Sink = sym e ∙ f in cc
 
-pub memory_stops : (stop : Stop) → stop ≡ stops.OutOfMemory → stop ≢ stops.Host
-memory_stops stop e f = let g : stops.OutOfMemory ≡ stops.Host = sym e ∙ f in cc
-
 -- what goes on is known from the result
 pub goes_err : (u : Update) (entry : Moment) (list : List Outcome) (r : Result Outcome Stop) (here : Moment) (stop : Stop) → r ≡ Err stop → Stopped u entry stop here → GoesOn u entry list r here
 goes_err u entry list r here stop e s = subst (λ z. GoesOn u entry list z here) (sym e) s
@@ -109,10 +116,10 @@ look_children before after stops.Host failed = ap (λ (o : Outside). o.children)
 look_children before after stops.Sink told = absurd told
 look_children before after stops.OutOfMemory same = ap (λ (o : Outside). o.children) same
 
-pub look_told : (before after : Outside) (out : Output) (stop : Stop) → StopLooks {T = Unit {0}} before after (Err stop) → StopTold (moment before out) (moment after out) stop
+pub look_told : (before after : Outside) (out : Output) (stop : Stop) → StopLooks {T = Unit {0}} before after (Err stop) → FaultsTold {T = Unit {0}} (moment before out) (moment after out) (Err stop)
 look_told before after out stops.Host failed = (failed.rose, refl)
 look_told before after out stops.Sink told = absurd told
-look_told before after out stops.OutOfMemory same = (refl, inl (ap (λ (o : Outside). o.faults) same))
+look_told before after out stops.OutOfMemory same = (ap (λ (o : Outside). o.faults) same, refl)
 
 pub look_files : (before after : Outside) (stop : Stop) → StopLooks {T = Unit {0}} before after (Err stop) → ChangesFiles before after
 look_files before after stops.Host failed = subst (ChangesFiles before) (sym failed.same) refl
@@ -124,91 +131,99 @@ look_keeps before after stops.Host failed = keeps_fails before after failed
 look_keeps before after stops.Sink told = absurd told
 look_keeps before after stops.OutOfMemory same = keeps_same before after same
 
-pub counts_err : {T : Type 0} (before after : Moment) (r : Result T Stop) (stop : Stop) → r ≡ Err stop → StopTold before after stop → CountsTold before after r
-counts_err before after r stop e told = subst (λ z. CountsTold before after z) (sym e) told
+pub faults_err : {T : Type 0} (before after : Moment) (r : Result T Stop) (stop : Stop) → r ≡ Err stop → FaultsTold {T = Unit {0}} before after (Err stop) → FaultsTold before after r
+faults_err before after r stops.Host e told = subst (λ z. FaultsTold before after z) (sym e) told
+faults_err before after r stops.Sink e told = subst (λ z. FaultsTold before after z) (sym e) told
+faults_err before after r stops.OutOfMemory e told = subst (λ z. FaultsTold before after z) (sym e) told
+
+-- where no wait failed, the stop has its cause
+pub caused : (before after : Moment) (stop : Stop) → FaultsTold {T = Unit {0}} before after (Err stop) → after.host.failed_waits ≡ before.host.failed_waits → StopCausedBy before after stop
+caused before after stops.Host told waits = told
+caused before after stops.Sink told waits = (told.1, inl (told.0, waits))
+caused before after stops.OutOfMemory told waits = (told.1, inl (told.0, waits))
 
 pub halts_err : {T : Type 0} (before after : Moment) (r : Result T Stop) (stop : Stop) → r ≡ Err stop → Halts before after stop → Proceeds before after r
 halts_err before after r stop e halts = subst (λ z. Proceeds before after z) (sym e) halts
 
+look_waits : (before after : Outside) (stop : Stop) → StopLooks {T = Unit {0}} before after (Err stop) → after.failed_waits ≡ before.failed_waits
+look_waits before after stop looked = ap (λ (o : Outside). o.failed_waits) (look_files before after stop looked)
+
 pub look_halts : (before after : Outside) (out : Output) (stop : Stop) → before.children.running ≡ [] → StopLooks {T = Unit {0}} before after (Err stop) → Halts (moment before out) (moment after out) stop
 look_halts before after out stop idle looked = record {
-  counts = look_told before after out stop looked;
+  counts = caused (moment before out) (moment after out) stop (look_told before after out stop looked) (look_waits before after stop looked);
   none_left = inl (ap (λ (f : Family). f.running) (look_children before after stop looked) ∙ idle);
 }
 
 -- no child runs, and nothing happens
 pub calm_here : (here : Moment) → here.host.children.running ≡ [] → IsCalm here here
-calm_here here idle = record { counts = record { host = refl; sink = refl }; waits = refl; idle = idle }
+calm_here here idle = record { counts = record { host = refl; waits = refl; sink = refl }; idle = idle }
 
 -- all went well, and then again
 pub calm_again : (x y z : Moment) → IsCalm x y → IsCalm y z → IsCalm x z
 calm_again x y z a b = record {
-  counts = record { host = b.counts.host ∙ a.counts.host; sink = b.counts.sink ∙ a.counts.sink };
-  waits = b.waits ∙ a.waits;
+  counts = record { host = b.counts.host ∙ a.counts.host; waits = b.counts.waits ∙ a.counts.waits; sink = b.counts.sink ∙ a.counts.sink };
   idle = b.idle;
 }
 
 quiet_later : (x y z : Moment) → CountsStay x y → IsQuietHost y.host z.host → IsQuietHost x.host z.host
-quiet_later x y z stay (inl same) = inl (same ∙ stay.host)
-quiet_later x y z stay (inr left) = inr left
+quiet_later x y z stay (inl (same, waits)) = inl (same ∙ stay.host, waits ∙ stay.waits)
+quiet_later x y z stay (inr failed) = inr (record { faults = subst (λ n. Rose n z.host.faults) stay.host failed.faults; waits = subst (λ n. Rose n z.host.failed_waits) stay.waits failed.waits })
 
 -- all went well, and then it stopped
-told_later : (x y z : Moment) (stop : Stop) → CountsStay x y → StopTold y z stop → StopTold x z stop
-told_later x y z stops.Host stay (rose, same) = (subst (λ n. Rose n z.host.faults) stay.host rose, same ∙ stay.sink)
-told_later x y z stops.Sink stay (rose, quiet) = (subst (λ n. Rose n z.out.faults) stay.sink rose, quiet_later x y z stay quiet)
-told_later x y z stops.OutOfMemory stay (same, quiet) = (same ∙ stay.sink, quiet_later x y z stay quiet)
+caused_later : (x y z : Moment) (stop : Stop) → CountsStay x y → StopCausedBy y z stop → StopCausedBy x z stop
+caused_later x y z stops.Host stay (rose, same) = (subst (λ n. Rose n z.host.faults) stay.host rose, same ∙ stay.sink)
+caused_later x y z stops.Sink stay (rose, quiet) = (subst (λ n. Rose n z.out.faults) stay.sink rose, quiet_later x y z stay quiet)
+caused_later x y z stops.OutOfMemory stay (same, quiet) = (same ∙ stay.sink, quiet_later x y z stay quiet)
 
 pub calm_halts : (x y z : Moment) (stop : Stop) → IsCalm x y → Halts y z stop → Halts x z stop
-calm_halts x y z stop calm halts = record { counts = told_later x y z stop calm.counts halts.counts; none_left = left halts.none_left }
+calm_halts x y z stop calm halts = record { counts = caused_later x y z stop calm.counts halts.counts; none_left = left halts.none_left }
   where
     left : LeavesNone y.host z.host → LeavesNone x.host z.host
     left (inl none) = inl none
-    left (inr failed) = inr (record { faults = subst (λ n. Rose n z.host.faults) calm.counts.host failed.faults; waits = subst (λ n. Rose n z.host.failed_waits) calm.waits failed.waits })
+    left (inr failed) = inr (record { faults = subst (λ n. Rose n z.host.faults) calm.counts.host failed.faults; waits = subst (λ n. Rose n z.host.failed_waits) calm.counts.waits failed.waits })
 
--- all went well, and then something that changes the files alone
-pub calm_then : {T : Type 0} (x y z : Moment) (r : Result T Stop) → IsCalm x y → CountsTold y z r → ChangesFiles y.host z.host → Proceeds x z r
-calm_then x y z (Ok v) calm counts files = record {
-  counts = record { host = counts.host ∙ calm.counts.host; sink = counts.sink ∙ calm.counts.sink };
-  waits = ap (λ (o : Outside). o.failed_waits) files ∙ calm.waits;
-  idle = ap (λ (o : Outside). o.children.running) files ∙ calm.idle;
-}
-calm_then x y z (Err stop) calm counts files = record {
-  counts = told_later x y z stop calm.counts counts;
+calm_stopped : (x y z : Moment) (stop : Stop) → IsCalm x y → FaultsTold {T = Unit {0}} y z (Err stop) → ChangesFiles y.host z.host → Halts x z stop
+calm_stopped x y z stop calm told files = record {
+  counts = caused_later x y z stop calm.counts (caused y z stop told (ap (λ (o : Outside). o.failed_waits) files));
   none_left = inl (ap (λ (o : Outside). o.children.running) files ∙ calm.idle);
 }
 
+-- all went well, and then something that changes the files alone
+pub calm_then : {T : Type 0} (x y z : Moment) (r : Result T Stop) → IsCalm x y → FaultsTold y z r → ChangesFiles y.host z.host → Proceeds x z r
+calm_then x y z (Ok v) calm told files = record {
+  counts = record { host = told.0 ∙ calm.counts.host; waits = ap (λ (o : Outside). o.failed_waits) files ∙ calm.counts.waits; sink = told.1 ∙ calm.counts.sink };
+  idle = ap (λ (o : Outside). o.children.running) files ∙ calm.idle;
+}
+calm_then x y z (Err stops.Host) calm told files = calm_stopped x y z stops.Host calm told files
+calm_then x y z (Err stops.Sink) calm told files = calm_stopped x y z stops.Sink calm told files
+calm_then x y z (Err stops.OutOfMemory) calm told files = calm_stopped x y z stops.OutOfMemory calm told files
+
 -- all went well, and then no memory was left
 pub calm_memory : (x y : Moment) (stop : Stop) → stop ≡ stops.OutOfMemory → IsCalm x y → Halts x y stop
-calm_memory x y stop e calm = subst (λ z. Halts x y z) (sym e) (record { counts = (calm.counts.sink, inl calm.counts.host); none_left = inl calm.idle })
+calm_memory x y stop e calm = subst (λ z. Halts x y z) (sym e) (record { counts = (calm.counts.sink, inl (calm.counts.host, calm.counts.waits)); none_left = inl calm.idle })
 
 -- all went well, and then a text was written, or its writing stopped
 pub calm_says : (x y : Moment) (out : Output) (text : List ℕ) (stop : Stop) → IsCalm x y → Says {T = Unit {0}} text y.out out (Err stop) → Halts x (moment y.host out) stop
 calm_says x y out text stop calm says = record { counts = told stop says; none_left = inl calm.idle }
   where
-    told : (stop : Stop) → Says {T = Unit {0}} text y.out out (Err stop) → StopTold x (moment y.host out) stop
+    told : (stop : Stop) → Says {T = Unit {0}} text y.out out (Err stop) → StopCausedBy x (moment y.host out) stop
     told stops.Host t = absurd t
-    told stops.Sink t = (subst (λ n. Rose n out.faults) calm.counts.sink t.0, inl calm.counts.host)
-    told stops.OutOfMemory t = (t.0 ∙ calm.counts.sink, inl calm.counts.host)
+    told stops.Sink t = (subst (λ n. Rose n out.faults) calm.counts.sink t.0, inl (calm.counts.host, calm.counts.waits))
+    told stops.OutOfMemory t = (t.0 ∙ calm.counts.sink, inl (calm.counts.host, calm.counts.waits))
 
 pub calm_said : (x y : Moment) (out : Output) (text : List ℕ) → IsCalm x y → out ≡ with_written text y.out → IsCalm x (moment y.host out)
 calm_said x y out text calm said = record {
-  counts = record { host = calm.counts.host; sink = ap (λ (o : Output). o.faults) said ∙ calm.counts.sink };
-  waits = calm.waits;
+  counts = record { host = calm.counts.host; waits = calm.counts.waits; sink = ap (λ (o : Output). o.faults) said ∙ calm.counts.sink };
   idle = calm.idle;
 }
 
 -- how the counts stand to the answer of an update
-pub finished_counts : (before after : Moment) (lists : FailedLists) (answer : UpdateAnswer) → IsEndOf lists answer → IsCalm before after → FaultsTold before after answer
+pub finished_counts : (before after : Moment) (lists : FailedLists) (answer : UpdateAnswer) → IsEndOf lists answer → IsCalm before after → CausedBy before after (answer_of answer)
 finished_counts before after lists answers.Done end calm = calm.counts
 finished_counts before after lists (answers.Failed others) end calm = calm.counts
 finished_counts before after lists answers.HostFault end calm = absurd end
 finished_counts before after lists answers.SinkFault end calm = absurd end
 finished_counts before after lists answers.OutOfMemory end calm = absurd end
 
-pub stopped_counts : (before after : Moment) (stop : Stop) (answer : UpdateAnswer) → answer ≡ stop_answer stop → Halts before after stop → FaultsTold before after answer
-stopped_counts before after stop answer is halts = subst (FaultsTold before after) (sym is) (go stop halts.counts)
-  where
-    go : (stop : Stop) → StopTold before after stop → FaultsTold before after (stop_answer stop)
-    go stops.Host told = told
-    go stops.Sink told = told
-    go stops.OutOfMemory told = told
+pub stopped_counts : (before after : Moment) (stop : Stop) (answer : UpdateAnswer) → answer ≡ stop_answer stop → Halts before after stop → CausedBy before after (answer_of answer)
+stopped_counts before after stop answer is halts = subst (λ a. CausedBy before after (answer_of a)) (sym is) halts.counts

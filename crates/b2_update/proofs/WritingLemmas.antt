@@ -1,4 +1,4 @@
-use Rattle.std.proofs.Common.{◌≡◌, ℕ, ◌+◌, ◌<◌, List, [], ◌∷◌, ◌++◌, take, drop, length, get_or, Option, Some, None, refl, sym, ap, subst, ◌∙◌, append_assoc, append-nil, Result, Ok, Err, OnOk, OnErr}
+use Rattle.std.proofs.Common.{◌≡◌, ℕ, ◌+◌, ◌<◌, List, [], ◌∷◌, ◌++◌, take, drop, length, get_or, Option, Some, None, refl, sym, ap, subst, ◌∙◌, append_assoc, append-nil, Result, Ok, Err, OnErr}
 use Rattle.std.specs.Option.{option_map}
 use Rattle.std.specs.List.{flat_map}
 use Rattle.std.proofs.lemmas.List.{take_more, take-append-drop}
@@ -42,9 +42,6 @@ part_of_more a b x y p = record {
 
 pub part_whole : (a : List ℕ) (x y : Option (List ℕ)) → Adds a x y → AddsPart a x y
 part_whole a x y p = record { part = a; rest = []; whole = sym (append-nil a); adds = p }
-
-pub part_none : (a : List ℕ) (x : Option (List ℕ)) → AddsPart a x x
-part_none a x = record { part = []; rest = a; whole = refl; adds = adds_nothing x }
 
 -- a write stops an update
 pub says_failed : (fault : IoFault) (line : List ℕ) (before after : Output) → Prints {T = Unit {0}} line before after (Err fault) → Says {T = Unit {0}} line before after (Err (sink_stop_of fault))
@@ -120,11 +117,3 @@ part_taken f xs i x y p = record {
 pub on_err : {T E : Type 0} (r : Result T E) (P : Type 0) → P → OnErr r P
 on_err (Ok x) P p = tt
 on_err (Err e) P p = p
-
-pub on_ok_map : {T E : Type 0} (r : Result T E) (P Q : Type 0) → OnOk r P → (P → Q) → OnOk r Q
-on_ok_map (Ok x) P Q p f = f p
-on_ok_map (Err e) P Q p f = tt
-
-pub on_err_map : {T E : Type 0} (r : Result T E) (P Q : Type 0) → OnErr r P → (P → Q) → OnErr r Q
-on_err_map (Ok x) P Q p f = tt
-on_err_map (Err e) P Q p f = f p

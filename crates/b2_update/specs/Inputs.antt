@@ -3,13 +3,13 @@ use Rattle.std.specs.List.{Contains}
 use Rattle.b2_plan.specs.declared.step.Step.{Step}
 use Rattle.b2_plan.specs.Plans.{step_at, maker_of}
 use Rattle.b2_plan.specs.Sources.{Build, IsSource, IsMissing}
+use Rattle.b2_runs.specs.Outcomes.{IsListOf}
 use Rattle.b2_update.specs.declared.failed_lists.FailedLists.{FailedLists}
-use Rattle.b2_update.specs.Outcomes.{IsListOf}
 use Rattle.b2_update.specs.declared.outcome.Outcome.{Outcome}
 use Rattle.b2_update.specs.declared.outcome.Outcome.TheVariants as outcomes
 
 -- a step reads the path
-pub record IsInput (steps : List Step) (path : List ℕ) : Type 0 where
+pub record IsStepInput (steps : List Step) (path : List ℕ) : Type 0 where
   pub number : ℕ
   pub step : Step
   pub at : step_at steps number ≡ Some step
@@ -25,7 +25,7 @@ AreMissingAmong b paths missing_ones = (path : List ℕ) → Contains missing_on
 
 -- a step reads the path, and it is missing
 pub record IsMissingInput (b : Build) (path : List ℕ) : Type 0 where
-  pub input : IsInput b.steps path
+  pub input : IsStepInput b.steps path
   pub missing : IsMissing b path
 
 -- what became of the step with a number: the first has the number 1

@@ -1,6 +1,4 @@
-pub mod Runs
-pub mod Outcomes
-pub mod Reports
+pub mod Answers
 pub mod Plain
 pub mod Updates
 pub mod Moments

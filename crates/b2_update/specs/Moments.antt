@@ -1,10 +1,7 @@
 use Rattle.b2_host.specs.Outside.{Outside}
 use Rattle.b2_host.specs.Output.{Output}
+use Rattle.b2_runs.specs.Moments.{Moment}
 
--- A host and a sink at one moment, as their callers see them.
-pub record Moment : Type 0 where
-  pub host : Outside
-  pub out : Output
-
+-- the moment of a host and a sink, as their callers see them
 abbrev pub moment : Outside → Output → Moment
 moment host out = record { host = host; out = out }

@@ -1,62 +1,50 @@
-use Rattle.std.specs.Prelude.{◌≡◌, ℕ, ◌≤◌, ◌+◌, Bool, true, false, List, [], ◌∷◌, ◌++◌, Option, Some, None, ◌⊎◌, IfSome, length, count_by, Result, Ok, Err, MatchResult}
+-- What holds within an update of visible files.
+use Rattle.std.specs.Prelude.{◌≡◌, ℕ, ◌≤◌, ◌+◌, Bool, true, false, List, [], ◌∷◌, ◌++◌, Some, ◌⊎◌, IfSome, count_by, length, Result, Ok, Err, MatchResult}
 use Rattle.std.specs.Global.{Vec}
 use Rattle.std.specs.List.{Contains}
 use Rattle.b2_host.specs.declared.children.ChildEvent.{ChildEvent}
 use Rattle.b2_host.specs.declared.children.ChildEvent.TheVariants.{Start, Done}
-use Rattle.b2_host.specs.Disks.{Folder, Disk, bytes_at}
+use Rattle.b2_host.specs.Disks.{Folder, Disk}
 use Rattle.b2_host.specs.ChildProcesses.{Family, Given}
+use Rattle.b2_host.specs.OutsideLaws.{Keeps}
 use Rattle.b2_plan.specs.declared.plan.Plan.{Plan}
 use Rattle.b2_plan.specs.declared.step.Step.{Step}
-use Rattle.b2_plan.specs.Plans.{step_at, Makes, Apart}
-use Rattle.b2_plan.specs.Sources.{Build, IsSource, IsMissing}
-use Rattle.b2_plan.specs.Cleans.{Val}
+use Rattle.b2_plan.specs.Plans.{log_path, step_at, Makes, Apart}
+use Rattle.b2_plan.specs.Sources.{IsSource, IsMissing}
+use Rattle.b2_runs.specs.Staleness.{Update}
+use Rattle.b2_runs.specs.Events.{is_start, is_done}
+use Rattle.b2_runs.specs.Runs.{IsRunSoFar, AreFed}
+use Rattle.b2_runs.specs.Outcomes.{NoneStuck, AllWent, IsCleanBuild, LeavesNothing, ArePathsOf}
+use Rattle.b2_runs.specs.Soundness.{IsSound, AreAtWork}
+use Rattle.b2_runs.specs.Reports.{AreLists, event_lines, report, is_good_end, TellsStarts}
+use Rattle.b2_runs.specs.Moments.{Moment}
 use Rattle.b2_update.specs.declared.failed_lists.FailedLists.{FailedLists}
 use Rattle.b2_update.specs.declared.outcome.Outcome.{Outcome}
 use Rattle.b2_update.specs.declared.outcome.Outcome.TheVariants as outcomes
 use Rattle.b2_update.specs.declared.stop.Stop.{Stop}
 use Rattle.b2_update.specs.declared.stop.Stop.TheVariants as stops
-use Rattle.b2_update.specs.Runs.{Update, is_start, is_done, RunFrom, IsBegun, AreFed}
-use Rattle.b2_update.specs.Outcomes.{OnlyOutputsChange, ArePathsOf}
-use Rattle.b2_update.specs.Reports.{event_lines, report, is_good_end}
+use Rattle.b2_update.specs.Answers.{lists_of}
 use Rattle.b2_update.specs.Plain.{IsPlain, Made, update_of}
-use Rattle.b2_update.specs.Updates.{TellsStarts, StopsAtWrite, StopsSomewhere, HasRun, HasEnded}
+use Rattle.b2_update.specs.Updates.{StopsAtWrite, StopsSomewhere, HasRunToEnd}
 use Rattle.b2_update.specs.Inputs.{IsMissingInput, outcome_at, is_settled}
-use Rattle.b2_update.specs.Moments.{Moment}
 use Rattle.b2_update.specs.Writings.{Adds}
+use Rattle.b2_update.specs.Stops.{Proceeds}
+use Rattle.b2_update.specs.Turns.{StepsTurns, PlanTurns}
 
 -- The update runs each step of a plan in topological order, one at a time, and scans no file.
 pub record IsWhole (u : Update) : Type 0 where
   pub apart : Apart u.build.steps u.build.roots
   pub plain : IsPlain u.build.steps u.build.wanted
   pub inc : (path bytes : List ℕ) → u.build.inc path bytes ≡ []
-  pub stale : (events : List ChildEvent) (i : ℕ) (members : List (List ℕ × Option (List ℕ))) → u.stale events i members ≡ true
-  pub goes_on : u.quit ≡ false
+  pub all : u.all ≡ true
+  pub by_stamp : u.by_digest ≡ true → ⊥
+  pub goes_on : u.quit ≡ true → ⊥
   pub one : u.jobs ≡ 1
 
 -- These are the paths that the steps read and that are missing.
 pub record IsPrepared (u : Update) (missing : List (List ℕ)) : Type 0 where
   pub whole : IsWhole u
   pub missing_are : ArePathsOf (IsMissingInput u.build) missing
-
--- a file stands at the path with the bytes of the clean build, by so many steps one on another
-pub record IsMade (b : Build) (now : Folder) (rank : ℕ) (path : List ℕ) : Type 0 where
-  pub bytes : List ℕ
-  pub value : Val b rank path (Some bytes)
-  pub stands : bytes_at now path ≡ Some bytes
-
--- a step that ran, ended well, and left the bytes of the clean build
-pub record HasSettled (u : Update) (events : List ChildEvent) (now : Folder) (i : ℕ) : Type 0 where
-  pub started : Contains events (Start i)
-  pub done : Contains events (Done i true)
-  pub not_badly : Contains events (Done i false) → ⊥
-  pub left : (step : Step) (path : List ℕ) → Makes u.build.steps i step path → IsMade u.build now i path
-
--- a step that ran, ended badly, and left nothing
-pub record HasFailed (u : Update) (events : List ChildEvent) (now : Folder) (i : ℕ) : Type 0 where
-  pub started : Contains events (Start i)
-  pub done : Contains events (Done i false)
-  pub not_well : Contains events (Done i true) → ⊥
-  pub gone : (step : Step) (path : List ℕ) → Makes u.build.steps i step path → now path ≡ None
 
 -- a step that did not run, since an input of it is missing, or its maker failed or was skipped
 pub record WasSkipped (u : Update) (events : List ChildEvent) (list : List Outcome) (i : ℕ) : Type 0 where
@@ -68,22 +56,24 @@ pub record WasSkipped (u : Update) (events : List ChildEvent) (list : List Outco
   pub why : IsMissing u.build path ⊎ ((k : ℕ) × (other : Step) × Makes u.build.steps k other path × ((outcome_at list k ≡ Some outcomes.Failed) ⊎ (outcome_at list k ≡ Some outcomes.Skipped)))
 
 -- what an outcome says of its step
-abbrev pub Became : Update → List ChildEvent → Folder → List Outcome → ℕ → Outcome → Type 0
-Became u events now list i outcomes.Settled = HasSettled u events now i
-Became u events now list i outcomes.Failed = HasFailed u events now i
-Became u events now list i outcomes.Skipped = WasSkipped u events list i
+abbrev pub Became : Update → List ChildEvent → List Outcome → ℕ → Outcome → Type 0
+Became u events list i outcomes.Settled = Contains events (Done i true)
+Became u events list i outcomes.Failed = Contains events (Done i false)
+Became u events list i outcomes.Skipped = WasSkipped u events list i
 
--- What holds at every moment of an update over a host that tells its files: the events are the beginning of a run, each
--- start was given what it needs, nothing but outputs of started steps has changed, and the outcomes so far are these.
-pub record IsUnderWay (u : Update) (old : Family) (list : List Outcome) (events : List ChildEvent) (new : Family) (now : Folder) : Type 0 where
+-- What holds at every moment of an update over a host that tells its files: the events are those of a run so far, each
+-- start was given what it needs, the children that run are at work, the disk is sound, the log is as it was, and the
+-- outcomes so far are these.
+pub record IsUnderWay (u : Update) (old : Family) (list : List Outcome) (events : List ChildEvent) (new : Family) (disk : Disk) : Type 0 where
   pub events_are : new.events ≡ old.events ++ events
   pub given : List Given
   pub given_are : IfSome old.given (λ before. new.given ≡ Some (before ++ given))
-  pub run : RunFrom u [] events
-  pub begun : (i : ℕ) (well : Bool) → Contains events (Done i well) → Contains events (Start i)
+  pub run : IsRunSoFar u events
   pub fed : AreFed u events given
-  pub changed : OnlyOutputsChange u events u.build.folder now
-  pub became : (i : ℕ) (outcome : Outcome) → outcome_at list i ≡ Some outcome → Became u events now list i outcome
+  pub at_work : AreAtWork u events new.running
+  pub sound : IsSound u events disk
+  pub log : disk.now log_path ≡ u.build.folder log_path
+  pub became : (i : ℕ) (outcome : Outcome) → outcome_at list i ≡ Some outcome → Became u events list i outcome
 
 -- The step is the next one, and can run: each input is a source, or the step that makes it has settled.
 pub record IsDue (u : Update) (made : Made) (list : List Outcome) (number : ℕ) (step : Step) : Type 0 where
@@ -93,12 +83,13 @@ pub record IsDue (u : Update) (made : Made) (list : List Outcome) (number : ℕ)
   pub at : step_at u.build.steps number ≡ Some step
   pub ready : (path : List ℕ) → Contains step.ins path → ((bytes : List ℕ) × IsSource u.build path bytes) ⊎ ((k : ℕ) × (other : Step) × Makes u.build.steps k other path × (outcome_at list k ≡ Some outcomes.Settled))
 
--- What holds between two steps: nothing is open, and the lines of the events were written.
+-- What holds between two steps: nothing is open, nothing of a failed step stands, and the lines of the events were written.
 pub record Stands (u : Update) (entry : Moment) (list : List Outcome) (here : Moment) : Type 0 where
   pub now : Disk
   pub now_is : here.host.disk ≡ Some now
   pub events : List ChildEvent
-  pub core : IsUnderWay u entry.host.children list events here.host.children now.now
+  pub core : IsUnderWay u entry.host.children list events here.host.children now
+  pub gone : LeavesNothing u events now.now []
   pub even : count_by is_start events ≡ count_by is_done events
   pub within : (i : ℕ) → Contains events (Start i) → i ≤ length list
   pub settled : count_by is_good_end events ≡ count_by is_settled list
@@ -108,15 +99,15 @@ pub record Stands (u : Update) (entry : Moment) (list : List Outcome) (here : Mo
 pub record HasEndedChild (u : Update) (entry : Moment) (list : List Outcome) (well : Bool) (here : Moment) : Type 0 where
   pub now : Disk
   pub now_is : here.host.disk ≡ Some now
-  pub prefix : List ChildEvent
-  pub core : IsUnderWay u entry.host.children list (prefix ++ Done (length list + 1) well ∷ []) here.host.children now.now
-  pub even : count_by is_start (prefix ++ Done (length list + 1) well ∷ []) ≡ count_by is_done (prefix ++ Done (length list + 1) well ∷ [])
-  pub within : (i : ℕ) → Contains prefix (Start i) → i ≤ length list + 1
-  pub started : Contains prefix (Start (length list + 1))
-  pub first : (other : Bool) → Contains prefix (Done (length list + 1) other) → ⊥
-  pub settled : count_by is_good_end prefix ≡ count_by is_settled list
-  pub left : well ≡ true → (step : Step) (path : List ℕ) → Makes u.build.steps (length list + 1) step path → IsMade u.build now.now (length list + 1) path
-  pub lines : Adds (event_lines u.build.steps prefix) entry.out.written here.out.written
+  pub front : List ChildEvent
+  pub core : IsUnderWay u entry.host.children list (front ++ Done (length list + 1) well ∷ []) here.host.children now
+  pub gone : LeavesNothing u front now.now []
+  pub even : count_by is_start (front ++ Done (length list + 1) well ∷ []) ≡ count_by is_done (front ++ Done (length list + 1) well ∷ [])
+  pub within : (i : ℕ) → Contains front (Start i) → i ≤ length list + 1
+  pub started : Contains front (Start (length list + 1))
+  pub first : (other : Bool) → Contains front (Done (length list + 1) other) → ⊥
+  pub settled : count_by is_good_end front ≡ count_by is_settled list
+  pub lines : Adds (event_lines u.build.steps front) entry.out.written here.out.written
 
 -- what was written before a stop
 abbrev pub ToldBy : Update → List ChildEvent → Stop → List ℕ → Type 0
@@ -128,13 +119,9 @@ ToldBy u events stops.OutOfMemory part = StopsSomewhere u events part
 pub record Stopped (u : Update) (entry : Moment) (stop : Stop) (here : Moment) : Type 0 where
   pub now : Disk
   pub now_is : here.host.disk ≡ Some now
+  pub list : List Outcome
   pub events : List ChildEvent
-  pub events_are : here.host.children.events ≡ entry.host.children.events ++ events
-  pub given : List Given
-  pub given_are : IfSome entry.host.children.given (λ before. here.host.children.given ≡ Some (before ++ given))
-  pub begun : IsBegun u events
-  pub fed : AreFed u events given
-  pub changed : OnlyOutputsChange u events u.build.folder now.now
+  pub core : IsUnderWay u entry.host.children list events here.host.children now
   pub part : List ℕ
   pub lines : Adds part entry.out.written here.out.written
   pub told : ToldBy u events stop part
@@ -148,10 +135,14 @@ GoesOn u entry list (Err stop) here = Stopped u entry stop here
 pub record HasFinished (u : Update) (entry : Moment) (lists : FailedLists) (here : Moment) : Type 0 where
   pub now : Disk
   pub now_is : here.host.disk ≡ Some now
+  pub list : List Outcome
   pub events : List ChildEvent
-  pub ran : HasRun u events entry.host.children here.host.children u.build.folder now.now
-  pub ended : HasEnded u events now.now lists
-  pub lines : Adds (report u.build.steps events lists) entry.out.written here.out.written
+  pub core : IsUnderWay u entry.host.children list events here.host.children now
+  pub ended : HasRunToEnd u events now.now
+  pub none_stuck : NoneStuck u events
+  pub are : AreLists u events (lists_of lists)
+  pub went : lists.failed ≡ [] → lists.skipped ≡ [] → AllWent u events × IsCleanBuild u.build now.now
+  pub lines : Adds (report u.build.steps events (lists_of lists)) entry.out.written here.out.written
 
 -- What the parts of an update do to one that is under way, from whatever files and moment it began:
 
@@ -180,3 +171,17 @@ StepsTold plan made missing before after result = (folder : Folder) (entry : Mom
 abbrev pub PlanTold : Plan → Made → Moment → Moment → Result FailedLists Stop → Type 0
 PlanTold plan made before after result = (disk : Disk) → before.host.disk ≡ Some disk
     → MatchResult result (λ lists. HasFinished (update_of plan made disk.now) before lists after) (λ stop. Stopped (update_of plan made disk.now) before stop after)
+
+-- All that dealing with the steps promises.
+pub record StepsRan (plan : Plan) (made : Made) (missing : List (List ℕ)) (before after : Moment) (result : Result (Vec Outcome) Stop) : Type 0 where
+  pub proceeds : Proceeds before after result
+  pub keeps : Keeps before.host after.host
+  pub turns : StepsTurns plan.steps before.host after.host result
+  pub told : StepsTold plan made missing before after result
+
+-- All that running the plan promises.
+pub record PlanRan (plan : Plan) (made : Made) (before after : Moment) (result : Result FailedLists Stop) : Type 0 where
+  pub proceeds : Proceeds before after result
+  pub keeps : Keeps before.host after.host
+  pub turns : PlanTurns plan.steps before.host after.host result
+  pub told : PlanTold plan made before after result

@@ -1,12 +1,15 @@
-use Rattle.std.specs.Prelude.{◌≡◌, ◌≢◌, ℕ, List, [], ◌⊎◌, Result, Ok, Err}
+-- How the calls of an update go on, or stop with the first fault.
+use Rattle.std.specs.Prelude.{◌≡◌, ℕ, List, [], Result, Ok, Err}
 use Rattle.b2_host.specs.declared.fault.IoFault.{IoFault}
 use Rattle.b2_host.specs.declared.fault.IoFault.TheVariants as faults
 use Rattle.b2_host.specs.Faults.{Rose}
 use Rattle.b2_host.specs.Outside.{Outside, Fails}
 use Rattle.b2_host.specs.Output.{Output, with_written}
+use Rattle.b2_runs.specs.Moments.{Moment}
+use Rattle.b2_runs.specs.UpdateAnswers.{CountsStay, CausedBy, LeavesNone}
 use Rattle.b2_update.specs.declared.stop.Stop.{Stop}
 use Rattle.b2_update.specs.declared.stop.Stop.TheVariants as stops
-use Rattle.b2_update.specs.Moments.{Moment}
+use Rattle.b2_update.specs.Answers.{answer_of, stop_answer}
 use Rattle.b2_update.specs.Writings.{AddsPart}
 
 -- what a fault of the host stops an update with
@@ -44,46 +47,25 @@ Says text before after (Err stops.OutOfMemory) = (after.faults ≡ before.faults
 abbrev pub ChangesFiles : Outside → Outside → Type 0
 ChangesFiles before after = after ≡ record before { disk = after.disk; faults = after.faults }
 
--- no count of faults has changed
-pub record CountsStay (before after : Moment) : Type 0 where
-  pub host : after.host.faults ≡ before.host.faults
-  pub sink : after.out.faults ≡ before.out.faults
+-- how the two counts of faults stand to the result of calls among which is no wait: none has changed, or that of the fault rose
+abbrev pub FaultsTold : {T : Type 0} → Moment → Moment → Result T Stop → Type 0
+FaultsTold before after (Ok x) = (after.host.faults ≡ before.host.faults) × (after.out.faults ≡ before.out.faults)
+FaultsTold before after (Err stops.Host) = Rose before.host.faults after.host.faults × (after.out.faults ≡ before.out.faults)
+FaultsTold before after (Err stops.Sink) = (after.host.faults ≡ before.host.faults) × Rose before.out.faults after.out.faults
+FaultsTold before after (Err stops.OutOfMemory) = (after.host.faults ≡ before.host.faults) × (after.out.faults ≡ before.out.faults)
 
--- What the host's count of faults may do after another fault: it is as it was, or the wait for the child that ran failed,
--- so that a child is left.
-abbrev pub IsQuietHost : Outside → Outside → Type 0
-IsQuietHost before after = (after.faults ≡ before.faults) ⊎ (after.children.running ≢ [])
-
--- How the two counts of faults stand to a stop, which is the first fault: a fault of the host comes where the sink's count
--- is as it was, and one of the sink, or OutOfMemory, where the host's is, but for the wait that follows it.
-abbrev pub StopTold : Moment → Moment → Stop → Type 0
-StopTold before after stops.Host = Rose before.host.faults after.host.faults × (after.out.faults ≡ before.out.faults)
-StopTold before after stops.Sink = Rose before.out.faults after.out.faults × IsQuietHost before.host after.host
-StopTold before after stops.OutOfMemory = (after.out.faults ≡ before.out.faults) × IsQuietHost before.host after.host
-
--- the counts of the host and of the sink stay, or stand to the stop as it says
-abbrev pub CountsTold : {T : Type 0} → Moment → Moment → Result T Stop → Type 0
-CountsTold before after (Ok x) = CountsStay before after
-CountsTold before after (Err stop) = StopTold before after stop
-
--- a wait for a child failed: both counts rose
-pub record WaitFailed (before after : Outside) : Type 0 where
-  pub faults : Rose before.faults after.faults
-  pub waits : Rose before.failed_waits after.failed_waits
-
--- no child is left, unless a wait for it failed
-abbrev pub LeavesNone : Outside → Outside → Type 0
-LeavesNone before after = (after.children.running ≡ []) ⊎ WaitFailed before after
+-- the stop, which is the first fault, has its cause
+abbrev pub StopCausedBy : Moment → Moment → Stop → Type 0
+StopCausedBy before after stop = CausedBy before after (answer_of (stop_answer stop))
 
 -- all went well: no count has changed, and no child is left
 pub record IsCalm (before after : Moment) : Type 0 where
   pub counts : CountsStay before after
-  pub waits : after.host.failed_waits ≡ before.host.failed_waits
   pub idle : after.host.children.running ≡ []
 
 -- It stopped with the first fault, and left no child, unless a wait for it failed.
 pub record Halts (before after : Moment) (stop : Stop) : Type 0 where
-  pub counts : StopTold before after stop
+  pub counts : StopCausedBy before after stop
   pub none_left : LeavesNone before.host after.host
 
 -- all went well, or it stopped

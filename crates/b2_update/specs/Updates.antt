@@ -1,99 +1,73 @@
-use Rattle.std.specs.Prelude.{◌≡◌, ◌≢◌, ℕ, true, List, [], ◌∷◌, ◌++◌, Some, ◌⊎◌, ⊤, IfSome, count_by}
-use Rattle.std.specs.List.{AllByRecursion}
+-- What an update that runs all, and writes no log, does and says.
+use Rattle.std.specs.Prelude.{◌≡◌, ℕ, true, List, [], ◌++◌, Some, ◌⊎◌, ⊤, IfSome}
+use Rattle.std.specs.List.{Contains}
 use Rattle.b2_host.specs.declared.children.ChildEvent.{ChildEvent}
+use Rattle.b2_host.specs.declared.children.ChildEvent.TheVariants.{Done}
 use Rattle.b2_host.specs.Disks.{Folder, Disk}
 use Rattle.b2_host.specs.ChildProcesses.{Family, Given, BothTold}
 use Rattle.b2_host.specs.Outside.{Outside}
 use Rattle.b2_plan.specs.declared.plan.Plan.{Plan}
 use Rattle.b2_plan.specs.declared.step.Step.{Step}
-use Rattle.b2_update.specs.declared.failed_lists.FailedLists.{FailedLists}
-use Rattle.b2_update.specs.declared.stop.Stop.{Stop}
-use Rattle.b2_update.specs.declared.stop.Stop.TheVariants as stops
+use Rattle.b2_plan.specs.Plans.{log_path, Makes}
+use Rattle.b2_plan.specs.Closures.{Value}
+use Rattle.b2_plan.specs.Cleans.{Clean}
+use Rattle.b2_runs.specs.Staleness.{Update}
+use Rattle.b2_runs.specs.Runs.{IsRun, IsBegun, AreFed}
+use Rattle.b2_runs.specs.Outcomes.{NoneStuck, AllWent, HasCleanBytes, IsCleanBuild, LeavesNothing, OnlyOutputsChange}
+use Rattle.b2_runs.specs.Soundness.{Holds, AreAtWork}
+use Rattle.b2_runs.specs.Reports.{AreLists, no_lists, report, TellsStarts, StopsAtEvent, StopsAtEnd}
+use Rattle.b2_runs.specs.Moments.{Moment}
+use Rattle.b2_runs.specs.UpdateAnswers.{UpdateAnswer as RunAnswer, SomethingLacks}
+use Rattle.b2_runs.specs.UpdateAnswers.UpdateAnswer.{all_went, failed as some_failed, step_cycle, too_big, host_fault, sink_fault, out_of_memory}
 use Rattle.b2_update.specs.declared.update_answer.UpdateAnswer.{UpdateAnswer}
-use Rattle.b2_update.specs.declared.update_answer.UpdateAnswer.TheVariants as answers
-use Rattle.b2_update.specs.Moments.{Moment}
-use Rattle.b2_update.specs.Stops.{CountsStay, StopTold}
+use Rattle.b2_update.specs.Answers.{answer_of}
 use Rattle.b2_update.specs.Plain.{Made, update_of}
-use Rattle.b2_update.specs.Runs.{Update, is_done, IsRun, IsBegun, AreFed}
-use Rattle.b2_update.specs.Outcomes.{NoneStuck, AreLists, nothing_lacks, HasCleanBytes, LeavesNothing, OnlyOutputsChange}
-use Rattle.b2_update.specs.Reports.{event_line, event_lines, is_good_end, end_lines, report}
 
--- How the two counts of faults stand to an answer: an answer that is no fault comes only where both are as at entry, and
--- a fault only where its count rose and the other's is as at entry. After a fault of the sink, or where memory ran out, the wait
--- for the child that ran may fail, so that the child is left.
-abbrev pub FaultsTold : Moment → Moment → UpdateAnswer → Type 0
-FaultsTold before after answers.Done = CountsStay before after
-FaultsTold before after (answers.Failed lists) = CountsStay before after
-FaultsTold before after answers.HostFault = StopTold before after stops.Host
-FaultsTold before after answers.SinkFault = StopTold before after stops.Sink
-FaultsTold before after answers.OutOfMemory = StopTold before after stops.OutOfMemory
-
--- A run has ended: no needed step is stuck, the lists are those of the run, what is settled has the bytes of the clean
--- build, and nothing of a failed step stands.
-pub record HasEnded (u : Update) (events : List ChildEvent) (now : Folder) (lists : FailedLists) : Type 0 where
+-- A run has come to its end: what is settled has the bytes of the clean build, and no output of a failed step stands. Of
+-- the log nothing is asked, since the update writes no line.
+pub record HasRunToEnd (u : Update) (events : List ChildEvent) (now : Folder) : Type 0 where
   pub run : IsRun u events
-  pub none_stuck : NoneStuck u events
-  pub lacking : AreLists u events lists
   pub clean : HasCleanBytes u events now
-  pub gone : LeavesNothing u events now
-
--- something failed, was skipped or is missing
-abbrev pub SomethingLacks : FailedLists → Type 0
-SomethingLacks lists = (lists.failed ≢ []) ⊎ (lists.skipped ≢ []) ⊎ (lists.missing ≢ [])
+  pub gone : LeavesNothing u events now []
 
 -- what an answer says of the run
-abbrev pub AnswerTold : Update → List ChildEvent → Folder → UpdateAnswer → Type 0
-AnswerTold u events now answers.Done = HasEnded u events now nothing_lacks
-AnswerTold u events now (answers.Failed lists) = HasEnded u events now lists × SomethingLacks lists
-AnswerTold u events now answers.HostFault = ⊤
-AnswerTold u events now answers.SinkFault = ⊤
-AnswerTold u events now answers.OutOfMemory = ⊤
+abbrev pub RunTold : Update → List ChildEvent → Folder → RunAnswer → Type 0
+RunTold u events now all_went = HasRunToEnd u events now × AllWent u events × IsCleanBuild u.build now
+RunTold u events now (some_failed lists) = HasRunToEnd u events now × NoneStuck u events × AreLists u events lists × SomethingLacks lists
+RunTold u events now (step_cycle list) = ⊥
+RunTold u events now (too_big path size) = ⊥
+RunTold u events now host_fault = ⊤
+RunTold u events now sink_fault = ⊤
+RunTold u events now out_of_memory = ⊤
 
--- What happened between two moments of a host that tells its files: these events, each start with what it was given,
--- are the beginning of a run, and nothing but outputs of started steps has changed.
+-- What happened between two moments of a host that tells its files: these events, each start with what it was given, are
+-- the beginning of a run, and those of its children that still run are at work; nothing but outputs of started steps has
+-- changed, the log neither; and what was done well stands.
 pub record HasRun (u : Update) (events : List ChildEvent) (old new : Family) (before after : Folder) : Type 0 where
   pub events_are : new.events ≡ old.events ++ events
   pub given : List Given
   pub given_are : IfSome old.given (λ list. new.given ≡ Some (list ++ given))
   pub begun : IsBegun u events
   pub fed : AreFed u events given
+  pub at_work : AreAtWork u events new.running
   pub changed : OnlyOutputsChange u events before after
+  pub log : after log_path ≡ before log_path
+  pub done_well : (i : ℕ) (step : Step) (path : List ℕ) → Makes u.build.steps i step path → Contains events (Done i true) → (value : Value) × Clean u.build path value × Holds after path value
 
--- the one text begins with the other
-abbrev pub BeginsWith : List ℕ → List ℕ → Type 0
-BeginsWith whole prefix = (rest : List ℕ) × (whole ≡ prefix ++ rest)
+-- All that the update has done between two moments of visible files.
+pub record HasRunAll (u : Update) (answer : RunAnswer) (old new : Family) (before after : Disk) : Type 0 where
+  pub events : List ChildEvent
+  pub ran : HasRun u events old new before.now after.now
+  pub told : RunTold u events after.now answer
 
--- the lines of a prefix of the events that holds every start
-pub record TellsStarts (steps : List Step) (events : List ChildEvent) (written : List ℕ) : Type 0 where
-  pub prefix : List ChildEvent
-  pub rest : List ChildEvent
-  pub whole : events ≡ prefix ++ rest
-  pub only_ends : AllByRecursion (λ event. is_done event ≡ true) rest
-  pub lines : written ≡ event_lines steps prefix
+-- what the update of a plan has done, where the files are visible
+abbrev pub UpdateTold : Plan → Made → Outside → Outside → UpdateAnswer → Type 0
+UpdateTold plan made before after answer =
+    BothTold (λ disk later. HasRunAll (update_of plan made disk.now) (answer_of answer) before.children after.children disk later) before.disk after.disk
 
--- The writing stopped at the line of an event: the lines of the events before it were written, and a beginning of its own.
--- After it nothing was started.
-pub record StopsAtEvent (steps : List Step) (events : List ChildEvent) (written : List ℕ) : Type 0 where
-  pub prefix : List ChildEvent
-  pub event : ChildEvent
-  pub rest : List ChildEvent
-  pub whole : events ≡ prefix ++ event ∷ rest
-  pub only_ends : AllByRecursion (λ event. is_done event ≡ true) rest
-  pub has_line : event_line steps event ≢ []
-  pub part : List ℕ
-  pub begins : BeginsWith (event_line steps event) part
-  pub lines : written ≡ event_lines steps prefix ++ part
+-- ---- the bytes
 
--- The writing stopped after the events of a whole run, in the end of its report.
-pub record StopsAtEnd (u : Update) (events : List ChildEvent) (written : List ℕ) : Type 0 where
-  pub run : IsRun u events
-  pub lists : FailedLists
-  pub are : AreLists u events lists
-  pub part : List ℕ
-  pub begins : BeginsWith (end_lines u.build.steps (count_by is_good_end events) lists) part
-  pub lines : written ≡ event_lines u.build.steps events ++ part
-
--- where the writing stops
+-- where a fault of the sink stops the writing
 abbrev pub StopsAtWrite : Update → List ChildEvent → List ℕ → Type 0
 StopsAtWrite u events written = StopsAtEvent u.build.steps events written ⊎ StopsAtEnd u events written
 
@@ -102,44 +76,21 @@ abbrev pub StopsSomewhere : Update → List ChildEvent → List ℕ → Type 0
 StopsSomewhere u events written = TellsStarts u.build.steps events written ⊎ StopsAtWrite u events written
 
 -- what an answer says of the bytes that were written
-abbrev pub WrittenBy : Update → List ChildEvent → UpdateAnswer → List ℕ → Type 0
-WrittenBy u events answers.Done written = written ≡ report u.build.steps events nothing_lacks
-WrittenBy u events (answers.Failed lists) written = written ≡ report u.build.steps events lists
-WrittenBy u events answers.HostFault written = TellsStarts u.build.steps events written
-WrittenBy u events answers.SinkFault written = StopsAtWrite u events written
-WrittenBy u events answers.OutOfMemory written = StopsSomewhere u events written
-
--- All that an update has done between two moments of visible files.
-pub record HasUpdated (u : Update) (old new : Family) (answer : UpdateAnswer) (before after : Disk) : Type 0 where
-  pub events : List ChildEvent
-  pub ran : HasRun u events old new before.now after.now
-  pub told : AnswerTold u events after.now answer
-
--- what the update of a plan has done, where the files are visible
-abbrev pub UpdateTold : Plan → Made → Outside → Outside → UpdateAnswer → Type 0
-UpdateTold plan made before after answer =
-    BothTold (λ disk later. HasUpdated (update_of plan made disk.now) before.children after.children answer disk later) before.disk after.disk
+abbrev pub BytesTold : Update → List ChildEvent → RunAnswer → List ℕ → Type 0
+BytesTold u events all_went written = written ≡ report u.build.steps events no_lists
+BytesTold u events (some_failed lists) written = written ≡ report u.build.steps events lists
+BytesTold u events (step_cycle list) written = ⊥
+BytesTold u events (too_big path size) written = ⊥
+BytesTold u events host_fault written = TellsStarts u.build.steps events written
+BytesTold u events sink_fault written = StopsAtWrite u events written
+BytesTold u events out_of_memory written = StopsSomewhere u events written
 
 -- the bytes that were written, where the sink tells them
-abbrev pub HasWritten : Update → UpdateAnswer → Moment → Moment → Type 0
+abbrev pub HasWritten : Update → RunAnswer → Moment → Moment → Type 0
 HasWritten u answer before after = (events : List ChildEvent) → after.host.children.events ≡ before.host.children.events ++ events
-    → IfSome before.out.written (λ text. (written : List ℕ) × (after.out.written ≡ Some (text ++ written)) × WrittenBy u events answer written)
+    → IfSome before.out.written (λ text. (written : List ℕ) × (after.out.written ≡ Some (text ++ written)) × BytesTold u events answer written)
 
 -- what the update of a plan has written, where the files are visible
 abbrev pub WritingTold : Plan → Made → Moment → Moment → UpdateAnswer → Type 0
 WritingTold plan made before after answer =
-    BothTold (λ disk later. HasWritten (update_of plan made disk.now) answer before after) before.host.disk after.host.disk
-
--- the answer of an update that was stopped
-abbrev pub stop_answer : Stop → UpdateAnswer
-stop_answer stops.Host = answers.HostFault
-stop_answer stops.Sink = answers.SinkFault
-stop_answer stops.OutOfMemory = answers.OutOfMemory
-
--- the answer of an update that has come to its end with these lists
-abbrev pub IsEndOf : FailedLists → UpdateAnswer → Type 0
-IsEndOf lists answers.Done = (lists.failed ≡ []) × (lists.skipped ≡ []) × (lists.missing ≡ [])
-IsEndOf lists (answers.Failed others) = (others ≡ lists) × SomethingLacks lists
-IsEndOf lists answers.HostFault = ⊥
-IsEndOf lists answers.SinkFault = ⊥
-IsEndOf lists answers.OutOfMemory = ⊥
+    BothTold (λ disk later. HasWritten (update_of plan made disk.now) (answer_of answer) before after) before.host.disk after.host.disk

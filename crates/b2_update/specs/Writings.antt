@@ -1,5 +1,9 @@
 use Rattle.std.specs.Prelude.{◌≡◌, ℕ, List, ◌++◌, Option}
 use Rattle.std.specs.Option.{option_map}
+use Rattle.std.specs.List.{flat_map}
+use Rattle.b2_plan.specs.declared.step.Step.{Step}
+use Rattle.b2_plan.specs.Plans.{step_at}
+use Rattle.b2_runs.specs.Reports.{said_of, skipped_line}
 
 -- the text was written
 abbrev pub Adds : List ℕ → Option (List ℕ) → Option (List ℕ) → Type 0
@@ -11,3 +15,7 @@ pub record AddsPart (text : List ℕ) (before after : Option (List ℕ)) : Type 
   pub rest : List ℕ
   pub whole : text ≡ part ++ rest
   pub adds : Adds part before after
+
+-- what is said of steps that were skipped
+abbrev pub skipped_lines : List Step → List ℕ → List ℕ
+skipped_lines steps numbers = flat_map (λ i. said_of skipped_line (step_at steps i)) numbers

@@ -1,8 +1,9 @@
 //! One child at a time: its start, its line, and its end.
-ghost use Rattle.std.specs.Prelude.{◌≡◌, [], OnOk};
+ghost use Rattle.std.specs.Prelude.{◌≡◌, ◌≢◌, [], OnOk, OnErr};
 ghost use Rattle.b2_host.specs.OutsideLaws.{Keeps};
+ghost use Rattle.b2_runs.specs.UpdateAnswers.{IsQuietHost, LeavesNone};
 ghost use Rattle.b2_update.specs.Moments.{moment};
-ghost use Rattle.b2_update.specs.Stops.{Says, IsQuietHost, LeavesNone, Proceeds};
+ghost use Rattle.b2_update.specs.Stops.{Says, Proceeds};
 ghost use Rattle.b2_update.specs.Runners.{RunsOne, HasWaited, WaitsOne, RunsChild};
 
 use crate::stop::{Stop, host_stop, sink_stop};
@@ -19,6 +20,17 @@ pub fn write_line<S: Sink>(out: &mut S, line: &str) -> Result<(), Stop>
         Ok(()) => Ok(()),
         Err(fault) => Err(sink_stop(fault)),
     }
+}
+
+/// Writes the line of a start, where there is one.
+fn tell_start<S: Sink>(out: &mut S, line: &str) -> Result<(), Stop>
+    ensures said { Says line.now (S.output out.old) (S.output out.new) result }
+    ensures some { OnErr result (line.now ≢ []) }
+{
+    if line.is_empty() {
+        return Ok(());
+    }
+    write_line(out, line)
 }
 
 /// Waits once for the child that runs, whatever the wait answers. Takes no memory.
@@ -63,7 +75,7 @@ pub fn run_child<H: Children, S: Sink>(
     if let Err(fault) = host.start(number, step.text.as_str(), ins, step.outs.as_slice()) {
         return Err(host_stop(fault));
     }
-    if let Err(stop) = write_line(out, line) {
+    if let Err(stop) = tell_start(out, line) {
         drain(host);
         return Err(stop);
     }

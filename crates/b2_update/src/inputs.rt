@@ -5,10 +5,10 @@ ghost use Rattle.std.specs.List.{AllPairs, Contains};
 ghost use Rattle.b2_plan.specs.Closures.{Before};
 ghost use Rattle.b2_plan.specs.Plans.{maker_of};
 ghost use Rattle.b2_plan.specs.Sources.{IsInRoots, IsMissing};
-ghost use Rattle.b2_update.specs.Outcomes.{ArePathsOf};
+ghost use Rattle.b2_runs.specs.Outcomes.{ArePathsOf};
 ghost use Rattle.b2_update.specs.Plain.{plan_build};
 ghost use Rattle.b2_update.specs.Stops.{StopLooks};
-ghost use Rattle.b2_update.specs.Inputs.{IsInput, IsMissingInput, IsSomeSource, AreMissingAmong};
+ghost use Rattle.b2_update.specs.Inputs.{IsStepInput, IsMissingInput, IsSomeSource, AreMissingAmong};
 
 use crate::distinct::distinct;
 use crate::stop::Stop;
@@ -33,7 +33,7 @@ fn add_copies(found: &mut Vec<Path>, paths: &[Path]) -> Result<(), OutOfMemory>
 /// What the steps read, each path once, in byte order.
 fn all_inputs(alloc: Global, steps: &[Step]) -> Result<PathList, OutOfMemory>
     ensures rising { IfOk result (AllPairs Before) }
-    ensures each { IfOk result (λ made. (path : List ℕ) → Contains made path ↔ IsInput steps.now path) }
+    ensures each { IfOk result (λ made. (path : List ℕ) → Contains made path ↔ IsStepInput steps.now path) }
 {
     let mut found = Vec::new(alloc);
     for step in steps {

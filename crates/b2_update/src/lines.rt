@@ -1,6 +1,7 @@
 //! The lines of the report.
 ghost use Rattle.std.specs.Prelude.{◌≡◌, IfOk, string_bytes};
-ghost use Rattle.b2_update.specs.Reports.{first_out, start_line, failed_line, missing_line, skipped_line, summary_line};
+ghost use Rattle.b2_runs.specs.Reports.{first_path, named, start_line, failed_line, missing_line, skipped_line, summary_line};
+ghost use Rattle.b2_update.specs.Answers.{lists_of};
 
 use crate::failed_lists::FailedLists;
 use b2_base::fault::OutOfMemory;
@@ -10,7 +11,7 @@ use std::alloc::Global;
 
 /// The step's first output.
 fn first_output(step: &Step) -> &str
-    ensures { result.now ≡ first_out step.now }
+    ensures { result.now ≡ first_path step.now.outs }
 {
     match step.outs.as_slice().first() {
         None => "",
@@ -18,22 +19,35 @@ fn first_output(step: &Step) -> &str
     }
 }
 
-/// What is written when a step starts.
-pub fn start_text(alloc: Global, step: &Step) -> Result<String, OutOfMemory>
-    ensures { IfOk result (λ text. string_bytes text ≡ start_line step.now) }
+/// A step's name and its first output, or the output alone where the name is empty.
+fn title(alloc: Global, step: &Step) -> Result<String, OutOfMemory>
+    ensures { IfOk result (λ text. string_bytes text ≡ named step.now.name (first_path step.now.outs)) }
 {
     let name = step.name.as_str();
     let out = first_output(step);
-    Ok(format!(in alloc; "{name} {out}\n")?)
+    if name.is_empty() {
+        return Ok(format!(in alloc; "{out}")?);
+    }
+    Ok(format!(in alloc; "{name} {out}")?)
+}
+
+/// What is written when a step starts: nothing where its name is empty.
+pub fn start_text(alloc: Global, step: &Step) -> Result<String, OutOfMemory>
+    ensures { IfOk result (λ text. string_bytes text ≡ start_line step.now) }
+{
+    if step.name.as_str().is_empty() {
+        return Ok(String::new(alloc));
+    }
+    let text = title(alloc, step)?;
+    Ok(format!(in alloc; "{text}\n")?)
 }
 
 /// What is written when a step has failed.
 pub fn failed_text(alloc: Global, step: &Step) -> Result<String, OutOfMemory>
     ensures { IfOk result (λ text. string_bytes text ≡ failed_line step.now) }
 {
-    let name = step.name.as_str();
-    let out = first_output(step);
-    Ok(format!(in alloc; "...failed {name} {out}...\n")?)
+    let text = title(alloc, step)?;
+    Ok(format!(in alloc; "...failed {text}...\n")?)
 }
 
 /// What is written of a missing file.
@@ -58,7 +72,7 @@ pub fn summary_text(
     updated: usize,
     lists: &FailedLists,
 ) -> Result<String, OutOfMemory>
-    ensures { IfOk result (λ text. string_bytes text ≡ summary_line updated lists.now) }
+    ensures { IfOk result (λ text. string_bytes text ≡ summary_line updated (lists_of lists.now)) }
 {
     let failed = lists.failed.as_slice().len();
     let skipped = lists.skipped.as_slice().len();

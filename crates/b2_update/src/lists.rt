@@ -3,11 +3,13 @@ ghost use Rattle.std.specs.Prelude.{◌≡◌, ◌≤◌, [], ◌∷◌, ◌++�
 ghost use Rattle.std.specs.List.{flat_map};
 ghost use Rattle.std.specs.Option.{option_copied};
 ghost use Rattle.b2_plan.specs.Plans.{step_at};
+ghost use Rattle.b2_runs.specs.Outcomes.{IsListOf};
+ghost use Rattle.b2_runs.specs.Reports.{missing_line, skipped_line, said_of, end_lines};
+ghost use Rattle.b2_runs.specs.UpdateAnswers.{SomethingLacks};
+ghost use Rattle.b2_update.specs.Answers.{lists_of};
 ghost use Rattle.b2_update.specs.Stops.{Says};
 ghost use Rattle.b2_update.specs.Inputs.{outcome_at, is_settled, AreListed};
-ghost use Rattle.b2_update.specs.Outcomes.{IsListOf};
-ghost use Rattle.b2_update.specs.Reports.{missing_line, skipped_line, said_of, skipped_lines, summary_line, end_lines};
-ghost use Rattle.b2_update.specs.Updates.{SomethingLacks};
+ghost use Rattle.b2_update.specs.Writings.{skipped_lines};
 
 use crate::child::write_line;
 use crate::failed_lists::FailedLists;
@@ -146,7 +148,7 @@ pub fn tell_end<S: Sink>(
     updated: usize,
     lists: &FailedLists,
 ) -> Result<(), Stop>
-    ensures { Says (end_lines steps.now updated lists.now) (S.output out.old) (S.output out.new) result }
+    ensures { Says (end_lines steps.now updated (lists_of lists.now)) (S.output out.old) (S.output out.new) result }
 {
     tell_missing(alloc, out, lists.missing.as_slice())?;
     tell_skipped(alloc, steps, out, lists.skipped.as_slice())?;
@@ -159,7 +161,7 @@ pub fn is_empty(lists: &FailedLists) -> bool
     ensures failed { IsTrue result → lists.now.failed ≡ [] }
     ensures skipped { IsTrue result → lists.now.skipped ≡ [] }
     ensures missing { IsTrue result → lists.now.missing ≡ [] }
-    ensures some { result ≡ false → SomethingLacks lists.now }
+    ensures some { result ≡ false → SomethingLacks (lists_of lists.now) }
 {
     lists.failed.as_slice().is_empty()
         && lists.skipped.as_slice().is_empty()

@@ -6,11 +6,11 @@ ghost use Rattle.b2_host.specs.OutsideLaws.{Keeps};
 ghost use Rattle.b2_plan.specs.Plans.{step_at};
 ghost use Rattle.b2_plan.specs.Closures.{Before};
 ghost use Rattle.b2_update.specs.Moments.{moment};
-ghost use Rattle.b2_update.specs.Stops.{StopLooks, ChangesFiles, CountsTold, Proceeds};
+ghost use Rattle.b2_update.specs.Stops.{StopLooks, ChangesFiles, FaultsTold, Proceeds};
 ghost use Rattle.b2_update.specs.Outputs.{AllStand};
 ghost use Rattle.b2_update.specs.Inputs.{IsReadable, outcome_at};
 ghost use Rattle.b2_update.specs.Progress.{EndTold, DueTold, StepTold};
-ghost use Rattle.b2_update.specs.Turns.{DueTurns, StepTurns};
+ghost use Rattle.b2_update.specs.Turns.{EndedAs, DueTurns, StepTurns};
 
 use crate::child::{run_child, write_line};
 use crate::distinct::distinct;
@@ -75,9 +75,10 @@ fn fail_step<H: Children, S: Sink>(
     out: &mut S,
     step: &Step,
 ) -> Result<Outcome, Stop>
-    ensures counts { CountsTold (moment (H.outside host.old) (S.output out.old)) (moment (H.outside host.new) (S.output out.new)) result }
+    ensures counts { FaultsTold (moment (H.outside host.old) (S.output out.old)) (moment (H.outside host.new) (S.output out.new)) result }
     ensures files { ChangesFiles (H.outside host.old) (H.outside host.new) }
     ensures keeps { Keeps (H.outside host.old) (H.outside host.new) }
+    ensures failed { IfOk result (λ outcome. outcome ≡ Outcome.Failed) }
     ensures told { EndTold step.now false (moment (H.outside host.old) (S.output out.old)) (moment (H.outside host.new) (S.output out.new)) result }
 {
     remove_all(host, step.outs.as_slice())?;
@@ -106,9 +107,10 @@ fn finish_step<H: Children, S: Sink>(
     step: &Step,
     well: bool,
 ) -> Result<Outcome, Stop>
-    ensures counts { CountsTold (moment (H.outside host.old) (S.output out.old)) (moment (H.outside host.new) (S.output out.new)) result }
+    ensures counts { FaultsTold (moment (H.outside host.old) (S.output out.old)) (moment (H.outside host.new) (S.output out.new)) result }
     ensures files { ChangesFiles (H.outside host.old) (H.outside host.new) }
     ensures keeps { Keeps (H.outside host.old) (H.outside host.new) }
+    ensures became { IfOk result (λ outcome. EndedAs well step.now (H.outside host.old).disk outcome) }
     ensures told { EndTold step.now well (moment (H.outside host.old) (S.output out.old)) (moment (H.outside host.new) (S.output out.new)) result }
 {
     let left = has_left(host, step.outs.as_slice(), well)?;
@@ -129,7 +131,7 @@ fn start_step<H: Children, S: Sink>(
     requires idle { (H.outside host.old).children.running ≡ [] }
     ensures proceeds { Proceeds (moment (H.outside host.old) (S.output out.old)) (moment (H.outside host.new) (S.output out.new)) result }
     ensures keeps { Keeps (H.outside host.old) (H.outside host.new) }
-    ensures turns { DueTurns number (H.outside host.old) (H.outside host.new) result }
+    ensures turns { DueTurns number step.now (H.outside host.old) (H.outside host.new) result }
     ensures told { DueTold H.made number step.now (moment (H.outside host.old) (S.output out.old)) (moment (H.outside host.new) (S.output out.new)) result }
 {
     let ins = distinct(alloc, step.ins.as_slice())?;
@@ -152,9 +154,10 @@ pub fn run_step<H: Children, S: Sink>(
     requires rising { AllPairs Before missing.now }
     requires next { step_at plan.now.steps (length outcomes.now + 1) ≡ Some step.now }
     requires few { length outcomes.now < 65536 }
+    requires owes { step.now.notfile ≡ false }
     ensures proceeds { Proceeds (moment (H.outside host.old) (S.output out.old)) (moment (H.outside host.new) (S.output out.new)) result }
     ensures keeps { Keeps (H.outside host.old) (H.outside host.new) }
-    ensures turns { StepTurns outcomes.now (H.outside host.old) (H.outside host.new) result }
+    ensures turns { StepTurns plan.now.steps outcomes.now (H.outside host.old) (H.outside host.new) result }
     ensures told { StepTold plan.now H.made missing.now outcomes.now
         (moment (H.outside host.old) (S.output out.old)) (moment (H.outside host.new) (S.output out.new)) result }
 {

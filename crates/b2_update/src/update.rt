@@ -1,15 +1,17 @@
 //! The update of a plan.
-ghost use Rattle.std.specs.Prelude.{◌≡◌, [], IfOk, length};
+ghost use Rattle.std.specs.Prelude.{◌≡◌, ℕ, Some, false, [], IfOk, length};
 ghost use Rattle.std.specs.List.{AllPairs};
 ghost use Rattle.b2_host.specs.OutsideLaws.{Keeps};
-ghost use Rattle.b2_plan.specs.Plans.{Apart};
+ghost use Rattle.b2_plan.specs.declared.step.Step.{Step};
+ghost use Rattle.b2_plan.specs.Plans.{Apart, step_at};
 ghost use Rattle.b2_plan.specs.Closures.{Before};
+ghost use Rattle.b2_runs.specs.UpdateAnswers.{CausedBy, LeavesNone};
+ghost use Rattle.b2_update.specs.Answers.{answer_of, stop_answer, IsEndOf};
 ghost use Rattle.b2_update.specs.Moments.{moment};
 ghost use Rattle.b2_update.specs.Plain.{IsPlain};
-ghost use Rattle.b2_update.specs.Stops.{LeavesNone, Proceeds};
-ghost use Rattle.b2_update.specs.Progress.{StepsTold, PlanTold};
-ghost use Rattle.b2_update.specs.Turns.{HasTurns, StepsTurns, PlanTurns, failed_of};
-ghost use Rattle.b2_update.specs.Updates.{FaultsTold, UpdateTold, WritingTold, stop_answer, IsEndOf};
+ghost use Rattle.b2_update.specs.Progress.{StepsRan, PlanRan};
+ghost use Rattle.b2_update.specs.Turns.{HasTurns};
+ghost use Rattle.b2_update.specs.Updates.{UpdateTold, WritingTold};
 
 use crate::failed_lists::FailedLists;
 use crate::inputs::missing_inputs;
@@ -35,11 +37,9 @@ fn run_steps<H: Children, S: Sink>(
     requires idle { (H.outside host.old).children.running ≡ [] }
     requires apart { Apart plan.now.steps plan.now.roots }
     requires rising { AllPairs Before missing.now }
-    ensures proceeds { Proceeds (moment (H.outside host.old) (S.output out.old)) (moment (H.outside host.new) (S.output out.new)) result }
-    ensures keeps { Keeps (H.outside host.old) (H.outside host.new) }
+    requires owes { (i : ℕ) (step : Step) → step_at plan.now.steps i ≡ Some step → step.notfile ≡ false }
+    ensures ran { StepsRan plan.now H.made missing.now (moment (H.outside host.old) (S.output out.old)) (moment (H.outside host.new) (S.output out.new)) result }
     ensures whole { IfOk result (λ outcomes. length outcomes.items ≡ length plan.now.steps) }
-    ensures turns { StepsTurns (H.outside host.old) (H.outside host.new) result }
-    ensures told { StepsTold plan.now H.made missing.now (moment (H.outside host.old) (S.output out.old)) (moment (H.outside host.new) (S.output out.new)) result }
 {
     let mut outcomes = Vec::new(alloc);
     for step in plan.steps.as_slice() {
@@ -59,10 +59,7 @@ fn run_plan<H: Children, S: Sink>(
     requires idle { (H.outside host.old).children.running ≡ [] }
     requires apart { Apart plan.now.steps plan.now.roots }
     requires plain { IsPlain plan.now.steps plan.now.wanted }
-    ensures proceeds { Proceeds (moment (H.outside host.old) (S.output out.old)) (moment (H.outside host.new) (S.output out.new)) result }
-    ensures keeps { Keeps (H.outside host.old) (H.outside host.new) }
-    ensures turns { PlanTurns (H.outside host.old) (H.outside host.new) result }
-    ensures told { PlanTold plan.now H.made (moment (H.outside host.old) (S.output out.old)) (moment (H.outside host.new) (S.output out.new)) result }
+    ensures { PlanRan plan.now H.made (moment (H.outside host.old) (S.output out.old)) (moment (H.outside host.new) (S.output out.new)) result }
 {
     let missing = missing_inputs(alloc, plan, host)?;
     let outcomes = run_steps(alloc, plan, missing.as_slice(), host, out)?;
@@ -106,13 +103,14 @@ pub fn update<H: Children, S: Sink>(
     requires idle { (H.outside host.old).children.running ≡ [] }
     requires apart { Apart plan.now.steps plan.now.roots }
     requires plain { IsPlain plan.now.steps plan.now.wanted }
-    ensures counts { FaultsTold (moment (H.outside host.old) (S.output out.old)) (moment (H.outside host.new) (S.output out.new)) result }
+    ensures counts { CausedBy (moment (H.outside host.old) (S.output out.old)) (moment (H.outside host.new) (S.output out.new)) (answer_of result) }
     // No child is left, unless a wait for it failed, and then both counts of the host rose.
     ensures none_left { LeavesNone (H.outside host.old) (H.outside host.new) }
     // No count falls, visible files stay visible, and all that stood stays among the past.
     ensures keeps { Keeps (H.outside host.old) (H.outside host.new) }
-    // The events are in turn, over every host: one step is open at a time, none starts twice, and each failed step was done.
-    ensures turns { HasTurns (failed_of result) (H.outside host.old).children.events (H.outside host.new).children.events }
+    // The events are in order, over every host: one step is open at a time, and none starts twice. Each failed step was done
+    // badly, or left an output out; where all went well none did so.
+    ensures turns { HasTurns plan.now.steps (H.outside host.old).disk (answer_of result) (H.outside host.old).children.events (H.outside host.new).children.events }
     ensures updated { UpdateTold plan.now H.made (H.outside host.old) (H.outside host.new) result }
     ensures written { WritingTold plan.now H.made (moment (H.outside host.old) (S.output out.old)) (moment (H.outside host.new) (S.output out.new)) result }
 {

@@ -17,7 +17,7 @@ returns-then-not-is_empty-clause-answered g c =
     let host = before.host in
     answered_at made words before (moment host later) c.tell_usage.result
     (answered_usage made words host.children host.disk host.faults before.out.faults later.faults before.out.written later.written c.tell_usage.result (some_words words c.is_empty.result c.is_empty.ensures c.if-not-is_empty.true) c.requires (line_of answers.Usage usage_line before.out later c.tell_usage.result c.tell_usage.ensures))
-    (line_counts answers.Usage usage_line before (moment host later) c.tell_usage.result refl (λ stay. stay) c.tell_usage.ensures) (λ some. refl)
+    (line_counts answers.Usage usage_line before (moment host later) c.tell_usage.result (refl, refl) (λ stay. stay) c.tell_usage.ensures) (λ some. refl)
 
 pub returns-then-not-is_empty-clause-keeps : goal.returns-then-not-is_empty-clause-keeps
 returns-then-not-is_empty-clause-keeps g c =
@@ -89,7 +89,7 @@ returns-in-Err-Stopped-clause-answered g c =
     let host = before.host in
     from_unread made words before (moment loaded later) c.tell_stop.result none stopped.0
     (stop_counts stop before (moment loaded later) c.tell_stop.result stopped.1 c.tell_stop.ensures)
-    (same_count made host.children host.disk host.faults loaded.faults before.out.faults later.faults before.out.written later.written c.tell_stop.result stopped.1
+    (same_count made host.children host.disk host.faults loaded.faults before.out.faults later.faults before.out.written later.written c.tell_stop.result stopped.1.0
     (answered_stop made host.children host.disk host.faults before.out later c.tell_stop.result stop (load_names fault stop is l.names) (load_says host.disk fault stop is l.stop l.exact) c.requires c.tell_stop.ensures))
 
 pub returns-in-Err-Stopped-clause-none_left : goal.returns-in-Err-Stopped-clause-none_left

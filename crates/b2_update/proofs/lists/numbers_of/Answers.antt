@@ -1,7 +1,7 @@
 use Rattle.std.proofs.Common.{◌≡◌, ℕ, List, Some, subst, refl}
 use Rattle.b2_update.specs.declared.outcome.Outcome.{Outcome}
 use Rattle.b2_update.specs.Inputs.{outcome_at}
-use Rattle.b2_update.specs.Outcomes.{IsListOf}
+use Rattle.b2_runs.specs.Outcomes.{IsListOf}
 use Rattle.b2_update.proofs.ListLemmas.{take_whole}
 use Rattle.b2_update.proofs.NumberLemmas.{numbers_more}
 use Rattle.b2_update.proofs.lists.numbers_of.Goals as goal

@@ -2,8 +2,9 @@ use Rattle.std.proofs.Common.{◌++◌, ◌∙◌, ℕ, List, refl, sym, ap, sub
 use Rattle.std.specs.List.{flat_map}
 use Rattle.std.proofs.lemmas.Result.{err_from_is_err_and}
 use Rattle.b2_host.specs.Output.{Output}
-use Rattle.b2_update.specs.Reports.{missing_line, skipped_lines, summary_line, end_lines}
-use Rattle.b2_update.specs.Writings.{Adds, AddsPart}
+use Rattle.b2_runs.specs.Reports.{missing_line, summary_line, end_lines}
+use Rattle.b2_update.specs.Answers.{lists_of}
+use Rattle.b2_update.specs.Writings.{Adds, AddsPart, skipped_lines}
 use Rattle.b2_update.specs.Stops.{Says}
 use Rattle.b2_update.proofs.WritingLemmas.{says_err, says_from, says_map, says_no_memory, part_of_more, part_whole, adds_both, adds_then_part}
 use Rattle.b2_update.proofs.lists.tell_end.Goals as goal
@@ -14,8 +15,8 @@ returns-in_err-tell_missing g c =
     let lists = c.args.lists.now in
     let a = flat_map missing_line lists.missing in
     let b = skipped_lines c.args.steps.now lists.skipped in
-    let last = summary_line c.args.updated lists in
-    let text = end_lines c.args.steps.now c.args.updated lists in
+    let last = summary_line c.args.updated (lists_of lists) in
+    let text = end_lines c.args.steps.now c.args.updated (lists_of lists) in
     let o0 = g.S.Sink.output c.args.out.now in
     let o1 = g.S.Sink.output c.tell_missing.new.out in
     let says = subst (λ z. Says {T = Unit {0}} (flat_map missing_line c.as_slice.result.now) o0 o1 (Err z)) (sym q) c.in_err-tell_missing.ensures in
@@ -28,8 +29,8 @@ returns-in_err-tell_skipped g c =
     let lists = c.args.lists.now in
     let a = flat_map missing_line lists.missing in
     let b = skipped_lines c.args.steps.now lists.skipped in
-    let last = summary_line c.args.updated lists in
-    let text = end_lines c.args.steps.now c.args.updated lists in
+    let last = summary_line c.args.updated (lists_of lists) in
+    let text = end_lines c.args.steps.now c.args.updated (lists_of lists) in
     let o0 = g.S.Sink.output c.args.out.now in
     let o1 = g.S.Sink.output c.tell_missing.new.out in
     let one : Adds a o0.written o1.written = subst (λ (l : List (List ℕ)). Adds (flat_map missing_line l) o0.written o1.written) c.as_slice.ensures (ap (λ (o : Output). o.written) c.in_ok-tell_missing.ensures) in
@@ -45,8 +46,8 @@ returns-in_err-line g c =
     let lists = c.args.lists.now in
     let a = flat_map missing_line lists.missing in
     let b = skipped_lines c.args.steps.now lists.skipped in
-    let last = summary_line c.args.updated lists in
-    let text = end_lines c.args.steps.now c.args.updated lists in
+    let last = summary_line c.args.updated (lists_of lists) in
+    let text = end_lines c.args.steps.now c.args.updated (lists_of lists) in
     let o0 = g.S.Sink.output c.args.out.now in
     let o1 = g.S.Sink.output c.tell_missing.new.out in
     let one : Adds a o0.written o1.written = subst (λ (l : List (List ℕ)). Adds (flat_map missing_line l) o0.written o1.written) c.as_slice.ensures (ap (λ (o : Output). o.written) c.in_ok-tell_missing.ensures) in
@@ -62,8 +63,8 @@ returns g c =
     let lists = c.args.lists.now in
     let a = flat_map missing_line lists.missing in
     let b = skipped_lines c.args.steps.now lists.skipped in
-    let last = summary_line c.args.updated lists in
-    let text = end_lines c.args.steps.now c.args.updated lists in
+    let last = summary_line c.args.updated (lists_of lists) in
+    let text = end_lines c.args.steps.now c.args.updated (lists_of lists) in
     let o0 = g.S.Sink.output c.args.out.now in
     let o1 = g.S.Sink.output c.tell_missing.new.out in
     let one : Adds a o0.written o1.written = subst (λ (l : List (List ℕ)). Adds (flat_map missing_line l) o0.written o1.written) c.as_slice.ensures (ap (λ (o : Output). o.written) c.in_ok-tell_missing.ensures) in

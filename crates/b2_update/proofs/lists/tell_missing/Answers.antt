@@ -2,7 +2,7 @@ use Rattle.std.proofs.Common.{sym, subst, ap, ◌∙◌, Err}
 use Rattle.std.specs.List.{flat_map}
 use Rattle.std.proofs.lemmas.Result.{err_from_is_err_and}
 use Rattle.b2_host.specs.Output.{Output}
-use Rattle.b2_update.specs.Reports.{missing_line}
+use Rattle.b2_runs.specs.Reports.{missing_line}
 use Rattle.b2_update.specs.Writings.{Adds, AddsPart}
 use Rattle.b2_update.specs.Stops.{Says}
 use Rattle.b2_update.proofs.ListLemmas.{take_whole}

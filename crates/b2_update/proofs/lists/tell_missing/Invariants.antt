@@ -1,6 +1,6 @@
 use Rattle.std.proofs.Common.{◌≡◌, take}
 use Rattle.std.specs.List.{flat_map}
-use Rattle.b2_update.specs.Reports.{missing_line}
+use Rattle.b2_runs.specs.Reports.{missing_line}
 use Rattle.b2_update.specs.Writings.{Adds}
 use Rattle.b2_update.proofs.lists.tell_missing.Given as goal
 

@@ -2,8 +2,8 @@ use Rattle.std.proofs.Common.{ℕ, get_or, sym, subst, ap, ◌∙◌, Err}
 use Rattle.std.proofs.lemmas.Result.{err_from_is_err_and}
 use Rattle.b2_host.specs.Output.{Output}
 use Rattle.b2_plan.specs.Plans.{step_at}
-use Rattle.b2_update.specs.Reports.{skipped_line, skipped_lines, said_of}
-use Rattle.b2_update.specs.Writings.{Adds}
+use Rattle.b2_runs.specs.Reports.{skipped_line, said_of}
+use Rattle.b2_update.specs.Writings.{Adds, skipped_lines}
 use Rattle.b2_update.specs.Stops.{Says}
 use Rattle.b2_update.proofs.ListLemmas.{take_whole}
 use Rattle.b2_update.proofs.WritingLemmas.{says_err, says_from, says_all, part_more, adds_more}

@@ -1,6 +1,5 @@
 use Rattle.std.proofs.Common.{◌≡◌, take}
-use Rattle.b2_update.specs.Reports.{skipped_lines}
-use Rattle.b2_update.specs.Writings.{Adds}
+use Rattle.b2_update.specs.Writings.{Adds, skipped_lines}
 use Rattle.b2_update.proofs.lists.tell_skipped.Given as goal
 
 abbrev pub invariant-loop-number : goal.invariant-loop-number

@@ -17,7 +17,7 @@ returns-in_err-remove_all-clause-told g c = λ u entry list w at come.
     let h1 = g.H.Files.outside c.remove_all.new.host in
     let out = g.S.Sink.output c.args.out.now in
     let clears = subst (λ l. Clears l h0 h1) c.as_slice.ensures c.in_err-remove_all.ensures.clears in
-    let kept = ended_kept u entry list c.args.step.now (moment h0 out) h1 w at come clears in
+    let kept = ended_kept u entry list c.args.step.now (moment h0 out) h1 w at come clears c.remove_all.ensures.keeps (g.met.H.Files.consistent c.remove_all.new.host) in
     let other : y ≢ stops.Sink = subst (λ z. z ≢ stops.Sink) (sym q) (host_stops h0 h1 c.in_err-remove_all.field-0.0 c.in_err-remove_all.ensures.counts) in
     goes_err u entry list c.from_residual.result (moment h1 out) y e (ended_stopped u entry list false (moment h1 out) y other kept)
 
@@ -28,7 +28,7 @@ returns-in_err-line-clause-told g c = λ u entry list w at come.
     let h1 = g.H.Files.outside c.remove_all.new.host in
     let out = g.S.Sink.output c.args.out.now in
     let clears = subst (λ l. Clears l h0 h1) c.as_slice.ensures c.in_ok-remove_all.ensures.clears in
-    let kept = ended_kept u entry list c.args.step.now (moment h0 out) h1 w at come clears in
+    let kept = ended_kept u entry list c.args.step.now (moment h0 out) h1 w at come clears c.remove_all.ensures.keeps (g.met.H.Files.consistent c.remove_all.new.host) in
     let other : y ≢ stops.Sink = no_sink y q in
     goes_err u entry list c.from_residual-in_err-line.result (moment h1 out) y e (ended_stopped u entry list false (moment h1 out) y other kept)
 
@@ -39,7 +39,7 @@ returns-in_err-write_line-clause-told g c = λ u entry list w at come.
     let h1 = g.H.Files.outside c.remove_all.new.host in
     let out = g.S.Sink.output c.args.out.now in
     let clears = subst (λ l. Clears l h0 h1) c.as_slice.ensures c.in_ok-remove_all.ensures.clears in
-    let kept = ended_kept u entry list c.args.step.now (moment h0 out) h1 w at come clears in
+    let kept = ended_kept u entry list c.args.step.now (moment h0 out) h1 w at come clears c.remove_all.ensures.keeps (g.met.H.Files.consistent c.remove_all.new.host) in
     let later = g.S.Sink.output c.write_line.new.out in
     let line = c.as_str.ensures.value ∙ c.in_ok-line.ensures in
     let says = subst (λ z. Says {T = Unit {0}} c.as_str.result.now out later (Err z)) (sym q) c.in_err-write_line.ensures in
@@ -54,7 +54,7 @@ returns-clause-told g c = λ u entry list w at come.
     let out = g.S.Sink.output c.args.out.now in
     let later = g.S.Sink.output c.write_line.new.out in
     let clears = subst (λ l. Clears l h0 h1) c.as_slice.ensures c.in_ok-remove_all.ensures.clears in
-    let kept = ended_kept u entry list c.args.step.now (moment h0 out) h1 w at come clears in
+    let kept = ended_kept u entry list c.args.step.now (moment h0 out) h1 w at come clears c.remove_all.ensures.keeps (g.met.H.Files.consistent c.remove_all.new.host) in
     let gone = subst (λ l. IfSome h1.disk (AreGone l)) c.as_slice.ensures c.in_ok-remove_all.ensures.gone in
     let line = c.as_str.ensures.value ∙ c.in_ok-line.ensures in
     ended_failed u entry list c.args.step.now (moment h1 out) later at kept gone c.as_str.result.now line (ap (λ (o : Output). o.written) c.in_ok-write_line.ensures)

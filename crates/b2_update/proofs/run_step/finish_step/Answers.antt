@@ -3,10 +3,15 @@ use Rattle.std.proofs.lemmas.Result.{err_from_is_err_and}
 use Rattle.b2_host.specs.Disks.{Disk}
 use Rattle.b2_host.specs.OutsideLaws.{Keeps}
 use Rattle.b2_update.specs.Moments.{moment}
-use Rattle.b2_update.specs.Stops.{StopLooks, ChangesFiles, CountsTold}
+use Rattle.b2_update.specs.Stops.{StopLooks, ChangesFiles, FaultsTold}
 use Rattle.b2_update.specs.Outputs.{AllStand}
 use Rattle.b2_update.specs.Progress.{HasEndedChild}
-use Rattle.b2_update.proofs.StopLemmas.{goes_err, look_stops, look_told, look_files, look_keeps, counts_err}
+use Rattle.b2_update.proofs.StopLemmas.{goes_err, look_stops, look_told, look_files, look_keeps, faults_err}
+use Rattle.b2_update.specs.declared.outcome.Outcome.{Outcome}
+use Rattle.b2_update.specs.declared.outcome.Outcome.TheVariants as outcomes
+use Rattle.b2_update.specs.Turns.{EndedAs}
+use Rattle.b2_update.proofs.InputLemmas.{if_ok_map}
+use Rattle.b2_update.proofs.TurnLemmas.{left_out_told}
 use Rattle.b2_update.proofs.NextStepLemmas.{stopped_look, stands_along, ended_along, ended_badly}
 use Rattle.b2_update.proofs.StepLemmas.{ended_stopped, ended_settled}
 use Rattle.b2_update.proofs.run_step.finish_step.Goals as goal
@@ -18,7 +23,7 @@ returns-in_err-left-clause-counts g c =
     let out = g.S.Sink.output c.args.out.now in
     let (y, e, q) = err_from_is_err_and c.from_residual.result c.from_residual.ensures.1 in
     let looked = subst (λ z. StopLooks {T = Unit {0}} h0 h1 (Err z)) (sym q) c.in_err-left.ensures.host in
-    counts_err (moment h0 out) (moment h1 out) c.from_residual.result y e (look_told h0 h1 out y looked)
+    faults_err (moment h0 out) (moment h1 out) c.from_residual.result y e (look_told h0 h1 out y looked)
 
 pub returns-in_err-left-clause-files : goal.returns-in_err-left-clause-files
 returns-in_err-left-clause-files g c =
@@ -60,7 +65,7 @@ returns-clause-counts g c =
     let h0 = g.H.Files.outside c.args.host.now in
     let h1 = g.H.Files.outside c.has_left.new.host in
     let out = g.S.Sink.output c.args.out.now in
-    subst (λ h. CountsTold (moment h out) (moment (g.H.Files.outside c.fail_step.new.host) (g.S.Sink.output c.fail_step.new.out)) c.fail_step.result) c.in_ok-left.ensures.host c.fail_step.ensures.counts
+    subst (λ h. FaultsTold (moment h out) (moment (g.H.Files.outside c.fail_step.new.host) (g.S.Sink.output c.fail_step.new.out)) c.fail_step.result) c.in_ok-left.ensures.host c.fail_step.ensures.counts
 
 pub returns-clause-files : goal.returns-clause-files
 returns-clause-files g c =
@@ -76,5 +81,15 @@ returns-clause-told g c = λ u entry list w at come.
     let h1 = g.H.Files.outside c.has_left.new.host in
     let out = g.S.Sink.output c.args.out.now in
     let told = subst (λ (l : List (List ℕ)). IfSome h0.disk (λ (disk : Disk). c.args.well ≡ true → AllStand l disk → c.in_ok-left.left ≡ true)) c.as_slice.ensures c.in_ok-left.ensures.answer in
-    let bad = ended_badly u entry list c.args.step.now c.args.well c.in_ok-left.left (moment h0 out) at come told c.if-left.false in
+    let bad = ended_badly u entry list c.args.step.now c.args.well c.in_ok-left.left (moment h0 out) w at come told c.if-left.false in
     c.fail_step.ensures.told u entry list w at (ended_along u entry list false (moment h0 out) h1 c.in_ok-left.ensures.host bad)
+
+pub returns-then-left-clause-became : goal.returns-then-left-clause-became
+returns-then-left-clause-became g c = c.in_ok-left.ensures.well c.if-left.true
+
+pub returns-clause-became : goal.returns-clause-became
+returns-clause-became g c =
+    let disk = (g.H.Files.outside c.args.host.now).disk in
+    let told = subst (λ (l : List (List ℕ)). IfSome disk (λ (files : Disk). c.args.well ≡ true → AllStand l files → c.in_ok-left.left ≡ true)) c.as_slice.ensures c.in_ok-left.ensures.answer in
+    if_ok_map (λ (o : Outcome). o ≡ outcomes.Failed) (EndedAs c.args.well c.args.step.now disk) c.fail_step.result c.fail_step.ensures.failed
+    (λ o is. subst (EndedAs c.args.well c.args.step.now disk) (sym is) (left_out_told disk c.args.well c.in_ok-left.left c.args.step.now told c.if-left.false))

@@ -26,7 +26,7 @@ returns-clause-told g c = λ folder entry p s.
     c.start_step.ensures.told u entry list (record { whole = p.whole; made_is = refl; place = omega arith; at = c.requires.next; ready = ready }) s
 
 pub returns-then-not-is_ready-clause-turns : goal.returns-then-not-is_ready-clause-turns
-returns-then-not-is_ready-clause-turns g c = λ old h. turn_skipped c.args.outcomes.now old (g.H.Files.outside c.args.host.now).children.events h
+returns-then-not-is_ready-clause-turns g c = λ disk old same h. turn_skipped c.args.plan.now.steps disk c.args.outcomes.now old (g.H.Files.outside c.args.host.now).children.events h
 
 pub returns-clause-turns : goal.returns-clause-turns
-returns-clause-turns g c = λ old h. c.start_step.ensures.turns c.args.outcomes.now old (omega arith) h
+returns-clause-turns g c = λ disk old same h. c.start_step.ensures.turns c.args.plan.now.steps disk c.args.outcomes.now old same (omega arith) c.requires.next c.requires.owes h
