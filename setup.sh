@@ -21,7 +21,7 @@ crates_below() {
 
 crates=$(crates_below b2_cmd)
 count=$(echo "$crates" | wc -l)
-echo "b2 is $count crates, and each is proved before it is built. From nothing that takes about 12 minutes of processor"
+echo "b2 is $count crates, and each is proved before it is built. From nothing that takes about 15 minutes of processor"
 echo "time, 4 GB of memory, and 2 GB of disk in crates/*/out; later runs prove only what has changed."
 mkdir -p "$logs"
 number=0
