@@ -8,6 +8,7 @@ use b2_base::text::Text;
 use b2_features::attribute::{Attribute, is_attribute_word};
 use b2_features::fault::FeatureFault;
 use b2_features::registry::Registry;
+use b2_gcc::features::declare_features;
 use std::alloc::Global;
 use transcript::answer::Answer;
 use transcript::case_fault::CaseFault;
@@ -23,13 +24,16 @@ fn word_of(fault: &FeatureFault) -> Result<&Text, CaseFault> {
     }
 }
 
+/// The answer to a fault.
+pub fn refused(alloc: Global, fault: &FeatureFault) -> Result<Answer, CaseFault> {
+    let kind = format!(in alloc; "{fault}")?;
+    refusal(alloc, kind.as_str(), word_of(fault)?)
+}
+
 fn outcome(alloc: Global, outcome: Result<(), FeatureFault>) -> Result<Answer, CaseFault> {
     match outcome {
         Ok(()) => ok(alloc),
-        Err(fault) => {
-            let kind = format!(in alloc; "{fault}")?;
-            refusal(alloc, kind.as_str(), word_of(&fault)?)
-        }
+        Err(fault) => refused(alloc, &fault),
     }
 }
 
@@ -67,6 +71,15 @@ pub fn compose(
         alloc,
         registry.compose(name.as_str(), value.as_str(), parts.as_slice()),
     )
+}
+
+pub fn declare_toolset(
+    alloc: Global,
+    registry: &mut Registry,
+    words: &[Word],
+) -> Result<Answer, CaseFault> {
+    no_words(words)?;
+    outcome(alloc, declare_features(alloc, registry))
 }
 
 fn count(alloc: Global, registry: &Registry, words: &[Word]) -> Result<Answer, CaseFault> {

@@ -5,6 +5,7 @@
 //! - `new` puts an empty table, an empty set and an empty list of sets in place, `new_set` an empty set alone.
 //! - `feature NAME VALUES : ATTRIBUTES` and `compose PROPERTY COMPONENTS` declare; they answer `ok` or the refusal. Without
 //!   attributes the sign `:` may be left out.
+//! - `declare_features` declares the features of the gcc toolset, with the same answers.
 //! - `count`, `at PLACE`, `place_of NAME`, `find NAME`, `implicit_of VALUE`, `default_of NAME`, `is NAME ATTRIBUTE`,
 //!   `lists NAME VALUE`, `default_value NAME`, `parts_of PROPERTY`, `name ATTRIBUTE`, `stands_in ATTRIBUTE WORDS` and
 //!   `is_attribute_word WORD` ask the table, its features and the attributes.

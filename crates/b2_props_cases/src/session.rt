@@ -1,5 +1,5 @@
 //! The commands by their names.
-use crate::features::{ask, compose, feature};
+use crate::features::{ask, compose, declare_toolset, feature};
 use crate::sets::{contains, dir_of, expanded, given, handed, has_all, refined, request};
 use crate::shown::{ok, set_line, sets_lines, truth_word};
 use crate::words::no_words;
@@ -110,6 +110,7 @@ impl Session for Cases {
             "new" => self.renew(alloc, words),
             "feature" => feature(alloc, &mut self.registry, words),
             "compose" => compose(alloc, &mut self.registry, words),
+            "declare_features" => declare_toolset(alloc, &mut self.registry, words),
             name => self.change_set(alloc, name, words),
         }
     }

@@ -74,7 +74,7 @@ pub fn declared_or_none(alloc: Global, found: Option<&Feature>) -> Result<Answer
     }
 }
 
-fn push_pair(line: &mut String, pair: &(Text, Text)) -> Result<(), CaseFault> {
+pub fn push_pair(line: &mut String, pair: &(Text, Text)) -> Result<(), CaseFault> {
     if !line.is_empty() {
         line.push(' ')?;
     }
@@ -85,7 +85,7 @@ fn push_pair(line: &mut String, pair: &(Text, Text)) -> Result<(), CaseFault> {
     Ok(())
 }
 
-fn push_pairs(line: &mut String, pairs: &[(Text, Text)]) -> Result<(), CaseFault> {
+pub fn push_pairs(line: &mut String, pairs: &[(Text, Text)]) -> Result<(), CaseFault> {
     for pair in pairs {
         push_pair(line, pair)?;
     }
