@@ -14,9 +14,12 @@
 //! - `register_type NAME SUFFIXES` and `register ID SOURCES : TARGETS : REQUIRED` answer whether they registered it.
 //!   `type_of PATH`, `suffix_of NAME` and `generator ID` ask the table. `chain FROM TO PROPERTIES` shows the ids of the
 //!   chain in the set that the properties make, or why there is none.
+//! - `declare_features`, `declare_types` and `declare_generators` declare what the gcc toolset does; the last two answer
+//!   whether they registered all. `gcc_text COMMAND` shows its build text, with `g++` where no command is given.
 #![tactic(auto)]
 
 mod chains;
+mod gcc;
 mod rules;
 mod session;
 mod shown;

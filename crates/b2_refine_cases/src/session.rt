@@ -1,12 +1,12 @@
 //! The commands by their names.
 use crate::chains::found_chain;
+use crate::gcc::ask_gcc;
 use crate::rules::Rules;
 use crate::shown::{ok, set_line};
 use crate::steps::{
     add_row, add_rule, chosen, compose, evaluated, fault_row, feature, indirect, requirement, row,
     whole,
 };
-use crate::types::ask_types;
 use crate::words::{no_words, pairs};
 use b2_features::registry::Registry;
 use b2_generators::types::Types;
@@ -81,7 +81,7 @@ impl Cases {
             "fault" => add_row(alloc, &mut self.rules, fault_row(alloc, words)?),
             "alternative" => self.add_alternative(alloc, words),
             "chain" => found_chain(alloc, &self.registry, &self.types, words),
-            _ => ask_types(alloc, &mut self.types, name, words),
+            _ => ask_gcc(alloc, &mut self.registry, &mut self.types, name, words),
         }
     }
 
