@@ -10,7 +10,14 @@
 //! - `define_rule NAME LINE` defines a rule without statements that stands in that line, and `define_actions NAME BODY`
 //!   actions. `find_rule NAME` and `find_actions NAME` show the module and the name where they are found, with the rule's home
 //!   and line, or the body. `import_rule MODULE NAME MODULE NAME` puts a rule into a module under a name.
-//! - `set_on TARGET NAME VALUE` and `on_target TARGET NAME` set and show an own value of a target.
+//!   `rule_at MODULE NAME LINE` takes a share of a rule, defines the name anew in the present module, and shows the share.
+//!   `rule_names MODULE` shows a module's own rules. `set_parent MODULE PARENT` puts a module above another one, or answers
+//!   `not above` where it may not be there.
+//! - `assigned NAME` shows the value that `set` would replace.
+//! - `set_on TARGET NAME VALUE` and `on_target TARGET NAME` set and show an own value of a target, `own_names TARGET` shows its
+//!   names, and `bind_own TARGET` binds them in the newest frame, or answers `no frame` as `bind` does.
+//! - `open_step OUT INS` opens a step, or answers `open` where one is; `step` shows its notes. `add_depends PATH`, `set_always`
+//!   and `set_notfile` note something of it.
 //! - `set_place DIR`, `place`, `add_roots DIRS`, `freeze_roots` and `roots` are about the project's directory and the output
 //!   roots.
 //! - `sets COUNT NAME VALUE` and `appends COUNT NAME VALUE` set and append so often, `marked_sets COUNT NAME VALUE` makes a
@@ -23,6 +30,7 @@ mod naming;
 mod project;
 mod rules;
 mod session;
+mod step;
 mod words;
 
 use crate::session::Cases;

@@ -65,6 +65,7 @@ pub fn answer_naming(
     let answer = match command.name() {
         "look" => texts_answer(alloc, world.look(only(words)?))?,
         "look_size" => look_size(alloc, world, words)?,
+        "assigned" => texts_answer(alloc, world.assigned(only(words)?))?,
         "set" => set(alloc, world, words)?,
         "append" => append(alloc, world, words)?,
         "bind" => bind(alloc, world, words)?,

@@ -22,6 +22,20 @@ fn on_target(alloc: Global, world: &World, words: &[Word]) -> Result<Answer, Cas
     }
 }
 
+fn own_names(alloc: Global, world: &World, words: &[Word]) -> Result<Answer, CaseFault> {
+    let names = world.own_names(only(words)?)?;
+    texts_answer(alloc, names.as_slice())
+}
+
+fn bind_own(alloc: Global, world: &mut World, words: &[Word]) -> Result<Answer, CaseFault> {
+    let target = only(words)?;
+    if !world.may_leave() {
+        return Answer::line(alloc, "no frame");
+    }
+    world.bind_own(target)?;
+    Ok(Answer::new(alloc))
+}
+
 fn set_place(alloc: Global, world: &mut World, words: &[Word]) -> Result<Answer, CaseFault> {
     let dir = path(alloc, only(words)?)?;
     world.set_place(&dir)?;
@@ -50,6 +64,8 @@ pub fn answer_project(
     let answer = match command.name() {
         "set_on" => set_on(alloc, world, words)?,
         "on_target" => on_target(alloc, world, words)?,
+        "own_names" => own_names(alloc, world, words)?,
+        "bind_own" => bind_own(alloc, world, words)?,
         "set_place" => set_place(alloc, world, words)?,
         "place" => Answer::line(alloc, world.place().as_str())?,
         "add_roots" => add_roots(alloc, world, words)?,

@@ -1,4 +1,5 @@
 //! Commands on rules and actions.
+use crate::answers::texts_answer;
 use crate::words::{first, number, only};
 use b2_base::text::Text;
 use jam_grammar::tree::Block;
@@ -16,12 +17,9 @@ fn body_of(alloc: Global, line: u32) -> Result<RuleBody, CaseFault> {
     let block = Block {
         stmts: Vec::new(alloc),
     };
-    Ok(RuleBody {
-        params: Vec::new(alloc),
-        block: Rc::new(alloc, block)?,
-        path: Text::new(alloc, "F")?,
-        line,
-    })
+    let block = Rc::new(alloc, block)?;
+    let path = Text::new(alloc, "F")?;
+    Ok(RuleBody::new(Vec::new(alloc), block, path, line))
 }
 
 fn define_rule(alloc: Global, world: &mut World, words: &[Word]) -> Result<Answer, CaseFault> {
@@ -35,9 +33,7 @@ fn define_actions(alloc: Global, world: &mut World, words: &[Word]) -> Result<An
     let [name, body] = words else {
         return Err(CaseFault::WrongWords);
     };
-    let body = ActionBody {
-        body: body.as_text(alloc)?,
-    };
+    let body = ActionBody::new(body.as_text(alloc)?);
     world.define_actions(name.as_str()?, body)?;
     Ok(Answer::new(alloc))
 }
@@ -50,7 +46,7 @@ fn find_rule(alloc: Global, world: &World, words: &[Word]) -> Result<Answer, Cas
         return Answer::line(alloc, "none");
     };
     let RuleRef { module, name } = at;
-    let line = body.line;
+    let line = body.line();
     let shown = format!(in alloc; "[{module}] {name}, home [{home}], line {line}")?;
     Answer::line(alloc, shown.as_str())
 }
@@ -63,7 +59,7 @@ fn find_actions(alloc: Global, world: &World, words: &[Word]) -> Result<Answer, 
         return Answer::line(alloc, "none");
     };
     let RuleRef { module, name } = at;
-    let body = actions.body.as_str();
+    let body = actions.text().as_str();
     let shown = format!(in alloc; "[{module}] {name}: {body}")?;
     Answer::line(alloc, shown.as_str())
 }
@@ -75,6 +71,41 @@ fn import_rule(alloc: Global, world: &mut World, words: &[Word]) -> Result<Answe
     let to_name = only(others)?;
     let found = world.import_rule(&RuleRef { module, name }, to_module, to_name)?;
     Answer::line(alloc, if found { "imported" } else { "none" })
+}
+
+/// A share of a rule, which is defined anew before the share is shown.
+fn rule_at(alloc: Global, world: &mut World, words: &[Word]) -> Result<Answer, CaseFault> {
+    let (module, others) = first(words)?;
+    let (name, others) = first(others)?;
+    let line = number(only(others)?)?;
+    let Some(rule) = world.rule_at(&RuleRef { module, name })? else {
+        return Answer::line(alloc, "none");
+    };
+    world.define_rule(name, body_of(alloc, line)?)?;
+    let home = rule.home();
+    let line = rule.body().line();
+    let path = rule.body().path().as_str();
+    let lists = rule.body().params().len();
+    let statements = rule.body().block().stmts.len();
+    let shown = format!(in alloc;
+        "home [{home}], {path}:{line}, {lists} lists, {statements} statements"
+    )?;
+    Answer::line(alloc, shown.as_str())
+}
+
+fn rule_names(alloc: Global, world: &World, words: &[Word]) -> Result<Answer, CaseFault> {
+    let names = world.rule_names(only(words)?)?;
+    texts_answer(alloc, names.as_slice())
+}
+
+fn set_parent(alloc: Global, world: &mut World, words: &[Word]) -> Result<Answer, CaseFault> {
+    let (module, others) = first(words)?;
+    let parent = only(others)?;
+    if !world.may_be_above(module, parent) {
+        return Answer::line(alloc, "not above");
+    }
+    world.set_parent(module, parent)?;
+    Ok(Answer::new(alloc))
 }
 
 /// The answer to a command on rules and actions; none where it is another command.
@@ -90,6 +121,9 @@ pub fn answer_rules(
         "find_rule" => find_rule(alloc, world, words)?,
         "find_actions" => find_actions(alloc, world, words)?,
         "import_rule" => import_rule(alloc, world, words)?,
+        "rule_at" => rule_at(alloc, world, words)?,
+        "rule_names" => rule_names(alloc, world, words)?,
+        "set_parent" => set_parent(alloc, world, words)?,
         _ => return Ok(None),
     };
     Ok(Some(answer))

@@ -3,6 +3,7 @@ use crate::marking::answer_marking;
 use crate::naming::answer_naming;
 use crate::project::answer_project;
 use crate::rules::answer_rules;
+use crate::step::answer_step;
 use crate::words::no_words;
 use b2_base::fault::OutOfMemory;
 use jam_scope::mark::Mark;
@@ -47,6 +48,9 @@ impl Session for Cases {
             return Ok(answer);
         }
         if let Some(answer) = answer_rules(alloc, command, &mut self.world)? {
+            return Ok(answer);
+        }
+        if let Some(answer) = answer_step(alloc, command, &mut self.world)? {
             return Ok(answer);
         }
         if let Some(answer) = answer_project(alloc, command, &mut self.world)? {
