@@ -1,0 +1,12 @@
+pub mod ListLemmas
+pub mod LoopSteps
+pub mod TextLemmas
+pub mod SortLemmas
+pub mod SeenLemmas
+pub mod MatchLemmas
+pub mod TargetLemmas
+pub mod DirLemmas
+pub mod BelowLemmas
+pub mod GlobLemmas
+pub mod ListingLemmas
+pub mod OutputLemmas

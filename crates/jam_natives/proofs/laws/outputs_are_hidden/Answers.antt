@@ -1,0 +1,5 @@
+use Rattle.jam_natives.proofs.OutputLemmas.{hides_outputs}
+use Rattle.jam_natives.proofs.laws.outputs_are_hidden.Goals as goal
+
+pub returns : goal.returns
+returns c = hides_outputs

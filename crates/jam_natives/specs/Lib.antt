@@ -1,0 +1,13 @@
+pub mod Shapes
+pub mod Rules
+pub mod Lists
+pub mod Texts
+pub mod Seen
+pub mod Matches
+pub mod Sights
+pub mod Globs
+pub mod Searches
+pub mod Targets
+pub mod Named
+pub mod OutputDirs
+pub mod Laws
