@@ -1,0 +1,94 @@
+//! Commands on files.
+use crate::answers::texts_answer;
+use crate::words::{lists, path, paths, texts};
+use b2_base::path_list::PathList;
+use b2_base::text_list::TextList;
+use b2_host::fault::IoFault;
+use b2_memory::memory::{CallKind, MemoryHost};
+use jam_natives::glob::{glob, project_glob};
+use jam_natives::list::{list_at, text_of};
+use std::alloc::Global;
+use transcript::answer::Answer;
+use transcript::case_fault::CaseFault;
+use transcript::command::{Command, Word};
+
+/// The output roots of a new world.
+fn first_roots(alloc: Global) -> Result<PathList, CaseFault> {
+    let mut roots = PathList::new(alloc);
+    roots.push(path(alloc, "bin")?)?;
+    roots.push(path(alloc, "stage")?)?;
+    roots.push(path(alloc, "dist")?)?;
+    Ok(roots)
+}
+
+fn found(alloc: Global, found: Result<TextList, IoFault>) -> Result<Answer, CaseFault> {
+    match found {
+        Ok(texts) => texts_answer(alloc, texts.as_slice()),
+        Err(IoFault::Failed) => Answer::line(alloc, "host fault"),
+        Err(IoFault::OutOfMemory) => Err(CaseFault::OutOfMemory),
+    }
+}
+
+fn glob_command(alloc: Global, host: &mut MemoryHost, words: &[Word]) -> Result<Answer, CaseFault> {
+    let given = lists(alloc, words)?;
+    let given = given.as_slice();
+    let roots = first_roots(alloc)?;
+    let (dirs, patterns) = (list_at(given, 0), list_at(given, 1));
+    found(alloc, glob(alloc, dirs, patterns, roots.as_slice(), host))
+}
+
+fn project_glob_command(
+    alloc: Global,
+    host: &mut MemoryHost,
+    words: &[Word],
+) -> Result<Answer, CaseFault> {
+    let given = lists(alloc, words)?;
+    let given = given.as_slice();
+    let roots = first_roots(alloc)?;
+    let place = path(alloc, text_of(list_at(given, 0)))?;
+    let (patterns, excluded) = (list_at(given, 1), list_at(given, 2));
+    let answer = project_glob(alloc, &place, patterns, excluded, roots.as_slice(), host);
+    found(alloc, answer)
+}
+
+/// Puts files there, each with one byte. The host runs no child.
+fn files(alloc: Global, host: &mut MemoryHost, words: &[Word]) -> Result<Answer, CaseFault> {
+    let names = texts(alloc, words)?;
+    let paths = paths(alloc, names.as_slice())?;
+    for path in paths.as_slice() {
+        if host.running().is_empty() {
+            host.edit(path, Some(b"x".as_slice()))?;
+        }
+    }
+    Ok(Answer::new(alloc))
+}
+
+fn fail_list(alloc: Global, host: &mut MemoryHost, words: &[Word]) -> Result<Answer, CaseFault> {
+    let [word] = words else {
+        return Err(CaseFault::WrongWords);
+    };
+    match word.as_str()?.parse::<u32>() {
+        Ok(number) => {
+            host.fail_calls([(CallKind::List, number)].as_slice())?;
+            Ok(Answer::new(alloc))
+        }
+        Err(_) => Err(CaseFault::WrongWords),
+    }
+}
+
+/// The answer to a command on files; none where it is another command.
+pub fn file_command(
+    alloc: Global,
+    host: &mut MemoryHost,
+    command: &Command,
+) -> Result<Option<Answer>, CaseFault> {
+    let words = command.words();
+    let answer = match command.name() {
+        "file" => files(alloc, host, words)?,
+        "fail_list" => fail_list(alloc, host, words)?,
+        "glob" => glob_command(alloc, host, words)?,
+        "project_glob" => project_glob_command(alloc, host, words)?,
+        _ => return Ok(None),
+    };
+    Ok(Some(answer))
+}
