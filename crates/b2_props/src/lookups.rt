@@ -8,7 +8,7 @@ use b2_features::attribute::Attribute;
 use b2_features::registry::Registry;
 
 /// Whether the feature of a name is there and has an attribute; takes no memory.
-pub(crate) fn is_with(registry: &Registry, attribute: Attribute, name: &str) -> bool
+pub fn is_with(registry: &Registry, attribute: Attribute, name: &str) -> bool
     ensures { result ≡ is_with attribute registry.now name.now }
 {
     match registry.find(name) {
@@ -18,7 +18,7 @@ pub(crate) fn is_with(registry: &Registry, attribute: Attribute, name: &str) -> 
 }
 
 /// The components of a pair: none where its value is not composed. Takes no memory.
-pub(crate) fn parts_in<'a>(registry: &'a Registry, pair: &(Text, Text)) -> &'a [(Text, Text)]
+pub fn parts_in<'a>(registry: &'a Registry, pair: &(Text, Text)) -> &'a [(Text, Text)]
     ensures { result.now ≡ parts_in registry.now pair.now }
 {
     match registry.find(pair.0.as_str()) {

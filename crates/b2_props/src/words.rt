@@ -1,4 +1,4 @@
-//! The words of a request.
+//! Words cut into properties.
 ghost use Rattle.std.specs.Prelude.{◌≡◌, List, [], ◌∷◌, ◌++◌, None, IfOk, IfErr, OnOk, MatchOption, map, true, false, All};
 ghost use Rattle.std.specs.List.{list_all, filter_map};
 ghost use Rattle.std.specs.Option.{option_copied, option_to_list};
@@ -15,7 +15,8 @@ use b2_features::attribute::Attribute;
 use b2_features::registry::Registry;
 use std::alloc::Global;
 
-fn owned(alloc: Global, cuts: &[&str]) -> Result<Vec<Text>, OutOfMemory>
+/// Owns some texts.
+pub fn owned(alloc: Global, cuts: &[&str]) -> Result<Vec<Text>, OutOfMemory>
     requires { All (λ part. HasNoZero part.now) cuts.now }
     ensures { IfOk result (λ made. made.items ≡ texts cuts.now) }
 {
@@ -26,7 +27,8 @@ fn owned(alloc: Global, cuts: &[&str]) -> Result<Vec<Text>, OutOfMemory>
     Ok(made)
 }
 
-fn commas(alloc: Global, text: &str) -> Result<Vec<Text>, OutOfMemory>
+/// The parts of a text with commas between them.
+pub fn commas(alloc: Global, text: &str) -> Result<Vec<Text>, OutOfMemory>
     requires { HasNoZero text.now }
     ensures { IfOk result (λ made. made.items ≡ cut 44 text.now) }
 {
@@ -132,8 +134,8 @@ fn named_pairs(
     Ok(made)
 }
 
-/// The feature of an implicit value.
-fn implicit_feature<'a>(registry: &'a Registry, value: &Text) -> Option<&'a Text>
+/// The feature of an implicit value; takes no memory.
+pub fn implicit_feature<'a>(registry: &'a Registry, value: &Text) -> Option<&'a Text>
     ensures { option_copied result ≡ implicit_of registry.now value.now }
 {
     match registry.implicit_of(value.as_str()) {
