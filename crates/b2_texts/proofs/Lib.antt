@@ -1,0 +1,5 @@
+pub mod Cutting
+pub mod Naming
+pub mod Pieces
+pub mod Listing
+pub mod Meeting

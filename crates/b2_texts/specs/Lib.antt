@@ -1,0 +1,4 @@
+pub mod Cuts
+pub mod Completion
+pub mod Readings
+pub mod Clashes
