@@ -14,12 +14,16 @@
 //! - `copy` adds a copy of the set at hand to a list of sets, which it shows; `equals` compares the set at hand with each
 //!   set of that list.
 //! - `read_request WORDS` shows the targets and the sets of a request, or its refusal.
+//! - `read_property DIR TEXT`, `read_usage DIR TEXT` and `read_requirement DIR TEXT` read a property text of the project of
+//!   a directory; `read_properties`, `read_usages` and `read_requirements` read several, the last one shows those without
+//!   conditions. `has_two_values PROPERTIES` tells whether a feature has two values.
 #![tactic(auto)]
 
 mod features;
 mod session;
 mod sets;
 mod shown;
+mod texts;
 mod words;
 
 use crate::session::Cases;

@@ -2,6 +2,7 @@
 use crate::features::{ask, compose, declare_toolset, feature};
 use crate::sets::{contains, dir_of, expanded, given, handed, has_all, refined, request};
 use crate::shown::{ok, set_line, sets_lines, truth_word};
+use crate::texts::read;
 use crate::words::no_words;
 use b2_features::registry::Registry;
 use b2_props::props::Props;
@@ -73,6 +74,7 @@ impl Cases {
             "equals" => self.equals(alloc, words),
             "has_all" => has_all(alloc, &self.set, words),
             "read_request" => request(alloc, &self.registry, words),
+            name if is_reading(name) => read(alloc, &self.registry, name, words),
             _ => ask(alloc, &self.registry, name, words),
         }
     }
@@ -101,6 +103,11 @@ impl Cases {
             _ => self.ask_set(alloc, name, words),
         }
     }
+}
+
+/// Whether a command reads property texts.
+fn is_reading(name: &str) -> bool {
+    name == "has_two_values" || (name.starts_with("read_") && name != "read_request")
 }
 
 impl Session for Cases {
