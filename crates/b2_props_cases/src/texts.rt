@@ -7,7 +7,9 @@ use b2_base::text::Text;
 use b2_features::registry::Registry;
 use b2_texts::clashes::{has_two_values, unconditional_pairs};
 use b2_texts::lists::{read_properties, read_requirements, read_usages};
-use b2_texts::reading::{Conditional, RequirementText, read_property, read_requirement, read_usage};
+use b2_texts::reading::{
+    Conditional, RequirementText, read_property, read_requirement, read_usage,
+};
 use std::alloc::Global;
 use transcript::answer::Answer;
 use transcript::case_fault::CaseFault;
@@ -62,12 +64,7 @@ fn property(
     }
 }
 
-fn usage(
-    alloc: Global,
-    registry: &Registry,
-    dir: &Path,
-    text: &Text,
-) -> Result<Answer, CaseFault> {
+fn usage(alloc: Global, registry: &Registry, dir: &Path, text: &Text) -> Result<Answer, CaseFault> {
     match read_usage(alloc, registry, dir, text) {
         Ok(read) => conditional_line(alloc, &read),
         Err(fault) => refused(alloc, &fault),
