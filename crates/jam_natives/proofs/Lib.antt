@@ -10,3 +10,4 @@ pub mod BelowLemmas
 pub mod GlobLemmas
 pub mod ListingLemmas
 pub mod OutputLemmas
+pub mod PartLemmas

@@ -11,3 +11,7 @@ pub mod Targets
 pub mod Named
 pub mod OutputDirs
 pub mod Laws
+pub mod Keeping
+pub mod Rows
+pub mod Calls
+pub mod Seeing
