@@ -1,7 +1,8 @@
 -- What reading a part answers.
 use Rattle.std.specs.Prelude.{◌≡◌, ℕ, ◌+◌, ◌≤◌, List, [], ◌∷◌, ◌++◌, length}
 use Rattle.b2_base.specs.declared.token.Token.{Token}
-use Rattle.jam_grammar.specs.Grammar.{Part, Key, OneWord, OneStmt, OneBlock, OneArg, OneInner, OneExpr, Both, Single}
+use Rattle.jam_grammar.specs.declared.mark.Mark.TheVariants as marks
+use Rattle.jam_grammar.specs.Grammar.{Part, Key, OneWord, OneStmt, OneBlock, OneArg, OneInner, OneExpr, Both, Single, OrTail}
 use Rattle.jam_grammar.specs.Spelling.{Sym, Spells}
 use Rattle.jam_grammar.specs.Gives.{Leads, Ends}
 use Rattle.jam_parser.specs.declared.reading.Fault.{Fault}
@@ -48,3 +49,10 @@ pub record Continues (prefix : List Sym) (parts others : List Part) (tokens : Li
 -- and nothing is left of the parts
 abbrev pub Completes : List Sym → List Part → List Token → ℕ → List Sym → List Token → Type 0
 Completes prefix parts tokens depth all after = Continues prefix parts [] tokens depth all after
+
+-- what is read after an opening bracket, and after the first `||` of a condition
+abbrev pub in_brackets : List Part
+in_brackets = OneInner ∷ Key marks.SquareClose ∷ []
+
+abbrev pub after_or : List Part
+after_or = Both ∷ OrTail ∷ []

@@ -2,10 +2,10 @@
 ghost use Rattle.std.specs.Prelude.{◌≡◌, ◌<◌, ◌≤◌, ◌∷◌, [], false, MatchOption, MatchResult};
 ghost use Rattle.jam_grammar.specs.Spelling.{arg_syms, args_syms, lists_syms, inner_syms};
 ghost use Rattle.jam_grammar.specs.Spelling as spelling;
-ghost use Rattle.jam_grammar.specs.Grammar.{OneArg, Args, More, OneInner, InnerTail, Key};
+ghost use Rattle.jam_grammar.specs.Grammar.{OneArg, Args, More, OneInner, InnerTail};
 ghost use Rattle.jam_grammar.specs.declared.mark.Mark.TheVariants as marks;
 ghost use Rattle.jam_parser.specs.Starts.{starts_arg, starts_with, StandsAfter};
-ghost use Rattle.jam_parser.specs.Parts.{IsRead, Completes, EndsBy};
+ghost use Rattle.jam_parser.specs.Parts.{IsRead, Completes, EndsBy, in_brackets};
 
 use crate::reading::{Fault, key_here, next_of, past, word_here};
 use b2_base::token::Token;
@@ -50,7 +50,7 @@ pub fn arg<'a>(alloc: Global, rest: &'a [Token], depth: u8) -> Result<(Arg, &'a 
 #[cycle(args)]
 fn bracket<'a>(alloc: Global, rest: &'a [Token], depth: u8) -> Result<(Arg, &'a [Token]), Fault<'a>>
     requires { depth < 64 }
-    ensures { MatchResult result (λ r. Completes (spelling.Key marks.SquareOpen ∷ []) (OneInner ∷ Key marks.SquareClose ∷ []) rest.now depth (arg_syms r.0) r.1.now) (λ e. EndsBy (OneInner ∷ Key marks.SquareClose ∷ []) rest.now depth e) }
+    ensures { MatchResult result (λ r. Completes (spelling.Key marks.SquareOpen ∷ []) in_brackets rest.now depth (arg_syms r.0) r.1.now) (EndsBy in_brackets rest.now depth) }
 {
     let (inner, after) = inside(alloc, rest, depth + 1)?;
     let inner = Box::new(alloc, inner)?;

@@ -2,10 +2,10 @@
 ghost use Rattle.std.specs.Prelude.{◌≡◌, ◌<◌, ◌≤◌, ◌∷◌, ◌++◌, [], false, IfOk, MatchResult};
 ghost use Rattle.jam_grammar.specs.Spelling.{Anywhere, WithinOr, WithinAnd, expr_syms, arg_syms};
 ghost use Rattle.jam_grammar.specs.Spelling as spelling;
-ghost use Rattle.jam_grammar.specs.Grammar.{OneExpr, Both, Single, OrTail, AndTail, OneArg, Compared, Args, Key};
+ghost use Rattle.jam_grammar.specs.Grammar.{OneExpr, Both, Single, AndTail, OneArg, Compared, Args, Key};
 ghost use Rattle.jam_grammar.specs.declared.mark.Mark.TheVariants as marks;
 ghost use Rattle.jam_parser.specs.Starts.{starts_with};
-ghost use Rattle.jam_parser.specs.Parts.{IsRead, Completes, EndsBy};
+ghost use Rattle.jam_parser.specs.Parts.{IsRead, Completes, EndsBy, after_or};
 
 use crate::args::{MAX_OPEN, arg, args};
 use crate::reading::{Fault, key_here, past};
@@ -54,7 +54,7 @@ fn or_rest<'a>(
     depth: u8,
 ) -> Result<(Expr, &'a [Token]), Fault<'a>>
     requires { depth ≤ 64 }
-    ensures { MatchResult result (λ r. Completes (expr_syms WithinOr first ++ spelling.Key marks.Or ∷ []) (Both ∷ OrTail ∷ []) rest.now depth (expr_syms Anywhere r.0) r.1.now) (λ e. EndsBy (Both ∷ OrTail ∷ []) rest.now depth e) }
+    ensures { MatchResult result (λ r. Completes (expr_syms WithinOr first ++ spelling.Key marks.Or ∷ []) after_or rest.now depth (expr_syms Anywhere r.0) r.1.now) (EndsBy after_or rest.now depth) }
 {
     let (second, mut left) = both(alloc, rest, depth)?;
     let mut members = pair_of(alloc, first, second)?;
