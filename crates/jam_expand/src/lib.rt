@@ -9,7 +9,7 @@ mod gather;
 mod glue;
 mod index;
 pub mod laws;
-mod limit;
+pub mod limit;
 mod modifiers;
 mod piece;
 mod product;

@@ -1,0 +1,4 @@
+pub mod ListLemmas
+pub mod TakingLemmas
+pub mod BelowLemmas
+pub mod ReadingLemmas

@@ -1,0 +1,5 @@
+use Rattle.jam_values.proofs.ReadingLemmas.{one_reading}
+use Rattle.jam_values.proofs.laws.one_reading.Goals as goal
+
+pub returns : goal.returns
+returns c = one_reading

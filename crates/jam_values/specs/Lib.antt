@@ -1,0 +1,4 @@
+pub mod Bindings
+pub mod Taking
+pub mod Choosing
+pub mod FileReadings
