@@ -1,0 +1,6 @@
+pub mod AttributeLemmas
+pub mod Calls
+pub mod LoopSteps
+pub mod Pairs
+pub mod TargetLemmas
+pub mod Trailing

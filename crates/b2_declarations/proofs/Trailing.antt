@@ -1,0 +1,126 @@
+-- An empty list at the end of a call's lists changes nothing.
+use Rattle.std.proofs.Common.{◌≡◌, ℕ, zero, suc, Bool, true, false, cond, ◌&&◌, ◌||◌, not, List, [], ◌∷◌, ◌++◌, Option, Some, None, is_some, drop, replicate, refl, sym, ap, ap₂, ◌∙◌, append-nil, append_assoc}
+use Rattle.std.specs.Prelude.{codes, slice_get, unwrap_or}
+use Rattle.std.specs.List.{flat_map}
+use Rattle.std.specs.Str.{bytes_eq}
+use Rattle.std.specs.Option.{option_and_then}
+use Rattle.std.proofs.lemmas.Grind.{flat_map-append}
+use Rattle.b2_texts.specs.Cuts.{named_pair}
+use Rattle.b2_declarations.specs.declared.declaration.Attributes.{Attributes}
+use Rattle.b2_declarations.specs.declared.declaration.Declaration.{Declaration}
+use Rattle.b2_declarations.specs.declared.declaration.Declaration.TheVariants as declarations
+use Rattle.b2_declarations.specs.declared.declaration.Kind.{Kind}
+use Rattle.b2_declarations.specs.declared.declaration.Kind.TheVariants.{Exe, Lib, Obj, Alias, Make, Install}
+use Rattle.b2_declarations.specs.declared.declaration.MainTarget.{MainTarget}
+use Rattle.b2_declarations.specs.declared.rule.Rule.{Rule}
+use Rattle.b2_declarations.specs.declared.rule.Rule.TheVariants as rules
+use Rattle.b2_declarations.specs.declared.shape.Count.{Count}
+use Rattle.b2_declarations.specs.declared.shape.Count.TheVariants.{Nothing, One, AtMostOne, Any, AtLeastOne}
+use Rattle.b2_declarations.specs.Lists.{Texts, list_at, text_at}
+use Rattle.b2_declarations.specs.Shapes.{is_counted, are_empty, has_shape}
+use Rattle.b2_declarations.specs.Rules.{rule_of}
+use Rattle.b2_declarations.specs.Attributes.{is_attribute, are_attributes, values_of, dependencies_in, attribute_lists, attributes}
+use Rattle.b2_declarations.specs.Targets.{is_refused_name, counts_of, target}
+use Rattle.b2_declarations.specs.Declarations.{is_shaped, declared, shape_of}
+use Rattle.b2_declarations.proofs.AttributeLemmas.{values_of-append}
+
+-- with an empty list at the end
+abbrev and_empty : List Texts → List Texts
+and_empty lists = lists ++ [] ∷ []
+
+list_same : (place : ℕ) (lists : List Texts) → list_at place (and_empty lists) ≡ list_at place lists
+list_same zero [] = refl
+list_same (suc place) [] = refl
+list_same zero (list ∷ lists) = refl
+list_same (suc place) (list ∷ lists) = list_same place lists
+
+empty_same : (lists : List Texts) → are_empty (and_empty lists) ≡ are_empty lists
+empty_same [] = refl
+empty_same (list ∷ lists) = ap (λ b. is_counted Nothing list && b) (empty_same lists)
+
+shape_same : (counts : List Count) (lists : List Texts) → has_shape counts (and_empty lists) ≡ has_shape counts lists
+shape_same [] lists = empty_same lists
+shape_same (count ∷ counts) [] = refl
+shape_same (count ∷ counts) (list ∷ lists) = ap (λ b. is_counted count list && b) (shape_same counts lists)
+
+attributes_same : (lists : List Texts) → are_attributes (and_empty lists) ≡ are_attributes lists
+attributes_same [] = refl
+attributes_same (list ∷ lists) = ap₂ (λ a b. (is_attribute list && a) || b) (attributes_same lists) (empty_same (list ∷ lists))
+
+values_same : (name : List ℕ) (lists : List Texts) → values_of name (and_empty lists) ≡ values_of name lists
+values_same name lists = values_of-append name lists ([] ∷ []) ∙ append-nil (values_of name lists)
+
+dependencies_same : (lists : List Texts) → flat_map dependencies_in (and_empty lists) ≡ flat_map dependencies_in lists
+dependencies_same lists = flat_map-append dependencies_in lists ([] ∷ []) ∙ append-nil (flat_map dependencies_in lists)
+
+all_attributes_same : (lists : List Texts) → attributes (and_empty lists) ≡ attributes lists
+all_attributes_same [] = refl
+all_attributes_same (list ∷ lists) =
+    let requirements = values_same (codes "requirements") lists in
+    let usage = values_same (codes "usage-requirements") lists in
+    let defaults = values_same (codes "default-build") lists in
+    let found = dependencies_same lists in
+    simp (requirements, usage, defaults, found)
+
+text_same : (place : ℕ) (lists : List Texts) → text_at place (and_empty lists) ≡ text_at place lists
+text_same place lists = ap (λ list. unwrap_or (slice_get list 0) []) (list_same place lists)
+
+shaped_same : (rule : Rule) (lists : List Texts) → is_shaped rule (and_empty lists) ≡ is_shaped rule lists
+shaped_same rules.Project [] = refl
+shaped_same rules.Project (list ∷ lists) = ap (λ b. is_counted AtMostOne list && b) (attributes_same lists)
+shaped_same (rules.Target kind) lists = ap₂ (λ b name. b && not (is_refused_name name)) (shape_same (counts_of kind) lists) (text_same 0 lists)
+shaped_same rules.Explicit lists = shape_same (AtLeastOne ∷ []) lists
+shaped_same rules.BuildProject lists = shape_same (One ∷ []) lists
+shaped_same rules.UseProject lists = shape_same (One ∷ One ∷ []) lists
+shaped_same rules.Using lists = ap₂ (λ b name. b && bytes_eq name (codes "gcc")) (shape_same (One ∷ Nothing ∷ AtMostOne ∷ []) lists) (text_same 0 lists)
+shaped_same rules.Feature lists = shape_same (One ∷ Any ∷ Any ∷ []) lists
+shaped_same rules.Compose lists = ap₂ (λ b name. b && is_some (named_pair name)) (shape_same (One ∷ AtLeastOne ∷ []) lists) (text_same 0 lists)
+shaped_same rules.FileType lists = shape_same (One ∷ Any ∷ []) lists
+shaped_same rules.Generator lists = shape_same (One ∷ AtLeastOne ∷ AtLeastOne ∷ Any ∷ []) lists
+shaped_same rules.Import lists = refl
+
+-- the first five lists, which are all that a declaration but `project` looks at
+abbrev five : List Texts → List Texts
+five lists = list_at 0 lists ∷ list_at 1 lists ∷ list_at 2 lists ∷ list_at 3 lists ∷ list_at 4 lists ∷ []
+
+five_same : (lists : List Texts) → five (and_empty lists) ≡ five lists
+five_same lists =
+    ap₂ before (list_same 0 lists) (ap₂ before (list_same 1 lists) (ap₂ before (list_same 2 lists) (ap₂ before (list_same 3 lists) (ap (λ list. list ∷ []) (list_same 4 lists)))))
+  where
+    before : Texts → List Texts → List Texts
+    before list more = list ∷ more
+
+target_same : (kind : Kind) (lists : List Texts) → target kind (and_empty lists) ≡ target kind lists
+target_same Exe lists = ap (target Exe) (five_same lists)
+target_same Lib lists = ap (target Lib) (five_same lists)
+target_same Obj lists = ap (target Obj) (five_same lists)
+target_same Alias lists = ap (target Alias) (five_same lists)
+target_same Make lists = ap (target Make) (five_same lists)
+target_same Install lists = ap (target Install) (five_same lists)
+
+declared_same : (rule : Rule) (lists : List Texts) → declared rule (and_empty lists) ≡ declared rule lists
+declared_same rules.Project lists = ap declarations.Project (all_attributes_same lists)
+declared_same (rules.Target kind) lists = ap declarations.Main (target_same kind lists)
+declared_same rules.Explicit lists = ap (declared rules.Explicit) (five_same lists)
+declared_same rules.BuildProject lists = ap (declared rules.BuildProject) (five_same lists)
+declared_same rules.UseProject lists = ap (declared rules.UseProject) (five_same lists)
+declared_same rules.Using lists = ap (declared rules.Using) (five_same lists)
+declared_same rules.Feature lists = ap (declared rules.Feature) (five_same lists)
+declared_same rules.Compose lists = ap (declared rules.Compose) (five_same lists)
+declared_same rules.FileType lists = ap (declared rules.FileType) (five_same lists)
+declared_same rules.Generator lists = ap (declared rules.Generator) (five_same lists)
+declared_same rules.Import lists = refl
+
+one_more : (name : List ℕ) (lists : List Texts) (refused : Bool) → shape_of name (and_empty lists) refused ≡ shape_of name lists refused
+one_more name lists refused = go (rule_of name)
+  where
+    go : (r : Option Rule)
+        → option_and_then (λ rule. cond (is_shaped rule (and_empty lists) && not refused) (Some (declared rule (and_empty lists))) None) r
+        ≡ option_and_then (λ rule. cond (is_shaped rule lists && not refused) (Some (declared rule lists)) None) r
+    go None = refl
+    go (Some rule) = ap₂ (λ (s : Bool) (d : Declaration). cond (s && not refused) (Some d) None) (shaped_same rule lists) (declared_same rule lists)
+
+pub trailing_same : (name : List ℕ) (lists : List Texts) (count : ℕ) (refused : Bool) → shape_of name (lists ++ replicate count []) refused ≡ shape_of name lists refused
+trailing_same name lists zero refused = ap (λ ls. shape_of name ls refused) (append-nil lists)
+trailing_same name lists (suc count) refused =
+    ap (λ ls. shape_of name ls refused) (sym (append_assoc lists ([] ∷ []) (replicate count []))) ∙ trailing_same name (and_empty lists) count refused ∙ one_more name lists refused

@@ -1,0 +1,45 @@
+-- Which directories a declaration names.
+use Rattle.std.specs.Prelude.{ℕ, List, [], ◌∷◌, ◌++◌, codes, Option, Some, None, if◌then◌else◌}
+use Rattle.std.specs.List.{filter_map}
+use Rattle.std.specs.Option.{option_and_then}
+use Rattle.b2_base.specs.Segments.{is_rooted}
+use Rattle.b2_texts.specs.Cuts.{cut_at}
+use Rattle.b2_texts.specs.Completion.{path_in}
+use Rattle.b2_declarations.specs.declared.declaration.MainTarget.{MainTarget}
+use Rattle.b2_declarations.specs.declared.declaration.Declaration.{Declaration}
+use Rattle.b2_declarations.specs.declared.declaration.Declaration.TheVariants.{Project, Main, Explicit, BuildProject, UseProject, Using, Feature, Compose, FileType, Generator, Import}
+use Rattle.b2_declarations.specs.declared.references.Reading.TheVariants.{Property, Requirement}
+use Rattle.b2_declarations.specs.Lists.{Texts}
+use Rattle.b2_declarations.specs.References.{dependencies}
+
+-- The directory that stands before `//` in a reference: nothing stands for the folder, and an id, which begins with a
+-- slash, names no directory.
+abbrev pub directory_before : List ℕ → List ℕ → Option (List ℕ)
+directory_before owner [] = Some (codes ".")
+directory_before owner (first ∷ rest) = if is_rooted (first ∷ rest) then None else Some (path_in owner (first ∷ rest))
+
+-- the directory of a reference, which is a text with `//` and is cut at the first one
+abbrev pub directory_of : List ℕ → List ℕ → Option (List ℕ)
+directory_of owner text = option_and_then (λ parts. directory_before owner parts.0) (cut_at (codes "//") text)
+
+-- the directories of the references among some texts, with repeats
+abbrev pub directories : List ℕ → Texts → Texts
+directories owner texts = filter_map (directory_of owner) texts
+
+-- the values of a main target's dependency properties
+abbrev pub target_dependencies : MainTarget → Texts
+target_dependencies t = dependencies Requirement t.requirements ++ (dependencies Property t.defaults ++ dependencies Requirement t.usage)
+
+-- the directories that a declaration in the file of a directory names, in order
+abbrev pub named_directories : List ℕ → Declaration → Texts
+named_directories owner (Project a) = directories owner a.dependencies
+named_directories owner (Main t) = directories owner t.sources ++ directories owner (target_dependencies t)
+named_directories owner (BuildProject dir) = path_in owner dir ∷ []
+named_directories owner (UseProject id dir) = path_in owner dir ∷ []
+named_directories owner (Compose property parts) = directories owner (dependencies Property parts)
+named_directories owner (Generator id sources targets requirements) = directories owner (dependencies Property requirements)
+named_directories owner (Explicit names) = []
+named_directories owner (Using command) = []
+named_directories owner (Feature name values attributes) = []
+named_directories owner (FileType name suffixes) = []
+named_directories owner Import = []

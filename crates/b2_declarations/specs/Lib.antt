@@ -1,0 +1,9 @@
+pub mod Lists
+pub mod Shapes
+pub mod Rules
+pub mod References
+pub mod Attributes
+pub mod Targets
+pub mod Declarations
+pub mod Directories
+pub mod Laws

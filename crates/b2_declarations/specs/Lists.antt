@@ -1,0 +1,13 @@
+-- The lists of a call.
+use Rattle.std.specs.Prelude.{ℕ, List, [], slice_get, unwrap_or}
+
+abbrev pub Texts : Type 0
+Texts = List (List ℕ)
+
+-- the list at a place, counted from 0; one that is not given is empty
+abbrev pub list_at : ℕ → List Texts → Texts
+list_at place lists = unwrap_or (slice_get lists place) []
+
+-- the first text of the list at a place; of an empty one the empty text
+abbrev pub text_at : ℕ → List Texts → List ℕ
+text_at place lists = unwrap_or (slice_get (list_at place lists) 0) []

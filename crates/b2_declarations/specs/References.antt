@@ -1,0 +1,26 @@
+-- The references in property texts.
+use Rattle.std.specs.Prelude.{ℕ, Bool, List, [], ◌∷◌, codes, Option, Some, None, if◌then◌else◌}
+use Rattle.std.specs.List.{list_any, filter_map}
+use Rattle.std.specs.Option.{option_map_or, option_and_then}
+use Rattle.std.specs.Str.{bytes_eq}
+use Rattle.b2_texts.specs.Cuts.{cut_at, named_pair}
+use Rattle.b2_declarations.specs.declared.references.Reading.{Reading}
+use Rattle.b2_declarations.specs.declared.references.Reading.TheVariants.{Property, Requirement}
+use Rattle.b2_declarations.specs.Lists.{Texts}
+
+-- the features whose values name targets
+abbrev pub is_dependency : List ℕ → Bool
+is_dependency feature = list_any (bytes_eq feature) (codes "library" ∷ codes "source" ∷ codes "dependency" ∷ codes "use" ∷ [])
+
+-- the property in a text: in a requirement what stands after its conditions, with its `<`, which is 60
+abbrev pub property_in : Reading → List ℕ → List ℕ
+property_in Property text = text
+property_in Requirement text = option_map_or (λ parts. 60 ∷ parts.1) (cut_at (codes ":<") text) text
+
+-- the value of a dependency property
+abbrev pub dependency_in : Reading → List ℕ → Option (List ℕ)
+dependency_in reading text = option_and_then (λ p. if is_dependency p.0 then Some p.1 else None) (named_pair (property_in reading text))
+
+-- the values of the dependency properties in some texts
+abbrev pub dependencies : Reading → Texts → Texts
+dependencies reading texts = filter_map (dependency_in reading) texts

@@ -1,0 +1,34 @@
+-- The declaring rules by their names.
+use Rattle.std.specs.Prelude.{ℕ, List, [], ◌∷◌, codes, Option, Some, None, if◌then◌else◌}
+use Rattle.std.specs.Str.{bytes_eq}
+use Rattle.b2_declarations.specs.declared.declaration.Kind.TheVariants.{Exe, Lib, Obj, Alias, Make, Install}
+use Rattle.b2_declarations.specs.declared.rule.Rule.{Rule}
+use Rattle.b2_declarations.specs.declared.rule.Rule.TheVariants.{Project, Target, Explicit, BuildProject, UseProject, Using, Feature, Compose, FileType, Generator, Import}
+
+abbrev pub rules : List (List ℕ × Rule)
+rules =
+    (codes "project", Project)
+    ∷ (codes "exe", Target Exe)
+    ∷ (codes "lib", Target Lib)
+    ∷ (codes "obj", Target Obj)
+    ∷ (codes "alias", Target Alias)
+    ∷ (codes "make", Target Make)
+    ∷ (codes "install", Target Install)
+    ∷ (codes "explicit", Explicit)
+    ∷ (codes "build-project", BuildProject)
+    ∷ (codes "use-project", UseProject)
+    ∷ (codes "using", Using)
+    ∷ (codes "feature.feature", Feature)
+    ∷ (codes "feature.compose", Compose)
+    ∷ (codes "type.register", FileType)
+    ∷ (codes "generators.register-standard", Generator)
+    ∷ (codes "import", Import)
+    ∷ []
+
+-- the first row with this name
+abbrev pub rule_in : List (List ℕ × Rule) → List ℕ → Option Rule
+rule_in [] name = None
+rule_in (row ∷ rows) name = if bytes_eq name row.0 then Some row.1 else rule_in rows name
+
+unfoldable pub rule_of : List ℕ → Option Rule
+rule_of name = rule_in rules name

@@ -1,0 +1,94 @@
+//! What a call of a declaring rule declares.
+use b2_base::path::Path;
+use b2_base::text::Text;
+use b2_base::text_list::TextList;
+
+/// The kind of a main target, which is the rule that declares it.
+#[derive(Clone, Copy)]
+pub enum Kind {
+    Exe,
+    Lib,
+    Obj,
+    Alias,
+    Make,
+    Install,
+}
+
+/// A main target.
+#[derive(Drop)]
+pub struct MainTarget {
+    pub kind: Kind,
+    /// The name, a relative path that lies below the project's directory.
+    pub name: Text,
+    /// The sources, files and references.
+    pub sources: TextList,
+    /// The rule of a `make`, without its leading `@`; empty for other kinds.
+    pub rule: Text,
+    pub requirements: TextList,
+    /// The `default-build` properties.
+    pub defaults: TextList,
+    /// The usage requirements.
+    pub usage: TextList,
+}
+
+/// What a call of `project` says of its project. The output roots that it names were added when it ran.
+#[derive(Drop)]
+pub struct Attributes {
+    /// The id, which begins with a slash.
+    pub id: Option<Text>,
+    pub requirements: TextList,
+    /// The usage requirements.
+    pub usage: TextList,
+    /// The `default-build` properties.
+    pub defaults: TextList,
+    /// The values of the dependency properties in these lists, in the order of the call.
+    pub dependencies: TextList,
+}
+
+/// What a call of a declaring rule declares.
+#[derive(Drop)]
+pub enum Declaration {
+    /// `project`
+    Project(Attributes),
+    /// `exe`, `lib`, `obj`, `alias`, `make` and `install`
+    Main(MainTarget),
+    /// `explicit`: names of main targets.
+    Explicit(TextList),
+    /// `build-project`: a directory, relative to the owner's where it is not absolute.
+    BuildProject(Path),
+    /// `use-project`: an id, which begins with a slash, for a directory, relative to the owner's where it is not
+    /// absolute.
+    UseProject {
+        id: Text,
+        dir: Path,
+    },
+    /// `using gcc`, with the command of the compiler where one is given.
+    Using {
+        command: Option<Text>,
+    },
+    /// `feature.feature`
+    Feature {
+        name: Text,
+        values: TextList,
+        attributes: TextList,
+    },
+    /// `feature.compose`: a text `<feature>value` with the components of the value.
+    Compose {
+        property: Text,
+        parts: TextList,
+    },
+    /// `type.register`: a type of files with its suffixes, without dots.
+    FileType {
+        name: Text,
+        suffixes: TextList,
+    },
+    /// `generators.register-standard`: a generator with the types that it takes and gives.
+    Generator {
+        id: Text,
+        sources: TextList,
+        targets: TextList,
+        requirements: TextList,
+    },
+    /// `import`, which does nothing.
+    Import,
+}

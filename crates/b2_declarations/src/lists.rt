@@ -1,0 +1,59 @@
+//! The lists of a call.
+ghost use Rattle.std.specs.Prelude.{◌≡◌, ◌++◌, IfOk, OnOk, slice_get};
+ghost use Rattle.b2_base.specs.Bytes.{HasNoZero};
+ghost use Rattle.b2_declarations.specs.Lists.{list_at, text_at};
+
+use b2_base::fault::OutOfMemory;
+use b2_base::text::Text;
+use b2_base::text_list::TextList;
+use std::alloc::Global;
+
+/// The list at a place, counted from 0; one that is not given is empty. Takes no memory.
+pub(crate) fn list_at(lists: &[TextList], place: usize) -> &[Text]
+    ensures { result.now ≡ list_at place lists.now }
+{
+    match lists.get(place) {
+        None => &[],
+        Some(list) => list.as_slice(),
+    }
+}
+
+/// The first text of the list at a place; of an empty one the empty text. Takes no memory.
+pub(crate) fn text_at(lists: &[TextList], place: usize) -> &str
+    ensures value { result.now ≡ text_at place lists.now }
+    ensures clean { HasNoZero result.now }
+{
+    match list_at(lists, place) {
+        [] => "",
+        [text, ..] => text.as_str(),
+    }
+}
+
+/// The first text of a list, where it has one.
+pub(crate) fn first_of(list: &[Text]) -> Result<Option<Text>, OutOfMemory>
+    ensures { IfOk result (λ first. first ≡ slice_get list.now 0) }
+{
+    match list {
+        [] => Ok(None),
+        [first, ..] => Ok(Some(first.copy()?)),
+    }
+}
+
+/// Adds copies of texts.
+pub(crate) fn push_copies(found: &mut TextList, texts: &[Text]) -> Result<(), OutOfMemory>
+    ensures { OnOk result (found.new ≡ found.old ++ texts.now) }
+{
+    for text in texts {
+        found.push(text.copy()?)?;
+    }
+    Ok(())
+}
+
+/// Copies of texts.
+pub(crate) fn copies(alloc: Global, texts: &[Text]) -> Result<TextList, OutOfMemory>
+    ensures { IfOk result (λ made. made ≡ texts.now) }
+{
+    let mut made = TextList::new(alloc);
+    push_copies(&mut made, texts)?;
+    Ok(made)
+}

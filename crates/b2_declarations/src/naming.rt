@@ -1,0 +1,135 @@
+//! Which directories a declaration names.
+ghost use Rattle.std.specs.Prelude.{◌≡◌, [], ◌∷◌, ◌++◌, IfOk, OnOk};
+ghost use Rattle.b2_texts.specs.Completion.{path_in};
+ghost use Rattle.b2_declarations.specs.References.{dependencies};
+ghost use Rattle.b2_declarations.specs.Directories.{directories, target_dependencies, named_directories};
+
+use crate::declaration::{Declaration, MainTarget};
+use crate::places::{directory_of, path_in};
+use crate::references::{Reading, push_dependencies};
+use b2_base::fault::OutOfMemory;
+use b2_base::path::Path;
+use b2_base::path_list::PathList;
+use b2_base::text::Text;
+use b2_base::text_list::TextList;
+use std::alloc::Global;
+
+/// Adds the directory of a text, where it is a reference by directory.
+fn push_directory(
+    alloc: Global,
+    found: &mut PathList,
+    owner: &Path,
+    text: &Text,
+) -> Result<(), OutOfMemory>
+    ensures { OnOk result (found.new ≡ found.old ++ directories owner.now (text.now ∷ [])) }
+{
+    match directory_of(alloc, owner, text.as_str())? {
+        None => Ok(()),
+        Some(dir) => found.push(dir),
+    }
+}
+
+/// Adds the directories of the references among some texts.
+fn push_directories(
+    alloc: Global,
+    found: &mut PathList,
+    owner: &Path,
+    texts: &[Text],
+) -> Result<(), OutOfMemory>
+    ensures { OnOk result (found.new ≡ found.old ++ directories owner.now texts.now) }
+{
+    for text in texts {
+        push_directory(alloc, found, owner, text)?;
+    }
+    Ok(())
+}
+
+/// The directories that the references among some texts name in a project of a directory, relative to the folder, in
+/// order and with repeats. A reference is a text with `//`; what stands before the first one is the directory: nothing
+/// stands for the folder, and an id, which begins with a slash, names no directory.
+pub fn directories(alloc: Global, owner: &Path, texts: &[Text]) -> Result<PathList, OutOfMemory>
+    ensures { IfOk result (λ found. found ≡ directories owner.now texts.now) }
+{
+    let mut found = PathList::new(alloc);
+    push_directories(alloc, &mut found, owner, texts)?;
+    Ok(found)
+}
+
+/// The directories that some properties name.
+fn of_properties(alloc: Global, owner: &Path, texts: &[Text]) -> Result<PathList, OutOfMemory>
+    ensures { IfOk result (λ found. found ≡ directories owner.now (dependencies Reading.Property texts.now)) }
+{
+    let mut values = TextList::new(alloc);
+    push_dependencies(alloc, &mut values, Reading::Property, texts)?;
+    directories(alloc, owner, values.as_slice())
+}
+
+/// The values of a main target's dependency properties.
+fn target_dependencies(alloc: Global, target: &MainTarget) -> Result<TextList, OutOfMemory>
+    ensures { IfOk result (λ values. values ≡ target_dependencies target.now) }
+{
+    let mut values = TextList::new(alloc);
+    let found = &mut values;
+    push_dependencies(
+        alloc,
+        found,
+        Reading::Requirement,
+        target.requirements.as_slice(),
+    )?;
+    push_dependencies(alloc, found, Reading::Property, target.defaults.as_slice())?;
+    push_dependencies(alloc, found, Reading::Requirement, target.usage.as_slice())?;
+    Ok(values)
+}
+
+/// The directories that a main target names.
+fn of_target(alloc: Global, owner: &Path, target: &MainTarget) -> Result<PathList, OutOfMemory>
+    ensures { IfOk result (λ found. found ≡ directories owner.now target.now.sources ++ directories owner.now (target_dependencies target.now)) }
+{
+    let values = target_dependencies(alloc, target)?;
+    let mut found = directories(alloc, owner, target.sources.as_slice())?;
+    push_directories(alloc, &mut found, owner, values.as_slice())?;
+    Ok(found)
+}
+
+/// The one directory, relative to the folder.
+fn one_directory(alloc: Global, owner: &Path, dir: &Path) -> Result<PathList, OutOfMemory>
+    ensures { IfOk result (λ found. found ≡ path_in owner.now dir.now ∷ []) }
+{
+    let mut found = PathList::new(alloc);
+    found.push(path_in(alloc, owner, dir.as_str())?)?;
+    Ok(found)
+}
+
+/// The directories that a declaration in the file of a directory names, relative to the folder, in order and with
+/// repeats: that of `build-project` and of `use-project`, and those of references. References stand among the sources of
+/// a main target, and among the values of the features `library`, `source`, `dependency` and `use` in the property lists
+/// of a call, of requirements and usage requirements in the property after the conditions.
+pub fn named_directories(
+    alloc: Global,
+    owner: &Path,
+    declaration: &Declaration,
+) -> Result<PathList, OutOfMemory>
+    ensures { IfOk result (λ found. found ≡ named_directories owner.now declaration.now) }
+{
+    match declaration {
+        Declaration::Project(attributes) => directories(
+            alloc,
+            owner,
+            attributes.dependencies.as_slice(),
+        ),
+        Declaration::Main(target) => of_target(alloc, owner, target),
+        Declaration::BuildProject(dir) => one_directory(alloc, owner, dir),
+        Declaration::UseProject { dir, .. } => one_directory(alloc, owner, dir),
+        Declaration::Compose { parts, .. } => of_properties(alloc, owner, parts.as_slice()),
+        Declaration::Generator { requirements, .. } => of_properties(
+            alloc,
+            owner,
+            requirements.as_slice(),
+        ),
+        Declaration::Explicit(_)
+        | Declaration::Using { .. }
+        | Declaration::Feature { .. }
+        | Declaration::FileType { .. }
+        | Declaration::Import => Ok(PathList::new(alloc)),
+    }
+}

@@ -1,0 +1,142 @@
+//! The declaration of a call.
+ghost use Rattle.std.specs.Prelude.{◌≡◌, IfOk};
+ghost use Rattle.b2_declarations.specs.Lists.{list_at, text_at};
+ghost use Rattle.b2_declarations.specs.Declarations.{is_shaped, declared, shape_of};
+
+use crate::attributes::{are_attributes, attribute_lists, attributes, id_of};
+use crate::cuts::named_pair;
+use crate::declaration::Declaration;
+use crate::lists::{copies, first_of, list_at, text_at};
+use crate::places::path_of;
+use crate::rule::{Rule, rule_of};
+use crate::shape::{Count, has_shape};
+use crate::target::{counts_of, is_refused_name, target};
+use b2_base::fault::OutOfMemory;
+use b2_base::text::Text;
+use b2_base::text_list::TextList;
+use std::alloc::Global;
+
+/// Whether the lists of a call are those of its rule.
+fn is_shaped(alloc: Global, rule: Rule, lists: &[TextList]) -> Result<bool, OutOfMemory>
+    ensures { IfOk result (λ shaped. shaped ≡ is_shaped rule lists.now) }
+{
+    Ok(match rule {
+        Rule::Project => {
+            Count::AtMostOne.holds(list_at(lists, 0)) && are_attributes(attribute_lists(lists))
+        }
+        Rule::Target(kind) => {
+            has_shape(counts_of(kind), lists) && !is_refused_name(alloc, text_at(lists, 0))?
+        }
+        Rule::Explicit => has_shape(&[Count::AtLeastOne], lists),
+        Rule::BuildProject => has_shape(&[Count::One], lists),
+        Rule::UseProject => has_shape(&[Count::One, Count::One], lists),
+        Rule::Using => {
+            has_shape(&[Count::One, Count::Nothing, Count::AtMostOne], lists)
+                && text_at(lists, 0) == "gcc"
+        }
+        Rule::Feature => has_shape(&[Count::One, Count::Any, Count::Any], lists),
+        Rule::Compose => {
+            has_shape(&[Count::One, Count::AtLeastOne], lists)
+                && named_pair(text_at(lists, 0)).is_some()
+        }
+        Rule::FileType => has_shape(&[Count::One, Count::Any], lists),
+        Rule::Generator => has_shape(
+            &[Count::One, Count::AtLeastOne, Count::AtLeastOne, Count::Any],
+            lists,
+        ),
+        Rule::Import => true,
+    })
+}
+
+fn use_project(alloc: Global, lists: &[TextList]) -> Result<Declaration, OutOfMemory>
+    ensures { IfOk result (λ made. made ≡ declared Rule.UseProject lists.now) }
+{
+    let dir = path_of(alloc, text_at(lists, 1))?;
+    let id = id_of(alloc, text_at(lists, 0))?;
+    Ok(Declaration::UseProject { id, dir })
+}
+
+fn feature(alloc: Global, lists: &[TextList]) -> Result<Declaration, OutOfMemory>
+    ensures { IfOk result (λ made. made ≡ declared Rule.Feature lists.now) }
+{
+    let name = Text::new(alloc, text_at(lists, 0))?;
+    let values = copies(alloc, list_at(lists, 1))?;
+    let attributes = copies(alloc, list_at(lists, 2))?;
+    Ok(Declaration::Feature {
+        name,
+        values,
+        attributes,
+    })
+}
+
+fn compose(alloc: Global, lists: &[TextList]) -> Result<Declaration, OutOfMemory>
+    ensures { IfOk result (λ made. made ≡ declared Rule.Compose lists.now) }
+{
+    let property = Text::new(alloc, text_at(lists, 0))?;
+    let parts = copies(alloc, list_at(lists, 1))?;
+    Ok(Declaration::Compose { property, parts })
+}
+
+fn file_type(alloc: Global, lists: &[TextList]) -> Result<Declaration, OutOfMemory>
+    ensures { IfOk result (λ made. made ≡ declared Rule.FileType lists.now) }
+{
+    let name = Text::new(alloc, text_at(lists, 0))?;
+    let suffixes = copies(alloc, list_at(lists, 1))?;
+    Ok(Declaration::FileType { name, suffixes })
+}
+
+fn generator(alloc: Global, lists: &[TextList]) -> Result<Declaration, OutOfMemory>
+    ensures { IfOk result (λ made. made ≡ declared Rule.Generator lists.now) }
+{
+    let id = Text::new(alloc, text_at(lists, 0))?;
+    let sources = copies(alloc, list_at(lists, 1))?;
+    let targets = copies(alloc, list_at(lists, 2))?;
+    let requirements = copies(alloc, list_at(lists, 3))?;
+    Ok(Declaration::Generator {
+        id,
+        sources,
+        targets,
+        requirements,
+    })
+}
+
+/// What lists of a rule's shape declare.
+fn declared(alloc: Global, rule: Rule, lists: &[TextList]) -> Result<Declaration, OutOfMemory>
+    ensures { IfOk result (λ made. made ≡ declared rule lists.now) }
+{
+    match rule {
+        Rule::Project => Ok(Declaration::Project(attributes(alloc, lists)?)),
+        Rule::Target(kind) => Ok(Declaration::Main(target(alloc, kind, lists)?)),
+        Rule::Explicit => Ok(Declaration::Explicit(copies(alloc, list_at(lists, 0))?)),
+        Rule::BuildProject => Ok(Declaration::BuildProject(path_of(alloc, text_at(lists, 0))?)),
+        Rule::UseProject => use_project(alloc, lists),
+        Rule::Using => Ok(Declaration::Using {
+            command: first_of(list_at(lists, 2))?,
+        }),
+        Rule::Feature => feature(alloc, lists),
+        Rule::Compose => compose(alloc, lists),
+        Rule::FileType => file_type(alloc, lists),
+        Rule::Generator => generator(alloc, lists),
+        Rule::Import => Ok(Declaration::Import),
+    }
+}
+
+/// The declaration of a call, by the name of its rule and its lists. There is none where no declaring rule has this
+/// name, where the lists are not those of the rule, where a main target cannot have its name, or where the output roots
+/// of a call of `project` are `refused`.
+pub fn declaration(
+    alloc: Global,
+    rule: &str,
+    lists: &[TextList],
+    refused: bool,
+) -> Result<Option<Declaration>, OutOfMemory>
+    ensures { IfOk result (λ found. found ≡ shape_of rule.now lists.now refused) }
+{
+    let Some(rule) = rule_of(rule) else {
+        return Ok(None);
+    };
+    if refused || !is_shaped(alloc, rule, lists)? {
+        return Ok(None);
+    }
+    Ok(Some(declared(alloc, rule, lists)?))
+}

@@ -1,0 +1,85 @@
+//! The references in property texts.
+ghost use Rattle.std.specs.Prelude.{◌≡◌, [], ◌∷◌, ◌++◌, option_map, IfSome, OnOk};
+ghost use Rattle.b2_base.specs.Bytes.{HasNoZero};
+ghost use Rattle.b2_texts.specs.Cuts.{named_pair, AreClean};
+ghost use Rattle.b2_declarations.specs.References.{is_dependency, property_in, dependency_in, dependencies};
+
+use crate::cuts::{cut_at, named_pair, pair_after};
+use b2_base::fault::OutOfMemory;
+use b2_base::text::Text;
+use b2_base::text_list::TextList;
+use std::alloc::Global;
+
+/// How the texts of a list are read.
+#[derive(Clone, Copy)]
+pub(crate) enum Reading {
+    /// Each is a property.
+    Property,
+    /// Each is a property, which may stand after conditions.
+    Requirement,
+}
+
+fn is_dependency(feature: &str) -> bool
+    ensures { result ≡ is_dependency feature.now }
+{
+    feature == "library" || feature == "source" || feature == "dependency" || feature == "use"
+}
+
+/// The feature and the value of the property in a text; takes no memory.
+fn pair_in(reading: Reading, text: &str) -> Option<(&str, &str)>
+    requires { HasNoZero text.now }
+    ensures named { option_map (λ parts. (parts.0.now, parts.1.now)) result ≡ named_pair (property_in reading text.now) }
+    ensures clean { IfSome result (λ parts. AreClean (parts.0.now, parts.1.now)) }
+{
+    match reading {
+        Reading::Property => named_pair(text),
+        Reading::Requirement => match cut_at(text, ":<") {
+            None => named_pair(text),
+            Some((_conditions, property)) => pair_after(property),
+        },
+    }
+}
+
+/// The value of the property in a text, where it is a dependency; takes no memory.
+fn dependency_in(reading: Reading, text: &str) -> Option<&str>
+    requires { HasNoZero text.now }
+    ensures value { option_map (λ value. value.now) result ≡ dependency_in reading text.now }
+    ensures clean { IfSome result (λ value. HasNoZero value.now) }
+{
+    let (feature, value) = pair_in(reading, text)?;
+    if is_dependency(feature) {
+        Some(value)
+    } else {
+        None
+    }
+}
+
+/// Adds the value of the property in a text, where it is a dependency.
+fn push_dependency(
+    alloc: Global,
+    found: &mut TextList,
+    reading: Reading,
+    text: &Text,
+) -> Result<(), OutOfMemory>
+    ensures { OnOk result (found.new ≡ found.old ++ dependencies reading (text.now ∷ [])) }
+{
+    match dependency_in(reading, text.as_str()) {
+        None => Ok(()),
+        Some(value) => found.push(Text::new(alloc, value)?),
+    }
+}
+
+/// Adds the values of the dependency properties in some texts.
+pub(crate) fn push_dependencies(
+    alloc: Global,
+    found: &mut TextList,
+    reading: Reading,
+    texts: &[Text],
+) -> Result<(), OutOfMemory>
+    ensures { OnOk result (found.new ≡ found.old ++ dependencies reading texts.now) }
+{
+    for text in texts {
+        push_dependency(alloc, found, reading, text)?;
+    }
+    Ok(())
+}
