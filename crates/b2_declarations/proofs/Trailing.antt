@@ -1,17 +1,15 @@
 -- An empty list at the end of a call's lists changes nothing.
-use Rattle.std.proofs.Common.{◌≡◌, ℕ, zero, suc, Bool, true, false, cond, ◌&&◌, ◌||◌, not, List, [], ◌∷◌, ◌++◌, Option, Some, None, is_some, drop, replicate, refl, sym, ap, ap₂, ◌∙◌, append-nil, append_assoc}
+use Rattle.std.proofs.Common.{◌≡◌, ℕ, zero, suc, Bool, cond, ◌&&◌, ◌||◌, not, List, [], ◌∷◌, ◌++◌, Option, Some, None, is_some, replicate, refl, sym, ap, ap₂, ◌∙◌, append-nil, append_assoc}
 use Rattle.std.specs.Prelude.{codes, slice_get, unwrap_or}
 use Rattle.std.specs.List.{flat_map}
 use Rattle.std.specs.Str.{bytes_eq}
 use Rattle.std.specs.Option.{option_and_then}
 use Rattle.std.proofs.lemmas.Grind.{flat_map-append}
 use Rattle.b2_texts.specs.Cuts.{named_pair}
-use Rattle.b2_declarations.specs.declared.declaration.Attributes.{Attributes}
 use Rattle.b2_declarations.specs.declared.declaration.Declaration.{Declaration}
 use Rattle.b2_declarations.specs.declared.declaration.Declaration.TheVariants as declarations
 use Rattle.b2_declarations.specs.declared.declaration.Kind.{Kind}
 use Rattle.b2_declarations.specs.declared.declaration.Kind.TheVariants.{Exe, Lib, Obj, Alias, Make, Install}
-use Rattle.b2_declarations.specs.declared.declaration.MainTarget.{MainTarget}
 use Rattle.b2_declarations.specs.declared.rule.Rule.{Rule}
 use Rattle.b2_declarations.specs.declared.rule.Rule.TheVariants as rules
 use Rattle.b2_declarations.specs.declared.shape.Count.{Count}
@@ -19,7 +17,7 @@ use Rattle.b2_declarations.specs.declared.shape.Count.TheVariants.{Nothing, One,
 use Rattle.b2_declarations.specs.Lists.{Texts, list_at, text_at}
 use Rattle.b2_declarations.specs.Shapes.{is_counted, are_empty, has_shape}
 use Rattle.b2_declarations.specs.Rules.{rule_of}
-use Rattle.b2_declarations.specs.Attributes.{is_attribute, are_attributes, values_of, dependencies_in, attribute_lists, attributes}
+use Rattle.b2_declarations.specs.Attributes.{is_attribute, are_attributes, values_of, dependencies_in, attributes}
 use Rattle.b2_declarations.specs.Targets.{is_refused_name, counts_of, target}
 use Rattle.b2_declarations.specs.Declarations.{is_shaped, declared, shape_of}
 use Rattle.b2_declarations.proofs.AttributeLemmas.{values_of-append}

@@ -5,7 +5,7 @@ use Rattle.std.specs.Str.{bytes_eq}
 use Rattle.b2_base.specs.Segments.{segments, is_rooted, is_up, normal_of}
 use Rattle.b2_texts.specs.Cuts.{cut_at}
 use Rattle.b2_declarations.specs.declared.declaration.Kind.{Kind}
-use Rattle.b2_declarations.specs.declared.declaration.Kind.TheVariants.{Exe, Lib, Obj, Alias, Make, Install}
+use Rattle.b2_declarations.specs.declared.declaration.Kind.TheVariants.{Make, Install}
 use Rattle.b2_declarations.specs.declared.declaration.MainTarget.{MainTarget}
 use Rattle.b2_declarations.specs.declared.shape.Count.{Count}
 use Rattle.b2_declarations.specs.declared.shape.Count.TheVariants.{One, Any}
