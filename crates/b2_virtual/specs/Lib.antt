@@ -1,0 +1,5 @@
+pub mod Joining
+pub mod Clashes
+pub mod Refusals
+pub mod Paths
+pub mod Laws

@@ -1,0 +1,59 @@
+-- The paths of outputs. A slash is the byte 47, a dot the byte 46.
+use Rattle.std.specs.Prelude.{ℕ, ◌==◌, List, [], ◌∷◌, ◌++◌, ◌⊎◌, Option, Some, None, map, codes, if◌then◌else◌}
+use Rattle.std.specs.List.{Contains, list_any, before_last, after_last, join_with_byte}
+use Rattle.b2_base.specs.Segments.{normal_of, segments, is_rooted, is_up}
+use Rattle.b2_plan.specs.Sources.{IsInRoots}
+
+-- ---- tails
+
+-- a `..` counts as `up`
+abbrev pub up_shown : List ℕ → List ℕ
+up_shown segment = if is_up segment then codes "up" else segment
+
+-- The tail of a source is its own path: each `..` becomes `up`, and `root` stands before a leading slash.
+abbrev pub source_tail : List ℕ → List ℕ
+source_tail path = normal_of ((if is_rooted path then codes "root" else []) ++ join_with_byte 47 (map up_shown (segments path)))
+
+-- the file's name in a path, and what stands before it, with the slash
+abbrev pub name_of : List ℕ → List ℕ
+name_of path = if list_any (λ byte. byte == 47) path then after_last (λ byte. byte == 47) path else path
+
+abbrev pub folder_of : List ℕ → List ℕ
+folder_of path = if list_any (λ byte. byte == 47) path then before_last (λ byte. byte == 47) path ++ codes "/" else []
+
+-- a file's name without its suffix, which begins at the last dot
+abbrev pub stem_of : List ℕ → List ℕ
+stem_of name = if list_any (λ byte. byte == 46) name then before_last (λ byte. byte == 46) name else name
+
+-- a suffix with its dot, where there is one
+abbrev pub dotted : Option (List ℕ) → List ℕ
+dotted None = []
+dotted (Some suffix) = 46 ∷ suffix
+
+-- The tail of a converted file: that of its input, with another suffix or none.
+abbrev pub converted_tail : List ℕ → Option (List ℕ) → List ℕ
+converted_tail tail suffix = normal_of (folder_of tail ++ stem_of (name_of tail) ++ dotted suffix)
+
+-- the tail of an output that has a name in a project's directory
+abbrev pub named_tail : List ℕ → List ℕ → List ℕ
+named_tail dir name = normal_of (dir ++ codes "/" ++ name)
+
+-- ---- paths
+
+-- An output lies in `bin`, below the elements of its properties. Where there are none, their place is empty and goes.
+abbrev pub output_path : List ℕ → List ℕ → List ℕ
+output_path elements tail = normal_of (codes "bin/" ++ elements ++ codes "/" ++ tail)
+
+-- a location is relative to a directory, unless it begins with a slash
+abbrev pub place_of : List ℕ → List ℕ → List ℕ
+place_of dir location = normal_of (if is_rooted location then location else dir ++ codes "/" ++ location)
+
+-- the path of a file that is put at a location
+abbrev pub located : List ℕ → List ℕ → List ℕ → List ℕ
+located dir location name = normal_of (place_of dir location ++ codes "/" ++ name)
+
+-- The location is an output root or lies under one, and the file lies under one. The second says more only of a name that
+-- is no plain segment, as `..`.
+abbrev pub IsPlaced : List (List ℕ) → List ℕ → List ℕ → List ℕ → Type 0
+IsPlaced roots dir location name =
+    (Contains roots (place_of dir location) ⊎ IsInRoots roots (place_of dir location)) × IsInRoots roots (located dir location name)
