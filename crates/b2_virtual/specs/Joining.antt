@@ -1,10 +1,11 @@
 -- What joining steps, one after another, makes of a list of steps.
-use Rattle.std.specs.Prelude.{ℕ, suc, Bool, ◌&&◌, List, [], ◌∷◌, ◌++◌, fold, if◌then◌else◌}
+use Rattle.std.specs.Prelude.{◌≡◌, ℕ, suc, Bool, ◌&&◌, List, [], ◌∷◌, ◌++◌, Option, Some, None, fold, if◌then◌else◌}
 use Rattle.std.specs.List.{list_any}
 use Rattle.std.specs.Bool.{beq}
 use Rattle.std.specs.Str.{bytes_eq}
 use Rattle.std.specs.Cmp.Lexicographic.{pointwise}
 use Rattle.b2_plan.specs.declared.step.Step.{Step}
+use Rattle.b2_plan.specs.Plans.{step_at}
 
 -- Two steps are equal where all their parts are.
 unfoldable pub is_same : Step → Step → Bool
@@ -29,3 +30,11 @@ joined steps step = if stands_in steps step then steps else steps ++ step ∷ []
 -- several steps join others, in order; so equal ones stand once, at the first place
 abbrev pub all_joined : List Step → List Step → List Step
 all_joined = fold joined
+
+-- the number of an equal step, where one stands
+abbrev pub number_of : List Step → Step → Option ℕ
+number_of steps step = if stands_in steps step then Some (number_in steps step) else None
+
+-- no step stands twice
+abbrev pub AreDistinct : List Step → Type 0
+AreDistinct steps = (i k : ℕ) (step : Step) → step_at steps i ≡ Some step → step_at steps k ≡ Some step → i ≡ k

@@ -3,7 +3,7 @@ use Rattle.std.specs.Prelude.{◌≡◌, ◌↔◌, ℕ, List, ◌⊎◌, Some, 
 use Rattle.std.specs.List.{Contains}
 use Rattle.b2_plan.specs.declared.step.Step.{Step}
 use Rattle.b2_plan.specs.Plans.{step_at}
-use Rattle.b2_virtual.specs.Joining.{is_same, number_in, joined}
+use Rattle.b2_virtual.specs.Joining.{is_same, number_in, joined, AreDistinct}
 use Rattle.b2_virtual.specs.Clashes.{IsFirstClash, Fits}
 
 -- two steps count as equal exactly where they are one value
@@ -24,6 +24,10 @@ AgainIsSame = (steps : List Step) (step : Step) → joined (joined steps step) s
 
 abbrev pub AgainHasNumber : Type 0
 AgainHasNumber = (steps : List Step) (step : Step) → number_in (joined steps step) step ≡ number_in steps step
+
+-- no step stands twice where none did
+abbrev pub StaysDistinct : Type 0
+StaysDistinct = (steps : List Step) (step : Step) → AreDistinct steps → AreDistinct (joined steps step)
 
 -- what stands after a step joined is that step, or stood before
 abbrev pub NothingElse : Type 0

@@ -3,3 +3,5 @@ pub mod Clashes
 pub mod Refusals
 pub mod Paths
 pub mod Laws
+pub mod Spots
+pub mod Ready

@@ -1,5 +1,5 @@
 //! Laws of joining steps, each the contract of a function that does nothing.
-ghost use Rattle.b2_virtual.specs.Laws.{SameIsEqual, NumberIsItsOwn, NumbersStay, AgainIsSame, AgainHasNumber, NothingElse, FirstIsOne, FittingHasNone};
+ghost use Rattle.b2_virtual.specs.Laws.{SameIsEqual, NumberIsItsOwn, NumbersStay, AgainIsSame, AgainHasNumber, StaysDistinct, NothingElse, FirstIsOne, FittingHasNone};
 
 /// Two steps count as equal exactly where all that they are is equal.
 pub fn same_is_equal()
@@ -12,10 +12,11 @@ pub fn numbers()
     ensures stay { NumbersStay }
 {}
 
-/// A step that joins again changes nothing, and has its number. Nothing else comes in with a step.
+/// A step that joins again changes nothing, and has its number; no step stands twice. Nothing else comes in with a step.
 pub fn again()
     ensures same { AgainIsSame }
     ensures number { AgainHasNumber }
+    ensures once { StaysDistinct }
     ensures nothing_else { NothingElse }
 {}
 

@@ -1,0 +1,10 @@
+pub mod JoiningLemmas
+pub mod SpotLemmas
+pub mod OrderLemmas
+pub mod PieceLemmas
+pub mod ReadyLemmas
+pub mod MapLemmas
+pub mod Cuts
+pub mod LogLemmas
+pub mod RangeLemmas
+pub mod ClashLemmas

@@ -1,0 +1,5 @@
+use Rattle.b2_virtual.proofs.JoiningLemmas.{same_is_equal}
+use Rattle.b2_virtual.proofs.laws.same_is_equal.Goals as goal
+
+pub returns : goal.returns
+returns c = same_is_equal

@@ -1,0 +1,17 @@
+use Rattle.std.proofs.Common.{List, ℕ, sym}
+use Rattle.std.proofs.lemmas.Bool.{true≢false}
+use Rattle.b2_virtual.proofs.RangeLemmas.{none_before, last_before, last_is}
+use Rattle.b2_virtual.proofs.spot_map.SpotMap.comes_before.Goals as goal
+
+pub returns-in-None : goal.returns-in-None
+returns-in-None c = (
+  λ t. absurd (true≢false (sym t)),
+  λ b. absurd (none_before c.self.inside.numbers c.args.self.now c.args.text.now c.range.result c.self.view_is (c.range.ensures.in_range tt) c.requires.none c.in-None.ensures.steps.0 b),
+)
+
+pub returns-in-Some : goal.returns-in-Some
+returns-in-Some c =
+    let entry : List ℕ × ℕ = (c.in-Some.key.now, c.in-Some._number.now) in (
+      λ t. last_is c.self.inside.numbers c.args.self.now c.args.text.now c.range.result _ entry c.self.view_is (c.range.ensures.in_range tt) c.in-Some.ensures.steps (c.begins.ensures.0 t),
+      λ b. c.begins.ensures.1 (last_before c.self.inside.numbers c.args.self.now c.args.text.now c.range.result _ entry c.self.view_is (c.range.ensures.in_range tt) c.requires.none c.requires.flat c.in-Some.ensures.steps b),
+    )

@@ -1,0 +1,11 @@
+use Rattle.std.proofs.Common.{lit<, sym, Some, None}
+use Rattle.b2_virtual.proofs.Cuts.{rsplit_parts, stem_at, stem_whole}
+use Rattle.b2_virtual.proofs.tails.stem_of.Goals as goal
+
+pub returns-in-None : goal.returns-in-None
+returns-in-None c = sym (stem_whole c.args.name.now (rsplit_parts 46 c.args.name.now None c.in-None.ensures.cases (lit< tt)))
+
+pub returns-in-Some : goal.returns-in-Some
+returns-in-Some c =
+    let p = rsplit_parts 46 c.args.name.now (Some (c.in-Some.stem, c.in-Some._suffix)) c.in-Some.ensures.cases (lit< tt) in
+    sym (stem_at c.args.name.now c.in-Some.stem.now c.in-Some._suffix.now p.0 p.1)
