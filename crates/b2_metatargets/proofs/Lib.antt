@@ -1,0 +1,11 @@
+pub mod Stepping
+pub mod Refusing
+pub mod Numbering
+pub mod Soundness
+pub mod Places
+pub mod Advancing
+pub mod FeatureNames
+pub mod ReadLists
+pub mod CarriedOut
+pub mod Adding
+pub mod Walking

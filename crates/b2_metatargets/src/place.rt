@@ -1,0 +1,50 @@
+//! The projects and the main targets of a load.
+use b2_base::list::List;
+use b2_base::path::Path;
+use b2_base::path_list::PathList;
+use b2_base::text::Text;
+use b2_base::text_list::TextList;
+use b2_declarations::declaration::Kind;
+use b2_props::pair_list::PairList;
+use b2_props::requirement::Requirement;
+
+/// A project: its directory and its file, from the folder, the name of its module, the place of its parent among the
+/// projects, and what its file declares of it.
+#[derive(Drop)]
+pub struct Place {
+    pub dir: Path,
+    pub file: Path,
+    pub module: Text,
+    pub parent: Option<usize>,
+    pub requirements: List<Requirement>,
+    pub usage: List<Requirement>,
+    pub defaults: PairList,
+    /// The directories that its `build-project` calls name, from the folder.
+    pub builds: PathList,
+    /// The names of its `explicit` calls.
+    pub explicit: TextList,
+}
+
+/// A main target: the place of its project, what its call says, and the line of the call.
+#[derive(Drop)]
+pub struct Target {
+    pub project: usize,
+    pub name: Text,
+    pub kind: Kind,
+    pub sources: TextList,
+    /// The rule of a `make`; empty for others.
+    pub rule: Text,
+    pub requirements: List<Requirement>,
+    pub usage: List<Requirement>,
+    pub defaults: PairList,
+    pub line: u32,
+}
+
+/// The rule that answers an indirect requirement: the place of the project that requires it, the rule's name, and the line
+/// of the call.
+#[derive(Drop)]
+pub struct IndirectRule {
+    pub project: usize,
+    pub rule: Text,
+    pub line: u32,
+}

@@ -1,0 +1,35 @@
+//! The projects of a load and their declaring calls.
+ghost use Rattle.std.specs.Prelude.{◌≡◌, ◌<◌, length};
+ghost use Rattle.b2_metatargets.specs.Calls.{visit_of};
+
+use b2_base::path::Path;
+use b2_base::text::Text;
+use b2_declarations::declaration::Declaration;
+
+/// A project that was loaded: its directory and its file, from the folder, the name of its module, and the place of its
+/// parent among the projects, where it has one.
+#[derive(Drop)]
+pub struct Visit {
+    pub dir: Path,
+    pub file: Path,
+    pub module: Text,
+    pub parent: Option<usize>,
+}
+
+/// A recorded call of a declaring rule: the place of the project whose file made it, the rule, the line, and what it
+/// declares; nothing where the lists of the call have another shape than those of the rule.
+#[derive(Drop)]
+pub struct Call {
+    pub project: usize,
+    pub rule: Text,
+    pub line: u32,
+    pub declaration: Option<Declaration>,
+}
+
+/// The project of a call; takes no memory.
+pub(crate) fn visit_of<'a>(visits: &'a [Visit], call: &Call) -> &'a Visit
+    requires { call.now.project < length visits.now }
+    ensures { result.now ≡ visit_of visits.now call.now }
+{
+    &visits[call.project]
+}
