@@ -1,0 +1,80 @@
+//! Looking at the world.
+use crate::machine::Machine;
+use crate::words::first;
+use b2_base::look::Look;
+use b2_base::text::Text;
+use b2_base::text_list::TextList;
+use jam_natives::decl::Decl;
+use std::alloc::Global;
+use transcript::answer::Answer;
+use transcript::case_fault::CaseFault;
+use transcript::command::Word;
+
+/// A text, and then others, each after a space.
+fn line_of(alloc: Global, head: &str, texts: &[Text]) -> Result<String, CaseFault> {
+    let mut line = String::new(alloc);
+    line.push_str(head)?;
+    for text in texts {
+        line.push(' ')?;
+        line.push_str(text.as_str())?;
+    }
+    Ok(line)
+}
+
+/// What variables hold in a module.
+pub fn values(
+    alloc: Global,
+    machine: &mut Machine,
+    module: &str,
+    words: &[Word],
+) -> Result<Answer, CaseFault> {
+    machine.world.enter(module)?;
+    let mut answer = Answer::new(alloc);
+    for word in words {
+        let name = word.as_str()?;
+        answer.push_line(line_of(alloc, name, machine.world.look(name))?.as_str())?;
+    }
+    if machine.world.may_leave() {
+        machine.world.leave();
+    }
+    Ok(answer)
+}
+
+/// What variables hold on a target.
+pub fn own_values(alloc: Global, machine: &Machine, words: &[Word]) -> Result<Answer, CaseFault> {
+    let (target, names) = first(words)?;
+    let mut answer = Answer::new(alloc);
+    for word in names {
+        let name = word.as_str()?;
+        match machine.world.on_target(target, name) {
+            Some(value) => answer.push_line(line_of(alloc, name, value)?.as_str())?,
+            None => {}
+        }
+    }
+    Ok(answer)
+}
+
+fn lists_line(alloc: Global, head: &str, lists: &[TextList]) -> Result<String, CaseFault> {
+    let mut line = String::new(alloc);
+    line.push_str(head)?;
+    for list in lists {
+        line.push_str(" :")?;
+        line.push_str(line_of(alloc, "", list.as_slice())?.as_str())?;
+    }
+    Ok(line)
+}
+
+fn decl_line(alloc: Global, decl: &Decl) -> Result<String, CaseFault> {
+    let (rule, line) = (decl.rule.as_str(), decl.line);
+    let head = format!(in alloc; "{line}: {rule}")?;
+    lists_line(alloc, head.as_str(), decl.lists.as_slice())
+}
+
+/// The recorded calls of declaring rules.
+pub fn decls(alloc: Global, machine: &Machine) -> Result<Answer, CaseFault> {
+    let mut answer = Answer::new(alloc);
+    for decl in machine.natives.decls() {
+        answer.push_line(decl_line(alloc, decl)?.as_str())?;
+    }
+    Ok(answer)
+}

@@ -1,0 +1,115 @@
+//! The session of a transcript.
+use crate::calls::call_rule;
+use crate::looks::{decls, own_values, values};
+use crate::machine::Machine;
+use crate::running::run_text;
+use crate::steps::text_of_step;
+use crate::words::{number, only, only_text, path};
+use b2_base::fault::OutOfMemory;
+use b2_base::text::Text;
+use jam_interp::turns::Turns;
+use std::alloc::Global;
+use transcript::answer::Answer;
+use transcript::case_fault::CaseFault;
+use transcript::command::{Command, Word};
+use transcript::session::Session;
+
+/// A machine, the module of the files that are run, and the turns of a run.
+#[derive(Drop)]
+pub struct Cases {
+    machine: Box<Machine>,
+    module: Text,
+    budget: u32,
+    left: u32,
+}
+
+impl Cases {
+    /// An empty world without files.
+    pub fn new(alloc: Global) -> Result<Cases, OutOfMemory> {
+        let machine = Box::new(alloc, Machine::new(alloc)?)?;
+        let module = Text::new(alloc, "")?;
+        Ok(Cases {
+            machine,
+            module,
+            budget: 1_000_000,
+            left: 0,
+        })
+    }
+
+    fn file(&mut self, alloc: Global, command: &Command) -> Result<Answer, CaseFault> {
+        for word in command.words() {
+            let at = path(alloc, word.as_str()?)?;
+            if self.machine.host.running().is_empty() {
+                let bytes = command.text().as_bytes();
+                self.machine.host.edit(&at, Some(bytes))?;
+            }
+        }
+        Ok(Answer::new(alloc))
+    }
+
+    fn run(&mut self, alloc: Global, command: &Command) -> Result<Answer, CaseFault> {
+        let at = path(alloc, only(command.words())?)?;
+        let mut turns = Turns::new(self.budget);
+        let module = self.module.as_str();
+        let answer = run_text(
+            alloc,
+            &mut self.machine,
+            module,
+            &at,
+            command.text(),
+            &mut turns,
+        );
+        self.left = turns.left;
+        answer
+    }
+
+    fn call(&mut self, alloc: Global, words: &[Word]) -> Result<Answer, CaseFault> {
+        let mut turns = Turns::new(self.budget);
+        let module = self.module.as_str();
+        let answer = call_rule(alloc, &mut self.machine, module, words, &mut turns);
+        self.left = turns.left;
+        answer
+    }
+
+    fn step(&mut self, alloc: Global, words: &[Word]) -> Result<Answer, CaseFault> {
+        let mut turns = Turns::new(self.budget);
+        let answer = text_of_step(alloc, &mut self.machine, &self.module, words, &mut turns);
+        self.left = turns.left;
+        answer
+    }
+
+    fn left(&self, alloc: Global) -> Result<Answer, CaseFault> {
+        let left = self.left;
+        Answer::line(alloc, format!(in alloc; "{left}")?.as_str())
+    }
+
+    fn settings(&mut self, alloc: Global, command: &Command) -> Result<Option<Answer>, CaseFault> {
+        match command.name() {
+            "new" => *self = Cases::new(alloc)?,
+            "turns" => self.budget = number(only(command.words())?)?,
+            "module" => self.module = only_text(alloc, command.words())?,
+            _ => return Ok(None),
+        }
+        Ok(Some(Answer::new(alloc)))
+    }
+}
+
+impl Session for Cases {
+    fn carry_out(&mut self, alloc: Global, command: &Command) -> Result<Answer, CaseFault> {
+        if let Some(answer) = self.settings(alloc, command)? {
+            return Ok(answer);
+        }
+        let words = command.words();
+        match command.name() {
+            "file" => self.file(alloc, command),
+            "run" => self.run(alloc, command),
+            "call_rolled" => self.call(alloc, words),
+            "step_text" => self.step(alloc, words),
+            "value" => values(alloc, &mut self.machine, self.module.as_str(), words),
+            "on" => own_values(alloc, &self.machine, words),
+            "left" => self.left(alloc),
+            "decls" => decls(alloc, &self.machine),
+            _ => Err(CaseFault::UnknownCommand),
+        }
+    }
+}
