@@ -1,0 +1,23 @@
+//! The cases of calls of declaring rules. A call is written as its rule and its lists, divided by words `:`.
+//!
+//! - `declaration RULE WORD .. : WORD .. : ..` answers what the call declares: a line with its kind and its name, and below it
+//!   a line for each of its lists that is not empty; `none` where there is no such declaration.
+//! - `declaration_refused RULE ..` is the same for a call whose output roots are refused.
+//! - `named_directories DIR RULE ..` answers the directories that the call names in the project file of DIR, a line each;
+//!   `none` where it declares nothing.
+//!
+//! Words of one line have one space between them, and `""` is the empty word.
+#![tactic(auto)]
+
+mod calls;
+mod session;
+mod shown;
+
+use crate::session::Cases;
+use std::io;
+use std::process::ExitCode;
+use transcript::session::run;
+
+fn main(rt: HostRuntime) -> io::Result<ExitCode> {
+    run(&rt, &mut Cases)
+}
