@@ -2,6 +2,8 @@ pub mod NameLemmas
 pub mod TableLemmas
 pub mod PastLemmas
 pub mod StepLemmas
+pub mod ListLemmas
+pub mod SizeLemmas
 pub mod SeeingLemmas
 pub mod SettingLemmas
 pub mod ChangeLemmas

@@ -162,7 +162,7 @@ taken_back r q cells last o p name x b e f is was at g =
     (λ i. record (e i) { cells = last }) ∙ ap (λ c. record r { cells = c }) whole
 
 -- a cell that is taken out for another one, which is put in its place
-pub replaced_twice : (m n l : Table Cell) (o p q name : Text) (old empty new : Cell) → get m (o, name) ≡ Some old → p ≡ o → n ≡ put_back m (p, name) (Some empty) → q ≡ o → l ≡ put_back n (q, name) (Some new) → l ≡ insert m (o, name) new
+pub replaced_twice : {X : Type 0} (m n l : Table X) (o p q name : Text) (old empty new : X) → get m (o, name) ≡ Some old → p ≡ o → n ≡ put_back m (p, name) (Some empty) → q ≡ o → l ≡ put_back n (q, name) (Some new) → l ≡ insert m (o, name) new
 replaced_twice m n l o p q name old empty new got e f g h =
     let there : is_some (get m (o, name)) ≡ true = ap is_some got in
     let first : n ≡ put m (o, name) (Some empty) = f ∙ ap (λ a. put_back m (a, name) (Some empty)) e ∙ back_there m (o, name) (Some empty) there in

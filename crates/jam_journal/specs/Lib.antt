@@ -2,6 +2,8 @@ pub mod Tables
 pub mod Marks
 pub mod Pasts
 pub mod Scopes
+pub mod Sizes
+pub mod Lists
 pub mod ScopeCodes
 pub mod Stacks
 pub mod Layers

@@ -4,8 +4,10 @@
 pub mod name;
 pub mod names;
 pub mod past;
+pub mod past_lists;
 mod registers;
 pub mod reserved;
 pub mod saved;
+pub mod sized_list;
 pub mod table;
 pub mod variables;

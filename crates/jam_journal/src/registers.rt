@@ -4,8 +4,8 @@ ghost use Rattle.jam_journal.specs.Scopes.{is_special};
 
 use crate::name::Name;
 use crate::names::Names;
+use crate::sized_list::SizedList;
 use crate::table::Table;
-use b2_base::text_list::TextList;
 
 pub mod closing;
 pub mod growing;
@@ -17,7 +17,7 @@ pub mod unset;
 #[derive(Drop)]
 pub struct Cell {
     /// The value.
-    pub value: TextList,
+    pub value: SizedList,
     /// How many marks there were when the cell was bound, or when what it replaced was noted.
     pub stamp: usize,
 }

@@ -4,6 +4,7 @@ use crate::names::Names;
 use crate::past::{Replaced, change};
 use crate::registers::{Cell, Registers, Scope, closing, growing, looking, opening, unset};
 use crate::reserved::push_reserved;
+use crate::sized_list::SizedList;
 use crate::table::Table;
 use b2_base::fault::OutOfMemory;
 use b2_base::text::Text;
@@ -61,6 +62,7 @@ impl Variables {
     ghost use Rattle.std.specs.FinMap as map;
     ghost use Rattle.jam_journal.specs.Tables.{row_of};
     ghost use Rattle.jam_journal.specs.Marks.{changed, marked, rolled};
+    ghost use Rattle.jam_journal.specs.Sizes.{size_of, capped};
     ghost use Rattle.jam_journal.specs.Scopes.{look, assigned, assign, append, enter, enter_call, leave, bind, module_of, caller_of, first_scopes, frames_at_mark};
 
     /// No frame and no variable.
@@ -96,6 +98,14 @@ impl Variables {
         ensures { result.now ≡ unwrap_or (assigned self.now.0 name.now) [] }
     {
         looking::value_at(&self.registers.cells, self.registers.owner.as_str(), name)
+    }
+
+    /// The size of the value that `set` would replace: the sum of its texts' lengths plus one each, or the largest number where
+    /// that is larger. Takes no time in proportion to the value.
+    pub fn assigned_size(&self, name: &str) -> u64
+        ensures { result ≡ capped (size_of (unwrap_or (assigned self.now.0 name.now) [])) }
+    {
+        looking::size_at(&self.registers.cells, self.registers.owner.as_str(), name)
     }
 
     /// The names of a module's variables, in byte order. Takes time in proportion to its names and to the bindings that stand.
@@ -168,7 +178,7 @@ impl Variables {
         ensures err { OnErr result (self.new ≡ self.old) }
     {
         let cell = Cell {
-            value,
+            value: SizedList::from_list(value),
             stamp: self.older.len(),
         };
         opening::bind(
@@ -187,7 +197,10 @@ impl Variables {
         ensures err { OnErr result (self.new ≡ self.old) }
     {
         let stamp = self.older.len();
-        let cell = Cell { value, stamp };
+        let cell = Cell {
+            value: SizedList::from_list(value),
+            stamp,
+        };
         let is_fresh = looking::is_fresh(&self.registers, name, stamp);
         opening::set(
             self.alloc,

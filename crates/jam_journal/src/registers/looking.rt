@@ -1,5 +1,6 @@
 //! Looking at the present values.
 ghost use Rattle.std.specs.Prelude.{◌≡◌, ◌==◌};
+ghost use Rattle.jam_journal.specs.Sizes.{size_of, capped};
 ghost use Rattle.jam_journal.specs.Stacks.{value_at, stamp_at, found};
 
 use super::{Cell, Registers, is_special};
@@ -13,6 +14,16 @@ pub fn value_at<'a>(cells: &'a Table<Cell>, owner: &str, name: &str) -> &'a [Tex
     match cells.get(owner, name) {
         Some(cell) => cell.value.as_slice(),
         None => &[],
+    }
+}
+
+/// The size of the present value of a name in a module. Takes no memory, and no time in proportion to it.
+pub fn size_at(cells: &Table<Cell>, owner: &str, name: &str) -> u64
+    ensures { result ≡ capped (size_of (value_at cells.now (owner.now, name.now))) }
+{
+    match cells.get(owner, name) {
+        Some(cell) => cell.value.size(),
+        None => 0,
     }
 }
 

@@ -14,7 +14,7 @@ invariant_of-self-2 c =
     let older = layers_of c.self.inside.older.items in
     let changes = reverse c.self.inside.changes.items in
     let entries = reverse c.self.inside.entries.items in
-    let cell : Cell = record { value = c.args.value; stamp = c.len.result } in
+    let cell : Cell = record { value = c.from_list.result; stamp = c.len.result } in
     pushed_kept older c.self.inside.entries.items changes c.bind.new.registers (with_bound c.args.name.now cell r) c.bind.new.entries.items (bound_entry c.args.name.now r) c.in_ok-bind.ensures.registers c.in_ok-bind.ensures.entries
     (bind_kept older r entries changes c.self.invariant c.args.name.now cell (c.len.ensures ∙ c.self.inside.older.ok.0 ∙ sym (layers_length c.self.inside.older.items))
     (is_within (entries ++ entries_of older) r (subst (λ (p : Marked Scopes). p.0.frames ≢ []) (sym c.self.view_is) c.requires)))
@@ -24,7 +24,7 @@ returns-clause-ok c =
     let r = c.self.inside.registers in
     let older = layers_of c.self.inside.older.items in
     let changes = reverse c.self.inside.changes.items in
-    let cell : Cell = record { value = c.args.value; stamp = c.len.result } in
+    let cell : Cell = record { value = c.from_list.result; stamp = c.len.result } in
     pushed_seen older c.self.inside.entries.items changes c.bind.new.registers (with_bound c.args.name.now cell r) c.bind.new.entries.items (bound_entry c.args.name.now r) c.in_ok-bind.ensures.registers c.in_ok-bind.ensures.entries
     ∙ bind_seen older r (reverse c.self.inside.entries.items) changes c.self.invariant c.args.name.now cell
-    ∙ ap (changed (bind c.args.name.now c.args.value)) c.self.view_is
+    ∙ (λ i. changed (bind c.args.name.now (c.from_list.ensures i)) (c.self.view_is i))

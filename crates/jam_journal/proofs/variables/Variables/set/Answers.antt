@@ -10,7 +10,7 @@ pub invariant_of-self-2 : goal.invariant_of-self-2
 invariant_of-self-2 c =
     let r = c.self.inside.registers in
     let older = layers_of c.self.inside.older.items in
-    let cell : Cell = record { value = c.args.value; stamp = c.len-stamp.result } in
+    let cell : Cell = record { value = c.from_list.result; stamp = c.len-stamp.result } in
     set_is_kept older r (reverse c.self.inside.entries.items) c.self.inside.changes.items c.set.new.changes.items c.self.invariant c.args.name.now cell c.set.new.registers
     c.in_ok-set.ensures.registers (c.len-stamp.ensures ∙ c.self.inside.older.ok.0 ∙ sym (layers_length c.self.inside.older.items))
     c.is_fresh-is_fresh.result c.is_fresh-is_fresh.ensures c.in_ok-set.ensures.changes
@@ -19,8 +19,8 @@ pub returns-clause-ok : goal.returns-clause-ok
 returns-clause-ok c =
     let r = c.self.inside.registers in
     let older = layers_of c.self.inside.older.items in
-    let cell : Cell = record { value = c.args.value; stamp = c.len-stamp.result } in
+    let cell : Cell = record { value = c.from_list.result; stamp = c.len-stamp.result } in
     set_is_seen older r (reverse c.self.inside.entries.items) c.self.inside.changes.items c.set.new.changes.items c.self.invariant c.args.name.now cell c.set.new.registers
     c.in_ok-set.ensures.registers (c.len-stamp.ensures ∙ c.self.inside.older.ok.0 ∙ sym (layers_length c.self.inside.older.items))
     c.is_fresh-is_fresh.result c.is_fresh-is_fresh.ensures c.in_ok-set.ensures.changes
-    ∙ ap (changed (assign c.args.name.now c.args.value)) c.self.view_is
+    ∙ (λ i. changed (assign c.args.name.now (c.from_list.ensures i)) (c.self.view_is i))
