@@ -1,3 +1,4 @@
 pub mod LineLemmas
 mod NoteLemmas
 mod BindLemmas
+mod RootLemmas

@@ -1,6 +1,6 @@
 -- What the calls of a world change.
 use Rattle.std.specs.Prelude.{◌≡◌, ℕ, ◌+◌, true, false, List, [], ◌∷◌, ◌++◌, Option, Some, None, length, if◌then◌else◌}
-use Rattle.std.specs.Option.{option_map}
+use Rattle.std.specs.Option.{option_map, unwrap_or}
 use Rattle.std.specs.FinMap as map
 use Rattle.jam_grammar.specs.declared.tree.Param.{Param}
 use Rattle.jam_grammar.specs.Trees.{StmtTrees}
@@ -85,6 +85,14 @@ set_parent owner parent w = record w { parents = map.insert w.parents (owner, []
 -- the target has this own value of the name
 abbrev pub set_on : Text → Text → Value → World → World
 set_on target name value w = record w { own = map.insert w.own (target, name) value }
+
+-- the own value that a target has of a name, or the empty list
+abbrev pub own_value : Text → Text → World → Value
+own_value target name w = unwrap_or (map.get w.own (target, name)) []
+
+-- texts come after those of the own value
+abbrev pub append_on : Text → Text → Value → World → World
+append_on target name texts w = set_on target name (own_value target name w ++ texts) w
 
 -- the own values of a target, by name in byte order
 abbrev pub own_of : Text → World → List Binding

@@ -6,6 +6,7 @@ pub mod body;
 pub mod mark;
 pub mod notes;
 mod parents;
+mod roots;
 pub mod rule;
 pub mod rule_ref;
 mod steps;

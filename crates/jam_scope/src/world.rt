@@ -1,17 +1,16 @@
 //! The world of a running build file.
 ghost use Rattle.std.specs.Prelude.{◌≡◌, IfOk};
-ghost use Rattle.b2_base.specs.Segments.{normal_of};
-ghost use Rattle.jam_scope.specs.Texts.{here, first_roots};
+ghost use Rattle.jam_scope.specs.Texts.{here};
 
 use crate::body::ActionBody;
 use crate::parents::Parents;
+use crate::roots::{Roots, path_of};
 use crate::rule::Rule;
 use crate::steps::Steps;
 use b2_base::fault::OutOfMemory;
 use b2_base::path::Path;
-use b2_base::path_list::PathList;
-use b2_base::text_list::TextList;
 use jam_journal::past::Past;
+use jam_journal::past_lists::PastLists;
 use jam_journal::saved::Saved;
 use jam_journal::variables::Variables;
 use std::alloc::Global;
@@ -39,9 +38,9 @@ pub struct World {
     rules: Past<Rule>,
     actions: Past<ActionBody>,
     parents: Parents,
-    own: Past<TextList>,
+    own: PastLists,
     place: Saved<Path>,
-    roots: Saved<PathList>,
+    roots: Saved<Roots>,
     frozen: Saved<bool>,
     steps: Steps,
 }
@@ -72,14 +71,14 @@ impl World {
     {
         let variables = Variables::new(alloc)?;
         let place = first_place(alloc)?;
-        let roots = first_roots(alloc)?;
+        let roots = Roots::new(alloc)?;
         Ok(World {
             alloc,
             variables,
             rules: Past::new(alloc),
             actions: Past::new(alloc),
             parents: Parents::new(alloc),
-            own: Past::new(alloc),
+            own: PastLists::new(alloc),
             place: Saved::new(alloc, place),
             roots: Saved::new(alloc, roots),
             frozen: Saved::new(alloc, false),
@@ -88,30 +87,9 @@ impl World {
     }
 }
 
-/// The path of a text.
-fn path_of(alloc: Global, text: &str) -> Result<Path, OutOfMemory>
-    ensures { IfOk result (λ made. made ≡ normal_of text.now) }
-{
-    match Path::normal(alloc, text) {
-        Ok(path) => Ok(path),
-        Err(_) => Err(OutOfMemory),
-    }
-}
-
 /// The directory of the first world.
 fn first_place(alloc: Global) -> Result<Path, OutOfMemory>
     ensures { IfOk result (λ made. made ≡ here) }
 {
     path_of(alloc, ".")
-}
-
-/// The output roots of the first world.
-fn first_roots(alloc: Global) -> Result<PathList, OutOfMemory>
-    ensures { IfOk result (λ made. made ≡ first_roots) }
-{
-    let mut roots = PathList::new(alloc);
-    roots.push(path_of(alloc, "bin")?)?;
-    roots.push(path_of(alloc, "stage")?)?;
-    roots.push(path_of(alloc, "dist")?)?;
-    Ok(roots)
 }

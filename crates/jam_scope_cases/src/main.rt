@@ -13,15 +13,16 @@
 //!   `rule_at MODULE NAME LINE` takes a share of a rule, defines the name anew in the present module, and shows the share.
 //!   `rule_names MODULE` shows a module's own rules. `set_parent MODULE PARENT` puts a module above another one, or answers
 //!   `not above` where it may not be there.
-//! - `assigned NAME` shows the value that `set` would replace.
-//! - `set_on TARGET NAME VALUE` and `on_target TARGET NAME` set and show an own value of a target, `own_names TARGET` shows its
-//!   names, and `bind_own TARGET` binds them in the newest frame, or answers `no frame` as `bind` does.
+//! - `assigned NAME` shows the value that `set` would replace, and `assigned_size NAME` its size.
+//! - `set_on TARGET NAME VALUE`, `append_on TARGET NAME VALUE`, `on_target TARGET NAME` and `own_size TARGET NAME` set an own value
+//!   of a target, add to it, show it, and show its size. `own_names TARGET` shows its names, and `bind_own TARGET` binds them in the newest frame, or answers `no frame` as `bind` does.
 //! - `open_step OUT INS` opens a step, or answers `open` where one is; `step` shows its notes. `add_depends PATH`, `set_always`
 //!   and `set_notfile` note something of it.
 //! - `set_place DIR`, `place`, `add_roots DIRS`, `freeze_roots` and `roots` are about the project's directory and the output
 //!   roots.
-//! - `sets COUNT NAME VALUE` and `appends COUNT NAME VALUE` set and append so often, `marked_sets COUNT NAME VALUE` makes a
-//!   mark before each setting, and `roll_backs COUNT` goes back so often. `look_size NAME` shows how many texts a name has.
+//! - `sets COUNT NAME VALUE`, `appends COUNT NAME VALUE` and `appends_on COUNT TARGET NAME VALUE` set and add so often,
+//!   `marked_sets COUNT NAME VALUE` makes a mark before each setting, and `roll_backs COUNT` goes back so often.
+//!   `look_size NAME` shows how many texts a name has.
 #![tactic(auto)]
 
 mod answers;

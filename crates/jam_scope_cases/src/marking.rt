@@ -86,6 +86,16 @@ fn appends(alloc: Global, world: &mut World, words: &[Word]) -> Result<Answer, C
     Ok(Answer::new(alloc))
 }
 
+fn appends_on(alloc: Global, world: &mut World, words: &[Word]) -> Result<Answer, CaseFault> {
+    let (count, target, others) = counted(words)?;
+    let (name, value) = first(others)?;
+    let value = texts(alloc, value)?;
+    for _ in 0..count {
+        world.append_on(target, name, value.as_slice())?;
+    }
+    Ok(Answer::new(alloc))
+}
+
 fn marked_sets(
     alloc: Global,
     world: &mut World,
@@ -115,6 +125,7 @@ pub fn answer_marking(
         "roll_backs" => roll_backs(alloc, world, marks, words)?,
         "sets" => sets(alloc, world, words)?,
         "appends" => appends(alloc, world, words)?,
+        "appends_on" => appends_on(alloc, world, words)?,
         "marked_sets" => marked_sets(alloc, world, marks, words)?,
         _ => return Ok(None),
     };

@@ -55,6 +55,11 @@ fn look_size(alloc: Global, world: &World, words: &[Word]) -> Result<Answer, Cas
     Answer::line(alloc, format!(in alloc; "{count}")?.as_str())
 }
 
+fn assigned_size(alloc: Global, world: &World, words: &[Word]) -> Result<Answer, CaseFault> {
+    let size = world.assigned_size(only(words)?);
+    Answer::line(alloc, format!(in alloc; "{size}")?.as_str())
+}
+
 /// The answer to a command on names and frames; none where it is another command.
 pub fn answer_naming(
     alloc: Global,
@@ -66,6 +71,7 @@ pub fn answer_naming(
         "look" => texts_answer(alloc, world.look(only(words)?))?,
         "look_size" => look_size(alloc, world, words)?,
         "assigned" => texts_answer(alloc, world.assigned(only(words)?))?,
+        "assigned_size" => assigned_size(alloc, world, words)?,
         "set" => set(alloc, world, words)?,
         "append" => append(alloc, world, words)?,
         "bind" => bind(alloc, world, words)?,

@@ -14,6 +14,20 @@ fn set_on(alloc: Global, world: &mut World, words: &[Word]) -> Result<Answer, Ca
     Ok(Answer::new(alloc))
 }
 
+fn append_on(alloc: Global, world: &mut World, words: &[Word]) -> Result<Answer, CaseFault> {
+    let (target, others) = first(words)?;
+    let (name, value) = first(others)?;
+    let value = texts(alloc, value)?;
+    world.append_on(target, name, value.as_slice())?;
+    Ok(Answer::new(alloc))
+}
+
+fn own_size(alloc: Global, world: &World, words: &[Word]) -> Result<Answer, CaseFault> {
+    let (target, others) = first(words)?;
+    let size = world.own_size(target, only(others)?);
+    Answer::line(alloc, format!(in alloc; "{size}")?.as_str())
+}
+
 fn on_target(alloc: Global, world: &World, words: &[Word]) -> Result<Answer, CaseFault> {
     let (target, others) = first(words)?;
     match world.on_target(target, only(others)?) {
@@ -63,6 +77,8 @@ pub fn answer_project(
     let words = command.words();
     let answer = match command.name() {
         "set_on" => set_on(alloc, world, words)?,
+        "append_on" => append_on(alloc, world, words)?,
+        "own_size" => own_size(alloc, world, words)?,
         "on_target" => on_target(alloc, world, words)?,
         "own_names" => own_names(alloc, world, words)?,
         "bind_own" => bind_own(alloc, world, words)?,

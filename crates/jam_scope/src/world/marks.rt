@@ -8,6 +8,7 @@ use crate::parents::Parents;
 use crate::steps::Steps;
 use b2_base::fault::OutOfMemory;
 use jam_journal::past::Past;
+use jam_journal::past_lists::PastLists;
 use jam_journal::saved::Saved;
 
 /// Marks two tables, or none of them.
@@ -26,9 +27,9 @@ fn mark_two<A: Drop, B: Drop>(first: &mut Past<A>, second: &mut Past<B>) -> Resu
 }
 
 /// Marks parents, a table and the notes of a step, or none of them.
-fn mark_parents<A: Drop>(
+fn mark_parents(
     first: &mut Parents,
-    second: &mut Past<A>,
+    second: &mut PastLists,
     third: &mut Steps,
 ) -> Result<(), OutOfMemory>
     ensures first { OnOk result (first.new ≡ marked first.old) }
@@ -78,12 +79,12 @@ fn mark_three<A: Drop, B: Drop, C: Drop>(
 }
 
 /// Marks parents, a table, three values and the notes of a step, or none of them.
-fn mark_six<A: Drop, B: Drop, C: Drop, D: Drop>(
+fn mark_six<A: Drop, B: Drop, C: Drop>(
     first: &mut Parents,
-    second: &mut Past<A>,
-    third: &mut Saved<B>,
-    fourth: &mut Saved<C>,
-    fifth: &mut Saved<D>,
+    second: &mut PastLists,
+    third: &mut Saved<A>,
+    fourth: &mut Saved<B>,
+    fifth: &mut Saved<C>,
     sixth: &mut Steps,
 ) -> Result<(), OutOfMemory>
     ensures first { OnOk result (first.new ≡ marked first.old) }

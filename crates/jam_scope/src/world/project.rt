@@ -1,27 +1,16 @@
 //! Own values, the project's directory and the output roots.
-ghost use Rattle.std.specs.Prelude.{◌≡◌, ◌≢◌, ℕ, [], ◌++◌, map, take, string_bytes, IfOk, OnOk, OnErr};
+ghost use Rattle.std.specs.Prelude.{◌≡◌, ◌≢◌, ℕ, [], map, take, string_bytes, IfOk, OnOk, OnErr};
 ghost use Rattle.jam_journal.specs.Marks.{changed as with_scopes};
 ghost use Rattle.jam_journal.specs.Scopes.{bind_each};
 
 use super::World;
 use b2_base::fault::OutOfMemory;
 use b2_base::path::Path;
-use b2_base::path_list::{PathList, copy_paths};
 use b2_base::text::Text;
 use b2_base::text_list::TextList;
+use jam_journal::sized_list::SizedList;
 use jam_journal::variables::Variables;
 use std::alloc::Global;
-
-/// Output roots, and further ones after them.
-fn more_roots(alloc: Global, roots: &[Path], dirs: &[Path]) -> Result<PathList, OutOfMemory>
-    ensures { IfOk result (λ made. made ≡ roots.now ++ dirs.now) }
-{
-    let mut made = copy_paths(alloc, roots)?;
-    for dir in dirs {
-        made.push(dir.copy()?)?;
-    }
-    Ok(made)
-}
 
 /// The same texts, in order.
 fn copy_texts(alloc: Global, texts: &[Text]) -> Result<TextList, OutOfMemory>
@@ -38,7 +27,7 @@ fn copy_texts(alloc: Global, texts: &[Text]) -> Result<TextList, OutOfMemory>
 fn bind_row(
     alloc: Global,
     variables: &mut Variables,
-    row: &[(&String, &TextList)],
+    row: &[(&String, &SizedList)],
 ) -> Result<(), OutOfMemory>
     requires { variables.old.0.frames ≢ [] }
     ensures ok { OnOk result (variables.new ≡ with_scopes (bind_each (map (λ entry. (string_bytes entry.0.now, entry.1.now)) row.now)) variables.old) }
@@ -52,18 +41,21 @@ fn bind_row(
 }
 
 impl World {
-    ghost use Rattle.std.specs.Prelude.{◌≡◌, ◌≢◌, ℕ, [], not, take, IfOk, OnOk, OnErr};
+    ghost use Rattle.std.specs.Prelude.{List, ◌≡◌, ◌≢◌, ◌++◌, ℕ, [], not, take, IfOk, OnOk, OnErr};
     ghost use Rattle.std.specs.Option.{option_copied};
     ghost use Rattle.std.specs.FinMap as map;
     ghost use Rattle.jam_journal.specs.Scopes.{bind_each};
-    ghost use Rattle.jam_scope.specs.Changes.{changed, rescoped, own_of, set_on, set_place, add_roots, freeze_roots};
+    ghost use Rattle.jam_journal.specs.Sizes.{size_of, capped};
+    ghost use Rattle.jam_journal.specs.Tables.{Text};
+    ghost use Rattle.jam_scope.specs.Texts.{first_roots};
+    ghost use Rattle.jam_scope.specs.Changes.{changed, rescoped, own_of, own_value, set_on, append_on, set_place, add_roots, freeze_roots};
 
     /// Sets an own value of a target. After an error the world is as before.
     pub fn set_on(&mut self, target: &str, name: &str, value: TextList) -> Result<(), OutOfMemory>
         ensures ok { OnOk result (self.new ≡ changed (set_on target.now name.now value) self.old) }
         ensures err { OnErr result (self.new ≡ self.old) }
     {
-        self.own.insert(target, name, value)?;
+        self.own.insert(target, name, SizedList::from_list(value))?;
         Ok(())
     }
 
@@ -75,6 +67,27 @@ impl World {
             Some(texts) => Some(texts.as_slice()),
             None => None,
         }
+    }
+
+    /// The size of the own value of a target: the sum of its texts' lengths plus one each, or the largest number where that is
+    /// larger; 0 where it has none. Takes no memory, and no time in proportion to the value.
+    pub fn own_size(&self, target: &str, name: &str) -> u64
+        ensures { result ≡ capped (size_of (own_value target.now name.now self.now.now)) }
+    {
+        match self.own.get(target, name) {
+            Some(texts) => texts.size(),
+            None => 0,
+        }
+    }
+
+    /// Adds texts to the own value of a target, after those that are there. Copies nothing that is there. After an error the world
+    /// is as before.
+    pub fn append_on(&mut self, target: &str, name: &str, texts: &[Text]) -> Result<(), OutOfMemory>
+        ensures ok { OnOk result (self.new ≡ changed (append_on target.now name.now texts.now) self.old) }
+        ensures err { OnErr result (self.new ≡ self.old) }
+    {
+        self.own.append(target, name, texts)?;
+        Ok(())
     }
 
     /// Binds the own values of a target in the newest frame, and needs one. After an error the first of them may be bound, in the
@@ -106,9 +119,10 @@ impl World {
         Ok(())
     }
 
-    /// The output roots. Takes no memory.
+    /// The output roots, of which the first are `bin`, `stage` and `dist`. Takes no memory.
     pub fn roots(&self) -> &[Path]
-        ensures { result.now ≡ self.now.now.roots }
+        ensures same { result.now ≡ self.now.now.roots }
+        ensures first { (more : List Text) × (result.now ≡ first_roots ++ more) }
     {
         self.roots.get().as_slice()
     }
@@ -123,7 +137,7 @@ impl World {
         if *self.frozen.get() {
             return Ok(false);
         }
-        let roots = more_roots(self.alloc, self.roots.get().as_slice(), dirs)?;
+        let roots = self.roots.get().with(self.alloc, dirs)?;
         self.roots.set(roots);
         Ok(true)
     }

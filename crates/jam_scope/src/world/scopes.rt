@@ -21,6 +21,7 @@ impl World {
     ghost use Rattle.std.specs.Prelude.{◌≡◌, ◌≢◌, [], OnOk, OnErr};
     ghost use Rattle.std.specs.Option.{unwrap_or};
     ghost use Rattle.jam_journal.specs.Scopes.{append, assign, assigned, bind};
+    ghost use Rattle.jam_journal.specs.Sizes.{size_of, capped};
     ghost use Rattle.jam_scope.specs.Changes.{rescoped};
 
     /// The value that `set` would replace: that of the innermost frame of the present module that binds the name, else of the
@@ -29,6 +30,14 @@ impl World {
         ensures { result.now ≡ unwrap_or (assigned self.now.now.scopes name.now) [] }
     {
         self.variables.assigned(name)
+    }
+
+    /// The size of the value that `set` would replace: the sum of its texts' lengths plus one each, or the largest number where
+    /// that is larger. Takes no memory, and no time in proportion to the value.
+    pub fn assigned_size(&self, name: &str) -> u64
+        ensures { result ≡ capped (size_of (unwrap_or (assigned self.now.now.scopes name.now) [])) }
+    {
+        self.variables.assigned_size(name)
     }
 
     /// Sets a name in the innermost frame of the present module that binds it, else as the module's variable. After an
@@ -41,7 +50,8 @@ impl World {
         Ok(())
     }
 
-    /// Adds texts, after those that are there, to the value that `set` would replace. After an error the world is as before.
+    /// Adds texts, after those that are there, to the value that `set` would replace. Copies nothing that is there.
+    /// After an error the world is as before.
     pub fn append(&mut self, name: &str, value: &[Text]) -> Result<(), OutOfMemory>
         ensures ok { OnOk result (self.new ≡ rescoped (append name.now value.now) self.old) }
         ensures err { OnErr result (self.new ≡ self.old) }
