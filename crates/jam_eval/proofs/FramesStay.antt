@@ -10,7 +10,7 @@ use Rattle.jam_eval.specs.Outcomes.{Outcome, gives, faults}
 use Rattle.jam_eval.specs.Calls.{native_answer, acted_answer}
 use Rattle.jam_eval.specs.Rolled.{back_to}
 use Rattle.jam_eval.specs.Kept.{Ends, EndsTold}
-use Rattle.jam_eval.specs.Laws.{TurnsFall, SameFrames, FramesLeft, KeepFrames, SameWorlds, SameRest, ChangeNothing, bound_of, bounds}
+use Rattle.jam_eval.specs.Laws.{TurnsFall, SameFrames, FramesLeft, KeepFrames, SameWorlds, SameRest, ChangeNothing, SameParents, KeepParents, bound_of, bounds}
 use Rattle.jam_eval.proofs.IsKept.{IsKept}
 
 told_turns : {R A : Type 0} (s : State R) (t : Told A R) → EndsTold TurnsFall s t
@@ -136,4 +136,23 @@ rest_kept setting natives = record {
   roots = λ s. same s;
   native = λ name given line s. same_rest s (native_answer setting name given line s) (natives.native name given line s);
   records = λ name given line s. same_rest s (acted_answer setting name given line s) (natives.records name given line s);
+}
+
+pub parents_kept : {R : Type 0} (setting : Setting R) → KeepParents setting → IsKept setting SameParents SameParents
+parents_kept setting natives = record {
+  same = λ s. refl;
+  chain = λ a b c one two. two ∙ one;
+  chain_loose = λ a b c one two. two ∙ one;
+  loosen = λ s later h. h;
+  turn = λ s left is. refl;
+  assigns = λ name value s. refl;
+  binds = λ name value s. refl;
+  frame = λ owner s later h. h;
+  call_frame = λ owner s later h. h;
+  sets_own = λ target name value s. refl;
+  rules = λ name params block path line s. refl;
+  actions = λ name body s. refl;
+  roots = λ s. refl;
+  native = λ name given line s. natives.native name given line s;
+  records = λ name given line s. natives.records name given line s;
 }

@@ -2,9 +2,9 @@ mod CallLemmas
 mod CallsHold
 mod ExamplesHold
 mod FewerTurns
-mod FramesStay
-mod IsKept
-mod KeptByEval
+pub mod FramesStay
+pub mod IsKept
+pub mod KeptByEval
 mod LookLemmas
 mod OwnHold
 mod ReadingLaws

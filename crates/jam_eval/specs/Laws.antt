@@ -103,3 +103,16 @@ abbrev pub SightHasSetting : Type 0 → Type 0
 SightHasSetting R =
     (budget : ℕ) (natives : Meaning R) (refused : Option (ℕ × Text)) (sight : Sight) → IsSight sight
     → (reading : Text → Reading) × IsSetting {R = R} (record { budget = budget; natives = natives; sight = sight; reading = reading; refused = refused })
+
+-- the modules above modules are as before
+abbrev pub SameParents : {R : Type 0} → State R → State R → Type 0
+SameParents s later = later.worlds.now.parents ≡ s.worlds.now.parents
+
+-- natives put no module below another one
+pub record KeepParents {R : Type 0} (setting : Setting R) : Type 0 where
+  pub native : (name : Text) (given : List Value) (line : ℕ) (s : State R) → EndsTold SameParents s (native_answer setting name given line s)
+  pub records : (name : Text) (given : List Value) (line : ℕ) (s : State R) → EndsTold SameParents s (acted_answer setting name given line s)
+
+-- over such natives, evaluation puts none there
+abbrev pub FileKeepsParents : Type 0 → Type 0
+FileKeepsParents R = (setting : Setting R) → KeepParents setting → (path : Text) (tree : StmtTrees) (s : State R) → Ends SameParents s (run setting path tree s)

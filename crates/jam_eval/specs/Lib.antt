@@ -14,6 +14,7 @@ pub mod Calls
 pub mod Forms
 pub mod Eval
 pub mod Rolled
+pub mod StepJobs
 pub mod Kept
 pub mod Laws
 pub mod Examples

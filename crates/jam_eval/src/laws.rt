@@ -1,5 +1,5 @@
 //! Laws of evaluation.
-ghost use Rattle.jam_eval.specs.Laws.{FileTurnsFall, CallTurnsFall, FileKeepsFrames, CallKeepsFrames, RolledKeepsWorlds, StepKeepsWorlds, FileKeepsRest, SightHasSetting, FileAsWithMore, CallAsWithMore};
+ghost use Rattle.jam_eval.specs.Laws.{FileTurnsFall, CallTurnsFall, FileKeepsFrames, CallKeepsFrames, FileKeepsParents, RolledKeepsWorlds, StepKeepsWorlds, FileKeepsRest, SightHasSetting, FileAsWithMore, CallAsWithMore};
 
 /// No more turns are left after evaluation than before, whatever the natives keep.
 pub fn turns_fall<Kept>()
@@ -18,6 +18,11 @@ pub fn turns_only_run_out<Kept>()
 pub fn frames_stay<Kept>()
     ensures file { FileKeepsFrames Kept }
     ensures call { CallKeepsFrames Kept }
+{}
+
+/// Over natives that put no module below another one, a file puts none there.
+pub fn parents_stay<Kept>()
+    ensures { FileKeepsParents Kept }
 {}
 
 /// A call that is rolled back leaves the worlds of entry, also after a fault, and so does the text of a step.
