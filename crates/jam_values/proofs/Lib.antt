@@ -1,4 +1,5 @@
 pub mod ListLemmas
+pub mod SetLemmas
 pub mod TakingLemmas
 pub mod BelowLemmas
 pub mod ReadingLemmas

@@ -66,7 +66,7 @@ fn bytes_read(alloc: Global, bytes: &[u8]) -> Result<FileReading, OutOfMemory>
 
 /// How the bytes of a file read.
 #[tactic(auto, using(crate::proofs::ReadingLemmas::any_of_short))]
-fn any_read(alloc: Global, bytes: &[u8]) -> Result<FileReading, OutOfMemory>
+pub fn any_read(alloc: Global, bytes: &[u8]) -> Result<FileReading, OutOfMemory>
     ensures { IfOk result (λ read. ReadsAny bytes.now (reading_of read)) }
 {
     let size = bytes.len() as u64;
