@@ -47,3 +47,7 @@ pub record IsAnswered (meant : Sight → Option Text → Answer) (result : Resul
   pub frames : KeepsFrames before after
   pub part : PutsPartly result before.now after.now
   pub outside : LooksAt o later result
+
+-- the same of what is meant in a world, with what is kept
+abbrev pub IsAnsweredBy : (Sight → Option Text → Worlds → Kept → Answer) → Result NativeStep NativeError → Worlds → Worlds → Kept → Kept → Outside → Outside → Type 0
+IsAnsweredBy meant result before after kept now o later = IsAnswered (λ sight refused. meant sight refused before kept) result before after kept now o later

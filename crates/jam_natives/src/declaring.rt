@@ -64,7 +64,7 @@ fn is_refused(
 }
 
 /// The call as it is recorded. The world stays as it is.
-pub fn decl_of(
+pub(crate) fn decl_of(
     alloc: Global,
     name: &str,
     lists: &[TextList],
@@ -90,7 +90,7 @@ pub fn decl_of(
 }
 
 /// Adds the output roots that a call of `project` names, unless they are refused. After an error the world is as before.
-pub fn add_output_dirs(
+pub(crate) fn add_output_dirs(
     alloc: Global,
     name: &str,
     lists: &[TextList],

@@ -21,7 +21,7 @@ use std::alloc::Global;
 
 /// What is looked for: names that a pattern matches, whose paths no excluding pattern matches, outside the output roots.
 #[derive(Clone, Copy)]
-pub struct Search<'a> {
+pub(crate) struct Search<'a> {
     pub patterns: &'a [Text],
     pub excluded: &'a [Text],
     pub roots: &'a [Path],

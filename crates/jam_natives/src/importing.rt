@@ -92,7 +92,7 @@ fn import(
 }
 
 /// IMPORT: a module's rules are put into a module under as many names. Calls it with lists of its shape.
-pub fn import_call(
+pub(crate) fn import_call(
     alloc: Global,
     lists: &[TextList],
     world: &mut World,
@@ -111,7 +111,7 @@ pub fn import_call(
 }
 
 /// EXPORT: a module's rules are put into the global module. Calls it with lists of its shape.
-pub fn export_call(
+pub(crate) fn export_call(
     alloc: Global,
     lists: &[TextList],
     world: &mut World,

@@ -2,17 +2,17 @@
 #![tactic(auto)]
 
 pub mod decl;
-pub mod declaring;
+mod declaring;
 pub mod glob;
-pub mod importing;
+mod importing;
 pub mod laws;
 pub mod list;
 pub mod native;
 pub mod natives;
-pub mod noting;
+mod noting;
 pub mod output_dirs;
 pub mod pattern_match;
-pub mod reading;
+mod reading;
 pub mod shape;
 pub mod target;
 pub mod texts;

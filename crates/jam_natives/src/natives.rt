@@ -2,10 +2,10 @@
 ghost use Rattle.std.specs.Prelude.{◌≡◌, ◌++◌, ◌∷◌, [], OnOk, OnErr};
 ghost use Rattle.jam_scope.specs.Changes.{changed};
 ghost use Rattle.jam_natives.specs.Keeping.{Kept};
-ghost use Rattle.jam_natives.specs.Seeing.{kept_of};
+ghost use Rattle.jam_natives.specs.Seeing.{kept_of, IsCalled};
 ghost use Rattle.jam_natives.specs.Rows.{row, row_if_shaped, call_of, declare, declare_or_not, echo, with_roots};
 ghost use Rattle.jam_natives.specs.Rules.{native_of};
-ghost use Rattle.jam_natives.specs.Calls.{IsAnswered, IsDeclared};
+ghost use Rattle.jam_natives.specs.Calls.{IsAnsweredBy, IsDeclared};
 
 use crate::decl::Decl;
 use crate::declaring::{add_output_dirs, decl_of};
@@ -48,7 +48,7 @@ fn glob_call<F: Files>(
     world: &mut World,
     files: &mut F,
 ) -> Result<NativeStep, NativeError>
-    ensures { (kept : Kept) → IsAnswered (λ sight refused. row Native.Glob lists.now sight refused world.old kept) result world.old world.new kept kept (F.outside files.old) (F.outside files.new) }
+    ensures { (kept : Kept) → IsAnsweredBy (row Native.Glob lists.now) result world.old world.new kept kept (F.outside files.old) (F.outside files.new) }
 {
     match glob(
         alloc,
@@ -73,7 +73,7 @@ fn project_glob_call<F: Files>(
     world: &mut World,
     files: &mut F,
 ) -> Result<NativeStep, NativeError>
-    ensures { (kept : Kept) → IsAnswered (λ sight refused. row Native.ProjectGlob lists.now sight refused world.old kept) result world.old world.new kept kept (F.outside files.old) (F.outside files.new) }
+    ensures { (kept : Kept) → IsAnsweredBy (row Native.ProjectGlob lists.now) result world.old world.new kept kept (F.outside files.old) (F.outside files.new) }
 {
     let patterns = list_at(lists, 0);
     let excluded = list_at(lists, 1);
@@ -188,7 +188,7 @@ impl JamNatives {
         world: &mut World,
         files: &mut F,
     ) -> Result<NativeStep, NativeError>
-        ensures { IsAnswered (λ sight refused. row native lists.now sight refused world.old (kept_of self.old)) result world.old world.new (kept_of self.old) (kept_of self.new) (F.outside files.old) (F.outside files.new) }
+        ensures { IsCalled (row native lists.now) result world.old world.new self.old self.new (F.outside files.old) (F.outside files.new) }
     {
         match native {
             Native::Echo => self.echo(alloc, list_at(lists, 0), world),
@@ -210,7 +210,7 @@ impl JamNatives {
         world: &mut World,
         files: &mut F,
     ) -> Result<NativeStep, NativeError>
-        ensures { IsAnswered (λ sight refused. row_if_shaped native lists.now sight refused world.old (kept_of self.old)) result world.old world.new (kept_of self.old) (kept_of self.new) (F.outside files.old) (F.outside files.new) }
+        ensures { IsCalled (row_if_shaped native lists.now) result world.old world.new self.old self.new (F.outside files.old) (F.outside files.new) }
     {
         if !has_shape(shape_of(native), lists) {
             return Err(NativeError::Arity);
@@ -245,7 +245,7 @@ impl JamNatives {
         world: &mut World,
         files: &mut F,
     ) -> Result<NativeStep, NativeError>
-        ensures { IsAnswered (λ sight refused. call_of (native_of name.now) name.now lists.now line sight refused world.old (kept_of self.old)) result world.old world.new (kept_of self.old) (kept_of self.new) (F.outside files.old) (F.outside files.new) }
+        ensures { IsCalled (call_of (native_of name.now) name.now lists.now line) result world.old world.new self.old self.new (F.outside files.old) (F.outside files.new) }
     {
         match native_of(name) {
             None => self.call_other(alloc, name, lists, line, world),

@@ -139,7 +139,7 @@ fn elsewhere(alloc: Global, rule: Noting, text: &str) -> Result<NativeFault, Out
 }
 
 /// Calls a rule that notes something of the open step, with lists of its shape.
-pub fn note(
+pub(crate) fn note(
     alloc: Global,
     rule: Noting,
     lists: &[TextList],

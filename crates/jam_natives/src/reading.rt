@@ -69,7 +69,7 @@ fn each(alloc: Global, args: &[TextList], filter: bool) -> Result<NativeStep, Ou
 }
 
 /// Calls a rule that changes nothing, with lists of its shape.
-pub fn read(
+pub(crate) fn read(
     alloc: Global,
     rule: Reading,
     args: &[TextList],

@@ -1,5 +1,5 @@
 //! Which texts a step has a place for.
-ghost use Rattle.std.specs.Prelude.{◌≡◌, not, map, IfOk};
+ghost use Rattle.std.specs.Prelude.{◌≡◌, not, IfOk};
 ghost use Rattle.std.specs.List.{find, list_any};
 ghost use Rattle.std.specs.Option.{option_copied};
 ghost use Rattle.std.specs.Str.{bytes_eq};
@@ -10,7 +10,6 @@ ghost use Rattle.jam_natives.specs.Targets.{is_no_path, names_one, first_foreign
 
 use b2_base::fault::OutOfMemory;
 use b2_base::path::Path;
-use b2_base::path_list::PathList;
 use b2_base::text::Text;
 use std::alloc::Global;
 
@@ -33,24 +32,13 @@ fn normal_path(alloc: Global, text: &str) -> Result<Path, OutOfMemory>
 }
 
 /// The normal form of a text; that of the empty text is `.`.
-pub fn path_of(alloc: Global, text: &str) -> Result<Path, OutOfMemory>
+pub(crate) fn path_of(alloc: Global, text: &str) -> Result<Path, OutOfMemory>
     ensures { IfOk result (λ path. path ≡ normal_of text.now) }
 {
     match text {
         "" => normal_path(alloc, "."),
         _ => normal_path(alloc, text),
     }
-}
-
-/// The normal forms of texts.
-pub fn paths_of(alloc: Global, texts: &[Text]) -> Result<PathList, OutOfMemory>
-    ensures { IfOk result (λ paths. paths ≡ map normal_of texts.now) }
-{
-    let mut paths = PathList::new(alloc);
-    for text in texts {
-        paths.push(path_of(alloc, text.as_str())?)?;
-    }
-    Ok(paths)
 }
 
 fn stands_in(path: &Path, paths: &[Path]) -> bool

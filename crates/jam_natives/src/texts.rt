@@ -84,7 +84,7 @@ pub fn after_start(alloc: Global, start: &str, texts: &[Text]) -> Result<TextLis
 }
 
 /// The same texts, in order.
-pub fn copy_texts(alloc: Global, texts: &[Text]) -> Result<TextList, OutOfMemory>
+pub(crate) fn copy_texts(alloc: Global, texts: &[Text]) -> Result<TextList, OutOfMemory>
     ensures { IfOk result (λ made. made ≡ texts.now) }
 {
     let mut made = TextList::new(alloc);

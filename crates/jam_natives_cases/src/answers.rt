@@ -22,3 +22,17 @@ pub fn paths_answer(alloc: Global, paths: &[Path]) -> Result<Answer, CaseFault> 
     }
     Ok(answer)
 }
+
+/// Each path on a line, after a word.
+pub fn push_paths(
+    alloc: Global,
+    answer: &mut Answer,
+    word: &str,
+    paths: &[Path],
+) -> Result<(), CaseFault> {
+    for path in paths {
+        let path = path.as_str();
+        answer.push_line(format!(in alloc; "{word} {path}")?.as_str())?;
+    }
+    Ok(())
+}

@@ -1,6 +1,6 @@
 //! Commands on files.
 use crate::answers::texts_answer;
-use crate::words::{lists, path, paths, texts};
+use crate::words::{lists, number, only, path, paths, texts};
 use b2_base::path_list::PathList;
 use b2_base::text_list::TextList;
 use b2_host::fault::IoFault;
@@ -64,16 +64,9 @@ fn files(alloc: Global, host: &mut MemoryHost, words: &[Word]) -> Result<Answer,
 }
 
 fn fail_list(alloc: Global, host: &mut MemoryHost, words: &[Word]) -> Result<Answer, CaseFault> {
-    let [word] = words else {
-        return Err(CaseFault::WrongWords);
-    };
-    match word.as_str()?.parse::<u32>() {
-        Ok(number) => {
-            host.fail_calls([(CallKind::List, number)].as_slice())?;
-            Ok(Answer::new(alloc))
-        }
-        Err(_) => Err(CaseFault::WrongWords),
-    }
+    let number = number(only(words)?)?;
+    host.fail_calls([(CallKind::List, number)].as_slice())?;
+    Ok(Answer::new(alloc))
 }
 
 /// The answer to a command on files; none where it is another command.

@@ -15,6 +15,22 @@ pub fn only(words: &[Word]) -> Result<&str, CaseFault> {
     }
 }
 
+/// The first word as text, and the others.
+pub fn first(words: &[Word]) -> Result<(&str, &[Word]), CaseFault> {
+    match words.split_first() {
+        Some((word, others)) => Ok((word.as_str()?, others)),
+        None => Err(CaseFault::WrongWords),
+    }
+}
+
+/// A word as a number.
+pub fn number(word: &str) -> Result<u32, CaseFault> {
+    match word.parse::<u32>() {
+        Ok(number) => Ok(number),
+        Err(_) => Err(CaseFault::WrongWords),
+    }
+}
+
 /// Words as texts.
 pub fn texts(alloc: Global, words: &[Word]) -> Result<TextList, CaseFault> {
     let mut texts = TextList::new(alloc);

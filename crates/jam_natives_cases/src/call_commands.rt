@@ -1,0 +1,138 @@
+//! Calls of native and declaring rules, and what they keep.
+use crate::answers::texts_answer;
+use crate::scene::Scene;
+use crate::words::{first, lists, number};
+use b2_base::text_list::TextList;
+use b2_memory::memory::MemoryHost;
+use jam_eval::natives::{NativeError, NativeStep, Natives};
+use jam_natives::decl::Decl;
+use jam_natives::texts::line_of;
+use jam_patterns::native_fault::NativeFault;
+use std::alloc::Global;
+use transcript::answer::Answer;
+use transcript::case_fault::CaseFault;
+use transcript::command::{Command, Word};
+
+fn each_answer(
+    alloc: Global,
+    rule: &TextList,
+    items: &TextList,
+    filter: bool,
+) -> Result<Answer, CaseFault> {
+    let what = if filter { "filter" } else { "transform" };
+    let rule = line_of(alloc, rule.as_slice())?;
+    let items = line_of(alloc, items.as_slice())?;
+    let (rule, items) = (rule.as_str(), items.as_str());
+    Answer::line(
+        alloc,
+        format!(in alloc; "{what} by {rule}: {items}")?.as_str(),
+    )
+}
+
+fn step_answer(alloc: Global, step: &NativeStep) -> Result<Answer, CaseFault> {
+    match step {
+        NativeStep::Unknown => Answer::line(alloc, "no native rule"),
+        NativeStep::Value(texts) => texts_answer(alloc, texts.as_slice()),
+        NativeStep::Exit(text) => {
+            let text = text.as_str();
+            Answer::line(alloc, format!(in alloc; "exit \"{text}\"")?.as_str())
+        }
+        NativeStep::Each {
+            rule,
+            items,
+            filter,
+        } => each_answer(alloc, rule, items, *filter),
+    }
+}
+
+fn fault_answer(alloc: Global, fault: &NativeFault) -> Result<Answer, CaseFault> {
+    match fault {
+        NativeFault::PatternRefused { refusal } => {
+            let text = refusal.text();
+            Answer::line(alloc, format!(in alloc; "refused pattern {text}")?.as_str())
+        }
+        NativeFault::NoSuchRule { module, name } => {
+            let (module, name) = (module.as_str(), name.as_str());
+            Answer::line(
+                alloc,
+                format!(in alloc; "no rule {name} in [{module}]")?.as_str(),
+            )
+        }
+        NativeFault::DependsElsewhere { rule, text } => {
+            let (rule, text) = (rule.as_str(), text.as_str());
+            Answer::line(
+                alloc,
+                format!(in alloc; "{rule} on a foreign target \"{text}\"")?.as_str(),
+            )
+        }
+    }
+}
+
+fn error_answer(alloc: Global, error: &NativeError) -> Result<Answer, CaseFault> {
+    match error {
+        NativeError::Fault(fault) => fault_answer(alloc, fault),
+        NativeError::Arity => Answer::line(alloc, "wrong lists"),
+        NativeError::Expand(_) => Answer::line(alloc, "no expansion"),
+        NativeError::Host => Answer::line(alloc, "host fault"),
+        NativeError::OutOfMemory => Err(CaseFault::OutOfMemory),
+    }
+}
+
+fn call(
+    alloc: Global,
+    scene: &mut Scene,
+    host: &mut MemoryHost,
+    words: &[Word],
+) -> Result<Answer, CaseFault> {
+    let (line, others) = first(words)?;
+    let line = number(line)?;
+    let (name, others) = first(others)?;
+    let given = lists(alloc, others)?;
+    let given = given.as_slice();
+    match scene
+        .natives
+        .call(alloc, name, given, line, &mut scene.world, host)
+    {
+        Ok(step) => step_answer(alloc, &step),
+        Err(error) => error_answer(alloc, &error),
+    }
+}
+
+fn push_decl(alloc: Global, answer: &mut Answer, decl: &Decl) -> Result<(), CaseFault> {
+    let (rule, module) = (decl.rule.as_str(), decl.module.as_str());
+    let (dir, line) = (decl.dir.as_str(), decl.line);
+    answer.push_line(format!(in alloc; "{rule} in [{module}] of {dir}, line {line}")?.as_str())?;
+    for list in decl.lists.as_slice() {
+        let list = line_of(alloc, list.as_slice())?;
+        let list = list.as_str();
+        answer.push_line(format!(in alloc; ": {list}")?.as_str())?;
+    }
+    if decl.refused {
+        answer.push_line("refused")?;
+    }
+    Ok(())
+}
+
+fn decls(alloc: Global, scene: &Scene) -> Result<Answer, CaseFault> {
+    let mut answer = Answer::new(alloc);
+    for decl in scene.natives.decls() {
+        push_decl(alloc, &mut answer, decl)?;
+    }
+    Ok(answer)
+}
+
+/// The answer to a command on calls; none where it is another command.
+pub fn call_command(
+    alloc: Global,
+    scene: &mut Scene,
+    host: &mut MemoryHost,
+    command: &Command,
+) -> Result<Option<Answer>, CaseFault> {
+    let answer = match command.name() {
+        "call" => call(alloc, scene, host, command.words())?,
+        "decls" => decls(alloc, scene)?,
+        "echoes" => texts_answer(alloc, scene.natives.echoes())?,
+        _ => return Ok(None),
+    };
+    Ok(Some(answer))
+}
