@@ -16,16 +16,17 @@ use Rattle.jam_eval.specs.Settings.{Setting}
 use Rattle.jam_eval.specs.Outcomes.{Outcome, gives, faults, then_do, expanded, joined}
 use Rattle.jam_eval.specs.Levels.{Levels}
 use Rattle.jam_eval.specs.Args.{arg, args_after, lists, call_head, inner}
-use Rattle.jam_interp.specs.declared.at.At.{At}
-use Rattle.jam_interp.specs.declared.fault.EvalFault.{EvalFault}
-use Rattle.jam_interp.specs.Causes.{IsFault}
-use Rattle.jam_interp.specs.Spots.{spot_of}
-use Rattle.jam_interp.specs.Answers.{IsAnswered, named}
-use Rattle.jam_interp.specs.Machines.{Machine, state_of, IsSettingOf}
-use Rattle.jam_interp.specs.Does.{Agrees, Does, Leads}
-use Rattle.jam_interp.specs.Parts.{value, values, What, arg_at, bracket_at, inner_at, args_at, args_rest, lists_at, lists_rest, call_of_at, call_head_at, call_at, deep}
-use Rattle.jam_interp.proofs.Steps.{err_then, ok_then, led, leads_then, leads_same, value_now, fault_now}
-use Rattle.jam_interp.proofs.AnswerSteps.{answer_at, answered, expanded_is, head_is, called_or}
+use Rattle.jam_effects.specs.declared.at.At.{At}
+use Rattle.jam_effects.specs.declared.fault.EvalFault.{EvalFault}
+use Rattle.jam_effects.specs.Causes.{IsFault}
+use Rattle.jam_effects.specs.Spots.{spot_of}
+use Rattle.jam_effects.specs.Answers.{IsAnswered, named}
+use Rattle.jam_effects.specs.Machines.{Machine, state_of, IsSettingOf}
+use Rattle.jam_effects.specs.Does.{Agrees, Does, Leads}
+use Rattle.jam_effects.specs.Views.{value, values, What}
+use Rattle.jam_interp.specs.Parts.{arg_at, bracket_at, inner_at, args_at, args_rest, lists_at, lists_rest, call_of_at, call_head_at, call_at, deep}
+use Rattle.jam_effects.proofs.Steps.{err_then, ok_then, led, leads_then, leads_same, value_now, fault_now}
+use Rattle.jam_effects.proofs.AnswerSteps.{answer_at, answered, expanded_is, head_is, called_or}
 use Rattle.jam_interp.proofs.LevelSteps.{one_less, no_bracket}
 
 module _ {R : Type 0} where
@@ -36,6 +37,7 @@ module _ {R : Type 0} where
     told = λ setting is refuses. subst (λ o. Agrees view result o (state_of b)) (sym (e setting is)) (h.told setting is refuses);
     stays = h.stays;
     counts = h.counts;
+    whole = h.whole;
     took = h.took;
   }
 

@@ -17,24 +17,25 @@ use Rattle.jam_eval.specs.States.{with_scopes}
 use Rattle.jam_eval.specs.Outcomes.{gives, Flow, goes_on, then_do, then_go, either, take_turn, in_module, close_frame, on_target}
 use Rattle.jam_eval.specs.Includes.{included}
 use Rattle.jam_eval.specs.Forms.{done, bind_names, local_value, for_loop, for_all, set_own, first_of}
-use Rattle.jam_interp.specs.declared.at.At.{At}
-use Rattle.jam_interp.specs.declared.flow.Flow.{Flow as Way}
-use Rattle.jam_interp.specs.declared.flow.Flow.TheVariants as ways
-use Rattle.jam_interp.specs.declared.fault.EvalFault.{EvalFault}
-use Rattle.jam_interp.specs.declared.fault.EvalFault.TheVariants as fault
-use Rattle.jam_interp.specs.Causes.{IsFault}
-use Rattle.jam_interp.specs.Spots.{spot_of}
-use Rattle.jam_interp.specs.Framing.{loop_entered, on_entered}
-use Rattle.jam_interp.specs.Naming.{set_all_own_in, IsRefused, IsMade, SameFrames}
-use Rattle.jam_interp.specs.Machines.{Machine, state_of}
-use Rattle.jam_interp.specs.Does.{Does, Leads}
-use Rattle.jam_interp.specs.Parts.{value, truth, flow_of, What, deep, args_at, arg_at, expr_at, block_at, deeper_at, started_at, local_at, local_value_at, assign_on_at, include_at, included_at, module_at, on_at, for_at, rounds_at, while_at, while_rest}
-use Rattle.jam_interp.proofs.StaysLemmas.{stays_then}
-use Rattle.jam_interp.proofs.Steps.{err_then, ok_then, err_go, ok_go, ended_go, led, leads_then, leads_same, value_now, out_of_memory}
-use Rattle.jam_interp.proofs.FrameSteps.{in_frame_does, bound_does}
+use Rattle.jam_effects.specs.declared.at.At.{At}
+use Rattle.jam_effects.specs.declared.flow.Flow.{Flow as Way}
+use Rattle.jam_effects.specs.declared.flow.Flow.TheVariants as ways
+use Rattle.jam_effects.specs.declared.fault.EvalFault.{EvalFault}
+use Rattle.jam_effects.specs.declared.fault.EvalFault.TheVariants as fault
+use Rattle.jam_effects.specs.Causes.{IsFault}
+use Rattle.jam_effects.specs.Spots.{spot_of}
+use Rattle.jam_effects.specs.Framing.{loop_entered, on_entered}
+use Rattle.jam_effects.specs.Naming.{set_all_own_in, IsRefused, IsMade, SameFrames}
+use Rattle.jam_effects.specs.Machines.{Machine, state_of}
+use Rattle.jam_effects.specs.Does.{Does, Leads}
+use Rattle.jam_effects.specs.Views.{value, truth, flow_of, What}
+use Rattle.jam_interp.specs.Parts.{deep, args_at, arg_at, expr_at, block_at, deeper_at, started_at, local_at, local_value_at, assign_on_at, include_at, included_at, module_at, on_at, for_at, rounds_at, while_at, while_rest}
+use Rattle.jam_effects.proofs.StaysLemmas.{stays_then}
+use Rattle.jam_effects.proofs.Steps.{err_then, ok_then, err_go, ok_go, ended_go, led, leads_then, leads_same, value_now, out_of_memory}
+use Rattle.jam_effects.proofs.FrameSteps.{in_frame_does, bound_does}
 use Rattle.jam_interp.proofs.ChangeSteps.{puts, stays_worlds, change_fails, change_does}
-use Rattle.jam_interp.proofs.NamingSteps.{all_own_made}
-use Rattle.jam_interp.proofs.TurnSteps.{turn_leads, turn_faults, turned}
+use Rattle.jam_effects.proofs.NamingSteps.{all_own_made}
+use Rattle.jam_effects.proofs.TurnSteps.{turn_leads, turn_faults, turned}
 use Rattle.jam_interp.proofs.ArgSteps.{does_by}
 use Rattle.jam_interp.proofs.FormSteps.{on_target_does}
 

@@ -7,7 +7,7 @@ use Rattle.jam_journal.specs.Scopes.{Value, Binding, enter_call, leave, bind_eac
 use Rattle.jam_grammar.specs.declared.tree.Stmt.{Stmt}
 use Rattle.jam_grammar.specs.Trees.{stmts_tree}
 use Rattle.jam_eval.specs.Forms.{stmts}
-use Rattle.jam_interp.specs.Framing.{call_entered}
+use Rattle.jam_effects.specs.Framing.{call_entered}
 use Rattle.jam_scope.specs.Rules.{Rule}
 use Rattle.jam_scope.specs.Worlds.{Worlds}
 use Rattle.jam_scope.specs.Changes.{rescoped}
@@ -22,26 +22,27 @@ use Rattle.jam_eval.specs.Levels.{Levels}
 use Rattle.jam_eval.specs.Params.{call_binds}
 use Rattle.jam_eval.specs.Conds.{is_true}
 use Rattle.jam_eval.specs.Calls.{kept_if, value_of, transformed, filtered, native_call, acted, bound_call, called}
-use Rattle.jam_interp.specs.declared.at.At.{At}
-use Rattle.jam_interp.specs.declared.flow.Flow.{Flow as Way}
-use Rattle.jam_interp.specs.declared.flow.Flow.TheVariants as ways
-use Rattle.jam_interp.specs.declared.fault.EvalFault.{EvalFault}
-use Rattle.jam_interp.specs.declared.fault.EvalFault.TheVariants as fault
-use Rattle.jam_interp.specs.Causes.{IsFault}
-use Rattle.jam_interp.specs.Spots.{spot_of}
-use Rattle.jam_interp.specs.Answers.{IsAnswered}
-use Rattle.jam_interp.specs.Asking.{native_step_at, record_call_at}
+use Rattle.jam_effects.specs.declared.at.At.{At}
+use Rattle.jam_effects.specs.declared.flow.Flow.{Flow as Way}
+use Rattle.jam_effects.specs.declared.flow.Flow.TheVariants as ways
+use Rattle.jam_effects.specs.declared.fault.EvalFault.{EvalFault}
+use Rattle.jam_effects.specs.declared.fault.EvalFault.TheVariants as fault
+use Rattle.jam_effects.specs.Causes.{IsFault}
+use Rattle.jam_effects.specs.Spots.{spot_of}
+use Rattle.jam_effects.specs.Answers.{IsAnswered}
+use Rattle.jam_effects.specs.Asking.{native_step_at, record_call_at}
 use Rattle.b2_host.specs.Outside.{Outside}
-use Rattle.jam_interp.specs.declared.turns.Turns.{Turns}
-use Rattle.jam_interp.specs.Machines.{Machine, machine, state_of, IsSettingOf}
-use Rattle.jam_interp.specs.Does.{Agrees, DoesInCall, Does, Leads}
-use Rattle.jam_interp.specs.Parts.{value, truth, step, flow_of, IsValueOf, call_at, call_head_at, applied_at, ruled_at, unruled_at, run_rule_at, stepped_at, transformed_at, filtered_at, transformed_rest, filtered_rest, bracket_call_at, stmts_at, deep, body_at}
-use Rattle.jam_interp.proofs.Steps.{err_then, err_then_in, ok_then, led, led_in, led_same, leads_then, leads_same, value_now, fault_now, weaker, in_call_then}
-use Rattle.jam_interp.proofs.TurnSteps.{turn_call, turn_faults, turned}
+use Rattle.jam_effects.specs.declared.turns.Turns.{Turns}
+use Rattle.jam_effects.specs.Machines.{Machine, machine, state_of, IsSettingOf}
+use Rattle.jam_effects.specs.Does.{Agrees, DoesInCall, Does, Leads}
+use Rattle.jam_effects.specs.Views.{value, truth, step, flow_of, IsValueOf}
+use Rattle.jam_interp.specs.Parts.{call_at, call_head_at, applied_at, ruled_at, unruled_at, run_rule_at, stepped_at, transformed_at, filtered_at, transformed_rest, filtered_rest, bracket_call_at, stmts_at, deep, body_at}
+use Rattle.jam_effects.proofs.Steps.{err_then, err_then_in, ok_then, led, led_in, led_same, leads_then, leads_same, value_now, fault_now, weaker, in_call_then}
+use Rattle.jam_effects.proofs.TurnSteps.{turn_call, turn_faults, turned}
 use Rattle.jam_interp.proofs.LevelSteps.{one_less, no_call, no_bracket_call}
-use Rattle.jam_interp.proofs.AskingSteps.{native_is, acted_is}
+use Rattle.jam_effects.proofs.AskingSteps.{native_is, acted_is}
 use Rattle.jam_interp.proofs.ArgSteps.{does_by, join_does}
-use Rattle.jam_interp.proofs.FrameSteps.{bound_does}
+use Rattle.jam_effects.proofs.FrameSteps.{bound_does}
 
 kept_more : (b : Bool) (item : Text) (kept more : Value) → kept ++ kept_if b item more ≡ (kept ++ kept_if b item []) ++ more
 kept_more true item kept more = sym (append_assoc kept (item ∷ []) more)
@@ -54,6 +55,7 @@ module _ {R : Type 0} where
     told = λ setting is refuses. subst (λ o. Agrees view result o (state_of b)) (sym (e setting is)) (h.told setting is refuses);
     stays = h.stays;
     counts = h.counts;
+    whole = h.whole;
   }
 
   pub gives_in_call : {A B : Type 0} (view : A → B) (what : Setting R → State R → Outcome R B) (a b : Machine R) (v w : A) → v ≡ w → DoesInCall view what a b (Ok w) → DoesInCall view what a b (Ok v)
@@ -153,14 +155,15 @@ module _ {R : Type 0} where
   pub value_does : (what : Setting R → State R → Outcome R Flow) (a b : Machine R) (ended : Result Way EvalFault) (result : Result Value EvalFault) → IsValueOf ended result
       → Does flow_of what a b ended → Does value (λ setting s. value_of (what setting s)) a b result
   value_does what a b (Ok ways.GoesOn) result is h =
-      subst (λ r. Does value (λ setting s. value_of (what setting s)) a b r) (sym is) (record { told = λ setting right none. ap value_of (h.told setting right none); stays = h.stays; counts = h.counts; took = h.took })
+      subst (λ r. Does value (λ setting s. value_of (what setting s)) a b r) (sym is) (record { told = λ setting right none. ap value_of (h.told setting right none); stays = h.stays; counts = h.counts; whole = tt; took = h.took })
   value_does what a b (Ok (ways.Returns v)) result is h =
-      subst (λ r. Does value (λ setting s. value_of (what setting s)) a b r) (sym is) (record { told = λ setting right none. ap value_of (h.told setting right none); stays = h.stays; counts = h.counts; took = h.took })
+      subst (λ r. Does value (λ setting s. value_of (what setting s)) a b r) (sym is) (record { told = λ setting right none. ap value_of (h.told setting right none); stays = h.stays; counts = h.counts; whole = tt; took = h.took })
   value_does what a b (Err e) result is h =
       subst (λ r. Does value (λ setting s. value_of (what setting s)) a b r) (sym is) (record {
         told = λ setting right refuses. value_agrees e (what setting (state_of a)) (state_of b) (h.told setting right refuses);
         stays = h.stays;
         counts = h.counts;
+        whole = h.whole;
         took = h.took;
       })
 

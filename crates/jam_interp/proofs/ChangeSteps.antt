@@ -6,15 +6,15 @@ use Rattle.jam_eval.specs.Faults.{Spot, Cause, expand, refused_in}
 use Rattle.jam_eval.specs.States.{State}
 use Rattle.jam_eval.specs.Settings.{Setting}
 use Rattle.jam_eval.specs.Outcomes.{Outcome, gives, Flow, fault_at}
-use Rattle.jam_interp.specs.declared.flow.Flow.TheVariants as ways
-use Rattle.jam_interp.specs.declared.fault.EvalFault.{EvalFault}
-use Rattle.jam_interp.specs.Causes.{IsFault}
-use Rattle.jam_interp.specs.Machines.{Machine, state_of, IsSettingOf}
-use Rattle.jam_interp.specs.Does.{Stays, Does}
-use Rattle.jam_interp.specs.Naming.{Change, IsRefused, IsMade, SameFrames}
-use Rattle.jam_interp.specs.Parts.{flow_of}
-use Rattle.jam_interp.proofs.Steps.{out_of_memory, fault_agrees, fault_counts, fault_took}
-use Rattle.jam_interp.proofs.NamingSteps.{by_change}
+use Rattle.jam_effects.specs.declared.flow.Flow.TheVariants as ways
+use Rattle.jam_effects.specs.declared.fault.EvalFault.{EvalFault}
+use Rattle.jam_effects.specs.Causes.{IsFault}
+use Rattle.jam_effects.specs.Machines.{Machine, state_of, IsSettingOf}
+use Rattle.jam_effects.specs.Does.{Stays, Does}
+use Rattle.jam_effects.specs.Naming.{Change, IsRefused, IsMade, SameFrames}
+use Rattle.jam_effects.specs.Views.{flow_of}
+use Rattle.jam_effects.proofs.Steps.{out_of_memory, fault_agrees, fault_counts, fault_whole, fault_took}
+use Rattle.jam_effects.proofs.NamingSteps.{by_change}
 
 module _ {R : Type 0} where
   pub stays_worlds : (m : Machine R) (ws : Worlds) → SameFrames m.worlds ws → Stays m (record m { worlds = ws })
@@ -34,7 +34,7 @@ module _ {R : Type 0} where
   -- a value, with other worlds
   pub puts : {A B : Type 0} (view : A → B) (what : Setting R → State R → Outcome R B) (m : Machine R) (ws : Worlds) (v : A) → SameFrames m.worlds ws
       → ((setting : Setting R) → IsSettingOf setting m → what setting (state_of m) ≡ gives (view v) (state_of (record m { worlds = ws }))) → Does view what m (record m { worlds = ws }) (Ok v)
-  puts view what m ws v same h = record { told = λ setting right none. h setting right; stays = stays_worlds m ws same; counts = refl; took = tt }
+  puts view what m ws v same h = record { told = λ setting right none. h setting right; stays = stays_worlds m ws same; counts = refl; whole = tt; took = tt }
 
   -- a fault, with other worlds
   pub puts_not : {A B : Type 0} (view : A → B) (what : Setting R → State R → Outcome R B) (m : Machine R) (ws : Worlds) (spot : Spot) (cause : Cause) (e : EvalFault) → SameFrames m.worlds ws → IsFault spot cause e → refused_in cause ≡ None
@@ -43,6 +43,7 @@ module _ {R : Type 0} where
     told = λ setting right refuses. fault_agrees view spot cause e (what setting (state_of m)) (state_of (record m { worlds = ws })) h (is setting right);
     stays = stays_worlds m ws same;
     counts = fault_counts spot cause e m.outside h;
+    whole = fault_whole spot cause e h;
     took = fault_took spot cause e m.left h none;
   }
 

@@ -9,13 +9,14 @@ use Rattle.jam_eval.specs.States.{State}
 use Rattle.jam_eval.specs.Settings.{Setting}
 use Rattle.jam_eval.specs.Outcomes.{Outcome, gives, faults, then_do, either}
 use Rattle.jam_eval.specs.Conds.{is_same, expr, any_of, all_of}
-use Rattle.jam_interp.specs.declared.at.At.{At}
-use Rattle.jam_interp.specs.declared.fault.EvalFault.{EvalFault}
-use Rattle.jam_interp.specs.Spots.{spot_of}
-use Rattle.jam_interp.specs.Machines.{Machine, state_of}
-use Rattle.jam_interp.specs.Does.{Does, Leads}
-use Rattle.jam_interp.specs.Parts.{value, truth, What, arg_at, expr_at, any_of_at, all_of_at, same_at, deep}
-use Rattle.jam_interp.proofs.Steps.{err_then, ok_then, led, leads_then, value_now}
+use Rattle.jam_effects.specs.declared.at.At.{At}
+use Rattle.jam_effects.specs.declared.fault.EvalFault.{EvalFault}
+use Rattle.jam_effects.specs.Spots.{spot_of}
+use Rattle.jam_effects.specs.Machines.{Machine, state_of}
+use Rattle.jam_effects.specs.Does.{Does, Leads}
+use Rattle.jam_effects.specs.Views.{value, truth, What}
+use Rattle.jam_interp.specs.Parts.{arg_at, expr_at, any_of_at, all_of_at, same_at, deep}
+use Rattle.jam_effects.proofs.Steps.{err_then, ok_then, led, leads_then, value_now}
 use Rattle.jam_interp.proofs.ArgSteps.{does_by}
 
 module _ {R : Type 0} where

@@ -23,22 +23,23 @@ use Rattle.jam_eval.specs.Levels.{Levels}
 use Rattle.jam_eval.specs.Forms.{block, done, form, stmts, other, for_all, set_name, first_case, first_of}
 use Rattle.jam_values.specs.Choosing.{Matches, chosen}
 use Rattle.jam_eval.specs.Eval.{levels}
-use Rattle.jam_interp.specs.declared.at.At.{At}
-use Rattle.jam_interp.specs.declared.flow.Flow.{Flow as Way}
-use Rattle.jam_interp.specs.declared.flow.Flow.TheVariants as ways
-use Rattle.jam_interp.specs.declared.fault.EvalFault.{EvalFault}
-use Rattle.jam_interp.specs.Causes.{IsFault}
-use Rattle.jam_interp.specs.Spots.{spot_of}
-use Rattle.jam_interp.specs.Framing.{own_in, entered, on_entered}
-use Rattle.jam_interp.specs.Naming.{set_names_in, IsRefused, IsMade, SameFrames}
-use Rattle.jam_interp.specs.Machines.{Machine, state_of}
-use Rattle.jam_interp.specs.Does.{Does, Leads}
-use Rattle.jam_interp.specs.Parts.{value, truth, flow_of, What, deep, args_at, arg_at, expr_at, call_of_at, stmts_at, started_at, form_at, block_at, deeper_at, other_at, returned_at, if_at, called_at, rounds_at, assign_at, switch_at}
-use Rattle.jam_interp.proofs.Steps.{err_then, ok_then, err_go, ok_go, ended_go, led, leads_then, value_now, fault_now, either_true, either_false}
-use Rattle.jam_interp.proofs.FrameSteps.{in_frame_does, bound_does}
+use Rattle.jam_effects.specs.declared.at.At.{At}
+use Rattle.jam_effects.specs.declared.flow.Flow.{Flow as Way}
+use Rattle.jam_effects.specs.declared.flow.Flow.TheVariants as ways
+use Rattle.jam_effects.specs.declared.fault.EvalFault.{EvalFault}
+use Rattle.jam_effects.specs.Causes.{IsFault}
+use Rattle.jam_effects.specs.Spots.{spot_of}
+use Rattle.jam_effects.specs.Framing.{own_in, entered, on_entered}
+use Rattle.jam_effects.specs.Naming.{set_names_in, IsRefused, IsMade, SameFrames}
+use Rattle.jam_effects.specs.Machines.{Machine, state_of}
+use Rattle.jam_effects.specs.Does.{Does, Leads}
+use Rattle.jam_effects.specs.Views.{value, truth, flow_of, What}
+use Rattle.jam_interp.specs.Parts.{deep, args_at, arg_at, expr_at, call_of_at, stmts_at, started_at, form_at, block_at, deeper_at, other_at, returned_at, if_at, called_at, rounds_at, assign_at, switch_at}
+use Rattle.jam_effects.proofs.Steps.{err_then, ok_then, err_go, ok_go, ended_go, led, leads_then, value_now, fault_now, either_true, either_false}
+use Rattle.jam_effects.proofs.FrameSteps.{in_frame_does, bound_does}
 use Rattle.jam_interp.proofs.ChangeSteps.{stays_worlds, change_fails, change_does}
-use Rattle.jam_interp.proofs.NamingSteps.{names_made}
-use Rattle.jam_interp.proofs.TurnSteps.{turn_leads, turn_faults, turned}
+use Rattle.jam_effects.proofs.NamingSteps.{names_made}
+use Rattle.jam_effects.proofs.TurnSteps.{turn_leads, turn_faults, turned}
 use Rattle.jam_interp.proofs.LevelSteps.{one_less, no_stmts}
 use Rattle.jam_interp.proofs.ArgSteps.{does_by}
 

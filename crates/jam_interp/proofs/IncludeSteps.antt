@@ -15,21 +15,22 @@ use Rattle.jam_eval.specs.States.{State}
 use Rattle.jam_eval.specs.Settings.{Setting, Reading, is_missing, is_too_big, has_no_tokens, has_no_tree, is_file, IsReading}
 use Rattle.jam_eval.specs.Outcomes.{Outcome, gives, Flow, goes_on, then_do, either, fault_at, in_frame, in_module}
 use Rattle.jam_eval.specs.Includes.{path_from, is_in_roots, read_so, file_ended}
-use Rattle.jam_interp.specs.declared.at.At.{At}
-use Rattle.jam_interp.specs.declared.including.Included.{Included}
-use Rattle.jam_interp.specs.declared.flow.Flow.{Flow as Way}
-use Rattle.jam_interp.specs.declared.fault.EvalFault.{EvalFault}
-use Rattle.jam_interp.specs.declared.fault.EvalFault.TheVariants as fault
-use Rattle.jam_interp.specs.Causes.{refused_of}
-use Rattle.jam_interp.specs.Spots.{spot_of}
-use Rattle.jam_interp.specs.Framing.{entered}
-use Rattle.jam_interp.specs.Including.{file_of, IsReadFault, IsFileOf, IsFrozen, Looked}
-use Rattle.jam_interp.specs.Naming.{SameFrames}
-use Rattle.jam_interp.specs.Machines.{Machine, folder_of, state_of, IsSettingOf}
-use Rattle.jam_interp.specs.Does.{Stays, Agrees, Does, Leads}
-use Rattle.jam_interp.specs.Parts.{flow_of, What, IsFileEnd, deep, deeper_at, included_at}
-use Rattle.jam_interp.proofs.Steps.{led, fault_agrees}
-use Rattle.jam_interp.proofs.FrameSteps.{in_frame_does}
+use Rattle.jam_effects.specs.declared.at.At.{At}
+use Rattle.jam_effects.specs.declared.including.Included.{Included}
+use Rattle.jam_effects.specs.declared.flow.Flow.{Flow as Way}
+use Rattle.jam_effects.specs.declared.fault.EvalFault.{EvalFault}
+use Rattle.jam_effects.specs.declared.fault.EvalFault.TheVariants as fault
+use Rattle.jam_effects.specs.Causes.{refused_of}
+use Rattle.jam_effects.specs.Spots.{spot_of}
+use Rattle.jam_effects.specs.Framing.{entered}
+use Rattle.jam_effects.specs.Including.{file_of, IsReadFault, IsFileOf, IsFrozen, Looked}
+use Rattle.jam_effects.specs.Naming.{SameFrames}
+use Rattle.jam_effects.specs.Machines.{Machine, folder_of, state_of, IsSettingOf}
+use Rattle.jam_effects.specs.Does.{Stays, Agrees, Does, Leads}
+use Rattle.jam_effects.specs.Views.{flow_of, What, IsFileEnd}
+use Rattle.jam_interp.specs.Parts.{deep, deeper_at, included_at}
+use Rattle.jam_effects.proofs.Steps.{led, fault_agrees}
+use Rattle.jam_effects.proofs.FrameSteps.{in_frame_does}
 use Rattle.jam_interp.proofs.ArgSteps.{does_by}
 
 -- what a call tells of visible files, where they are visible
@@ -121,6 +122,7 @@ module _ {R : Type 0} where
     told = λ setting is refuses. read_agrees e name at m ws o setting is frozen told;
     stays = stays_read m ws o (Err e) frozen looked;
     counts = looked.counts;
+    whole = looked.whole;
     took = subst (λ text. TookTurn text m.left m.left) (sym none) tt;
   }
 
@@ -150,10 +152,10 @@ module _ {R : Type 0} where
   pub file_does : (what : What R Flow) (a b : Machine R) (ended result : Result Way EvalFault) → IsFileEnd ended result → Does flow_of what a b ended → Does flow_of (λ setting s. then_do (file_ended (what setting s)) (λ end_. λ s₁. gives goes_on s₁)) a b result
   file_does what a b (Ok way) result is h =
       subst (λ r. Does flow_of (λ setting s. then_do (file_ended (what setting s)) (λ end_. λ s₁. gives goes_on s₁)) a b r) (sym is)
-      (record { told = λ setting right none. ap (λ o. then_do (file_ended o) (λ end_. λ s₁. gives goes_on s₁)) (h.told setting right none); stays = h.stays; counts = h.counts; took = h.took })
+      (record { told = λ setting right none. ap (λ o. then_do (file_ended o) (λ end_. λ s₁. gives goes_on s₁)) (h.told setting right none); stays = h.stays; counts = h.counts; whole = tt; took = h.took })
   file_does what a b (Err e) result is h =
       subst (λ r. Does flow_of (λ setting s. then_do (file_ended (what setting s)) (λ end_. λ s₁. gives goes_on s₁)) a b r) (sym is)
-      (record { told = λ setting right refuses. end_agrees e (what setting (state_of a)) (state_of b) (h.told setting right refuses); stays = h.stays; counts = h.counts; took = h.took })
+      (record { told = λ setting right refuses. end_agrees e (what setting (state_of a)) (state_of b) (h.told setting right refuses); stays = h.stays; counts = h.counts; whole = h.whole; took = h.took })
 
   pub included_runs : (name : Text) (at : At) (m : Machine R) (ws : Worlds) (o : Outside) (file : Included) (b : Block) (opened : Worlds) (n : Machine R) (closed : Worlds) (ended result : Result Way EvalFault)
       → whole_tree file.tree ≡ block_tree b → IsFrozen m.worlds ws (Ok file) → Looked m.outside o (Ok file) → Tells_file name at m (Ok file) → opened ≡ entered ws

@@ -15,17 +15,18 @@ use Rattle.jam_eval.specs.Settings.{Meaning}
 use Rattle.jam_eval.specs.Conds.{is_true}
 use Rattle.jam_eval.specs.Outcomes.{Flow, then_go}
 use Rattle.jam_eval.specs.Calls.{kept_if}
-use Rattle.jam_interp.specs.declared.at.At.{At}
-use Rattle.jam_interp.specs.declared.turns.Turns.{Turns}
-use Rattle.jam_interp.specs.declared.fault.EvalFault.{EvalFault}
-use Rattle.jam_interp.specs.declared.fault.EvalFault.TheVariants as fault
-use Rattle.jam_interp.specs.Causes.{IsFault}
-use Rattle.jam_interp.specs.Spots.{spot_of}
-use Rattle.jam_interp.specs.Answers.{IsAnswered}
-use Rattle.jam_interp.specs.Naming.{SameFrames}
-use Rattle.jam_interp.specs.Machines.{Machine, machine}
-use Rattle.jam_interp.specs.Does.{Does, Leads}
-use Rattle.jam_interp.specs.Parts.{value, truth, flow_of, What, arg_at, args_rest, bracket_call_at, transformed_rest, filtered_rest, expr_at, block_at, started_at, rounds_at, while_rest}
+use Rattle.jam_effects.specs.declared.at.At.{At}
+use Rattle.jam_effects.specs.declared.turns.Turns.{Turns}
+use Rattle.jam_effects.specs.declared.fault.EvalFault.{EvalFault}
+use Rattle.jam_effects.specs.declared.fault.EvalFault.TheVariants as fault
+use Rattle.jam_effects.specs.Causes.{IsFault}
+use Rattle.jam_effects.specs.Spots.{spot_of}
+use Rattle.jam_effects.specs.Answers.{IsAnswered}
+use Rattle.jam_effects.specs.Naming.{SameFrames}
+use Rattle.jam_effects.specs.Machines.{Machine, machine}
+use Rattle.jam_effects.specs.Does.{Does, Leads}
+use Rattle.jam_effects.specs.Views.{value, truth, flow_of, What}
+use Rattle.jam_interp.specs.Parts.{arg_at, args_rest, bracket_call_at, transformed_rest, filtered_rest, expr_at, block_at, started_at, rounds_at, while_rest}
 use Rattle.jam_interp.proofs.OnSteps.{memory_led}
 use Rattle.jam_interp.proofs.ArgSteps.{args_arg_done, args_join_fails, args_goes}
 use Rattle.jam_interp.proofs.CallSteps.{transformed_called, transformed_large, transformed_goes, filtered_goes}

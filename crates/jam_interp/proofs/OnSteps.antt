@@ -6,15 +6,16 @@ use Rattle.jam_journal.specs.Scopes.{Value, leave}
 use Rattle.jam_scope.specs.Worlds.{Worlds}
 use Rattle.jam_scope.specs.Changes.{rescoped}
 use Rattle.jam_eval.specs.Outcomes.{on_target}
-use Rattle.jam_interp.specs.declared.at.At.{At}
-use Rattle.jam_interp.specs.declared.fault.EvalFault.{EvalFault}
-use Rattle.jam_interp.specs.declared.fault.EvalFault.TheVariants as fault
-use Rattle.jam_interp.specs.Framing.{on_entered}
-use Rattle.jam_interp.specs.Machines.{Machine}
-use Rattle.jam_interp.specs.Does.{Stays, Does, Leads}
-use Rattle.jam_interp.specs.Parts.{value, What, arg_at, args_at, inner_at, on_inner_at, on_return_at}
-use Rattle.jam_interp.proofs.StaysLemmas.{stays_equal, stays_then}
-use Rattle.jam_interp.proofs.Steps.{err_then, ok_then, led, out_of_memory}
+use Rattle.jam_effects.specs.declared.at.At.{At}
+use Rattle.jam_effects.specs.declared.fault.EvalFault.{EvalFault}
+use Rattle.jam_effects.specs.declared.fault.EvalFault.TheVariants as fault
+use Rattle.jam_effects.specs.Framing.{on_entered}
+use Rattle.jam_effects.specs.Machines.{Machine}
+use Rattle.jam_effects.specs.Does.{Stays, Does, Leads}
+use Rattle.jam_effects.specs.Views.{value, What}
+use Rattle.jam_interp.specs.Parts.{arg_at, args_at, inner_at, on_inner_at, on_return_at}
+use Rattle.jam_effects.proofs.StaysLemmas.{stays_equal, stays_then}
+use Rattle.jam_effects.proofs.Steps.{err_then, ok_then, led, out_of_memory}
 use Rattle.jam_interp.proofs.FormSteps.{on_target_does}
 
 -- worlds that are made of equal texts

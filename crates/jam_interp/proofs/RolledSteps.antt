@@ -15,14 +15,15 @@ use Rattle.jam_eval.specs.Includes.{file_ended}
 use Rattle.jam_eval.specs.Forms.{stmts}
 use Rattle.jam_eval.specs.Eval.{levels, most_levels, run_call}
 use Rattle.jam_eval.specs.Rolled.{back_to, in_copy, nowhere}
-use Rattle.jam_interp.specs.declared.flow.Flow.{Flow as Way}
-use Rattle.jam_interp.specs.declared.fault.EvalFault.{EvalFault}
-use Rattle.jam_interp.specs.declared.fault.EvalFault.TheVariants as fault
-use Rattle.jam_interp.specs.Machines.{Machine, state_of}
-use Rattle.jam_interp.specs.Does.{Faults, Agrees, Tells, Does}
-use Rattle.jam_interp.specs.Framing.{entered}
-use Rattle.jam_interp.specs.Parts.{What, value, flow_of, ended, run_at, stmts_at, call_rolled_at}
-use Rattle.jam_interp.proofs.FrameSteps.{in_frame_does}
+use Rattle.jam_effects.specs.declared.flow.Flow.{Flow as Way}
+use Rattle.jam_effects.specs.declared.fault.EvalFault.{EvalFault}
+use Rattle.jam_effects.specs.declared.fault.EvalFault.TheVariants as fault
+use Rattle.jam_effects.specs.Machines.{Machine, state_of}
+use Rattle.jam_effects.specs.Does.{Faults, Agrees, Tells, Does}
+use Rattle.jam_effects.specs.Framing.{entered}
+use Rattle.jam_effects.specs.Views.{What, value, flow_of, ended}
+use Rattle.jam_interp.specs.Parts.{run_at, stmts_at, call_rolled_at}
+use Rattle.jam_effects.proofs.FrameSteps.{in_frame_does}
 use Rattle.jam_interp.proofs.ArgSteps.{does_by}
 
 -- rolling back gives the world that was marked

@@ -8,13 +8,14 @@ use Rattle.jam_scope.specs.Lines.{first_at, places_from, rule_place, at_key}
 use Rattle.jam_eval.specs.Args.{call}
 use Rattle.jam_eval.specs.Eval.{levels, most_levels, run_call}
 use Rattle.jam_eval.specs.Rolled.{Job, rule_if}
-use Rattle.jam_interp.specs.declared.at.At.{At}
-use Rattle.jam_interp.specs.declared.fault.EvalFault.{EvalFault}
-use Rattle.jam_interp.specs.Spots.{spot_of}
-use Rattle.jam_interp.specs.Machines.{Machine, state_of}
-use Rattle.jam_interp.specs.Does.{Does}
-use Rattle.jam_interp.specs.Parts.{value, call_at, rule_if_at}
-use Rattle.jam_interp.proofs.Steps.{value_now}
+use Rattle.jam_effects.specs.declared.at.At.{At}
+use Rattle.jam_effects.specs.declared.fault.EvalFault.{EvalFault}
+use Rattle.jam_effects.specs.Spots.{spot_of}
+use Rattle.jam_effects.specs.Machines.{Machine, state_of}
+use Rattle.jam_effects.specs.Does.{Does}
+use Rattle.jam_effects.specs.Views.{value}
+use Rattle.jam_interp.specs.Parts.{call_at, rule_if_at}
+use Rattle.jam_effects.proofs.Steps.{value_now}
 use Rattle.jam_interp.proofs.ArgSteps.{does_by}
 
 -- at the first place at which something is, something is

@@ -16,13 +16,14 @@ use Rattle.jam_scope.specs.Changes.{rescoped}
 use Rattle.jam_eval.specs.Params.{call_binds}
 use Rattle.jam_values.specs.declared.bindings.Bound.{Bound}
 use Rattle.jam_values.specs.Bindings.{bindings_of, lists_of}
-use Rattle.jam_interp.specs.declared.at.At.{At}
-use Rattle.jam_interp.specs.declared.flow.Flow.{Flow as Way}
-use Rattle.jam_interp.specs.declared.fault.EvalFault.{EvalFault}
-use Rattle.jam_interp.specs.Framing.{call_entered}
-use Rattle.jam_interp.specs.Machines.{Machine}
-use Rattle.jam_interp.specs.Does.{Does}
-use Rattle.jam_interp.specs.Parts.{value, flow_of, IsValueOf, run_rule_at, stmts_at}
+use Rattle.jam_effects.specs.declared.at.At.{At}
+use Rattle.jam_effects.specs.declared.flow.Flow.{Flow as Way}
+use Rattle.jam_effects.specs.declared.fault.EvalFault.{EvalFault}
+use Rattle.jam_effects.specs.Framing.{call_entered}
+use Rattle.jam_effects.specs.Machines.{Machine}
+use Rattle.jam_effects.specs.Does.{Does}
+use Rattle.jam_effects.specs.Views.{value, flow_of, IsValueOf}
+use Rattle.jam_interp.specs.Parts.{run_rule_at, stmts_at}
 use Rattle.jam_interp.proofs.CallSteps.{rule_runs}
 
 -- the tree of a block is that of its statements

@@ -13,17 +13,19 @@ use Rattle.jam_eval.specs.Faults.{Spot, Cause, unknown_rule, expand, refused_in}
 use Rattle.jam_eval.specs.States.{State}
 use Rattle.jam_eval.specs.Outcomes.{Outcome, gives, faults, then_do, fault_at, close_frame}
 use Rattle.jam_eval.specs.Rolled.{Job, StepAnswer, step_open, body_names, back_to, text_of, body_text, actions_text, rule_if}
-use Rattle.jam_interp.specs.declared.at.At.{At}
-use Rattle.jam_interp.specs.declared.step.StepText.{StepText}
-use Rattle.jam_interp.specs.declared.fault.EvalFault.{EvalFault}
-use Rattle.jam_interp.specs.declared.fault.EvalFault.TheVariants as fault
-use Rattle.jam_interp.specs.Spots.{spot_of}
-use Rattle.jam_interp.specs.Machines.{Machine, state_of}
-use Rattle.jam_interp.specs.Does.{Agrees, Tells, Does, DoesAside}
-use Rattle.jam_interp.specs.Rolling.{step_answer, text_of_body, text_of_actions, texted, IsStepText}
-use Rattle.jam_interp.specs.Parts.{value, What, rule_if_at, in_step_at, step_text_at}
-use Rattle.jam_interp.proofs.Steps.{err_then, ok_then, led, value_now, fault_now, out_of_memory}
-use Rattle.jam_interp.proofs.StaysLemmas.{stays_same}
+use Rattle.jam_effects.specs.declared.at.At.{At}
+use Rattle.jam_eval.specs.declared.step.StepText.{StepText}
+use Rattle.jam_effects.specs.declared.fault.EvalFault.{EvalFault}
+use Rattle.jam_effects.specs.declared.fault.EvalFault.TheVariants as fault
+use Rattle.jam_effects.specs.Spots.{spot_of}
+use Rattle.jam_effects.specs.Machines.{Machine, state_of}
+use Rattle.jam_effects.specs.Does.{Agrees, Tells, Does, DoesAside}
+use Rattle.jam_eval.specs.StepJobs.{step_answer}
+use Rattle.jam_effects.specs.Rolling.{text_of_body, text_of_actions, texted, IsStepText}
+use Rattle.jam_effects.specs.Views.{value, What}
+use Rattle.jam_interp.specs.Parts.{rule_if_at, in_step_at, step_text_at}
+use Rattle.jam_effects.proofs.Steps.{err_then, ok_then, led, value_now, fault_now, out_of_memory}
+use Rattle.jam_effects.proofs.StaysLemmas.{stays_same}
 
 -- what has no text is no refusal of a pattern
 abbrev failed : Cause → Result StepAnswer Cause
@@ -112,6 +114,7 @@ module _ {R : Type 0} where
     children = h.stays.children;
     keeps = h.stays.keeps;
     counts = h.counts;
+    whole = h.whole;
     took = h.took;
   }
 
@@ -127,6 +130,7 @@ module _ {R : Type 0} where
     children = refl;
     keeps = keeps_same m.outside m.outside refl;
     counts = tt;
+    whole = tt;
     took = tt;
   }
 

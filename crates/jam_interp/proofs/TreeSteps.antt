@@ -19,17 +19,18 @@ use Rattle.jam_scope.specs.Changes.{changed}
 use Rattle.jam_eval.specs.Settings.{Setting}
 use Rattle.jam_eval.specs.Outcomes.{Flow, gives, goes_on}
 use Rattle.jam_eval.specs.Forms.{other}
-use Rattle.jam_interp.specs.declared.at.At.{At}
-use Rattle.jam_interp.specs.declared.flow.Flow.{Flow as Way}
-use Rattle.jam_interp.specs.declared.flow.Flow.TheVariants as ways
-use Rattle.jam_interp.specs.declared.fault.EvalFault.{EvalFault}
-use Rattle.jam_interp.specs.declared.fault.EvalFault.TheVariants as fault
-use Rattle.jam_interp.specs.Spots.{spot_of}
-use Rattle.jam_interp.specs.Machines.{Machine, state_of}
-use Rattle.jam_interp.specs.Naming.{SameFrames}
-use Rattle.jam_interp.specs.Does.{Does}
-use Rattle.jam_interp.specs.Parts.{value, truth, flow_of, args_at, local_value_at, What, deep, expr_at, any_of_at, all_of_at, form_at, form_by, other_at, switch_at}
-use Rattle.jam_interp.proofs.Steps.{value_now}
+use Rattle.jam_effects.specs.declared.at.At.{At}
+use Rattle.jam_effects.specs.declared.flow.Flow.{Flow as Way}
+use Rattle.jam_effects.specs.declared.flow.Flow.TheVariants as ways
+use Rattle.jam_effects.specs.declared.fault.EvalFault.{EvalFault}
+use Rattle.jam_effects.specs.declared.fault.EvalFault.TheVariants as fault
+use Rattle.jam_effects.specs.Spots.{spot_of}
+use Rattle.jam_effects.specs.Machines.{Machine, state_of}
+use Rattle.jam_effects.specs.Naming.{SameFrames}
+use Rattle.jam_effects.specs.Does.{Does}
+use Rattle.jam_effects.specs.Views.{value, truth, flow_of, What}
+use Rattle.jam_interp.specs.Parts.{args_at, local_value_at, deep, expr_at, any_of_at, all_of_at, form_at, form_by, other_at, switch_at}
+use Rattle.jam_effects.proofs.Steps.{value_now}
 use Rattle.jam_interp.proofs.ChangeSteps.{puts}
 use Rattle.jam_interp.proofs.CondSteps.{test_at}
 use Rattle.jam_interp.proofs.OnSteps.{memory_here}

@@ -1,5 +1,5 @@
 -- What each function of evaluation does, by the definitions, at a spot where so many levels more may be opened.
-use Rattle.std.specs.Prelude.{◌≡◌, ℕ, Bool, List, [], ◌∷◌, ◌++◌, Option, Some, None, Result, Ok, Err}
+use Rattle.std.specs.Prelude.{ℕ, Bool, List, [], ◌∷◌, ◌++◌, Option, Some, None}
 use Rattle.std.specs.declared.vec.Vec.{Vec}
 use Rattle.std.specs.declared.alloc.Global.{Global}
 use Rattle.jam_grammar.specs.declared.tree.Sign.{Sign}
@@ -20,7 +20,7 @@ use Rattle.jam_scope.specs.Lines.{find_rule}
 use Rattle.jam_eval.specs.declared.native_answer.NativeStep.{NativeStep}
 use Rattle.jam_eval.specs.States.{State, with_world}
 use Rattle.jam_eval.specs.Settings.{Setting}
-use Rattle.jam_eval.specs.Outcomes.{Outcome, Flow, goes_on, returns, then_do, gives, in_module}
+use Rattle.jam_eval.specs.Outcomes.{Outcome, Flow, then_do, gives, in_module}
 use Rattle.jam_eval.specs.Levels.{Levels}
 use Rattle.jam_eval.specs.Params.{call_binds}
 use Rattle.jam_eval.specs.Args.{arg, args, args_after, lists, call, call_head, call_of, inner}
@@ -30,45 +30,14 @@ use Rattle.jam_eval.specs.Calls.{applied, called, bound_call, stepped, transform
 use Rattle.jam_eval.specs.Forms.{form, other, stmts, block, started, local_value, for_rounds, while_rounds}
 use Rattle.jam_eval.specs.Eval.{levels, rule_body, run}
 use Rattle.jam_eval.specs.Rolled.{Job, StepAnswer, call_rolled, rule_if, in_step, step_open, step_text}
-use Rattle.jam_interp.specs.declared.at.At.{At}
-use Rattle.jam_interp.specs.declared.flow.Flow.{Flow as Way}
-use Rattle.jam_interp.specs.declared.flow.Flow.TheVariants as ways
-use Rattle.jam_interp.specs.declared.fault.EvalFault.{EvalFault}
-use Rattle.jam_interp.specs.Spots.{spot_of}
+use Rattle.jam_effects.specs.declared.at.At.{At}
+use Rattle.jam_effects.specs.Views.{What}
+use Rattle.jam_interp.specs.declared.rolled.CallAnswer.{CallAnswer}
+use Rattle.jam_effects.specs.Spots.{spot_of}
 
--- how results are seen
-abbrev pub value : Value → Value
-value v = v
-
-abbrev pub values : List Value → List Value
-values vs = vs
-
-abbrev pub truth : Bool → Bool
-truth b = b
-
-abbrev pub step : NativeStep → NativeStep
-step s = s
-
-abbrev pub ended : Unit {0} → Unit {0}
-ended u = u
-
-abbrev pub flow_of : Way → Flow
-flow_of ways.GoesOn = goes_on
-flow_of (ways.Returns v) = returns v
-
--- the value of a rule whose statements ended so, and what follows a file that ended so
-abbrev pub IsValueOf : Result Way EvalFault → Result Value EvalFault → Type 0
-IsValueOf (Ok ways.GoesOn) result = result ≡ Ok []
-IsValueOf (Ok (ways.Returns v)) result = result ≡ Ok v
-IsValueOf (Err fault) result = result ≡ Err fault
-
-abbrev pub IsFileEnd : Result Way EvalFault → Result Way EvalFault → Type 0
-IsFileEnd (Ok way) result = result ≡ Ok ways.GoesOn
-IsFileEnd (Err fault) result = result ≡ Err fault
-
--- what a function does with a setting and a state
-abbrev pub What : Type 0 → Type 0 → Type 0
-What R A = Setting R → State R → Outcome R A
+-- how the result of a call from outside any statement is seen
+abbrev pub call_value : CallAnswer → Value
+call_value answer = answer.value
 
 module _ {R : Type 0} where
   abbrev pub deep : At → Setting R → Levels R

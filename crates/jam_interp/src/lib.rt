@@ -1,17 +1,12 @@
 //! Evaluation of the statements of build files.
 #![tactic(auto)]
 
-pub mod at;
-mod calling;
-mod evaluation;
-pub mod fault;
-mod flow;
-mod frames;
-mod including;
-mod naming;
-mod natives;
+mod arguments;
+mod calls;
+mod conditions;
 pub mod rolled;
 pub mod run;
+mod statements;
 pub mod step;
-pub mod turns;
-mod words;
+
+pub use jam_effects::{fault, turns};

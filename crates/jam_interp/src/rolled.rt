@@ -1,20 +1,20 @@
 //! Calls from outside any statement.
-ghost use Rattle.std.specs.Prelude.{◌≡◌, ◌≤◌};
+ghost use Rattle.std.specs.Prelude.{◌≡◌, ◌≤◌, IfErr};
 ghost use Rattle.b2_base.specs.Bytes.{HasNoZero};
 ghost use Rattle.b2_host.specs.OutsideLaws.{Keeps};
 ghost use Rattle.jam_eval.specs.Refused.{TookTurn};
-ghost use Rattle.jam_interp.specs.Causes.{refused_of};
-ghost use Rattle.jam_interp.specs.Does.{TellsOn, Counts};
-ghost use Rattle.jam_interp.specs.Parts.{call_rolled_at};
-ghost use Rattle.jam_interp.specs.Rolling.{call_value};
+ghost use Rattle.jam_effects.specs.Causes.{refused_of, HoldsNoMemory};
+ghost use Rattle.jam_effects.specs.Does.{TellsOn, Counts};
+ghost use Rattle.jam_interp.specs.Parts.{call_rolled_at, call_value};
+ghost use Rattle.jam_interp.specs.Parts.{call_value};
 
-use crate::at::{At, LEVELS};
-use crate::evaluation::call;
-use crate::fault::EvalFault;
-use crate::turns::Turns;
+use crate::calls::call;
 use b2_base::text::Text;
 use b2_base::text_list::TextList;
 use b2_host::files::Files;
+use jam_effects::at::{At, LEVELS};
+use jam_effects::fault::EvalFault;
+use jam_effects::turns::Turns;
 use jam_eval::natives::Natives;
 use jam_scope::world::World;
 use std::alloc::Global;
@@ -46,6 +46,7 @@ pub fn call_rolled<N: Natives, F: Files>(
     ensures children { (F.outside files.new).children ≡ (F.outside files.old).children }
     ensures keeps { Keeps (F.outside files.old) (F.outside files.new) }
     ensures counts { Counts result (F.outside files.old) (F.outside files.new) }
+    ensures whole { IfErr result HoldsNoMemory }
     ensures took { TookTurn (refused_of result) turns.old.left turns.new.left }
 {
     let name = Text::new(alloc, rule)?;

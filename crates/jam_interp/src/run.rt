@@ -1,20 +1,21 @@
 //! Running a file.
-ghost use Rattle.std.specs.Prelude.{◌≡◌, ◌≤◌, is_some};
+ghost use Rattle.std.specs.Prelude.{◌≡◌, ◌≤◌, is_some, IfErr};
 ghost use Rattle.b2_host.specs.OutsideLaws.{Keeps};
 ghost use Rattle.jam_grammar.specs.Trees.{whole_tree};
 ghost use Rattle.jam_eval.specs.Laws.{bounds};
 ghost use Rattle.jam_eval.specs.Refused.{TookTurn};
-ghost use Rattle.jam_interp.specs.Causes.{refused_of};
-ghost use Rattle.jam_interp.specs.Does.{TellsOn, Counts};
-ghost use Rattle.jam_interp.specs.Parts.{ended, run_at};
+ghost use Rattle.jam_effects.specs.Causes.{refused_of, HoldsNoMemory};
+ghost use Rattle.jam_effects.specs.Does.{TellsOn, Counts};
+ghost use Rattle.jam_effects.specs.Views.{ended};
+ghost use Rattle.jam_interp.specs.Parts.{run_at};
 
-use crate::at::LEVELS;
-use crate::evaluation::stmts;
-use crate::fault::EvalFault;
-use crate::frames::enter_here;
-use crate::turns::Turns;
+use crate::statements::stmts;
 use b2_base::path::Path;
 use b2_host::files::Files;
+use jam_effects::at::LEVELS;
+use jam_effects::fault::EvalFault;
+use jam_effects::frames::enter_here;
+use jam_effects::turns::Turns;
 use jam_eval::natives::Natives;
 use jam_grammar::tree::Tree;
 use jam_scope::world::World;
@@ -45,6 +46,7 @@ pub fn run<N: Natives, F: Files>(
     ensures children { (F.outside files.new).children ≡ (F.outside files.old).children }
     ensures keeps { Keeps (F.outside files.old) (F.outside files.new) }
     ensures counts { Counts result (F.outside files.old) (F.outside files.new) }
+    ensures whole { IfErr result HoldsNoMemory }
     ensures took { TookTurn (refused_of result) turns.old.left turns.new.left }
 {
     enter_here(alloc, world)?;

@@ -1,11 +1,12 @@
 use Rattle.std.proofs.Common.{drop, Ok, Err, refl, sym, ap, ◌∙◌, subst}
 use Rattle.jam_grammar.specs.Trees.{whole_tree, stmts_tree}
-use Rattle.jam_interp.specs.Machines.{machine}
-use Rattle.jam_interp.specs.Does.{Does}
-use Rattle.jam_interp.specs.Parts.{flow_of, stmts_at}
-use Rattle.jam_interp.proofs.StaysLemmas.{may_leave}
+use Rattle.jam_effects.specs.Machines.{machine}
+use Rattle.jam_effects.specs.Does.{Does}
+use Rattle.jam_effects.specs.Views.{flow_of}
+use Rattle.jam_interp.specs.Parts.{stmts_at}
+use Rattle.jam_effects.proofs.StaysLemmas.{may_leave}
 use Rattle.jam_interp.proofs.TreeSteps.{block_holds}
-use Rattle.jam_interp.proofs.FrameSteps.{all_frames}
+use Rattle.jam_effects.proofs.FrameSteps.{all_frames}
 use Rattle.jam_interp.proofs.RolledSteps.{file_runs, run_ends, run_fails}
 use Rattle.jam_interp.proofs.run.run.Goals as goal
 
@@ -31,6 +32,7 @@ returns-in-Ok g c =
       children = does.stays.children;
       keeps = does.stays.keeps;
       counts = does.counts;
+      whole = tt;
       took = tt;
     }
 
@@ -53,5 +55,6 @@ returns g c =
       children = does.stays.children;
       keeps = does.stays.keeps;
       counts = does.counts;
+      whole = does.whole;
       took = does.took;
     }

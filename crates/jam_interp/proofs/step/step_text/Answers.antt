@@ -1,5 +1,5 @@
-use Rattle.jam_interp.specs.Machines.{machine}
-use Rattle.jam_interp.specs.Rolling.{job_of}
+use Rattle.jam_effects.specs.Machines.{machine}
+use Rattle.jam_eval.specs.StepJobs.{job_of}
 use Rattle.jam_interp.proofs.StepSteps.{step_rolls, back_again, newest_again}
 use Rattle.jam_interp.proofs.step.step_text.Goals as goal
 
@@ -18,5 +18,6 @@ returns g c = record {
   children = c.in_step-ended.ensures.children;
   keeps = c.in_step-ended.ensures.keeps;
   counts = c.in_step-ended.ensures.counts;
+  whole = c.in_step-ended.ensures.whole;
   took = c.in_step-ended.ensures.took;
 }

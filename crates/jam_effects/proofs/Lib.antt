@@ -1,0 +1,16 @@
+pub mod StaysLemmas
+pub mod Steps
+pub mod FrameSteps
+pub mod OpenSteps
+pub mod TurnSteps
+pub mod AnswerSteps
+pub mod NamingSteps
+pub mod AskingSteps
+pub mod NativeSteps
+pub mod RecordSteps
+pub mod BodySteps
+pub mod ReadSteps
+pub mod SameSteps
+pub mod SumSteps
+pub mod ChangeLoops
+pub mod LoopLemmas

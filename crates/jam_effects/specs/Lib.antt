@@ -1,0 +1,11 @@
+pub mod Causes
+pub mod Spots
+pub mod Machines
+pub mod Does
+pub mod Views
+pub mod Answers
+pub mod Naming
+pub mod Framing
+pub mod Including
+pub mod Asking
+pub mod Rolling

@@ -1,0 +1,111 @@
+//! What is called.
+ghost use Rattle.std.specs.Prelude.{◌≡◌, ◌∷◌, ◌++◌, [], IfOk};
+ghost use Rattle.jam_expand.specs.Limits.{within};
+ghost use Rattle.jam_scope.specs.Lines.{find_rule};
+ghost use Rattle.jam_effects.specs.Answers.{IsAnswered, named, named_of};
+ghost use Rattle.jam_effects.specs.Views.{value};
+ghost use Rattle.jam_effects.specs.Spots.{spot_of};
+
+use crate::at::At;
+use crate::fault::EvalFault;
+use crate::words::join_at;
+use b2_base::fault::OutOfMemory;
+use b2_base::text::Text;
+use b2_base::text_list::TextList;
+use jam_expand::limit::Gathered;
+use jam_scope::rule::Rule;
+use jam_scope::world::World;
+use jam_values::lists::{TextLists, copy_texts};
+use std::alloc::Global;
+
+/// The name of what is called, and its lists.
+#[derive(Drop)]
+pub struct Named {
+    pub name: Text,
+    pub lists: TextLists,
+}
+
+/// A list and another one after it, unless it is too large then.
+fn joined(
+    alloc: Global,
+    first: &[Text],
+    second: &[Text],
+    at: &At<'_>,
+) -> Result<TextList, EvalFault>
+    ensures { IsAnswered value (within (first.now ++ second.now)) (spot_of at.now) result }
+{
+    let mut gathered = Gathered::new(alloc);
+    join_at(&mut gathered, first, at)?;
+    join_at(&mut gathered, second, at)?;
+    Ok(gathered.into_list())
+}
+
+/// A list, and copies of others after it.
+fn before(alloc: Global, first: TextList, rest: &[TextList]) -> Result<TextLists, OutOfMemory>
+    ensures { IfOk result (λ made. made ≡ first ∷ rest.now) }
+{
+    let mut made = TextLists::new(alloc);
+    made.push(first)?;
+    for list in rest {
+        made.push(copy_texts(alloc, list.as_slice())?)?;
+    }
+    Ok(made)
+}
+
+/// A call of a name with lists, before the first of which further names come.
+fn call_named(
+    alloc: Global,
+    name: &Text,
+    more: &[Text],
+    given: &[TextList],
+    at: &At<'_>,
+) -> Result<Named, EvalFault>
+    ensures { IsAnswered (λ call. named_of (Some call)) (named (name.now ∷ more.now) given.now) (spot_of at.now) result }
+{
+    let (first, rest) = match given {
+        [] => (copy_texts(alloc, more)?, given),
+        [first, rest @ ..] => (joined(alloc, more, first.as_slice(), at)?, rest),
+    };
+    let lists = before(alloc, first, rest)?;
+    let name = name.copy()?;
+    Ok(Named { name, lists })
+}
+
+/// The call of the first of some names, whose others come before the first list; none where there is no name.
+pub fn named_call(
+    alloc: Global,
+    names: &[Text],
+    given: &[TextList],
+    at: &At<'_>,
+) -> Result<Option<Named>, EvalFault>
+    ensures { IsAnswered named_of (named names.now given.now) (spot_of at.now) result }
+{
+    match names {
+        [] => Ok(None),
+        [name, more @ ..] => {
+            let call = call_named(alloc, name, more, given, at)?;
+            Ok(Some(call))
+        }
+    }
+}
+
+/// The rule of a name, as it is found from the present module.
+pub fn rule_named(world: &World, name: &Text) -> Result<Option<Rule>, OutOfMemory>
+    ensures { IfOk result (λ found. found ≡ find_rule name.now world.now.now) }
+{
+    match world.find_rule(name.as_str()) {
+        Some(at) => world.rule_at(&at),
+        None => Ok(None),
+    }
+}
+
+/// One list with one text.
+pub fn one_list(alloc: Global, item: &Text) -> Result<TextLists, OutOfMemory>
+    ensures { IfOk result (λ made. made ≡ (item.now ∷ []) ∷ []) }
+{
+    let mut list = TextList::new(alloc);
+    list.push(item.copy()?)?;
+    let mut made = TextLists::new(alloc);
+    made.push(list)?;
+    Ok(made)
+}

@@ -1,6 +1,0 @@
-use Rattle.std.proofs.Common.{◌≡◌, take}
-use Rattle.jam_values.specs.Bindings.{lists_of}
-use Rattle.jam_interp.proofs.naming.copy_params.Given as goal
-
-abbrev pub invariant-loop-list : goal.invariant-loop-list
-invariant-loop-list l = lists_of l.made.items ≡ lists_of (take l.list-index l.params)

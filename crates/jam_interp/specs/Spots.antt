@@ -1,6 +1,0 @@
--- Where the code is, as data.
-use Rattle.jam_eval.specs.Faults.{Spot}
-use Rattle.jam_interp.specs.declared.at.At.{At}
-
-abbrev pub spot_of : At → Spot
-spot_of at = record { path = at.path.now; line = at.line }
