@@ -5,5 +5,6 @@ pub mod clashes;
 mod completion;
 mod cuts;
 pub mod lists;
+pub mod places;
 pub mod properties;
 pub mod reading;
