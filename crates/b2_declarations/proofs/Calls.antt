@@ -1,10 +1,10 @@
 -- What the declaration of a call says of its rule and its lists.
-use Rattle.std.proofs.Common.{◌≡◌, ℕ, Bool, true, false, cond, ◌&&◌, ◌||◌, not, List, [], ◌∷◌, ◌++◌, Option, Some, None, refl, sym, ap, ◌∙◌, subst}
+use Rattle.std.proofs.Common.{◌≡◌, ℕ, Bool, true, false, cond, ◌||◌, List, [], ◌∷◌, ◌++◌, Option, Some, None, refl, sym, ap, ◌∙◌, subst}
 use Rattle.std.specs.Prelude.{codes, is_some, slice_get}
 use Rattle.std.specs.List.{AllByRecursion, list_any}
 use Rattle.std.specs.Option.{IfSome, option_map, option_and_then}
 use Rattle.std.specs.Str.{bytes_eq}
-use Rattle.std.proofs.lemmas.Bool.{true≢false, and_parts, or_parts}
+use Rattle.std.proofs.lemmas.Bool.{true≢false, or_parts}
 use Rattle.std.proofs.lemmas.Slice.Eq.{bytes_eq-Decides}
 use Rattle.b2_base.specs.Segments.{segments, is_rooted, is_up, normal_of}
 use Rattle.b2_base.specs.Normal.{IsUnder, parts, first_part}
@@ -22,11 +22,10 @@ use Rattle.b2_declarations.specs.declared.declaration.MainTarget.{MainTarget}
 use Rattle.b2_declarations.specs.declared.rule.Rule.{Rule}
 use Rattle.b2_declarations.specs.declared.rule.Rule.TheVariants as rules
 use Rattle.b2_declarations.specs.Lists.{Texts, list_at, text_at}
-use Rattle.b2_declarations.specs.Shapes.{has_shape}
 use Rattle.b2_declarations.specs.Rules.{rules as table, rule_in, rule_of}
 use Rattle.b2_declarations.specs.Attributes.{id_of, attributes}
-use Rattle.b2_declarations.specs.Targets.{is_refused_name, counts_of, target}
-use Rattle.b2_declarations.specs.Declarations.{is_shaped, declared, shape_of}
+use Rattle.b2_declarations.specs.Targets.{target}
+use Rattle.b2_declarations.specs.Declarations.{is_shaped, declared, shape_of, is_refused}
 use Rattle.b2_declarations.specs.Laws.{kind_name}
 
 -- a call that declares something: its rule, and that its lists have that rule's shape
@@ -36,18 +35,14 @@ record IsCall (name : List ℕ) (lists : List Texts) (d : Declaration) : Type 0 
   shaped : is_shaped rule lists ≡ true
   declares : declared rule lists ≡ d
 
-is_call : (name : List ℕ) (lists : List Texts) (refused : Bool) (d : Declaration) → shape_of name lists refused ≡ Some d → IsCall name lists d
-is_call name lists refused d e = go (rule_of name) refl e
+is_call : (name : List ℕ) (lists : List Texts) (d : Declaration) → shape_of name lists ≡ Some d → IsCall name lists d
+is_call name lists d e = go (rule_of name) refl e
   where
-    given : (rule : Rule) (s : Bool) → is_shaped rule lists ≡ s → rule_of name ≡ Some rule → cond (s && not refused) (Some (declared rule lists)) None ≡ Some d → IsCall name lists d
+    given : (rule : Rule) (s : Bool) → is_shaped rule lists ≡ s → rule_of name ≡ Some rule → cond s (Some (declared rule lists)) None ≡ Some d → IsCall name lists d
     given rule false shaped found same = cc
-    given rule true shaped found same = admitted refused same
-      where
-        admitted : (r : Bool) → cond (not r) (Some (declared rule lists)) None ≡ Some d → IsCall name lists d
-        admitted true same = cc
-        admitted false same = record { rule = rule; found = found; shaped = shaped; declares = cc }
+    given rule true shaped found same = record { rule = rule; found = found; shaped = shaped; declares = cc }
 
-    go : (r : Option Rule) → rule_of name ≡ r → option_and_then (λ rule. cond (is_shaped rule lists && not refused) (Some (declared rule lists)) None) r ≡ Some d → IsCall name lists d
+    go : (r : Option Rule) → rule_of name ≡ r → option_and_then (λ rule. cond (is_shaped rule lists) (Some (declared rule lists)) None) r ≡ Some d → IsCall name lists d
     go None found same = cc
     go (Some rule) found same = given rule (is_shaped rule lists) refl found same
 
@@ -71,22 +66,6 @@ is_target_call rules.Compose lists t e = cc
 is_target_call rules.FileType lists t e = cc
 is_target_call rules.Generator lists t e = cc
 is_target_call rules.Import lists t e = cc
-
-kind_kept : (kind : Kind) (lists : List Texts) → (target kind lists).kind ≡ kind
-kind_kept Exe lists = refl
-kind_kept Lib lists = refl
-kind_kept Obj lists = refl
-kind_kept Alias lists = refl
-kind_kept Make lists = refl
-kind_kept Install lists = refl
-
-name_kept : (kind : Kind) (lists : List Texts) → (target kind lists).name ≡ text_at 0 lists
-name_kept Exe lists = refl
-name_kept Lib lists = refl
-name_kept Obj lists = refl
-name_kept Alias lists = refl
-name_kept Make lists = refl
-name_kept Install lists = refl
 
 -- ---- the names of rules
 
@@ -114,11 +93,11 @@ named_after : (name : List ℕ) (kind : Kind) → rule_of name ≡ Some (rules.T
 unfolding IsNamed
 named_after name kind e = named_in_table name (rules.Target kind) e
 
-pub target_named : (name : List ℕ) (lists : List Texts) (refused : Bool) (t : MainTarget) → shape_of name lists refused ≡ Some (declarations.Main t) → name ≡ kind_name t.kind
-target_named name lists refused t e =
-    let call : IsCall name lists (declarations.Main t) = is_call name lists refused (declarations.Main t) e in
+pub target_named : (name : List ℕ) (lists : List Texts) (t : MainTarget) → shape_of name lists ≡ Some (declarations.Main t) → name ≡ kind_name t.kind
+target_named name lists t e =
+    let call : IsCall name lists (declarations.Main t) = is_call name lists (declarations.Main t) e in
     let made : IsTargetCall call.rule lists t = is_target_call call.rule lists t call.declares in
-    named_after name made.kind (call.found ∙ ap Some made.rule_is) ∙ ap kind_name (sym (kind_kept made.kind lists) ∙ ap (λ (m : MainTarget). m.kind) made.target_is)
+    named_after name made.kind (call.found ∙ ap Some made.rule_is) ∙ ap (λ (m : MainTarget). kind_name m.kind) made.target_is
 
 -- ---- names of main targets
 
@@ -154,8 +133,9 @@ stays_below name relative no_up shown =
     under_here (normal_of name) (is_normal_normal name) (λ e. true≢false (sym ((bytes_eq-Decides (normal_of name) (codes ".")).1 e) ∙ shown)) (normal_root name ∙ relative)
     (first_not_up (normal_of name) (reached_has (λ s. is_up s ≡ false) (is_rooted name) (segments name) (parts (normal_of name)) (normal_reached name) (none_up (segments name) no_up)))
 
-accepted : (name : List ℕ) → is_refused_name name ≡ false → IsUnder (normal_of name) (codes ".")
-accepted name e =
+pub name_below : (t : MainTarget) → is_refused (declarations.Main t) ≡ false → IsUnder (normal_of t.name) (codes ".")
+name_below t e =
+    let name = t.name in
     let empty = bytes_eq name [] in
     let slashes = is_some (cut_at (codes "//") name) in
     let up = list_any is_up (segments name) in
@@ -164,18 +144,6 @@ accepted name e =
     let cut = or_parts (empty || is_rooted name) slashes climbs.0 in
     let root = or_parts empty (is_rooted name) cut.0 in
     stays_below name root.1 climbs.1 here.1
-
-pub name_below : (name : List ℕ) (lists : List Texts) (refused : Bool) (t : MainTarget) → shape_of name lists refused ≡ Some (declarations.Main t) → IsUnder (normal_of t.name) (codes ".")
-name_below name lists refused t e =
-    let call : IsCall name lists (declarations.Main t) = is_call name lists refused (declarations.Main t) e in
-    let made : IsTargetCall call.rule lists t = is_target_call call.rule lists t call.declares in
-    let shaped : (has_shape (counts_of made.kind) lists && not (is_refused_name (text_at 0 lists))) ≡ true = sym (ap (λ r. is_shaped r lists) made.rule_is) ∙ call.shaped in
-    let name_is : t.name ≡ text_at 0 lists = sym (ap (λ (m : MainTarget). m.name) made.target_is) ∙ name_kept made.kind lists in
-    subst (λ n. IsUnder (normal_of n) (codes ".")) (sym name_is) (accepted (text_at 0 lists) (not_refused _ (and_parts _ _ shaped).1))
-  where
-    not_refused : (b : Bool) → not b ≡ true → b ≡ false
-    not_refused true h = cc
-    not_refused false h = refl
 
 -- ---- ids
 
@@ -186,9 +154,9 @@ rooted_id text = go (is_rooted text) refl
     go true e = e
     go false e = refl
 
-pub given_id : (name : List ℕ) (lists : List Texts) (refused : Bool) (a : Attributes) → shape_of name lists refused ≡ Some (declarations.Project a) → IfSome a.id (λ id. is_rooted id ≡ true)
-given_id name lists refused a e =
-    let call : IsCall name lists (declarations.Project a) = is_call name lists refused (declarations.Project a) e in
+pub given_id : (name : List ℕ) (lists : List Texts) (a : Attributes) → shape_of name lists ≡ Some (declarations.Project a) → IfSome a.id (λ id. is_rooted id ≡ true)
+given_id name lists a e =
+    let call : IsCall name lists (declarations.Project a) = is_call name lists (declarations.Project a) e in
     subst (λ (m : Attributes). IfSome m.id (λ id. is_rooted id ≡ true)) (project_is call.rule call.declares) (of_list (slice_get (list_at 0 lists) 0))
   where
     of_list : (o : Option (List ℕ)) → IfSome (option_map id_of o) (λ id. is_rooted id ≡ true)
@@ -208,9 +176,9 @@ given_id name lists refused a e =
     project_is rules.Generator same = cc
     project_is rules.Import same = cc
 
-pub used_id : (name : List ℕ) (lists : List Texts) (refused : Bool) (id dir : List ℕ) → shape_of name lists refused ≡ Some (declarations.UseProject id dir) → is_rooted id ≡ true
-used_id name lists refused id dir e =
-    let call : IsCall name lists (declarations.UseProject id dir) = is_call name lists refused (declarations.UseProject id dir) e in
+pub used_id : (name : List ℕ) (lists : List Texts) (id dir : List ℕ) → shape_of name lists ≡ Some (declarations.UseProject id dir) → is_rooted id ≡ true
+used_id name lists id dir e =
+    let call : IsCall name lists (declarations.UseProject id dir) = is_call name lists (declarations.UseProject id dir) e in
     subst (λ i. is_rooted i ≡ true) (id_is call.rule call.declares) (rooted_id (text_at 0 lists))
   where
     id_is : (rule : Rule) → declared rule lists ≡ declarations.UseProject id dir → id_of (text_at 0 lists) ≡ id

@@ -1,4 +1,3 @@
-pub mod AttributeLemmas
 pub mod Calls
 pub mod LoopSteps
 pub mod Pairs

@@ -1,11 +1,13 @@
 -- An empty list at the end of a call's lists changes nothing.
-use Rattle.std.proofs.Common.{◌≡◌, ℕ, zero, suc, Bool, cond, ◌&&◌, ◌||◌, not, List, [], ◌∷◌, ◌++◌, Option, Some, None, is_some, replicate, refl, sym, ap, ap₂, ◌∙◌, append-nil, append_assoc}
+use Rattle.std.proofs.Common.{◌≡◌, ℕ, zero, suc, Bool, cond, ◌&&◌, ◌||◌, List, [], ◌∷◌, ◌++◌, Option, Some, None, is_some, replicate, refl, sym, ap, ap₂, ◌∙◌, append-nil, append_assoc}
 use Rattle.std.specs.Prelude.{codes, slice_get, unwrap_or}
-use Rattle.std.specs.List.{flat_map}
+use Rattle.std.specs.List.{filter_map}
 use Rattle.std.specs.Str.{bytes_eq}
-use Rattle.std.specs.Option.{option_and_then}
-use Rattle.std.proofs.lemmas.Grind.{flat_map-append}
+use Rattle.std.specs.Option.{option_map, option_and_then}
+use Rattle.std.proofs.lemmas.List.Elements.{filter_map-append}
 use Rattle.b2_texts.specs.Cuts.{named_pair}
+use Rattle.b2_declarations.specs.declared.declaration.Attributes.{Attributes}
+use Rattle.b2_declarations.specs.declared.declaration.PropertyList.{PropertyList}
 use Rattle.b2_declarations.specs.declared.declaration.Declaration.{Declaration}
 use Rattle.b2_declarations.specs.declared.declaration.Declaration.TheVariants as declarations
 use Rattle.b2_declarations.specs.declared.declaration.Kind.{Kind}
@@ -17,10 +19,9 @@ use Rattle.b2_declarations.specs.declared.shape.Count.TheVariants.{Nothing, One,
 use Rattle.b2_declarations.specs.Lists.{Texts, list_at, text_at}
 use Rattle.b2_declarations.specs.Shapes.{is_counted, are_empty, has_shape}
 use Rattle.b2_declarations.specs.Rules.{rule_of}
-use Rattle.b2_declarations.specs.Attributes.{is_attribute, are_attributes, values_of, dependencies_in, attributes}
-use Rattle.b2_declarations.specs.Targets.{is_refused_name, counts_of, target}
+use Rattle.b2_declarations.specs.Attributes.{id_of, is_attribute, are_attributes, property_list, attributes}
+use Rattle.b2_declarations.specs.Targets.{counts_of, target}
 use Rattle.b2_declarations.specs.Declarations.{is_shaped, declared, shape_of}
-use Rattle.b2_declarations.proofs.AttributeLemmas.{values_of-append}
 
 -- with an empty list at the end
 abbrev and_empty : List Texts → List Texts
@@ -45,20 +46,12 @@ attributes_same : (lists : List Texts) → are_attributes (and_empty lists) ≡ 
 attributes_same [] = refl
 attributes_same (list ∷ lists) = ap₂ (λ a b. (is_attribute list && a) || b) (attributes_same lists) (empty_same (list ∷ lists))
 
-values_same : (name : List ℕ) (lists : List Texts) → values_of name (and_empty lists) ≡ values_of name lists
-values_same name lists = values_of-append name lists ([] ∷ []) ∙ append-nil (values_of name lists)
-
-dependencies_same : (lists : List Texts) → flat_map dependencies_in (and_empty lists) ≡ flat_map dependencies_in lists
-dependencies_same lists = flat_map-append dependencies_in lists ([] ∷ []) ∙ append-nil (flat_map dependencies_in lists)
+lists_same : (lists : List Texts) → filter_map property_list (and_empty lists) ≡ filter_map property_list lists
+lists_same lists = filter_map-append property_list lists ([] ∷ []) ∙ append-nil (filter_map property_list lists)
 
 all_attributes_same : (lists : List Texts) → attributes (and_empty lists) ≡ attributes lists
 all_attributes_same [] = refl
-all_attributes_same (list ∷ lists) =
-    let requirements = values_same (codes "requirements") lists in
-    let usage = values_same (codes "usage-requirements") lists in
-    let defaults = values_same (codes "default-build") lists in
-    let found = dependencies_same lists in
-    simp (requirements, usage, defaults, found)
+all_attributes_same (list ∷ lists) = ap (λ (found : List PropertyList). let a : Attributes = record { id = option_map id_of (slice_get list 0); lists = found } in a) (lists_same lists)
 
 text_same : (place : ℕ) (lists : List Texts) → text_at place (and_empty lists) ≡ text_at place lists
 text_same place lists = ap (λ list. unwrap_or (slice_get list 0) []) (list_same place lists)
@@ -66,7 +59,7 @@ text_same place lists = ap (λ list. unwrap_or (slice_get list 0) []) (list_same
 shaped_same : (rule : Rule) (lists : List Texts) → is_shaped rule (and_empty lists) ≡ is_shaped rule lists
 shaped_same rules.Project [] = refl
 shaped_same rules.Project (list ∷ lists) = ap (λ b. is_counted AtMostOne list && b) (attributes_same lists)
-shaped_same (rules.Target kind) lists = ap₂ (λ b name. b && not (is_refused_name name)) (shape_same (counts_of kind) lists) (text_same 0 lists)
+shaped_same (rules.Target kind) lists = shape_same (counts_of kind) lists
 shaped_same rules.Explicit lists = shape_same (AtLeastOne ∷ []) lists
 shaped_same rules.BuildProject lists = shape_same (One ∷ []) lists
 shaped_same rules.UseProject lists = shape_same (One ∷ One ∷ []) lists
@@ -109,16 +102,16 @@ declared_same rules.FileType lists = ap (declared rules.FileType) (five_same lis
 declared_same rules.Generator lists = ap (declared rules.Generator) (five_same lists)
 declared_same rules.Import lists = refl
 
-one_more : (name : List ℕ) (lists : List Texts) (refused : Bool) → shape_of name (and_empty lists) refused ≡ shape_of name lists refused
-one_more name lists refused = go (rule_of name)
+one_more : (name : List ℕ) (lists : List Texts) → shape_of name (and_empty lists) ≡ shape_of name lists
+one_more name lists = go (rule_of name)
   where
     go : (r : Option Rule)
-        → option_and_then (λ rule. cond (is_shaped rule (and_empty lists) && not refused) (Some (declared rule (and_empty lists))) None) r
-        ≡ option_and_then (λ rule. cond (is_shaped rule lists && not refused) (Some (declared rule lists)) None) r
+        → option_and_then (λ rule. cond (is_shaped rule (and_empty lists)) (Some (declared rule (and_empty lists))) None) r
+        ≡ option_and_then (λ rule. cond (is_shaped rule lists) (Some (declared rule lists)) None) r
     go None = refl
-    go (Some rule) = ap₂ (λ (s : Bool) (d : Declaration). cond (s && not refused) (Some d) None) (shaped_same rule lists) (declared_same rule lists)
+    go (Some rule) = ap₂ (λ (s : Bool) (d : Declaration). cond s (Some d) None) (shaped_same rule lists) (declared_same rule lists)
 
-pub trailing_same : (name : List ℕ) (lists : List Texts) (count : ℕ) (refused : Bool) → shape_of name (lists ++ replicate count []) refused ≡ shape_of name lists refused
-trailing_same name lists zero refused = ap (λ ls. shape_of name ls refused) (append-nil lists)
-trailing_same name lists (suc count) refused =
-    ap (λ ls. shape_of name ls refused) (sym (append_assoc lists ([] ∷ []) (replicate count []))) ∙ trailing_same name (and_empty lists) count refused ∙ one_more name lists refused
+pub trailing_same : (name : List ℕ) (lists : List Texts) (count : ℕ) → shape_of name (lists ++ replicate count []) ≡ shape_of name lists
+trailing_same name lists zero = ap (shape_of name) (append-nil lists)
+trailing_same name lists (suc count) =
+    ap (shape_of name) (sym (append_assoc lists ([] ∷ []) (replicate count []))) ∙ trailing_same name (and_empty lists) count ∙ one_more name lists

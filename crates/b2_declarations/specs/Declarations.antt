@@ -1,5 +1,5 @@
 -- What a call of a declaring rule declares.
-use Rattle.std.specs.Prelude.{ℕ, Bool, true, not, ◌&&◌, List, [], ◌∷◌, codes, Option, Some, None, is_some, slice_get, if◌then◌else◌}
+use Rattle.std.specs.Prelude.{ℕ, Bool, true, false, ◌&&◌, List, [], ◌∷◌, codes, Option, Some, None, is_some, slice_get, if◌then◌else◌}
 use Rattle.std.specs.Option.{option_and_then}
 use Rattle.std.specs.Str.{bytes_eq}
 use Rattle.b2_base.specs.Segments.{normal_of}
@@ -18,7 +18,7 @@ use Rattle.b2_declarations.specs.Targets.{is_refused_name, counts_of, target}
 -- whether the lists of a call are those of its rule
 abbrev pub is_shaped : Rule → List Texts → Bool
 is_shaped rules.Project lists = is_counted AtMostOne (list_at 0 lists) && are_attributes (attribute_lists lists)
-is_shaped (rules.Target kind) lists = has_shape (counts_of kind) lists && not (is_refused_name (text_at 0 lists))
+is_shaped (rules.Target kind) lists = has_shape (counts_of kind) lists
 is_shaped rules.Explicit lists = has_shape (AtLeastOne ∷ []) lists
 is_shaped rules.BuildProject lists = has_shape (One ∷ []) lists
 is_shaped rules.UseProject lists = has_shape (One ∷ One ∷ []) lists
@@ -43,7 +43,12 @@ declared rules.FileType lists = FileType (text_at 0 lists) (list_at 1 lists)
 declared rules.Generator lists = Generator (text_at 0 lists) (list_at 1 lists) (list_at 2 lists) (list_at 3 lists)
 declared rules.Import lists = Import
 
--- The declaration of a call, by the name of its rule and its lists. There is none where no declaring rule has this name,
--- the lists are not those of the rule, or the output roots of a call of `project` are refused.
-abbrev pub shape_of : List ℕ → List Texts → Bool → Option Declaration
-shape_of name lists refused = option_and_then (λ rule. if is_shaped rule lists && not refused then Some (declared rule lists) else None) (rule_of name)
+-- The declaration of a call, by the name of its rule and its lists. There is none where no declaring rule has this name, or
+-- the lists are not those of the rule.
+abbrev pub shape_of : List ℕ → List Texts → Option Declaration
+shape_of name lists = option_and_then (λ rule. if is_shaped rule lists then Some (declared rule lists) else None) (rule_of name)
+
+-- whether a declaration is refused for a name in it: that of a main target
+abbrev pub is_refused : Declaration → Bool
+is_refused (Main t) = is_refused_name t.name
+is_refused d = false

@@ -5,12 +5,11 @@ use Rattle.std.specs.Option.{option_and_then}
 use Rattle.b2_base.specs.Segments.{is_rooted}
 use Rattle.b2_texts.specs.Cuts.{cut_at}
 use Rattle.b2_texts.specs.Completion.{path_in}
-use Rattle.b2_declarations.specs.declared.declaration.MainTarget.{MainTarget}
 use Rattle.b2_declarations.specs.declared.declaration.Declaration.{Declaration}
 use Rattle.b2_declarations.specs.declared.declaration.Declaration.TheVariants.{Project, Main, Explicit, BuildProject, UseProject, Using, Feature, Compose, FileType, Generator, Import}
-use Rattle.b2_declarations.specs.declared.references.Reading.TheVariants.{Property, Requirement}
+use Rattle.b2_declarations.specs.declared.references.Reading.TheVariants.{Property}
 use Rattle.b2_declarations.specs.Lists.{Texts}
-use Rattle.b2_declarations.specs.References.{dependencies}
+use Rattle.b2_declarations.specs.References.{dependencies, list_dependencies}
 
 -- The directory that stands before `//` in a reference: nothing stands for the folder, and an id, which begins with a
 -- slash, names no directory.
@@ -26,14 +25,10 @@ directory_of owner text = option_and_then (λ parts. directory_before owner part
 abbrev pub directories : List ℕ → Texts → Texts
 directories owner texts = filter_map (directory_of owner) texts
 
--- the values of a main target's dependency properties
-abbrev pub target_dependencies : MainTarget → Texts
-target_dependencies t = dependencies Requirement t.requirements ++ (dependencies Property t.defaults ++ dependencies Requirement t.usage)
-
 -- the directories that a declaration in the file of a directory names, in order
 abbrev pub named_directories : List ℕ → Declaration → Texts
-named_directories owner (Project a) = directories owner a.dependencies
-named_directories owner (Main t) = directories owner t.sources ++ directories owner (target_dependencies t)
+named_directories owner (Project a) = directories owner (list_dependencies a.lists)
+named_directories owner (Main t) = directories owner t.sources ++ directories owner (list_dependencies t.lists)
 named_directories owner (BuildProject dir) = path_in owner dir ∷ []
 named_directories owner (UseProject id dir) = path_in owner dir ∷ []
 named_directories owner (Compose property parts) = directories owner (dependencies Property parts)

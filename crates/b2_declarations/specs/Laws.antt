@@ -1,5 +1,5 @@
 -- Words for laws of declarations.
-use Rattle.std.specs.Prelude.{◌≡◌, ℕ, Bool, List, Some, codes}
+use Rattle.std.specs.Prelude.{◌≡◌, ℕ, List, Some, codes}
 use Rattle.b2_declarations.specs.declared.declaration.Declaration.{Declaration}
 use Rattle.b2_declarations.specs.declared.declaration.Kind.{Kind}
 use Rattle.b2_declarations.specs.declared.declaration.Kind.TheVariants.{Exe, Lib, Obj, Alias, Make, Install}
@@ -7,8 +7,8 @@ use Rattle.b2_declarations.specs.Lists.{Texts}
 use Rattle.b2_declarations.specs.Declarations.{shape_of}
 
 -- a call declares something
-abbrev pub Declares : List ℕ → List Texts → Bool → Declaration → Type 0
-Declares name lists refused d = shape_of name lists refused ≡ Some d
+abbrev pub Declares : List ℕ → List Texts → Declaration → Type 0
+Declares name lists d = shape_of name lists ≡ Some d
 
 -- the rule that declares main targets of a kind
 abbrev pub kind_name : Kind → List ℕ

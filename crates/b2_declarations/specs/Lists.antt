@@ -1,5 +1,7 @@
 -- The lists of a call.
 use Rattle.std.specs.Prelude.{ℕ, List, [], slice_get, unwrap_or}
+use Rattle.b2_declarations.specs.declared.declaration.ListName.{ListName}
+use Rattle.b2_declarations.specs.declared.declaration.PropertyList.{PropertyList}
 
 abbrev pub Texts : Type 0
 Texts = List (List ℕ)
@@ -11,3 +13,7 @@ list_at place lists = unwrap_or (slice_get lists place) []
 -- the first text of the list at a place; of an empty one the empty text
 abbrev pub text_at : ℕ → List Texts → List ℕ
 text_at place lists = unwrap_or (slice_get (list_at place lists) 0) []
+
+-- a property list
+abbrev pub listed : ListName → Texts → PropertyList
+listed name texts = record { name = name; texts = texts }

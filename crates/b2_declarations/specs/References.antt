@@ -1,9 +1,12 @@
 -- The references in property texts.
 use Rattle.std.specs.Prelude.{ℕ, Bool, List, [], ◌∷◌, codes, Option, Some, None, if◌then◌else◌}
-use Rattle.std.specs.List.{list_any, filter_map}
+use Rattle.std.specs.List.{list_any, filter_map, flat_map}
 use Rattle.std.specs.Option.{option_map_or, option_and_then}
 use Rattle.std.specs.Str.{bytes_eq}
 use Rattle.b2_texts.specs.Cuts.{cut_at, named_pair}
+use Rattle.b2_declarations.specs.declared.declaration.ListName.{ListName}
+use Rattle.b2_declarations.specs.declared.declaration.ListName.TheVariants.{Requirements, DefaultBuild, Usage}
+use Rattle.b2_declarations.specs.declared.declaration.PropertyList.{PropertyList}
 use Rattle.b2_declarations.specs.declared.references.Reading.{Reading}
 use Rattle.b2_declarations.specs.declared.references.Reading.TheVariants.{Property, Requirement}
 use Rattle.b2_declarations.specs.Lists.{Texts}
@@ -24,3 +27,13 @@ dependency_in reading text = option_and_then (λ p. if is_dependency p.0 then So
 -- the values of the dependency properties in some texts
 abbrev pub dependencies : Reading → Texts → Texts
 dependencies reading texts = filter_map (dependency_in reading) texts
+
+-- how the texts of a property list are read
+abbrev pub reading_of : ListName → Reading
+reading_of DefaultBuild = Property
+reading_of Requirements = Requirement
+reading_of Usage = Requirement
+
+-- the values of the dependency properties in property lists, in order
+abbrev pub list_dependencies : List PropertyList → Texts
+list_dependencies lists = flat_map (λ l. dependencies (reading_of l.name) l.texts) lists

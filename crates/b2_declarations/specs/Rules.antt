@@ -1,5 +1,5 @@
 -- The declaring rules by their names.
-use Rattle.std.specs.Prelude.{ℕ, List, [], ◌∷◌, codes, Option, Some, None, if◌then◌else◌}
+use Rattle.std.specs.Prelude.{ℕ, Bool, List, [], ◌∷◌, codes, Option, Some, None, is_some, if◌then◌else◌}
 use Rattle.std.specs.Str.{bytes_eq}
 use Rattle.b2_declarations.specs.declared.declaration.Kind.TheVariants.{Exe, Lib, Obj, Alias, Make, Install}
 use Rattle.b2_declarations.specs.declared.rule.Rule.{Rule}
@@ -32,3 +32,7 @@ rule_in (row ∷ rows) name = if bytes_eq name row.0 then Some row.1 else rule_i
 
 unfoldable pub rule_of : List ℕ → Option Rule
 rule_of name = rule_in rules name
+
+-- whether a rule is a declaring one
+abbrev pub is_declaring : List ℕ → Bool
+is_declaring name = is_some (rule_of name)

@@ -1,18 +1,18 @@
 //! The lists of a call of `project`.
 ghost use Rattle.std.specs.Prelude.{◌≡◌, [], ◌∷◌, ◌++◌, drop, IfOk, OnOk, option_map, slice_get};
-ghost use Rattle.std.specs.List.{flat_map};
+ghost use Rattle.std.specs.List.{filter_map};
 ghost use Rattle.b2_base.specs.Bytes.{HasNoZero};
 ghost use Rattle.b2_declarations.specs.Lists.{list_at};
-ghost use Rattle.b2_declarations.specs.Attributes.{id_of, has_name, is_attribute, are_attributes, values_of, reading_of, dependencies_in, attribute_lists, filled, attributes};
+ghost use Rattle.b2_declarations.specs.Attributes.{id_of, has_name, list_name, is_attribute, are_attributes, attribute_lists, property_list, attributes};
 
-use crate::declaration::Attributes;
-use crate::lists::{list_at, push_copies};
-use crate::places::is_rooted;
-use crate::references::{Reading, push_dependencies};
+use crate::declaration::{Attributes, ListName, PropertyList};
+use crate::lists::{list_at, push_list};
 use crate::shape::are_empty;
 use b2_base::fault::OutOfMemory;
+use b2_base::list::List;
 use b2_base::text::Text;
 use b2_base::text_list::TextList;
+use b2_texts::places::is_rooted;
 use std::alloc::Global;
 
 /// The id of a text, which begins with a slash.
@@ -37,13 +37,25 @@ fn has_name(name: &str, list: &[Text]) -> bool
     }
 }
 
+/// What the values of an attribute list are, where they are property texts.
+fn list_name(list: &[Text]) -> Option<ListName>
+    ensures { result ≡ list_name list.now }
+{
+    if has_name("requirements", list) {
+        Some(ListName::Requirements)
+    } else if has_name("default-build", list) {
+        Some(ListName::DefaultBuild)
+    } else if has_name("usage-requirements", list) {
+        Some(ListName::Usage)
+    } else {
+        None
+    }
+}
+
 fn is_attribute(list: &[Text]) -> bool
     ensures { result ≡ is_attribute list.now }
 {
-    has_name("requirements", list)
-        || has_name("usage-requirements", list)
-        || has_name("default-build", list)
-        || has_name("output-dirs", list)
+    list_name(list).is_some() || has_name("output-dirs", list)
 }
 
 /// Whether each is an attribute list, but for empty ones at the end; takes no memory.
@@ -78,63 +90,30 @@ fn values_in(list: &[Text]) -> &[Text]
     }
 }
 
-/// Adds the values of an attribute list, where it has the name.
-fn push_named(found: &mut TextList, name: &str, list: &[Text]) -> Result<(), OutOfMemory>
-    ensures { OnOk result (found.new ≡ found.old ++ values_of name.now (list.now ∷ [])) }
-{
-    if !has_name(name, list) {
-        return Ok(());
-    }
-    push_copies(found, values_in(list))
-}
-
-/// Adds the values in all lists of a name, in order.
-fn push_values(found: &mut TextList, name: &str, lists: &[TextList]) -> Result<(), OutOfMemory>
-    ensures { OnOk result (found.new ≡ found.old ++ values_of name.now lists.now) }
-{
-    for list in lists {
-        push_named(found, name, list.as_slice())?;
-    }
-    Ok(())
-}
-
-/// How the values of an attribute list are read; directories are not read as properties.
-fn reading_of(list: &[Text]) -> Option<Reading>
-    ensures { result ≡ reading_of list.now }
-{
-    if has_name("output-dirs", list) {
-        None
-    } else if has_name("default-build", list) {
-        Some(Reading::Property)
-    } else {
-        Some(Reading::Requirement)
-    }
-}
-
-/// Adds the values of the dependency properties in an attribute list.
-fn push_dependencies_in(
+/// Adds an attribute list, where its values are property texts.
+fn push_attribute(
     alloc: Global,
-    found: &mut TextList,
+    found: &mut List<PropertyList>,
     list: &[Text],
 ) -> Result<(), OutOfMemory>
-    ensures { OnOk result (found.new ≡ found.old ++ dependencies_in list.now) }
+    ensures { OnOk result (found.new ≡ found.old ++ filter_map property_list (list.now ∷ [])) }
 {
-    match reading_of(list) {
+    match list_name(list) {
         None => Ok(()),
-        Some(reading) => push_dependencies(alloc, found, reading, values_in(list)),
+        Some(name) => push_list(alloc, found, name, values_in(list)),
     }
 }
 
-/// Adds the values of the dependency properties in all attribute lists, in order.
-fn push_all_dependencies(
+/// Adds the attribute lists whose values are property texts, in order.
+fn push_attributes(
     alloc: Global,
-    found: &mut TextList,
+    found: &mut List<PropertyList>,
     lists: &[TextList],
 ) -> Result<(), OutOfMemory>
-    ensures { OnOk result (found.new ≡ found.old ++ flat_map dependencies_in lists.now) }
+    ensures { OnOk result (found.new ≡ found.old ++ filter_map property_list lists.now) }
 {
     for list in lists {
-        push_dependencies_in(alloc, found, list.as_slice())?;
+        push_attribute(alloc, found, list.as_slice())?;
     }
     Ok(())
 }
@@ -149,27 +128,14 @@ fn id_in(alloc: Global, list: &[Text]) -> Result<Option<Text>, OutOfMemory>
     }
 }
 
-/// Fills what the attribute lists say.
-fn fill(alloc: Global, made: &mut Attributes, lists: &[TextList]) -> Result<(), OutOfMemory>
-    ensures { OnOk result (made.new ≡ filled made.old lists.now) }
-{
-    push_values(&mut made.requirements, "requirements", lists)?;
-    push_values(&mut made.usage, "usage-requirements", lists)?;
-    push_values(&mut made.defaults, "default-build", lists)?;
-    push_all_dependencies(alloc, &mut made.dependencies, lists)
-}
-
 /// What a call of `project` says of its project.
 pub(crate) fn attributes(alloc: Global, lists: &[TextList]) -> Result<Attributes, OutOfMemory>
     ensures { IfOk result (λ made. made ≡ attributes lists.now) }
 {
     let mut made = Attributes {
         id: id_in(alloc, list_at(lists, 0))?,
-        requirements: TextList::new(alloc),
-        usage: TextList::new(alloc),
-        defaults: TextList::new(alloc),
-        dependencies: TextList::new(alloc),
+        lists: List::new(alloc),
     };
-    fill(alloc, &mut made, attribute_lists(lists))?;
+    push_attributes(alloc, &mut made.lists, attribute_lists(lists))?;
     Ok(made)
 }

@@ -1,4 +1,5 @@
 //! What a call of a declaring rule declares.
+use b2_base::list::List;
 use b2_base::path::Path;
 use b2_base::text::Text;
 use b2_base::text_list::TextList;
@@ -14,21 +15,35 @@ pub enum Kind {
     Install,
 }
 
+/// What the texts of a property list are.
+#[derive(Clone, Copy)]
+pub enum ListName {
+    Requirements,
+    /// `default-build`
+    DefaultBuild,
+    /// Usage requirements.
+    Usage,
+}
+
+/// A list of property texts in a call, as they are written.
+#[derive(Drop)]
+pub struct PropertyList {
+    pub name: ListName,
+    pub texts: TextList,
+}
+
 /// A main target.
 #[derive(Drop)]
 pub struct MainTarget {
     pub kind: Kind,
-    /// The name, a relative path that lies below the project's directory.
+    /// The name as it is written.
     pub name: Text,
     /// The sources, files and references.
     pub sources: TextList,
     /// The rule of a `make`, without its leading `@`; empty for other kinds.
     pub rule: Text,
-    pub requirements: TextList,
-    /// The `default-build` properties.
-    pub defaults: TextList,
-    /// The usage requirements.
-    pub usage: TextList,
+    /// The property lists, in the order of the call.
+    pub lists: List<PropertyList>,
 }
 
 /// What a call of `project` says of its project. The output roots that it names were added when it ran.
@@ -36,13 +51,8 @@ pub struct MainTarget {
 pub struct Attributes {
     /// The id, which begins with a slash.
     pub id: Option<Text>,
-    pub requirements: TextList,
-    /// The usage requirements.
-    pub usage: TextList,
-    /// The `default-build` properties.
-    pub defaults: TextList,
-    /// The values of the dependency properties in these lists, in the order of the call.
-    pub dependencies: TextList,
+    /// The property lists, in the order of the call; several may have one name.
+    pub lists: List<PropertyList>,
 }
 
 /// What a call of a declaring rule declares.

@@ -1,9 +1,11 @@
 //! The lists of a call.
-ghost use Rattle.std.specs.Prelude.{◌≡◌, ◌++◌, IfOk, OnOk, slice_get};
+ghost use Rattle.std.specs.Prelude.{◌≡◌, [], ◌∷◌, ◌++◌, IfOk, OnOk, slice_get};
 ghost use Rattle.b2_base.specs.Bytes.{HasNoZero};
-ghost use Rattle.b2_declarations.specs.Lists.{list_at, text_at};
+ghost use Rattle.b2_declarations.specs.Lists.{list_at, text_at, listed};
 
+use crate::declaration::{ListName, PropertyList};
 use b2_base::fault::OutOfMemory;
+use b2_base::list::List;
 use b2_base::text::Text;
 use b2_base::text_list::TextList;
 use std::alloc::Global;
@@ -56,4 +58,17 @@ pub(crate) fn copies(alloc: Global, texts: &[Text]) -> Result<TextList, OutOfMem
     let mut made = TextList::new(alloc);
     push_copies(&mut made, texts)?;
     Ok(made)
+}
+
+/// Adds a property list with copies of texts.
+pub(crate) fn push_list(
+    alloc: Global,
+    found: &mut List<PropertyList>,
+    name: ListName,
+    texts: &[Text],
+) -> Result<(), OutOfMemory>
+    ensures { OnOk result (found.new ≡ found.old ++ listed name texts.now ∷ []) }
+{
+    let texts = copies(alloc, texts)?;
+    found.push(PropertyList { name, texts })
 }

@@ -1,17 +1,18 @@
 //! Which directories a declaration names.
 ghost use Rattle.std.specs.Prelude.{◌≡◌, [], ◌∷◌, ◌++◌, IfOk, OnOk};
 ghost use Rattle.b2_texts.specs.Completion.{path_in};
-ghost use Rattle.b2_declarations.specs.References.{dependencies};
-ghost use Rattle.b2_declarations.specs.Directories.{directories, target_dependencies, named_directories};
+ghost use Rattle.b2_declarations.specs.References.{dependencies, list_dependencies};
+ghost use Rattle.b2_declarations.specs.Directories.{directories, named_directories};
 
-use crate::declaration::{Declaration, MainTarget};
-use crate::places::{directory_of, path_in};
-use crate::references::{Reading, push_dependencies};
+use crate::declaration::{Declaration, MainTarget, PropertyList};
+use crate::places::directory_of;
+use crate::references::{Reading, list_dependencies, push_dependencies};
 use b2_base::fault::OutOfMemory;
 use b2_base::path::Path;
 use b2_base::path_list::PathList;
 use b2_base::text::Text;
 use b2_base::text_list::TextList;
+use b2_texts::places::path_in;
 use std::alloc::Global;
 
 /// Adds the directory of a text, where it is a reference by directory.
@@ -64,28 +65,19 @@ fn of_properties(alloc: Global, owner: &Path, texts: &[Text]) -> Result<PathList
     directories(alloc, owner, values.as_slice())
 }
 
-/// The values of a main target's dependency properties.
-fn target_dependencies(alloc: Global, target: &MainTarget) -> Result<TextList, OutOfMemory>
-    ensures { IfOk result (λ values. values ≡ target_dependencies target.now) }
+/// The directories that property lists name.
+fn of_lists(alloc: Global, owner: &Path, lists: &[PropertyList]) -> Result<PathList, OutOfMemory>
+    ensures { IfOk result (λ found. found ≡ directories owner.now (list_dependencies lists.now)) }
 {
-    let mut values = TextList::new(alloc);
-    let found = &mut values;
-    push_dependencies(
-        alloc,
-        found,
-        Reading::Requirement,
-        target.requirements.as_slice(),
-    )?;
-    push_dependencies(alloc, found, Reading::Property, target.defaults.as_slice())?;
-    push_dependencies(alloc, found, Reading::Requirement, target.usage.as_slice())?;
-    Ok(values)
+    let values = list_dependencies(alloc, lists)?;
+    directories(alloc, owner, values.as_slice())
 }
 
 /// The directories that a main target names.
 fn of_target(alloc: Global, owner: &Path, target: &MainTarget) -> Result<PathList, OutOfMemory>
-    ensures { IfOk result (λ found. found ≡ directories owner.now target.now.sources ++ directories owner.now (target_dependencies target.now)) }
+    ensures { IfOk result (λ found. found ≡ directories owner.now target.now.sources ++ directories owner.now (list_dependencies target.now.lists)) }
 {
-    let values = target_dependencies(alloc, target)?;
+    let values = list_dependencies(alloc, target.lists.as_slice())?;
     let mut found = directories(alloc, owner, target.sources.as_slice())?;
     push_directories(alloc, &mut found, owner, values.as_slice())?;
     Ok(found)
@@ -112,11 +104,7 @@ pub fn named_directories(
     ensures { IfOk result (λ found. found ≡ named_directories owner.now declaration.now) }
 {
     match declaration {
-        Declaration::Project(attributes) => directories(
-            alloc,
-            owner,
-            attributes.dependencies.as_slice(),
-        ),
+        Declaration::Project(attributes) => of_lists(alloc, owner, attributes.lists.as_slice()),
         Declaration::Main(target) => of_target(alloc, owner, target),
         Declaration::BuildProject(dir) => one_directory(alloc, owner, dir),
         Declaration::UseProject { dir, .. } => one_directory(alloc, owner, dir),

@@ -1,59 +1,13 @@
-//! Directories, relative to the folder.
-ghost use Rattle.std.specs.Prelude.{◌≡◌, ◌≢◌, [], codes, IfOk};
+//! The directories of references, relative to the folder.
+ghost use Rattle.std.specs.Prelude.{◌≡◌, IfOk};
 ghost use Rattle.b2_base.specs.Bytes.{HasNoZero};
-ghost use Rattle.b2_base.specs.Segments.{is_rooted, normal_of};
-ghost use Rattle.b2_texts.specs.Completion.{path_in};
 ghost use Rattle.b2_declarations.specs.Directories.{directory_before, directory_of};
 
 use crate::cuts::cut_at;
 use b2_base::fault::OutOfMemory;
-use b2_base::path::{Path, PathFault};
+use b2_base::path::Path;
+use b2_texts::places::{is_rooted, path_in, path_of};
 use std::alloc::Global;
-
-/// Whether a text begins with a slash.
-pub(crate) fn is_rooted(text: &str) -> bool
-    ensures { result ≡ is_rooted text.now }
-{
-    text.starts_with('/')
-}
-
-fn normal_path(alloc: Global, text: &str) -> Result<Path, OutOfMemory>
-    requires text { HasNoZero text.now }
-    requires some { text.now ≢ [] }
-    ensures { IfOk result (λ path. path ≡ normal_of text.now) }
-{
-    match Path::normal(alloc, text) {
-        Ok(path) => Ok(path),
-        Err(PathFault::OutOfMemory) => Err(OutOfMemory),
-        Err(PathFault::Empty) => unreachable!(),
-        Err(PathFault::Nul) => unreachable!(),
-    }
-}
-
-/// The path of a text; that of the empty text is `.`.
-pub(crate) fn path_of(alloc: Global, text: &str) -> Result<Path, OutOfMemory>
-    requires { HasNoZero text.now }
-    ensures { IfOk result (λ path. path ≡ normal_of text.now) }
-{
-    if text.is_empty() {
-        normal_path(alloc, ".")
-    } else {
-        normal_path(alloc, text)
-    }
-}
-
-/// A path, relative to the folder: an absolute one stays, every other one is relative to the directory.
-pub(crate) fn path_in(alloc: Global, dir: &Path, value: &str) -> Result<Path, OutOfMemory>
-    requires { HasNoZero value.now }
-    ensures { IfOk result (λ path. path ≡ path_in dir.now value.now) }
-{
-    if is_rooted(value) {
-        return normal_path(alloc, value);
-    }
-    let dir = dir.as_str();
-    let text = format!(in alloc; "{dir}/{value}")?;
-    normal_path(alloc, text.as_str())
-}
 
 /// The directory that stands before `//` in a reference.
 fn directory_before(alloc: Global, owner: &Path, before: &str) -> Result<Option<Path>, OutOfMemory>
@@ -61,7 +15,7 @@ fn directory_before(alloc: Global, owner: &Path, before: &str) -> Result<Option<
     ensures { IfOk result (λ dir. dir ≡ directory_before owner.now before.now) }
 {
     if before.is_empty() {
-        return Ok(Some(normal_path(alloc, ".")?));
+        return Ok(Some(path_of(alloc, ".")?));
     }
     if is_rooted(before) {
         return Ok(None);

@@ -1,32 +1,30 @@
 //! The declaration of a call.
 ghost use Rattle.std.specs.Prelude.{◌≡◌, IfOk};
 ghost use Rattle.b2_declarations.specs.Lists.{list_at, text_at};
-ghost use Rattle.b2_declarations.specs.Declarations.{is_shaped, declared, shape_of};
+ghost use Rattle.b2_declarations.specs.Declarations.{is_shaped, declared, shape_of, is_refused};
 
 use crate::attributes::{are_attributes, attribute_lists, attributes, id_of};
 use crate::cuts::named_pair;
 use crate::declaration::Declaration;
 use crate::lists::{copies, first_of, list_at, text_at};
-use crate::places::path_of;
 use crate::rule::{Rule, rule_of};
 use crate::shape::{Count, has_shape};
 use crate::target::{counts_of, is_refused_name, target};
 use b2_base::fault::OutOfMemory;
 use b2_base::text::Text;
 use b2_base::text_list::TextList;
+use b2_texts::places::path_of;
 use std::alloc::Global;
 
-/// Whether the lists of a call are those of its rule.
-fn is_shaped(alloc: Global, rule: Rule, lists: &[TextList]) -> Result<bool, OutOfMemory>
-    ensures { IfOk result (λ shaped. shaped ≡ is_shaped rule lists.now) }
+/// Whether the lists of a call are those of its rule; takes no memory.
+fn is_shaped(rule: Rule, lists: &[TextList]) -> bool
+    ensures { result ≡ is_shaped rule lists.now }
 {
-    Ok(match rule {
+    match rule {
         Rule::Project => {
             Count::AtMostOne.holds(list_at(lists, 0)) && are_attributes(attribute_lists(lists))
         }
-        Rule::Target(kind) => {
-            has_shape(counts_of(kind), lists) && !is_refused_name(alloc, text_at(lists, 0))?
-        }
+        Rule::Target(kind) => has_shape(counts_of(kind), lists),
         Rule::Explicit => has_shape(&[Count::AtLeastOne], lists),
         Rule::BuildProject => has_shape(&[Count::One], lists),
         Rule::UseProject => has_shape(&[Count::One, Count::One], lists),
@@ -45,7 +43,7 @@ fn is_shaped(alloc: Global, rule: Rule, lists: &[TextList]) -> Result<bool, OutO
             lists,
         ),
         Rule::Import => true,
-    })
+    }
 }
 
 fn use_project(alloc: Global, lists: &[TextList]) -> Result<Declaration, OutOfMemory>
@@ -121,22 +119,40 @@ fn declared(alloc: Global, rule: Rule, lists: &[TextList]) -> Result<Declaration
     }
 }
 
-/// The declaration of a call, by the name of its rule and its lists. There is none where no declaring rule has this
-/// name, where the lists are not those of the rule, where a main target cannot have its name, or where the output roots
-/// of a call of `project` are `refused`.
+/// The declaration of a call, by the name of its rule and its lists. There is none where no declaring rule has this name,
+/// or where the lists are not those of the rule. It may be refused for all that.
 pub fn declaration(
     alloc: Global,
     rule: &str,
     lists: &[TextList],
-    refused: bool,
 ) -> Result<Option<Declaration>, OutOfMemory>
-    ensures { IfOk result (λ found. found ≡ shape_of rule.now lists.now refused) }
+    ensures { IfOk result (λ found. found ≡ shape_of rule.now lists.now) }
 {
     let Some(rule) = rule_of(rule) else {
         return Ok(None);
     };
-    if refused || !is_shaped(alloc, rule, lists)? {
+    if !is_shaped(rule, lists) {
         return Ok(None);
     }
     Ok(Some(declared(alloc, rule, lists)?))
+}
+
+/// Whether a declaration is refused for a name in it: where it is of a main target whose name is empty or absolute, has
+/// `//` or a segment `..`, or is `.` in normal form.
+pub fn is_refused(alloc: Global, declaration: &Declaration) -> Result<bool, OutOfMemory>
+    ensures { IfOk result (λ refused. refused ≡ is_refused declaration.now) }
+{
+    match declaration {
+        Declaration::Main(target) => is_refused_name(alloc, target.name.as_str()),
+        Declaration::Project(_)
+        | Declaration::Explicit(_)
+        | Declaration::BuildProject(_)
+        | Declaration::UseProject { .. }
+        | Declaration::Using { .. }
+        | Declaration::Feature { .. }
+        | Declaration::Compose { .. }
+        | Declaration::FileType { .. }
+        | Declaration::Generator { .. }
+        | Declaration::Import => Ok(false),
+    }
 }

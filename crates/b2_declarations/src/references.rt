@@ -1,10 +1,11 @@
 //! The references in property texts.
-ghost use Rattle.std.specs.Prelude.{◌≡◌, [], ◌∷◌, ◌++◌, option_map, IfSome, OnOk};
+ghost use Rattle.std.specs.Prelude.{◌≡◌, [], ◌∷◌, ◌++◌, option_map, IfSome, IfOk, OnOk};
 ghost use Rattle.b2_base.specs.Bytes.{HasNoZero};
 ghost use Rattle.b2_texts.specs.Cuts.{named_pair, AreClean};
-ghost use Rattle.b2_declarations.specs.References.{is_dependency, property_in, dependency_in, dependencies};
+ghost use Rattle.b2_declarations.specs.References.{is_dependency, property_in, dependency_in, dependencies, reading_of, list_dependencies};
 
 use crate::cuts::{cut_at, named_pair, pair_after};
+use crate::declaration::{ListName, PropertyList};
 use b2_base::fault::OutOfMemory;
 use b2_base::text::Text;
 use b2_base::text_list::TextList;
@@ -82,4 +83,39 @@ pub(crate) fn push_dependencies(
         push_dependency(alloc, found, reading, text)?;
     }
     Ok(())
+}
+
+/// How the texts of a property list are read.
+fn reading_of(name: ListName) -> Reading
+    ensures { result ≡ reading_of name }
+{
+    match name {
+        ListName::DefaultBuild => Reading::Property,
+        ListName::Requirements | ListName::Usage => Reading::Requirement,
+    }
+}
+
+/// Adds the values of the dependency properties in a property list.
+fn push_list_dependencies(
+    alloc: Global,
+    found: &mut TextList,
+    list: &PropertyList,
+) -> Result<(), OutOfMemory>
+    ensures { OnOk result (found.new ≡ found.old ++ list_dependencies (list.now ∷ [])) }
+{
+    push_dependencies(alloc, found, reading_of(list.name), list.texts.as_slice())
+}
+
+/// The values of the dependency properties in property lists, in order.
+pub(crate) fn list_dependencies(
+    alloc: Global,
+    lists: &[PropertyList],
+) -> Result<TextList, OutOfMemory>
+    ensures { IfOk result (λ found. found ≡ list_dependencies lists.now) }
+{
+    let mut found = TextList::new(alloc);
+    for list in lists {
+        push_list_dependencies(alloc, &mut found, list)?;
+    }
+    Ok(found)
 }

@@ -1,18 +1,19 @@
 //! Main targets.
-ghost use Rattle.std.specs.Prelude.{◌≡◌, IfOk, OnOk};
+ghost use Rattle.std.specs.Prelude.{◌≡◌, ◌++◌, IfOk, OnOk};
 ghost use Rattle.std.specs.List.{list_any};
 ghost use Rattle.b2_base.specs.Bytes.{HasNoZero};
 ghost use Rattle.b2_base.specs.Segments.{segments, is_up};
-ghost use Rattle.b2_declarations.specs.Targets.{is_refused_name, counts_of, rule_name, bare, filled, make_target, other_target, target};
+ghost use Rattle.b2_declarations.specs.Targets.{is_refused_name, counts_of, rule_name, rule_in, property_lists, bare, target};
 
 use crate::cuts::cut_at;
-use crate::declaration::{Kind, MainTarget};
-use crate::lists::{list_at, push_copies, text_at};
-use crate::places::{is_rooted, path_of};
+use crate::declaration::{Kind, ListName, MainTarget, PropertyList};
+use crate::lists::{list_at, push_copies, push_list, text_at};
 use crate::shape::Count;
 use b2_base::fault::OutOfMemory;
+use b2_base::list::List;
 use b2_base::text::Text;
 use b2_base::text_list::TextList;
+use b2_texts::places::{is_rooted, path_of};
 use std::alloc::Global;
 
 /// Whether a path has a segment `..`.
@@ -62,6 +63,58 @@ fn rule_name(text: &str) -> &str
     }
 }
 
+/// The rule of a `make`; of other kinds nothing. Takes no memory.
+fn rule_in(kind: Kind, lists: &[TextList]) -> &str
+    ensures value { result.now ≡ rule_in kind lists.now }
+    ensures clean { HasNoZero result.now }
+{
+    match kind {
+        Kind::Make => rule_name(text_at(lists, 2)),
+        Kind::Exe | Kind::Lib | Kind::Obj | Kind::Alias | Kind::Install => "",
+    }
+}
+
+/// Adds the property lists of a `make`, which has no `default-build`.
+fn push_make_lists(
+    alloc: Global,
+    found: &mut List<PropertyList>,
+    lists: &[TextList],
+) -> Result<(), OutOfMemory>
+    ensures { OnOk result (found.new ≡ found.old ++ property_lists Kind.Make lists.now) }
+{
+    push_list(alloc, found, ListName::Requirements, list_at(lists, 3))?;
+    push_list(alloc, found, ListName::Usage, list_at(lists, 4))
+}
+
+/// Adds the property lists of the other kinds.
+fn push_other_lists(
+    alloc: Global,
+    found: &mut List<PropertyList>,
+    lists: &[TextList],
+) -> Result<(), OutOfMemory>
+    ensures { OnOk result (found.new ≡ found.old ++ property_lists Kind.Exe lists.now) }
+{
+    push_list(alloc, found, ListName::Requirements, list_at(lists, 2))?;
+    push_list(alloc, found, ListName::DefaultBuild, list_at(lists, 3))?;
+    push_list(alloc, found, ListName::Usage, list_at(lists, 4))
+}
+
+fn push_property_lists(
+    alloc: Global,
+    found: &mut List<PropertyList>,
+    kind: Kind,
+    lists: &[TextList],
+) -> Result<(), OutOfMemory>
+    ensures { OnOk result (found.new ≡ found.old ++ property_lists kind lists.now) }
+{
+    match kind {
+        Kind::Make => push_make_lists(alloc, found, lists),
+        Kind::Exe | Kind::Lib | Kind::Obj | Kind::Alias | Kind::Install => {
+            push_other_lists(alloc, found, lists)
+        }
+    }
+}
+
 /// A main target without lists; takes no memory.
 fn without_lists(alloc: Global, kind: Kind, name: Text, rule: Text) -> MainTarget
     ensures { result ≡ bare kind name rule }
@@ -71,49 +124,8 @@ fn without_lists(alloc: Global, kind: Kind, name: Text, rule: Text) -> MainTarge
         name,
         sources: TextList::new(alloc),
         rule,
-        requirements: TextList::new(alloc),
-        defaults: TextList::new(alloc),
-        usage: TextList::new(alloc),
+        lists: List::new(alloc),
     }
-}
-
-/// Fills the lists of a main target.
-fn fill(
-    target: &mut MainTarget,
-    sources: &[Text],
-    requirements: &[Text],
-    defaults: &[Text],
-    usage: &[Text],
-) -> Result<(), OutOfMemory>
-    ensures { OnOk result (target.new ≡ filled target.old sources.now requirements.now defaults.now usage.now) }
-{
-    push_copies(&mut target.sources, sources)?;
-    push_copies(&mut target.requirements, requirements)?;
-    push_copies(&mut target.defaults, defaults)?;
-    push_copies(&mut target.usage, usage)
-}
-
-fn make(alloc: Global, lists: &[TextList]) -> Result<MainTarget, OutOfMemory>
-    ensures { IfOk result (λ made. made ≡ make_target lists.now) }
-{
-    let name = Text::new(alloc, text_at(lists, 0))?;
-    let rule = Text::new(alloc, rule_name(text_at(lists, 2)))?;
-    let mut target = without_lists(alloc, Kind::Make, name, rule);
-    let (sources, requirements, usage) = (list_at(lists, 1), list_at(lists, 3), list_at(lists, 4));
-    fill(&mut target, sources, requirements, &[], usage)?;
-    Ok(target)
-}
-
-fn other_kind(alloc: Global, kind: Kind, lists: &[TextList]) -> Result<MainTarget, OutOfMemory>
-    ensures { IfOk result (λ made. made ≡ other_target kind lists.now) }
-{
-    let name = Text::new(alloc, text_at(lists, 0))?;
-    let rule = Text::from_string(String::new(alloc));
-    let mut target = without_lists(alloc, kind, name, rule);
-    let (sources, requirements) = (list_at(lists, 1), list_at(lists, 2));
-    let (defaults, usage) = (list_at(lists, 3), list_at(lists, 4));
-    fill(&mut target, sources, requirements, defaults, usage)?;
-    Ok(target)
 }
 
 /// The main target of a call.
@@ -124,10 +136,10 @@ pub(crate) fn target(
 ) -> Result<MainTarget, OutOfMemory>
     ensures { IfOk result (λ made. made ≡ target kind lists.now) }
 {
-    match kind {
-        Kind::Make => make(alloc, lists),
-        Kind::Exe | Kind::Lib | Kind::Obj | Kind::Alias | Kind::Install => {
-            other_kind(alloc, kind, lists)
-        }
-    }
+    let name = Text::new(alloc, text_at(lists, 0))?;
+    let rule = Text::new(alloc, rule_in(kind, lists))?;
+    let mut target = without_lists(alloc, kind, name, rule);
+    push_copies(&mut target.sources, list_at(lists, 1))?;
+    push_property_lists(alloc, &mut target.lists, kind, lists)?;
+    Ok(target)
 }

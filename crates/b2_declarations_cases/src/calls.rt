@@ -4,7 +4,9 @@ use b2_base::path::{Path, PathFault};
 use b2_base::text_list::TextList;
 use b2_declarations::declaration::Declaration;
 use b2_declarations::naming::named_directories as directories_of;
-use b2_declarations::reading::declaration as declaration_of;
+use b2_declarations::reading::{
+    declaration as declaration_of, is_refused as is_refused_declaration,
+};
 use std::alloc::Global;
 use transcript::answer::Answer;
 use transcript::case_fault::CaseFault;
@@ -28,21 +30,32 @@ fn lists(alloc: Global, words: &[Word]) -> Result<Vec<TextList>, CaseFault> {
 }
 
 /// The declaration of a rule and its lists.
-fn called(alloc: Global, words: &[Word], refused: bool) -> Result<Option<Declaration>, CaseFault> {
+fn called(alloc: Global, words: &[Word]) -> Result<Option<Declaration>, CaseFault> {
     match words {
         [] => Err(CaseFault::WrongWords),
         [rule, words @ ..] => {
             let lists = lists(alloc, words)?;
-            Ok(declaration_of(alloc, rule.as_str()?, lists.as_slice(), refused)?)
+            Ok(declaration_of(alloc, rule.as_str()?, lists.as_slice())?)
         }
     }
 }
 
 /// What a call declares.
-pub fn declaration(alloc: Global, words: &[Word], refused: bool) -> Result<Answer, CaseFault> {
-    match called(alloc, words, refused)? {
+pub fn declaration(alloc: Global, words: &[Word]) -> Result<Answer, CaseFault> {
+    match called(alloc, words)? {
         None => Answer::line(alloc, "none"),
         Some(declaration) => shown(alloc, &declaration),
+    }
+}
+
+/// Whether the declaration of a call is refused for its name.
+pub fn is_refused(alloc: Global, words: &[Word]) -> Result<Answer, CaseFault> {
+    match called(alloc, words)? {
+        None => Answer::line(alloc, "none"),
+        Some(declaration) => {
+            let refused = is_refused_declaration(alloc, &declaration)?;
+            Answer::line(alloc, if refused { "true" } else { "false" })
+        }
     }
 }
 
@@ -68,7 +81,7 @@ pub fn named_directories(alloc: Global, words: &[Word]) -> Result<Answer, CaseFa
         [] => Err(CaseFault::WrongWords),
         [dir, call @ ..] => {
             let owner = directory(alloc, dir)?;
-            match called(alloc, call, false)? {
+            match called(alloc, call)? {
                 None => Answer::line(alloc, "none"),
                 Some(declaration) => paths_lines(
                     alloc,

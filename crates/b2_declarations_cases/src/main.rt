@@ -2,7 +2,7 @@
 //!
 //! - `declaration RULE WORD .. : WORD .. : ..` answers what the call declares: a line with its kind and its name, and below it
 //!   a line for each of its lists that is not empty; `none` where there is no such declaration.
-//! - `declaration_refused RULE ..` is the same for a call whose output roots are refused.
+//! - `is_refused RULE ..` answers whether what the call declares is refused for its name, `none` where it declares nothing.
 //! - `named_directories DIR RULE ..` answers the directories that the call names in the project file of DIR, a line each;
 //!   `none` where it declares nothing.
 //!

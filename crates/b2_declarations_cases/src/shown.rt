@@ -1,6 +1,8 @@
 //! How declarations are shown.
 use b2_base::text::Text;
-use b2_declarations::declaration::{Attributes, Declaration, Kind, MainTarget};
+use b2_declarations::declaration::{
+    Attributes, Declaration, Kind, ListName, MainTarget, PropertyList,
+};
 use std::alloc::Global;
 use transcript::answer::Answer;
 use transcript::case_fault::CaseFault;
@@ -84,44 +86,34 @@ fn push_rule(alloc: Global, answer: &mut Answer, target: &MainTarget) -> Result<
     }
 }
 
+fn list_word(name: ListName) -> &'static str {
+    match name {
+        ListName::Requirements => "requirements",
+        ListName::DefaultBuild => "default-build",
+        ListName::Usage => "usage-requirements",
+    }
+}
+
+/// Adds a line for each property list that is not empty, in order.
+fn push_lists(alloc: Global, answer: &mut Answer, lists: &[PropertyList]) -> Result<(), CaseFault> {
+    for list in lists {
+        push_list(alloc, answer, list_word(list.name), list.texts.as_slice())?;
+    }
+    Ok(())
+}
+
 fn main_target(alloc: Global, target: &MainTarget) -> Result<Answer, CaseFault> {
     let mut answer = headed(alloc, kind_word(target.kind), target.name.as_str())?;
     let shown = &mut answer;
     push_list(alloc, shown, "sources", target.sources.as_slice())?;
     push_rule(alloc, shown, target)?;
-    push_list(alloc, shown, "requirements", target.requirements.as_slice())?;
-    push_list(alloc, shown, "default-build", target.defaults.as_slice())?;
-    push_list(alloc, shown, "usage-requirements", target.usage.as_slice())?;
+    push_lists(alloc, shown, target.lists.as_slice())?;
     Ok(answer)
 }
 
 fn project(alloc: Global, attributes: &Attributes) -> Result<Answer, CaseFault> {
     let mut answer = maybe_headed(alloc, "project", attributes.id.as_ref())?;
-    let shown = &mut answer;
-    push_list(
-        alloc,
-        shown,
-        "requirements",
-        attributes.requirements.as_slice(),
-    )?;
-    push_list(
-        alloc,
-        shown,
-        "usage-requirements",
-        attributes.usage.as_slice(),
-    )?;
-    push_list(
-        alloc,
-        shown,
-        "default-build",
-        attributes.defaults.as_slice(),
-    )?;
-    push_list(
-        alloc,
-        shown,
-        "dependencies",
-        attributes.dependencies.as_slice(),
-    )?;
+    push_lists(alloc, &mut answer, attributes.lists.as_slice())?;
     Ok(answer)
 }
 

@@ -3,6 +3,7 @@ use Rattle.std.specs.Prelude.{Result}
 use Rattle.b2_features.specs.Table.{Declared}
 use Rattle.b2_declarations.specs.declared.declaration.Attributes.{Attributes}
 use Rattle.b2_declarations.specs.declared.declaration.MainTarget.{MainTarget}
+use Rattle.b2_declarations.specs.declared.declaration.PropertyList.{PropertyList}
 use Rattle.b2_metatargets.specs.declared.fault.DeclaringFault.{DeclaringFault}
 use Rattle.b2_metatargets.specs.declared.lists.Lists.{Lists}
 use Rattle.b2_metatargets.specs.declared.visit.Visit.{Visit}
@@ -21,45 +22,34 @@ module _ (features : List Declared) (v : Visit) (c : Call) (g : Gathered) where
     adds : Lists → Result Gathered DeclaringFault
     adds l = Ok (record g { places = with_place g.places c.project (attributed (length g.indirect) l); ids = with_own_id g.ids a.id v.dir; indirect = g.indirect ++ rules_in c l.requirements })
 
-    is_so : with_attributes features v c a g ≡ and_then adds (lists_in features v c a.requirements a.defaults a.usage)
+    is_so : with_attributes features v c a g ≡ and_then adds (lists_in features v c a.lists)
     unfolding with_attributes adds
     is_so = refl
 
-    pub attributes_fault : (f : DeclaringFault) → IsFaultOf (lists_in features v c a.requirements a.defaults a.usage) f → IsFaultOf (with_attributes features v c a g) f
-    attributes_fault f fault = subst (λ r. IsFaultOf r f) (sym is_so) (fault_then adds (lists_in features v c a.requirements a.defaults a.usage) f fault)
+    pub attributes_fault : (f : DeclaringFault) → IsFaultOf (lists_in features v c a.lists) f → IsFaultOf (with_attributes features v c a g) f
+    attributes_fault f fault = subst (λ r. IsFaultOf r f) (sym is_so) (fault_then adds (lists_in features v c a.lists) f fault)
 
-    pub attributes_added : (l : Lists) → lists_in features v c a.requirements a.defaults a.usage ≡ Ok l → with_attributes features v c a g ≡ Ok (record g { places = with_place g.places c.project (attributed (length g.indirect) l); ids = with_own_id g.ids a.id v.dir; indirect = g.indirect ++ rules_in c l.requirements })
+    pub attributes_added : (l : Lists) → lists_in features v c a.lists ≡ Ok l → with_attributes features v c a g ≡ Ok (record g { places = with_place g.places c.project (attributed (length g.indirect) l); ids = with_own_id g.ids a.id v.dir; indirect = g.indirect ++ rules_in c l.requirements })
     unfolding adds
-    attributes_added l e = is_so ∙ then_next adds (lists_in features v c a.requirements a.defaults a.usage) l e
+    attributes_added l e = is_so ∙ then_next adds (lists_in features v c a.lists) l e
 
     -- the same of lists that are those of the call
-    pub attributes_fault_at : (rs ds us : List (List ℕ)) (f : DeclaringFault) → rs ≡ a.requirements → ds ≡ a.defaults → us ≡ a.usage → IsFaultOf (lists_in features v c rs ds us) f → IsFaultOf (with_attributes features v c a g) f
-    attributes_fault_at rs ds us f r d u fault =
-        attributes_fault f
-        (subst (λ xs. IsFaultOf (lists_in features v c a.requirements a.defaults xs) f) u
-        (subst (λ xs. IsFaultOf (lists_in features v c a.requirements xs us) f) d (subst (λ xs. IsFaultOf (lists_in features v c xs ds us) f) r fault)))
+    pub attributes_fault_at : (lists : List PropertyList) (f : DeclaringFault) → lists ≡ a.lists → IsFaultOf (lists_in features v c lists) f → IsFaultOf (with_attributes features v c a g) f
+    attributes_fault_at lists f same fault = attributes_fault f (subst (λ ls. IsFaultOf (lists_in features v c ls) f) same fault)
 
   module _ (m : MainTarget) where
-    target_is_so : with_target features v c m g ≡ and_then (λ l. Ok (one_target_more c m l g)) (lists_in features v c m.requirements m.defaults m.usage)
+    target_is_so : with_target features v c m g ≡ and_then (λ l. Ok (one_target_more c m l g)) (lists_in features v c m.lists)
     unfolding with_target
     target_is_so = refl
 
-    pub target_fault : (f : DeclaringFault) → IsFaultOf (lists_in features v c m.requirements m.defaults m.usage) f → IsFaultOf (with_target features v c m g) f
-    target_fault f fault = subst (λ r. IsFaultOf r f) (sym target_is_so) (fault_then (λ l. Ok (one_target_more c m l g)) (lists_in features v c m.requirements m.defaults m.usage) f fault)
+    pub target_fault : (f : DeclaringFault) → IsFaultOf (lists_in features v c m.lists) f → IsFaultOf (with_target features v c m g) f
+    target_fault f fault = subst (λ r. IsFaultOf r f) (sym target_is_so) (fault_then (λ l. Ok (one_target_more c m l g)) (lists_in features v c m.lists) f fault)
 
-    pub target_added : (l : Lists) → lists_in features v c m.requirements m.defaults m.usage ≡ Ok l → with_target features v c m g ≡ Ok (one_target_more c m l g)
-    target_added l e = target_is_so ∙ then_next (λ l. Ok (one_target_more c m l g)) (lists_in features v c m.requirements m.defaults m.usage) l e
+    pub target_added : (l : Lists) → lists_in features v c m.lists ≡ Ok l → with_target features v c m g ≡ Ok (one_target_more c m l g)
+    target_added l e = target_is_so ∙ then_next (λ l. Ok (one_target_more c m l g)) (lists_in features v c m.lists) l e
 
-    pub target_fault_at : (rs ds us : List (List ℕ)) (f : DeclaringFault) → rs ≡ m.requirements → ds ≡ m.defaults → us ≡ m.usage → IsFaultOf (lists_in features v c rs ds us) f → IsFaultOf (with_target features v c m g) f
-    target_fault_at rs ds us f r d u fault =
-        target_fault f
-        (subst (λ xs. IsFaultOf (lists_in features v c m.requirements m.defaults xs) f) u
-        (subst (λ xs. IsFaultOf (lists_in features v c m.requirements xs us) f) d (subst (λ xs. IsFaultOf (lists_in features v c xs ds us) f) r fault)))
-
--- lists of equal texts
-pub lists_at : (features : List Declared) (v : Visit) (c : Call) (rs ds us requirements defaults usage : List (List ℕ)) → rs ≡ requirements → ds ≡ defaults → us ≡ usage → lists_in features v c requirements defaults usage ≡ lists_in features v c rs ds us
-lists_at features v c rs ds us requirements defaults usage r d u =
-    sym (ap (λ xs. lists_in features v c xs ds us) r ∙ ap (λ xs. lists_in features v c requirements xs us) d ∙ ap (λ xs. lists_in features v c requirements defaults xs) u)
+    pub target_fault_at : (lists : List PropertyList) (f : DeclaringFault) → lists ≡ m.lists → IsFaultOf (lists_in features v c lists) f → IsFaultOf (with_target features v c m g) f
+    target_fault_at lists f same fault = target_fault f (subst (λ ls. IsFaultOf (lists_in features v c ls) f) same fault)
 
 -- what stands after a project got its lists and its id
 pub attributed_is : (v : Visit) (c : Call) (a : Attributes) (l : Lists) (g : Gathered) (mid new : Drawn)

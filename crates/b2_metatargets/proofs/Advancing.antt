@@ -1,6 +1,6 @@
-use Rattle.std.proofs.Common.{◌≡◌, ℕ, ◌+◌, ◌<◌, ◌≤◌, List, [], ◌∷◌, ◌++◌, Option, Some, None, Ok, Err, All, map, length, refl, sym, ◌∙◌, ap, subst, arith, append_assoc, length-append}
+use Rattle.std.proofs.Common.{◌≡◌, ℕ, ◌<◌, ◌≤◌, List, [], ◌∷◌, ◌++◌, Option, Some, None, Ok, Err, All, map, length, refl, sym, ◌∙◌, ap, subst, arith, length-append}
 use Rattle.std.specs.Prelude.{Result}
-use Rattle.std.specs.List.{filter_map, cons_option}
+use Rattle.std.specs.List.{cons_option}
 use Rattle.std.proofs.lemmas.List.{append-nil, map-append, length-map}
 use Rattle.std.proofs.lemmas.List.Elements.{All-nil, All-append, All-push, All-weaker, All-map}
 use Rattle.b2_features.specs.Table.{Declared}
@@ -16,9 +16,9 @@ use Rattle.b2_metatargets.specs.declared.visit.Call.{Call}
 use Rattle.b2_metatargets.specs.declared.place.Place.{Place}
 use Rattle.b2_metatargets.specs.declared.place.Target.{Target}
 use Rattle.b2_metatargets.specs.declared.place.IndirectRule.{IndirectRule}
-use Rattle.b2_metatargets.specs.Outcomes.{and_then, all_steps}
+use Rattle.b2_metatargets.specs.Outcomes.{and_then}
 use Rattle.b2_metatargets.specs.Calls.{visit_of}
-use Rattle.b2_metatargets.specs.Gathering.{Gathered, lists_in, numbered, rules_in, plain, with_place, attributed, with_own_id, bare, target_with, one_target_more, with_attributes, with_target, with_explicit, with_build, with_use, gathered, gathered_of, gathering, nothing_gathered, gathered_by}
+use Rattle.b2_metatargets.specs.Gathering.{Gathered, lists_in, numbered, rules_in, plain, with_place, attributed, with_own_id, bare, target_with, one_target_more, with_attributes, with_target, with_explicit, with_build, with_use, gathered_of, gathering, nothing_gathered, gathered_by}
 use Rattle.b2_metatargets.specs.Laws.{visited, main_in, mains, named, NamesBelow, AreNumbered, IsSound}
 use Rattle.b2_metatargets.proofs.Soundness.{numbered_below, usage_plain, rules_of_project, numbers_stay, length_changed, all_changed, map_changed}
 use Rattle.b2_metatargets.proofs.Stepping.{all_steps_keep, all_steps_add}
@@ -103,7 +103,7 @@ module _ (features : List Declared) (v : Visit) (projects : ℕ) (c : Call) (g t
 
   attributes_advance : (a : Attributes) → with_attributes features v c a g ≡ Ok t → Advances projects c (Some (Project a)) g t
   unfolding with_attributes rules
-  attributes_advance a e = go (lists_in features v c a.requirements a.defaults a.usage) e
+  attributes_advance a e = go (lists_in features v c a.lists) e
     where
       go : (r : Result Lists DeclaringFault) → and_then (λ l. Ok (record g { places = with_place g.places c.project (attributed (length g.indirect) l); ids = with_own_id g.ids a.id v.dir; indirect = g.indirect ++ rules_in c l.requirements })) r ≡ Ok t → Advances projects c (Some (Project a)) g t
       go (Ok l) e =
@@ -118,7 +118,7 @@ module _ (features : List Declared) (v : Visit) (projects : ℕ) (c : Call) (g t
 
   target_advances : (m : MainTarget) → with_target features v c m g ≡ Ok t → Advances projects c (Some (Main m)) g t
   unfolding with_target one_target_more
-  target_advances m e = go (lists_in features v c m.requirements m.defaults m.usage) e
+  target_advances m e = go (lists_in features v c m.lists) e
     where
       go : (r : Result Lists DeclaringFault) → and_then (λ l. Ok (one_target_more c m l g)) r ≡ Ok t → Advances projects c (Some (Main m)) g t
       go (Ok l) e =

@@ -1,7 +1,6 @@
-use Rattle.std.proofs.Common.{◌≡◌, ℕ, Bool, true, false, cond, List, Option, None, Ok, Err, map, refl, sym, ◌∙◌, ap, subst}
+use Rattle.std.proofs.Common.{◌≡◌, ℕ, true, false, cond, List, None, Ok, refl, sym, ◌∙◌, ap, subst}
 use Rattle.std.specs.Prelude.{Result}
 use Rattle.b2_features.specs.declared.fault.FeatureFault.{FeatureFault}
-use Rattle.b2_features.specs.Table.{Declared}
 use Rattle.b2_features.specs.Faults.{IsBy}
 use Rattle.b2_props.specs.Sets.{Pair}
 use Rattle.b2_generators.specs.declared.generator.Generator.{Generator as GeneratorRow}
@@ -14,7 +13,7 @@ use Rattle.b2_metatargets.specs.declared.visit.Call.{Call}
 use Rattle.b2_metatargets.specs.Outcomes.{IsFaultOf}
 use Rattle.b2_metatargets.specs.Calls.{refusal, unless, unless_fault, after_reading, at_call, IsRefusal, IsFeatureRefusal}
 use Rattle.b2_metatargets.specs.Carrying.{Tables, gcc_tables, is_gcc_refused, properties_in, with_gcc, with_parts, with_compose, with_row, with_generator}
-use Rattle.b2_metatargets.proofs.Refusing.{read_fault_then, read_then, read_then_fault, unless_refused, unrefused, unrefused_fault, faultless, faultless_fault, cause_is_fault}
+use Rattle.b2_metatargets.proofs.Refusing.{read_fault_then, read_then, read_then_fault, unless_refused, unrefused, faultless, faultless_fault, cause_is_fault}
 
 -- ---- `using gcc`
 

@@ -1,7 +1,6 @@
-use Rattle.std.proofs.Common.{◌≡◌, ℕ, Bool, true, false, cond, List, [], ◌∷◌, ◌++◌, Option, Some, None, Ok, Err, map, fold, refl, sym, ◌∙◌, ap, ap₂, subst, append_assoc}
+use Rattle.std.proofs.Common.{◌≡◌, ℕ, Bool, true, false, cond, ◌||◌, List, [], ◌∷◌, ◌++◌, Option, Some, None, Ok, Err, fold, refl, sym, ◌∙◌, ap, ap₂, subst, append_assoc}
 use Rattle.std.specs.Prelude.{Result, slice_set}
 use Rattle.std.proofs.lemmas.List.{append-nil, map-append}
-use Rattle.std.specs.Str.{bytes_eq}
 use Rattle.b2_features.specs.declared.fault.FeatureFault.{FeatureFault}
 use Rattle.b2_features.specs.Table.{Declared, declared, composed, is_named, with_parts as with_more_parts}
 use Rattle.b2_features.specs.Faults.{feature_fault, compose_fault}
@@ -9,17 +8,18 @@ use Rattle.b2_props.specs.Sets.{Pair}
 use Rattle.b2_generators.specs.declared.generator.Generator.{Generator as GeneratorRow}
 use Rattle.b2_generators.specs.Table.{is_type_taken, is_generator_refused}
 use Rattle.b2_gcc.specs.Tables.{Composite, features, composites}
-use Rattle.b2_gcc.specs.Calls.{with_composite, with_toolset, toolset_fault, with_types, with_generators}
+use Rattle.b2_gcc.specs.Calls.{with_composite, toolset_fault, with_types, with_generators}
 use Rattle.b2_texts.specs.Clashes.{has_two_values}
 use Rattle.b2_texts.specs.Readings.{property_reading}
 use Rattle.b2_declarations.specs.declared.declaration.Declaration.{Declaration}
 use Rattle.b2_declarations.specs.declared.declaration.Declaration.TheVariants.{Project, Main, Explicit, BuildProject, UseProject, Using, Feature, Compose, FileType, Generator, Import}
+use Rattle.b2_declarations.specs.Declarations.{is_refused}
 use Rattle.b2_metatargets.specs.declared.fault.DeclaringFault.{DeclaringFault}
 use Rattle.b2_metatargets.specs.declared.visit.Visit.{Visit}
 use Rattle.b2_metatargets.specs.declared.visit.Call.{Call}
 use Rattle.b2_metatargets.specs.Outcomes.{and_then, all_steps}
 use Rattle.b2_metatargets.specs.Calls.{visit_of, unless, unless_fault, after_reading}
-use Rattle.b2_metatargets.specs.Carrying.{Tables, with_features, with_registered, has_begun, gcc_tables, is_gcc_refused, with_project, with_gcc, with_feature, with_parts, with_compose, with_type, with_row, with_generator, with_declaration, carried_out, carrying, no_tables, tables_of, properties_in}
+use Rattle.b2_metatargets.specs.Carrying.{Tables, with_features, with_registered, has_begun, gcc_tables, is_gcc_refused, with_project, with_gcc, with_feature, with_parts, with_compose, with_type, with_row, with_generator, with_declaration, with_accepted, carried_out, carrying, no_tables, tables_of, properties_in}
 use Rattle.b2_metatargets.specs.Laws.{names, features_in, has_gcc_after, feature_names}
 
 -- ---- composing leaves the names
@@ -120,20 +120,24 @@ module _ (v : Visit) (c : Call) (s t : Tables) where
       unrefused v c (has_two_values s.features ps) (with_row v c row s) t e (λ e.
       unrefused v c (is_generator_refused s.registered row) (Ok made) t e (λ is. let same : made ≡ t = cc in (ap (λ (u : Tables). u.features) (sym same), ap (λ (u : Tables). u.has_gcc) (sym same)))))
 
-  names_step : (o : Option Declaration) → carried_out v c o s ≡ Ok t → Names o s t
-  names_step None e = cc
-  names_step (Some (Project a)) e = let p = names_project e in leaves (Some (Project a)) refl refl (ap names p.0) p.1
-  names_step (Some (Main m)) e = let same : s ≡ t = cc in leaves (Some (Main m)) refl refl (ap (λ (u : Tables). names u.features) (sym same)) (ap (λ (u : Tables). u.has_gcc) (sym same))
-  names_step (Some (Explicit names')) e = let same : s ≡ t = cc in leaves (Some (Explicit names')) refl refl (ap (λ (u : Tables). names u.features) (sym same)) (ap (λ (u : Tables). u.has_gcc) (sym same))
-  names_step (Some (BuildProject dir)) e = let same : s ≡ t = cc in leaves (Some (BuildProject dir)) refl refl (ap (λ (u : Tables). names u.features) (sym same)) (ap (λ (u : Tables). u.has_gcc) (sym same))
-  names_step (Some (UseProject id dir)) e = let same : s ≡ t = cc in leaves (Some (UseProject id dir)) refl refl (ap (λ (u : Tables). names u.features) (sym same)) (ap (λ (u : Tables). u.has_gcc) (sym same))
-  names_step (Some (Using command)) e = names_gcc command e
-  names_step (Some (Feature name values attributes)) e = names_feature name values attributes e
-  names_step (Some (Compose property parts)) e = let p = names_compose property parts e in leaves (Some (Compose property parts)) refl refl p.0 p.1
-  names_step (Some (FileType name suffixes)) e = let p = names_type name suffixes e in leaves (Some (FileType name suffixes)) refl refl (ap names p.0) p.1
-  names_step (Some (Generator id sources targets requirements)) e =
+  names_declared : (d : Declaration) → with_declaration v c d s ≡ Ok t → Names (Some d) s t
+  names_declared (Project a) e = let p = names_project e in leaves (Some (Project a)) refl refl (ap names p.0) p.1
+  names_declared (Main m) e = let same : s ≡ t = cc in leaves (Some (Main m)) refl refl (ap (λ (u : Tables). names u.features) (sym same)) (ap (λ (u : Tables). u.has_gcc) (sym same))
+  names_declared (Explicit names') e = let same : s ≡ t = cc in leaves (Some (Explicit names')) refl refl (ap (λ (u : Tables). names u.features) (sym same)) (ap (λ (u : Tables). u.has_gcc) (sym same))
+  names_declared (BuildProject dir) e = let same : s ≡ t = cc in leaves (Some (BuildProject dir)) refl refl (ap (λ (u : Tables). names u.features) (sym same)) (ap (λ (u : Tables). u.has_gcc) (sym same))
+  names_declared (UseProject id dir) e = let same : s ≡ t = cc in leaves (Some (UseProject id dir)) refl refl (ap (λ (u : Tables). names u.features) (sym same)) (ap (λ (u : Tables). u.has_gcc) (sym same))
+  names_declared (Using command) e = names_gcc command e
+  names_declared (Feature name values attributes) e = names_feature name values attributes e
+  names_declared (Compose property parts) e = let p = names_compose property parts e in leaves (Some (Compose property parts)) refl refl p.0 p.1
+  names_declared (FileType name suffixes) e = let p = names_type name suffixes e in leaves (Some (FileType name suffixes)) refl refl (ap names p.0) p.1
+  names_declared (Generator id sources targets requirements) e =
       let p = names_generator id sources targets requirements e in leaves (Some (Generator id sources targets requirements)) refl refl (ap names p.0) p.1
-  names_step (Some Import) e = let same : s ≡ t = cc in leaves (Some Import) refl refl (ap (λ (u : Tables). names u.features) (sym same)) (ap (λ (u : Tables). u.has_gcc) (sym same))
+  names_declared Import e = let same : s ≡ t = cc in leaves (Some Import) refl refl (ap (λ (u : Tables). names u.features) (sym same)) (ap (λ (u : Tables). u.has_gcc) (sym same))
+
+  names_step : (o : Option Declaration) → carried_out v c o s ≡ Ok t → Names o s t
+  unfolding with_accepted
+  names_step None e = cc
+  names_step (Some d) e = unrefused v c (c.refused || is_refused d) (with_declaration v c d s) t e (names_declared d)
 
 -- ---- all calls
 

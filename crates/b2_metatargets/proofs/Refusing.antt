@@ -1,4 +1,4 @@
-use Rattle.std.proofs.Common.{◌≡◌, Bool, true, false, Option, Some, None, Ok, Err, sym, ◌∙◌, ap, subst}
+use Rattle.std.proofs.Common.{◌≡◌, Bool, true, false, Option, None, Ok, Err, sym, ◌∙◌, ap, subst}
 use Rattle.std.specs.Prelude.{Result}
 use Rattle.b2_features.specs.declared.fault.FeatureFault.{FeatureFault}
 use Rattle.b2_features.specs.declared.fault.FeatureFault.TheVariants.{Twice, Unknown, BadValue, ComposeConflict, OutOfMemory}

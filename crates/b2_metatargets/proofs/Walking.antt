@@ -1,4 +1,4 @@
-use Rattle.std.proofs.Common.{◌≡◌, ℕ, ◌+◌, ◌<◌, List, Ok, take, get_or, length, ◌∙◌, ap, subst}
+use Rattle.std.proofs.Common.{◌≡◌, ℕ, ◌+◌, ◌<◌, List, Ok, take, get_or, length, subst}
 use Rattle.b2_features.specs.Table.{Declared}
 use Rattle.b2_metatargets.specs.declared.fault.DeclaringFault.{DeclaringFault}
 use Rattle.b2_metatargets.specs.declared.visit.Visit.{Visit}

@@ -1,5 +1,5 @@
 -- The declaring calls of a load, and how one of them is refused.
-use Rattle.std.specs.Prelude.{◌≡◌, ℕ, Bool, List, [], ◌∷◌, Option, Some, None, Result, Ok, Err, slice_get, unwrap_or, if◌then◌else◌}
+use Rattle.std.specs.Prelude.{◌≡◌, Bool, List, [], Option, Some, None, Result, Ok, Err, slice_get, unwrap_or, if◌then◌else◌}
 use Rattle.b2_features.specs.declared.fault.FeatureFault.{FeatureFault}
 use Rattle.b2_features.specs.declared.fault.FeatureFault.TheVariants as features
 use Rattle.b2_metatargets.specs.declared.visit.Visit.{Visit}

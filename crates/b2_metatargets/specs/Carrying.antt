@@ -1,5 +1,5 @@
 -- What the declaring calls of a load make of the tables of features, types and generators, one call after another.
-use Rattle.std.specs.Prelude.{◌≡◌, ℕ, Bool, true, false, ◌||◌, List, [], ◌∷◌, ◌++◌, Option, Some, None, Result, Ok, Err, map, length, replicate, slice_set, slice_get, unwrap_or, if◌then◌else◌}
+use Rattle.std.specs.Prelude.{ℕ, Bool, true, false, ◌||◌, List, [], ◌∷◌, ◌++◌, Option, Some, None, Result, Ok, Err, map, length, replicate, slice_set, slice_get, unwrap_or, if◌then◌else◌}
 use Rattle.b2_features.specs.declared.fault.FeatureFault.{FeatureFault}
 use Rattle.b2_features.specs.Table.{Declared, declared, composed}
 use Rattle.b2_features.specs.Faults.{feature_fault, compose_fault}
@@ -12,6 +12,7 @@ use Rattle.b2_texts.specs.Clashes.{has_two_values}
 use Rattle.b2_texts.specs.Readings.{property_reading, all_read}
 use Rattle.b2_declarations.specs.declared.declaration.Declaration.{Declaration}
 use Rattle.b2_declarations.specs.declared.declaration.Declaration.TheVariants.{Project, Main, Explicit, BuildProject, UseProject, Using, Feature, Compose, FileType, Generator, Import}
+use Rattle.b2_declarations.specs.Declarations.{is_refused}
 use Rattle.b2_metatargets.specs.declared.fault.DeclaringFault.{DeclaringFault}
 use Rattle.b2_metatargets.specs.declared.visit.Visit.{Visit}
 use Rattle.b2_metatargets.specs.declared.visit.Call.{Call}
@@ -104,14 +105,22 @@ with_declaration v c (FileType name suffixes) t = with_type v c name suffixes t
 with_declaration v c (Generator id sources targets requirements) t = with_generator v c id sources targets requirements t
 with_declaration v c Import t = Ok t
 
+-- a declaration carried out, unless its output roots or its name is refused
+unfoldable pub with_accepted : Visit → Call → Declaration → Tables → Result Tables DeclaringFault
+with_accepted v c d t = unless v c (c.refused || is_refused d) (with_declaration v c d t)
+
 -- a call carried out: one whose lists have another shape than its rule asks for is refused
 abbrev pub carried_out : Visit → Call → Option Declaration → Tables → Result Tables DeclaringFault
 carried_out v c None t = Err (refusal v c)
-carried_out v c (Some d) t = with_declaration v c d t
+carried_out v c (Some d) t = with_accepted v c d t
+
+-- tables of some projects with nothing in them
+abbrev pub fresh_tables : ℕ → Tables
+fresh_tables projects = record { features = []; registered = record { types = []; generators = [] }; has_gcc = false; begun = replicate projects false }
 
 -- no tables
 abbrev pub no_tables : List Visit → Tables
-no_tables visits = record { features = []; registered = record { types = []; generators = [] }; has_gcc = false; begun = replicate (length visits) false }
+no_tables visits = fresh_tables (length visits)
 
 -- the step of a call among the projects of a load
 abbrev pub carrying : List Visit → Tables → Call → Result Tables DeclaringFault

@@ -1,6 +1,6 @@
 -- What the declaring calls of a load make of its projects and main targets, one call after another.
-use Rattle.std.specs.Prelude.{◌≡◌, ℕ, ◌+◌, Bool, List, [], ◌∷◌, ◌++◌, Option, Some, None, is_some, option_map, Result, Ok, Err, map, length, slice_get, slice_set, if◌then◌else◌}
-use Rattle.std.specs.List.{filter_map}
+use Rattle.std.specs.Prelude.{ℕ, ◌+◌, Bool, true, false, not, ◌&&◌, List, [], ◌∷◌, ◌++◌, Option, Some, None, is_some, Result, Ok, map, length, slice_get, slice_set, if◌then◌else◌}
+use Rattle.std.specs.List.{filter_map, list_all}
 use Rattle.std.specs.Option.{option_map_or}
 use Rattle.std.specs.Map.{lookup}
 use Rattle.std.specs.Str.{bytes_eq}
@@ -18,7 +18,10 @@ use Rattle.b2_texts.specs.Readings.{usage_reading, requirement_reading, all_read
 use Rattle.b2_declarations.specs.declared.declaration.Declaration.{Declaration}
 use Rattle.b2_declarations.specs.declared.declaration.Declaration.TheVariants.{Project, Main, Explicit, BuildProject, UseProject}
 use Rattle.b2_declarations.specs.declared.declaration.Attributes.{Attributes}
+use Rattle.b2_declarations.specs.declared.declaration.ListName.{ListName}
+use Rattle.b2_declarations.specs.declared.declaration.ListName.TheVariants.{Requirements, DefaultBuild, Usage}
 use Rattle.b2_declarations.specs.declared.declaration.MainTarget.{MainTarget}
+use Rattle.b2_declarations.specs.declared.declaration.PropertyList.{PropertyList}
 use Rattle.b2_metatargets.specs.declared.fault.DeclaringFault.{DeclaringFault}
 use Rattle.b2_metatargets.specs.declared.visit.Visit.{Visit}
 use Rattle.b2_metatargets.specs.declared.visit.Call.{Call}
@@ -32,24 +35,56 @@ use Rattle.b2_metatargets.specs.Carrying.{properties_in}
 
 -- ---- the property lists of a project or a main target
 
--- a list of requirements, which gives no feature that is not free two values without conditions
-unfoldable pub requirements_in : List Declared → Visit → Call → List (List ℕ) → Result (List RequirementText) DeclaringFault
-requirements_in features v c texts =
-    after_reading v c (all_read (map (requirement_reading features v.dir) texts)) (λ rs.
-    unless v c (has_two_values features (unconditional_pairs rs)) (Ok rs))
+-- the requirements of some texts, or the first fault
+abbrev pub requirements_in : List Declared → Visit → List (List ℕ) → Result (List RequirementText) FeatureFault
+requirements_in features v texts = all_read (map (requirement_reading features v.dir) texts)
 
--- usage requirements, which no rule answers
+-- the usage requirements of some texts, which no rule answers, or the first fault
 abbrev pub usages_in : List Declared → Visit → List (List ℕ) → Result (List Conditional) FeatureFault
 usages_in features v texts = all_read (map (usage_reading features v.dir) texts)
 
--- the lists, read in order: requirements, default properties, usage requirements
-unfoldable pub lists_in : List Declared → Visit → Call → List (List ℕ) → List (List ℕ) → List (List ℕ) → Result Lists DeclaringFault
-lists_in features v c requirements defaults usage =
-    and_then (λ rs.
-    after_reading v c (properties_in features v defaults) (λ ds.
-    after_reading v c (usages_in features v usage) (λ us.
-    Ok (record { requirements = rs; defaults = ds; usage = us }))))
-    (requirements_in features v c requirements)
+abbrev pub no_lists : Lists
+no_lists = record { requirements = []; defaults = []; usage = [] }
+
+-- what the lists so far say, with the texts of one more
+unfoldable pub with_texts : List Declared → Visit → Call → ListName → List (List ℕ) → Lists → Result Lists DeclaringFault
+with_texts features v c Requirements texts l = after_reading v c (requirements_in features v texts) (λ rs. Ok (record l { requirements = l.requirements ++ rs }))
+with_texts features v c DefaultBuild texts l = after_reading v c (properties_in features v texts) (λ ds. Ok (record l { defaults = l.defaults ++ ds }))
+with_texts features v c Usage texts l = after_reading v c (usages_in features v texts) (λ us. Ok (record l { usage = l.usage ++ us }))
+
+abbrev pub is_of_requirements : PropertyList → Bool
+is_of_requirements list = is_name list.name
+  where
+    is_name : ListName → Bool
+    is_name Requirements = true
+    is_name DefaultBuild = false
+    is_name Usage = false
+
+-- whether no list is one of requirements
+abbrev pub are_others : List PropertyList → Bool
+are_others lists = list_all (λ list. not (is_of_requirements list)) lists
+
+-- whether a list is the last one of requirements, where others stand after it
+abbrev pub is_last : PropertyList → List PropertyList → Bool
+is_last list more = is_of_requirements list && are_others more
+
+-- whether the requirements give a feature that is not free two values without conditions, where the last list of them was
+-- read
+abbrev pub has_clash : List Declared → PropertyList → List PropertyList → Lists → Bool
+has_clash features list more l = is_last list more && has_two_values features (unconditional_pairs l.requirements)
+
+-- one more list, where others stand after it
+unfoldable pub with_list : List Declared → Visit → Call → PropertyList → List PropertyList → Lists → Result Lists DeclaringFault
+with_list features v c list more l = and_then (λ next. unless v c (has_clash features list more next) (Ok next)) (with_texts features v c list.name list.texts l)
+
+-- further lists, read in order
+abbrev pub with_lists : List Declared → Visit → Call → Lists → List PropertyList → Result Lists DeclaringFault
+with_lists features v c l [] = Ok l
+with_lists features v c l (list ∷ more) = and_then (λ next. with_lists features v c next more) (with_list features v c list more l)
+
+-- all property lists of a call
+unfoldable pub lists_in : List Declared → Visit → Call → List PropertyList → Result Lists DeclaringFault
+lists_in features v c lists = with_lists features v c no_lists lists
 
 -- ---- indirect requirements
 
@@ -116,7 +151,7 @@ with_attributes features v c a g =
       ids = with_own_id g.ids a.id v.dir;
       indirect = g.indirect ++ rules_in c l.requirements;
     }))
-    (lists_in features v c a.requirements a.defaults a.usage)
+    (lists_in features v c a.lists)
 
 -- a main target of a call, with what its lists say
 abbrev pub target_with : Call → MainTarget → List Requirement → List Requirement → List Pair → Target
@@ -141,7 +176,7 @@ one_target_more c m l g = record g {
 
 -- a main target: its lists are read
 unfoldable pub with_target : List Declared → Visit → Call → MainTarget → Gathered → Result Gathered DeclaringFault
-with_target features v c m g = and_then (λ l. Ok (one_target_more c m l g)) (lists_in features v c m.requirements m.defaults m.usage)
+with_target features v c m g = and_then (λ l. Ok (one_target_more c m l g)) (lists_in features v c m.lists)
 
 -- `explicit`: names that a request of the project does not stand for
 abbrev pub with_explicit : Call → List (List ℕ) → Gathered → Gathered

@@ -1,7 +1,7 @@
 -- Steps that may be refused.
 use Rattle.std.specs.Prelude.{◌≡◌, List, [], ◌∷◌, Result, Ok, Err}
 use Rattle.b2_metatargets.specs.declared.fault.DeclaringFault.{DeclaringFault}
-use Rattle.b2_metatargets.specs.declared.fault.DeclaringFault.TheVariants.{Declaration, Feature, OutOfMemory}
+use Rattle.b2_metatargets.specs.declared.fault.DeclaringFault.TheVariants.{OutOfMemory}
 
 -- what follows from a value, unless there is a fault
 abbrev pub and_then : {X Y : Type 0} → (X → Result Y DeclaringFault) → Result X DeclaringFault → Result Y DeclaringFault

@@ -161,9 +161,7 @@ impl Gathered {
             registry,
             visit,
             call,
-            attributes.requirements.as_slice(),
-            attributes.defaults.as_slice(),
-            attributes.usage.as_slice(),
+            attributes.lists.as_slice(),
         )?;
         self.attribute(call, lists)?;
         self.add_own_id(visit, &attributes.id)?;
@@ -197,15 +195,7 @@ impl Gathered {
         ensures fault { IfErr result (IsFaultOf (with_target registry.now visit.now call.now main.now (brought self.old))) }
         ensures projects { self.new.places ≡ self.old.places }
     {
-        let lists = read_lists(
-            self.alloc,
-            registry,
-            visit,
-            call,
-            main.requirements.as_slice(),
-            main.defaults.as_slice(),
-            main.usage.as_slice(),
-        )?;
+        let lists = read_lists(self.alloc, registry, visit, call, main.lists.as_slice())?;
         self.push_target(call, main, lists)?;
         Ok(())
     }

@@ -13,13 +13,14 @@ use b2_base::list::List;
 use std::alloc::Global;
 
 /// What the declaring calls of a load make of it. First the calls are carried out in order of recording. Each has the shape
-/// of its rule. A second `project` call of one project is refused, a second `using gcc` does nothing. The property texts of
-/// `feature.compose` and `generators.register-standard` are read in the tables so far.
+/// of its rule, and neither its output roots nor its main target's name is refused. A second `project` call of one project
+/// is refused, a second `using gcc` does nothing. The property texts of `feature.compose` and
+/// `generators.register-standard` are read in the tables so far.
 ///
 /// Then the other property texts are read in order of recording, in the table of all features and the directory of the
-/// project: of each call its requirements, its default properties, and its usage requirements. A list of requirements that
-/// gives a feature that is not free two values without conditions is refused once it was read. The ids, the directories
-/// of `build-project` and the names of `explicit` are those of the calls in order.
+/// project: of each call its property lists in their order. Requirements that give a feature that is not free two values
+/// without conditions are refused once the last list of them in the call was read. The ids, the directories of
+/// `build-project` and the names of `explicit` are those of the calls in order.
 ///
 /// The fault is that of the first call that is refused.
 pub fn declared(alloc: Global, visits: &[Visit], calls: &[Call]) -> Result<Declared, DeclaringFault>

@@ -1,9 +1,10 @@
 //! The tables of features, types and generators, filled call by call.
 ghost use Rattle.std.specs.Prelude.{◌≡◌, ◌<◌, ◌||◌, true, false, Ok, [], All, length, replicate, is_ok, IfOk, IfErr, OnOk};
+ghost use Rattle.b2_declarations.specs.Declarations.{is_refused};
 ghost use Rattle.b2_gcc.specs.Tables.{file_types, generators};
 ghost use Rattle.b2_gcc.specs.Calls.{with_types, with_generators};
 ghost use Rattle.b2_metatargets.specs.Outcomes.{IsFaultOf};
-ghost use Rattle.b2_metatargets.specs.Carrying.{is_gcc_refused, with_project, with_gcc, with_feature, with_parts, with_compose, with_type, with_row, with_generator, with_declaration, carried_out, no_tables, tables_of};
+ghost use Rattle.b2_metatargets.specs.Carrying.{is_gcc_refused, with_project, with_gcc, with_feature, with_parts, with_compose, with_type, with_row, with_generator, with_declaration, with_accepted, carried_out, fresh_tables, no_tables, tables_of};
 ghost use Rattle.b2_metatargets.specs.Views.{seen};
 
 use crate::fault::{DeclaringFault, feature_refusal, refusal};
@@ -13,6 +14,7 @@ use crate::visit::{Call, Visit, visit_of};
 use b2_base::fault::OutOfMemory;
 use b2_base::text::Text;
 use b2_declarations::declaration::Declaration;
+use b2_declarations::reading::is_refused;
 use b2_features::registry::Registry;
 use b2_gcc::features::declare_features;
 use b2_gcc::types::{declare_generators, declare_types};
@@ -65,9 +67,23 @@ fn generator_of(
     })
 }
 
+/// Whether a call is refused for its output roots, or for a name.
+fn is_refused_call(
+    alloc: Global,
+    call: &Call,
+    declaration: &Declaration,
+) -> Result<bool, OutOfMemory>
+    ensures { IfOk result (λ refused. refused ≡ (call.now.refused || is_refused declaration.now)) }
+{
+    if call.refused {
+        return Ok(true);
+    }
+    is_refused(alloc, declaration)
+}
+
 impl Tables {
     fn new(alloc: Global, projects: usize) -> Result<Tables, OutOfMemory>
-        ensures { IfOk result (λ made. seen made ≡ record { features = []; registered = record { types = []; generators = [] }; has_gcc = false; begun = replicate projects false }) }
+        ensures { IfOk result (λ made. seen made ≡ fresh_tables projects) }
     {
         Ok(Tables {
             alloc,
@@ -269,6 +285,25 @@ impl Tables {
         }
     }
 
+    /// Carries out a declaration, unless it is refused.
+    #[tactic(auto, unfolding(crate::specs::Carrying::with_accepted))]
+    fn declare_accepted(
+        &mut self,
+        visit: &Visit,
+        call: &Call,
+        declaration: &Declaration,
+    ) -> Result<(), DeclaringFault>
+        requires { call.now.project < length self.old.begun.items }
+        ensures ok { OnOk result (with_accepted visit.now call.now declaration.now (seen self.old) ≡ Ok (seen self.new)) }
+        ensures fault { IfErr result (IsFaultOf (with_accepted visit.now call.now declaration.now (seen self.old))) }
+        ensures projects { length self.new.begun.items ≡ length self.old.begun.items }
+    {
+        if is_refused_call(self.alloc, call, declaration)? {
+            return Err(refusal(visit, call));
+        }
+        self.declare(visit, call, declaration)
+    }
+
     fn carry_out(&mut self, visit: &Visit, call: &Call) -> Result<(), DeclaringFault>
         requires { call.now.project < length self.old.begun.items }
         ensures ok { OnOk result (carried_out visit.now call.now call.now.declaration (seen self.old) ≡ Ok (seen self.new)) }
@@ -277,7 +312,7 @@ impl Tables {
     {
         match &call.declaration {
             None => Err(refusal(visit, call)),
-            Some(declaration) => self.declare(visit, call, declaration),
+            Some(declaration) => self.declare_accepted(visit, call, declaration),
         }
     }
 }
@@ -300,9 +335,10 @@ pub(crate) fn tables_of(
 }
 
 /// Whether the calls of a load can be carried out in order of recording, before the property texts of projects and main
-/// targets are read. The fault is that of the first call that is refused: one that has not the shape of its rule, a second
-/// `project` call of one project, a feature, a type or a generator that is refused, or a property text of `feature.compose`
-/// or `generators.register-standard`, which is read in the tables so far.
+/// targets are read. The fault is that of the first call that is refused: one that has not the shape of its rule, whose
+/// output roots or whose main target's name is refused, a second `project` call of one project, a feature, a type or a
+/// generator that is refused, or a property text of `feature.compose` or `generators.register-standard`, which is read in
+/// the tables so far.
 pub fn carry_out(alloc: Global, visits: &[Visit], calls: &[Call]) -> Result<(), DeclaringFault>
     requires { All (λ call. call.project < length visits.now) calls.now }
     ensures ok { OnOk result (is_ok (tables_of visits.now calls.now) ≡ true) }

@@ -16,14 +16,16 @@ pub struct Visit {
     pub parent: Option<usize>,
 }
 
-/// A recorded call of a declaring rule: the place of the project whose file made it, the rule, the line, and what it
-/// declares; nothing where the lists of the call have another shape than those of the rule.
+/// A recorded call of a declaring rule: the place of the project whose file made it, the rule, the line, what it declares
+/// (nothing where the lists of the call have another shape than those of the rule), and whether the output roots that it
+/// names were refused when it ran.
 #[derive(Drop)]
 pub struct Call {
     pub project: usize,
     pub rule: Text,
     pub line: u32,
     pub declaration: Option<Declaration>,
+    pub refused: bool,
 }
 
 /// The project of a call; takes no memory.
