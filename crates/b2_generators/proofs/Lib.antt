@@ -10,3 +10,4 @@ pub mod Meeting
 pub mod Stocking
 pub mod Lowest
 pub mod Finding
+pub mod Registering

@@ -1,5 +1,5 @@
-use Rattle.std.specs.Prelude.{ℕ, ◌==◌, Bool, false, not, ◌||◌, List, [], ◌∷◌, Option, None, Some, find, option_map, is_some, unwrap_or, slice_get, codes, if◌then◌else◌}
-use Rattle.std.specs.List.{list_any, list_all, after_last}
+use Rattle.std.specs.Prelude.{◌≡◌, ℕ, ◌==◌, Bool, false, not, ◌||◌, List, [], ◌∷◌, Option, None, Some, find, option_map, is_some, unwrap_or, slice_get, codes, if◌then◌else◌}
+use Rattle.std.specs.List.{AllPairs, list_any, list_all, after_last}
 use Rattle.std.specs.Option.{option_and_then}
 use Rattle.std.specs.Str.{bytes_eq}
 use Rattle.b2_generators.specs.declared.generator.Generator.{Generator}
@@ -68,3 +68,7 @@ generator_named generators id = find (λ g. bytes_eq id g.id) generators
 -- whether a generator cannot be registered: its id is there, or one of its types is not
 abbrev pub is_generator_refused : Registered → Generator → Bool
 is_generator_refused registered g = is_some (generator_named registered.generators g.id) || not (list_all (is_type registered.types) g.sources) || not (list_all (is_type registered.types) g.targets)
+
+-- no two generators have one id
+abbrev pub HaveDistinctIds : List Generator → Type 0
+HaveDistinctIds generators = AllPairs (λ g h. bytes_eq g.id h.id ≡ false) generators

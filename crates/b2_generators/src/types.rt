@@ -1,9 +1,9 @@
 //! The types of files and the generators.
-ghost use Rattle.std.specs.Prelude.{◌≡◌, ◌||◌, [], ◌∷◌, ◌++◌, true, false, not, is_some, Ok, OnErr};
+ghost use Rattle.std.specs.Prelude.{◌≡◌, ◌||◌, [], ◌∷◌, ◌++◌, true, false, not, is_some, Ok, OnErr, IfSome};
 ghost use Rattle.std.specs.List.{list_all};
 ghost use Rattle.std.specs.Option.{option_copied};
 ghost use Rattle.b2_base.specs.Bytes.{HasNoZero};
-ghost use Rattle.b2_generators.specs.Table.{is_type, is_type_taken, is_generator_refused, type_of, first_suffix, generator_named};
+ghost use Rattle.b2_generators.specs.Table.{is_type, is_type_taken, is_generator_refused, type_of, first_suffix, generator_named, HaveDistinctIds};
 
 use crate::generator::Generator;
 use crate::generator_table::GeneratorTable;
@@ -25,10 +25,13 @@ pub struct Types {
 
 impl Model for Types {
     ghost use Rattle.b2_generators.specs.Table.{Registered};
+    ghost use Rattle.b2_generators.specs.Index.{AreRegistered};
 
     ghost Value = { Registered };
 
     ghost view = { λ t. record { types = t.types; generators = t.generators } };
+
+    ghost invariant = { λ t. AreRegistered t.types t.generators };
 }
 
 impl Types {
@@ -94,7 +97,8 @@ impl Types {
     /// The type of a path: that of its last suffix, which is what stands after the last dot of the file's name; else
     /// `FILE`. Takes no memory.
     pub fn type_of(&self, path: &Path) -> &str
-        ensures { result.now ≡ type_of self.now.types path.now }
+        ensures name { result.now ≡ type_of self.now.types path.now }
+        ensures no_zero { HasNoZero result.now }
     {
         match suffix_of_path(path.as_str()) {
             None => "FILE",
@@ -109,9 +113,17 @@ impl Types {
         self.generators.find(id)
     }
 
+    /// No two generators have one id.
+    pub fn ids_are_distinct(&self)
+        ensures { HaveDistinctIds self.now.generators }
+    {
+        let _ = &self.generators;
+    }
+
     /// The first suffix of a type, where there is the type and it has one; takes no memory.
     pub fn suffix_of(&self, name: &str) -> Option<&str>
-        ensures { option_copied result ≡ first_suffix self.now.types name.now }
+        ensures suffix { option_copied result ≡ first_suffix self.now.types name.now }
+        ensures no_zero { IfSome (option_copied result) HasNoZero }
     {
         let suffix = self.types.suffixes_of(name)?.as_slice().first()?;
         Some(suffix.as_str())
