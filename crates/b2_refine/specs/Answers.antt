@@ -17,13 +17,13 @@ pub record Rises (before after : ℕ) : Type 0 where
   pub kept : before ≤ after
   pub more : before < 18446744073709551615 → before < after
 
--- a count of faults of the host rises where a call's fault is one of the host
-abbrev pub RisesIf : Bool → ℕ → ℕ → Type 0
-RisesIf true before after = Rises before after
-RisesIf false before after = after ≡ before
+-- A count of faults of the host before and after a call: it rises where the call's fault is one of the host, and stays with
+-- every other answer; nothing is said of out of memory, which may stand in place of any fault.
+abbrev pub CountsFault : (is_host is_memory : Bool) → ℕ → ℕ → Type 0
+CountsFault true is_memory before after = Rises before after
+CountsFault false true before after = Unit {0}
+CountsFault false false before after = after ≡ before
 
--- a count of faults of the host before and after a call: it rises where the call's fault is one of the host, and stays with
--- every other answer
-abbrev pub IsCounted : {F T : Type 0} → (F → Bool) → ℕ → ℕ → Result T F → Type 0
-IsCounted is_host before after (Ok value) = after ≡ before
-IsCounted is_host before after (Err fault) = RisesIf (is_host fault) before after
+abbrev pub IsCounted : {F T : Type 0} → (F → Bool) → (F → Bool) → ℕ → ℕ → Result T F → Type 0
+IsCounted is_host is_memory before after (Ok value) = after ≡ before
+IsCounted is_host is_memory before after (Err fault) = CountsFault (is_host fault) (is_memory fault) before after

@@ -20,11 +20,11 @@ IsOutcome is_host is_memory outcome (Err OutOfMemory) = Unit {0}
 
 -- a call leaves what those who answer mean, counts a fault of the host where it answers with one, and promises of a fault
 -- what they promise
-pub record LeavesAsker {S F K T : Type 0} (rules : S → ℕ) (answer : S → Option (Answer F)) (kept : S → K) (faults : S → ℕ) (is_host : F → Bool) (CanFault : K → F → Type 0) (old new : S) (result : Result T (RefineFault F)) : Type 0 where
+pub record LeavesAsker {S F K T : Type 0} (rules : S → ℕ) (answer : S → Option (Answer F)) (kept : S → K) (faults : S → ℕ) (is_host is_memory : F → Bool) (CanFault : K → F → Type 0) (old new : S) (result : Result T (RefineFault F)) : Type 0 where
   pub same_rules : rules new ≡ rules old
   pub same_answer : answer new ≡ answer old
   pub same_kept : kept new ≡ kept old
-  pub counted : IsCounted (is_asked is_host) (faults old) (faults new) result
+  pub counted : IsCounted (is_asked is_host) (is_asked is_memory) (faults old) (faults new) result
   pub known : IfErr result (IsKnownFault (CanFault (kept old)))
 
 -- whether a requirement with these conditions and no rule gives its property in a round: it has conditions, and they are met

@@ -41,7 +41,7 @@ pub trait Ask {
         ensures told { (told : Answer Self.Fault) → answer self.old ≡ Some told → IfOk result (λ pairs. told rule set.now ≡ Ok pairs) }
         ensures told_fault { (told : Answer Self.Fault) → answer self.old ≡ Some told → IfErr result (λ fault. is_host_fault fault ≡ false → is_out_of_memory fault ≡ false → told rule set.now ≡ Err fault) }
         ensures known { IfErr result (CanFault (kept self.old)) }
-        ensures counted { IsCounted is_host_fault (faults self.old) (faults self.new) result }
+        ensures counted { IsCounted is_host_fault is_out_of_memory (faults self.old) (faults self.new) result }
         ensures rules { rules self.new ≡ rules self.old }
         ensures answer { answer self.new ≡ answer self.old }
         ensures kept { kept self.new ≡ kept self.old };

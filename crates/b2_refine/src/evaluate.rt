@@ -90,7 +90,7 @@ fn next_set<A: Ask>(
     requires rules { All (AsksBelow (A.rules ask.old)) required.now }
     ensures told { (told : Answer A.Fault) → A.answer ask.old ≡ Some told → IsOutcome A.is_host_fault A.is_out_of_memory (next_set told registry.now base.now required.now set.now) result }
     ensures stable { IfErr result IsNotUnstable }
-    ensures leaves { LeavesAsker A.rules A.answer A.kept A.faults A.is_host_fault A.CanFault ask.old ask.new result }
+    ensures leaves { LeavesAsker A.rules A.answer A.kept A.faults A.is_host_fault A.is_out_of_memory A.CanFault ask.old ask.new result }
     ensures set { IfOk result (λ made. IsSet registry.now made) }
 {
     let pairs = given(alloc, set, required, ask)?;
@@ -124,7 +124,7 @@ fn last_two<A: Ask>(
     ensures asked { (told : Answer A.Fault) → A.answer ask.old ≡ Some told → IfErr result (IsAskedBy A.is_host_fault A.is_out_of_memory told registry.now request.now required.now) }
     ensures stable { IfErr result IsNotUnstable }
     ensures set { IfOk result (λ two. IsSet registry.now two.first) }
-    ensures leaves { LeavesAsker A.rules A.answer A.kept A.faults A.is_host_fault A.CanFault ask.old ask.new result }
+    ensures leaves { LeavesAsker A.rules A.answer A.kept A.faults A.is_host_fault A.is_out_of_memory A.CanFault ask.old ask.new result }
 {
     let mut first = first;
     let mut second = next_set(alloc, registry, base, required, &first, ask)?;
@@ -158,7 +158,7 @@ pub fn evaluate<A: Ask>(
     ensures asked { (told : Answer A.Fault) → A.answer ask.old ≡ Some told → IfErr result (IsAskedBy A.is_host_fault A.is_out_of_memory told registry.now request.now required.now) }
     ensures set { IfOk result (IsSet registry.now) }
     ensures known { IfErr result (IsKnownFault (A.CanFault (A.kept ask.old))) }
-    ensures counted { IsCounted (is_asked A.is_host_fault) (A.faults ask.old) (A.faults ask.new) result }
+    ensures counted { IsCounted (is_asked A.is_host_fault) (is_asked A.is_out_of_memory) (A.faults ask.old) (A.faults ask.new) result }
     ensures rules { A.rules ask.new ≡ A.rules ask.old }
     ensures answer { A.answer ask.new ≡ A.answer ask.old }
     ensures kept { A.kept ask.new ≡ A.kept ask.old }

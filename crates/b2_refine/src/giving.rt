@@ -24,7 +24,7 @@ fn ask_rule<A: Ask>(
     requires { rule < A.rules ask.old }
     ensures told { (told : Answer A.Fault) → A.answer ask.old ≡ Some told → IsOutcome A.is_host_fault A.is_out_of_memory (told rule set.now) result }
     ensures stable { IfErr result IsNotUnstable }
-    ensures leaves { LeavesAsker A.rules A.answer A.kept A.faults A.is_host_fault A.CanFault ask.old ask.new result }
+    ensures leaves { LeavesAsker A.rules A.answer A.kept A.faults A.is_host_fault A.is_out_of_memory A.CanFault ask.old ask.new result }
 {
     match ask.ask(rule, set) {
         Ok(pairs) => Ok(pairs),
@@ -70,7 +70,7 @@ fn give<A: Ask>(
     requires index { IsIndexOf set.now index.now }
     ensures told { (told : Answer A.Fault) → A.answer ask.old ≡ Some told → IsOutcome A.is_host_fault A.is_out_of_memory (given told set.now (others (requirement.now ∷ []))) result }
     ensures stable { IfErr result IsNotUnstable }
-    ensures leaves { LeavesAsker A.rules A.answer A.kept A.faults A.is_host_fault A.CanFault ask.old ask.new result }
+    ensures leaves { LeavesAsker A.rules A.answer A.kept A.faults A.is_host_fault A.is_out_of_memory A.CanFault ask.old ask.new result }
 {
     match requirement {
         Requirement::Indirect { rule } => ask_rule(*rule, set, ask),
@@ -92,7 +92,7 @@ pub(crate) fn given<A: Ask>(
     requires { All (AsksBelow (A.rules ask.old)) required.now }
     ensures told { (told : Answer A.Fault) → A.answer ask.old ≡ Some told → IsOutcome A.is_host_fault A.is_out_of_memory (given told set.now (others required.now)) result }
     ensures stable { IfErr result IsNotUnstable }
-    ensures leaves { LeavesAsker A.rules A.answer A.kept A.faults A.is_host_fault A.CanFault ask.old ask.new result }
+    ensures leaves { LeavesAsker A.rules A.answer A.kept A.faults A.is_host_fault A.is_out_of_memory A.CanFault ask.old ask.new result }
 {
     let index = PairIndex::new(alloc, set.pairs())?;
     let mut made = PairList::new(alloc);
