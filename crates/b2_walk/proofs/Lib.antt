@@ -1,0 +1,12 @@
+mod WayLemmas
+mod VisitLemmas
+mod CallLemmas
+mod LineLemmas
+mod FindSteps
+mod NativeParents
+mod RunSteps
+mod DoSteps
+mod VisitSteps
+mod WalkSteps
+mod OneCourse
+mod NewSteps

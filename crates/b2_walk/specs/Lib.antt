@@ -1,0 +1,9 @@
+pub mod Directories
+pub mod Walks
+pub mod Faults
+pub mod Walking
+pub mod Laws
+pub mod Finding
+pub mod Indexing
+pub mod Running
+pub mod Doing

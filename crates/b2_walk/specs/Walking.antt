@@ -1,0 +1,66 @@
+-- What the answer of a walk says.
+use Rattle.std.specs.Prelude.{◌≡◌, ◌<◌, ℕ, All, List, Option, Some, None, Result, Ok, Err, length}
+use Rattle.b2_host.specs.Outside.{Outside}
+use Rattle.b2_metatargets.specs.declared.visit.Visit.{Visit}
+use Rattle.b2_metatargets.specs.declared.visit.Call.{Call}
+use Rattle.jam_journal.specs.Tables.{Text}
+use Rattle.jam_eval.specs.Refused.{Refuses}
+use Rattle.jam_eval.specs.Settings.{Setting, IsSetting}
+use Rattle.jam_eval.specs.States.{State}
+use Rattle.jam_natives.specs.Keeping.{Kept}
+use Rattle.jam_natives.specs.Rows.{jam_meaning}
+use Rattle.jam_natives.specs.Seeing.{kept_of}
+use Rattle.jam_effects.specs.declared.turns.Turns.{Turns}
+use Rattle.jam_effects.specs.Machines.{folder_of}
+use Rattle.b2_walk.specs.declared.fault.LoadFault.{LoadFault}
+use Rattle.b2_walk.specs.declared.walk.Walk.{Walk as Walking}
+use Rattle.b2_walk.specs.Faults.{refusal_of, refused_of}
+use Rattle.b2_walk.specs.Walks.{Walk, no_walk, Refusal, Course, goes_on, refused, load_root, ComesTo}
+
+-- the walk of the code, with so many turns left
+abbrev pub walk_of : Walking → ℕ → Walk
+walk_of w left = record {
+  visits = w.visits;
+  calls = w.calls.items;
+  named = w.named.dirs.items;
+  state = record { worlds = w.world; left = left; kept = kept_of w.natives };
+}
+
+-- a walk that has not begun
+pub record IsNew (w : Walking) : Type 0 where
+  pub walk : (left : ℕ) → walk_of w left ≡ no_walk left
+  pub passed : w.named.passed ≡ 0
+
+-- The setting says what is so at the beginning of a load: how many turns there are, what the natives mean, what the visible files hold
+-- and how they read, and which patterns match.
+pub record IsSettingFor (setting : Setting Kept) (turns : ℕ) (outside : Outside) : Type 0 where
+  pub budget : turns ≡ setting.budget
+  pub natives : setting.natives ≡ jam_meaning
+  pub folder : folder_of outside.disk ≡ Some setting.sight.folder
+  pub right : IsSetting setting
+
+-- the load is refused so, with what stands then; nothing is said of a fault of the host and of out of memory
+abbrev pub IsRefusedBy : Option Refusal → (Course → Type 0) → State Kept → Type 0
+IsRefusedBy None comes s = Unit {0}
+IsRefusedBy (Some why) comes s = comes (refused why s)
+
+-- the result is a course to which something comes, with this walk
+abbrev pub Follows : Result (Unit {0}) LoadFault → (Course → Type 0) → Walk → Type 0
+Follows (Ok u) comes w = comes (goes_on w)
+Follows (Err fault) comes w = IsRefusedBy (refusal_of fault) comes w.state
+
+-- where a walk from Jamroot on comes to, by so many turns and the target words of a request
+abbrev pub WalkComesTo : Setting Kept → ℕ → List Text → Course → Type 0
+WalkComesTo setting left words = ComesTo setting words (load_root setting (no_walk left))
+
+-- Where the files are visible, the walk comes to what is defined, for each right setting that names what was refused, if anything was.
+abbrev pub TellsWalk : Outside → List Text → Turns → Turns → Walking → Result (Unit {0}) LoadFault → Type 0
+TellsWalk outside words before after w result =
+    (setting : Setting Kept) → IsSettingFor setting before.budget outside → Refuses setting.refused before.left after.left (refused_of result)
+    → Follows result (WalkComesTo setting before.left words) (walk_of w after.left)
+
+-- ---- over every host
+
+-- the project of each call is one of these
+abbrev pub AreOfProjects : List Visit → List Call → Type 0
+AreOfProjects visits calls = All (λ call. call.project < length visits) calls
