@@ -1,4 +1,5 @@
 pub mod NameLemmas
+pub mod SlotLemmas
 pub mod TableLemmas
 pub mod PastLemmas
 pub mod StepLemmas

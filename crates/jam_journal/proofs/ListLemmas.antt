@@ -1,12 +1,11 @@
 -- What stood at marks stays as it is where each change of a list is noted.
-use Rattle.std.proofs.Common.{◌≡◌, ℕ, List, [], ◌∷◌, ◌++◌, reverse, length, take, Option, Some, None, Result, Ok, Err, OnOk, refl, sym, ap, ◌∙◌}
+use Rattle.std.proofs.Common.{◌≡◌, List, [], ◌∷◌, ◌++◌, reverse, Option, Some, None, Result, Ok, Err, OnOk, refl, ap, ◌∙◌}
 use Rattle.std.specs.FinMap.{get, insert}
 use Rattle.std.proofs.Math.Seq.{take-append_seam}
-use Rattle.jam_journal.specs.declared.past_lists.Before.{Before}
 use Rattle.jam_journal.specs.declared.past_lists.Before.TheVariants.{Other}
 use Rattle.jam_journal.specs.declared.past_lists.ListChange.{ListChange}
 use Rattle.jam_journal.specs.Marks.{Marked}
-use Rattle.jam_journal.specs.Tables.{Key, Table, put, put_back}
+use Rattle.jam_journal.specs.Tables.{Key, Table, put_back}
 use Rattle.jam_journal.specs.Scopes.{Value}
 use Rattle.jam_journal.specs.Lists.{list_of, before_of, before_more, changed_at, back_by, undone, tables_by}
 use Rattle.jam_journal.proofs.TableLemmas.{there, undo_put}

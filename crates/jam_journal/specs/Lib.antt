@@ -1,4 +1,6 @@
 pub mod Tables
+pub mod Slots
+pub mod Held
 pub mod Marks
 pub mod Pasts
 pub mod Scopes

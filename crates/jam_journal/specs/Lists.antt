@@ -1,5 +1,5 @@
 -- A table of lists and what stood in it at marks, by what changed since.
-use Rattle.std.specs.Prelude.{List, [], ◌∷◌, Option, Some, None, length, take}
+use Rattle.std.specs.Prelude.{List, [], ◌∷◌, ◌++◌, Option, Some, None, length, take}
 use Rattle.std.specs.Option.{option_map, unwrap_or}
 use Rattle.std.specs.FinMap as map
 use Rattle.jam_journal.specs.declared.past_lists.Before.{Before}
@@ -11,6 +11,10 @@ use Rattle.jam_journal.specs.Scopes.{Value}
 -- a list, or the empty one where there is none
 abbrev pub list_of : Option Value → Value
 list_of list = unwrap_or list []
+
+-- a table with more texts in the list of a key
+abbrev pub lengthened : Table Value → Key → Value → Table Value
+lengthened table key texts = map.insert table key (list_of (map.get table key) ++ texts)
 
 -- what stood at a key before a change, by what stands there now: another list or none, or the first so many of its texts
 abbrev pub before_of : Before → Option Value → Option Value
@@ -24,6 +28,13 @@ before_more (Some value) = First (length value)
 
 abbrev pub changed_at : Key → Before → ListChange
 changed_at key before = record { first = key.0; second = key.1; before = before }
+
+-- what is noted of a key that gets another list, and of one whose list gets more texts
+abbrev pub other_noted : Table Value → Key → ListChange
+other_noted table key = changed_at key (Other (map.get table key))
+
+abbrev pub more_noted : Table Value → Key → ListChange
+more_noted table key = changed_at key (before_more (map.get table key))
 
 -- a change is taken back
 abbrev pub back_by : ListChange → Table Value → Table Value

@@ -1,10 +1,15 @@
 -- A table and what stood in it at marks, by what was replaced since.
 use Rattle.std.specs.Prelude.{List, [], ◌∷◌, Option}
+use Rattle.std.specs.FinMap as map
 use Rattle.jam_journal.specs.declared.past.Replaced.{Replaced}
 use Rattle.jam_journal.specs.Tables.{Key, Table, put_back}
 
 abbrev pub replaced : {X : Type 0} → Key → Option X → Replaced X
 replaced key value = record { first = key.0; second = key.1; before = value }
+
+-- what is noted of a key that gets another value
+abbrev pub noted_at : {X : Type 0} → Table X → Key → Replaced X
+noted_at table key = replaced key (map.get table key)
 
 -- changes are taken back, the newest first
 abbrev pub undone : {X : Type 0} → List (Replaced X) → Table X → Table X

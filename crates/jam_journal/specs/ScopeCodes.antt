@@ -14,6 +14,10 @@ value_code = coded_list text_code
 abbrev pub key_code : Coded Key
 key_code = coded× text_code text_code
 
+-- maps from pairs of texts
+abbrev pub table_code : {X : Type 0} → Coded X → Coded (Table X)
+table_code code = map.code key_code code
+
 abbrev pub frame_code : Coded Frame
 frame_code =
     code_by (Text × (Option Text × List Binding)) (coded× text_code (coded× (coded_option text_code) (coded_list (coded× text_code value_code))))
@@ -21,5 +25,5 @@ frame_code =
 
 abbrev pub scopes_code : Coded Scopes
 scopes_code =
-    code_by (List Frame × Table Value) (coded× (coded_list frame_code) (map.code key_code value_code))
+    code_by (List Frame × Table Value) (coded× (coded_list frame_code) (table_code value_code))
     (λ s. (s.frames, s.variables)) (λ p. record { frames = p.0; variables = p.1 }) (λ _. refl)

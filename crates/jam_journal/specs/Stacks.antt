@@ -1,6 +1,6 @@
 -- What the code keeps of names, and what it stands for.
 use Rattle.std.specs.Prelude.{◌≡◌, ℕ, suc, ◌<◌, ◌≤◌, Bool, true, false, not, ◌&&◌, ◌||◌, List, [], ◌∷◌, ◌++◌, map as each, length, Option, Some, None, is_some, if◌then◌else◌}
-use Rattle.std.specs.List.{list_any}
+use Rattle.std.specs.List.{list_any, filter}
 use Rattle.std.specs.Ordering.{eq_by_cmp}
 use Rattle.std.specs.Str.{bytes_eq}
 use Rattle.std.specs.FinMap as map
@@ -11,7 +11,7 @@ use Rattle.jam_journal.specs.declared.registers.Scope.{Scope}
 use Rattle.jam_journal.specs.declared.registers.Scope.TheVariants.{Opened, Called, Bound}
 use Rattle.jam_journal.specs.Tables.{Text, Key, Names, Table, key_cmp, back_name, put_back}
 use Rattle.jam_journal.specs.Marks.{Marked}
-use Rattle.jam_journal.specs.Pasts.{undone}
+use Rattle.jam_journal.specs.Pasts.{noted_at, undone}
 use Rattle.jam_journal.specs.Scopes.{Value, Frame, Scopes, is_special, with_binding}
 
 -- the value of a cell, and its stamp
@@ -50,6 +50,10 @@ put_cell r key cell = record r { cells = map.insert r.cells key cell }
 abbrev pub grown : Registers → Text → Value → ℕ → Cell
 grown r name texts stamp = record { value = value_at r.cells (r.owner, name) ++ texts; stamp = stamp }
 
+-- what was replaced since a mark, when a name of the present module gets another cell, which is noted unless it is fresh
+abbrev pub noted_unless : Bool → Registers → Text → List (Replaced Cell) → List (Replaced Cell)
+noted_unless is_fresh r name changes = if is_fresh then changes else changes ++ noted_at r.cells (r.owner, name) ∷ []
+
 -- what is found by a name
 abbrev pub found_by : Registers → Text → Option Text → Value
 found_by r name None = value_at r.cells (r.owner, name)
@@ -80,6 +84,10 @@ unset_by home owner (Bound name before outer ∷ entries) =
 -- further names are noted in a set
 abbrev pub AreNoted : Names (Unit {0}) → Names (Unit {0}) → List Text → Type 0
 AreNoted old new names = (name : Text) → is_some (map.get new name) ≡ (is_some (map.get old name) || list_any (bytes_eq name) names)
+
+-- the names that are not in a set
+abbrev pub others_of : Names (Unit {0}) → List Text → List Text
+others_of set names = filter (λ name. not (is_some (map.get set name))) names
 
 -- the registers in a frame that is opened, and with a binding, and the entries that lead back
 abbrev pub in_frame : Text → Registers → Registers

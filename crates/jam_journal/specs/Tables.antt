@@ -1,5 +1,7 @@
 -- Finite maps from texts, and from pairs of texts.
-use Rattle.std.specs.Prelude.{ℕ, not, List, [], ◌∷◌, ◌++◌, map as each, Option, Some, None, is_some, if◌then◌else◌}
+use Rattle.std.specs.Prelude.{String, string_bytes, ℕ, not, List, [], ◌∷◌, ◌++◌, map as each, Option, Some, None, is_some, if◌then◌else◌}
+use Rattle.std.specs.Borrow.{Bor}
+use Rattle.std.specs.Global.{Global}
 use Rattle.std.specs.List.{filter}
 use Rattle.std.specs.Str.{bytes_eq}
 use Rattle.std.specs.Ordering.{nat_cmp, ordering_then}
@@ -42,6 +44,13 @@ put table key (Some value) = map.insert table key value
 -- the same at a key that has a value; else nothing changes
 abbrev pub put_back : {X : Type 0} → Table X → Key → Option X → Table X
 put_back table key value = if is_some (map.get table key) then put table key value else table
+
+-- what entries show that are lent, and their texts
+abbrev pub lent_row : {X : Type 0} → List (Bor (String Global) × Bor X) → List (Text × X)
+lent_row row = each (λ entry. (string_bytes entry.0.now, entry.1.now)) row
+
+abbrev pub lent_names : {X : Type 0} → List (Bor (String Global) × Bor X) → List Text
+lent_names row = each (λ entry. string_bytes entry.0.now) row
 
 -- the map that entries stand for, whose keys are these texts
 abbrev pub names_of : {K X : Type 0} → (K → Text) → List (K × X) → Names X

@@ -3,11 +3,13 @@
 
 pub mod name;
 pub mod names;
+mod others;
 pub mod past;
 pub mod past_lists;
 mod registers;
 pub mod reserved;
 pub mod saved;
 pub mod sized_list;
+mod slots;
 pub mod table;
 pub mod variables;

@@ -1,37 +1,76 @@
-//! A text of its own.
+//! A text that several may hold.
 ghost use Rattle.std.specs.Prelude.{◌≡◌, IfOk};
+ghost use Rattle.jam_journal.specs.Held.{held_text};
 
+use crate::slots::{fixed_name, slot_of};
 use b2_base::fault::OutOfMemory;
 use std::alloc::Global;
 use std::marker::Model;
+use std::rc::Rc;
 
-/// Owned text, seen as its bytes.
+/// How a text is held.
+#[derive(Drop)]
+enum Held {
+    /// As that of a place for the names of argument lists, or as the empty text.
+    Fixed(usize),
+    /// As one that is shared.
+    Shared(Rc<String>),
+}
+
+/// A text, seen as its bytes. The names of argument lists and the empty text take no memory, other texts are shared.
 #[derive(Drop)]
 pub struct Name {
-    text: String,
+    held: Held,
 }
 
 impl Model for Name {
-    ghost use Rattle.std.specs.Prelude.{ℕ, List, string_bytes};
+    ghost use Rattle.std.specs.Prelude.{ℕ, List};
+    ghost use Rattle.jam_journal.specs.Held.{held_text};
 
     ghost Value = { List ℕ };
 
-    ghost view = { λ n. string_bytes n.text };
+    ghost view = { λ n. held_text n.held };
+}
+
+/// A text of its own, which may be shared.
+fn shared(alloc: Global, text: &str) -> Result<Held, OutOfMemory>
+    ensures { IfOk result (λ made. held_text made ≡ text.now) }
+{
+    let text = String::from_str(alloc, text)?;
+    Ok(Held::Shared(Rc::new(alloc, text)?))
 }
 
 impl Name {
-    /// Owns a copy of a text.
+    /// Holds a copy of a text.
     pub fn new(alloc: Global, text: &str) -> Result<Name, OutOfMemory>
         ensures { IfOk result (λ made. made ≡ text.now) }
     {
-        let text = String::from_str(alloc, text)?;
-        Ok(Name { text })
+        let held = match slot_of(text) {
+            Some(place) => Held::Fixed(place),
+            None if text.is_empty() => Held::Fixed(14),
+            None => shared(alloc, text)?,
+        };
+        Ok(Name { held })
+    }
+
+    /// The same text again, which is not copied.
+    pub fn share(&self) -> Result<Name, OutOfMemory>
+        ensures { IfOk result (λ made. made ≡ self.now) }
+    {
+        let held = match &self.held {
+            Held::Fixed(place) => Held::Fixed(*place),
+            Held::Shared(text) => Held::Shared(text.clone()?),
+        };
+        Ok(Name { held })
     }
 
     /// The text as a `str`.
     pub fn as_str(&self) -> &str
         ensures { result.now ≡ self.now }
     {
-        self.text.as_str()
+        match &self.held {
+            Held::Fixed(place) => fixed_name(*place),
+            Held::Shared(text) => text.as_str(),
+        }
     }
 }

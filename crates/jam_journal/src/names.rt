@@ -1,34 +1,37 @@
 //! A map from texts, asked by borrowed ones.
-ghost use Rattle.std.specs.Prelude.{◌≡◌, map as each, string_bytes, is_some, IfOk, OnOk, OnErr};
+ghost use Rattle.std.specs.Prelude.{◌≡◌, map as each, string_bytes, IfOk, OnOk, OnErr};
 ghost use Rattle.std.specs.Option.{option_copied};
 ghost use Rattle.std.specs.FinMap as map;
-ghost use Rattle.jam_journal.specs.Tables.{put_name, back_name};
+ghost use Rattle.jam_journal.specs.Tables.{back_name};
 
+use crate::others::Others;
+use crate::slots::{self, Slot, slot_of};
 use b2_base::fault::OutOfMemory;
 use std::alloc::Global;
-use std::collections::BTreeMap;
 use std::marker::Model;
-use std::mem;
 
-/// One value for each of some texts, seen as a finite map from them.
+/// One value for each of some texts, seen as a finite map from them. The names of argument lists have places of their own, so
+/// that a call that binds them takes no memory for keys, and finds none by comparing.
 #[derive(Drop)]
 pub struct Names<V: Drop> {
-    values: BTreeMap<String, V>,
+    slots: Vec<Slot<V>>,
+    others: Others<V>,
 }
 
 impl<V: Drop> Model for Names<V> {
-    ghost use Rattle.std.specs.Prelude.{string_bytes};
     ghost use Rattle.std.specs.Ordering.{nat_cmp};
     ghost use Rattle.std.specs.Cmp.Lexicographic.{slice_cmp};
     ghost use Rattle.std.specs.Coded.{coded_ℕ, coded_list};
     ghost use Rattle.std.specs.FinMap as map;
-    ghost use Rattle.jam_journal.specs.Tables.{names_of};
+    ghost use Rattle.jam_journal.specs.Slots.{with_slots, AreApart};
 
     ghost Value = { map.FinMap (slice_cmp nat_cmp) V };
 
     ghost coded = { map.code (coded_list coded_ℕ) V.code };
 
-    ghost view = { λ a. names_of string_bytes a.values.entries };
+    ghost view = { λ a. with_slots 0 a.slots.items a.others };
+
+    ghost invariant = { λ a. AreApart a.slots.items a.others };
 }
 
 impl<V: Drop> Names<V> {
@@ -37,7 +40,8 @@ impl<V: Drop> Names<V> {
         ensures { result ≡ map.empty }
     {
         Names {
-            values: BTreeMap::new(alloc),
+            slots: Vec::new(alloc),
+            others: Others::new(alloc),
         }
     }
 
@@ -45,14 +49,19 @@ impl<V: Drop> Names<V> {
     pub fn get(&self, name: &str) -> Option<&V>
         ensures { option_copied result ≡ map.get self.now name.now }
     {
-        self.values.get(name)
+        match slot_of(name) {
+            Some(place) => slots::value_of(self.slots.as_slice(), place),
+            None => self.others.get(name),
+        }
     }
 
     /// The texts that have a value, with their values, in byte order.
     pub fn entries(&self, alloc: Global) -> Result<Vec<(&String, &V)>, OutOfMemory>
         ensures { IfOk result (λ row. each (λ entry. (string_bytes entry.0.now, entry.1.now)) row.items ≡ map.entries self.now) }
     {
-        Ok(self.values.iter().collect(alloc)?)
+        let mut row = self.others.entries(alloc)?;
+        slots::add_entries(self.slots.as_slice(), &mut row)?;
+        Ok(row)
     }
 
     /// Gives a text a value, and answers the one before. After an error the map is as before.
@@ -61,8 +70,16 @@ impl<V: Drop> Names<V> {
         ensures ok { OnOk result (self.new ≡ map.insert self.old name.now value) }
         ensures err { OnErr result (self.new ≡ self.old) }
     {
-        let name = String::from_str(alloc, name)?;
-        Ok(self.values.insert(name, value)?)
+        match slot_of(name) {
+            Some(place) => {
+                slots::grow(alloc, &mut self.slots, place)?;
+                Ok(slots::set(&mut self.slots, place, Some(value)))
+            }
+            None => {
+                let before = self.others.insert(alloc, name, value)?;
+                Ok(before)
+            }
+        }
     }
 
     /// Gives a text that has a value another one, and answers the one before. A text without a value gets none. Takes no
@@ -71,9 +88,9 @@ impl<V: Drop> Names<V> {
         ensures before { result ≡ map.get self.old name.now }
         ensures after { self.new ≡ back_name self.old name.now (Some value) }
     {
-        match self.values.get_mut(name) {
-            Some(found) => Some(mem::replace(found, value)),
-            None => None,
+        match slot_of(name) {
+            Some(place) => slots::replace(&mut self.slots, place, value),
+            None => self.others.replace(name, value),
         }
     }
 
@@ -82,7 +99,10 @@ impl<V: Drop> Names<V> {
         ensures before { result ≡ map.get self.old name.now }
         ensures after { self.new ≡ map.remove self.old name.now }
     {
-        self.values.remove(name)
+        match slot_of(name) {
+            Some(place) => slots::set(&mut self.slots, place, None),
+            None => self.others.remove(name),
+        }
     }
 
     /// Gives a text that has a value another one or none. A text without a value gets none. Takes no memory.

@@ -38,15 +38,15 @@ pub struct Past<V: Drop> {
 
 impl<V: Drop> Model for Past<V> {
     ghost use Rattle.std.specs.Prelude.{reverse, map as each};
-    ghost use Rattle.std.specs.Coded.{coded_ℕ, coded_list, coded×};
-    ghost use Rattle.std.specs.FinMap as map;
+    ghost use Rattle.std.specs.Coded.{coded_list, coded×};
     ghost use Rattle.jam_journal.specs.Marks.{Marked};
+    ghost use Rattle.jam_journal.specs.ScopeCodes.{table_code};
     ghost use Rattle.jam_journal.specs.Tables.{Table as Pairs};
     ghost use Rattle.jam_journal.specs.Pasts.{tables_by};
 
     ghost Value = { Marked (Pairs V) };
 
-    ghost coded = { coded× (map.code (coded× (coded_list coded_ℕ) (coded_list coded_ℕ)) V.code) (coded_list (map.code (coded× (coded_list coded_ℕ) (coded_list coded_ℕ)) V.code)) };
+    ghost coded = { coded× (table_code V.code) (coded_list (table_code V.code)) };
 
     ghost view = { λ p. (p.table, tables_by p.table (reverse p.changes.items) (each (λ v. reverse v.items) (reverse p.older.items))) };
 }

@@ -45,16 +45,16 @@ pub struct PastLists {
 
 impl Model for PastLists {
     ghost use Rattle.std.specs.Prelude.{reverse, map as each};
-    ghost use Rattle.std.specs.Coded.{coded_ℕ, coded_list, coded×};
-    ghost use Rattle.std.specs.FinMap as map;
+    ghost use Rattle.std.specs.Coded.{coded_list, coded×};
     ghost use Rattle.jam_journal.specs.Marks.{Marked};
+    ghost use Rattle.jam_journal.specs.ScopeCodes.{value_code, table_code};
     ghost use Rattle.jam_journal.specs.Scopes.{Value as Texts};
     ghost use Rattle.jam_journal.specs.Tables.{Table as Pairs};
     ghost use Rattle.jam_journal.specs.Lists.{tables_by};
 
     ghost Value = { Marked (Pairs Texts) };
 
-    ghost coded = { coded× (map.code (coded× (coded_list coded_ℕ) (coded_list coded_ℕ)) (coded_list (coded_list coded_ℕ))) (coded_list (map.code (coded× (coded_list coded_ℕ) (coded_list coded_ℕ)) (coded_list (coded_list coded_ℕ)))) };
+    ghost coded = { coded× (table_code value_code) (coded_list (table_code value_code)) };
 
     ghost view = { λ p. (p.table, tables_by p.table (reverse p.changes.items) (each (λ v. reverse v.items) (reverse p.older.items))) };
 }
@@ -64,7 +64,7 @@ impl PastLists {
     ghost use Rattle.std.specs.Option.{option_copied};
     ghost use Rattle.std.specs.FinMap as map;
     ghost use Rattle.jam_journal.specs.Marks.{rolled, marked};
-    ghost use Rattle.jam_journal.specs.Lists.{list_of};
+    ghost use Rattle.jam_journal.specs.Lists.{lengthened};
     ghost use Rattle.jam_journal.specs.Tables.{row_of};
 
     /// The empty table without a mark; takes no memory.
@@ -115,7 +115,7 @@ impl PastLists {
     /// Adds texts to the list of a pair; where it has none, it gets the list of them. Copies nothing that is there. After an error
     /// the table is as before.
     pub fn append(&mut self, first: &str, second: &str, texts: &[Text]) -> Result<(), OutOfMemory>
-        ensures ok { OnOk result (self.new ≡ (map.insert self.old.0 (first.now, second.now) (list_of (map.get self.old.0 (first.now, second.now)) ++ texts.now), self.old.1)) }
+        ensures ok { OnOk result (self.new ≡ (lengthened self.old.0 (first.now, second.now) texts.now, self.old.1)) }
         ensures err { OnErr result (self.new ≡ self.old) }
     {
         if !self.older.is_empty() {

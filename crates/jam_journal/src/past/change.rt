@@ -1,7 +1,7 @@
 //! Changes of a table that are noted and taken back.
 ghost use Rattle.std.specs.Prelude.{◌≡◌, [], ◌∷◌, ◌++◌, reverse, OnOk, OnErr};
 ghost use Rattle.std.specs.FinMap as map;
-ghost use Rattle.jam_journal.specs.Pasts.{replaced, undone};
+ghost use Rattle.jam_journal.specs.Pasts.{noted_at, undone};
 
 use super::Replaced;
 use crate::name::Name;
@@ -20,7 +20,7 @@ pub fn insert_noted<V: Drop>(
     value: V,
 ) -> Result<(), OutOfMemory>
     ensures table { OnOk result (table.new ≡ map.insert table.old (first.now, second.now) value) }
-    ensures noted { OnOk result (changes.new.items ≡ changes.old.items ++ replaced (first.now, second.now) (map.get table.old (first.now, second.now)) ∷ []) }
+    ensures noted { OnOk result (changes.new.items ≡ changes.old.items ++ noted_at table.old (first.now, second.now) ∷ []) }
     ensures same_table { OnErr result (table.new ≡ table.old) }
     ensures nothing_noted { OnErr result (changes.new.items ≡ changes.old.items) }
 {

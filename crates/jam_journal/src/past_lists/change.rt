@@ -2,9 +2,8 @@
 ghost use Rattle.std.specs.Prelude.{◌≡◌, [], ◌∷◌, ◌++◌, take, reverse, OnOk, OnErr};
 ghost use Rattle.std.specs.Option.{option_map};
 ghost use Rattle.std.specs.FinMap as map;
-ghost use Rattle.jam_journal.specs.declared.past_lists.Before.TheVariants.{Other};
 ghost use Rattle.jam_journal.specs.Tables.{put_back};
-ghost use Rattle.jam_journal.specs.Lists.{list_of, before_more, changed_at, back_by, undone};
+ghost use Rattle.jam_journal.specs.Lists.{lengthened, before_more, other_noted, more_noted, back_by, undone};
 
 use super::{Before, ListChange};
 use crate::name::Name;
@@ -25,7 +24,7 @@ pub fn insert_noted(
     list: SizedList,
 ) -> Result<(), OutOfMemory>
     ensures table { OnOk result (table.new ≡ map.insert table.old (first.now, second.now) list) }
-    ensures noted { OnOk result (changes.new.items ≡ changes.old.items ++ changed_at (first.now, second.now) (Other (map.get table.old (first.now, second.now))) ∷ []) }
+    ensures noted { OnOk result (changes.new.items ≡ changes.old.items ++ other_noted table.old (first.now, second.now) ∷ []) }
     ensures same_table { OnErr result (table.new ≡ table.old) }
     ensures nothing_noted { OnErr result (changes.new.items ≡ changes.old.items) }
 {
@@ -53,7 +52,7 @@ pub fn append(
     second: &str,
     texts: &[Text],
 ) -> Result<(), OutOfMemory>
-    ensures ok { OnOk result (table.new ≡ map.insert table.old (first.now, second.now) (list_of (map.get table.old (first.now, second.now)) ++ texts.now)) }
+    ensures ok { OnOk result (table.new ≡ lengthened table.old (first.now, second.now) texts.now) }
     ensures err { OnErr result (table.new ≡ table.old) }
 {
     let more = copies(alloc, texts)?;
@@ -89,8 +88,8 @@ pub fn append_noted(
     second: &str,
     texts: &[Text],
 ) -> Result<(), OutOfMemory>
-    ensures table { OnOk result (table.new ≡ map.insert table.old (first.now, second.now) (list_of (map.get table.old (first.now, second.now)) ++ texts.now)) }
-    ensures noted { OnOk result (changes.new.items ≡ changes.old.items ++ changed_at (first.now, second.now) (before_more (map.get table.old (first.now, second.now))) ∷ []) }
+    ensures table { OnOk result (table.new ≡ lengthened table.old (first.now, second.now) texts.now) }
+    ensures noted { OnOk result (changes.new.items ≡ changes.old.items ++ more_noted table.old (first.now, second.now) ∷ []) }
     ensures same_table { OnErr result (table.new ≡ table.old) }
     ensures nothing_noted { OnErr result (changes.new.items ≡ changes.old.items) }
 {

@@ -1,9 +1,7 @@
 //! Opening frames and binding names.
-ghost use Rattle.std.specs.Prelude.{◌≡◌, [], ◌∷◌, ◌++◌, IfOk, OnOk, OnErr, if◌then◌else◌};
-ghost use Rattle.std.specs.FinMap as map;
-ghost use Rattle.jam_journal.specs.Pasts.{replaced};
+ghost use Rattle.std.specs.Prelude.{◌≡◌, [], ◌∷◌, ◌++◌, IfOk, OnOk, OnErr};
 ghost use Rattle.jam_journal.specs.declared.registers.Scope.TheVariants.{Opened, Called};
-ghost use Rattle.jam_journal.specs.Stacks.{in_frame, in_call, with_bound, bound_entry, noted, outer_at, put_cell};
+ghost use Rattle.jam_journal.specs.Stacks.{in_frame, in_call, with_bound, bound_entry, noted, outer_at, put_cell, noted_unless};
 
 use super::{Cell, Registers, Scope, is_special};
 use crate::name::Name;
@@ -45,7 +43,7 @@ pub fn open_call(
     ensures same_entries { OnErr result (entries.new.items ≡ entries.old.items) }
 {
     let owner = Name::new(alloc, owner)?;
-    let caller = Name::new(alloc, registers.owner.as_str())?;
+    let caller = registers.owner.share()?;
     entries.reserve(1)?;
     let owner = mem::replace(&mut registers.owner, owner);
     let caller = mem::replace(&mut registers.caller, caller);
@@ -66,7 +64,7 @@ fn note_innermost(
     if !is_special(name) {
         return Ok(None);
     }
-    let owner = Name::new(alloc, registers.owner.as_str())?;
+    let owner = registers.owner.share()?;
     registers.innermost.insert(alloc, name, owner)
 }
 
@@ -146,7 +144,7 @@ pub fn set(
     cell: Cell,
 ) -> Result<(), OutOfMemory>
     ensures registers { OnOk result (registers.new ≡ put_cell registers.old (registers.old.owner, name.now) cell) }
-    ensures changes { OnOk result (changes.new.items ≡ (if is_fresh then changes.old.items else changes.old.items ++ replaced (registers.old.owner, name.now) (map.get registers.old.cells (registers.old.owner, name.now)) ∷ [])) }
+    ensures changes { OnOk result (changes.new.items ≡ noted_unless is_fresh registers.old name.now changes.old.items) }
     ensures same_registers { OnErr result (registers.new ≡ registers.old) }
     ensures same_changes { OnErr result (changes.new.items ≡ changes.old.items) }
 {

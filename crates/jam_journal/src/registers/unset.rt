@@ -1,9 +1,8 @@
 //! Names that have bindings and no variable.
-ghost use Rattle.std.specs.Prelude.{◌≡◌, [], ◌∷◌, not, if◌then◌else◌, is_some, map as each, reverse, string_bytes, IfOk, OnOk};
-ghost use Rattle.std.specs.List.{filter};
+ghost use Rattle.std.specs.Prelude.{◌≡◌, [], ◌∷◌, if◌then◌else◌, map as each, reverse, string_bytes, IfOk, OnOk};
 ghost use Rattle.std.specs.Str.{IsUtf8};
-ghost use Rattle.std.specs.FinMap as map;
-ghost use Rattle.jam_journal.specs.Stacks.{owner_before, is_unset, unset_by, AreNoted};
+ghost use Rattle.jam_journal.specs.Tables.{lent_names};
+ghost use Rattle.jam_journal.specs.Stacks.{owner_before, is_unset, unset_by, others_of, AreNoted};
 
 use super::{Cell, Scope};
 use crate::names::Names;
@@ -84,7 +83,7 @@ pub fn others<'a>(
     row: &[(&'a String, &'a Cell)],
     unset: &Names<()>,
 ) -> Result<Vec<&'a String>, OutOfMemory>
-    ensures { IfOk result (λ names. each (λ name. string_bytes name.now) names.items ≡ filter (λ name. not (is_some (map.get unset.now name))) (each (λ entry. string_bytes entry.0.now) row.now)) }
+    ensures { IfOk result (λ names. each (λ name. string_bytes name.now) names.items ≡ others_of unset.now (lent_names row.now)) }
 {
     let mut names = Vec::new(alloc);
     for (name, _) in row {

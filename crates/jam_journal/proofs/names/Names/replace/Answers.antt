@@ -1,37 +1,60 @@
-use Rattle.std.proofs.Common.{string_bytes, Some, is_some, ap, sym, ◌∙◌}
-use Rattle.std.specs.Option.{option_copied_mut}
+use Rattle.std.proofs.Common.{Some, None, sym, ap, subst, ◌∙◌}
 use Rattle.std.specs.FinMap as map
 use Rattle.jam_journal.specs.Tables.{back_name}
-use Rattle.jam_journal.proofs.NameLemmas.{by_bytes, get_names, put_tree, back_found, back_absent}
+use Rattle.jam_journal.specs.Slots.{with_slots, AreSlots, AreApart}
+use Rattle.jam_journal.proofs.SlotLemmas.{found_at, back_slots, back_placed, apart_back, back_unplaced}
 use Rattle.jam_journal.proofs.names.Names.replace.Goals as goal
-use Rattle.jam_journal.proofs.names.Names.replace.Goals.{in-Some, in-None}
 
-pub returns-clause-before : goal.returns-clause-before
-returns-clause-before g c =
-    let entries = c.self.inside.values.entries in
-    let name = c.args.name.now in
-    let value = c.get_mut.ensures.value ∙ by_bytes entries name ∙ sym (get_names string_bytes entries name) ∙ ap (λ m. map.get m name) c.self.view_is in
-    elim c.match-get_mut.branch [
-      | in-Some w ↦ w.result-is ∙ ap Some w.replace.ensures.value ∙ sym (ap option_copied_mut w.in-Some.is) ∙ value
-      | in-None w ↦ w.result-is ∙ sym (ap option_copied_mut w.in-None.is) ∙ value
-    ]
+pub invariant_of-self : goal.invariant_of-self
+invariant_of-self g c = record {
+  slots = subst (AreSlots 0) (sym c.replace.ensures.after) (back_slots 0 c.self.inside.slots.items c.in-Some.place (Some c.args.value) c.self.invariant.slots);
+  others = c.self.invariant.others;
+}
 
-pub returns-clause-after : goal.returns-clause-after
-returns-clause-after g c =
-    let old = c.self.inside.values in
+pub invariant_of-self-in-None : goal.invariant_of-self-in-None
+invariant_of-self-in-None g c =
+    let slots = c.self.inside.slots.items in
+    let others = c.self.inside.others in
     let name = c.args.name.now in
-    elim c.match-get_mut.branch [
-      | in-Some w ↦
-          let there = sym (ap is_some c.get_mut.ensures.value) ∙ ap (λ r. is_some (option_copied_mut r)) w.in-Some.is in
-          let found = sym (ap is_some (by_bytes old.entries name)) ∙ there in
-          let new = c.get_mut.follows.lender w.replace.new.dest in
-          rw w.self-inside-is
-          (back_found string_bytes c.args.self.now old.entries new.entries name (Some w.replace.new.dest) c.self.view_is found
-          (put_tree old new name (Some w.replace.new.dest) ((c.get_mut.follows.holds w.replace.new.dest).3 there))
-          ∙ ap (λ v. back_name c.args.self.now name (Some v)) w.replace.ensures.after)
-      | in-None w ↦
-          let absent = sym (c.get_mut.ensures.value ∙ by_bytes old.entries name) ∙ ap option_copied_mut w.in-None.is in
-          rw w.self-inside-is
-          (back_absent string_bytes c.args.self.now old.entries c.get_mut.follows.lender-at-none.entries name (Some c.args.value) c.self.view_is absent
-          (ap (λ m. m.entries) c.get_mut.follows.holds-at-none))
-    ]
+    let none = sym c.slot_of.ensures ∙ c.in-None.is in
+    subst (AreApart slots) (sym c.replace-in-None.ensures.after) (apart_back slots others c.self.invariant name none (Some c.args.value))
+
+pub returns-in-Some-clause-before : goal.returns-in-Some-clause-before
+returns-in-Some-clause-before g c =
+    let slots = c.self.inside.slots.items in
+    let others = c.self.inside.others in
+    let name = c.args.name.now in
+    let is = sym c.slot_of.ensures ∙ c.in-Some.is in
+    c.replace.ensures.before
+    ∙ sym (found_at slots others c.self.invariant name (Some c.in-Some.place) is)
+    ∙ ap (λ m. map.get m name) c.self.view_is
+
+pub returns-in-Some-clause-after : goal.returns-in-Some-clause-after
+returns-in-Some-clause-after g c =
+    let slots = c.self.inside.slots.items in
+    let others = c.self.inside.others in
+    let name = c.args.name.now in
+    let is = sym c.slot_of.ensures ∙ c.in-Some.is in
+    ap (λ slots. with_slots 0 slots others) c.replace.ensures.after
+    ∙ back_placed slots others c.self.invariant name c.in-Some.place (Some c.args.value) is
+    ∙ ap (λ m. back_name m name (Some c.args.value)) c.self.view_is
+
+pub returns-in-None-clause-before : goal.returns-in-None-clause-before
+returns-in-None-clause-before g c =
+    let slots = c.self.inside.slots.items in
+    let others = c.self.inside.others in
+    let name = c.args.name.now in
+    let none = sym c.slot_of.ensures ∙ c.in-None.is in
+    c.replace-in-None.ensures.before
+    ∙ sym (found_at slots others c.self.invariant name None none)
+    ∙ ap (λ m. map.get m name) c.self.view_is
+
+pub returns-in-None-clause-after : goal.returns-in-None-clause-after
+returns-in-None-clause-after g c =
+    let slots = c.self.inside.slots.items in
+    let others = c.self.inside.others in
+    let name = c.args.name.now in
+    let none = sym c.slot_of.ensures ∙ c.in-None.is in
+    ap (with_slots 0 slots) c.replace-in-None.ensures.after
+    ∙ back_unplaced slots others c.self.invariant name none (Some c.args.value)
+    ∙ ap (λ m. back_name m name (Some c.args.value)) c.self.view_is

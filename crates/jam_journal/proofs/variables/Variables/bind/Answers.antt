@@ -1,4 +1,4 @@
-use Rattle.std.proofs.Common.{◌≢◌, [], ◌++◌, reverse, sym, ap, subst, ◌∙◌}
+use Rattle.std.proofs.Common.{◌≢◌, [], ◌++◌, reverse, sym, subst, ◌∙◌}
 use Rattle.jam_journal.specs.declared.registers.Cell.{Cell}
 use Rattle.jam_journal.specs.Marks.{Marked, changed}
 use Rattle.jam_journal.specs.Scopes.{Scopes, bind}

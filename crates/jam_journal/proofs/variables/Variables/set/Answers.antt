@@ -1,4 +1,4 @@
-use Rattle.std.proofs.Common.{reverse, sym, ap, ◌∙◌}
+use Rattle.std.proofs.Common.{reverse, sym, ◌∙◌}
 use Rattle.jam_journal.specs.declared.registers.Cell.{Cell}
 use Rattle.jam_journal.specs.Marks.{changed}
 use Rattle.jam_journal.specs.Scopes.{assign}
