@@ -1,7 +1,6 @@
 //! What a call binds in the frame of its rule.
 ghost use Rattle.std.specs.Prelude.{◌≡◌, ◌<◌, ◌+◌, [], ◌∷◌, ◌++◌, IfOk, OnOk, option_map};
 ghost use Rattle.jam_eval.specs.Params.{list_at, numbered, special, call_binds};
-ghost use Rattle.b2_base.specs.Bytes.{HasNoZero};
 ghost use Rattle.jam_values.specs.Bindings.{bindings_of, lists_of};
 
 use crate::lists::{copy_texts, list_at};
@@ -10,20 +9,22 @@ use b2_base::fault::OutOfMemory;
 use b2_base::text::Text;
 use b2_base::text_list::TextList;
 use jam_grammar::tree::Param;
+use jam_journal::name::Name;
 use std::alloc::Global;
 
 /// A name with the value that is to be bound to it.
 #[derive(Drop)]
 pub struct Bound {
-    pub name: Text,
+    /// The name, which takes no memory where it is that of an argument list.
+    pub name: Name,
+    /// What is to be bound to it.
     pub value: TextList,
 }
 
 /// The name of an argument list, counted from 0.
 fn digit(place: usize) -> &'static str
     requires { place < 9 }
-    ensures value { result.now ≡ (49 + place) ∷ [] }
-    ensures no_zero { HasNoZero result.now }
+    ensures { result.now ≡ (49 + place) ∷ [] }
 {
     match place {
         0 => "1",
@@ -45,10 +46,9 @@ pub(crate) fn add(
     name: &str,
     texts: &[Text],
 ) -> Result<(), OutOfMemory>
-    requires { HasNoZero name.now }
     ensures { OnOk result (bindings_of made.new.items ≡ bindings_of made.old.items ++ (name.now, texts.now) ∷ []) }
 {
-    let name = Text::new(alloc, name)?;
+    let name = Name::new(alloc, name)?;
     let value = copy_texts(alloc, texts)?;
     made.push(Bound { name, value })?;
     Ok(())

@@ -9,7 +9,7 @@ pub loop-bound-preserved : goal.loop-bound-preserved
 loop-bound-preserved c =
     let now = c.loop-bound.world in
     let one = c.bound-item.result in
-    let set = c.in_ok-bind.ensures.ok ∙ ap (λ n. rescoped (bind n c.in_ok-value.value) now) c.as_str.ensures.value ∙ ap (λ v. rescoped (bind one.name v) now) (c.in_ok-value.ensures ∙ c.as_slice.ensures) in
+    let set = c.in_ok-bind.ensures.ok ∙ ap (λ n. rescoped (bind n c.in_ok-value.value) now) c.as_str.ensures ∙ ap (λ v. rescoped (bind one.name v) now) (c.in_ok-value.ensures ∙ c.as_slice.ensures) in
     record {
       framed = framed_after (one.name, one.value) now c.bind.new.self set c.loop-bound.invariant.framed;
       bound = bound_more c.args.bindings.now c.loop-bound.bound-index one c.args.world.now now c.bind.new.self c.loop-bound-test.true c.bound-item.is c.loop-bound.invariant.bound set;

@@ -6,7 +6,7 @@ use Rattle.jam_values.proofs.bindings.numbered.Goals as goal
 
 pub loop-place-preserved : goal.loop-place-preserved
 loop-place-preserved c =
-    let digit = c.digit.ensures.value in
+    let digit = c.digit.ensures in
     let texts = c.list_at.ensures in
     let grown = c.in_ok-add.ensures in
     let before = c.loop-place.invariant in
