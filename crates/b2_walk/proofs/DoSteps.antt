@@ -1,10 +1,9 @@
 -- How the parts of a load, one after another, do what is defined.
-use Rattle.std.proofs.Common.{◌≡◌, ◌≤◌, ◌++◌, ℕ, List, [], Option, Some, None, Result, Ok, Err, is_some, refl, sym, ap, ◌∙◌, subst, arith}
+use Rattle.std.proofs.Common.{◌≡◌, ◌≤◌, ◌++◌, ℕ, [], Option, Some, None, Result, Ok, Err, refl, sym, ap, ◌∙◌, subst, arith}
 use Rattle.std.proofs.lemmas.List.{append_assoc, append-nil}
-use Rattle.b2_host.specs.Outside.{Outside}
 use Rattle.jam_journal.specs.Tables.{Text}
 use Rattle.jam_eval.specs.Laws.{SameFrames}
-use Rattle.jam_eval.specs.Refused.{Refuses, TookTurn}
+use Rattle.jam_eval.specs.Refused.{TookTurn}
 use Rattle.jam_eval.specs.RefusedLaws.{refuses_first, refuses_second}
 use Rattle.jam_eval.specs.Settings.{Setting}
 use Rattle.jam_eval.specs.States.{State}
@@ -15,7 +14,7 @@ use Rattle.b2_walk.specs.Finding.{Looked, Counts}
 use Rattle.b2_walk.specs.Faults.{refusal_of, refused_of}
 use Rattle.b2_walk.specs.Walking.{IsSettingFor, IsRefusedBy, AreOfProjects}
 use Rattle.b2_walk.specs.Walks.{Walk, Refusal, Course, goes_on, refused, and_then}
-use Rattle.b2_walk.proofs.FindSteps.{looked_same, looked_then, counted}
+use Rattle.b2_walk.proofs.FindSteps.{looked_then, counted}
 use Rattle.b2_walk.specs.Doing.{Stand, ArePassed, AreInLine, What, by, Agrees, Grows, IsGrown, IsOfWalkIf, Does}
 
 pub frames_same : (s : State Kept) → SameFrames s s
@@ -42,7 +41,7 @@ refused_then : (why : Option Refusal) (course : Course) (next : Walk → Course)
 refused_then None course next s h = tt
 refused_then (Some why) course next s h = ap (λ c. and_then c next) h
 
-refused_from : (why : Option Refusal) (comes other : Course → Type 0) (s : State Kept) → ((course : Course) → other course → comes course) → IsRefusedBy why other s → IsRefusedBy why comes s
+pub refused_from : (why : Option Refusal) (comes other : Course → Type 0) (s : State Kept) → ((course : Course) → other course → comes course) → IsRefusedBy why other s → IsRefusedBy why comes s
 refused_from None comes other s f h = tt
 refused_from (Some why) comes other s f h = f (refused why s) h
 

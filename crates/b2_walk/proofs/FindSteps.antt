@@ -1,5 +1,5 @@
 -- Which project file is found, and what the search does to the outside.
-use Rattle.std.proofs.Common.{◌≡◌, ◌⊎◌, inl, inr, ◌≤◌, Bool, true, false, List, [], ◌∷◌, Option, Some, None, Result, Ok, Err, IfOk, refl, sym, ap, ◌∙◌, subst, arith}
+use Rattle.std.proofs.Common.{◌≡◌, inl, inr, Bool, true, false, List, [], ◌∷◌, Option, Some, None, Result, Ok, Err, IfOk, refl, sym, ap, ◌∙◌, subst, arith}
 use Rattle.std.specs.Prelude.{if◌then◌else◌, map as each}
 use Rattle.std.specs.List.{list_any}
 use Rattle.std.specs.Option.{IfSome}
@@ -8,7 +8,7 @@ use Rattle.b2_host.specs.declared.fault.IoFault.TheVariants as io
 use Rattle.b2_host.specs.Disks.{Disk}
 use Rattle.b2_host.specs.FileCalls.{after_read}
 use Rattle.b2_host.specs.Outside.{Outside}
-use Rattle.b2_host.specs.OutsideLaws.{Keeps, keeps_same, keeps_then, keeps_fails, keeps_reads, then_rose}
+use Rattle.b2_host.specs.OutsideLaws.{keeps_same, keeps_then, keeps_fails, keeps_reads, then_rose}
 use Rattle.jam_journal.specs.Tables.{Text}
 use Rattle.jam_scope.specs.Worlds.{World}
 use Rattle.jam_eval.specs.Includes.{path_from, is_below, is_in_roots}
@@ -20,7 +20,7 @@ use Rattle.b2_walk.specs.declared.fault.LoadFault.{LoadFault}
 use Rattle.b2_walk.specs.declared.fault.LoadFault.TheVariants as faults
 use Rattle.b2_walk.specs.declared.project_file.ProjectFile.{ProjectFile}
 use Rattle.b2_walk.specs.Directories.{file_names, seen, or_next, first_file}
-use Rattle.b2_walk.specs.Finding.{AreReadings, misses, of_io, IsRead, IsFileFound, IfVisible, IsSeen, IsFileAt, IsFileOf, Looked, CountsFault, Counts, LooksFor}
+use Rattle.b2_walk.specs.Finding.{misses, of_io, IsRead, IsFileFound, IsSeen, IsFileAt, IsFileOf, Looked, CountsFault, Counts, LooksFor}
 
 -- ---- the outside
 

@@ -7,6 +7,7 @@ mod NativeParents
 mod RunSteps
 mod DoSteps
 mod VisitSteps
+mod TextSteps
 mod WalkSteps
 mod OneCourse
 mod NewSteps

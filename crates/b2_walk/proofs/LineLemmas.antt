@@ -11,10 +11,7 @@ use Rattle.std.proofs.lemmas.Slice.Eq.{bytes_eq-Decides}
 use Rattle.b2_metatargets.specs.declared.visit.Visit.{Visit}
 use Rattle.jam_journal.specs.Tables.{Text, Table}
 use Rattle.jam_journal.proofs.TableLemmas.{key_order}
-use Rattle.jam_natives.specs.Keeping.{Kept}
-use Rattle.jam_eval.specs.States.{State}
-use Rattle.jam_scope.specs.Worlds.{World}
-use Rattle.jam_scope.specs.Lines.{upward, line_by, line, may_be_above}
+use Rattle.jam_scope.specs.Lines.{upward, line_by, line}
 use Rattle.b2_walk.specs.Directories.{module_name, place_after, is_visited, module_at, module_above}
 use Rattle.b2_walk.specs.Running.{MayBePut}
 use Rattle.b2_walk.specs.Walks.{Walk, put_below}

@@ -1,10 +1,10 @@
 -- The native rules put no module below another one.
-use Rattle.std.proofs.Common.{◌≡◌, ℕ, Bool, true, false, not, ◌&&◌, ◌==◌, List, [], ◌∷◌, ◌++◌, length, Option, Some, None, Result, Ok, Err, refl, sym, ap, ◌∙◌}
+use Rattle.std.proofs.Common.{◌≡◌, ℕ, Bool, true, false, not, ◌&&◌, ◌==◌, List, [], ◌∷◌, ◌++◌, length, Option, Some, None, Result, Ok, Err, refl, ap, ◌∙◌}
 use Rattle.std.specs.Prelude.{if◌then◌else◌}
 use Rattle.jam_journal.specs.Tables.{Text, Table}
 use Rattle.jam_journal.specs.Scopes.{Value}
 use Rattle.jam_scope.specs.Worlds.{World, Worlds}
-use Rattle.jam_scope.specs.Changes.{changed, add_roots}
+use Rattle.jam_scope.specs.Changes.{add_roots}
 use Rattle.jam_eval.specs.declared.native_answer.NativeStep.{NativeStep}
 use Rattle.jam_eval.specs.declared.native_answer.NativeStep.TheVariants as steps
 use Rattle.jam_eval.specs.Refused.{refused_here}
@@ -24,7 +24,7 @@ use Rattle.jam_natives.specs.Keeping.{Kept}
 use Rattle.jam_natives.specs.OutputDirs.{names_output_dirs, root_paths, is_refused}
 use Rattle.jam_natives.specs.Rules.{native_of, shape_of, is_declaring}
 use Rattle.jam_natives.specs.Shapes.{has_shape}
-use Rattle.jam_natives.specs.Rows.{read, read_answer, add_each, noted, foreign_in, unless_foreign, import_each, unless_missing, missing_rule, imported, is_project, declare_at, declare, row, row_if_shaped, call_of, jam_meaning}
+use Rattle.jam_natives.specs.Rows.{read, read_answer, add_each, noted, foreign_in, unless_foreign, import_each, unless_missing, missing_rule, imported, is_project, declare_at, declare, row, call_of, jam_meaning}
 
 -- the modules above modules, after an answer
 abbrev parents_after : {A : Type 0} → Told A Kept → Table Text

@@ -1,21 +1,17 @@
 -- What holds of a walk that was new.
-use Rattle.std.proofs.Common.{◌≡◌, ℕ, false, List, [], ◌∷◌, Option, Some, None, Result, Ok, Err, is_some, OnOk, IfErr, refl, sym, ap, ◌∙◌, subst, arith}
-use Rattle.std.specs.Prelude.{take}
+use Rattle.std.proofs.Common.{◌≡◌, ℕ, false, List, [], ◌∷◌, Some, None, Result, Ok, Err, is_some, OnOk, IfErr, refl, sym, ap, ◌∙◌, subst, arith}
 use Rattle.std.specs.FinMap as map
 use Rattle.std.proofs.lemmas.List.Elements.{All-nil}
 use Rattle.jam_journal.specs.Tables.{Text}
 use Rattle.jam_journal.specs.Scopes.{Frame}
 use Rattle.jam_scope.specs.Worlds.{Worlds}
 use Rattle.jam_eval.specs.Laws.{bounds, SameFrames}
-use Rattle.jam_eval.specs.Settings.{Setting}
-use Rattle.jam_natives.specs.Keeping.{Kept}
 use Rattle.jam_effects.specs.declared.turns.Turns.{Turns}
 use Rattle.b2_metatargets.specs.declared.visit.Visit.{Visit}
 use Rattle.b2_metatargets.specs.declared.visit.Call.{Call}
 use Rattle.b2_host.specs.Outside.{Outside}
 use Rattle.b2_walk.specs.declared.fault.LoadFault.{LoadFault}
 use Rattle.b2_walk.specs.declared.walk.Walk.{Walk as Walking}
-use Rattle.b2_walk.specs.Directories.{first_new}
 use Rattle.b2_walk.specs.Faults.{IsOfWalk}
 use Rattle.b2_walk.specs.Walks.{Walk, no_walk, Course, load_root, ComesTo}
 use Rattle.b2_walk.specs.Walking.{walk_of, IsNew, Follows, TellsWalk, AreOfProjects}

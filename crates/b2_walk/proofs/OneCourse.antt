@@ -1,10 +1,10 @@
 -- A walk comes to one end.
-use Rattle.std.proofs.Common.{◌≡◌, List, Option, Some, None, refl, sym, ◌∙◌, subst}
+use Rattle.std.proofs.Common.{◌≡◌, List, Some, None, refl, sym, ◌∙◌, subst}
 use Rattle.std.proofs.lemmas.Option.{same_Some}
 use Rattle.jam_journal.specs.Tables.{Text}
 use Rattle.jam_eval.specs.Settings.{Setting}
 use Rattle.jam_natives.specs.Keeping.{Kept}
-use Rattle.b2_walk.specs.Walks.{Walk, Course, goes_on, refused, load_dir, due, ComesTo, is_refused, is_whole, leads_on}
+use Rattle.b2_walk.specs.Walks.{Course, load_dir, ComesTo, is_refused, is_whole, leads_on}
 
 pub one_course : (setting : Setting Kept) (words : List Text) (from last other : Course) → ComesTo setting words from last → ComesTo setting words from other → last ≡ other
 one_course setting words _ _ _ (is_refused why s) (is_refused _ _) = refl

@@ -1,5 +1,5 @@
 -- A project's file, run in its module.
-use Rattle.std.proofs.Common.{◌≡◌, ◌<◌, ◌≤◌, ℕ, List, [], ◌∷◌, length, drop, Result, Ok, Err, Option, is_some, refl, sym, ap, ◌∙◌, subst, arith}
+use Rattle.std.proofs.Common.{◌≡◌, ◌<◌, List, [], ◌∷◌, length, drop, Result, Ok, Err, Option, refl, sym, ap, ◌∙◌, subst, arith}
 use Rattle.std.proofs.lemmas.List.{length-map}
 use Rattle.b2_host.specs.OutsideLaws.{keeps_same}
 use Rattle.b2_metatargets.specs.declared.visit.Visit.{Visit}
@@ -8,7 +8,7 @@ use Rattle.jam_journal.specs.Tables.{Text}
 use Rattle.jam_journal.specs.Scopes.{Frame, enter, leave}
 use Rattle.jam_scope.specs.Worlds.{Worlds}
 use Rattle.jam_scope.specs.Changes.{changed, rescoped, frames_at_mark}
-use Rattle.jam_eval.specs.Laws.{bound_of, bounds, SameFrames}
+use Rattle.jam_eval.specs.Laws.{bound_of, bounds}
 use Rattle.jam_eval.specs.NativeCalls.{KeepsFrames}
 use Rattle.jam_eval.specs.Outcomes.{Outcome, close_frame}
 use Rattle.jam_eval.specs.Eval.{run}

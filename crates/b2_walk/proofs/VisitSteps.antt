@@ -14,7 +14,6 @@ use Rattle.jam_journal.specs.Scopes.{enter}
 use Rattle.jam_lexer.specs.declared.fault.LexFault.{LexFault}
 use Rattle.jam_lexer.specs.declared.fault.LexFault.TheVariants as lexing
 use Rattle.jam_parser.specs.declared.fault.SyntaxFault.TheVariants as parsing
-use Rattle.jam_scope.specs.Worlds.{World}
 use Rattle.jam_eval.specs.Laws.{SameFrames, SameParents}
 use Rattle.jam_eval.specs.Refused.{Refuses, TookTurn}
 use Rattle.jam_eval.specs.Settings.{Setting, Reading, is_missing, is_too_big, has_no_tokens, has_no_tree, is_file}
@@ -30,22 +29,22 @@ use Rattle.jam_natives.specs.Seeing.{kept_of}
 use Rattle.jam_effects.specs.declared.fault.EvalFault.{EvalFault}
 use Rattle.jam_effects.specs.declared.fault.EvalFault.TheVariants as evaluating
 use Rattle.jam_effects.specs.Causes.{refused_by as pattern_refused_by, HoldsNoMemory}
-use Rattle.jam_effects.specs.Does.{Faults as EvalFaults, Counts as EvalCounts, CountsFault as EvalCountsFault}
-use Rattle.jam_effects.specs.Machines.{Machine, state_of, folder_of, IsSettingOf}
+use Rattle.jam_effects.specs.Does.{Faults as EvalFaults, CountsFault as EvalCountsFault}
+use Rattle.jam_effects.specs.Machines.{Machine, folder_of, IsSettingOf}
 use Rattle.b2_walk.specs.declared.fault.LoadFault.{LoadFault}
 use Rattle.b2_walk.specs.declared.fault.LoadFault.TheVariants as load_faults
 use Rattle.b2_walk.specs.Directories.{module_above, place_of, is_visited, first_new, visit_of, project_files, seen, first_file}
 use Rattle.b2_walk.specs.declared.project_file.ProjectFile.{ProjectFile}
-use Rattle.b2_walk.specs.Finding.{AreReadings, IsFileFound, IsFileOf, Looked, CountsFault, Counts, LooksFor}
-use Rattle.b2_walk.specs.Faults.{refusal_of, refused_by, refused_of, of_eval, of_lex, of_syntax, IsOfWalk}
+use Rattle.b2_walk.specs.Finding.{AreReadings, IsFileFound, IsFileOf, Looked, CountsFault, LooksFor}
+use Rattle.b2_walk.specs.Faults.{refusal_of, refused_by, of_eval, of_lex, of_syntax, IsOfWalk}
 use Rattle.b2_walk.specs.declared.walk.Walk.{Walk as Walking}
 use Rattle.b2_walk.specs.Walking.{walk_of, IsSettingFor, IsRefusedBy, AreOfProjects}
 use Rattle.b2_walk.specs.Laws.{FilesKeepParents}
 use Rattle.b2_walk.specs.Running.{MayBePut, Runs}
-use Rattle.b2_walk.specs.Walks.{Walk, Refusal, eval, lex, too_big, syntax_at, Course, goes_on, refused, prepared, put_below, call_of, names_of, new_calls, run_project, with_project, visited, after_run, after_reading, visit_file, visit_found, visit, unless_visited}
-use Rattle.b2_walk.specs.Doing.{Stand, ArePassed, AreInLine, IsNext, What, by, runs_tree, found_as, visits_dir, IsAdded, Agrees, IsGrown, Grows, IsOfWalkIf, Does}
+use Rattle.b2_walk.specs.Walks.{Walk, lex, too_big, syntax_at, Course, goes_on, prepared, put_below, call_of, names_of, new_calls, run_project, with_project, visited, after_run, visit_file, visit_found, visit}
+use Rattle.b2_walk.specs.Doing.{Stand, ArePassed, AreInLine, IsNext, What, runs_tree, found_as, visits_dir, IsAdded, IsGrown, Does}
 use Rattle.b2_walk.proofs.FindSteps.{looked_same, looked_then, counted}
-use Rattle.b2_walk.proofs.DoSteps.{frames_same, grows_same, agrees_from, does_from, setting_later, Stays, does_stay}
+use Rattle.b2_walk.proofs.DoSteps.{frames_same, agrees_from, does_from, setting_later, does_stay}
 use Rattle.b2_walk.proofs.LineLemmas.{may_be_put, in_line_more}
 use Rattle.b2_walk.proofs.VisitLemmas.{none_more, parent_before, no_place}
 use Rattle.b2_walk.proofs.CallLemmas.{of_one_more}
@@ -62,27 +61,27 @@ machine_at a = record {
   outside = a.outside;
 }
 
-setting_of : (setting : Setting Kept) (a : Stand) → IsSettingFor setting a.budget a.outside → IsSettingOf setting (machine_at a)
+pub setting_of : (setting : Setting Kept) (a : Stand) → IsSettingFor setting a.budget a.outside → IsSettingOf setting (machine_at a)
 setting_of setting a right = record { budget = right.budget; natives = ap Some (sym right.natives); folder = right.folder; right = right.right }
 
 -- ---- faults of evaluation
 
-refused_same : (e : EvalFault) → refused_by (of_eval e) ≡ pattern_refused_by e
+pub refused_same : (e : EvalFault) → refused_by (of_eval e) ≡ pattern_refused_by e
 refused_same evaluating.Host = refl
 refused_same evaluating.OutOfMemory = refl
 refused_same (evaluating.At path line why) = refl
 
-counts_eval : (e : EvalFault) (a b : Outside) → EvalCountsFault e a b → CountsFault (of_eval e) a b
+pub counts_eval : (e : EvalFault) (a b : Outside) → EvalCountsFault e a b → CountsFault (of_eval e) a b
 counts_eval evaluating.Host a b h = h
 counts_eval evaluating.OutOfMemory a b h = tt
 counts_eval (evaluating.At path line why) a b h = h
 
-whole_eval : (e : EvalFault) → HoldsNoMemory e → IsOfWalk (of_eval e)
+pub whole_eval : (e : EvalFault) → HoldsNoMemory e → IsOfWalk (of_eval e)
 whole_eval evaluating.Host h = tt
 whole_eval evaluating.OutOfMemory h = tt
 whole_eval (evaluating.At path line why) h = (_, refl, h)
 
-agrees_eval : (e : EvalFault) (o : Outcome Kept (Unit {0})) (next : State Kept → Walk) (s : State Kept) → EvalFaults e o s → IsRefusedBy (refusal_of (of_eval e)) (λ course. after_run o next ≡ course) s
+pub agrees_eval : (e : EvalFault) (o : Outcome Kept (Unit {0})) (next : State Kept → Walk) (s : State Kept) → EvalFaults e o s → IsRefusedBy (refusal_of (of_eval e)) (λ course. after_run o next ≡ course) s
 agrees_eval evaluating.Host o next s h = tt
 agrees_eval evaluating.OutOfMemory o next s h = tt
 agrees_eval (evaluating.At path line why) o next s h = ap (λ o₁. after_run o₁ next) h

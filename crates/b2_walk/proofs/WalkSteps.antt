@@ -1,5 +1,5 @@
 -- How a walk goes on from directory to directory.
-use Rattle.std.proofs.Common.{◌≡◌, ◌≤◌, ◌<◌, ◌+◌, ℕ, Bool, true, false, List, [], ◌∷◌, ◌++◌, length, take, drop, get_or, Option, Some, None, Result, Ok, Err, refl, sym, ap, ◌∙◌, subst, arith}
+use Rattle.std.proofs.Common.{◌≡◌, ◌<◌, ◌+◌, ℕ, true, false, List, [], ◌∷◌, ◌++◌, length, take, drop, get_or, Option, Some, None, Result, Ok, Err, refl, sym, ap, ◌∙◌, subst, arith}
 use Rattle.std.specs.Prelude.{if◌then◌else◌}
 use Rattle.std.proofs.lemmas.List.{drop_more}
 use Rattle.jam_journal.specs.Tables.{Text}
@@ -16,9 +16,9 @@ use Rattle.b2_walk.specs.declared.fault.LoadFault.TheVariants as faults
 use Rattle.b2_walk.specs.Directories.{here, way_to, is_visited, first_new}
 use Rattle.b2_walk.specs.Finding.{CountsFault}
 use Rattle.b2_walk.specs.Faults.{refusal_of, refused_by, refused_of, IsOfWalk}
-use Rattle.b2_walk.specs.Walking.{walk_of, IsSettingFor, IsRefusedBy}
+use Rattle.b2_walk.specs.Walking.{walk_of, IsRefusedBy}
 use Rattle.b2_walk.specs.Walks.{Walk, Refusal, no_jamroot, no_jamfile, Course, goes_on, refused, and_then, visit, visit_all, unless_visited, load_dir, load_root, due, ComesTo, is_refused, is_whole, leads_on}
-use Rattle.b2_walk.specs.Doing.{Stand, stand, ArePassed, Grows, AreInLine, What, by, visits_dir, visits_all, loads_dir, loads_root, Agrees, Does, walked, walked_all, Leads}
+use Rattle.b2_walk.specs.Doing.{Stand, stand, ArePassed, Grows, What, by, visits_dir, visits_all, loads_dir, loads_root, Does, walked, walked_all, Leads}
 use Rattle.b2_walk.proofs.VisitLemmas.{none_later, longer}
 use Rattle.b2_walk.proofs.VisitSteps.{no_memory}
 use Rattle.b2_walk.proofs.FindSteps.{looked_same, looked_then, counted}

@@ -1,12 +1,13 @@
 -- What the parts of a walk do, as they are proved. Who wants to know what a walk is needs Directories, Walks and Walking alone.
-use Rattle.std.specs.Prelude.{◌≡◌, ◌≤◌, ◌++◌, ℕ, true, List, [], length, take, drop, map as each, Option, Some, None, Result, Ok, Err, slice_get}
+use Rattle.std.specs.Prelude.{◌≡◌, ◌≤◌, ◌++◌, ℕ, true, List, [], length, take, drop, map as each, Some, None, Result, Ok, Err, slice_get}
 use Rattle.std.specs.FinMap as map
 use Rattle.b2_host.specs.Outside.{Outside}
-use Rattle.jam_grammar.specs.Trees.{StmtTrees}
+use Rattle.jam_grammar.specs.declared.tree.Tree.{Tree}
+use Rattle.jam_grammar.specs.Trees.{StmtTrees, whole_tree}
 use Rattle.jam_journal.specs.Tables.{Text}
 use Rattle.jam_eval.specs.Laws.{SameFrames}
 use Rattle.jam_eval.specs.Refused.{NamesNone, Refuses, TookTurn}
-use Rattle.jam_eval.specs.Settings.{Setting, Reading}
+use Rattle.jam_eval.specs.Settings.{Setting, Reading, is_file}
 use Rattle.jam_natives.specs.Keeping.{Kept}
 use Rattle.jam_natives.specs.Seeing.{kept_of}
 use Rattle.jam_effects.specs.declared.fault.EvalFault.{EvalFault}
@@ -18,8 +19,8 @@ use Rattle.b2_walk.specs.Directories.{IsBefore, module_name, module_above, place
 use Rattle.b2_walk.specs.Faults.{refusal_of, refused_of, IsOfWalk}
 use Rattle.b2_walk.specs.Finding.{Looked, Counts}
 use Rattle.b2_walk.specs.Running.{RunsProject}
-use Rattle.b2_walk.specs.Walking.{walk_of, IsSettingFor, IsRefusedBy, AreOfProjects}
-use Rattle.b2_walk.specs.Walks.{Walk, Course, goes_on, call_of, with_project, visited, after_run, run_project, visit_found, visit, visit_all, load_dir, load_root, ComesTo}
+use Rattle.b2_walk.specs.Walking.{walk_of, IsSettingFor, IsRefusedBy, Follows, AreOfProjects}
+use Rattle.b2_walk.specs.Walks.{Walk, Course, goes_on, call_of, with_project, visited, after_run, run_project, RunsText, run_text, visit_found, visit, visit_all, load_dir, load_root, ComesTo}
 
 -- a walk, how many of the first directories that were named are known to be visited, the turns that there were at first, and the outside
 pub record Stand : Type 0 where
@@ -81,6 +82,16 @@ abbrev pub Agrees : Result (Unit {0}) LoadFault → (Course → Type 0) → Walk
 Agrees (Ok u) comes w = comes (goes_on w) × AreInLine w
 Agrees (Err fault) comes w = IsRefusedBy (refusal_of fault) comes w.state
 
+-- a text that reads so runs, or one with these statements; and what comes of its bytes
+abbrev pub reads_text : Text → Reading → What
+reads_text path reading = by (λ setting w. run_text setting path reading w)
+
+abbrev pub reads_tree : Text → Tree → What
+reads_tree path tree = reads_text path (is_file (whole_tree tree))
+
+abbrev pub runs_bytes : Text → List ℕ → What
+runs_bytes path bytes setting w course = RunsText setting path bytes w course
+
 -- What a part of a walk adds: no project that was visited goes, and each call is one of a project.
 pub record Grows (before after : Stand) : Type 0 where
   pub passed : ArePassed before.walk.visits before.passed before.walk.named → ArePassed after.walk.visits after.passed after.walk.named
@@ -110,6 +121,18 @@ pub record Does (what : What) (before after : Stand) (result : Result (Unit {0})
   pub whole : IsOfWalkIf result
   pub grown : IsGrown result before after
 
+-- The same of a text that runs beside the files of projects, below whatever its modules stand.
+pub record RunsBeside (what : What) (before after : Stand) (result : Result (Unit {0}) LoadFault) : Type 0 where
+  pub told : (setting : Setting Kept) → IsSettingFor setting before.budget before.outside → Refuses setting.refused before.walk.state.left after.walk.state.left (refused_of result)
+      → Follows result (what setting before.walk) after.walk
+  pub turns : after.walk.state.left ≤ before.walk.state.left
+  pub budget : after.budget ≡ before.budget
+  pub frames : SameFrames before.walk.state after.walk.state
+  pub looked : Looked before.outside after.outside
+  pub counts : Counts result before.outside after.outside
+  pub took : TookTurn (refused_of result) before.walk.state.left after.walk.state.left
+  pub whole : IsOfWalkIf result
+
 -- what the walk comes to from here, and from Jamroot on
 abbrev pub walked : List Text → What
 walked words setting w course = ComesTo setting words (goes_on w) course
@@ -131,6 +154,9 @@ pub record Leads (whole rest : What) (before after : Stand) : Type 0 where
 -- the same of the code's values, by what the files say of themselves
 abbrev pub DoesOn : {F : Type 0} → (F → Outside) → What → Walking → Turns → F → Walking → Turns → F → Result (Unit {0}) LoadFault → Type 0
 DoesOn outside what w ts f w' ts' f' result = Does what (stand w ts (outside f)) (stand w' ts' (outside f')) result
+
+abbrev pub RunsBesideOn : {F : Type 0} → (F → Outside) → What → Walking → Turns → F → Walking → Turns → F → Result (Unit {0}) LoadFault → Type 0
+RunsBesideOn outside what w ts f w' ts' f' result = RunsBeside what (stand w ts (outside f)) (stand w' ts' (outside f')) result
 
 -- the file of a project has run in a walk
 abbrev pub RunsFile : {F : Type 0} → (F → Outside) → Visit → StmtTrees → Walking → Turns → F → Walking → Turns → F → Result (Unit {0}) EvalFault → Type 0

@@ -73,11 +73,6 @@ of_lex path fault = faults.Lex path fault
 abbrev pub of_syntax : Text → ℕ → Text → LoadFault
 of_syntax path line found = faults.Syntax path (parsing.At line found)
 
--- an answer is this fault, or out of memory
-abbrev pub IsRefusal : LoadFault → LoadFault → Type 0
-IsRefusal fault faults.OutOfMemory = Unit {0}
-IsRefusal fault answer = answer ≡ fault
-
 -- ---- the pattern that was refused although it reads as one
 
 abbrev pub refused_by : LoadFault → Option Text

@@ -1,8 +1,11 @@
 -- What running a project's file does, as it is proved.
 use Rattle.std.specs.Prelude.{◌≡◌, ◌≤◌, IsTrue, Option, Some, None, Result, IfErr}
+use Rattle.std.specs.Borrow.{Bor}
+use Rattle.std.specs.Option.{option_copied}
 use Rattle.b2_host.specs.Outside.{Outside}
 use Rattle.b2_metatargets.specs.declared.visit.Visit.{Visit}
-use Rattle.jam_grammar.specs.Trees.{StmtTrees}
+use Rattle.jam_grammar.specs.declared.tree.Tree.{Tree}
+use Rattle.jam_grammar.specs.Trees.{StmtTrees, whole_tree}
 use Rattle.jam_journal.specs.Tables.{Text}
 use Rattle.jam_journal.specs.Scopes.{enter}
 use Rattle.jam_scope.specs.Worlds.{World, Worlds}
@@ -22,7 +25,7 @@ use Rattle.jam_effects.specs.Does.{Tells, Counts}
 use Rattle.jam_effects.specs.Machines.{Machine, machine, state_of}
 use Rattle.jam_effects.specs.Views.{What, ended}
 use Rattle.b2_walk.specs.Finding.{Looked}
-use Rattle.b2_walk.specs.Walks.{prepared, run_project}
+use Rattle.b2_walk.specs.Walks.{put_below, prepared, run_project}
 
 -- natives, a world and turns, as evaluation has them
 abbrev pub machine_of : Worlds → Turns → JamNatives → Outside → Machine Kept
@@ -32,6 +35,10 @@ machine_of worlds turns natives outside = machine worlds turns (kept_of natives)
 abbrev pub MayBePut : Text → Option Text → World → Type 0
 MayBePut owner None w = Unit {0}
 MayBePut owner (Some above) w = IsTrue (may_be_above w.parents above owner)
+
+-- a module was put below that of a parent, if there is one and it may be put there
+abbrev pub IsPutBelow : Text → Option Text → Worlds → Worlds → Type 0
+IsPutBelow owner above before after = MayBePut owner above before.now → after ≡ changed (put_below owner above) before
 
 -- the world in which a project's file begins, but for its frame
 abbrev pub IsPrepared : Visit → Option Text → Worlds → Worlds → Type 0
@@ -64,3 +71,8 @@ abbrev pub RunsProject : {F : Type 0} → (F → Outside) → Visit → Option T
     → Worlds → Turns → JamNatives → F → Worlds → Turns → JamNatives → F → Result (Unit {0}) EvalFault → Type 0
 RunsProject outside visit above tree ws ts n f ws' ts' n' f' result =
     Runs (project_at visit above tree) (MayBePut visit.«module» above ws.now) (machine_of ws ts n (outside f)) (machine_of ws' ts' n' (outside f')) result
+
+-- the same, as the code has its tree and the module of its parent
+abbrev pub RunsVisit : {F : Type 0} → (F → Outside) → Visit → Option (Bor Text) → Tree → Worlds → Turns → JamNatives → F → Worlds → Turns → JamNatives → F
+    → Result (Unit {0}) EvalFault → Type 0
+RunsVisit outside visit above tree = RunsProject outside visit (option_copied above) (whole_tree tree)

@@ -15,7 +15,7 @@ use Rattle.jam_effects.specs.Machines.{folder_of}
 use Rattle.b2_walk.specs.declared.fault.LoadFault.{LoadFault}
 use Rattle.b2_walk.specs.declared.walk.Walk.{Walk as Walking}
 use Rattle.b2_walk.specs.Faults.{refusal_of, refused_of}
-use Rattle.b2_walk.specs.Walks.{Walk, no_walk, Refusal, Course, goes_on, refused, load_root, ComesTo}
+use Rattle.b2_walk.specs.Walks.{Walk, no_walk, Refusal, Course, goes_on, refused, RunsText, load_root, ComesTo}
 
 -- the walk of the code, with so many turns left
 abbrev pub walk_of : Walking → ℕ → Walk
@@ -58,6 +58,12 @@ abbrev pub TellsWalk : Outside → List Text → Turns → Turns → Walking →
 TellsWalk outside words before after w result =
     (setting : Setting Kept) → IsSettingFor setting before.budget outside → Refuses setting.refused before.left after.left (refused_of result)
     → Follows result (WalkComesTo setting before.left words) (walk_of w after.left)
+
+-- The same of a text that runs beside the files of projects: it leaves this walk.
+abbrev pub TellsText : Outside → Text → List ℕ → Turns → Turns → Walking → Walking → Result (Unit {0}) LoadFault → Type 0
+TellsText outside path bytes before after w w' result =
+    (setting : Setting Kept) → IsSettingFor setting before.budget outside → Refuses setting.refused before.left after.left (refused_of result)
+    → Follows result (RunsText setting path bytes (walk_of w before.left)) (walk_of w' after.left)
 
 -- ---- over every host
 

@@ -1,5 +1,5 @@
 -- Which projects a load visits, and what it does there.
-use Rattle.std.specs.Prelude.{◌≡◌, ℕ, List, [], ◌∷◌, ◌++◌, codes, drop, length, map as each, Option, Some, None, if◌then◌else◌}
+use Rattle.std.specs.Prelude.{◌≡◌, ℕ, List, [], ◌∷◌, ◌++◌, drop, length, map as each, Option, Some, None, if◌then◌else◌}
 use Rattle.std.specs.List.{flat_map}
 use Rattle.b2_declarations.specs.declared.declaration.Declaration.{Declaration}
 use Rattle.b2_declarations.specs.Declarations.{shape_of}
@@ -19,6 +19,7 @@ use Rattle.jam_eval.specs.Outcomes.{Outcome, gives, faults, in_module}
 use Rattle.jam_eval.specs.Eval.{run}
 use Rattle.jam_natives.specs.declared.decl.Decl.{Decl}
 use Rattle.jam_natives.specs.Keeping.{Kept}
+use Rattle.jam_values.specs.FileReadings.{ReadsAny}
 use Rattle.b2_walk.specs.Directories.{here, way_to, project_files, seen, first_file, is_visited, first_new, visit_of, module_above}
 
 -- The walk so far: the projects that were visited, in order; the calls of declaring rules that their files made, in order; the
@@ -137,6 +138,16 @@ module _ (setting : Setting Kept) where
   abbrev pub visit_all : List Text → Walk → Course
   visit_all [] w = goes_on w
   visit_all (dir ∷ dirs) w = and_then (visit dir w) (λ next. visit_all dirs next)
+
+  -- ---- a text beside the files of projects
+
+  -- it runs in the global module, as a file with this path
+  abbrev pub run_text : Text → Reading → Walk → Course
+  run_text path reading w = after_reading path reading w (λ tree. after_run (run setting path tree w.state) (λ s. record w { state = s }))
+
+  -- what comes of its bytes
+  abbrev pub RunsText : Text → List ℕ → Walk → Course → Type 0
+  RunsText path bytes w course = (reading : Reading) × ReadsAny bytes reading × (course ≡ run_text path reading w)
 
   -- ---- all projects
 

@@ -8,5 +8,6 @@ pub mod laws;
 mod project_file;
 mod queue;
 mod running;
+mod text;
 pub mod visits;
 pub mod walk;

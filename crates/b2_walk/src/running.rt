@@ -1,11 +1,9 @@
 //! The file of a project, run in its module.
 ghost use Rattle.std.specs.Prelude.{◌≡◌, ◌<◌, length, OnOk, OnErr};
 ghost use Rattle.std.specs.Option.{option_copied};
-ghost use Rattle.jam_grammar.specs.Trees.{whole_tree};
-ghost use Rattle.jam_scope.specs.Changes.{changed, frames_at_mark};
+ghost use Rattle.jam_scope.specs.Changes.{frames_at_mark};
 ghost use Rattle.jam_eval.specs.NativeCalls.{KeepsFrames};
-ghost use Rattle.b2_walk.specs.Walks.{put_below};
-ghost use Rattle.b2_walk.specs.Running.{MayBePut, IsPrepared, HasEntered, RunsProject};
+ghost use Rattle.b2_walk.specs.Running.{IsPutBelow, IsPrepared, HasEntered, RunsVisit};
 
 use b2_base::fault::OutOfMemory;
 use b2_base::text::Text;
@@ -22,7 +20,7 @@ use std::alloc::Global;
 /// Puts a module below that of the parent, if there is one and it may be put there. It always may in the world of a walk whose
 /// files are visible.
 fn put_below(world: &mut World, owner: &Text, above: Option<&Text>) -> Result<(), OutOfMemory>
-    ensures ok { OnOk result (MayBePut owner.now (option_copied above.entry) world.old.now → world.new ≡ changed (put_below owner.now (option_copied above.entry)) world.old) }
+    ensures ok { OnOk result (IsPutBelow owner.now (option_copied above.entry) world.old world.new) }
     ensures frames { KeepsFrames world.old world.new }
 {
     let Some(parent) = above else {
@@ -64,7 +62,7 @@ pub(crate) fn run_project<F: Files>(
     above: Option<&Text>,
     tree: &Tree,
 ) -> Result<(), EvalFault>
-    ensures { RunsProject F.outside visit.now (option_copied above.entry) (whole_tree tree.now) world.old turns.old natives.old files.old world.new turns.new natives.new files.new result }
+    ensures { RunsVisit F.outside visit.now above.entry tree.now world.old turns.old natives.old files.old world.new turns.new natives.new files.new result }
 {
     enter(world, visit, above)?;
     let ended = run(alloc, world, &visit.file, tree, turns, natives, files);

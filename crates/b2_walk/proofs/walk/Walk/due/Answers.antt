@@ -1,4 +1,4 @@
-use Rattle.std.proofs.Common.{◌≡◌, ◌∙◌, Some, None, sym, ap}
+use Rattle.std.proofs.Common.{◌∙◌, Some, sym, ap}
 use Rattle.std.specs.Option.{option_or, option_map}
 use Rattle.b2_walk.specs.Directories.{first_new}
 use Rattle.b2_walk.proofs.VisitLemmas.{new_append}

@@ -1,4 +1,4 @@
-use Rattle.std.proofs.Common.{[], drop, ◌+◌, Err, sym, ap, ◌∙◌, subst, arith}
+use Rattle.std.proofs.Common.{drop, ◌+◌, Err, sym, ap, ◌∙◌, subst, arith}
 use Rattle.std.proofs.lemmas.List.{drop_all}
 use Rattle.std.proofs.lemmas.Result.{err_from_is_err_and}
 use Rattle.b2_walk.specs.Doing.{stand, visits_all, Does, Leads}

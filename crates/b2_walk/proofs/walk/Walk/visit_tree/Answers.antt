@@ -1,4 +1,4 @@
-use Rattle.std.proofs.Common.{Ok, Err, length, refl, sym, ap, ◌∙◌, subst}
+use Rattle.std.proofs.Common.{Err, length, refl, sym, ap, ◌∙◌, subst}
 use Rattle.jam_grammar.specs.Trees.{whole_tree}
 use Rattle.b2_walk.specs.declared.walk.Walk.{Walk as Walking}
 use Rattle.b2_walk.specs.Doing.{stand, runs_tree, Does}
