@@ -1,0 +1,18 @@
+//! What texts name in a loaded project: sources, values of dependency properties, target words; and what a request asks for.
+#![tactic(auto)]
+
+pub mod asked;
+pub mod default_sets;
+mod entries;
+mod groups;
+pub mod index;
+mod lookups;
+pub mod meaning;
+pub mod name;
+mod products;
+pub mod projects;
+pub mod references;
+pub mod requests;
+mod walk;
+mod word;
+mod written;

@@ -1,0 +1,67 @@
+//! Names of main targets.
+ghost use Rattle.std.specs.Prelude.{◌≡◌, IfOk};
+ghost use Rattle.b2_references.specs.Names.{is_same};
+
+use b2_base::fault::OutOfMemory;
+use b2_base::list::List;
+use b2_base::text::Text;
+use std::marker::Model;
+
+/// A main target by the place of its project among the projects, from 0, and its name there; seen as the pair of both.
+#[derive(Drop)]
+pub struct TargetName {
+    project: usize,
+    name: Text,
+}
+
+impl Model for TargetName {
+    ghost use Rattle.std.specs.Prelude.{ℕ, List};
+
+    ghost Value = { ℕ × List ℕ };
+
+    ghost view = { λ t. (t.project, t.name) };
+}
+
+impl TargetName {
+    /// The name of a main target of a project; takes no memory.
+    pub fn new(project: usize, name: Text) -> TargetName
+        ensures { result ≡ (project, name) }
+    {
+        TargetName { project, name }
+    }
+
+    /// The place of the project; takes no memory.
+    pub fn project(&self) -> usize
+        ensures { result ≡ self.now.0 }
+    {
+        self.project
+    }
+
+    /// The name in the project; takes no memory.
+    pub fn name(&self) -> &Text
+        ensures { result.now ≡ self.now.1 }
+    {
+        &self.name
+    }
+
+    /// The same name.
+    pub fn copy(&self) -> Result<TargetName, OutOfMemory>
+        ensures { IfOk result (λ made. made ≡ self.now) }
+    {
+        let name = self.name.copy()?;
+        Ok(TargetName {
+            project: self.project,
+            name,
+        })
+    }
+
+    /// Whether two names are one; takes no memory.
+    pub fn equals(&self, other: &TargetName) -> bool
+        ensures { result ≡ is_same self.now other.now }
+    {
+        self.project == other.project && self.name == other.name
+    }
+}
+
+/// Names of main targets in order.
+pub type NameList = List<TargetName>;
