@@ -1,0 +1,142 @@
+//! How answers are shown.
+use b2_base::text::Text;
+use b2_metatargets::place::{Place, Target};
+use b2_props::request::PropsList;
+use b2_references::asked::Asked;
+use b2_references::index::Index;
+use b2_references::meaning::Meaning;
+use b2_references::name::TargetName;
+use std::alloc::Global;
+use transcript::answer::Answer;
+use transcript::case_fault::CaseFault;
+
+pub fn number(alloc: Global, number: usize) -> Result<Answer, CaseFault> {
+    Answer::line(alloc, format!(in alloc; "{number}")?.as_str())
+}
+
+pub fn number_or_none(alloc: Global, found: Option<usize>) -> Result<Answer, CaseFault> {
+    match found {
+        Some(found) => number(alloc, found),
+        None => Answer::line(alloc, "none"),
+    }
+}
+
+pub fn numbers(alloc: Global, numbers: &[usize]) -> Result<Answer, CaseFault> {
+    let mut answer = Answer::new(alloc);
+    for number in numbers {
+        let number = *number;
+        answer.push_line(format!(in alloc; "{number}")?.as_str())?;
+    }
+    Ok(answer)
+}
+
+fn push_word(line: &mut String, word: &str) -> Result<(), CaseFault> {
+    if !line.is_empty() {
+        line.push(' ')?;
+    }
+    line.push_str(if word.is_empty() { "\"\"" } else { word })?;
+    Ok(())
+}
+
+fn words(alloc: Global, words: &[Text]) -> Result<String, CaseFault> {
+    let mut line = String::new(alloc);
+    for word in words {
+        push_word(&mut line, word.as_str())?;
+    }
+    Ok(line)
+}
+
+/// The sources of each alternative.
+pub fn targets(alloc: Global, targets: &[&Target]) -> Result<Answer, CaseFault> {
+    let mut answer = Answer::new(alloc);
+    for target in targets {
+        answer.push_line(words(alloc, target.sources.as_slice())?.as_str())?;
+    }
+    Ok(answer)
+}
+
+/// The directory of each project.
+pub fn places(alloc: Global, places: &[&Place]) -> Result<Answer, CaseFault> {
+    let mut answer = Answer::new(alloc);
+    for place in places {
+        answer.push_line(place.dir.as_str())?;
+    }
+    Ok(answer)
+}
+
+fn push_pairs(line: &mut String, pairs: &[(Text, Text)]) -> Result<(), CaseFault> {
+    for pair in pairs {
+        if !line.is_empty() {
+            line.push(' ')?;
+        }
+        line.push('<')?;
+        line.push_str(pair.0.as_str())?;
+        line.push('>')?;
+        line.push_str(pair.1.as_str())?;
+    }
+    Ok(())
+}
+
+pub fn pairs(alloc: Global, pairs: &[(Text, Text)]) -> Result<Answer, CaseFault> {
+    let mut line = String::new(alloc);
+    push_pairs(&mut line, pairs)?;
+    Answer::line(alloc, line.as_str())
+}
+
+pub fn sets(alloc: Global, sets: &PropsList) -> Result<Answer, CaseFault> {
+    let mut answer = Answer::new(alloc);
+    for set in sets.as_slice() {
+        let mut line = String::new(alloc);
+        push_pairs(&mut line, set.pairs())?;
+        answer.push_line(line.as_str())?;
+    }
+    Ok(answer)
+}
+
+fn names(alloc: Global, index: &Index, names: &[TargetName]) -> Result<Answer, CaseFault> {
+    if names.is_empty() {
+        return Answer::line(alloc, "no targets");
+    }
+    let mut answer = Answer::new(alloc);
+    for name in names {
+        answer.push_line(index.target_text(name.project(), name.name())?.as_str())?;
+    }
+    Ok(answer)
+}
+
+/// What a text names.
+pub fn meaning(alloc: Global, index: &Index, meaning: &Meaning) -> Result<Answer, CaseFault> {
+    match meaning {
+        Meaning::File { path } => {
+            let path = path.as_str();
+            Answer::line(alloc, format!(in alloc; "file {path}")?.as_str())
+        }
+        Meaning::Targets { names: all } => names(alloc, index, all.as_slice()),
+        Meaning::Nothing => Answer::line(alloc, "nothing"),
+    }
+}
+
+fn piece(alloc: Global, index: &Index, piece: &Asked) -> Result<String, CaseFault> {
+    match piece {
+        Asked::Main { name, set } => {
+            let target = index.target_text(name.project(), name.name())?;
+            let mut line = String::from_str(alloc, target.as_str())?;
+            push_pairs(&mut line, set.pairs())?;
+            Ok(line)
+        }
+        Asked::NoTarget { word } => {
+            let mut line = String::from_str(alloc, "no target")?;
+            push_word(&mut line, word.as_str())?;
+            Ok(line)
+        }
+    }
+}
+
+/// What a request asks for.
+pub fn pieces(alloc: Global, index: &Index, pieces: &[Asked]) -> Result<Answer, CaseFault> {
+    let mut answer = Answer::new(alloc);
+    for one in pieces {
+        answer.push_line(piece(alloc, index, one)?.as_str())?;
+    }
+    Ok(answer)
+}
