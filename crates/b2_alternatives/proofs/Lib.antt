@@ -1,0 +1,13 @@
+pub mod ListLemmas
+pub mod UsageLemmas
+pub mod ReadingLemmas
+pub mod KnownLemmas
+pub mod ConflictLemmas
+pub mod NeedLemmas
+pub mod DependencyLemmas
+pub mod NumberLemmas
+pub mod PickLemmas
+pub mod ChoosingLemmas
+pub mod ChoiceLaws
+pub mod AskingLemmas
+pub mod SettlingLemmas

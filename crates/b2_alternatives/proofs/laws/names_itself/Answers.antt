@@ -1,0 +1,5 @@
+use Rattle.b2_alternatives.proofs.ChoiceLaws.{names_itself}
+use Rattle.b2_alternatives.proofs.laws.names_itself.Goals as goal
+
+pub returns : goal.returns
+returns g c = names_itself

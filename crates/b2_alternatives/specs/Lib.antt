@@ -1,0 +1,9 @@
+pub mod Choosing
+pub mod Needs
+pub mod Usage
+pub mod Asking
+pub mod Picking
+pub mod Standing
+pub mod Conflicting
+pub mod Laws
+pub mod Settling

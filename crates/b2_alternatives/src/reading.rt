@@ -1,0 +1,91 @@
+//! The texts that the rule of an indirect requirement returned.
+ghost use Rattle.std.specs.Prelude.{◌≡◌, ◌∷◌, is_some, map, codes, IfOk, option_map};
+ghost use Rattle.b2_texts.specs.Cuts.{cut_at};
+ghost use Rattle.b2_alternatives.specs.Choosing.{property_text, answered_pair, answered};
+
+use b2_base::fault::OutOfMemory;
+use b2_base::list::List;
+use b2_base::path::Path;
+use b2_base::text::Text;
+use b2_base::text_list::TextList;
+use b2_features::fault::FeatureFault;
+use b2_features::registry::Registry;
+use b2_metatargets::whole::Declared;
+use b2_props::pair_list::PairList;
+use b2_texts::reading::read_property;
+use std::alloc::Global;
+
+/// Texts that a rule returned, as properties, or the first of them that is none.
+#[derive(Drop)]
+pub enum Reading {
+    Properties(PairList),
+    Bad(Text),
+}
+
+/// A property as a text, `<feature>value`.
+fn property_text(alloc: Global, property: &(Text, Text)) -> Result<Text, OutOfMemory>
+    ensures { IfOk result (λ text. text ≡ property_text property.now) }
+{
+    let feature = property.0.as_str();
+    let value = property.1.as_str();
+    Ok(Text::from_string(format!(in alloc; "<{feature}>{value}")?))
+}
+
+/// Properties as texts, in order.
+pub(crate) fn property_texts(
+    alloc: Global,
+    properties: &[(Text, Text)],
+) -> Result<TextList, OutOfMemory>
+    ensures { IfOk result (λ texts. texts ≡ map property_text properties.now) }
+{
+    let mut texts = List::new(alloc);
+    for property in properties {
+        texts.push(property_text(alloc, property)?)?;
+    }
+    Ok(texts)
+}
+
+/// Whether a text has conditions.
+fn is_conditional(text: &Text) -> bool
+    ensures { result ≡ is_some (cut_at (codes ":<") text.now) }
+{
+    text.as_str().split_once(":<").is_some()
+}
+
+/// A text that a rule returned as a property, in the project of a directory; one with conditions is none.
+fn answered_pair(
+    alloc: Global,
+    declared: &Declared,
+    dir: &Path,
+    text: &Text,
+) -> Result<Option<(Text, Text)>, OutOfMemory>
+    ensures { IfOk result (λ property. property ≡ answered_pair declared.now dir.now text.now) }
+{
+    if is_conditional(text) {
+        return Ok(None);
+    }
+    match read_property(alloc, &declared.registry, dir, text) {
+        Ok(property) => Ok(Some(property)),
+        Err(FeatureFault::OutOfMemory) => Err(OutOfMemory),
+        Err(_) => Ok(None),
+    }
+}
+
+/// Texts that a rule returned, as properties in the project of a directory, up to the first that is none.
+pub(crate) fn answered(
+    alloc: Global,
+    declared: &Declared,
+    dir: &Path,
+    texts: &[Text],
+) -> Result<Reading, OutOfMemory>
+    ensures { IfOk result (λ reading. reading ≡ answered declared.now dir.now texts.now) }
+{
+    let mut made = PairList::new(alloc);
+    for text in texts {
+        match answered_pair(alloc, declared, dir, text)? {
+            Some((feature, value)) => made.push(feature, value)?,
+            None => return Ok(Reading::Bad(text.copy()?)),
+        }
+    }
+    Ok(Reading::Properties(made))
+}
