@@ -1,0 +1,14 @@
+pub mod ActLemmas
+pub mod DidLemmas
+pub mod PartLemmas
+pub mod RepeatLemmas
+pub mod ChainLemmas
+pub mod AlongLemmas
+pub mod OneLemmas
+pub mod SteadyLemmas
+pub mod KindLemmas
+pub mod Exits
+pub mod RunLemmas
+pub mod CopyLemmas
+pub mod TextLemmas
+pub mod OutputLemmas

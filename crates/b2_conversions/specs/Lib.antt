@@ -1,0 +1,10 @@
+pub mod Faults
+pub mod Acts
+pub mod Supplies
+pub mod Repeats
+pub mod Contexts
+pub mod Steps
+pub mod Conversions
+pub mod Answers
+pub mod Doing
+pub mod Laws
