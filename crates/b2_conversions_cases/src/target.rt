@@ -1,0 +1,104 @@
+//! The main target at hand: its project, its properties, and what is supplied to it.
+use crate::words::{halves, path_of, text};
+use b2_base::path::Path;
+use b2_base::path_list::PathList;
+use b2_base::text::Text;
+use b2_conversions::entry::{Entry, EntryList, Supply, file_entry};
+use b2_generators::types::Types;
+use b2_props::pair_list::PairList;
+use b2_virtual::tails::source_tail;
+use std::alloc::Global;
+use transcript::case_fault::CaseFault;
+use transcript::command::Word;
+
+/// A project, by its directory, its module and its file.
+#[derive(Drop)]
+pub struct Project {
+    pub dir: Path,
+    pub owner: Text,
+    pub file: Path,
+}
+
+/// What is supplied to a main target, and its properties.
+#[derive(Drop)]
+pub struct Needs {
+    pub properties: PairList,
+    pub sources: Vec<Supply>,
+    pub parts: Vec<Supply>,
+    pub order: PathList,
+}
+
+impl Needs {
+    pub fn new(alloc: Global) -> Needs {
+        Needs {
+            properties: PairList::new(alloc),
+            sources: Vec::new(alloc),
+            parts: Vec::new(alloc),
+            order: PathList::new(alloc),
+        }
+    }
+}
+
+fn module_of(alloc: Global, dir: &Path) -> Result<Text, CaseFault> {
+    let dir = dir.as_str();
+    let name = format!(in alloc; "Jamfile<{dir}>")?;
+    text(alloc, name.as_str())
+}
+
+fn file_in(alloc: Global, dir: &Path) -> Result<Path, CaseFault> {
+    let dir = dir.as_str();
+    let path = format!(in alloc; "{dir}/Jamfile")?;
+    path_of(alloc, path.as_str())
+}
+
+/// The project in a directory.
+pub fn project_in(alloc: Global, dir: &str) -> Result<Project, CaseFault> {
+    let dir = path_of(alloc, dir)?;
+    let owner = module_of(alloc, &dir)?;
+    let file = file_in(alloc, &dir)?;
+    Ok(Project { dir, owner, file })
+}
+
+/// A file that a step made. Below `bin` its tail is the rest of its path.
+fn made_entry(alloc: Global, types: &Types, word: &Word) -> Result<Entry, CaseFault> {
+    let path = path_of(alloc, word.as_str()?)?;
+    let tail = match path.as_str().strip_prefix("bin/") {
+        Some(tail) => path_of(alloc, tail)?,
+        None => source_tail(alloc, &path)?,
+    };
+    let file_type = text(alloc, types.type_of(&path))?;
+    Ok(Entry {
+        path,
+        file_type,
+        tail,
+        is_made: true,
+    })
+}
+
+fn made_entries(alloc: Global, types: &Types, words: &[Word]) -> Result<EntryList, CaseFault> {
+    let mut made = EntryList::new(alloc);
+    for word in words {
+        made.push(made_entry(alloc, types, word)?)?;
+    }
+    Ok(made)
+}
+
+/// What a main target supplies: `ENTRIES : CARRIED`.
+pub fn target_supply(alloc: Global, types: &Types, words: &[Word]) -> Result<Supply, CaseFault> {
+    let (entries, carried) = halves(words);
+    Ok(Supply {
+        entries: made_entries(alloc, types, entries)?,
+        carried: made_entries(alloc, types, carried)?,
+    })
+}
+
+/// What a file supplies.
+pub fn file_supply(alloc: Global, types: &Types, word: &Word) -> Result<Supply, CaseFault> {
+    let path = path_of(alloc, word.as_str()?)?;
+    let mut entries = EntryList::new(alloc);
+    entries.push(file_entry(alloc, types, &path)?)?;
+    Ok(Supply {
+        entries,
+        carried: EntryList::new(alloc),
+    })
+}
