@@ -1,0 +1,6 @@
+mod OneEnding
+mod ToolsetSteps
+mod EndSteps
+mod RunSteps
+mod LoadSteps
+mod AnswerLemmas

@@ -1,0 +1,183 @@
+-- Whether a call brings the toolset in, and what its build text says.
+use Rattle.std.proofs.Common.{◌≡◌, ◌≤◌, ◌+◌, ℕ, zero, suc, List, [], ◌∷◌, codes, length, take, get_or, Option, Some, None, is_some, Result, Ok, Err, is_ok, true, false, inl, inr, refl, sym, ap, ◌∙◌, subst, arith}
+use Rattle.std.specs.Prelude.{slice_get}
+use Rattle.std.specs.Option.{IfSome}
+use Rattle.std.specs.declared.vec.Vec.{Vec}
+use Rattle.std.specs.declared.alloc.Global.{Global}
+use Rattle.std.proofs.lemmas.List.{take_all}
+use Rattle.std.proofs.lemmas.Option.{same_Some, slice_get_read, slice_get_within}
+use Rattle.b2_features.specs.declared.fault.FeatureFault.TheVariants as features
+use Rattle.b2_gcc.specs.BuildText.{command_in, gcc_text}
+use Rattle.b2_metatargets.specs.declared.fault.DeclaringFault.{DeclaringFault}
+use Rattle.b2_metatargets.specs.declared.fault.DeclaringFault.TheVariants as declaring_faults
+use Rattle.b2_metatargets.specs.declared.visit.Visit.{Visit}
+use Rattle.b2_metatargets.specs.declared.visit.Call.{Call}
+use Rattle.b2_metatargets.specs.Outcomes.{IsFaultOf}
+use Rattle.b2_metatargets.specs.Carrying.{tables_of}
+use Rattle.jam_journal.specs.Tables.{Text}
+use Rattle.jam_eval.specs.Settings.{Setting}
+use Rattle.jam_natives.specs.Keeping.{Kept}
+use Rattle.b2_walk.specs.declared.fault.LoadFault.{LoadFault}
+use Rattle.b2_walk.specs.Faults.{refusal_of}
+use Rattle.b2_walk.specs.Walking.{IsRefusedBy, Follows}
+use Rattle.b2_walk.specs.Walks.{Walk, Refusal, declaring, Course, goes_on, refused, RunsText}
+use Rattle.b2_project.specs.Loads.{toolset_of, ends_or_goes_on, up_to_toolset, IsToolsetRun, IsEquipped}
+use Rattle.b2_project.specs.Parts.{of_declaring, IsRefusalOf, IsPlain, IsToolsetAt, IsTextOf, equipped}
+
+-- ---- the first call that brings the toolset in
+
+-- neither the first call brings it in, nor one after it
+none_split : (call : Call) (found : Option (Option Text)) (more : Option (List Call × Option Text)) → ends_or_goes_on call found more ≡ None → (found ≡ None) × (more ≡ None)
+none_split call (Some command) more e = cc
+none_split call None None e = (refl, refl)
+none_split call None (Some found) e = cc
+
+ends_there : (call : Call) (found : Option (Option Text)) (command : Option Text) (more : Option (List Call × Option Text)) → found ≡ Some command → ends_or_goes_on call found more ≡ Some (call ∷ [], command)
+ends_there call found command more e = ap (λ f. ends_or_goes_on call f more) e
+
+goes_there : (call : Call) (found : Option (Option Text)) (more : Option (List Call × Option Text)) (calls : List Call) (command : Option Text) → found ≡ None → more ≡ Some (calls, command)
+    → ends_or_goes_on call found more ≡ Some (call ∷ calls, command)
+goes_there call found more calls command e h = ap (λ f. ends_or_goes_on call f more) e ∙ ap (λ m. ends_or_goes_on call None m) h
+
+none_there : (call : Call) (found : Option (Option Text)) (more : Option (List Call × Option Text)) → found ≡ None → more ≡ None → ends_or_goes_on call found more ≡ None
+none_there call found more e h = ap (λ f. ends_or_goes_on call f more) e ∙ ap (λ m. ends_or_goes_on call None m) h
+
+-- the first calls do not bring it in, and the next one does
+found_at : (calls : List Call) (place : ℕ) (call : Call) (command : Option Text) → up_to_toolset (take place calls) ≡ None → slice_get calls place ≡ Some call → toolset_of call.declaration ≡ Some command
+    → up_to_toolset calls ≡ Some (take (suc place) calls, command)
+found_at [] place call command none at is = cc
+found_at (first ∷ calls) zero call command none at is =
+    ends_there first (toolset_of first.declaration) command (up_to_toolset calls) (ap (λ c. toolset_of c.declaration) (same_Some first call at) ∙ is)
+found_at (first ∷ calls) (suc place) call command none at is =
+    let two = none_split first (toolset_of first.declaration) (up_to_toolset (take place calls)) none in
+    goes_there first (toolset_of first.declaration) (up_to_toolset calls) (take (suc place) calls) command two.0 (found_at calls place call command two.1 at is)
+
+-- nor does the next one
+none_more : (calls : List Call) (place : ℕ) (call : Call) → up_to_toolset (take place calls) ≡ None → slice_get calls place ≡ Some call → toolset_of call.declaration ≡ None
+    → up_to_toolset (take (suc place) calls) ≡ None
+none_more [] place call none at is = cc
+none_more (first ∷ calls) zero call none at is =
+    none_there first (toolset_of first.declaration) None (ap (λ c. toolset_of c.declaration) (same_Some first call at) ∙ is) refl
+none_more (first ∷ calls) (suc place) call none at is =
+    let two = none_split first (toolset_of first.declaration) (up_to_toolset (take place calls)) none in
+    none_there first (toolset_of first.declaration) (up_to_toolset (take (suc place) calls)) two.0 (none_more calls place call two.1 at is)
+
+-- the answer at a call that brings the toolset in, or the next round
+brought : (calls : List Call) (place : ℕ) (call : Call) (found : Option (Option Text)) → toolset_of call.declaration ≡ found → up_to_toolset (take place calls) ≡ None → slice_get calls place ≡ Some call
+    → is_some found ≡ true → IsToolsetAt calls (Some place)
+brought calls place call None is none at some = cc
+brought calls place call (Some command) is none at some =
+    (slice_get_within calls place call at, call, command, at, is, found_at calls place call command none at is ∙ ap (λ n. Some (take n calls, command)) (let e : suc place ≡ place + 1 = omega arith in e))
+
+pub is_brought : (calls : List Call) (place : ℕ) (call : Call) → up_to_toolset (take place calls) ≡ None → slice_get calls place ≡ Some call → is_some (toolset_of call.declaration) ≡ true → IsToolsetAt calls (Some place)
+is_brought calls place call none at some = brought calls place call (toolset_of call.declaration) refl none at some
+
+not_brought : (calls : List Call) (place : ℕ) (call : Call) (found : Option (Option Text)) → toolset_of call.declaration ≡ found → up_to_toolset (take place calls) ≡ None → slice_get calls place ≡ Some call
+    → is_some found ≡ false → up_to_toolset (take (place + 1) calls) ≡ None
+not_brought calls place call (Some command) is none at some = cc
+not_brought calls place call None is none at some =
+    ap (λ n. up_to_toolset (take n calls)) (let e : place + 1 ≡ suc place = omega arith in e) ∙ none_more calls place call none at is
+
+pub is_not_brought : (calls : List Call) (place : ℕ) (call : Call) → up_to_toolset (take place calls) ≡ None → slice_get calls place ≡ Some call → is_some (toolset_of call.declaration) ≡ false
+    → up_to_toolset (take (place + 1) calls) ≡ None
+is_not_brought calls place call none at some = not_brought calls place call (toolset_of call.declaration) refl none at some
+
+pub none_brought : (calls : List Call) (place : ℕ) → length calls ≤ place → up_to_toolset (take place calls) ≡ None → IsToolsetAt calls None
+none_brought calls place end none = ap up_to_toolset (sym (take_all place calls end)) ∙ none
+
+-- ---- faults
+
+plain_feature : (path : Text) (line : ℕ) (fault : _) → IsPlain (of_declaring (declaring_faults.Feature path line fault))
+plain_feature path line (features.Twice word) = record { whole = (_, refl); none = refl; counts = λ from to same. same }
+plain_feature path line (features.Unknown word) = record { whole = (_, refl); none = refl; counts = λ from to same. same }
+plain_feature path line (features.BadValue word) = record { whole = (_, refl); none = refl; counts = λ from to same. same }
+plain_feature path line (features.ComposeConflict word) = record { whole = (_, refl); none = refl; counts = λ from to same. same }
+plain_feature path line features.OutOfMemory = record { whole = tt; none = refl; counts = λ from to same. tt }
+
+pub plain_declaring : (found : DeclaringFault) → IsPlain (of_declaring found)
+plain_declaring (declaring_faults.Declaration path rule line) = record { whole = (_, refl); none = refl; counts = λ from to same. same }
+plain_declaring (declaring_faults.Feature path line fault) = plain_feature path line fault
+plain_declaring declaring_faults.OutOfMemory = record { whole = tt; none = refl; counts = λ from to same. tt }
+
+pub plain_refusal : {X : Type 0} (outcome : Result X _) (fault : LoadFault) → IsRefusalOf outcome fault → IsPlain fault
+plain_refusal outcome fault (found, is, h) = subst IsPlain (sym is) (plain_declaring found)
+
+-- what a refusal of calls says, as a refusal of the load
+module _ {X : Type 0} (outcome : Result X DeclaringFault) (says : Option Refusal → Type 0) (nothing : says None) (something : (found : DeclaringFault) → outcome ≡ Err found → says (Some (declaring found))) where
+  feature_says : (path : Text) (line : ℕ) (fault : _) → outcome ≡ Err (declaring_faults.Feature path line fault) → says (refusal_of (of_declaring (declaring_faults.Feature path line fault)))
+  feature_says path line (features.Twice word) h = something (declaring_faults.Feature path line (features.Twice word)) h
+  feature_says path line (features.Unknown word) h = something (declaring_faults.Feature path line (features.Unknown word)) h
+  feature_says path line (features.BadValue word) h = something (declaring_faults.Feature path line (features.BadValue word)) h
+  feature_says path line (features.ComposeConflict word) h = something (declaring_faults.Feature path line (features.ComposeConflict word)) h
+  feature_says path line features.OutOfMemory h = nothing
+
+  found_says : (found : DeclaringFault) → IsFaultOf outcome found → says (refusal_of (of_declaring found))
+  found_says (declaring_faults.Declaration path rule line) h = something (declaring_faults.Declaration path rule line) h
+  found_says (declaring_faults.Feature path line fault) h = feature_says path line fault h
+  found_says declaring_faults.OutOfMemory h = nothing
+
+  pub refusal_says : (fault : LoadFault) → IsRefusalOf outcome fault → says (refusal_of fault)
+  refusal_says fault (found, is, h) = subst (λ f. says (refusal_of f)) (sym is) (found_says found h)
+
+-- ---- the build text
+
+module _ (visits : List Visit) (calls : List Call) (place : ℕ) where
+  -- the calls up to the one that brings it in are refused
+  pub text_refused : (found : DeclaringFault) (fault : LoadFault) → IsToolsetAt calls (Some place) → fault ≡ of_declaring found → IsFaultOf (tables_of visits (take (place + 1) calls)) found
+      → IsTextOf visits calls (Err fault)
+  text_refused found fault (within, call, command, at, is, up) e h = inr ((take (place + 1) calls, command), up, (found, e, h))
+
+  -- they are carried out, and it was made
+  pub text_made : (call : Call) (command : Option Text) (text : Vec ℕ Global) → IsToolsetAt calls (Some place) → call ≡ get_or calls place call
+      → is_ok (tables_of visits (take (place + 1) calls)) ≡ true → IfSome (toolset_of call.declaration) (λ given. command ≡ given) → text.items ≡ gcc_text (command_in command)
+      → IsTextOf visits calls (Ok (Some text))
+  text_made call command text (within, there, given, at, is, up) same ok taken made =
+      let e : call ≡ there = same_Some call there (sym (slice_get_read calls (length calls) place call refl within same) ∙ at) in
+      let c : command ≡ given = subst (λ found. IfSome found (λ g. command ≡ g)) (ap (λ c. toolset_of c.declaration) e ∙ is) taken in
+      ((take (place + 1) calls, given), up, ok, made ∙ ap (λ g. gcc_text (command_in g)) c)
+
+pub plain_text : (visits : List Visit) (calls : List Call) (fault : LoadFault) → IsTextOf visits calls (Err fault) → IsPlain fault
+plain_text visits calls fault (inl none) = subst IsPlain (sym none) (plain_declaring declaring_faults.OutOfMemory)
+plain_text visits calls fault (inr (found, up, h)) = plain_refusal (tables_of visits found.0) fault h
+
+-- ---- what comes after the walk
+
+-- where the one follows from the other
+pub follows_from : (result : Result (Unit {0}) LoadFault) (comes other : Course → Type 0) (w : Walk) → ((course : Course) → other course → comes course) → Follows result other w → Follows result comes w
+follows_from (Ok u) comes other w f h = f (goes_on w) h
+follows_from (Err fault) comes other w f h = go (refusal_of fault) h
+  where
+    go : (why : Option Refusal) → IsRefusedBy why other w.state → IsRefusedBy why comes w.state
+    go None g = tt
+    go (Some why) g = f (refused why w.state) g
+
+module _ (setting : Setting Kept) (w : Walk) where
+  pub none_equips : up_to_toolset w.calls ≡ None → equipped setting w (goes_on w)
+  none_equips is = subst (λ found. IsEquipped setting found w (goes_on w)) (sym is) refl
+
+  module _ (found : List Call × Option Text) (is : up_to_toolset w.calls ≡ Some found) where
+    run_as : (course : Course) → IsToolsetRun setting (tables_of w.visits found.0) found.1 w course → equipped setting w course
+    run_as course h = subst (λ f. IsEquipped setting f w course) (sym is) h
+
+    calls_refused : (fault : LoadFault) → IsRefusalOf (tables_of w.visits found.0) fault → IsRefusedBy (refusal_of fault) (equipped setting w) w.state
+    calls_refused fault h =
+        refusal_says (tables_of w.visits found.0) (λ why. IsRefusedBy why (equipped setting w) w.state) tt
+        (λ why e. run_as (refused (declaring why) w.state) (subst (λ t. IsToolsetRun setting t found.1 w (refused (declaring why) w.state)) (sym e) refl)) fault h
+
+    text_runs : {X : Type 0} (tables : Result X DeclaringFault) (course : Course) → is_ok tables ≡ true → RunsText setting (codes "gcc") (gcc_text (command_in found.1)) w course
+        → IsToolsetRun setting tables found.1 w course
+    text_runs (Ok tables) course ok h = h
+    text_runs (Err fault) course ok h = cc
+
+    text_equips : (course : Course) → is_ok (tables_of w.visits found.0) ≡ true → RunsText setting (codes "gcc") (gcc_text (command_in found.1)) w course → equipped setting w course
+    text_equips course ok h = run_as course (text_runs (tables_of w.visits found.0) course ok h)
+
+  pub unread_says : (fault : LoadFault) → IsTextOf w.visits w.calls (Err fault) → IsRefusedBy (refusal_of fault) (equipped setting w) w.state
+  unread_says fault (inl none) = subst (λ f. IsRefusedBy (refusal_of f) (equipped setting w) w.state) (sym none) tt
+  unread_says fault (inr (found, up, h)) = calls_refused found up fault h
+
+  pub text_says : (text : Vec ℕ Global) (result : Result (Unit {0}) LoadFault) (v : Walk) → IsTextOf w.visits w.calls (Ok (Some text))
+      → Follows result (RunsText setting (codes "gcc") text.items w) v → Follows result (equipped setting w) v
+  text_says text result v (found, up, ok, bytes) h =
+      follows_from result (equipped setting w) (RunsText setting (codes "gcc") text.items w) v
+      (λ course runs. text_equips found up course ok (subst (λ b. RunsText setting (codes "gcc") b w course) bytes runs)) h

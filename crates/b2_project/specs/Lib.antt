@@ -1,0 +1,4 @@
+pub mod Loads
+pub mod Loading
+pub mod Laws
+pub mod Parts
