@@ -1,0 +1,62 @@
+//! Loading.
+use crate::faults::refusal_text;
+use b2_base::text::Text;
+use b2_memory::memory::MemoryHost;
+use b2_project::load::{LoadFault, Loaded, load as load_projects};
+use b2_project::project::Project;
+use jam_effects::turns::Turns;
+use std::alloc::Global;
+use transcript::answer::Answer;
+use transcript::case_fault::CaseFault;
+
+fn refusal_line(alloc: Global, fault: &LoadFault) -> Result<String, CaseFault> {
+    let text = refusal_text(alloc, fault)?;
+    let text = text.as_str();
+    Ok(format!(in alloc; "b2: {text}")?)
+}
+
+fn keep(
+    alloc: Global,
+    project: Project,
+    last: &mut Option<Box<Project>>,
+) -> Result<String, CaseFault> {
+    *last = Some(Box::new(alloc, project)?);
+    Ok(String::from_str(alloc, "ok")?)
+}
+
+/// Keeps what was loaded; the last line of the answer.
+fn last_line(
+    alloc: Global,
+    ended: Result<Project, LoadFault>,
+    last: &mut Option<Box<Project>>,
+) -> Result<String, CaseFault> {
+    match ended {
+        Ok(project) => keep(alloc, project, last),
+        Err(fault) => refusal_line(alloc, &fault),
+    }
+}
+
+fn answer_of(alloc: Global, echoes: &[Text], line: &str) -> Result<Answer, CaseFault> {
+    let mut answer = Answer::new(alloc);
+    for echo in echoes {
+        answer.push_line(echo.as_str())?;
+    }
+    answer.push_line(line)?;
+    Ok(answer)
+}
+
+/// Loads the projects of a folder, and shows what came of it.
+pub fn load(
+    alloc: Global,
+    host: &mut MemoryHost,
+    words: &[Text],
+    turns: &mut Turns,
+    last: &mut Option<Box<Project>>,
+) -> Result<Answer, CaseFault> {
+    let Loaded {
+        echoes,
+        result: ended,
+    } = load_projects(alloc, host, words, turns);
+    let line = last_line(alloc, ended, last)?;
+    answer_of(alloc, echoes.as_slice(), line.as_str())
+}

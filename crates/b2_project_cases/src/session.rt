@@ -1,0 +1,159 @@
+//! The session of a transcript.
+use crate::loading::load;
+use crate::project::{decls, dir_of, indirect, projects, roots, targets};
+use crate::tables::{count, find, generator, parts_of, suffix_of, type_of};
+use crate::words::{kind_of, number_of, path_of, texts_of};
+use b2_base::fault::OutOfMemory;
+use b2_memory::memory::{CallKind, MemoryHost};
+use b2_project::project::Project;
+use jam_effects::turns::Turns;
+use std::alloc::Global;
+use transcript::answer::Answer;
+use transcript::case_fault::CaseFault;
+use transcript::command::{Command, Word};
+use transcript::session::Session;
+
+/// The files, how many turns each load has, how many the last one left, and what was loaded last.
+#[derive(Drop)]
+pub struct Cases {
+    host: MemoryHost,
+    budget: u32,
+    left: u32,
+    last: Option<Box<Project>>,
+}
+
+/// A text so many times.
+fn repeated(alloc: Global, text: &str, times: u32) -> Result<String, CaseFault> {
+    Ok(text.repeat(alloc, times as usize)?)
+}
+
+/// Shows something of a project.
+fn shown(
+    alloc: Global,
+    project: &Project,
+    command: &str,
+    words: &[Word],
+) -> Result<Answer, CaseFault> {
+    match command {
+        "projects" => projects(alloc, project),
+        "targets" => targets(alloc, project),
+        "indirect" => indirect(alloc, project),
+        "dir_of" => dir_of(alloc, project, words),
+        "roots" => roots(alloc, project),
+        "decls" => decls(alloc, project),
+        "count" => count(alloc, project),
+        "find" => find(alloc, project, words),
+        "parts_of" => parts_of(alloc, project, words),
+        "type_of" => type_of(alloc, project, words),
+        "suffix_of" => suffix_of(alloc, project, words),
+        "generator" => generator(alloc, project, words),
+        _ => Err(CaseFault::UnknownCommand),
+    }
+}
+
+impl Cases {
+    /// No files, and nothing loaded.
+    pub fn new(alloc: Global) -> Result<Cases, OutOfMemory> {
+        Ok(Cases {
+            host: MemoryHost::new(alloc)?,
+            budget: 1_000_000,
+            left: 0,
+            last: None,
+        })
+    }
+
+    fn renew(&mut self, alloc: Global) -> Result<Answer, CaseFault> {
+        self.host = MemoryHost::new(alloc)?;
+        self.budget = 1_000_000;
+        self.left = 0;
+        self.last = None;
+        Ok(Answer::new(alloc))
+    }
+
+    fn change(&mut self, alloc: Global, word: &Word, bytes: &[u8]) -> Result<Answer, CaseFault> {
+        let path = path_of(alloc, word)?;
+        if self.host.running().is_empty() {
+            self.host.edit(&path, Some(bytes))?;
+        }
+        Ok(Answer::new(alloc))
+    }
+
+    fn edit(&mut self, alloc: Global, command: &Command) -> Result<Answer, CaseFault> {
+        match command.words() {
+            [path] => self.change(alloc, path, command.text().as_bytes()),
+            [path, bytes] => self.change(alloc, path, bytes.bytes()),
+            [path, text, times] => {
+                let text = repeated(alloc, text.as_str()?, number_of(times)?)?;
+                self.change(alloc, path, text.as_bytes())
+            }
+            _ => Err(CaseFault::WrongWords),
+        }
+    }
+
+    fn fail_call(&mut self, kind: CallKind, number: u32) -> Result<(), CaseFault> {
+        self.host.fail_calls(&[(kind, number)])?;
+        Ok(())
+    }
+
+    fn fail_calls(&mut self, alloc: Global, words: &[Word]) -> Result<Answer, CaseFault> {
+        let Some((kind, numbers)) = words.split_first() else {
+            return Err(CaseFault::WrongWords);
+        };
+        let kind = kind_of(kind)?;
+        for number in numbers {
+            self.fail_call(kind, number_of(number)?)?;
+        }
+        Ok(Answer::new(alloc))
+    }
+
+    fn turns(&mut self, alloc: Global, words: &[Word]) -> Result<Answer, CaseFault> {
+        match words {
+            [number] => {
+                self.budget = number_of(number)?;
+                Ok(Answer::new(alloc))
+            }
+            _ => Err(CaseFault::WrongWords),
+        }
+    }
+
+    fn load(&mut self, alloc: Global, words: &[Word]) -> Result<Answer, CaseFault> {
+        let words = texts_of(alloc, words)?;
+        let mut turns = Turns::new(self.budget);
+        let answer = load(
+            alloc,
+            &mut self.host,
+            words.as_slice(),
+            &mut turns,
+            &mut self.last,
+        );
+        self.left = turns.left;
+        answer
+    }
+
+    fn show(&self, alloc: Global, command: &Command) -> Result<Answer, CaseFault> {
+        match &self.last {
+            Some(project) => shown(alloc, project, command.name(), command.words()),
+            None => Err(CaseFault::WrongWords),
+        }
+    }
+
+    fn left(&self, alloc: Global) -> Result<Answer, CaseFault> {
+        let left = self.left;
+        Answer::line(alloc, format!(in alloc; "{left}")?.as_str())
+    }
+}
+
+impl Session for Cases {
+    fn carry_out(&mut self, alloc: Global, command: &Command) -> Result<Answer, CaseFault> {
+        let words = command.words();
+        match command.name() {
+            "new" => self.renew(alloc),
+            "edit" => self.edit(alloc, command),
+            "turns" => self.turns(alloc, words),
+            "fail_calls" => self.fail_calls(alloc, words),
+            "load" => self.load(alloc, words),
+            "left" => self.left(alloc),
+            _ => self.show(alloc, command),
+        }
+    }
+}
