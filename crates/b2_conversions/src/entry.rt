@@ -68,6 +68,19 @@ impl Entry {
     }
 }
 
+impl Supply {
+    /// The same entries and carried libraries again.
+    pub fn copy(&self, alloc: Global) -> Result<Supply, OutOfMemory>
+        ensures { IfOk result (λ made. made ≡ self.now) }
+    {
+        let mut entries = EntryList::new(alloc);
+        push_copies(&mut entries, self.entries.as_slice())?;
+        let mut carried = EntryList::new(alloc);
+        push_copies(&mut carried, self.carried.as_slice())?;
+        Ok(Supply { entries, carried })
+    }
+}
+
 /// The entry of a file that no step makes: its type is that of its path, and its tail is the path itself.
 pub fn file_entry(alloc: Global, types: &Types, path: &Path) -> Result<Entry, OutOfMemory>
     ensures { IfOk result (λ made. made ≡ file_entry types.now.types path.now) }

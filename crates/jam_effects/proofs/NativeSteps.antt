@@ -93,7 +93,7 @@ error_counts (errors.Expand f) name spot e o after (inr h, same) looks = fault_o
 error_counts errors.Host name spot e o after h looks = subst (λ x. Counts {A = NativeStep} (Err x) o after) (sym h) looks.rose
 error_counts errors.OutOfMemory name spot e o after h looks = subst (λ x. Counts {A = NativeStep} (Err x) o after) (sym h) tt
 
--- a fault that stands for an error of natives holds no want of memory
+-- a fault that stands for an error of natives does not hold that memory ran out
 pub error_whole : (error : NativeError) (name : Text) (spot : Spot) (e : EvalFault) → IsNativeFault error name spot e → HoldsNoMemory e
 error_whole (errors.Fault f) name spot e h = fault_whole spot (native f) e h
 error_whole errors.Arity name spot e h = fault_whole spot (arity name) e h
