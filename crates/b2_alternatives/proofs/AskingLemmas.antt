@@ -9,7 +9,8 @@ use Rattle.b2_alternatives.specs.Asking.{told_answer}
 
 -- how a count of faults is told
 pub counts_same : (is_host is_out : Bool) (before after : ℕ) → refine.CountsFault is_host is_out before after → evaluation.CountsFault is_host is_out before after
-counts_same true is_out before after rises = record { kept = rises.kept; more = rises.more }
+counts_same true false before after rises = record { kept = rises.kept; more = rises.more }
+counts_same true true before after e = e
 counts_same false true before after e = tt
 counts_same false false before after e = e
 

@@ -29,9 +29,11 @@ pub record Rises (before after : ℕ) : Type 0 where
   pub more : before < 18446744073709551615 → before < after
 
 -- A count of faults of the host before and after a call: it rises where the call's fault is one of the host, and stays with
--- every other answer; nothing is said of out of memory, which may stand in place of any fault.
+-- every other answer; nothing is said of out of memory, which may stand in place of any fault. A fault that is both is a
+-- pattern that was refused though it reads as one: no call of the host failed.
 abbrev pub CountsFault : (is_host is_memory : Bool) → ℕ → ℕ → Type 0
-CountsFault true is_memory before after = Rises before after
+CountsFault true false before after = Rises before after
+CountsFault true true before after = after ≡ before
 CountsFault false true before after = Unit {0}
 CountsFault false false before after = after ≡ before
 

@@ -25,10 +25,11 @@ pub trait Evaluate {
     /// How often a call of the host failed. It never falls, and stops at the largest number of 64 bits.
     ghost faults: { Self → ℕ };
 
-    /// Whether a fault is one of the host.
+    /// Whether a fault is one of the host, or of the engine of patterns.
     ghost is_host_fault: { Self.Fault → Bool };
 
-    /// Whether a fault is out of memory.
+    /// Whether a fault is out of memory. A fault that is one of the host too is neither: a pattern was refused though it reads as
+    /// one, which no answer foretells, and no call of the host failed.
     ghost is_out_of_memory: { Self.Fault → Bool };
 
     /// What is known of each fault, by what is kept.
