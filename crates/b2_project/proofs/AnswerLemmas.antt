@@ -21,11 +21,12 @@ declared_of w found visits calls same parents all is places sound = (
   subst (λ (cs : List Call). declared w.visits cs ≡ Ok found) all (subst (λ (vs : List Visit). declared vs calls ≡ Ok found) same is),
   subst (λ n. IsSound n found.places found.targets found.indirect) (ap (λ (vs : List Visit). length vs) (sym places) ∙ length-map found.places visited) sound,
   subst HaveParentsBefore (sym places) parents,
+  places ∙ same,
 )
 
 -- the project that is made of it
 made_so : (w : Walking) (ended : Result (Unit {0}) LoadFault) (found : Result Declared LoadFault) → IsFoundOf w ended found → IsResultOf w ended (project_in w found)
-made_so w (Ok u) (Ok found) h = (record { world = refl; natives = refl; found = h.0 }, h.1, h.2)
+made_so w (Ok u) (Ok found) h = (record { world = refl; natives = refl; found = h.0 }, h.1, h.2, h.3)
 made_so w (Ok u) (Err fault) h = h
 made_so w (Err fault) found h = ap (project_in w) h
 

@@ -1,7 +1,8 @@
 -- What the calls of a walk declare, as the end of a load.
-use Rattle.std.specs.Prelude.{◌⊎◌}
+use Rattle.std.specs.Prelude.{◌⊎◌, map as each}
 use Rattle.std.proofs.Common.{◌≡◌, ℕ, List, Option, Some, None, Result, Ok, Err, refl, ap, subst}
 use Rattle.b2_metatargets.specs.Declaring.{declared}
+use Rattle.b2_metatargets.specs.Laws.{visited}
 use Rattle.jam_journal.specs.Tables.{Text}
 use Rattle.jam_eval.specs.Settings.{Setting}
 use Rattle.jam_natives.specs.Keeping.{Kept}
@@ -27,7 +28,7 @@ pub record IsMadeOf (w : Walking) (project : Project) : Type 0 where
 
 -- the project that a walk's calls declare, or the fault of the first one that is refused
 abbrev pub IsProjectOf : Walking → Result Project LoadFault → Type 0
-IsProjectOf w (Ok project) = IsMadeOf w project × HasPlaces project.declared × HasParentsBefore project.declared
+IsProjectOf w (Ok project) = IsMadeOf w project × HasPlaces project.declared × HasParentsBefore project.declared × (each visited project.declared.places ≡ w.visits)
 IsProjectOf w (Err fault) = IsRefusalOf (declared w.visits w.calls.items) fault
 
 -- after a walk that is whole, that project; else the fault

@@ -1,4 +1,5 @@
 mod OneEnding
+mod RuleTables
 mod ToolsetSteps
 mod EndSteps
 mod RunSteps

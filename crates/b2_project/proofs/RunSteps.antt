@@ -19,8 +19,8 @@ use Rattle.b2_walk.specs.declared.walk.Walk.{Walk as Walking}
 use Rattle.b2_walk.specs.Faults.{refused_of, IsWhole, IsOfWalk}
 use Rattle.b2_walk.specs.Finding.{Looked, Counts}
 use Rattle.b2_walk.specs.Walking.{walk_of, TellsText}
-use Rattle.b2_project.specs.Parts.{IsTextOf, IsWholeOf, StaysOpen, RunsToolset}
-use Rattle.b2_project.proofs.ToolsetSteps.{plain_text, none_equips, unread_says, text_says}
+use Rattle.b2_project.specs.Parts.{IsOfThese, IsOfTheseIf, IsTextOf, IsWholeOf, StaysOpen, RunsToolset}
+use Rattle.b2_project.proofs.ToolsetSteps.{plain_text, text_of_these, none_equips, unread_says, text_says}
 
 looked_same : (o : Outside) → Looked o o
 looked_same o = record { disk = refl; children = refl; keeps = keeps_same o o refl }
@@ -38,6 +38,7 @@ pub nothing_brought : (a : Walking) (turns : Turns) (outside : Outside) (found :
 nothing_brought a turns outside found none h = record {
   told = λ setting right refuses. none_equips setting (walk_of a turns.left) (subst (λ f. IsTextOf a.visits a.calls.items (Ok f)) none h);
   stays = stays_same a;
+  fault = tt;
   whole = tt;
   turns = omega arith;
   budget = refl;
@@ -50,6 +51,7 @@ pub text_unread : (a : Walking) (turns : Turns) (outside : Outside) (fault : Loa
 text_unread a turns outside fault h = record {
   told = λ setting right refuses. unread_says setting (walk_of a turns.left) fault h;
   stays = stays_same a;
+  fault = text_of_these a.visits a.calls.items fault h;
   whole = (plain_text a.visits a.calls.items fault h).whole;
   turns = omega arith;
   budget = refl;
@@ -62,6 +64,7 @@ pub no_memory : (a : Walking) (turns : Turns) (outside : Outside) → RunsToolse
 no_memory a turns outside = record {
   told = λ setting right refuses. tt;
   stays = stays_same a;
+  fault = tt;
   whole = tt;
   turns = omega arith;
   budget = refl;
@@ -107,6 +110,23 @@ whole_if : (result : Result (Unit {0}) LoadFault) → IfErr result IsOfWalk → 
 whole_if (Ok u) h = tt
 whole_if (Err fault) h = whole_walk fault h
 
+-- a walk has no fault of declaring
+none_of_these : (visits : List Visit) (calls : List Call) (fault : LoadFault) → IsOfWalk fault → IsOfThese visits calls fault
+none_of_these visits calls faults.Host h = tt
+none_of_these visits calls faults.OutOfMemory h = tt
+none_of_these visits calls faults.NoJamroot h = tt
+none_of_these visits calls (faults.NoJamfile dir) h = tt
+none_of_these visits calls (faults.TooBig path size) h = tt
+none_of_these visits calls (faults.Lex path fault) h = tt
+none_of_these visits calls (faults.Syntax path fault) h = tt
+none_of_these visits calls (faults.Eval fault) h = tt
+none_of_these visits calls (faults.Declaration path rule line) h = absurd h
+none_of_these visits calls (faults.Feature path line fault) h = absurd h
+
+none_of_these_if : (visits : List Visit) (calls : List Call) (result : Result (Unit {0}) LoadFault) → IfErr result IsOfWalk → IsOfTheseIf visits calls result
+none_of_these_if visits calls (Ok u) h = tt
+none_of_these_if visits calls (Err fault) h = none_of_these visits calls fault h
+
 pub text_ran : (a b : Walking) (first last : Turns) (from to : Outside) (path : Text) (text : Vec ℕ Global) (bytes : List ℕ) (result : Result (Unit {0}) LoadFault) → path ≡ codes "gcc"
     → bytes ≡ text.items → IsTextOf a.visits a.calls.items (Ok (Some text)) → TellsText from path bytes first last a b result → b ≡ record a { world = b.world; natives = b.natives } → Leaves a.world b.world
     → IfErr result IsOfWalk → last.left ≤ first.left → last.budget ≡ first.budget → TookTurn (refused_of result) first.left last.left → Looked from to → Counts result from to
@@ -116,6 +136,7 @@ text_ran a b first last from to path text bytes result is_gcc same made told res
       text_says setting (walk_of a first.left) text result (walk_of b last.left) made
       (subst (λ file. TellsText from file text.items first last a b result) is_gcc (subst (λ bs. TellsText from path bs first last a b result) same told) setting right refuses);
   stays = stays_run a b rest leaves;
+  fault = none_of_these_if a.visits a.calls.items result whole;
   whole = whole_if result whole;
   turns = turns;
   budget = budget;

@@ -6,14 +6,17 @@ use Rattle.std.specs.declared.vec.Vec.{Vec}
 use Rattle.std.specs.declared.alloc.Global.{Global}
 use Rattle.std.proofs.lemmas.List.{take_all}
 use Rattle.std.proofs.lemmas.Option.{same_Some, slice_get_read, slice_get_within}
+use Rattle.b2_features.specs.declared.fault.FeatureFault.{FeatureFault}
 use Rattle.b2_features.specs.declared.fault.FeatureFault.TheVariants as features
 use Rattle.b2_gcc.specs.BuildText.{command_in, gcc_text}
 use Rattle.b2_metatargets.specs.declared.fault.DeclaringFault.{DeclaringFault}
 use Rattle.b2_metatargets.specs.declared.fault.DeclaringFault.TheVariants as declaring_faults
 use Rattle.b2_metatargets.specs.declared.visit.Visit.{Visit}
 use Rattle.b2_metatargets.specs.declared.visit.Call.{Call}
-use Rattle.b2_metatargets.specs.Outcomes.{IsFaultOf}
-use Rattle.b2_metatargets.specs.Carrying.{tables_of}
+use Rattle.b2_metatargets.specs.Outcomes.{and_then, all_steps, IsFaultOf}
+use Rattle.b2_metatargets.specs.Carrying.{Tables, no_tables, carrying, tables_of}
+use Rattle.b2_metatargets.specs.Gathering.{gathered_by}
+use Rattle.b2_metatargets.specs.Declaring.{whole, declared}
 use Rattle.jam_journal.specs.Tables.{Text}
 use Rattle.jam_eval.specs.Settings.{Setting}
 use Rattle.jam_natives.specs.Keeping.{Kept}
@@ -22,7 +25,7 @@ use Rattle.b2_walk.specs.Faults.{refusal_of}
 use Rattle.b2_walk.specs.Walking.{IsRefusedBy, Follows}
 use Rattle.b2_walk.specs.Walks.{Walk, Refusal, declaring, Course, goes_on, refused, RunsText}
 use Rattle.b2_project.specs.Loads.{toolset_of, ends_or_goes_on, up_to_toolset, IsToolsetRun, IsEquipped}
-use Rattle.b2_project.specs.Parts.{of_declaring, IsRefusalOf, IsPlain, IsToolsetAt, IsTextOf, equipped}
+use Rattle.b2_project.specs.Parts.{of_declaring, IsRefusalOf, IsOfThese, IsPlain, IsToolsetAt, IsTextOf, equipped}
 
 -- ---- the first call that brings the toolset in
 
@@ -118,6 +121,60 @@ module _ {X : Type 0} (outcome : Result X DeclaringFault) (says : Option Refusal
 
   pub refusal_says : (fault : LoadFault) → IsRefusalOf outcome fault → says (refusal_of fault)
   refusal_says fault (found, is, h) = subst (λ f. says (refusal_of f)) (sym is) (found_says found h)
+
+-- a refusal of these calls, or of the first of them, is one of declaring
+module _ {X : Type 0} (visits : List Visit) (calls : List Call) (outcome : Result X DeclaringFault) (so : (found : DeclaringFault) → outcome ≡ Err found → declared visits calls ≡ Err found) where
+  feature_of_these : (path : Text) (line : ℕ) (fault : FeatureFault) → IsFaultOf outcome (declaring_faults.Feature path line fault) → IsOfThese visits calls (of_declaring (declaring_faults.Feature path line fault))
+  feature_of_these path line (features.Twice word) h = so (declaring_faults.Feature path line (features.Twice word)) h
+  feature_of_these path line (features.Unknown word) h = so (declaring_faults.Feature path line (features.Unknown word)) h
+  feature_of_these path line (features.BadValue word) h = so (declaring_faults.Feature path line (features.BadValue word)) h
+  feature_of_these path line (features.ComposeConflict word) h = so (declaring_faults.Feature path line (features.ComposeConflict word)) h
+  feature_of_these path line features.OutOfMemory h = tt
+
+  found_of_these : (found : DeclaringFault) → IsFaultOf outcome found → IsOfThese visits calls (of_declaring found)
+  found_of_these (declaring_faults.Declaration path rule line) h = so (declaring_faults.Declaration path rule line) h
+  found_of_these (declaring_faults.Feature path line fault) h = feature_of_these path line fault h
+  found_of_these declaring_faults.OutOfMemory h = tt
+
+  pub refusal_of_these : (fault : LoadFault) → IsRefusalOf outcome fault → IsOfThese visits calls fault
+  refusal_of_these fault (found, is, h) = subst (IsOfThese visits calls) (sym is) (found_of_these found h)
+
+-- ---- where the first calls are refused, all are
+
+module _ (step : Tables → Call → Result Tables DeclaringFault) (fault : DeclaringFault) where
+  step_refused : (first : Call) (state : Tables) (outcome : Result Tables DeclaringFault) (rest more : List Call) → step state first ≡ outcome
+      → ((next : Tables) → all_steps step next rest ≡ Err fault → all_steps step next more ≡ Err fault)
+      → and_then (λ next. all_steps step next rest) outcome ≡ Err fault → and_then (λ next. all_steps step next more) outcome ≡ Err fault
+  step_refused first state (Ok next) rest more is f h = f next h
+  step_refused first state (Err other) rest more is f h = h
+
+  none_is_refused : (next : Tables) (more : List Call) → all_steps step next [] ≡ Err fault → all_steps step next more ≡ Err fault
+  none_is_refused next more h = cc
+
+  found_refused : (first : Call) (calls : List Call) (brings : Option (Option Text)) (more : Option (List Call × Option Text)) (found : List Call × Option Text) → ends_or_goes_on first brings more ≡ Some found
+      → ((rest : List Call × Option Text) → more ≡ Some rest → (next : Tables) → all_steps step next rest.0 ≡ Err fault → all_steps step next calls ≡ Err fault)
+      → (state : Tables) → all_steps step state found.0 ≡ Err fault → all_steps step state (first ∷ calls) ≡ Err fault
+  found_refused first calls (Some command) more found is f state h =
+      step_refused first state (step state first) [] calls refl (λ next. none_is_refused next calls)
+      (ap (λ (cs : List Call). all_steps step state cs) (ap (λ (p : List Call × Option Text). p.0) (same_Some (first ∷ [], command) found is)) ∙ h)
+  found_refused first calls None None found is f state h = cc
+  found_refused first calls None (Some rest) found is f state h =
+      step_refused first state (step state first) rest.0 calls refl (f rest refl)
+      (ap (λ (cs : List Call). all_steps step state cs) (ap (λ (p : List Call × Option Text). p.0) (same_Some (first ∷ rest.0, rest.1) found is)) ∙ h)
+
+  first_refused : (calls : List Call) (found : List Call × Option Text) → up_to_toolset calls ≡ Some found → (state : Tables) → all_steps step state found.0 ≡ Err fault → all_steps step state calls ≡ Err fault
+  first_refused [] found is state h = cc
+  first_refused (first ∷ calls) found is state h =
+      found_refused first calls (toolset_of first.declaration) (up_to_toolset calls) found is (λ rest e next. first_refused calls rest e next) state h
+
+all_refused : (visits : List Visit) (calls : List Call) (found : List Call × Option Text) → up_to_toolset calls ≡ Some found → (fault : DeclaringFault) → tables_of visits found.0 ≡ Err fault → declared visits calls ≡ Err fault
+all_refused visits calls found up fault h =
+    ap (λ (tables : Result Tables DeclaringFault). and_then (λ t. and_then (λ g. Ok (whole t g)) (gathered_by t.features visits calls)) tables)
+    (first_refused (carrying visits) fault calls found up (no_tables visits) h)
+
+pub text_of_these : (visits : List Visit) (calls : List Call) (fault : LoadFault) → IsTextOf visits calls (Err fault) → IsOfThese visits calls fault
+text_of_these visits calls fault (inl none) = subst (IsOfThese visits calls) (sym none) tt
+text_of_these visits calls fault (inr (found, up, h)) = refusal_of_these visits calls (tables_of visits found.0) (all_refused visits calls found up) fault h
 
 -- ---- the build text
 

@@ -1,7 +1,12 @@
 -- What the answer of a load says.
 use Rattle.std.specs.Prelude.{◌≡◌, ℕ, List, length, map as each, Option, Some, None, Result, Ok, Err}
 use Rattle.b2_host.specs.Outside.{Outside}
+use Rattle.b2_metatargets.specs.declared.fault.DeclaringFault.{DeclaringFault}
+use Rattle.b2_metatargets.specs.declared.fault.DeclaringFault.TheVariants as declaring_faults
+use Rattle.b2_metatargets.specs.declared.visit.Visit.{Visit}
+use Rattle.b2_metatargets.specs.declared.visit.Call.{Call}
 use Rattle.b2_metatargets.specs.declared.whole.Declared.{Declared}
+use Rattle.b2_metatargets.specs.Declaring.{declared}
 use Rattle.b2_metatargets.specs.Laws.{visited, IsSound}
 use Rattle.jam_journal.specs.Tables.{Text}
 use Rattle.jam_eval.specs.Refused.{Refuses}
@@ -11,9 +16,10 @@ use Rattle.jam_natives.specs.Keeping.{Kept}
 use Rattle.jam_natives.specs.Seeing.{kept_of}
 use Rattle.jam_effects.specs.declared.turns.Turns.{Turns}
 use Rattle.b2_walk.specs.declared.fault.LoadFault.{LoadFault}
+use Rattle.b2_walk.specs.declared.fault.LoadFault.TheVariants as faults
 use Rattle.b2_walk.specs.Directories.{HaveParentsBefore}
 use Rattle.b2_walk.specs.Faults.{refusal_of, refused_of}
-use Rattle.b2_walk.specs.Walking.{IsSettingFor}
+use Rattle.b2_walk.specs.Walking.{IsSettingFor, AreAllVisited}
 use Rattle.b2_walk.specs.Walks.{Walk, Refusal}
 use Rattle.b2_project.specs.declared.project.Project.{Project}
 use Rattle.b2_project.specs.Loads.{Loads, loaded, fails}
@@ -54,3 +60,28 @@ HasPlaces found = IsSound (length found.places) found.places found.targets found
 -- the parent of each project stands before it
 abbrev pub HasParentsBefore : Declared → Type 0
 HasParentsBefore found = HaveParentsBefore (each visited found.places)
+
+-- It is what the calls of projects declare, where all that a request leads to by its target words was visited.
+pub record IsDeclaredBy (words : List Text) (found : Declared) : Type 0 where
+  pub visits : List Visit
+  pub calls : List Call
+  pub all : AreAllVisited words visits calls
+  pub is : declared visits calls ≡ Ok found
+  pub places : each visited found.places ≡ visits
+
+-- The calls of projects are refused so, where all that a request leads to was visited.
+pub record AreRefused (words : List Text) (fault : DeclaringFault) : Type 0 where
+  pub visits : List Visit
+  pub calls : List Call
+  pub all : AreAllVisited words visits calls
+  pub is : declared visits calls ≡ Err fault
+
+-- where a load is refused for what calls declare, it is so
+abbrev pub IsOfCalls : List Text → LoadFault → Type 0
+IsOfCalls words (faults.Declaration path rule line) = AreRefused words (declaring_faults.Declaration path rule line)
+IsOfCalls words (faults.Feature path line fault) = AreRefused words (declaring_faults.Feature path line fault)
+IsOfCalls words _ = Unit {0}
+
+-- the lines are those that the natives of a project recorded
+abbrev pub AreRecordedIn : Project → List Text → Type 0
+AreRecordedIn project echoes = echoes ≡ (kept_of project.natives).echoes

@@ -1,5 +1,5 @@
 -- What the parts of a load do, as they are proved.
-use Rattle.std.specs.Prelude.{◌≡◌, ◌≤◌, ◌<◌, ◌+◌, ◌⊎◌, ℕ, List, [], length, take, false, is_some, is_ok, true, slice_get, Option, Some, None, Result, Ok, Err}
+use Rattle.std.specs.Prelude.{◌≡◌, ◌≤◌, ◌<◌, ◌+◌, ◌⊎◌, ℕ, List, [], length, take, false, is_some, is_ok, true, slice_get, map as each, Option, Some, None, Result, Ok, Err}
 use Rattle.std.specs.declared.vec.Vec.{Vec}
 use Rattle.std.specs.declared.alloc.Global.{Global}
 use Rattle.b2_features.specs.declared.fault.FeatureFault.{FeatureFault}
@@ -14,6 +14,7 @@ use Rattle.b2_metatargets.specs.declared.whole.Declared.{Declared}
 use Rattle.b2_metatargets.specs.Outcomes.{IsFaultOf}
 use Rattle.b2_metatargets.specs.Carrying.{tables_of}
 use Rattle.b2_metatargets.specs.Declaring.{declared}
+use Rattle.b2_metatargets.specs.Laws.{visited}
 use Rattle.jam_journal.specs.Tables.{Text}
 use Rattle.jam_eval.specs.Refused.{Refuses, TookTurn}
 use Rattle.jam_eval.specs.Settings.{Setting}
@@ -25,11 +26,11 @@ use Rattle.b2_walk.specs.declared.fault.LoadFault.TheVariants as faults
 use Rattle.b2_walk.specs.declared.walk.Walk.{Walk as Walking}
 use Rattle.b2_walk.specs.Faults.{refused_by, refused_of, IsWhole}
 use Rattle.b2_walk.specs.Finding.{Looked, CountsFault, Counts}
-use Rattle.b2_walk.specs.Walking.{walk_of, IsSettingFor, Follows, WalkComesTo, AreOfProjects}
+use Rattle.b2_walk.specs.Walking.{walk_of, IsSettingFor, Follows, WalkComesTo, AreOfProjects, AreAllVisited}
 use Rattle.b2_walk.specs.Walks.{Walk, Course}
 use Rattle.b2_project.specs.declared.project.Project.{Project}
 use Rattle.b2_project.specs.declared.load.Told.{Told}
-use Rattle.b2_project.specs.Loading.{HasPlaces, HasParentsBefore}
+use Rattle.b2_project.specs.Loading.{HasPlaces, HasParentsBefore, IsOfCalls}
 use Rattle.b2_project.specs.Loads.{toolset_of, up_to_toolset, IsEquipped, IsAfterWalk}
 
 -- ---- faults of declaring, as those of a load
@@ -46,6 +47,16 @@ of_declaring declaring_faults.OutOfMemory = faults.OutOfMemory
 -- the fault is that of some calls that are refused, or memory ran out
 abbrev pub IsRefusalOf : {X : Type 0} → Result X DeclaringFault → LoadFault → Type 0
 IsRefusalOf outcome fault = (found : DeclaringFault) × (fault ≡ of_declaring found) × IsFaultOf outcome found
+
+-- a fault of declaring is that of these calls
+abbrev pub IsOfThese : List Visit → List Call → LoadFault → Type 0
+IsOfThese visits calls (faults.Declaration path rule line) = declared visits calls ≡ Err (declaring_faults.Declaration path rule line)
+IsOfThese visits calls (faults.Feature path line fault) = declared visits calls ≡ Err (declaring_faults.Feature path line fault)
+IsOfThese visits calls _ = Unit {0}
+
+abbrev pub IsOfTheseIf : List Visit → List Call → Result (Unit {0}) LoadFault → Type 0
+IsOfTheseIf visits calls (Ok u) = Unit {0}
+IsOfTheseIf visits calls (Err fault) = IsOfThese visits calls fault
 
 -- The fault holds none of the host and no out of memory; no pattern was refused, and no call of the host failed.
 pub record IsPlain (fault : LoadFault) : Type 0 where
@@ -94,6 +105,7 @@ pub record RunsToolset (before after : Walking) (first last : Turns) (from to : 
   pub told : (setting : Setting Kept) → IsSettingFor setting first.budget from → Refuses setting.refused first.left last.left (refused_of result)
       → Follows result (equipped setting (walk_of before first.left)) (walk_of after last.left)
   pub stays : StaysOpen before after
+  pub fault : IsOfTheseIf before.visits before.calls.items result
   pub whole : IsWholeOf result
   pub turns : last.left ≤ first.left
   pub budget : last.budget ≡ first.budget
@@ -115,11 +127,17 @@ abbrev pub AreOwned : Result (Unit {0}) LoadFault → Walking → Type 0
 AreOwned (Ok u) w = AreOfProjects w.visits w.calls.items
 AreOwned (Err fault) w = Unit {0}
 
+-- all that a request leads to was visited; or a fault of declaring is that of its calls
+abbrev pub AreAll : List Text → Result (Unit {0}) LoadFault → Walking → Type 0
+AreAll words (Ok u) w = AreAllVisited words w.visits w.calls.items
+AreAll words (Err fault) w = IsOfCalls words fault
+
 -- All files and the toolset's build text run as it is defined.
 pub record GoesThrough (words : List Text) (w : Walking) (first last : Turns) (from to : Outside) (result : Result (Unit {0}) LoadFault) : Type 0 where
   pub told : (setting : Setting Kept) → IsSettingFor setting first.budget from → Refuses setting.refused first.left last.left (refused_of result)
       → Follows result (ThroughComesTo setting first.left words) (walk_of w last.left)
   pub owned : AreOwned result w
+  pub all : AreAll words result w
   pub closed : IsClosed w
   pub whole : IsWholeOf result
   pub turns : last.left ≤ first.left
@@ -131,7 +149,7 @@ pub record GoesThrough (words : List Text) (w : Walking) (first last : Turns) (f
 
 -- what a walk's calls declare, or the fault of the first one that is refused
 abbrev pub IsDeclaredOf : Walking → Result Declared LoadFault → Type 0
-IsDeclaredOf w (Ok found) = (declared w.visits w.calls.items ≡ Ok found) × HasPlaces found × HasParentsBefore found
+IsDeclaredOf w (Ok found) = (declared w.visits w.calls.items ≡ Ok found) × HasPlaces found × HasParentsBefore found × (each visited found.places ≡ w.visits)
 IsDeclaredOf w (Err fault) = IsRefusalOf (declared w.visits w.calls.items) fault
 
 -- after a walk that is whole, what its calls declare; else the fault

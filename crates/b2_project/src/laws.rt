@@ -1,5 +1,5 @@
 //! Laws of loads.
-ghost use Rattle.b2_project.specs.Laws.{OneEnding};
+ghost use Rattle.b2_project.specs.Laws.{OneEnding, RecordedDeclare};
 
 use b2_walk::laws::one_course;
 
@@ -9,3 +9,8 @@ pub fn one_ending()
 {
     one_course();
 }
+
+/// The rules whose calls are recorded are those that declare something.
+pub fn recorded_declare()
+    ensures { RecordedDeclare }
+{}

@@ -1,14 +1,12 @@
 //! The toolset, whose build text runs where a call brings it in.
-ghost use Rattle.std.specs.Prelude.{◌≡◌, ◌≢◌, [], codes, is_some, IfOk};
+ghost use Rattle.std.specs.Prelude.{◌≡◌, codes, is_some, IfOk};
 ghost use Rattle.std.specs.Option.{IfSome, option_copied};
-ghost use Rattle.b2_base.specs.Bytes.{HasNoZero};
-ghost use Rattle.b2_base.specs.Segments.{normal_of};
 ghost use Rattle.b2_walk.specs.Walking.{AreOfProjects};
 ghost use Rattle.b2_project.specs.Loads.{toolset_of};
 ghost use Rattle.b2_project.specs.Parts.{of_declaring, IsToolsetAt, IsTextOf, RunsToolset};
 
 use b2_base::fault::OutOfMemory;
-use b2_base::path::{Path, PathFault};
+use b2_base::path::Path;
 use b2_base::text::Text;
 use b2_declarations::declaration::Declaration;
 use b2_features::fault::FeatureFault;
@@ -17,24 +15,11 @@ use b2_host::files::Files;
 use b2_metatargets::fault::DeclaringFault;
 use b2_metatargets::tables::carry_out;
 use b2_metatargets::visit::{Call, Visit};
+use b2_texts::places::path_of;
 use b2_walk::fault::LoadFault;
 use b2_walk::walk::Walk;
 use jam_effects::turns::Turns;
 use std::alloc::Global;
-
-/// The path of a text.
-fn path_of(alloc: Global, text: &str) -> Result<Path, OutOfMemory>
-    requires text { HasNoZero text.now }
-    requires some { text.now ≢ [] }
-    ensures { IfOk result (λ path. path ≡ normal_of text.now) }
-{
-    match Path::normal(alloc, text) {
-        Ok(path) => Ok(path),
-        Err(PathFault::OutOfMemory) => Err(OutOfMemory),
-        Err(PathFault::Empty) => unreachable!(),
-        Err(PathFault::Nul) => unreachable!(),
-    }
-}
 
 /// The path of the build text.
 fn text_path(alloc: Global) -> Result<Path, OutOfMemory>

@@ -12,7 +12,7 @@ use Rattle.jam_effects.specs.Machines.{folder_of}
 use Rattle.b2_walk.specs.declared.fault.LoadFault.{LoadFault}
 use Rattle.b2_walk.specs.Finding.{Looked, Counts}
 use Rattle.b2_walk.specs.Faults.{refusal_of, refused_of}
-use Rattle.b2_walk.specs.Walking.{IsSettingFor, IsRefusedBy, AreOfProjects}
+use Rattle.b2_walk.specs.Walking.{IsSettingFor, IsRefusedBy, AreVisited}
 use Rattle.b2_walk.specs.Walks.{Walk, Refusal, Course, goes_on, refused, and_then}
 use Rattle.b2_walk.proofs.FindSteps.{looked_then, counted}
 use Rattle.b2_walk.specs.Doing.{Stand, ArePassed, AreInLine, What, by, Agrees, Grows, IsGrown, IsOfWalkIf, Does}
@@ -51,12 +51,12 @@ agrees_from (Ok u) comes other w f h = (f (goes_on w) h.0, h.1)
 agrees_from (Err fault) comes other w f h = refused_from (refusal_of fault) comes other w.state f h
 
 pub grows_same : (a : Stand) → Grows a a
-grows_same a = record { passed = λ h. h; projects = λ h. h; more = []; visits = sym (append-nil a.walk.visits) }
+grows_same a = record { passed = λ h. h; visited = λ h. h; more = []; visits = sym (append-nil a.walk.visits) }
 
 pub grows_then : (a b c : Stand) → Grows a b → Grows b c → Grows a c
 grows_then a b c one two = record {
   passed = λ h. two.passed (one.passed h);
-  projects = λ h. two.projects (one.projects h);
+  visited = λ h. two.visited (one.visited h);
   more = one.more ++ two.more;
   visits = two.visits ∙ ap (λ vs. vs ++ two.more) one.visits ∙ append_assoc a.walk.visits one.more two.more;
 }
@@ -132,7 +132,7 @@ pub record Stays (a b : Stand) (result : Result (Unit {0}) LoadFault) : Type 0 w
 stays_grown : (result : Result (Unit {0}) LoadFault) (a b : Stand) → Stays a b result → IsGrown result a b
 stays_grown (Ok u) a b stays = record {
   passed = λ h. subst (λ w. ArePassed w.visits b.passed w.named) (sym stays.walk) (subst (λ n. ArePassed a.walk.visits n a.walk.named) (sym stays.passed) h);
-  projects = λ h. subst (λ w. AreOfProjects w.visits w.calls) (sym stays.walk) h;
+  visited = λ h. subst (λ w. AreVisited w.visits w.calls w.named) (sym stays.walk) h;
   more = [];
   visits = ap (λ w. w.visits) stays.walk ∙ sym (append-nil a.walk.visits);
 }

@@ -1,13 +1,16 @@
+mod CleanLemmas
 mod WayLemmas
 mod VisitLemmas
 mod CallLemmas
 mod LineLemmas
 mod FindSteps
 mod NativeParents
+mod NativeRecord
 mod RunSteps
 mod DoSteps
 mod VisitSteps
 mod TextSteps
 mod WalkSteps
 mod OneCourse
+mod RecordSteps
 mod NewSteps

@@ -1,7 +1,6 @@
 -- What holds of a walk that was new.
 use Rattle.std.proofs.Common.{◌≡◌, ℕ, false, List, [], ◌∷◌, Some, None, Result, Ok, Err, is_some, OnOk, IfErr, refl, sym, ap, ◌∙◌, subst, arith}
 use Rattle.std.specs.FinMap as map
-use Rattle.std.proofs.lemmas.List.Elements.{All-nil}
 use Rattle.jam_journal.specs.Tables.{Text}
 use Rattle.jam_journal.specs.Scopes.{Frame}
 use Rattle.jam_scope.specs.Worlds.{Worlds}
@@ -14,8 +13,9 @@ use Rattle.b2_walk.specs.declared.fault.LoadFault.{LoadFault}
 use Rattle.b2_walk.specs.declared.walk.Walk.{Walk as Walking}
 use Rattle.b2_walk.specs.Faults.{IsOfWalk}
 use Rattle.b2_walk.specs.Walks.{Walk, no_walk, Course, load_root, ComesTo}
-use Rattle.b2_walk.specs.Walking.{walk_of, IsNew, Follows, TellsWalk, AreOfProjects}
+use Rattle.b2_walk.specs.Walking.{walk_of, IsNew, Follows, TellsWalk, AreOfProjects, AreVisited, none_yet, AreAllVisited}
 use Rattle.b2_walk.specs.Doing.{stand, ArePassed, AreInLine, Agrees, IsOfWalkIf, Does, walked_all}
+use Rattle.b2_walk.proofs.CallLemmas.{of_visited}
 
 no_line : (left : ℕ) → AreInLine (no_walk left)
 no_line left = record {
@@ -30,8 +30,8 @@ none_passed visits passed dirs none zero =
 pub new_passed : (w : Walking) → IsNew w → ArePassed w.visits w.named.passed w.named.dirs.items
 new_passed w is = none_passed w.visits w.named.passed w.named.dirs.items (ap (λ (x : Walk). x.named) (is.walk 0)) is.passed
 
-none_of : (visits : List Visit) (calls : List Call) → calls ≡ [] → AreOfProjects visits calls
-none_of visits calls none = subst (AreOfProjects visits) (sym none) (All-nil _)
+pub new_visited : (w : Walking) → IsNew w → AreVisited w.visits w.calls.items w.named.dirs.items
+new_visited w is = subst (λ (x : Walk). AreVisited x.visits x.calls x.named) (sym (is.walk 0)) none_yet
 
 follows : (result : Result (Unit {0}) LoadFault) (comes : Course → Type 0) (w : Walk) → Agrees result comes w → Follows result comes w
 follows (Ok u) comes w h = h.0
@@ -45,14 +45,9 @@ new_told words old new before after outside later result is does setting right r
     (follows result (walked_all words setting (walk_of old before.left)) (walk_of new after.left)
     (does.told setting right refuses (subst AreInLine (sym (is.walk before.left)) (no_line before.left))))
 
-new_projects_if : (words : List Text) (old new : Walking) (before after : Turns) (outside later : Outside) → IsNew old
-    → Does (walked_all words) (stand old before outside) (stand new after later) (Ok tt) → AreOfProjects new.visits new.calls.items
-new_projects_if words old new before after outside later is does = does.grown.projects (none_of old.visits old.calls.items (ap (λ (x : Walk). x.calls) (is.walk 0)))
-
-pub new_projects : (words : List Text) (old new : Walking) (before after : Turns) (outside later : Outside) (result : Result (Unit {0}) LoadFault) → IsNew old
-    → Does (walked_all words) (stand old before outside) (stand new after later) result → OnOk result (AreOfProjects new.visits new.calls.items)
-new_projects words old new before after outside later (Ok u) is does = new_projects_if words old new before after outside later is does
-new_projects words old new before after outside later (Err e) is does = tt
+pub new_projects : (words : List Text) (visits : List Visit) (calls : List Call) (result : Result (Unit {0}) LoadFault) → OnOk result (AreAllVisited words visits calls) → OnOk result (AreOfProjects visits calls)
+new_projects words visits calls (Ok u) h = of_visited visits calls h.named h.visited
+new_projects words visits calls (Err e) h = tt
 
 pub new_fault : (result : Result (Unit {0}) LoadFault) → IsOfWalkIf result → IfErr result IsOfWalk
 new_fault (Ok u) h = tt

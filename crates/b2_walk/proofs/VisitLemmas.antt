@@ -62,6 +62,11 @@ some_or (Some n) b h = refl
 pub visited_more : (visits : List Visit) (visit : Visit) (dir : Text) → is_visited dir visits ≡ true → is_visited dir (visits ++ visit ∷ []) ≡ true
 visited_more visits visit dir h = ap is_some (place_more 0 dir visits visit) ∙ some_or (place_of dir visits) _ h
 
+pub visited_later : (visits more : List Visit) (dir : Text) → is_visited dir visits ≡ true → is_visited dir (visits ++ more) ≡ true
+visited_later visits [] dir h = subst (λ vs. is_visited dir vs ≡ true) (sym (append-nil visits)) h
+visited_later visits (visit ∷ more) dir h =
+    subst (λ vs. is_visited dir vs ≡ true) (append_assoc visits (visit ∷ []) more) (visited_later (visits ++ visit ∷ []) more dir (visited_more visits visit dir h))
+
 -- ---- the last one of some directories
 
 or_assoc : (a b c : Option ℕ) → option_or a (option_or b c) ≡ option_or (option_or a b) c

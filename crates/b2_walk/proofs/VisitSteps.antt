@@ -38,7 +38,7 @@ use Rattle.b2_walk.specs.declared.project_file.ProjectFile.{ProjectFile}
 use Rattle.b2_walk.specs.Finding.{AreReadings, IsFileFound, IsFileOf, Looked, CountsFault, LooksFor}
 use Rattle.b2_walk.specs.Faults.{refusal_of, refused_by, of_eval, of_lex, of_syntax, IsOfWalk}
 use Rattle.b2_walk.specs.declared.walk.Walk.{Walk as Walking}
-use Rattle.b2_walk.specs.Walking.{walk_of, IsSettingFor, IsRefusedBy, AreOfProjects}
+use Rattle.b2_walk.specs.Walking.{walk_of, IsSettingFor, IsRefusedBy, AreVisited, one_more}
 use Rattle.b2_walk.specs.Laws.{FilesKeepParents}
 use Rattle.b2_walk.specs.Running.{MayBePut, Runs}
 use Rattle.b2_walk.specs.Walks.{Walk, lex, too_big, syntax_at, Course, goes_on, prepared, put_below, call_of, names_of, new_calls, run_project, with_project, visited, after_run, visit_file, visit_found, visit}
@@ -47,7 +47,6 @@ use Rattle.b2_walk.proofs.FindSteps.{looked_same, looked_then, counted}
 use Rattle.b2_walk.proofs.DoSteps.{frames_same, agrees_from, does_from, setting_later, does_stay}
 use Rattle.b2_walk.proofs.LineLemmas.{may_be_put, in_line_more}
 use Rattle.b2_walk.proofs.VisitLemmas.{none_more, parent_before, no_place}
-use Rattle.b2_walk.proofs.CallLemmas.{of_one_more}
 use Rattle.jam_eval.specs.Kept.{Ends}
 
 -- natives, a world and turns of a stand, as evaluation has them
@@ -147,9 +146,12 @@ passed_more visit w next s before after walk passed h =
       short = (let e = length-append w.named (more_names visit w s) in let k = h.short in omega (arith, e, k));
     }))
 
--- each call is one of a project, with one project more and its calls too
-projects_more : (visit : Visit) (w : Walk) (s : State Kept) → AreOfProjects w.visits w.calls → AreOfProjects (w.visits ++ visit ∷ []) (w.calls ++ new_calls (length w.visits) w.state.kept s.kept)
-projects_more visit w s h = of_one_more w.visits visit w.calls (drop (length w.state.kept.decls) s.kept.decls) h
+-- the project is one more, with its calls
+visited_with : (visit : Visit) (w : Walk) (s : State Kept) → IsNext visit w.visits → AreVisited w.visits w.calls w.named
+    → AreVisited (w.visits ++ visit ∷ []) (w.calls ++ new_calls (length w.visits) w.state.kept s.kept) (w.named ++ more_names visit w s)
+visited_with visit w s next h =
+    subst (λ (v : Visit). AreVisited (w.visits ++ v ∷ []) (w.calls ++ new_calls (length w.visits) w.state.kept s.kept) (w.named ++ more_names visit w s)) (sym next.is)
+    (one_more w.visits w.calls w.named visit.dir visit.file (drop (length w.state.kept.decls) s.kept.decls) h (not_visited (place_of visit.dir w.visits) next.new))
 
 -- the project is added after its file has ended
 pub tree_ended : FilesKeepParents → (visit : Visit) (tree : StmtTrees) (a b c : Stand) → IsNext visit a.walk.visits
@@ -172,7 +174,7 @@ tree_ended law visit tree a b c next runs walk passed budget outside = record {
   whole = tt;
   grown = record {
     passed = λ h. passed_more visit a.walk c.walk b.walk.state a.passed c.passed walk passed h;
-    projects = λ h. subst (λ w. AreOfProjects w.visits w.calls) (sym walk) (projects_more visit a.walk b.walk.state h);
+    visited = λ h. subst (λ w. AreVisited w.visits w.calls w.named) (sym walk) (visited_with visit a.walk b.walk.state next h);
     more = visit ∷ [];
     visits = ap (λ w. w.visits) walk;
   };
@@ -206,7 +208,7 @@ abbrev pub looked_at : Stand → Outside → Stand
 looked_at a outside = record a { outside = outside }
 
 grown_from : (result : Result (Unit {0}) LoadFault) (a : Stand) (outside : Outside) (c : Stand) → IsGrown result (looked_at a outside) c → IsGrown result a c
-grown_from (Ok u) a outside c h = record { passed = h.passed; projects = h.projects; more = h.more; visits = h.visits }
+grown_from (Ok u) a outside c h = record { passed = h.passed; visited = h.visited; more = h.more; visits = h.visits }
 grown_from (Err e) a outside c h = tt
 
 pub after_look : (what other : What) (a : Stand) (outside : Outside) (c : Stand) (result : Result (Unit {0}) LoadFault) → Looked a.outside outside → outside.faults ≡ a.outside.faults
@@ -274,7 +276,7 @@ file_has_no_tokens dir path lexing.OutOfMemory a = no_memory (found_as dir (path
 -- ---- a project file that runs
 
 pub is_next : (dir file : Text) (visits : List Visit) → is_visited dir visits ≡ false → IsNext (visit_of dir file visits) visits
-is_next dir file visits h = record { new = no_place (place_of dir visits) h; named = refl; parent = parent_before dir visits }
+is_next dir file visits h = record { is = refl; new = no_place (place_of dir visits) h; named = refl; parent = parent_before dir visits }
 
 pub file_runs : (dir path : Text) (tree : StmtTrees) (a b : Stand) (visit : Visit) (result : Result (Unit {0}) LoadFault) → visit ≡ visit_of dir path a.walk.visits
     → Does (runs_tree visit tree) a b result → Does (found_as dir (path, is_file tree)) a b result

@@ -1,6 +1,6 @@
 -- How a walk goes on from directory to directory.
 use Rattle.std.proofs.Common.{◌≡◌, ◌<◌, ◌+◌, ℕ, true, false, List, [], ◌∷◌, ◌++◌, length, take, drop, get_or, Option, Some, None, Result, Ok, Err, refl, sym, ap, ◌∙◌, subst, arith}
-use Rattle.std.specs.Prelude.{if◌then◌else◌}
+use Rattle.std.specs.Prelude.{OnOk, if◌then◌else◌}
 use Rattle.std.proofs.lemmas.List.{drop_more}
 use Rattle.jam_journal.specs.Tables.{Text}
 use Rattle.jam_eval.specs.RefusedLaws.{refuses_first, refuses_second}
@@ -10,16 +10,17 @@ use Rattle.jam_natives.specs.Keeping.{Kept}
 use Rattle.b2_host.specs.Outside.{Outside}
 use Rattle.jam_effects.specs.declared.turns.Turns.{Turns}
 use Rattle.b2_declarations.specs.Directories.{directories}
+use Rattle.b2_metatargets.specs.declared.visit.Visit.{Visit}
 use Rattle.b2_walk.specs.declared.walk.Walk.{Walk as Walking}
 use Rattle.b2_walk.specs.declared.fault.LoadFault.{LoadFault}
 use Rattle.b2_walk.specs.declared.fault.LoadFault.TheVariants as faults
 use Rattle.b2_walk.specs.Directories.{here, way_to, is_visited, first_new}
 use Rattle.b2_walk.specs.Finding.{CountsFault}
 use Rattle.b2_walk.specs.Faults.{refusal_of, refused_by, refused_of, IsOfWalk}
-use Rattle.b2_walk.specs.Walking.{walk_of, IsRefusedBy}
+use Rattle.b2_walk.specs.Walking.{walk_of, IsRefusedBy, AreVisited, AreAllVisited}
 use Rattle.b2_walk.specs.Walks.{Walk, Refusal, no_jamroot, no_jamfile, Course, goes_on, refused, and_then, visit, visit_all, unless_visited, load_dir, load_root, due, ComesTo, is_refused, is_whole, leads_on}
 use Rattle.b2_walk.specs.Doing.{Stand, stand, ArePassed, Grows, What, by, visits_dir, visits_all, loads_dir, loads_root, Does, walked, walked_all, Leads}
-use Rattle.b2_walk.proofs.VisitLemmas.{none_later, longer}
+use Rattle.b2_walk.proofs.VisitLemmas.{visited_later, none_later, longer}
 use Rattle.b2_walk.proofs.VisitSteps.{no_memory}
 use Rattle.b2_walk.proofs.FindSteps.{looked_same, looked_then, counted}
 use Rattle.b2_walk.proofs.DoSteps.{frames_same, frames_then, grows_same, grows_then, grown_after, took_later, setting_later, agrees_from, followed, joined, stopped, Stays, does_stay}
@@ -45,7 +46,7 @@ leads_passed whole rest a b passed known h = record {
   frames = h.frames;
   looked = h.looked;
   counts = h.counts;
-  grown = record { passed = λ before. known; projects = h.grown.projects; more = h.grown.more; visits = h.grown.visits };
+  grown = record { passed = λ before. known; visited = h.grown.visited; more = h.grown.more; visits = h.grown.visits };
 }
 
 -- a part of the rest is done
@@ -240,3 +241,14 @@ root_refused words a b e h = record {
 
 pub root_then : (words : List Text) (a b c : Stand) (result : Result (Unit {0}) LoadFault) → Does loads_root a b (Ok tt) → Does (walked words) b c result → Does (walked_all words) a c result
 root_then words a b c result = followed loads_root (walked words) (walked_all words) a b c result (λ setting e course h. root_walked words setting a.walk b.walk e course h)
+
+-- all was visited, where none is due
+pub all_walked : (words : List Text) (a b c : Stand) (result : Result (Unit {0}) LoadFault) → AreVisited a.walk.visits a.walk.calls a.walk.named → Does loads_root a b (Ok tt) → is_visited here b.walk.visits ≡ true
+    → Does (walked words) b c result → OnOk result (first_new c.walk.visits (c.walk.named ++ directories here words) ≡ None) → OnOk result (AreAllVisited words c.walk.visits c.walk.calls)
+all_walked words a b c (Ok u) begun one root two none = record {
+  named = c.walk.named;
+  visited = two.grown.visited (one.grown.visited begun);
+  jamroot = subst (λ (vs : List Visit). is_visited here vs ≡ true) (sym two.grown.visits) (visited_later b.walk.visits two.grown.more here root);
+  whole = none;
+}
+all_walked words a b c (Err e) begun one root two none = tt

@@ -15,11 +15,11 @@ use Rattle.jam_effects.specs.declared.turns.Turns.{Turns}
 use Rattle.b2_metatargets.specs.declared.visit.Visit.{Visit}
 use Rattle.b2_walk.specs.declared.fault.LoadFault.{LoadFault}
 use Rattle.b2_walk.specs.declared.walk.Walk.{Walk as Walking}
-use Rattle.b2_walk.specs.Directories.{IsBefore, module_name, module_above, place_of, is_visited, first_new}
+use Rattle.b2_walk.specs.Directories.{IsBefore, module_name, module_above, place_of, is_visited, first_new, visit_of}
 use Rattle.b2_walk.specs.Faults.{refusal_of, refused_of, IsOfWalk}
 use Rattle.b2_walk.specs.Finding.{Looked, Counts}
 use Rattle.b2_walk.specs.Running.{RunsProject}
-use Rattle.b2_walk.specs.Walking.{walk_of, IsSettingFor, IsRefusedBy, Follows, AreOfProjects}
+use Rattle.b2_walk.specs.Walking.{walk_of, IsSettingFor, IsRefusedBy, Follows, AreVisited}
 use Rattle.b2_walk.specs.Walks.{Walk, Course, goes_on, call_of, with_project, visited, after_run, run_project, RunsText, run_text, visit_found, visit, visit_all, load_dir, load_root, ComesTo}
 
 -- a walk, how many of the first directories that were named are known to be visited, the turns that there were at first, and the outside
@@ -34,6 +34,7 @@ stand w turns outside = record { walk = walk_of w turns.left; passed = w.named.p
 
 -- a project that was not visited, as it stands after those that were
 pub record IsNext (visit : Visit) (visits : List Visit) : Type 0 where
+  pub is : visit ≡ visit_of visit.dir visit.file visits
   pub new : place_of visit.dir visits ≡ None
   pub named : visit.«module» ≡ module_name visit.dir
   pub parent : IsBefore (length visits) visit.parent
@@ -92,10 +93,10 @@ reads_tree path tree = reads_text path (is_file (whole_tree tree))
 abbrev pub runs_bytes : Text → List ℕ → What
 runs_bytes path bytes setting w course = RunsText setting path bytes w course
 
--- What a part of a walk adds: no project that was visited goes, and each call is one of a project.
+-- What a part of a walk adds: no project that was visited goes, and further ones were visited in the same way.
 pub record Grows (before after : Stand) : Type 0 where
   pub passed : ArePassed before.walk.visits before.passed before.walk.named → ArePassed after.walk.visits after.passed after.walk.named
-  pub projects : AreOfProjects before.walk.visits before.walk.calls → AreOfProjects after.walk.visits after.walk.calls
+  pub visited : AreVisited before.walk.visits before.walk.calls before.walk.named → AreVisited after.walk.visits after.walk.calls after.walk.named
   pub more : List Visit
   pub visits : after.walk.visits ≡ before.walk.visits ++ more
 

@@ -1,5 +1,7 @@
 -- What the answer of a walk says.
-use Rattle.std.specs.Prelude.{◌≡◌, ◌<◌, ℕ, All, List, Option, Some, None, Result, Ok, Err, length}
+use Rattle.std.specs.Prelude.{◌≡◌, ◌<◌, ℕ, true, false, All, List, [], ◌∷◌, ◌++◌, Option, Some, None, Result, Ok, Err, length, map as each}
+use Rattle.std.specs.List.{flat_map}
+use Rattle.b2_declarations.specs.Directories.{directories}
 use Rattle.b2_host.specs.Outside.{Outside}
 use Rattle.b2_metatargets.specs.declared.visit.Visit.{Visit}
 use Rattle.b2_metatargets.specs.declared.visit.Call.{Call}
@@ -7,6 +9,7 @@ use Rattle.jam_journal.specs.Tables.{Text}
 use Rattle.jam_eval.specs.Refused.{Refuses}
 use Rattle.jam_eval.specs.Settings.{Setting, IsSetting}
 use Rattle.jam_eval.specs.States.{State}
+use Rattle.jam_natives.specs.declared.decl.Decl.{Decl}
 use Rattle.jam_natives.specs.Keeping.{Kept}
 use Rattle.jam_natives.specs.Rows.{jam_meaning}
 use Rattle.jam_natives.specs.Seeing.{kept_of}
@@ -14,8 +17,9 @@ use Rattle.jam_effects.specs.declared.turns.Turns.{Turns}
 use Rattle.jam_effects.specs.Machines.{folder_of}
 use Rattle.b2_walk.specs.declared.fault.LoadFault.{LoadFault}
 use Rattle.b2_walk.specs.declared.walk.Walk.{Walk as Walking}
+use Rattle.b2_walk.specs.Directories.{here, is_visited, first_new, visit_of}
 use Rattle.b2_walk.specs.Faults.{refusal_of, refused_of}
-use Rattle.b2_walk.specs.Walks.{Walk, no_walk, Refusal, Course, goes_on, refused, RunsText, load_root, ComesTo}
+use Rattle.b2_walk.specs.Walks.{Walk, no_walk, Refusal, Course, goes_on, refused, call_of, names_of, RunsText, load_root, ComesTo}
 
 -- the walk of the code, with so many turns left
 abbrev pub walk_of : Walking → ℕ → Walk
@@ -70,3 +74,26 @@ TellsText outside path bytes before after w w' result =
 -- the project of each call is one of these
 abbrev pub AreOfProjects : List Visit → List Call → Type 0
 AreOfProjects visits calls = All (λ call. call.project < length visits) calls
+
+-- the directories that calls of a project name, in order
+abbrev pub names_in : Text → List Call → List Text
+names_in dir calls = flat_map (λ call. names_of dir call.declaration) calls
+
+-- the calls that the file of a further project recorded
+abbrev pub calls_of : List Visit → List Decl → List Call
+calls_of visits decls = each (call_of (length visits)) decls
+
+-- Projects that were visited one after another, the calls that their files recorded, and the directories that these name. No directory is
+-- visited twice, and the parent of each project is the nearest one above it among those before it.
+pub data AreVisited : List Visit → List Call → List Text → Type 0 where
+  none_yet : AreVisited [] [] []
+  one_more : (visits : List Visit) (calls : List Call) (named : List Text) (dir file : Text) (decls : List Decl)
+      → AreVisited visits calls named → is_visited dir visits ≡ false
+      → AreVisited (visits ++ visit_of dir file visits ∷ []) (calls ++ calls_of visits decls) (named ++ names_in dir (calls_of visits decls))
+
+-- All that a request leads to by its target words was visited: Jamroot, and each directory that a call or a word names.
+pub record AreAllVisited (words : List Text) (visits : List Visit) (calls : List Call) : Type 0 where
+  pub named : List Text
+  pub visited : AreVisited visits calls named
+  pub jamroot : is_visited here visits ≡ true
+  pub whole : first_new visits (named ++ directories here words) ≡ None

@@ -1,9 +1,9 @@
 //! The directories of projects: the way to each from the folder, the names of its project file, its module.
-ghost use Rattle.std.specs.Prelude.{◌≡◌, ◌∷◌, [], map, IfOk, string_bytes};
+ghost use Rattle.std.specs.Prelude.{◌≡◌, ◌∷◌, [], All, map, IfOk, string_bytes};
 ghost use Rattle.std.specs.List.{join_with_byte};
 ghost use Rattle.std.specs.Str.{bytes_eq};
 ghost use Rattle.b2_base.specs.Bytes.{HasNoZero};
-ghost use Rattle.b2_base.specs.Segments.{normal_of, segments, texts};
+ghost use Rattle.b2_base.specs.Segments.{segments, texts};
 ghost use Rattle.jam_eval.specs.Includes.{path_from, is_below};
 ghost use Rattle.b2_walk.specs.Directories.{here, beginnings, path_of, way_to, module_name, file_names};
 
@@ -11,18 +11,9 @@ use b2_base::fault::OutOfMemory;
 use b2_base::path::Path;
 use b2_base::path_list::PathList;
 use b2_base::text::Text;
+use b2_texts::places::path_of;
 use jam_values::paths::path_from;
 use std::alloc::Global;
-
-/// The path of a text.
-fn path_of(alloc: Global, text: &str) -> Result<Path, OutOfMemory>
-    ensures { IfOk result (λ path. path ≡ normal_of text.now) }
-{
-    match Path::normal(alloc, text) {
-        Ok(path) => Ok(path),
-        Err(_) => Err(OutOfMemory),
-    }
-}
 
 /// The folder itself.
 pub(crate) fn folder(alloc: Global) -> Result<Path, OutOfMemory>
@@ -47,6 +38,7 @@ fn joined(alloc: Global, segments: &[&str]) -> Result<String, OutOfMemory>
 
 /// The paths of the beginnings of some segments, the shortest first.
 fn paths_of(alloc: Global, segments: &[&str]) -> Result<PathList, OutOfMemory>
+    requires { All HasNoZero (texts segments.now) }
     ensures { IfOk result (λ paths. paths ≡ map path_of (beginnings (texts segments.now))) }
 {
     let mut paths = PathList::new(alloc);

@@ -1,5 +1,5 @@
 //! Laws of walks.
-ghost use Rattle.b2_walk.specs.Laws.{OneCourse, FilesKeepParents};
+ghost use Rattle.b2_walk.specs.Laws.{OneCourse, FilesKeepParents, FilesKeepRecord, CallsAreRecorded};
 
 /// A walk comes to one end.
 pub fn one_course()
@@ -10,3 +10,15 @@ pub fn one_course()
 pub fn files_keep_parents()
     ensures { FilesKeepParents }
 {}
+
+/// Over the native rules a file takes nothing away that was recorded before it.
+pub fn files_keep_record()
+    ensures { FilesKeepRecord }
+{}
+
+/// The calls of a whole walk are those that its natives recorded, in order, each read as one of a project.
+pub fn calls_are_recorded()
+    ensures { CallsAreRecorded }
+{
+    files_keep_record();
+}

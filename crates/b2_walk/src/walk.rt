@@ -1,13 +1,14 @@
 //! The projects of a load, visited one after another.
-ghost use Rattle.std.specs.Prelude.{◌≡◌, ◌≤◌, ◌++◌, [], true, false, is_some, ℕ, IfOk, IfErr, OnOk, OnErr};
+ghost use Rattle.std.specs.Prelude.{◌≡◌, ◌≤◌, ◌++◌, [], true, false, is_some, ℕ, None, IfOk, IfErr, OnOk, OnErr};
 ghost use Rattle.b2_host.specs.OutsideLaws.{Keeps};
 ghost use Rattle.jam_grammar.specs.Trees.{whole_tree};
 ghost use Rattle.jam_eval.specs.Refused.{TookTurn};
 ghost use Rattle.jam_values.specs.FileReadings.{reading_of};
-ghost use Rattle.b2_walk.specs.Directories.{way_to, is_visited, first_new};
+ghost use Rattle.b2_declarations.specs.Directories.{directories as directories_of};
+ghost use Rattle.b2_walk.specs.Directories.{here, way_to, is_visited, first_new};
 ghost use Rattle.b2_walk.specs.Faults.{refused_of, IsOfWalk};
 ghost use Rattle.b2_walk.specs.Finding.{Counts};
-ghost use Rattle.b2_walk.specs.Walking.{walk_of, IsNew, TellsWalk, AreOfProjects};
+ghost use Rattle.b2_walk.specs.Walking.{walk_of, IsNew, TellsWalk, AreOfProjects, AreVisited, AreAllVisited};
 ghost use Rattle.b2_walk.specs.Doing.{runs_tree, found_as, visits_dir, visits_all, loads_dir, loads_root, walked, walked_all, ArePassed, IsNext, RunsFile, IsAdded, DoesOn};
 
 use crate::calls::{append, calls_of, names_of_all, rest_of};
@@ -233,7 +234,8 @@ impl Walk {
         files: &mut F,
         turns: &mut Turns,
     ) -> Result<(), LoadFault>
-        ensures { DoesOn F.outside loads_root self.old turns.old files.old self.new turns.new files.new result }
+        ensures does { DoesOn F.outside loads_root self.old turns.old files.old self.new turns.new files.new result }
+        ensures visited { OnOk result (is_visited here self.new.visits ≡ true) }
     {
         let folder = folder(alloc)?;
         self.visit(alloc, files, turns, &folder)?;
@@ -274,7 +276,8 @@ impl Walk {
         words: &[Text],
     ) -> Result<(), LoadFault>
         requires { ArePassed self.old.visits self.old.named.passed self.old.named.dirs.items }
-        ensures { DoesOn F.outside (walked words.now) self.old turns.old files.old self.new turns.new files.new result }
+        ensures does { DoesOn F.outside (walked words.now) self.old turns.old files.old self.new turns.new files.new result }
+        ensures whole { OnOk result (first_new self.new.visits (self.new.named.dirs.items ++ directories_of here words.now) ≡ None) }
     {
         let folder = folder(alloc)?;
         let mut last = Queue::of(directories(alloc, &folder, words)?);
@@ -293,8 +296,10 @@ impl Walk {
         turns: &mut Turns,
         words: &[Text],
     ) -> Result<(), LoadFault>
-        requires { ArePassed self.old.visits self.old.named.passed self.old.named.dirs.items }
-        ensures { DoesOn F.outside (walked_all words.now) self.old turns.old files.old self.new turns.new files.new result }
+        requires passed { ArePassed self.old.visits self.old.named.passed self.old.named.dirs.items }
+        requires visited { AreVisited self.old.visits self.old.calls.items self.old.named.dirs.items }
+        ensures does { DoesOn F.outside (walked_all words.now) self.old turns.old files.old self.new turns.new files.new result }
+        ensures visited { OnOk result (AreAllVisited words.now self.new.visits self.new.calls.items) }
     {
         self.load_root(alloc, files, turns)?;
         self.load_named(alloc, files, turns, words)
@@ -316,6 +321,7 @@ impl Walk {
         requires { IsNew self.old }
         ensures told { TellsWalk (F.outside files.old) words.now turns.old turns.new self.new result }
         ensures fault { IfErr result IsOfWalk }
+        ensures visited { OnOk result (AreAllVisited words.now self.new.visits self.new.calls.items) }
         ensures projects { OnOk result (AreOfProjects self.new.visits self.new.calls.items) }
         ensures step { is_some self.new.world.now.step ≡ false }
         ensures frames { self.new.world.now.scopes.frames ≡ [] }

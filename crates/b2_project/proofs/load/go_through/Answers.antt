@@ -14,5 +14,5 @@ pub returns : goal.returns
 returns g c =
     let e = c.in_ok-load_all.ensures in
     went_through c.args.words.now c.load_all.new.self c.run_toolset.new.walk c.args.turns.now c.load_all.new.turns c.run_toolset.new.turns (g.F.Files.outside c.args.files.now) (g.F.Files.outside c.load_all.new.files)
-    (g.F.Files.outside c.run_toolset.new.files) c.run_toolset.result e.told e.projects (record { frames = e.frames; step = e.step; marked = e.marked }) e.turns e.budget
+    (g.F.Files.outside c.run_toolset.new.files) c.run_toolset.result e.told e.projects e.visited (record { frames = e.frames; step = e.step; marked = e.marked }) e.turns e.budget
     (record { disk = e.disk; children = e.children; keeps = e.keeps }) e.counts c.run_toolset.ensures

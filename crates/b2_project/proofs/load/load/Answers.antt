@@ -1,7 +1,7 @@
 use Rattle.std.proofs.Common.{◌≡◌, [], is_some, false}
 use Rattle.b2_project.specs.Loading.{HasPlaces, HasParentsBefore}
 use Rattle.b2_project.proofs.AnswerLemmas.{ended_by}
-use Rattle.b2_project.proofs.LoadSteps.{told_load, whole_load, counts_load, ready_load, ready_as}
+use Rattle.b2_project.proofs.LoadSteps.{told_load, whole_load, counts_load, ready_load, ready_as, declares_load, refuses_load, lines_load}
 use Rattle.b2_project.proofs.load.load.Goals as goal
 
 pub returns-clause-told : goal.returns-clause-told
@@ -46,3 +46,18 @@ pub returns-clause-marked : goal.returns-clause-marked
 returns-clause-marked g c =
     ready_as (λ project. project.world.marked ≡ []) c.answer.result.result (λ project ready. ready.closed.2)
     (ready_load c.go_through-ended.new.walk c.go_through-ended.result c.answer.result c.go_through-ended.ensures.closed (ended_by c.go_through-ended.new.walk c.go_through-ended.result c.told_of-told.result c.answer.result c.told_of-told.ensures c.answer.ensures.echoes c.answer.ensures.result))
+
+pub returns-clause-declares : goal.returns-clause-declares
+returns-clause-declares g c =
+    declares_load c.args.words.now c.go_through-ended.new.walk c.go_through-ended.result c.answer.result c.go_through-ended.ensures.all
+    (ended_by c.go_through-ended.new.walk c.go_through-ended.result c.told_of-told.result c.answer.result c.told_of-told.ensures c.answer.ensures.echoes c.answer.ensures.result)
+
+pub returns-clause-refused : goal.returns-clause-refused
+returns-clause-refused g c =
+    refuses_load c.args.words.now c.go_through-ended.new.walk c.go_through-ended.result c.answer.result c.go_through-ended.ensures.all
+    (ended_by c.go_through-ended.new.walk c.go_through-ended.result c.told_of-told.result c.answer.result c.told_of-told.ensures c.answer.ensures.echoes c.answer.ensures.result)
+
+pub returns-clause-lines : goal.returns-clause-lines
+returns-clause-lines g c =
+    lines_load c.go_through-ended.new.walk c.go_through-ended.result c.answer.result
+    (ended_by c.go_through-ended.new.walk c.go_through-ended.result c.told_of-told.result c.answer.result c.told_of-told.ensures c.answer.ensures.echoes c.answer.ensures.result)

@@ -8,8 +8,8 @@ use Rattle.b2_walk.proofs.VisitLemmas.{first_is_new}
 use Rattle.b2_walk.proofs.WalkSteps.{short_on_the_way, leads_on_from, due_told, load_stopped, loaded_one, none_is_due, passed_later, more_visited}
 use Rattle.b2_walk.proofs.walk.Walk.load_named.Goals as goal
 
-pub returns-in_err-dir : goal.returns-in_err-dir
-returns-in_err-dir g c =
+pub returns-in_err-dir-clause-does : goal.returns-in_err-dir-clause-does
+returns-in_err-dir-clause-does g c =
     let words = c.args.words.now in
     let a = stand c.args.self.now c.args.turns.now (g.F.Files.outside c.args.files.now) in
     let b = stand c.named.self c.named.turns (g.F.Files.outside c.named.files) in
@@ -18,8 +18,8 @@ returns-in_err-dir g c =
     let p = err_from_is_err_and c.from_residual-in_err-dir.result c.from_residual-in_err-dir.ensures.1 in
     subst (λ result. Does (walked words) a d result) (sym (p.1 ∙ ap Err p.2)) (short_on_the_way (walked words) a d ready)
 
-pub returns-in_err-load_dir : goal.returns-in_err-load_dir
-returns-in_err-load_dir g c =
+pub returns-in_err-load_dir-clause-does : goal.returns-in_err-load_dir-clause-does
+returns-in_err-load_dir-clause-does g c =
     let words = c.args.words.now in
     let a = stand c.args.self.now c.args.turns.now (g.F.Files.outside c.args.files.now) in
     let b = stand c.named.self c.named.turns (g.F.Files.outside c.named.files) in
@@ -65,8 +65,8 @@ named-preserved g c =
       dirs = ap (λ dirs. dirs.items) c.in_ok-dir.ensures.words ∙ c.named.invariant.dirs;
     }
 
-pub returns : goal.returns
-returns g c =
+pub returns-clause-does : goal.returns-clause-does
+returns-clause-does g c =
     let words = c.args.words.now in
     let a = stand c.args.self.now c.args.turns.now (g.F.Files.outside c.args.files.now) in
     let b = stand c.named.self c.named.turns (g.F.Files.outside c.named.files) in
@@ -75,3 +75,7 @@ returns g c =
     none_is_due words a d
     (due_told words c.named.self c.due.new.self c.named.turns.left c.named.last.dirs.items None c.in_ok-dir.ensures.walk c.named.invariant.dirs (sym c.in_default.is ∙ c.in_ok-dir.ensures.value))
     ready
+
+pub returns-clause-whole : goal.returns-clause-whole
+returns-clause-whole g c =
+    due_told c.args.words.now c.named.self c.due.new.self c.named.turns.left c.named.last.dirs.items None c.in_ok-dir.ensures.walk c.named.invariant.dirs (sym c.in_default.is ∙ c.in_ok-dir.ensures.value)
