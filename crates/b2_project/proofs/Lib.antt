@@ -1,4 +1,5 @@
 mod OneEnding
+mod CallsFirst
 mod RuleTables
 mod ToolsetSteps
 mod EndSteps

@@ -3,17 +3,16 @@ use Rattle.std.proofs.Common.{◌≡◌, Bool, true, false, ◌||◌, List, [], 
 use Rattle.std.specs.Prelude.{if◌then◌else◌, map as each}
 use Rattle.std.specs.List.{list_any}
 use Rattle.std.specs.Str.{bytes_eq}
-use Rattle.b2_declarations.specs.declared.rule.Rule.{Rule}
 use Rattle.b2_declarations.specs.Rules.{rules, rule_in, rule_of}
 use Rattle.jam_journal.specs.Tables.{Text}
 use Rattle.jam_natives.specs.Rules.{is_declaring}
 
-some_choice : (b : Bool) (rule : Rule) (more : Option Rule) → is_some (if b then Some rule else more) ≡ (b || is_some more)
+some_choice : {R : Type 0} (b : Bool) (rule : R) (more : Option R) → is_some (if b then Some rule else more) ≡ (b || is_some more)
 some_choice true rule more = refl
 some_choice false rule more = refl
 
 -- a rule is found where its name is among those of the rows
-found_among : (name : Text) (rows : List (Text × Rule)) → is_some (rule_in rows name) ≡ list_any (bytes_eq name) (each (λ row. row.0) rows)
+found_among : (name : Text) (rows : _) → is_some (rule_in rows name) ≡ list_any (bytes_eq name) (each (λ row. row.0) rows)
 found_among name [] = refl
 found_among name (row ∷ rows) = some_choice (bytes_eq name row.0) row.1 (rule_in rows name) ∙ ap (λ b. bytes_eq name row.0 || b) (found_among name rows)
 

@@ -142,11 +142,10 @@ module _ {X : Type 0} (visits : List Visit) (calls : List Call) (outcome : Resul
 -- ---- where the first calls are refused, all are
 
 module _ (step : Tables → Call → Result Tables DeclaringFault) (fault : DeclaringFault) where
-  step_refused : (first : Call) (state : Tables) (outcome : Result Tables DeclaringFault) (rest more : List Call) → step state first ≡ outcome
-      → ((next : Tables) → all_steps step next rest ≡ Err fault → all_steps step next more ≡ Err fault)
+  step_refused : (outcome : Result Tables DeclaringFault) (rest more : List Call) → ((next : Tables) → all_steps step next rest ≡ Err fault → all_steps step next more ≡ Err fault)
       → and_then (λ next. all_steps step next rest) outcome ≡ Err fault → and_then (λ next. all_steps step next more) outcome ≡ Err fault
-  step_refused first state (Ok next) rest more is f h = f next h
-  step_refused first state (Err other) rest more is f h = h
+  step_refused (Ok next) rest more f h = f next h
+  step_refused (Err other) rest more f h = h
 
   none_is_refused : (next : Tables) (more : List Call) → all_steps step next [] ≡ Err fault → all_steps step next more ≡ Err fault
   none_is_refused next more h = cc
@@ -155,11 +154,11 @@ module _ (step : Tables → Call → Result Tables DeclaringFault) (fault : Decl
       → ((rest : List Call × Option Text) → more ≡ Some rest → (next : Tables) → all_steps step next rest.0 ≡ Err fault → all_steps step next calls ≡ Err fault)
       → (state : Tables) → all_steps step state found.0 ≡ Err fault → all_steps step state (first ∷ calls) ≡ Err fault
   found_refused first calls (Some command) more found is f state h =
-      step_refused first state (step state first) [] calls refl (λ next. none_is_refused next calls)
+      step_refused (step state first) [] calls (λ next. none_is_refused next calls)
       (ap (λ (cs : List Call). all_steps step state cs) (ap (λ (p : List Call × Option Text). p.0) (same_Some (first ∷ [], command) found is)) ∙ h)
   found_refused first calls None None found is f state h = cc
   found_refused first calls None (Some rest) found is f state h =
-      step_refused first state (step state first) rest.0 calls refl (f rest refl)
+      step_refused (step state first) rest.0 calls (f rest refl)
       (ap (λ (cs : List Call). all_steps step state cs) (ap (λ (p : List Call × Option Text). p.0) (same_Some (first ∷ rest.0, rest.1) found is)) ∙ h)
 
   first_refused : (calls : List Call) (found : List Call × Option Text) → up_to_toolset calls ≡ Some found → (state : Tables) → all_steps step state found.0 ≡ Err fault → all_steps step state calls ≡ Err fault

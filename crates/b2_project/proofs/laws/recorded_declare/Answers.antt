@@ -2,4 +2,4 @@ use Rattle.b2_project.proofs.RuleTables.{recorded_declare}
 use Rattle.b2_project.proofs.laws.recorded_declare.Goals as goal
 
 pub returns : goal.returns
-returns name = recorded_declare name
+returns c name = recorded_declare name
