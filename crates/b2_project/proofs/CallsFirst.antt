@@ -11,7 +11,6 @@ use Rattle.jam_eval.specs.Eval.{run}
 use Rattle.jam_eval.specs.Kept.{Ends}
 use Rattle.jam_eval.specs.Outcomes.{Outcome, gives, faults}
 use Rattle.jam_eval.specs.Settings.{Setting, Reading, is_missing, is_too_big, has_no_tokens, has_no_tree, is_file}
-use Rattle.jam_eval.specs.States.{State}
 use Rattle.jam_natives.specs.declared.decl.Decl.{Decl}
 use Rattle.jam_natives.specs.Keeping.{Kept}
 use Rattle.jam_natives.specs.Rows.{jam_meaning}

@@ -1,5 +1,5 @@
 -- Segments of a text without zero bytes.
-use Rattle.std.proofs.Common.{◌≡◌, ℕ, ◌<◌, Bool, true, false, cond, eqb, All, List, [], ◌∷◌, ◌++◌, take, arith}
+use Rattle.std.proofs.Common.{ℕ, ◌<◌, Bool, true, false, cond, eqb, All, List, [], ◌∷◌, ◌++◌, take, arith}
 use Rattle.std.specs.List.{AllByRecursion, slice_split, onto_first, join_with_byte}
 use Rattle.std.proofs.lemmas.List.Elements.{All-from_recursion, recursion_from_All, All-take}
 use Rattle.b2_base.specs.Bytes.{HasNoZero}

@@ -1,5 +1,5 @@
 -- The calls of a walk are those that its natives recorded.
-use Rattle.std.proofs.Common.{◌≡◌, ℕ, Bool, true, false, List, [], ◌∷◌, ◌++◌, length, drop, ◌+◌, Option, Some, None, refl, sym, ap, ◌∙◌, subst, arith}
+use Rattle.std.proofs.Common.{◌≡◌, ℕ, Bool, true, false, List, [], ◌∷◌, ◌++◌, length, drop, ◌+◌, Option, refl, sym, ap, ◌∙◌, subst, arith}
 use Rattle.std.specs.Prelude.{if◌then◌else◌, map as each}
 use Rattle.std.proofs.Math.Seq.{drop-append_seam}
 use Rattle.std.proofs.lemmas.List.{length-append, length-map}
@@ -18,7 +18,7 @@ use Rattle.jam_natives.specs.Keeping.{Kept}
 use Rattle.jam_natives.specs.Rows.{jam_meaning}
 use Rattle.b2_walk.specs.Directories.{here, way_to, project_files, seen, first_file, is_visited, visit_of, module_above}
 use Rattle.b2_walk.specs.Laws.{KeepsRecord, FilesKeepRecord, read_as, AreRecorded}
-use Rattle.b2_walk.specs.Walks.{Walk, Refusal, no_jamroot, no_jamfile, Course, goes_on, refused, and_then, call_of, new_calls, prepared, run_project, after_run, visited, visit_file, visit_found, visit, visit_all, unless_visited, load_dir, load_root, no_walk, ComesTo, is_refused, is_whole, leads_on}
+use Rattle.b2_walk.specs.Walks.{Walk, Refusal, no_jamroot, no_jamfile, Course, goes_on, refused, and_then, call_of, prepared, run_project, after_run, visited, visit_file, visit_found, visit, visit_all, unless_visited, load_dir, load_root, no_walk, ComesTo, is_refused, is_whole, leads_on}
 
 -- ---- calls read one after another
 
