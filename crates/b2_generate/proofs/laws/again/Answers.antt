@@ -1,0 +1,5 @@
+use Rattle.b2_generate.proofs.PlanLaws.{again}
+use Rattle.b2_generate.proofs.laws.again.Goals as goal
+
+pub returns : goal.returns
+returns g c = again

@@ -1,0 +1,5 @@
+use Rattle.b2_generate.proofs.PlanLaws.{one_outcome}
+use Rattle.b2_generate.proofs.laws.one_outcome.Goals as goal
+
+pub returns : goal.returns
+returns g c = one_outcome

@@ -1,0 +1,5 @@
+use Rattle.b2_generate.proofs.PlanLaws.{opens_closed}
+use Rattle.b2_generate.proofs.laws.opens_closed.Goals as goal
+
+pub returns : goal.returns
+returns g c = opens_closed

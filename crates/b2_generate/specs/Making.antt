@@ -1,0 +1,41 @@
+-- What an open main target gives, once nothing more is due.
+use Rattle.std.specs.Prelude.{◌≡◌, ◌≤◌, ℕ, List, [], ◌∷◌, map, slice_get, codes}
+use Rattle.std.specs.List.{AllByRecursion, flat_map}
+use Rattle.std.specs.Option.{option_map_or}
+use Rattle.b2_props.specs.Sets.{IsSet}
+use Rattle.b2_metatargets.specs.declared.whole.Declared.{Declared}
+use Rattle.b2_references.specs.Names.{features, dir_of}
+use Rattle.b2_alternatives.specs.Choosing.{Chosen}
+use Rattle.b2_conversions.specs.Supplies.{entries_of}
+use Rattle.b2_generate.specs.Standing.{Standing}
+use Rattle.b2_generate.specs.Supplies.{is_source, is_part, is_order, supplied_by, final_set}
+use Rattle.b2_generate.specs.Answers.{Generated}
+use Rattle.b2_generate.specs.Nodes.{latest_in}
+use Rattle.b2_generate.specs.declared.node.Node.{Node}
+use Rattle.b2_generate.specs.declared.making.Supplied.{Supplied}
+use Rattle.b2_generate.specs.declared.making.Home.{Home}
+use Rattle.b2_generate.specs.declared.making.Made.{Made}
+
+-- what is supplied to a main target, and the final set of its properties
+pub record AreSupplied (d : Declared) (c : Chosen) (s : Standing) (made : Supplied) : Type 0 where
+  pub sources : made.sources ≡ supplied_by d is_source c s
+  pub parts : made.parts ≡ supplied_by d is_part c s
+  pub order : made.order ≡ map (λ e. e.path) (entries_of (supplied_by d is_order c s))
+  pub set : made.set ≡ final_set d c s
+  pub is_set : IsSet (features d) made.set
+
+-- the project of a main target, as its steps want it
+pub record IsHome (d : Declared) (project : ℕ) (home : Home) : Type 0 where
+  pub dir : home.dir ≡ dir_of d project
+  pub owner : home.owner ≡ option_map_or (λ p. p.«module») (slice_get d.places project) []
+  pub file : home.file ≡ option_map_or (λ p. p.file) (slice_get d.places project) (codes ".")
+
+-- what an open main target gives, by what the code made
+abbrev pub given_of : Chosen → Standing → Made → Generated
+given_of c s made =
+    record { supply = made.supply; usage = made.usage; rows = record { name = c.name; alternative = c.number; set = made.set } ∷ flat_map (λ d. d.1.rows) s.done }
+
+-- each main target that was opened for a node was generated first at this place or before it
+pub record IsLatest (nodes : List Node) (children : List ℕ) (first latest : ℕ) : Type 0 where
+  pub own : first ≤ latest
+  pub others : AllByRecursion (λ place. latest_in nodes place ≤ latest) children

@@ -1,0 +1,51 @@
+-- How a main target is opened, and what is said of those that are open.
+use Rattle.std.specs.Prelude.{◌≡◌, ◌⊎◌, ℕ, true, List, [], ◌∷◌, Option, Some, None, Err, reverse}
+use Rattle.std.specs.FinMap as finite
+use Rattle.b2_props.specs.Sets.{Pair}
+use Rattle.b2_metatargets.specs.declared.whole.Declared.{Declared}
+use Rattle.b2_references.specs.Names.{Name, is_target, target_text}
+use Rattle.b2_alternatives.specs.Choosing.{Chooses, Returned}
+use Rattle.b2_alternatives.specs.Needs.{at_first}
+use Rattle.b2_alternatives.specs.Picking.{IsNumbered}
+use Rattle.b2_alternatives.specs.Standing.{StandAt}
+use Rattle.b2_alternatives.specs.declared.conflict.Conflict.{Conflict}
+use Rattle.b2_alternatives.specs.declared.fault.ChoiceFault.{ChoiceFault}
+use Rattle.b2_generate.specs.Faults.{Fault, not_chosen}
+use Rattle.b2_generate.specs.Nodes.{first_in, AreDated}
+use Rattle.b2_generate.specs.Tables.{Table}
+use Rattle.b2_generate.specs.declared.node.Node.{Node}
+use Rattle.b2_generate.specs.declared.frame.Frame.{Frame}
+use Rattle.b2_generate.specs.declared.stack.Stack.{Stack}
+use Rattle.b2_generate.specs.declared.fault.GenFault.{GenFault}
+use Rattle.b2_generate.specs.declared.fault.GenFault.TheVariants.{UsageConflict, OutOfMemory}
+
+-- the open main targets, the newest first
+abbrev pub frames : Stack → List Frame
+frames s = s.newest ∷ reverse s.below.items
+
+-- the nodes and the look-up of their places are kept rightly
+pub record AreReady (d : Declared) (nodes : List Node) (places : Table ℕ) : Type 0 where
+  pub numbered : IsNumbered d
+  pub dated : AreDated nodes
+  pub firsts : (name : Name) → finite.get places name ≡ first_in nodes name
+
+-- a main target was opened for a set, and nothing was generated for it
+pub record IsOpened (d : Declared) (name : Name) (set : List Pair) (bound : ℕ) (f : Frame) : Type 0 where
+  pub named : f.name ≡ name
+  pub asked : f.asked ≡ set
+  pub there : is_target d name ≡ true
+  pub stand : StandAt d f.chosen.target.now (at_first f.chosen.set) f.needs
+  pub none : f.done ≡ []
+  pub empty : f.places ≡ finite.empty
+  pub earliest : f.earliest ≡ bound
+
+-- no alternative is settled on for this reason
+pub record IsUnchosen {E : Type 0} (d : Declared) (returned : Returned E) (name : Name) (set : List Pair) (fault : Fault E) : Type 0 where
+  pub why : ChoiceFault E
+  pub is : fault ≡ not_chosen why
+  pub chooses : Chooses d returned name set (Err why)
+
+-- the answer is a conflict that was found for a main target, or out of memory
+abbrev pub IsConflict : {E : Type 0} → Declared → Name → Option Conflict → GenFault E → Type 0
+IsConflict d name None fault = fault ≡ OutOfMemory
+IsConflict d name (Some found) fault = (fault ≡ OutOfMemory) ⊎ (fault ≡ UsageConflict (target_text d name) found.feature found.first found.second)

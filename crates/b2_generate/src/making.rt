@@ -1,0 +1,248 @@
+//! What an open main target gives, once nothing more is due.
+ghost use Rattle.std.specs.Prelude.{◌≡◌, ◌++◌, ◌∷◌, [], Some, Ok, Err, map, reverse, slice_get, codes, length, IfOk, IfErr, OnOk};
+ghost use Rattle.std.specs.Option.{option_map_or};
+ghost use Rattle.b2_props.specs.Sets.{IsSet};
+ghost use Rattle.b2_evaluation.specs.Answers.{Answers};
+ghost use Rattle.b2_props.specs.Refinement.{refined};
+ghost use Rattle.b2_references.specs.Names.{features};
+ghost use Rattle.b2_alternatives.specs.Picking.{seen};
+ghost use Rattle.b2_alternatives.specs.Usage.{own_usage, passed_usage};
+ghost use Rattle.b2_conversions.specs.Answers.{Grows};
+ghost use Rattle.b2_conversions.specs.Conversions.{makes};
+ghost use Rattle.b2_conversions.specs.Supplies.{entries_of, header_directories};
+ghost use Rattle.b2_generate.specs.Generation.{site, Finishes};
+ghost use Rattle.b2_generate.specs.Loaded.{context};
+ghost use Rattle.b2_generate.specs.Gathering.{named_by};
+ghost use Rattle.b2_generate.specs.Machine.{IsKept, HasPlaces, standing_of};
+ghost use Rattle.b2_generate.specs.Nodes.{entry_in};
+ghost use Rattle.b2_generate.specs.Supplies.{supplied};
+ghost use Rattle.b2_generate.specs.declared.supplies.Wanted.TheVariants.{Order};
+ghost use Rattle.b2_generate.specs.Making.{AreSupplied, IsHome, given_of};
+ghost use Rattle.b2_generate.specs.Told.{loaded_of, IsRefusal, Leaves};
+
+use crate::fault::GenFault;
+use crate::frame::Frame;
+use crate::node::Node;
+use crate::supplies::{Wanted, supplied};
+use b2_alternatives::usage::{own_usage, passed_usage};
+use b2_base::fault::OutOfMemory;
+use b2_base::list::List;
+use b2_base::path::Path;
+use b2_base::path_list::PathList;
+use b2_base::text::Text;
+use b2_conversions::entry::{Entry, Supply};
+use b2_conversions::make::make;
+use b2_conversions::setting::Setting;
+use b2_conversions::site::Site;
+use b2_conversions::supplies::{entries_of, header_directories};
+use b2_evaluation::evaluate::Evaluate;
+use b2_generators::types::Types;
+use b2_props::pair_list::PairList;
+use b2_props::props::Props;
+use b2_props::refinement::refine;
+use b2_references::index::Index;
+use b2_virtual::builder::Builder;
+use std::alloc::Global;
+
+/// What is supplied to a main target, and the final set of its properties.
+#[derive(Drop)]
+struct Supplied {
+    sources: List<Supply>,
+    parts: List<Supply>,
+    order: PathList,
+    set: Props,
+}
+
+/// What a main target gives: the final set of its properties, its files and carried libraries, and its usage requirements.
+#[derive(Drop)]
+pub(crate) struct Made {
+    pub(crate) set: Props,
+    pub(crate) supply: Supply,
+    pub(crate) usage: PairList,
+}
+
+/// The project of a main target, as its steps want it: its directory, its module and its file.
+#[derive(Drop)]
+struct Home {
+    dir: Path,
+    owner: Text,
+    file: Path,
+}
+
+fn home_of(alloc: Global, index: &Index<'_>, project: usize) -> Result<Home, OutOfMemory>
+    ensures { IfOk result (IsHome index.now project) }
+{
+    let dir = index.dir_of(project)?;
+    match index.declared().places.as_slice().get(project) {
+        Some(place) => Ok(Home {
+            dir,
+            owner: place.module.copy()?,
+            file: place.file.copy()?,
+        }),
+        None => Ok(Home {
+            file: dir.copy()?,
+            dir,
+            owner: Text::new(alloc, "")?,
+        }),
+    }
+}
+
+/// The paths of what is to be there before each step.
+fn paths_of(alloc: Global, entries: &[Entry]) -> Result<PathList, OutOfMemory>
+    ensures { IfOk result (λ made. made ≡ map (λ e. e.path) entries.now) }
+{
+    let mut made = PathList::new(alloc);
+    for entry in entries {
+        made.push(entry.path.copy()?)?;
+    }
+    Ok(made)
+}
+
+/// The set of a main target with the directories of the headers that were made for it.
+fn final_set(
+    alloc: Global,
+    index: &Index<'_>,
+    set: &Props,
+    parts: &[Supply],
+) -> Result<Props, OutOfMemory>
+    requires { IsSet (features index.now) set.now }
+    ensures value { IfOk result (λ made. made ≡ refined (features index.now) set.now (header_directories (entries_of parts.now))) }
+    ensures set { IfOk result (IsSet (features index.now)) }
+{
+    let entries = entries_of(alloc, parts)?;
+    let directories = header_directories(alloc, entries.as_slice())?;
+    refine(
+        alloc,
+        &index.declared().registry,
+        set,
+        directories.as_slice(),
+    )
+}
+
+/// The paths of what is to be there before each step of an open main target.
+fn order_of(
+    alloc: Global,
+    types: &Types,
+    nodes: &[Node],
+    frame: &Frame<'_>,
+) -> Result<PathList, OutOfMemory>
+    requires { HasPlaces (reverse nodes.now) frame.now.done frame.now.places }
+    ensures { IfOk result (λ made. made ≡ map (λ e. e.path) (entries_of (supplied types.now.types (map (entry_in (reverse nodes.now)) frame.now.done) [] (named_by Order (frame.now.needs.sources.needs ++ frame.now.needs.properties.needs))))) }
+{
+    let order = supplied(alloc, types, nodes, frame, Wanted::Order)?;
+    let entries = entries_of(alloc, order.as_slice())?;
+    paths_of(alloc, entries.as_slice())
+}
+
+/// What the needs of an open main target supply to it.
+fn supplies_of(
+    alloc: Global,
+    index: &Index<'_>,
+    nodes: &[Node],
+    frame: &Frame<'_>,
+) -> Result<Supplied, OutOfMemory>
+    requires { IsKept (reverse nodes.now) index.now frame.now }
+    ensures { IfOk result (AreSupplied index.now (seen frame.now.name frame.now.chosen) (standing_of (reverse nodes.now) frame.now)) }
+{
+    let types = &index.declared().types;
+    let sources = supplied(alloc, types, nodes, frame, Wanted::Sources)?;
+    let parts = supplied(alloc, types, nodes, frame, Wanted::Parts)?;
+    let order = order_of(alloc, types, nodes, frame)?;
+    let set = final_set(alloc, index, frame.needs.set(), parts.as_slice())?;
+    Ok(Supplied {
+        sources,
+        parts,
+        order,
+        set,
+    })
+}
+
+/// The usage requirements of a main target, by its final set.
+fn usage_of(
+    alloc: Global,
+    index: &Index<'_>,
+    frame: &Frame<'_>,
+    set: &Props,
+) -> Result<PairList, OutOfMemory>
+    ensures { IfOk result (λ made. made ≡ own_usage index.now frame.now.chosen.target.now set.now ++ passed_usage frame.now.chosen.target.now.kind frame.now.needs.usage) }
+{
+    let target = frame.chosen.target;
+    let mut made = own_usage(alloc, index, target, set)?;
+    made.append(passed_usage(alloc, target.kind, frame.needs.usage())?)?;
+    Ok(made)
+}
+
+/// Makes the steps of a main target, by what is supplied to it.
+#[tactic(none)]
+fn steps_of<E: Evaluate>(
+    alloc: Global,
+    index: &Index<'_>,
+    roots: &[Path],
+    nodes: &[Node],
+    frame: &Frame<'_>,
+    supplied: &Supplied,
+    evaluator: &mut E,
+    builder: &mut Builder,
+) -> Result<Supply, GenFault<E::Fault>>
+    requires { AreSupplied index.now (seen frame.now.name frame.now.chosen) (standing_of (reverse nodes.now) frame.now) supplied.now }
+    ensures made { (told : Answers E.Fault) → E.answers evaluator.old ≡ Some told → IfOk result (λ made. makes (context (loaded_of index.now roots.now told)) (site (loaded_of index.now roots.now told) (seen frame.now.name frame.now.chosen) (standing_of (reverse nodes.now) frame.now)) builder.old (Ok (made, builder.new))) }
+    ensures refused { (told : Answers E.Fault) → E.answers evaluator.old ≡ Some told → IfErr result (IsRefusal E.is_host_fault E.is_out_of_memory (λ fault. Finishes (loaded_of index.now roots.now told) (seen frame.now.name frame.now.chosen) (standing_of (reverse nodes.now) frame.now) builder.old (Err fault))) }
+    ensures grows { Grows roots.now builder.old builder.new }
+    ensures leaves { Leaves E.answers E.kept E.faults E.is_host_fault E.is_out_of_memory E.CanFault evaluator.old evaluator.new result }
+{
+    let declared = index.declared();
+    let target = frame.chosen.target;
+    let home = home_of(alloc, index, target.project)?;
+    let setting = Setting {
+        alloc,
+        registry: &declared.registry,
+        types: &declared.types,
+        roots,
+    };
+    let site = Site {
+        kind: target.kind,
+        name: &target.name,
+        rule: &target.rule,
+        line: target.line,
+        dir: &home.dir,
+        owner: &home.owner,
+        file: &home.file,
+        set: &supplied.set,
+        sources: supplied.sources.as_slice(),
+        parts: supplied.parts.as_slice(),
+        order: supplied.order.as_slice(),
+    };
+    match make(&setting, &site, evaluator, builder) {
+        Ok(supply) => Ok(supply),
+        Err(fault) => Err(GenFault::NotMade(fault)),
+    }
+}
+
+/// What an open main target gives, once nothing more is due: its steps are made, and join those before.
+#[tactic(none)]
+pub(crate) fn finish<E: Evaluate>(
+    alloc: Global,
+    index: &Index<'_>,
+    roots: &[Path],
+    nodes: &[Node],
+    frame: &Frame<'_>,
+    evaluator: &mut E,
+    builder: &mut Builder,
+) -> Result<Made, GenFault<E::Fault>>
+    requires { IsKept (reverse nodes.now) index.now frame.now }
+    ensures made { (told : Answers E.Fault) → E.answers evaluator.old ≡ Some told → IfOk result (λ made. Finishes (loaded_of index.now roots.now told) (seen frame.now.name frame.now.chosen) (standing_of (reverse nodes.now) frame.now) builder.old (Ok (given_of (seen frame.now.name frame.now.chosen) (standing_of (reverse nodes.now) frame.now) made, builder.new))) }
+    ensures refused { (told : Answers E.Fault) → E.answers evaluator.old ≡ Some told → IfErr result (IsRefusal E.is_host_fault E.is_out_of_memory (λ fault. Finishes (loaded_of index.now roots.now told) (seen frame.now.name frame.now.chosen) (standing_of (reverse nodes.now) frame.now) builder.old (Err fault))) }
+    ensures grows { Grows roots.now builder.old builder.new }
+    ensures leaves { Leaves E.answers E.kept E.faults E.is_host_fault E.is_out_of_memory E.CanFault evaluator.old evaluator.new result }
+{
+    let supplied = supplies_of(alloc, index, nodes, frame)?;
+    let supply = steps_of(
+        alloc, index, roots, nodes, frame, &supplied, evaluator, builder,
+    )?;
+    let usage = usage_of(alloc, index, frame, &supplied.set)?;
+    Ok(Made {
+        set: supplied.set,
+        supply,
+        usage,
+    })
+}

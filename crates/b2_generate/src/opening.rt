@@ -1,0 +1,153 @@
+//! Opening main targets.
+ghost use Rattle.std.specs.Prelude.{◌≡◌, ◌==◌, ◌||◌, not, length, List, ◌++◌, ◌∷◌, [], true, Some, Ok, map, reverse, IfOk, IfErr, OnOk};
+ghost use Rattle.b2_props.specs.Sets.{IsSet};
+ghost use Rattle.b2_evaluation.specs.Answers.{Answers};
+ghost use Rattle.b2_references.specs.Names.{Name, features, is_target, is_same, is_among, target_text};
+ghost use Rattle.b2_alternatives.specs.Choosing.{Chooses};
+ghost use Rattle.b2_alternatives.specs.Picking.{seen, IsNumbered};
+ghost use Rattle.b2_generate.specs.Generation.{from_first};
+ghost use Rattle.b2_generate.specs.Machine.{names_of};
+ghost use Rattle.b2_generate.specs.Opening.{frames, IsOpened, IsUnchosen};
+ghost use Rattle.b2_generate.specs.Told.{IsRefusal, Leaves};
+
+use crate::fault::GenFault;
+use crate::frame::Frame;
+use crate::name_table::NameTable;
+use crate::stack::Stack;
+use b2_alternatives::asker::Asker;
+use b2_alternatives::choosing::{Chosen, choose};
+use b2_alternatives::dependencies::Dependencies;
+use b2_alternatives::fault::ChoiceFault;
+use b2_base::fault::OutOfMemory;
+use b2_base::list::List;
+use b2_base::text::Text;
+use b2_base::text_list::TextList;
+use b2_evaluation::evaluate::Evaluate;
+use b2_props::props::Props;
+use b2_references::index::Index;
+use b2_references::name::TargetName;
+use std::alloc::Global;
+
+/// A main target that is open, by what was chosen for it.
+fn frame_of<'a>(
+    alloc: Global,
+    index: &Index<'_>,
+    name: TargetName,
+    asked: Props,
+    chosen: Chosen<'a>,
+    earliest: usize,
+) -> Result<Frame<'a>, OutOfMemory>
+    requires set { IsSet (features index.now) chosen.set }
+    requires target { is_target index.now name ≡ true }
+    ensures opened { IfOk result (IsOpened index.now name asked earliest) }
+    ensures chosen { IfOk result (λ f. f.chosen ≡ chosen.entry) }
+{
+    let first = chosen.set.copy(alloc)?;
+    let needs = Dependencies::new(alloc, index, chosen.target, first)?;
+    Ok(Frame {
+        name,
+        asked,
+        chosen,
+        needs,
+        done: List::new(alloc),
+        places: NameTable::new(alloc),
+        earliest,
+    })
+}
+
+/// What is chosen for a main target.
+#[tactic(none)]
+fn chosen_for<'a, E: Evaluate + Drop>(
+    asker: &mut Asker<'a, E>,
+    name: &TargetName,
+    asked: &Props,
+) -> Result<Chosen<'a>, GenFault<E::Fault>>
+    requires { IsNumbered (asker.old.index.now) }
+    ensures chosen { (told : Answers E.Fault) → E.answers asker.old.evaluator ≡ Some told → IfOk result (λ c. Chooses (asker.old.index.now) told.returned name.now asked.now (Ok (seen name.now c))) }
+    ensures refused { (told : Answers E.Fault) → E.answers asker.old.evaluator ≡ Some told → IfErr result (IsRefusal E.is_host_fault E.is_out_of_memory (IsUnchosen (asker.old.index.now) told.returned name.now asked.now)) }
+    ensures set { IfOk result (λ c. IsSet (features (asker.old.index.now)) c.set) }
+    ensures target { IfOk result (λ _. is_target (asker.old.index.now) name.now ≡ true) }
+    ensures leaves { Leaves E.answers E.kept E.faults E.is_host_fault E.is_out_of_memory E.CanFault asker.old.evaluator asker.new.evaluator result }
+    ensures project { asker.new.index.now ≡ asker.old.index.now }
+{
+    match choose(asker, name, asked) {
+        Ok(chosen) => Ok(chosen),
+        Err(fault) => Err(GenFault::NotChosen(fault)),
+    }
+}
+
+/// A main target is opened: its alternative is chosen, and nothing was generated for it.
+pub(crate) fn begin<'a, E: Evaluate + Drop>(
+    asker: &mut Asker<'a, E>,
+    name: TargetName,
+    asked: Props,
+    earliest: usize,
+) -> Result<Frame<'a>, GenFault<E::Fault>>
+    requires { IsNumbered (asker.old.index.now) }
+    ensures opened { IfOk result (IsOpened (asker.old.index.now) name asked earliest) }
+    ensures chosen { (told : Answers E.Fault) → E.answers asker.old.evaluator ≡ Some told → IfOk result (λ f. Chooses (asker.old.index.now) told.returned name asked (Ok (seen name f.chosen))) }
+    ensures refused { (told : Answers E.Fault) → E.answers asker.old.evaluator ≡ Some told → IfErr result (IsRefusal E.is_host_fault E.is_out_of_memory (IsUnchosen (asker.old.index.now) told.returned name asked)) }
+    ensures leaves { Leaves E.answers E.kept E.faults E.is_host_fault E.is_out_of_memory E.CanFault asker.old.evaluator asker.new.evaluator result }
+    ensures project { asker.new.index.now ≡ asker.old.index.now }
+{
+    let chosen = chosen_for(asker, &name, &asked)?;
+    let frame = frame_of(asker.alloc, asker.index, name, asked, chosen, earliest)?;
+    Ok(frame)
+}
+
+/// Whether an open main target is one of a cycle: one before it is, or it has this name.
+fn is_of_cycle(targets: &[Text], frame: &Frame<'_>, name: &TargetName) -> bool
+    ensures { result ≡ (not (length targets.now == 0) || is_same name.now frame.now.name) }
+{
+    !targets.is_empty() || name.equals(&frame.name)
+}
+
+/// Adds the text of an open main target, where it has this name, or one before it has.
+#[tactic(none)]
+fn push_next(
+    index: &Index<'_>,
+    frame: &Frame<'_>,
+    name: &TargetName,
+    targets: &mut TextList,
+) -> Result<(), OutOfMemory>
+    ensures { (before : List Name) → targets.old ≡ map (target_text index.now) (from_first name.now before) → OnOk result (targets.new ≡ map (target_text index.now) (from_first name.now (before ++ frame.now.name ∷ []))) }
+{
+    if is_of_cycle(targets.as_slice(), frame, name) {
+        targets.push(index.target_text(frame.name.project(), frame.name.name())?)
+    } else {
+        Ok(())
+    }
+}
+
+/// Adds the texts of those of some open main targets that stand from the first of a name on.
+fn push_from(
+    index: &Index<'_>,
+    frames: &[Frame<'_>],
+    name: &TargetName,
+    targets: &mut TextList,
+) -> Result<(), OutOfMemory>
+    requires { targets.old ≡ [] }
+    ensures { OnOk result (targets.new ≡ map (target_text index.now) (from_first name.now (map (λ f. f.name) frames.now))) }
+{
+    for frame in frames {
+        push_next(index, frame, name, targets)?;
+    }
+    Ok(())
+}
+
+/// The targets of a cycle, from the open one of this name to the newest.
+#[tactic(none)]
+pub(crate) fn cycle(
+    alloc: Global,
+    index: &Index<'_>,
+    stack: &Stack<'_>,
+    name: &TargetName,
+) -> Result<TextList, OutOfMemory>
+    requires { is_among (names_of (frames stack.now)) name.now ≡ true }
+    ensures { IfOk result (λ made. made ≡ map (target_text index.now) (from_first name.now (names_of (frames stack.now)))) }
+{
+    let mut targets = TextList::new(alloc);
+    push_from(index, stack.below.as_slice(), name, &mut targets)?;
+    targets.push(index.target_text(stack.newest.name.project(), stack.newest.name.name())?)?;
+    Ok(targets)
+}
