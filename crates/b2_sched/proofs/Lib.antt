@@ -1,0 +1,12 @@
+pub mod NumberSetLemmas
+pub mod WakeLemmas
+pub mod KeepLemmas
+pub mod WantLemmas
+pub mod SchedLemmas
+pub mod ListedLemmas
+pub mod SearchLemmas
+pub mod CycleLemmas
+pub mod EndLemmas
+pub mod HistoryLemmas
+pub mod JoinLemmas
+pub mod SoundLemmas

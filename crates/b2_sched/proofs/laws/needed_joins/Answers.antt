@@ -1,0 +1,5 @@
+use Rattle.b2_sched.proofs.JoinLemmas.{needed_joins}
+use Rattle.b2_sched.proofs.laws.needed_joins.Goals as goal
+
+pub returns : goal.returns
+returns c = needed_joins

@@ -1,0 +1,5 @@
+use Rattle.b2_sched.proofs.HistoryLemmas.{needs_by_calls}
+use Rattle.b2_sched.proofs.laws.needs_by_calls.Goals as goal
+
+pub returns : goal.returns
+returns c = needs_by_calls

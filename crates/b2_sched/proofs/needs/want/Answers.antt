@@ -1,0 +1,9 @@
+use Rattle.std.proofs.Common.{sym, ◌∙◌, arith}
+use Rattle.b2_sched.proofs.WantLemmas.{maker_within}
+use Rattle.b2_sched.proofs.needs.want.Goals as goal
+
+pub index_mut-list-requires : goal.index_mut-list-requires
+index_mut-list-requires c = let within = maker_within c.args.plan.now.steps c.args.path.now c.in-Some.step (sym c.maker.ensures ∙ c.in-Some.is) in omega (arith, within.1)
+
+pub insert-requires : goal.insert-requires
+insert-requires c = let within = maker_within c.args.plan.now.steps c.args.path.now c.in-Some.step (sym c.maker.ensures ∙ c.in-Some.is) in omega (arith, within.1)

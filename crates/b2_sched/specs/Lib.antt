@@ -1,0 +1,10 @@
+pub mod NumberSets
+pub mod Schedules
+pub mod Calls
+pub mod Ends
+pub mod Keeping
+pub mod Searches
+pub mod Cycles
+pub mod Histories
+pub mod Joins
+pub mod Sound
