@@ -28,9 +28,9 @@ unfolding is_declaring rule_of
 recorded_declare name =
     let is = bytes_eq name in
     let rest =
-        list_any is (
-          codes "explicit" ∷ codes "build-project" ∷ codes "use-project" ∷ codes "using" ∷ codes "feature.feature" ∷ codes "feature.compose" ∷ codes "type.register"
-          ∷ codes "generators.register-standard" ∷ codes "import" ∷ []
-        ) in
+    list_any is (
+    codes "explicit" ∷ codes "build-project" ∷ codes "use-project" ∷ codes "using" ∷ codes "feature.feature" ∷ codes "feature.compose" ∷ codes "type.register"
+    ∷ codes "generators.register-standard" ∷ codes "import" ∷ []
+    ) in
     ap (λ tail. is (codes "project") || (is (codes "exe") || (is (codes "lib") || (is (codes "obj") || (is (codes "alias") || tail))))) (swapped (is (codes "install")) (is (codes "make")) rest)
     ∙ sym (found_among name rules)
