@@ -7,10 +7,10 @@ use Rattle.b2_runs.specs.Numbers.{NeededOf.first, NeededOf.of_needed}
 use Rattle.b2_sched.specs.declared.state.State.{State}
 use Rattle.b2_sched.specs.declared.state.State.TheVariants.{Unjudged, Stale, Running, Settled, Failed}
 use Rattle.b2_sched.specs.NumberSets.{Has}
-use Rattle.b2_sched.specs.Schedules.{Schedule, state_of, IsUnjudged, IsStep, Needs, IsFirst, IsNeeded, CanLook, dependents_of, is_running}
+use Rattle.b2_sched.specs.Schedules.{Schedule, state_of, IsUnjudged, IsStep, Needs, IsFirst, IsNeeded, CanLook, dependents_of, is_running, IsSettled, IsFailed}
 use Rattle.b2_sched.specs.Calls.{IsNew, looked_at, with_need, with_lack, with_stale, with_start, with_failure, Settles, is_empty}
 use Rattle.b2_sched.specs.Keeping.{IsKept, LooksNext}
-use Rattle.b2_sched.specs.Histories.{Call, Call.looks, Call.needs, Call.lacks, Call.stale, Call.settles, Call.starts, Call.fails, Makes, After, After.new, After.call, IsDue, LooksByCalls, NeedsByCalls}
+use Rattle.b2_sched.specs.Histories.{Call, Call.looks, Call.needs, Call.lacks, Call.stale, Call.settles, Call.starts, Call.fails, Makes, After, After.new, After.call, IsDue, LooksByCalls, NeedsByCalls, EndsByCalls}
 use Rattle.b2_sched.proofs.NumberSetLemmas.{had_other, has_other, had_or_is, has_still, has_set}
 use Rattle.b2_sched.proofs.KeepLemmas.{needed_more, asked_if_needed, step_if_asked, asked_if_judged, step_if_not_settled, empty_or_not, not_two, state_stays, state_changed, needs_were, needs_stay, needs_added, dependents_other, kept_looked, kept_lack, kept_stale, kept_start, kept_failure, kept_settled, kept_need}
 use Rattle.b2_sched.proofs.SchedLemmas.{some_runs}
@@ -245,3 +245,103 @@ looks_by_calls steps wanted jobs past s after i =
 pub needs_by_calls : NeedsByCalls
 needs_by_calls steps wanted jobs past s after i k step_is =
     let is = stands steps wanted jobs past s after in (is.tells.told i k step_is, is.tells.meant i k)
+
+-- what the calls told of the ends of steps
+record TellsEnds (past : List Call) (s : Schedule) : Type 0 where
+  settled : (i : ℕ) → IsStep s i → IsSettled s i → Contains past (settles i)
+  settled_is : (i : ℕ) → Contains past (settles i) → IsSettled s i
+  failed : (i : ℕ) → IsFailed s i → Contains past (fails i)
+  failed_is : (i : ℕ) → Contains past (fails i) → IsFailed s i
+
+-- the state of a step that had not ended changed
+ends_change : (past : List Call) (s t : Schedule) (k : ℕ) (v : State) (c : Call) → TellsEnds past s → k < length s.states → t.states ≡ set s.states k v → (IsSettled s k → ⊥) → (IsFailed s k → ⊥)
+    → (v ≡ Settled → c ≡ settles k) → ((i : ℕ) → c ≡ settles i → (i ≡ k) × (v ≡ Settled)) → (v ≡ Failed → c ≡ fails k) → ((i : ℕ) → c ≡ fails i → (i ≡ k) × (v ≡ Failed)) → TellsEnds (c ∷ past) t
+ends_change past s t k v c was within e not_settled not_failed settle_told settle_is fail_told fail_is = record {
+  settled = λ i step_is h. settled i step_is h (cases_eq i k);
+  settled_is = λ i h. elim (was_before c (settles i) past h)
+      [ inl is ↦ (let p = settle_is i is in ap (state_of t) p.0 ∙ changed ∙ p.1) | inr rest ↦ kept_settled_of i (was.settled_is i rest) ];
+  failed = λ i h. failed i h (cases_eq i k);
+  failed_is = λ i h. elim (was_before c (fails i) past h)
+      [ inl is ↦ (let p = fail_is i is in ap (state_of t) p.0 ∙ changed ∙ p.1) | inr rest ↦ kept_failed_of i (was.failed_is i rest) ];
+}
+  where
+    changed : state_of t k ≡ v
+    changed = state_changed s t k v e within
+
+    stays : (i : ℕ) → (i ≡ k → ⊥) → state_of t i ≡ state_of s i
+    stays i ne = state_stays s t k i v e ne
+
+    step : (i : ℕ) → IsStep t i → IsStep s i
+    step i is = record { some = is.some; within = subst (λ (n : ℕ). i < n) (ap length e ∙ length-set s.states k v) is.within }
+
+    settled : (i : ℕ) → IsStep t i → IsSettled t i → (i ≡ k) ⊎ (i ≡ k → ⊥) → Contains (c ∷ past) (settles i)
+    settled i step_is h (inl same) = (zero, omega arith, settle_told (sym changed ∙ ap (state_of t) (sym same) ∙ h) ∙ ap settles (sym same))
+    settled i step_is h (inr ne) = in_front_of c (settles i) past (was.settled i (step i step_is) (sym (stays i ne) ∙ h))
+
+    failed : (i : ℕ) → IsFailed t i → (i ≡ k) ⊎ (i ≡ k → ⊥) → Contains (c ∷ past) (fails i)
+    failed i h (inl same) = (zero, omega arith, fail_told (sym changed ∙ ap (state_of t) (sym same) ∙ h) ∙ ap fails (sym same))
+    failed i h (inr ne) = in_front_of c (fails i) past (was.failed i (sym (stays i ne) ∙ h))
+
+    kept_settled_of : (i : ℕ) → IsSettled s i → IsSettled t i
+    kept_settled_of i h = stays i (λ same. not_settled (ap (state_of s) (sym same) ∙ h)) ∙ h
+
+    kept_failed_of : (i : ℕ) → IsFailed s i → IsFailed t i
+    kept_failed_of i h = stays i (λ same. not_failed (ap (state_of s) (sym same) ∙ h)) ∙ h
+
+-- no state changed
+ends_stay : (past : List Call) (s t : Schedule) (c : Call) → TellsEnds past s → t.states ≡ s.states → ((i : ℕ) → c ≡ settles i → ⊥) → ((i : ℕ) → c ≡ fails i → ⊥) → TellsEnds (c ∷ past) t
+ends_stay past s t c was e not_settle not_fail = record {
+  settled = λ i step_is h. in_front_of c (settles i) past (was.settled i (record { some = step_is.some; within = subst (λ (n : ℕ). i < n) (ap length e) step_is.within }) (sym (same i) ∙ h));
+  settled_is = λ i h. elim (was_before c (settles i) past h) [ inl is ↦ absurd (not_settle i is) | inr rest ↦ same i ∙ was.settled_is i rest ];
+  failed = λ i h. in_front_of c (fails i) past (was.failed i (sym (same i) ∙ h));
+  failed_is = λ i h. elim (was_before c (fails i) past h) [ inl is ↦ absurd (not_fail i is) | inr rest ↦ same i ∙ was.failed_is i rest ];
+}
+  where
+    same : (i : ℕ) → state_of t i ≡ state_of s i
+    same i = ap (λ xs. get_or xs i Settled) e
+
+ends_new : (steps : List Step) (wanted : List (List ℕ)) (jobs : ℕ) (s : Schedule) (flags : List Bool) → IsNew steps wanted jobs s → IsKept s flags 0 → TellsEnds [] s
+ends_new steps wanted jobs s flags is kept = record {
+  settled = λ i step_is h. absurd (not_two (state_of s i) Unjudged Settled (is.unjudged i step_is) h (λ f. cc));
+  settled_is = λ i c. absurd (none c);
+  failed = λ i h. absurd (not_two (state_of s i) Failed Unjudged h (is.unjudged i (step_if_not_settled s flags 0 i kept (λ e. not_two (state_of s i) Failed Settled h e (λ f. cc)))) (λ f. cc));
+  failed_is = λ i c. absurd (none c);
+}
+  where
+    none : {d : Call} → Contains [] d → ⊥
+    none (k, below, e) = omega arith
+
+-- after one more call
+ends_go : (past : List Call) (s t : Schedule) (one : Call) → Stands past s → TellsEnds past s → Makes s one t → TellsEnds (one ∷ past) t
+ends_go past s t (looks k) is was (next, e) = ends_stay past s t (looks k) was (ap (λ (r : Schedule). r.states) e) (λ i f. cc) (λ i f. cc)
+ends_go past s t (needs a b) is was (a_needed, b_is, unsettled, e) = ends_stay past s t (needs a b) was (ap (λ (r : Schedule). r.states) e) (λ i f. cc) (λ i f. cc)
+ends_go past s t (lacks k) is was e = ends_stay past s t (lacks k) was (ap (λ (r : Schedule). r.states) e) (λ i f. cc) (λ i f. cc)
+ends_go past s t (stale k) is was (needed, unjudged, e) =
+    let step_is = step_if_asked s is.flags is.count is.kept k (asked_if_needed s k needed) in
+    ends_change past s t k Stale (stale k) was step_is.within (ap (λ (r : Schedule). r.states) e) (λ h. not_two (state_of s k) Unjudged Settled unjudged h (λ f. cc)) (λ h. not_two (state_of s k) Unjudged Failed unjudged h (λ f. cc))
+    (λ f. cc) (λ i f. cc) (λ f. cc) (λ i f. cc)
+ends_go past s t (settles k) is was (inl (needed, unjudged), settled) =
+    let step_is = step_if_asked s is.flags is.count is.kept k (asked_if_needed s k needed) in
+    ends_change past s t k Settled (settles k) was step_is.within settled.states (λ h. not_two (state_of s k) Unjudged Settled unjudged h (λ f. cc)) (λ h. not_two (state_of s k) Unjudged Failed unjudged h (λ f. cc))
+    (λ f. refl) (λ i f. (let g : i ≡ k = cc in (g, refl))) (λ f. cc) (λ i f. cc)
+ends_go past s t (settles k) is was (inr runs, settled) =
+    let step_is = step_if_not_settled s is.flags is.count k is.kept (λ e. not_two (state_of s k) Running Settled runs e (λ f. cc)) in
+    ends_change past s t k Settled (settles k) was step_is.within settled.states (λ h. not_two (state_of s k) Running Settled runs h (λ f. cc)) (λ h. not_two (state_of s k) Running Failed runs h (λ f. cc))
+    (λ f. refl) (λ i f. (let g : i ≡ k = cc in (g, refl))) (λ f. cc) (λ i f. cc)
+ends_go past s t (starts k) is was (ready, e) =
+    let step_is = step_if_not_settled s is.flags is.count k is.kept (λ e. not_two (state_of s k) Stale Settled ready e (λ f. cc)) in
+    ends_change past s t k Running (starts k) was step_is.within (ap (λ (r : Schedule). r.states) e) (λ h. not_two (state_of s k) Stale Settled ready h (λ f. cc)) (λ h. not_two (state_of s k) Stale Failed ready h (λ f. cc))
+    (λ f. cc) (λ i f. cc) (λ f. cc) (λ i f. cc)
+ends_go past s t (fails k) is was (runs, e) =
+    let step_is = step_if_not_settled s is.flags is.count k is.kept (λ e. not_two (state_of s k) Running Settled runs e (λ f. cc)) in
+    ends_change past s t k Failed (fails k) was step_is.within (ap (λ (r : Schedule). r.states) e) (λ h. not_two (state_of s k) Running Settled runs h (λ f. cc)) (λ h. not_two (state_of s k) Running Failed runs h (λ f. cc))
+    (λ f. cc) (λ i f. cc) (λ f. refl) (λ i f. (let g : i ≡ k = cc in (g, refl)))
+
+-- after all calls
+ends_stand : (steps : List Step) (wanted : List (List ℕ)) (jobs : ℕ) (past : List Call) (s : Schedule) → After steps wanted jobs past s → TellsEnds past s
+ends_stand steps wanted jobs past s (new s' flags is kept) = ends_new steps wanted jobs s flags is kept
+ends_stand steps wanted jobs past s (call before r t one after makes) = ends_go before r t one (stands steps wanted jobs before r after) (ends_stand steps wanted jobs before r after) makes
+
+pub ends_by_calls : EndsByCalls
+ends_by_calls steps wanted jobs past s after i step_is =
+    let is = ends_stand steps wanted jobs past s after in ((is.settled i step_is, is.settled_is i), (is.failed i, is.failed_is i))

@@ -1,7 +1,7 @@
 use Rattle.std.specs.Prelude.{◌≡◌, ◌⊎◌, ◌↔◌, ℕ, Bool, List, [], ◌∷◌, ⊤}
 use Rattle.std.specs.List.{Contains}
 use Rattle.b2_plan.specs.declared.step.Step.{Step}
-use Rattle.b2_sched.specs.Schedules.{Schedule, IsStep, IsNeeded, IsUnjudged, IsStale, IsRunning, IsSettled, Needs, CanLook}
+use Rattle.b2_sched.specs.Schedules.{Schedule, IsStep, IsNeeded, IsUnjudged, IsStale, IsRunning, IsSettled, Needs, CanLook, IsFailed}
 use Rattle.b2_sched.specs.Calls.{IsNew, looked_at, with_need, with_lack, with_stale, with_start, with_failure, Settles}
 use Rattle.b2_sched.specs.Keeping.{IsKept, LooksNext}
 
@@ -49,3 +49,7 @@ LooksByCalls = (steps : List Step) (wanted : List (List ℕ)) (jobs : ℕ) (past
 -- and a step needs another one where that was told
 abbrev pub NeedsByCalls : Type 0
 NeedsByCalls = (steps : List Step) (wanted : List (List ℕ)) (jobs : ℕ) (past : List Call) (s : Schedule) → After steps wanted jobs past s → (i k : ℕ) → IsStep s i → Needs s i k ↔ Contains past (needs i k)
+
+-- and it is settled, or has failed, where that was told
+abbrev pub EndsByCalls : Type 0
+EndsByCalls = (steps : List Step) (wanted : List (List ℕ)) (jobs : ℕ) (past : List Call) (s : Schedule) → After steps wanted jobs past s → (i : ℕ) → IsStep s i → (IsSettled s i ↔ Contains past (settles i)) × (IsFailed s i ↔ Contains past (fails i))

@@ -1,5 +1,5 @@
 //! What holds over any list of calls.
-ghost use Rattle.b2_sched.specs.Histories.{LooksByCalls, NeedsByCalls};
+ghost use Rattle.b2_sched.specs.Histories.{LooksByCalls, NeedsByCalls, EndsByCalls};
 ghost use Rattle.b2_sched.specs.Joins.{NeededJoins, SkippedJoins, CycleJoins};
 
 /// A step can be looked at where it is needed and not judged, and was not looked at yet or has a need that settled since.
@@ -10,6 +10,11 @@ pub fn looks_by_calls()
 /// A step needs those that were told.
 pub fn needs_by_calls()
     ensures { NeedsByCalls }
+{}
+
+/// A step is settled, or has failed, where that was told.
+pub fn ends_by_calls()
+    ensures { EndsByCalls }
 {}
 
 /// The needed steps are those of a run, where the makers of wanted files and the needs of needed steps were told.

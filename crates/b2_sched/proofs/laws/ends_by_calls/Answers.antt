@@ -1,0 +1,5 @@
+use Rattle.b2_sched.proofs.HistoryLemmas.{ends_by_calls}
+use Rattle.b2_sched.proofs.laws.ends_by_calls.Goals as goal
+
+pub returns : goal.returns
+returns c = ends_by_calls
