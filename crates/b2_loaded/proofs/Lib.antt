@@ -1,0 +1,2 @@
+pub mod NamesHold
+pub mod EvalSteps

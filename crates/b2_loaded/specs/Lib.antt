@@ -1,0 +1,9 @@
+pub mod Turns
+pub mod Names
+pub mod Readings
+pub mod Seen
+pub mod Faults
+pub mod Worlds
+pub mod Held
+pub mod Doing
+pub mod Laws

@@ -1,0 +1,97 @@
+//! A host that is lent.
+ghost use Rattle.std.specs.Prelude.{◌≡◌, ◌≤◌};
+ghost use Rattle.b2_host.specs.OutsideLaws.{Keeps};
+ghost use Rattle.jam_eval.specs.StepJobs.{job_of, step_answer};
+ghost use Rattle.jam_interp.specs.Parts.{step_text_at};
+ghost use Rattle.b2_loaded.specs.Doing.{EvaluatesOn, ReturnsOn};
+
+use crate::entry::Entry;
+use crate::evaluating::{returned, text_of};
+use crate::loaded_world::LoadedWorld;
+use b2_base::text::Text;
+use b2_base::text_list::TextList;
+use b2_host::files::Files;
+use b2_metatargets::place::Place;
+use jam_effects::fault::EvalFault;
+use jam_eval::step::{StepJob, StepText};
+use std::alloc::Global;
+use std::marker::PhantomData;
+
+/// A host that was lent when it was what `S` says. Its files and child processes are as then, and no count of its failures fell.
+#[derive(Drop)]
+pub struct Lent<'a, F: Files, S: Entry> {
+    pub files: &'a mut F,
+    entry: PhantomData<S>,
+    ghost disk: { (F.outside files.now).disk ≡ S.outside.disk },
+    ghost children: { (F.outside files.now).children ≡ S.outside.children },
+    ghost faults: { S.outside.faults ≤ (F.outside files.now).faults },
+    ghost waits: { S.outside.failed_waits ≤ (F.outside files.now).failed_waits },
+}
+
+impl<'a, F: Files, S: Entry> Lent<'a, F, S> {
+    /// Borrows a host, which is what `S` says.
+    pub fn new(files: &'a mut F) -> Lent<'a, F, S>
+        requires { F.outside files.old ≡ S.outside }
+        ensures same_reference { result.files.ghost_name ≡ files.entry.ghost_name }
+        ensures files { result.files.now ≡ files.old }
+    {
+        Lent {
+            files,
+            entry: PhantomData,
+        }
+    }
+
+    /// Gives the host back.
+    pub fn into_files(self) -> &'a mut F
+        ensures same_reference { result.ghost_name ≡ self.entry.files.ghost_name }
+        ensures files { result.now ≡ self.entry.files.now }
+        ensures disk { (F.outside result.now).disk ≡ S.outside.disk }
+        ensures children { (F.outside result.now).children ≡ S.outside.children }
+        ensures keeps { Keeps S.outside (F.outside result.now) }
+    {
+        let Lent {
+            files,
+            entry: _entry,
+        } = self;
+        files
+    }
+
+    /// What a rule of a project returns for properties.
+    pub(crate) fn returned(
+        &mut self,
+        alloc: Global,
+        loaded: &mut LoadedWorld,
+        project: &Place,
+        rule: &Text,
+        line: u32,
+        properties: &[Text],
+    ) -> Result<TextList, EvalFault>
+        ensures does { ReturnsOn F.outside project.now rule.now line properties.now loaded.old.world self.old.files.now self.new.files.now result }
+        ensures world { loaded.new.world ≡ loaded.old.world }
+        ensures same_reference { self.new.files.ghost_name ≡ self.old.files.ghost_name }
+    {
+        returned(
+            alloc,
+            &mut loaded.world,
+            self.files,
+            project,
+            rule,
+            line,
+            properties,
+        )
+    }
+
+    /// The text of a step.
+    pub(crate) fn text_of(
+        &mut self,
+        alloc: Global,
+        loaded: &mut LoadedWorld,
+        job: &StepJob,
+    ) -> Result<StepText, EvalFault>
+        ensures does { EvaluatesOn F.outside step_answer (step_text_at (job_of job.now)) loaded.old.world self.old.files.now self.new.files.now result }
+        ensures world { loaded.new.world ≡ loaded.old.world }
+        ensures same_reference { self.new.files.ghost_name ≡ self.old.files.ghost_name }
+    {
+        text_of(alloc, &mut loaded.world, self.files, job)
+    }
+}

@@ -1,0 +1,125 @@
+//! A loaded project's own text.
+ghost use Rattle.std.specs.Prelude.{◌≡◌, slice_get};
+ghost use Rattle.std.specs.Option.{option_copied};
+
+use crate::entry::Entry;
+use crate::lent::Lent;
+use crate::loaded_world::LoadedWorld;
+use b2_base::text::Text;
+use b2_base::text_list::TextList;
+use b2_evaluation::evaluate::Evaluate;
+use b2_host::files::Files;
+use b2_metatargets::place::Place;
+use jam_effects::fault::EvalFault;
+use jam_eval::step::{StepJob, StepText};
+use jam_scope::world::World;
+use std::alloc::Global;
+
+/// The project at a place; takes no memory.
+fn project_at(projects: &[Place], place: usize) -> Option<&Place>
+    ensures { option_copied result ≡ slice_get projects.now place }
+{
+    projects.get(place)
+}
+
+/// The own text of a loaded project, evaluated in the world that loading left, over files that are lent. Each evaluation has
+/// 100,000 turns of its own; what it echoes is not kept.
+///
+/// Where the files are visible, each answer is the one that evaluation gives (`told_in`). A project is named by its place; where
+/// none is there, nothing is returned. A name that the project sees no rule of is `UnknownRule`. This, and any other fault of a
+/// rule's call that occurs while no statement runs, stands at the project's file and the line that was given.
+#[derive(Drop)]
+pub struct OwnText<'a, F: Files, S: Entry> {
+    alloc: Global,
+    pub projects: &'a [Place],
+    pub loaded: LoadedWorld,
+    pub host: Lent<'a, F, S>,
+}
+
+impl<'a, F: Files, S: Entry> OwnText<'a, F, S> {
+    ghost use Rattle.std.specs.Prelude.{◌≡◌, is_some, false};
+    ghost use Rattle.b2_host.specs.OutsideLaws.{Keeps};
+
+    /// The own text of these projects, whose files left a world in which no step is open. The host is what `S` says.
+    pub fn new(
+        alloc: Global,
+        projects: &'a [Place],
+        world: World,
+        files: &'a mut F,
+    ) -> OwnText<'a, F, S>
+        requires entry { F.outside files.old ≡ S.outside }
+        requires closed { is_some world.now.step ≡ false }
+        ensures projects { result.projects.now ≡ projects.now }
+        ensures world { result.loaded.world ≡ world }
+        ensures same_reference { result.host.files.ghost_name ≡ files.entry.ghost_name }
+        ensures files { result.host.files.now ≡ files.old }
+    {
+        OwnText {
+            alloc,
+            projects,
+            loaded: LoadedWorld { world },
+            host: Lent::new(files),
+        }
+    }
+
+    /// Gives the host back. Its files and child processes are as they were at first, and no count of its failures fell.
+    pub fn into_files(self) -> &'a mut F
+        ensures same_reference { result.ghost_name ≡ self.entry.host.files.ghost_name }
+        ensures files { result.now ≡ self.entry.host.files.now }
+        ensures disk { (F.outside result.now).disk ≡ S.outside.disk }
+        ensures children { (F.outside result.now).children ≡ S.outside.children }
+        ensures keeps { Keeps S.outside (F.outside result.now) }
+    {
+        let OwnText {
+            alloc: _alloc,
+            projects: _projects,
+            loaded,
+            host,
+        } = self;
+        loaded.let_go();
+        host.into_files()
+    }
+}
+
+impl<'a, F: Files, S: Entry> Evaluate for OwnText<'a, F, S> {
+    ghost use Rattle.jam_effects.specs.Causes.{HoldsNoMemory};
+    ghost use Rattle.b2_loaded.specs.Faults.{is_host_fault, is_out_of_memory};
+    ghost use Rattle.b2_loaded.specs.Held.{Held, held};
+    ghost use Rattle.b2_loaded.specs.Worlds.{told_in};
+
+    type Fault = EvalFault;
+
+    ghost answers = { λ own. told_in own.projects.now own.loaded.world (F.outside own.host.files.now).disk };
+
+    ghost Kept = { Held };
+
+    ghost kept = { λ own. held own.loaded.world own.host.files.ghost_name (F.outside own.host.files.now) };
+
+    ghost faults = { λ own. (F.outside own.host.files.now).faults };
+
+    ghost is_host_fault = { is_host_fault };
+
+    ghost is_out_of_memory = { is_out_of_memory };
+
+    ghost CanFault = { λ kept fault. HoldsNoMemory fault };
+
+    fn returned(
+        &mut self,
+        project: usize,
+        rule: &Text,
+        line: u32,
+        properties: &[Text],
+    ) -> Result<TextList, EvalFault> {
+        let Some(project) = project_at(self.projects, project) else {
+            return Ok(TextList::new(self.alloc));
+        };
+        let loaded = &mut self.loaded;
+        self.host
+            .returned(self.alloc, loaded, project, rule, line, properties)
+    }
+
+    fn step_text(&mut self, job: &StepJob) -> Result<StepText, EvalFault> {
+        let loaded = &mut self.loaded;
+        self.host.text_of(self.alloc, loaded, job)
+    }
+}
