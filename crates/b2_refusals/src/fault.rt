@@ -1,0 +1,25 @@
+//! Why the program refuses what it is asked for.
+use b2_base::list::List;
+use b2_base::path::Path;
+use b2_base::text::Text;
+use b2_generate::fault::GenFault;
+use b2_props::request_fault::RequestFault;
+use b2_walk::fault::LoadFault;
+use jam_effects::fault::EvalFault;
+
+/// Why the program refuses what it is asked for. No fault within one is of the host or out of memory.
+#[derive(Drop)]
+pub enum Fault {
+    /// What stands on this line is not built yet; line 0 is the file as a whole.
+    NotYet { path: Text, line: u32 },
+    /// The project is not loaded.
+    Load(LoadFault),
+    /// The words of the command are no request.
+    Request(RequestFault),
+    /// The request has no plan.
+    Gen(GenFault<EvalFault>),
+    /// Each of these steps, by their numbers, needs an output of the next one, and the last one of the first.
+    StepCycle { list: List<u32> },
+    /// The file has this many bytes, which are too many to scan it.
+    TooBig { path: Path, size: u64 },
+}

@@ -1,0 +1,11 @@
+//! What the program writes of a refusal, and the lines of its looks at a project.
+#![tactic(auto)]
+
+mod evaluations;
+pub mod fault;
+mod generations;
+pub mod laws;
+pub mod lines;
+mod lists;
+mod loads;
+mod pieces;

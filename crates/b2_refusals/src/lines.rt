@@ -1,0 +1,104 @@
+//! The lines of refusals and of looks at a project.
+ghost use Rattle.std.specs.Prelude.{◌≡◌, IfOk, string_bytes};
+ghost use Rattle.b2_refusals.specs.Lines.{fault_text, refusal_line, usage_line, host_fault_line, table_line, text_line, step_lines};
+ghost use Rattle.b2_refusals.specs.Wholes.{IsWhole};
+ghost use Rattle.b2_runs.specs.Reports.{start_line};
+
+use crate::fault::Fault;
+use crate::generations::{gen_text, request_text};
+use crate::lists::{cycle_text, first_path, push_properties};
+use crate::loads::load_text;
+use crate::pieces::{at_line, concat, size_text};
+use b2_base::fault::OutOfMemory;
+use b2_plan::step::Step;
+use b2_props::props::Props;
+use std::alloc::Global;
+
+/// The line of words that are no command.
+pub fn usage_line() -> &'static str
+    ensures { result.now ≡ usage_line }
+{
+    "b2: usage: b2 [-jN] [-a] [-q] [-n or --show] [word ..], or b2 --drill=N\n"
+}
+
+/// The line of a fault of the host.
+pub fn host_fault_line() -> &'static str
+    ensures { result.now ≡ host_fault_line }
+{
+    "b2: host fault\n"
+}
+
+fn step_cycle_text(alloc: Global, steps: &[Step], list: &[u32]) -> Result<String, OutOfMemory>
+    ensures { IfOk result (λ text. string_bytes text ≡ fault_text steps.now (Fault.StepCycle list.now)) }
+{
+    let cycle = cycle_text(alloc, steps, list)?;
+    concat(alloc, "step cycle: ", cycle.as_str())
+}
+
+/// The text of a refusal.
+fn fault_text(alloc: Global, steps: &[Step], fault: &Fault) -> Result<String, OutOfMemory>
+    requires { IsWhole fault.now }
+    ensures { IfOk result (λ text. string_bytes text ≡ fault_text steps.now fault.now) }
+{
+    match fault {
+        Fault::NotYet { path, line } => at_line(alloc, path.as_str(), *line, "not yet"),
+        Fault::Load(fault) => load_text(alloc, fault),
+        Fault::Request(fault) => request_text(alloc, fault),
+        Fault::Gen(fault) => gen_text(alloc, fault),
+        Fault::StepCycle { list } => step_cycle_text(alloc, steps, list.as_slice()),
+        Fault::TooBig { path, size } => size_text(alloc, path.as_str(), *size),
+    }
+}
+
+/// The line of a refusal: `b2: `, its text and a line feed. `steps` are those of the plan, whose outputs a cycle names.
+pub fn refusal_line(alloc: Global, steps: &[Step], fault: &Fault) -> Result<String, OutOfMemory>
+    requires whole { IsWhole fault.now }
+    ensures { IfOk result (λ line. string_bytes line ≡ refusal_line steps.now fault.now) }
+{
+    let text = fault_text(alloc, steps, fault)?;
+    Ok(format!(in alloc; "b2: {text}\n")?)
+}
+
+/// The line of a row of the table of main targets, as `//a [1] <toolset>gcc <variant>release`: the target, the number of its
+/// alternative, and the properties.
+pub fn table_line(
+    alloc: Global,
+    target: &str,
+    alternative: usize,
+    set: &Props,
+) -> Result<String, OutOfMemory>
+    ensures { IfOk result (λ line. string_bytes line ≡ table_line target.now alternative set.now) }
+{
+    let mut line = format!(in alloc; "{target} [{alternative}]")?;
+    push_properties(alloc, &mut line, set.pairs())?;
+    line.push_str("\n")?;
+    Ok(line)
+}
+
+/// The line of a step's start: its name and its first output; the empty text where the name is empty.
+pub fn start_line(alloc: Global, step: &Step) -> Result<String, OutOfMemory>
+    ensures { IfOk result (λ line. string_bytes line ≡ start_line step.now) }
+{
+    let name = step.name.as_str();
+    if name.is_empty() {
+        return Ok(String::new(alloc));
+    }
+    let out = first_path(step);
+    Ok(format!(in alloc; "{name} {out}\n")?)
+}
+
+/// The line of a step's text, which may itself have several lines.
+pub fn text_line(alloc: Global, step: &Step) -> Result<String, OutOfMemory>
+    ensures { IfOk result (λ line. string_bytes line ≡ text_line step.now) }
+{
+    concat(alloc, step.text.as_str(), "\n")
+}
+
+/// What a look tells of a step: the line of its start and that of its text.
+pub fn step_lines(alloc: Global, step: &Step) -> Result<String, OutOfMemory>
+    ensures { IfOk result (λ lines. string_bytes lines ≡ step_lines step.now) }
+{
+    let start = start_line(alloc, step)?;
+    let text = step.text.as_str();
+    Ok(format!(in alloc; "{start}{text}\n")?)
+}
