@@ -1,0 +1,7 @@
+mod TellLemmas
+mod StopLemmas
+mod PlanLemmas
+mod OverLemmas
+mod LoadLemmas
+mod SettingLemmas
+mod OneMeaning

@@ -1,0 +1,137 @@
+-- The plan of a request over a loaded project.
+use Rattle.std.proofs.Common.{◌≡◌, ℕ, Option, Some, None, List, Result, Ok, Err, refl, ap, subst}
+use Rattle.std.specs.Prelude.{IfOk, IfErr}
+use Rattle.std.specs.Option.{IfSome}
+use Rattle.b2_host.specs.Disks.{Disk}
+use Rattle.b2_host.specs.Outside.{Outside}
+use Rattle.b2_host.specs.OutsideLaws.{Keeps, keeps_same}
+use Rattle.jam_journal.specs.Tables.{Text}
+use Rattle.jam_scope.specs.Worlds.{Worlds}
+use Rattle.jam_effects.specs.Causes.{HoldsNoMemory}
+use Rattle.jam_effects.specs.declared.fault.EvalFault.{EvalFault}
+use Rattle.b2_plan.specs.Plans.{Apart}
+use Rattle.b2_props.specs.declared.request.Request.{Request}
+use Rattle.b2_props.specs.declared.request_fault.RequestFault.{RequestFault}
+use Rattle.b2_props.specs.Sets.{Pair}
+use Rattle.b2_props.specs.Words.{IsBy, target_words}
+use Rattle.b2_props.specs.Requests.{request_fault, request_sets}
+use Rattle.b2_metatargets.specs.declared.whole.Declared.{Declared}
+use Rattle.b2_evaluation.specs.Answers.{Answers, IsCounted}
+use Rattle.b2_generate.specs.declared.fault.GenFault.{GenFault}
+use Rattle.b2_generate.specs.declared.planned.Planned.{Planned as Made}
+use Rattle.b2_generate.specs.Loaded.{Loaded}
+use Rattle.b2_generate.specs.Planning.{Planned}
+use Rattle.b2_generate.specs.Plans.{IsPlanned}
+use Rattle.b2_generate.specs.Told.{loaded_of, IsKnown, is_eval, is_memory}
+use Rattle.b2_loaded.specs.Faults.{is_host_fault, is_out_of_memory}
+use Rattle.b2_loaded.specs.Seen.{setting_of}
+use Rattle.b2_loaded.specs.Worlds.{answers_in, told_in}
+use Rattle.b2_front.specs.declared.refusal.Stop.{Stop}
+use Rattle.b2_front.specs.declared.refusal.Stop.TheVariants as stops
+use Rattle.b2_front.specs.Meaning.{Refusal, of_load, of_request, of_generation, project_of}
+use Rattle.b2_front.specs.Refusals.{stop_of_request}
+use Rattle.b2_front.specs.Preparing.{Tells, IsWhole, Counts}
+use Rattle.b2_front.specs.Parts.{planned_or_stop, IsGenerated, IsAsked, Does, PlansRequest, Asks}
+use Rattle.b2_front.proofs.TellLemmas.{tells_map}
+use Rattle.b2_front.proofs.StopLemmas.{generated_told, generated_whole, generated_counts, asked_told, asked_whole, asked_counts}
+
+-- ---- what is kept
+
+-- an answer that nothing was done for
+pub nothing_done : (Told : Disk → Result Planned Refusal → Type 0) (o : Outside) (stop : Stop)
+    → IfSome o.disk (λ disk. Tells (λ pattern outcome. (pattern ≡ None) × Told disk outcome) (Err stop)) → IsWhole stop → Counts (Err stop) o o → Does Told o o (Err stop)
+nothing_done Told o stop told whole counts = record {
+  told = told;
+  whole = whole;
+  apart = tt;
+  disk = refl;
+  children = refl;
+  keeps = keeps_same o o refl;
+  counts = counts;
+}
+
+pub no_memory : (Told : Disk → Result Planned Refusal → Type 0) (o : Outside) → Does Told o o (Err stops.OutOfMemory)
+no_memory Told o = nothing_done Told o stops.OutOfMemory (visible o.disk) tt tt
+  where
+    visible : (disk : Option Disk) → IfSome disk (λ d. Tells (λ pattern outcome. (pattern ≡ None) × Told d outcome) (Err stops.OutOfMemory))
+    visible None = tt
+    visible (Some d) = tt
+
+-- ---- generation
+
+module _ (found : Declared) (worlds : Worlds) (request : Request) (roots : List (List ℕ)) (from to : Outside) (result : Result Made (GenFault EvalFault)) where
+  told_over : ((told : Answers EvalFault) → told_in found.places worlds from.disk ≡ Some told → IsPlanned (loaded_of found roots told) is_host_fault is_out_of_memory request result)
+      → roots ≡ worlds.now.roots
+      → IfSome from.disk (λ disk. Tells (λ pattern outcome. (pattern ≡ None) × IsGenerated (project_of disk worlds found) request.sets request.targets outcome) (planned_or_stop result))
+  told_over told same = go from.disk refl
+    where
+      go : (disk : Option Disk) → from.disk ≡ disk
+          → IfSome disk (λ d. Tells (λ pattern outcome. (pattern ≡ None) × IsGenerated (project_of d worlds found) request.sets request.targets outcome) (planned_or_stop result))
+      go None e = tt
+      go (Some d) e =
+          generated_told (project_of d worlds found) request result
+          (subst (λ rs. IsPlanned (loaded_of found rs (answers_in (setting_of d) found.places worlds)) is_host_fault is_out_of_memory request result) same
+          (told (answers_in (setting_of d) found.places worlds) (ap (told_in found.places worlds) e)))
+
+  apart_over : (made : Result Made (GenFault EvalFault)) → IfOk made (λ p. Apart p.plan.steps p.plan.roots) → IfOk (planned_or_stop made) (λ p. Apart p.plan.steps p.plan.roots)
+  apart_over (Ok p) h = h
+  apart_over (Err fault) h = tt
+
+module _ (found : Declared) (worlds : Worlds) (request : Request) (roots : List (List ℕ)) (from to : Outside) (result : Result Made (GenFault EvalFault)) where
+  -- a plan by an evaluation that keeps what it kept
+  pub planned_over : ((told : Answers EvalFault) → told_in found.places worlds from.disk ≡ Some told → IsPlanned (loaded_of found roots told) is_host_fault is_out_of_memory request result)
+      → roots ≡ worlds.now.roots → IfOk result (λ p. Apart p.plan.steps p.plan.roots) → IfErr result (IsKnown HoldsNoMemory)
+      → IsCounted (is_eval is_host_fault) (is_memory is_out_of_memory) from.faults to.faults result
+      → to.disk ≡ from.disk → to.children ≡ from.children → Keeps from to
+      → PlansRequest found worlds request.sets request.targets from to (planned_or_stop result)
+  planned_over told same apart known counted disk children keeps = record {
+    told = told_over found worlds request roots from to result told same;
+    whole = generated_whole result known;
+    apart = apart_over found worlds request roots from to result result apart;
+    disk = disk;
+    children = children;
+    keeps = keeps;
+    counts = generated_counts from to result counted;
+  }
+
+-- ---- the request
+
+-- the request is read, and planned
+generated_asked : (l : Loaded EvalFault) (words : List Text) → request_fault l.declared.registry words ≡ None → (pattern : Option Text) (outcome : Result Planned Refusal)
+    → (pattern ≡ None) × IsGenerated l (request_sets l.declared.registry words) (target_words l.declared.registry words) outcome → (pattern ≡ None) × IsAsked l words outcome
+generated_asked l words sound pattern (Ok plan) h = (h.0, (sound, h.1))
+generated_asked l words sound pattern (Err (of_load why)) h = absurd h.1
+generated_asked l words sound pattern (Err (of_request why)) h = absurd h.1
+generated_asked l words sound pattern (Err (of_generation why)) h = (h.0, (sound, h.1))
+
+module _ (words : List Text) (found : Declared) (worlds : Worlds) (from to : Outside) where
+  abbrev IsTold : Result Made Stop → List (List Pair) → List Text → Option Disk → Type 0
+  IsTold result sets targets disk = IfSome disk (λ d. Tells (λ pattern outcome. (pattern ≡ None) × IsGenerated (project_of d worlds found) sets targets outcome) result)
+
+  pub asks_planned : (sets : List (List Pair)) (targets : List Text) (result : Result Made Stop) → sets ≡ request_sets found.registry words → targets ≡ target_words found.registry words
+      → request_fault found.registry words ≡ None → PlansRequest found worlds sets targets from to result → Asks words found worlds from to result
+  asks_planned sets targets result sets_are targets_are sound plans = record {
+    told = go from.disk (subst (λ ss. IsTold result ss (target_words found.registry words) from.disk) sets_are (subst (λ ts. IsTold result sets ts from.disk) targets_are plans.told));
+    whole = plans.whole;
+    apart = plans.apart;
+    disk = plans.disk;
+    children = plans.children;
+    keeps = plans.keeps;
+    counts = plans.counts;
+  }
+    where
+      go : (disk : Option Disk) → IsTold result (request_sets found.registry words) (target_words found.registry words) disk
+          → IfSome disk (λ d. Tells (λ pattern outcome. (pattern ≡ None) × IsAsked (project_of d worlds found) words outcome) result)
+      go None h = tt
+      go (Some d) h =
+          tells_map (λ pattern outcome. (pattern ≡ None) × IsGenerated (project_of d worlds found) (request_sets found.registry words) (target_words found.registry words) outcome)
+          (λ pattern outcome. (pattern ≡ None) × IsAsked (project_of d worlds found) words outcome) (generated_asked (project_of d worlds found) words sound) result h
+
+  pub asks_refused : (fault : RequestFault) → IsBy (request_fault found.registry words) fault
+      → Asks words found worlds from from (Err (stop_of_request fault))
+  asks_refused fault cause =
+      nothing_done (λ disk. IsAsked (project_of disk worlds found) words) from (stop_of_request fault) (go from.disk) (asked_whole fault) (asked_counts fault from)
+    where
+      go : (disk : Option Disk) → IfSome disk (λ d. Tells (λ pattern outcome. (pattern ≡ None) × IsAsked (project_of d worlds found) words outcome) (Err (stop_of_request fault)))
+      go None = tt
+      go (Some d) = asked_told (project_of d worlds found) words fault cause

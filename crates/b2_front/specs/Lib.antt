@@ -1,0 +1,5 @@
+pub mod Meaning
+pub mod Laws
+pub mod Refusals
+pub mod Preparing
+pub mod Parts

@@ -1,0 +1,59 @@
+-- What the files of a disk and the free words of a command come to.
+use Rattle.std.specs.Prelude.{◌≡◌, ℕ, List, Option, Some, None, Result, Ok, Err}
+use Rattle.b2_host.specs.Disks.{Disk}
+use Rattle.jam_journal.specs.Tables.{Text}
+use Rattle.jam_scope.specs.Worlds.{Worlds}
+use Rattle.jam_eval.specs.Settings.{Setting}
+use Rattle.jam_eval.specs.States.{State}
+use Rattle.jam_natives.specs.Keeping.{Kept}
+use Rattle.jam_effects.specs.declared.fault.EvalFault.{EvalFault}
+use Rattle.b2_props.specs.declared.request_fault.RequestFault.{RequestFault}
+use Rattle.b2_props.specs.Words.{target_words}
+use Rattle.b2_props.specs.Requests.{request_sets, request_fault}
+use Rattle.b2_metatargets.specs.declared.whole.Declared.{Declared}
+use Rattle.b2_walk.specs.Walks.{Walk, Refusal as LoadRefusal}
+use Rattle.b2_project.specs.Loads.{Ending, loaded, fails, Loads}
+use Rattle.b2_generate.specs.Faults.{Fault}
+use Rattle.b2_generate.specs.Loaded.{Loaded}
+use Rattle.b2_generate.specs.Planning.{Planned, Plans}
+use Rattle.b2_loaded.specs.Seen.{setting_of}
+use Rattle.b2_loaded.specs.Worlds.{answers_in}
+
+-- why there is no plan: a refusal of the load, of the request, or of generation
+pub data Refusal : Type 0 where
+  of_load : LoadRefusal → Refusal
+  of_request : RequestFault → Refusal
+  of_generation : Fault EvalFault → Refusal
+
+-- the turns that all files of a load share
+abbrev pub load_turns : ℕ
+load_turns = 1000000
+
+-- What a load over a disk is given: the files and patterns as they are seen, its own turns, and what is refused.
+abbrev pub load_setting : Disk → Option (ℕ × Text) → Setting Kept
+load_setting disk refused = record (setting_of disk) { budget = load_turns; refused = refused }
+
+-- a loaded project, with the answers of its own text in the worlds that the load left
+abbrev pub project_of : Disk → Worlds → Declared → Loaded EvalFault
+project_of disk worlds found = record { declared = found; roots = worlds.now.roots; answers = answers_in (setting_of disk) found.places worlds }
+
+-- The files of a disk and the free words of a command come to lines of ECHO, and to a plan or the first refusal: that of the load, to
+-- which all words are given; else that of the request, which is read by the features that were loaded; else that of generation.
+-- `refused` is the call of a project file, by the turns left in it, of which a pattern is refused though it reads as one, if there is
+-- such a call.
+module _ (disk : Disk) (refused : Option (ℕ × Text)) (words : List Text) where
+  abbrev pub Ends : Ending → Type 0
+  Ends = Loads (load_setting disk refused) load_turns words
+
+  -- generation over what was loaded
+  abbrev pub Generates : Walk → Declared → Result Planned (Fault EvalFault) → Type 0
+  Generates w found = Plans (project_of disk w.state.worlds found) (request_sets found.registry words) (target_words found.registry words)
+
+  pub data Means : List Text → Result Planned Refusal → Type 0 where
+    not_loaded : (why : LoadRefusal) (s : State Kept) → Ends (fails why s) → Means s.kept.echoes (Err (of_load why))
+    not_asked : (w : Walk) (found : Declared) (why : RequestFault) → Ends (loaded w found) → request_fault found.registry words ≡ Some why →
+        Means w.state.kept.echoes (Err (of_request why))
+    not_planned : (w : Walk) (found : Declared) (why : Fault EvalFault) → Ends (loaded w found) → request_fault found.registry words ≡ None →
+        Generates w found (Err why) → Means w.state.kept.echoes (Err (of_generation why))
+    planned : (w : Walk) (found : Declared) (plan : Planned) → Ends (loaded w found) → request_fault found.registry words ≡ None →
+        Generates w found (Ok plan) → Means w.state.kept.echoes (Ok plan)

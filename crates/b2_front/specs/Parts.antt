@@ -1,0 +1,81 @@
+-- What the parts of the way do.
+use Rattle.std.specs.Prelude.{◌≡◌, ℕ, Bool, List, Option, Some, None, Result, Ok, Err, IfOk, IfErr, is_some, false}
+use Rattle.std.specs.Option.{IfSome}
+use Rattle.b2_host.specs.Disks.{Disk}
+use Rattle.b2_host.specs.Outside.{Outside}
+use Rattle.b2_host.specs.OutsideLaws.{Keeps}
+use Rattle.jam_journal.specs.Tables.{Text}
+use Rattle.jam_scope.specs.Worlds.{Worlds}
+use Rattle.jam_effects.specs.declared.fault.EvalFault.{EvalFault}
+use Rattle.b2_plan.specs.Plans.{Apart}
+use Rattle.b2_props.specs.Sets.{Pair}
+use Rattle.b2_props.specs.Words.{target_words}
+use Rattle.b2_props.specs.Requests.{request_sets, request_fault}
+use Rattle.b2_props.specs.declared.request.Request.{Request}
+use Rattle.b2_metatargets.specs.declared.whole.Declared.{Declared}
+use Rattle.b2_evaluation.specs.Answers.{Answers}
+use Rattle.b2_walk.specs.declared.fault.LoadFault.{LoadFault}
+use Rattle.b2_project.specs.declared.project.Project.{Project}
+use Rattle.b2_project.specs.Loading.{HasPlaces}
+use Rattle.b2_generate.specs.declared.fault.GenFault.{GenFault}
+use Rattle.b2_generate.specs.declared.planned.Planned.{Planned as Made}
+use Rattle.b2_generate.specs.Loaded.{Loaded}
+use Rattle.b2_generate.specs.Planning.{Planned, Plans}
+use Rattle.b2_generate.specs.Plans.{IsPlanOf}
+use Rattle.b2_front.specs.declared.refusal.Stop.{Stop}
+use Rattle.b2_front.specs.Meaning.{Refusal, of_load, of_request, of_generation, project_of}
+use Rattle.b2_front.specs.Refusals.{stop_of_load, stop_of_generation}
+use Rattle.b2_front.specs.Preparing.{Tells, IsWhole, Counts}
+
+-- a project that was loaded
+pub record IsReady (project : Project) : Type 0 where
+  pub places : HasPlaces project.declared
+  pub step : is_some project.world.now.step ≡ false
+
+-- a fault of generation as the answer
+abbrev pub planned_or_stop : Result Made (GenFault EvalFault) → Result Made Stop
+planned_or_stop (Ok plan) = Ok plan
+planned_or_stop (Err fault) = Err (stop_of_generation fault)
+
+-- what generation gives for a request
+abbrev pub IsGenerated : Loaded EvalFault → List (List Pair) → List Text → Result Planned Refusal → Type 0
+IsGenerated l sets targets (Ok plan) = Plans l sets targets (Ok plan)
+IsGenerated l sets targets (Err (of_load why)) = ⊥
+IsGenerated l sets targets (Err (of_request why)) = ⊥
+IsGenerated l sets targets (Err (of_generation why)) = Plans l sets targets (Err why)
+
+-- what the words of a request come to, for a loaded project
+abbrev pub IsAsked : Loaded EvalFault → List Text → Result Planned Refusal → Type 0
+IsAsked l words (Ok plan) =
+    (request_fault l.declared.registry words ≡ None) × Plans l (request_sets l.declared.registry words) (target_words l.declared.registry words) (Ok plan)
+IsAsked l words (Err (of_load why)) = ⊥
+IsAsked l words (Err (of_request why)) = request_fault l.declared.registry words ≡ Some why
+IsAsked l words (Err (of_generation why)) =
+    (request_fault l.declared.registry words ≡ None) × Plans l (request_sets l.declared.registry words) (target_words l.declared.registry words) (Err why)
+
+-- the plan over output roots, where there was memory for a copy of them
+abbrev pub IsPlanIn : {S E X : Type 0} → (S → Option (Answers E)) → (E → Bool) → (E → Bool) → Declared → Result (List (List ℕ)) X → Request → S
+    → Result Made (GenFault E) → Type 0
+IsPlanIn answers is_host is_out found copied request evaluator result =
+    (roots : List (List ℕ)) → IfOk copied (λ rs. rs ≡ roots) → IsPlanOf answers is_host is_out found roots request evaluator result
+
+-- What a part of the way does: where the files are visible, this is told of its answer; over every host the rest holds.
+pub record Does (Told : Disk → Result Planned Refusal → Type 0) (from to : Outside) (result : Result Made Stop) : Type 0 where
+  pub told : IfSome from.disk (λ disk. Tells (λ pattern outcome. (pattern ≡ None) × Told disk outcome) result)
+  pub whole : IfErr result IsWhole
+  pub apart : IfOk result (λ made. Apart made.plan.steps made.plan.roots)
+  pub disk : to.disk ≡ from.disk
+  pub children : to.children ≡ from.children
+  pub keeps : Keeps from to
+  pub counts : Counts result from to
+
+abbrev pub PlansRequest : Declared → Worlds → List (List Pair) → List Text → Outside → Outside → Result Made Stop → Type 0
+PlansRequest found worlds sets targets = Does (λ disk. IsGenerated (project_of disk worlds found) sets targets)
+
+abbrev pub Asks : List Text → Declared → Worlds → Outside → Outside → Result Made Stop → Type 0
+Asks words found worlds = Does (λ disk. IsAsked (project_of disk worlds found) words)
+
+-- a project is asked, and a load without one has its fault
+abbrev pub GoesOn : List Text → Result Project LoadFault → Outside → Outside → Result Made Stop → Type 0
+GoesOn words (Ok project) from to result = Asks words project.declared project.world from to result
+GoesOn words (Err fault) from to result = (result ≡ Err (stop_of_load fault)) × (to ≡ from)

@@ -1,0 +1,50 @@
+-- What is promised of the way from words to a plan.
+use Rattle.std.specs.Prelude.{◌≡◌, ℕ, List, Option, Some, None, Result, Ok, Err}
+use Rattle.std.specs.Option.{option_map}
+use Rattle.b2_host.specs.Disks.{Disk}
+use Rattle.b2_host.specs.Faults.{Rose}
+use Rattle.b2_host.specs.Outside.{Outside}
+use Rattle.jam_journal.specs.Tables.{Text}
+use Rattle.b2_generate.specs.declared.planned.Planned.{Planned as Made}
+use Rattle.b2_generate.specs.Planning.{Planned}
+use Rattle.b2_generate.specs.Plans.{seen}
+use Rattle.b2_front.specs.declared.refusal.Stop.{Stop}
+use Rattle.b2_front.specs.declared.refusal.Stop.TheVariants.{Refused, Host, OutOfMemory}
+use Rattle.b2_front.specs.Meaning.{Refusal, Means}
+use Rattle.b2_front.specs.Refusals.{refusal_of, pattern_of, IsWholeRefusal}
+
+-- Something holds of the answer as data, and of the pattern of a project file that was refused though it reads as one, if there was
+-- one. Nothing is said of a fault of the host, of out of memory, and of such a pattern of the project's own text.
+abbrev pub IfRefusal : Option Refusal → (Refusal → Type 0) → Type 0
+IfRefusal None Holds = Unit {0}
+IfRefusal (Some why) Holds = Holds why
+
+abbrev pub Tells : (Option Text → Result Planned Refusal → Type 0) → Result Made Stop → Type 0
+Tells Holds (Ok plan) = Holds None (Ok (seen plan))
+Tells Holds (Err (Refused why)) = IfRefusal (refusal_of why) (λ found. Holds (pattern_of why) (Err found))
+Tells Holds (Err Host) = Unit {0}
+Tells Holds (Err OutOfMemory) = Unit {0}
+
+-- the call of a pattern, by the turns left in it
+abbrev pub call_of : ℕ → Option Text → Option (ℕ × Text)
+call_of left = option_map (λ pattern. (left, pattern))
+
+-- the answer is what the files and the words come to
+abbrev pub IsPrepared : Disk → List Text → List Text → Result Made Stop → Type 0
+IsPrepared disk words lines = Tells (λ pattern result. (left : ℕ) × Means disk (call_of left pattern) words lines result)
+
+-- no fault of the host and no out of memory is within a refusal
+abbrev pub IsWhole : Stop → Type 0
+IsWhole (Refused why) = IsWholeRefusal why
+IsWhole Host = Unit {0}
+IsWhole OutOfMemory = Unit {0}
+
+-- the count of faults rose where the host failed, and stays with every other answer but out of memory
+abbrev pub CountsStop : Stop → Outside → Outside → Type 0
+CountsStop (Refused why) before after = after.faults ≡ before.faults
+CountsStop Host before after = Rose before.faults after.faults
+CountsStop OutOfMemory before after = Unit {0}
+
+abbrev pub Counts : Result Made Stop → Outside → Outside → Type 0
+Counts (Ok plan) before after = after.faults ≡ before.faults
+Counts (Err stop) before after = CountsStop stop before after

@@ -1,0 +1,7 @@
+//! From the free words of a command and the files of a folder to a plan: the projects are loaded, the request is read by what they
+//! declare, and what it asks for is planned.
+#![tactic(auto)]
+
+pub mod laws;
+pub mod prepare;
+pub mod refusal;
