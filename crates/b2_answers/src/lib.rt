@@ -1,0 +1,4 @@
+//! How a call of the program ends.
+#![tactic(auto)]
+
+pub mod answer;

@@ -1,0 +1,4 @@
+pub mod WritingLemmas
+pub mod WordLemmas
+pub mod FaultLemmas
+pub mod ShowLemmas

@@ -1,0 +1,5 @@
+pub mod Modes
+pub mod Looks
+pub mod Causes
+pub mod Shows
+pub mod Writing

@@ -1,0 +1,8 @@
+//! The look command: the table or the steps of a plan that is not carried out; and which command words are.
+#![tactic(auto)]
+
+mod lines;
+mod look;
+pub mod mode;
+pub mod show;
+mod tell;
