@@ -6,11 +6,13 @@ mod words;
 use crate::words::{WordsFault, words_of};
 use b2_realhost::real_host::RealHost;
 use b2_realhost::real_sink::RealSink;
+use b2_show::mode::{Mode, mode_of};
+use b2_show::show::show_b2;
 use b2_top::answer::Answer;
 use b2_top::run::run_b2;
 use std::process::ExitCode;
 
-/// Builds the project in the present folder, and ends with the status of the answer.
+/// Builds the project in the present folder, or shows what it means, as the words ask for; and ends with the status of the answer.
 fn main(rt: HostRuntime) -> ExitCode {
     let words = match words_of(&rt) {
         Ok(words) => words,
@@ -19,6 +21,11 @@ fn main(rt: HostRuntime) -> ExitCode {
     };
     let mut host = RealHost::new(rt);
     let mut out = RealSink::new(rt);
-    let answer = run_b2(rt.alloc(), words.as_slice(), &mut host, &mut out);
-    ExitCode::from(answer.status())
+    let status = match mode_of(words.as_slice()) {
+        Mode::Look => show_b2(rt.alloc(), words.as_slice(), &mut host, &mut out).status(),
+        Mode::Build | Mode::Drill => {
+            run_b2(rt.alloc(), words.as_slice(), &mut host, &mut out).status()
+        }
+    };
+    ExitCode::from(status)
 }
