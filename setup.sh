@@ -1,5 +1,6 @@
 #!/bin/sh
-# Proves and builds b2 with the libraries below it, leaves the program at ./b2, and builds the project in examples/hello.
+# Proves and builds b2 with the libraries below it, leaves the program at ./b2, builds the project in examples/hello, and shows the one
+# in examples/demo.
 set -eu
 cd "$(dirname "$0")"
 top=$(pwd)
@@ -21,8 +22,8 @@ crates_below() {
 
 crates=$(crates_below b2_cmd)
 count=$(echo "$crates" | wc -l)
-echo "b2 is $count crates, and each is proved before it is built. From nothing that takes about 15 minutes of processor"
-echo "time, 4 GB of memory, and 2 GB of disk in crates/*/out; later runs prove only what has changed."
+echo "b2 is $count crates, and each is proved before it is built. From nothing that takes about two hours of processor"
+echo "time, 4 GB of memory, and 5 GB of disk in crates/*/out; later runs prove only what has changed."
 mkdir -p "$logs"
 number=0
 for crate in $crates; do
@@ -50,3 +51,5 @@ echo "The program is $top/b2. It builds examples/hello:"
 rm -rf examples/hello/bin
 (cd examples/hello && "$top/b2")
 cat examples/hello/bin/greeting.txt
+echo "The steps of examples/demo, which it does not build yet:"
+(cd examples/demo && "$top/b2" -n release)
