@@ -25,7 +25,7 @@ use Rattle.b2_generate.specs.declared.fault.GenFault.TheVariants as generating
 use Rattle.b2_front.specs.Laws.{OneMeaning}
 use Rattle.b2_front.specs.Meaning.{Refusal as Why, of_load, of_request, of_generation, Means}
 use Rattle.b2_front.specs.Preparing.{IfRefusal, call_of}
-use Rattle.b2_front.specs.Refusals.{refusal_of, pattern_of as front_pattern, HoldsInput}
+use Rattle.b2_front.specs.Refusals.{refusal_of, pattern_of as front_pattern, IsWholeRefusal}
 use Rattle.b2_front.specs.declared.refusal.Refusal.{Refusal}
 use Rattle.b2_front.specs.declared.refusal.Refusal.TheVariants as refusals
 use Rattle.b2_refusals.specs.Wholes.{IsEvalRefusal, IsLoadRefusal, IsChoiceRefusal, IsMakingRefusal, IsGenRefusal, IsWhole}
@@ -41,7 +41,7 @@ eval_whole evaluating.Host why e h = none_some why e
 eval_whole evaluating.OutOfMemory why e h = none_some why e
 eval_whole (evaluating.At path line cause) why e h = h
 
-load_whole : (fault : LoadFault) → HoldsInput (refusals.Load fault) → IsLoadRefusal fault
+load_whole : (fault : LoadFault) → IsWholeRefusal (refusals.Load fault) → IsLoadRefusal fault
 load_whole loading.NoJamroot h = tt
 load_whole (loading.NoJamfile dir) h = tt
 load_whole (loading.TooBig path size) h = tt
@@ -53,13 +53,13 @@ load_whole (loading.Feature path line fault) h = λ is. none_some h.0 (sym (ap (
 load_whole loading.Host h = h
 load_whole loading.OutOfMemory h = h
 
-request_whole : (fault : RequestFault) → HoldsInput (refusals.Request fault) → fault ≢ asking.OutOfMemory
+request_whole : (fault : RequestFault) → IsWholeRefusal (refusals.Request fault) → fault ≢ asking.OutOfMemory
 request_whole (asking.UnknownWord word) h = λ is. cc
 request_whole (asking.UnknownValue word) h = λ is. cc
 request_whole (asking.Conflict word) h = λ is. cc
 request_whole asking.OutOfMemory h = absurd h
 
-choice_whole : (fault : ChoiceFault EvalFault) → HoldsInput (refusals.Generation (generating.NotChosen fault)) → IsChoiceRefusal fault
+choice_whole : (fault : ChoiceFault EvalFault) → IsWholeRefusal (refusals.Generation (generating.NotChosen fault)) → IsChoiceRefusal fault
 choice_whole (choosing.NoAlternative target set) h = tt
 choice_whole (choosing.AmbiguousAlternative target set i k) h = tt
 choice_whole (choosing.Unstable target first second) h = tt
@@ -69,7 +69,7 @@ choice_whole (choosing.Eval evaluating.OutOfMemory) h = h
 choice_whole (choosing.Eval (evaluating.At path line cause)) h = h
 choice_whole choosing.OutOfMemory h = h
 
-making_whole : (fault : MakingFault EvalFault) → HoldsInput (refusals.Generation (generating.NotMade fault)) → IsMakingRefusal fault
+making_whole : (fault : MakingFault EvalFault) → IsWholeRefusal (refusals.Generation (generating.NotMade fault)) → IsMakingRefusal fault
 making_whole (making.NoChain from to) h = tt
 making_whole (making.TwoChains from to first second) h = tt
 making_whole (making.PathClash path) h = tt
@@ -80,7 +80,7 @@ making_whole (making.Eval evaluating.OutOfMemory) h = h
 making_whole (making.Eval (evaluating.At path line cause)) h = h
 making_whole making.OutOfMemory h = h
 
-generation_whole : (fault : GenFault EvalFault) → HoldsInput (refusals.Generation fault) → IsGenRefusal fault
+generation_whole : (fault : GenFault EvalFault) → IsWholeRefusal (refusals.Generation fault) → IsGenRefusal fault
 generation_whole (generating.NoTarget name) h = tt
 generation_whole (generating.TargetCycle targets) h = tt
 generation_whole (generating.UsageConflict target feature first second) h = tt
@@ -88,14 +88,14 @@ generation_whole (generating.NotChosen fault) h = choice_whole fault h
 generation_whole (generating.NotMade fault) h = making_whole fault h
 generation_whole generating.OutOfMemory h = h
 
-pub whole_of : (why : Refusal) → HoldsInput why → IsWhole (fault_of why)
+pub whole_of : (why : Refusal) → IsWholeRefusal why → IsWhole (fault_of why)
 whole_of (refusals.Load fault) h = load_whole fault h
 whole_of (refusals.Request fault) h = request_whole fault h
 whole_of (refusals.Generation fault) h = generation_whole fault h
 
 -- ---- where there is a plan, only a pattern can have been refused
 
-load_found : (fault : LoadFault) → HoldsInput (refusals.Load fault) → (why : LoadRefusal) × (load_refusal fault ≡ Some why)
+load_found : (fault : LoadFault) → IsWholeRefusal (refusals.Load fault) → (why : LoadRefusal) × (load_refusal fault ≡ Some why)
 load_found loading.NoJamroot h = h
 load_found (loading.NoJamfile dir) h = h
 load_found (loading.TooBig path size) h = h
@@ -122,7 +122,7 @@ module _ (law : OneMeaning) (disk : Disk) (words echoes others : List Text) (pla
   by_load : (fault : LoadFault) → (why : LoadRefusal) × (load_refusal fault ≡ Some why) → IfRefusal (option_map of_load (load_refusal fault)) (IsTold (load_refused_by fault)) → (p : Text) × (load_refused_by fault ≡ Some p)
   by_load fault found told = by_pattern (load_refused_by fault) (of_load found.0) (subst (λ o. IfRefusal (option_map of_load o) (IsTold (load_refused_by fault))) found.1 told)
 
-  by_request : (fault : RequestFault) → HoldsInput (refusals.Request fault) → IfRefusal (refusal_of (refusals.Request fault)) (IsTold None) → ⊥
+  by_request : (fault : RequestFault) → IsWholeRefusal (refusals.Request fault) → IfRefusal (refusal_of (refusals.Request fault)) (IsTold None) → ⊥
   by_request (asking.UnknownWord word) h told = no_refusal (of_request (asking.UnknownWord word)) told
   by_request (asking.UnknownValue word) h told = no_refusal (of_request (asking.UnknownValue word)) told
   by_request (asking.Conflict word) h told = no_refusal (of_request (asking.Conflict word)) told
@@ -132,7 +132,7 @@ module _ (law : OneMeaning) (disk : Disk) (words echoes others : List Text) (pla
   by_evaluation None fault told = absurd (no_refusal (of_generation fault) told)
   by_evaluation (Some p) fault told = (p, refl)
 
-  by_choice : (fault : ChoiceFault EvalFault) → HoldsInput (refusals.Generation (generating.NotChosen fault)) → IfRefusal (refusal_of (refusals.Generation (generating.NotChosen fault))) (IsTold None)
+  by_choice : (fault : ChoiceFault EvalFault) → IsWholeRefusal (refusals.Generation (generating.NotChosen fault)) → IfRefusal (refusal_of (refusals.Generation (generating.NotChosen fault))) (IsTold None)
       → (p : Text) × (pattern_of_choice fault ≡ Some p)
   by_choice (choosing.NoAlternative target set) h told = absurd (no_refusal (of_generation (not_chosen (choosing.NoAlternative target set))) told)
   by_choice (choosing.AmbiguousAlternative target set i k) h told = absurd (no_refusal (of_generation (not_chosen (choosing.AmbiguousAlternative target set i k))) told)
@@ -144,7 +144,7 @@ module _ (law : OneMeaning) (disk : Disk) (words echoes others : List Text) (pla
       by_evaluation (refused_by (evaluating.At path line why)) (not_chosen (choosing.Eval (evaluating.At path line why))) told
   by_choice choosing.OutOfMemory h told = absurd h
 
-  by_making : (fault : MakingFault EvalFault) → HoldsInput (refusals.Generation (generating.NotMade fault)) → IfRefusal (refusal_of (refusals.Generation (generating.NotMade fault))) (IsTold None)
+  by_making : (fault : MakingFault EvalFault) → IsWholeRefusal (refusals.Generation (generating.NotMade fault)) → IfRefusal (refusal_of (refusals.Generation (generating.NotMade fault))) (IsTold None)
       → (p : Text) × (pattern_of_making fault ≡ Some p)
   by_making (making.NoChain from to) h told = absurd (no_refusal (of_generation (not_made (made.no_chain from to))) told)
   by_making (making.TwoChains from to first second) h told = absurd (no_refusal (of_generation (not_made (made.two_chains from to first second))) told)
@@ -157,7 +157,7 @@ module _ (law : OneMeaning) (disk : Disk) (words echoes others : List Text) (pla
       by_evaluation (refused_by (evaluating.At path line why)) (not_made (made.eval (evaluating.At path line why))) told
   by_making making.OutOfMemory h told = absurd h
 
-  by_generation : (fault : GenFault EvalFault) → HoldsInput (refusals.Generation fault) → IfRefusal (refusal_of (refusals.Generation fault)) (IsTold None)
+  by_generation : (fault : GenFault EvalFault) → IsWholeRefusal (refusals.Generation fault) → IfRefusal (refusal_of (refusals.Generation fault)) (IsTold None)
       → (p : Text) × (pattern_of_generation fault ≡ Some p)
   by_generation (generating.NoTarget name) h told = absurd (no_refusal (of_generation (no_target name)) told)
   by_generation (generating.TargetCycle targets) h told = absurd (no_refusal (of_generation (target_cycle targets)) told)
@@ -166,7 +166,7 @@ module _ (law : OneMeaning) (disk : Disk) (words echoes others : List Text) (pla
   by_generation (generating.NotMade fault) h told = by_making fault h told
   by_generation generating.OutOfMemory h told = absurd h
 
-  pub pattern_refused : (why : Refusal) → HoldsInput why → IfRefusal (refusal_of why) (IsTold (front_pattern why)) → IsOfPattern (fault_of why)
+  pub pattern_refused : (why : Refusal) → IsWholeRefusal why → IfRefusal (refusal_of why) (IsTold (front_pattern why)) → IsOfPattern (fault_of why)
   pattern_refused (refusals.Load fault) h told = by_load fault (load_found fault h) told
   pattern_refused (refusals.Request fault) h told = absurd (by_request fault h told)
   pattern_refused (refusals.Generation fault) h told = by_generation fault h told

@@ -11,7 +11,7 @@ use Rattle.b2_generate.specs.Plans.{seen}
 use Rattle.b2_front.specs.Laws.{OneMeaning}
 use Rattle.b2_front.specs.Meaning.{Means}
 use Rattle.b2_front.specs.Preparing.{IsPrepared, IsWhole as IsWholeStop, Counts}
-use Rattle.b2_front.specs.Refusals.{HoldsInput}
+use Rattle.b2_front.specs.Refusals.{IsWholeRefusal}
 use Rattle.b2_front.specs.declared.refusal.Refusal.{Refusal}
 use Rattle.b2_front.specs.declared.refusal.Refusal.TheVariants as refusals
 use Rattle.b2_front.specs.declared.refusal.Stop.{Stop}
@@ -191,7 +191,7 @@ module _ (law : OneMeaning) (words : List Word) (look : Look) (asked : look_of w
         (λ part front. if_map h0.disk (λ disk h. report (shown whole_look (is_shown disk h) front)) told))
 
   -- there is none
-  module _ (why : Refusal) (told : IsTold (Err (stops.Refused why))) (input : HoldsInput why) (same : h1.faults ≡ h0.faults) where
+  module _ (why : Refusal) (told : IsTold (Err (stops.Refused why))) (input : IsWholeRefusal why) (same : h1.faults ≡ h0.faults) where
     abbrev whole_refusal : List ℕ
     whole_refusal = refusal_report echoes (fault_of why)
 

@@ -1,7 +1,7 @@
 //! What the answer of a look is, and what is written with it.
 ghost use Rattle.std.specs.Prelude.{◌≡◌, IfErr};
 ghost use Rattle.b2_front.specs.Preparing.{IsWhole as IsWholeStop};
-ghost use Rattle.b2_front.specs.Refusals.{HoldsInput};
+ghost use Rattle.b2_front.specs.Refusals.{IsWholeRefusal};
 ghost use Rattle.b2_generate.specs.Plans.{seen};
 ghost use Rattle.b2_refusals.specs.Lines.{usage_line};
 ghost use Rattle.b2_refusals.specs.Wholes.{IsWhole};
@@ -86,7 +86,7 @@ fn tell_host_fault<S: Sink>(alloc: Global, echoes: &[Text], out: &mut S) -> Answ
 /// The refusal as the program's own.
 fn fault_of(refusal: Refusal) -> Fault
     ensures fault { result ≡ fault_of refusal }
-    ensures whole { HoldsInput refusal → IsWhole result }
+    ensures whole { IsWholeRefusal refusal → IsWhole result }
 {
     match refusal {
         Refusal::Load(fault) => Fault::Load(fault),
