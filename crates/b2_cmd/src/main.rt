@@ -21,11 +21,16 @@ fn main(rt: HostRuntime) -> ExitCode {
     };
     let mut host = RealHost::new(rt);
     let mut out = RealSink::new(rt);
-    let status = match mode_of(words.as_slice()) {
-        Mode::Look => show_b2(rt.alloc(), words.as_slice(), &mut host, &mut out).status(),
-        Mode::Build | Mode::Drill => {
-            run_b2(rt.alloc(), words.as_slice(), &mut host, &mut out).status()
+    match mode_of(words.as_slice()) {
+        Mode::Look => {
+            let answer = show_b2(rt.alloc(), words.as_slice(), &mut host, &mut out);
+            let status = answer.status();
+            drop(answer);
+            ExitCode::from(status)
         }
-    };
-    ExitCode::from(status)
+        Mode::Build | Mode::Drill => {
+            let answer = run_b2(rt.alloc(), words.as_slice(), &mut host, &mut out);
+            ExitCode::from(answer.status())
+        }
+    }
 }
