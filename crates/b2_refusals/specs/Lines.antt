@@ -29,7 +29,7 @@ abbrev pub host_fault_line : List ℕ
 host_fault_line = own_line (codes "host fault")
 
 abbrev pub usage_line : List ℕ
-usage_line = own_line (codes "usage: b2 [-jN] [-a] [-q] [-n or --show] [word ..], or b2 --drill=N")
+usage_line = own_line (codes "usage: b2 [-jN] [-a] [-q] [--by=digest] [-n or --show] [word ..], or b2 --drill=N")
 
 -- ---- looks
 

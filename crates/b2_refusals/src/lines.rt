@@ -18,7 +18,7 @@ use std::alloc::Global;
 pub fn usage_line() -> &'static str
     ensures { result.now ≡ usage_line }
 {
-    "b2: usage: b2 [-jN] [-a] [-q] [-n or --show] [word ..], or b2 --drill=N\n"
+    "b2: usage: b2 [-jN] [-a] [-q] [--by=digest] [-n or --show] [word ..], or b2 --drill=N\n"
 }
 
 /// The line of a fault of the host.
