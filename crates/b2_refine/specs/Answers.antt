@@ -7,6 +7,10 @@ use Rattle.b2_props.specs.declared.requirement.Requirement.TheVariants.{Plain, I
 abbrev pub Answer : Type 0 → Type 0
 Answer F = ℕ → List Pair → Result (List Pair) F
 
+-- a fault is the one of an answer, unless it is one of the host or out of memory
+abbrev pub IsFaultOf : {F T : Type 0} → (F → Bool) → (F → Bool) → Result T F → F → Type 0
+IsFaultOf is_host is_memory answer fault = is_host fault ≡ false → is_memory fault ≡ false → answer ≡ Err fault
+
 -- a requirement asks none but the rules below a number
 abbrev pub AsksBelow : ℕ → Requirement → Type 0
 AsksBelow rules (Plain conditions property) = Unit {0}

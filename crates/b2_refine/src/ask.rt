@@ -1,6 +1,6 @@
 //! Rules that answer for a set.
-ghost use Rattle.std.specs.Prelude.{◌≡◌, ◌<◌, ℕ, Bool, false, Option, Some, Ok, Err, IfOk, IfErr};
-ghost use Rattle.b2_refine.specs.Answers.{Answer, IsCounted};
+ghost use Rattle.std.specs.Prelude.{◌≡◌, ◌<◌, ℕ, Bool, Option, Some, Ok, IfOk, IfErr};
+ghost use Rattle.b2_refine.specs.Answers.{Answer, IsFaultOf, IsCounted};
 
 use b2_props::pair_list::PairList;
 use b2_props::props::Props;
@@ -40,7 +40,7 @@ pub trait Ask {
     fn ask(&mut self, rule: usize, set: &Props) -> Result<PairList, Self::Fault>
         requires { rule < rules self.old }
         ensures told { (told : Answer Self.Fault) → answer self.old ≡ Some told → IfOk result (λ pairs. told rule set.now ≡ Ok pairs) }
-        ensures told_fault { (told : Answer Self.Fault) → answer self.old ≡ Some told → IfErr result (λ fault. is_host_fault fault ≡ false → is_out_of_memory fault ≡ false → told rule set.now ≡ Err fault) }
+        ensures told_fault { (told : Answer Self.Fault) → answer self.old ≡ Some told → IfErr result (IsFaultOf is_host_fault is_out_of_memory (told rule set.now)) }
         ensures known { IfErr result (CanFault (kept self.old)) }
         ensures counted { IsCounted is_host_fault is_out_of_memory (faults self.old) (faults self.new) result }
         ensures rules { rules self.new ≡ rules self.old }
