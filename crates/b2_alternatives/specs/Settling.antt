@@ -3,12 +3,15 @@ use Rattle.std.specs.Prelude.{◌≡◌, ℕ, Bool, true, List, Option, Some, Re
 use Rattle.b2_props.specs.Sets.{Pair, IsSet}
 use Rattle.b2_props.specs.declared.requirement.Requirement.{Requirement}
 use Rattle.b2_refine.specs.Conditions.{IsSettled}
+use Rattle.b2_metatargets.specs.declared.place.Target.{Target}
 use Rattle.b2_metatargets.specs.declared.whole.Declared.{Declared}
 use Rattle.b2_references.specs.Names.{Name, features, is_target, target_text}
 use Rattle.b2_evaluation.specs.Answers.{Answers}
-use Rattle.b2_alternatives.specs.Choosing.{answer, Chooses}
+use Rattle.b2_evaluation.specs.declared.evaluate.Evaluate.{Ghosts as Evaluate}
+use Rattle.b2_alternatives.specs.Choosing.{answer, requirements, Chooses}
 use Rattle.b2_alternatives.specs.Asking.{HoldsOf, IsRefusal, Leaves}
 use Rattle.b2_alternatives.specs.Picking.{seen}
+use Rattle.b2_alternatives.specs.declared.asker.Asker.{Asker}
 use Rattle.b2_alternatives.specs.declared.fault.ChoiceFault.{ChoiceFault}
 use Rattle.b2_alternatives.specs.declared.choosing.Chosen.{Chosen as Settled}
 
@@ -38,3 +41,29 @@ module _ {S E K : Type 0} (answers : S → Option (Answers E)) (kept : S → K) 
   abbrev pub IsChoosing : Declared → Declared → S → S → Name → List Pair → Result Settled (ChoiceFault E) → Type 0
   IsChoosing d after old new name set result =
       Tells (λ told c. Chooses d told.returned name set (Ok (seen name c))) (λ told fault. Chooses d told.returned name set (Err fault)) (IsGood d name) d after old new result
+
+-- ---- the same of an asker before and after a call
+
+module _ {S E : Type 0} (e : Evaluate S E) where
+  -- what requirements make of a full set, for a main target
+  abbrev pub Settles : Asker S → Asker S → Name → List Pair → List Requirement → Result (List Pair) (ChoiceFault E) → Type 0
+  Settles old new name full required result =
+      IsSettling e.answers e.kept e.faults e.is_host_fault e.is_out_of_memory e.CanFault old.index.now new.index.now old.evaluator new.evaluator name full required result
+
+  -- what the requirements of an alternative make of it
+  abbrev pub SettlesFor : Asker S → Asker S → Name → List Pair → Target → Result (List Pair) (ChoiceFault E) → Type 0
+  SettlesFor old new name full target result = Settles old new name full (requirements old.index.now target) result
+
+  -- what is chosen for a main target and a set
+  abbrev pub ChoosesBy : Asker S → Asker S → Name → List Pair → Result Settled (ChoiceFault E) → Type 0
+  ChoosesBy old new name set result =
+      IsChoosing e.answers e.kept e.faults e.is_host_fault e.is_out_of_memory e.CanFault old.index.now new.index.now old.evaluator new.evaluator name set result
+
+  -- nothing is chosen, for the reason that is answered, unless that is the host or memory
+  abbrev pub RefusesBy : {T : Type 0} → Asker S → Answers E → Name → List Pair → Result T (ChoiceFault E) → Type 0
+  RefusesBy asker told name set result =
+      IfErr result (HoldsOf e.is_host_fault e.is_out_of_memory (λ fault. Chooses asker.index.now told.returned name set (Err fault)))
+
+-- what is answered is chosen
+abbrev pub GivesBy : {S E F : Type 0} → Asker S → Answers E → Name → List Pair → Result Settled F → Type 0
+GivesBy asker told name set result = IfOk result (λ c. Chooses asker.index.now told.returned name set (Ok (seen name c)))

@@ -1,5 +1,5 @@
 //! The alternative of a main target, and what its requirements make of a set.
-ghost use Rattle.std.specs.Prelude.{◌≡◌, ◌++◌, true, not, is_some, filter, Some, All, Ok, Err, length, IfOk, IfErr};
+ghost use Rattle.std.specs.Prelude.{◌≡◌, ◌++◌, true, not, is_some, filter, Some, All, length, IfOk};
 ghost use Rattle.std.specs.FinMap as map;
 ghost use Rattle.b2_props.specs.Sets.{IsSet};
 ghost use Rattle.b2_references.specs.Names.{features, is_target, target_text};
@@ -7,10 +7,10 @@ ghost use Rattle.b2_references.specs.Requests.{missing};
 ghost use Rattle.b2_refine.specs.Answers.{AsksBelow};
 ghost use Rattle.b2_evaluation.specs.Answers.{Answers};
 ghost use Rattle.b2_alternatives.specs.declared.fault.ChoiceFault.TheVariants as faults;
-ghost use Rattle.b2_alternatives.specs.Choosing.{full_set, requirements, Chooses};
-ghost use Rattle.b2_alternatives.specs.Asking.{HoldsOf, Leaves};
-ghost use Rattle.b2_alternatives.specs.Picking.{seen, IsPicked, IsSelection, IsSelected, IsNumbered};
-ghost use Rattle.b2_alternatives.specs.Settling.{IsSettling, IsChoosing};
+ghost use Rattle.b2_alternatives.specs.Choosing.{full_set, requirements};
+ghost use Rattle.b2_alternatives.specs.Asking.{Leaves};
+ghost use Rattle.b2_alternatives.specs.Picking.{IsPicked, IsSelection, IsSelected, IsNumbered};
+ghost use Rattle.b2_alternatives.specs.Settling.{Settles, SettlesFor, ChoosesBy, GivesBy, RefusesBy};
 
 use crate::asker::Asker;
 use crate::conditions::{conditions, requirements};
@@ -213,7 +213,7 @@ fn settle<E: Evaluate + Drop>(
 ) -> Result<Props, ChoiceFault<E::Fault>>
     requires set { IsSet (features (asker.old.index.now)) full.now }
     requires rules { All (AsksBelow (length (asker.old.index.now).indirect)) required.now }
-    ensures { IsSettling E.answers E.kept E.faults E.is_host_fault E.is_out_of_memory E.CanFault (asker.old.index.now) (asker.new.index.now) asker.old.evaluator asker.new.evaluator asker.old.name full.now required.now result }
+    ensures { Settles E.Evaluate asker.old asker.new asker.old.name full.now required.now result }
 {
     let index = asker.index;
     match evaluate(
@@ -241,7 +241,7 @@ fn settle_for<E: Evaluate + Drop>(
 ) -> Result<Props, ChoiceFault<E::Fault>>
     requires set { IsSet (features (asker.old.index.now)) full.now }
     requires rules { All (AsksBelow (length (asker.old.index.now).indirect)) (requirements (asker.old.index.now) target.now) }
-    ensures { IsSettling E.answers E.kept E.faults E.is_host_fault E.is_out_of_memory E.CanFault (asker.old.index.now) (asker.new.index.now) asker.old.evaluator asker.new.evaluator name.now full.now (requirements (asker.old.index.now) target.now) result }
+    ensures { SettlesFor E.Evaluate asker.old asker.new name.now full.now target.now result }
 {
     let required = requirements(asker.alloc, asker.index, target)?;
     asker.name = name.copy()?;
@@ -257,7 +257,7 @@ fn settle_on<'a, E: Evaluate + Drop>(
 ) -> Result<Chosen<'a>, ChoiceFault<E::Fault>>
     requires numbered { IsNumbered (asker.old.index.now) }
     requires selected { IsSelection (asker.old.index.now) name.now set.now selected }
-    ensures { IsChoosing E.answers E.kept E.faults E.is_host_fault E.is_out_of_memory E.CanFault (asker.old.index.now) (asker.new.index.now) asker.old.evaluator asker.new.evaluator name.now set.now result }
+    ensures { ChoosesBy E.Evaluate asker.old asker.new name.now set.now result }
 {
     match settle_for(asker, name, &selected.full, selected.target) {
         Err(fault) => Err(fault),
@@ -275,7 +275,7 @@ fn choose_by<'a, E: Evaluate + Drop>(
     set: &Props,
 ) -> Result<Chosen<'a>, ChoiceFault<E::Fault>>
     requires { IsNumbered (asker.old.index.now) }
-    ensures { IsChoosing E.answers E.kept E.faults E.is_host_fault E.is_out_of_memory E.CanFault (asker.old.index.now) (asker.new.index.now) asker.old.evaluator asker.new.evaluator name.now set.now result }
+    ensures { ChoosesBy E.Evaluate asker.old asker.new name.now set.now result }
 {
     match select(asker.alloc, asker.index, name, set) {
         Err(fault) => Err(fault),
@@ -292,8 +292,8 @@ pub fn choose<'a, E: Evaluate + Drop>(
     set: &Props,
 ) -> Result<Chosen<'a>, ChoiceFault<E::Fault>>
     requires { IsNumbered (asker.old.index.now) }
-    ensures chosen { (told : Answers E.Fault) → E.answers asker.old.evaluator ≡ Some told → IfOk result (λ c. Chooses (asker.old.index.now) told.returned name.now set.now (Ok (seen name.now c))) }
-    ensures refused { (told : Answers E.Fault) → E.answers asker.old.evaluator ≡ Some told → IfErr result (HoldsOf E.is_host_fault E.is_out_of_memory (λ fault. Chooses (asker.old.index.now) told.returned name.now set.now (Err fault))) }
+    ensures chosen { (told : Answers E.Fault) → E.answers asker.old.evaluator ≡ Some told → GivesBy asker.old told name.now set.now result }
+    ensures refused { (told : Answers E.Fault) → E.answers asker.old.evaluator ≡ Some told → RefusesBy E.Evaluate asker.old told name.now set.now result }
     ensures set { IfOk result (λ c. IsSet (features (asker.old.index.now)) c.set) }
     ensures target { IfOk result (λ _. is_target (asker.old.index.now) name.now ≡ true) }
     ensures leaves { Leaves E.answers E.kept E.faults E.is_host_fault E.is_out_of_memory E.CanFault asker.old.evaluator asker.new.evaluator result }

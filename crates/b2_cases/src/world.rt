@@ -5,6 +5,8 @@ use crate::shown::{calls_shown, count_shown, end_shown, events_shown, files_show
 use b2_base::path::{Path, PathFault};
 use b2_base::text::Text;
 use b2_memory::memory::CallKind;
+use b2_show::mode::{Mode, mode_of};
+use b2_show::show::show_b2;
 use b2_top::run::run_b2;
 use std::alloc::Global;
 use transcript::answer::Answer;
@@ -70,6 +72,17 @@ fn repeated(alloc: Global, text: &str, times: u32) -> Result<String, CaseFault> 
 /// The answer where a child process is left, beside which no further run may begin.
 fn child_left(alloc: Global) -> Result<Answer, CaseFault> {
     Answer::line(alloc, "a child process is left")
+}
+
+/// `mode_of WORD ..`: what the program is called for.
+fn mode_shown(alloc: Global, command: &Command) -> Result<Answer, CaseFault> {
+    let words = texts_of(alloc, command.words())?;
+    let mode = match mode_of(words.as_slice()) {
+        Mode::Build => "Build",
+        Mode::Look => "Look",
+        Mode::Drill => "Drill",
+    };
+    Answer::line(alloc, mode)
 }
 
 impl World {
@@ -165,16 +178,34 @@ impl World {
         Ok(Answer::new(alloc))
     }
 
-    /// `run_b2 WORD ..`: runs the program with these words.
+    /// A sink, of which the write fails that is to fail in the next run.
+    fn sink(&mut self, alloc: Global) -> CaseSink {
+        let out = CaseSink::new(alloc, self.failing);
+        self.failing = NO_FAULT;
+        out
+    }
+
+    /// `run_b2 WORD ..`: a build with these words.
     fn run_b2(&mut self, alloc: Global, command: &Command) -> Result<Answer, CaseFault> {
         let words = texts_of(alloc, command.words())?;
         if !self.host.is_idle() {
             return child_left(alloc);
         }
-        let mut out = CaseSink::new(alloc, self.failing);
-        self.failing = NO_FAULT;
+        let mut out = self.sink(alloc);
         let ended = run_b2(alloc, words.as_slice(), &mut self.host, &mut out);
-        end_shown(alloc, &ended, out.bytes())
+        let shown = end_shown(alloc, &ended, out.bytes());
+        drop(ended);
+        shown
+    }
+
+    /// `show_b2 WORD ..`: a look with these words.
+    fn show_b2(&mut self, alloc: Global, command: &Command) -> Result<Answer, CaseFault> {
+        let words = texts_of(alloc, command.words())?;
+        let mut out = self.sink(alloc);
+        let ended = show_b2(alloc, words.as_slice(), &mut self.host, &mut out);
+        let shown = end_shown(alloc, &ended, out.bytes());
+        drop(ended);
+        shown
     }
 
     /// Commands that prepare a run.
@@ -208,6 +239,8 @@ impl Session for World {
     fn carry_out(&mut self, alloc: Global, command: &Command) -> Result<Answer, CaseFault> {
         match command.name() {
             "run_b2" => self.run_b2(alloc, command),
+            "show_b2" => self.show_b2(alloc, command),
+            "mode_of" => mode_shown(alloc, command),
             "files" | "events" | "starts" | "calls" | "faults" => self.look(alloc, command.name()),
             _ => self.prepare(alloc, command),
         }

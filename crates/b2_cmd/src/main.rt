@@ -4,11 +4,11 @@
 mod words;
 
 use crate::words::{WordsFault, words_of};
+use b2_answers::answer::Answer;
 use b2_realhost::real_host::RealHost;
 use b2_realhost::real_sink::RealSink;
 use b2_show::mode::{Mode, mode_of};
 use b2_show::show::show_b2;
-use b2_top::answer::Answer;
 use b2_top::run::run_b2;
 use std::process::ExitCode;
 
@@ -21,16 +21,11 @@ fn main(rt: HostRuntime) -> ExitCode {
     };
     let mut host = RealHost::new(rt);
     let mut out = RealSink::new(rt);
-    match mode_of(words.as_slice()) {
-        Mode::Look => {
-            let answer = show_b2(rt.alloc(), words.as_slice(), &mut host, &mut out);
-            let status = answer.status();
-            drop(answer);
-            ExitCode::from(status)
-        }
-        Mode::Build | Mode::Drill => {
-            let answer = run_b2(rt.alloc(), words.as_slice(), &mut host, &mut out);
-            ExitCode::from(answer.status())
-        }
-    }
+    let answer = match mode_of(words.as_slice()) {
+        Mode::Look => show_b2(rt.alloc(), words.as_slice(), &mut host, &mut out),
+        Mode::Build | Mode::Drill => run_b2(rt.alloc(), words.as_slice(), &mut host, &mut out),
+    };
+    let status = answer.status();
+    drop(answer);
+    ExitCode::from(status)
 }

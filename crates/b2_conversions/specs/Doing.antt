@@ -1,6 +1,6 @@
 -- What the parts of making steps promise.
-use Rattle.std.specs.Prelude.{◌≡◌, ◌≢◌, ℕ, Bool, List, [], ◌∷◌, Option, Some, None, Result, Ok, Err, IfErr, codes}
-use Rattle.std.specs.Option.{option_map_or}
+use Rattle.std.specs.Prelude.{◌≡◌, ◌≢◌, ℕ, Bool, List, [], ◌∷◌, Option, Some, None, Result, Ok, Err, IfOk, IfErr, codes}
+use Rattle.std.specs.Option.{option_copied, option_map_or}
 use Rattle.b2_plan.specs.declared.step.Step.{Step}
 use Rattle.b2_plan.specs.Sources.{IsInRoots}
 use Rattle.b2_props.specs.Elements.{dir_text}
@@ -12,9 +12,13 @@ use Rattle.b2_generators.specs.declared.fault.ChainFault.TheVariants as chain
 use Rattle.b2_generators.specs.declared.generator.Generator.{Generator}
 use Rattle.b2_generators.specs.Table.{generator_named}
 use Rattle.b2_evaluation.specs.Answers.{Answers, IsTellable}
+use Rattle.b2_evaluation.specs.declared.evaluate.Evaluate.{Ghosts as Evaluate}
 use Rattle.jam_eval.specs.declared.step.StepText.{StepText}
 use Rattle.jam_eval.specs.Rolled.{Job, StepAnswer}
 use Rattle.jam_eval.specs.StepJobs.{step_answer}
+use Rattle.b2_conversions.specs.declared.along.Route.{Route}
+use Rattle.b2_conversions.specs.declared.entry.Entry.{Entry}
+use Rattle.b2_conversions.specs.declared.entry.Supply.{Supply}
 use Rattle.b2_conversions.specs.declared.output.Output.{Output}
 use Rattle.b2_conversions.specs.declared.setting.Setting.{Setting}
 use Rattle.b2_conversions.specs.declared.site.Site as code
@@ -22,7 +26,8 @@ use Rattle.b2_conversions.specs.declared.fault.MakingFault.{MakingFault}
 use Rattle.b2_conversions.specs.declared.fault.MakingFault.TheVariants.{NoChain, TwoChains, PathClash, LocationOutside, TooManySteps, Eval, OutOfMemory}
 use Rattle.b2_conversions.specs.Acts.{Act, Joins}
 use Rattle.b2_conversions.specs.Contexts.{Context, Site, context_of, site_of}
-use Rattle.b2_conversions.specs.Answers.{IsDone, Leaves, AreHoused, Grows}
+use Rattle.b2_conversions.specs.Conversions.{along, makes}
+use Rattle.b2_conversions.specs.Answers.{IsRefused, IsDone, Leaves, AreHoused, Grows}
 
 -- ---- faults
 
@@ -121,3 +126,23 @@ pub record Asked {S E K : Type 0} (answers : S → Option (Answers E)) (kept : S
     (job : Job) (old new : S) (result : Result StepText (MakingFault E)) : Type 0 where
   pub exact : (told : Answers E) → answers old ≡ Some told → IsTexted is_host is_memory (told.step_text job) result
   pub leaves : Leaves answers kept faults is_host is_memory CanFault old new result
+
+-- ---- the same over an evaluator of the code
+
+-- a part does an act
+abbrev pub Does : {S E A : Type 0} → Evaluate S E → (Context E → Site → Act E A) → Setting → code.Site → S → S → List Step → List Step → Result A (MakingFault E) → Type 0
+Does e act setting site old new before after result =
+    Did e.answers e.kept e.faults e.is_host_fault e.is_out_of_memory e.CanFault act setting site old new before after result
+
+-- a step for each generator of a route
+abbrev pub along_route : {E : Type 0} → Route → List Entry → Context E → Site → Act E (List Entry)
+along_route route ins c s = along c s (option_copied route.named) route.spare.now route.ids.now ins
+
+-- the steps of a main target are made, and joined to those before
+abbrev pub Makes : {E : Type 0} → Answers E → Setting → code.Site → List Step → List Step → Result Supply (MakingFault E) → Type 0
+Makes told setting site before after result = IfOk result (λ made. makes (context_of told setting) (site_of site) before (Ok (made, after)))
+
+-- they are not, for the reason that is answered, unless that is the host or memory
+abbrev pub RefusesToMake : {S E : Type 0} → Evaluate S E → Answers E → Setting → code.Site → List Step → Result Supply (MakingFault E) → Type 0
+RefusesToMake e told setting site before result =
+    IfErr result (IsRefused e.is_host_fault e.is_out_of_memory (makes (context_of told setting) (site_of site)) before)

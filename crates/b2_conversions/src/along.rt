@@ -7,8 +7,8 @@ ghost use Rattle.b2_plan.specs.declared.step.Step.{Step as PlanStep};
 ghost use Rattle.b2_props.specs.Sets.{IsSet};
 ghost use Rattle.b2_conversions.specs.Acts.{for_all};
 ghost use Rattle.b2_conversions.specs.Supplies.{is_of};
-ghost use Rattle.b2_conversions.specs.Doing.{GivesSome, if_last, Alone, Did};
-ghost use Rattle.b2_conversions.specs.Conversions.{chains, outputs_of, naming, first_tail, along, to_objects, linked};
+ghost use Rattle.b2_conversions.specs.Doing.{GivesSome, if_last, Alone, Does, along_route};
+ghost use Rattle.b2_conversions.specs.Conversions.{chains, outputs_of, naming, first_tail, to_objects, linked};
 
 use crate::entry::{Entry, EntryList, joined};
 use crate::fault::MakingFault;
@@ -98,7 +98,7 @@ fn along<V: Evaluate>(
 ) -> Result<EntryList, MakingFault<V::Fault>>
     requires set { IsSet setting.now.registry.now site.now.set.now }
     requires given { AllByRecursion (GivesSome setting.now.types.now.generators) route.now.ids.now }
-    ensures { Did V.answers V.kept V.faults V.is_host_fault V.is_out_of_memory V.CanFault (λ c s. along c s (option_copied route.now.named) route.now.spare.now route.now.ids.now ins) setting.now site.now evaluator.old evaluator.new builder.old builder.new result }
+    ensures { Does V.Evaluate (along_route route.now ins) setting.now site.now evaluator.old evaluator.new builder.old builder.new result }
 {
     let mut entries = ins;
     let ids = route.ids;
@@ -141,7 +141,7 @@ fn to_objects<V: Evaluate>(
     builder: &mut Builder,
 ) -> Result<EntryList, MakingFault<V::Fault>>
     requires set { IsSet setting.now.registry.now site.now.set.now }
-    ensures { Did V.answers V.kept V.faults V.is_host_fault V.is_out_of_memory V.CanFault (λ c s. to_objects c s entry.now) setting.now site.now evaluator.old evaluator.new builder.old builder.new result }
+    ensures { Does V.Evaluate (λ c s. to_objects c s entry.now) setting.now site.now evaluator.old evaluator.new builder.old builder.new result }
 {
     let ids = chain_ids::<V::Fault>(setting, site, entry.file_type.as_str(), "OBJ")?;
     let ins = one(setting.alloc, entry)?;
@@ -164,7 +164,7 @@ pub(crate) fn all_objects<V: Evaluate>(
     builder: &mut Builder,
 ) -> Result<EntryList, MakingFault<V::Fault>>
     requires set { IsSet setting.now.registry.now site.now.set.now }
-    ensures { Did V.answers V.kept V.faults V.is_host_fault V.is_out_of_memory V.CanFault (λ c s. for_all (to_objects c s) entries.now) setting.now site.now evaluator.old evaluator.new builder.old builder.new result }
+    ensures { Does V.Evaluate (λ c s. for_all (to_objects c s) entries.now) setting.now site.now evaluator.old evaluator.new builder.old builder.new result }
 {
     let mut made = EntryList::new(setting.alloc);
     for entry in entries {
@@ -196,7 +196,7 @@ pub(crate) fn linked<V: Evaluate>(
     builder: &mut Builder,
 ) -> Result<EntryList, MakingFault<V::Fault>>
     requires set { IsSet setting.now.registry.now site.now.set.now }
-    ensures { Did V.answers V.kept V.faults V.is_host_fault V.is_out_of_memory V.CanFault (λ c s. linked c s named.now ins) setting.now site.now evaluator.old evaluator.new builder.old builder.new result }
+    ensures { Does V.Evaluate (λ c s. linked c s named.now ins) setting.now site.now evaluator.old evaluator.new builder.old builder.new result }
 {
     let ids = chain_ids::<V::Fault>(setting, site, "OBJ", named.file_type.as_str())?;
     let list = ids.as_slice();

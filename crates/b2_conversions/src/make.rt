@@ -1,12 +1,12 @@
 //! The steps of a main target.
-ghost use Rattle.std.specs.Prelude.{◌≡◌, [], ◌++◌, not, filter, Some, Ok, IfOk, IfErr, if◌then◌else◌};
+ghost use Rattle.std.specs.Prelude.{◌≡◌, [], ◌++◌, not, filter, Some, IfOk, IfErr, if◌then◌else◌};
 ghost use Rattle.b2_props.specs.Sets.{IsSet};
 ghost use Rattle.b2_evaluation.specs.Answers.{Answers, IsCounted};
-ghost use Rattle.b2_conversions.specs.Contexts.{context_of, site_of};
+ghost use Rattle.b2_conversions.specs.Contexts.{site_of};
 ghost use Rattle.b2_conversions.specs.Supplies.{is_header, entries_of, carried_of, libraries_of};
 ghost use Rattle.b2_conversions.specs.Conversions.{links, makes_objects, makes_program, makes_library, makes_file, passes_on, makes, to_convert};
-ghost use Rattle.b2_conversions.specs.Answers.{IsRefused, IsKnownFault, is_of_eval, Grows};
-ghost use Rattle.b2_conversions.specs.Doing.{Did};
+ghost use Rattle.b2_conversions.specs.Answers.{IsKnownFault, is_of_eval, Grows};
+ghost use Rattle.b2_conversions.specs.Doing.{Does, Makes, RefusesToMake};
 
 use crate::along::{all_objects, linked};
 use crate::copies::make_copies;
@@ -49,7 +49,7 @@ fn make_objects<V: Evaluate>(
     builder: &mut Builder,
 ) -> Result<Supply, MakingFault<V::Fault>>
     requires { IsSet setting.now.registry.now site.now.set.now }
-    ensures { Did V.answers V.kept V.faults V.is_host_fault V.is_out_of_memory V.CanFault makes_objects setting.now site.now evaluator.old evaluator.new builder.old builder.new result }
+    ensures { Does V.Evaluate makes_objects setting.now site.now evaluator.old evaluator.new builder.old builder.new result }
 {
     let sources = without_headers(setting.alloc, site)?;
     let entries = sources.as_slice();
@@ -81,7 +81,7 @@ fn link<V: Evaluate>(
     builder: &mut Builder,
 ) -> Result<EntryList, MakingFault<V::Fault>>
     requires { IsSet setting.now.registry.now site.now.set.now }
-    ensures { Did V.answers V.kept V.faults V.is_host_fault V.is_out_of_memory V.CanFault (λ c s. links c s named.now with_libraries) setting.now site.now evaluator.old evaluator.new builder.old builder.new result }
+    ensures { Does V.Evaluate (λ c s. links c s named.now with_libraries) setting.now site.now evaluator.old evaluator.new builder.old builder.new result }
 {
     let sources = to_convert(setting.alloc, site)?;
     let entries = sources.as_slice();
@@ -98,7 +98,7 @@ fn make_program<V: Evaluate>(
     builder: &mut Builder,
 ) -> Result<Supply, MakingFault<V::Fault>>
     requires { IsSet setting.now.registry.now site.now.set.now }
-    ensures { Did V.answers V.kept V.faults V.is_host_fault V.is_out_of_memory V.CanFault makes_program setting.now site.now evaluator.old evaluator.new builder.old builder.new result }
+    ensures { Does V.Evaluate makes_program setting.now site.now evaluator.old evaluator.new builder.old builder.new result }
 {
     let named = program(setting.alloc, site)?;
     let entries = link(setting, site, &named, true, evaluator, builder)?;
@@ -112,7 +112,7 @@ fn make_library<V: Evaluate>(
     builder: &mut Builder,
 ) -> Result<Supply, MakingFault<V::Fault>>
     requires { IsSet setting.now.registry.now site.now.set.now }
-    ensures { Did V.answers V.kept V.faults V.is_host_fault V.is_out_of_memory V.CanFault makes_library setting.now site.now evaluator.old evaluator.new builder.old builder.new result }
+    ensures { Does V.Evaluate makes_library setting.now site.now evaluator.old evaluator.new builder.old builder.new result }
 {
     let named = library_file(setting.alloc, setting.types, site)?;
     let entries = link(setting, site, &named, is_shared(site), evaluator, builder)?;
@@ -127,7 +127,7 @@ fn make_file<V: Evaluate>(
     builder: &mut Builder,
 ) -> Result<Supply, MakingFault<V::Fault>>
     requires { IsSet setting.now.registry.now site.now.set.now }
-    ensures { Did V.answers V.kept V.faults V.is_host_fault V.is_out_of_memory V.CanFault makes_file setting.now site.now evaluator.old evaluator.new builder.old builder.new result }
+    ensures { Does V.Evaluate makes_file setting.now site.now evaluator.old evaluator.new builder.old builder.new result }
 {
     let ins = entries_of(setting.alloc, site.parts)?;
     let named = named_file(setting.alloc, setting.types, site)?;
@@ -159,7 +159,7 @@ fn make_kind<V: Evaluate>(
     builder: &mut Builder,
 ) -> Result<Supply, MakingFault<V::Fault>>
     requires { IsSet setting.now.registry.now site.now.set.now }
-    ensures { Did V.answers V.kept V.faults V.is_host_fault V.is_out_of_memory V.CanFault makes setting.now site.now evaluator.old evaluator.new builder.old builder.new result }
+    ensures { Does V.Evaluate makes setting.now site.now evaluator.old evaluator.new builder.old builder.new result }
 {
     match site.kind {
         Kind::Obj => make_objects(setting, site, evaluator, builder),
@@ -189,8 +189,8 @@ pub fn make<V: Evaluate>(
     builder: &mut Builder,
 ) -> Result<Supply, MakingFault<V::Fault>>
     requires { IsSet setting.now.registry.now site.now.set.now }
-    ensures made { (answers : Answers V.Fault) → V.answers evaluator.old ≡ Some answers → IfOk result (λ made. makes (context_of answers setting.now) (site_of site.now) builder.old (Ok (made, builder.new))) }
-    ensures refused { (answers : Answers V.Fault) → V.answers evaluator.old ≡ Some answers → IfErr result (IsRefused V.is_host_fault V.is_out_of_memory (makes (context_of answers setting.now) (site_of site.now)) builder.old) }
+    ensures made { (told : Answers V.Fault) → V.answers evaluator.old ≡ Some told → Makes told setting.now site.now builder.old builder.new result }
+    ensures refused { (told : Answers V.Fault) → V.answers evaluator.old ≡ Some told → RefusesToMake V.Evaluate told setting.now site.now builder.old result }
     ensures grows { Grows setting.now.roots.now builder.old builder.new }
     ensures known { IfErr result (IsKnownFault (V.CanFault (V.kept evaluator.old))) }
     ensures counted { IsCounted (is_of_eval V.is_host_fault) (is_of_eval V.is_out_of_memory) (V.faults evaluator.old) (V.faults evaluator.new) result }

@@ -3,7 +3,7 @@ ghost use Rattle.std.specs.Prelude.{◌≢◌, []};
 ghost use Rattle.b2_props.specs.Sets.{IsSet};
 ghost use Rattle.jam_eval.specs.StepJobs.{job_of};
 ghost use Rattle.b2_conversions.specs.Answers.{AreHoused};
-ghost use Rattle.b2_conversions.specs.Doing.{Asked, IsJoined, Did};
+ghost use Rattle.b2_conversions.specs.Doing.{Asked, IsJoined, Does};
 ghost use Rattle.b2_conversions.specs.Steps.{asks, runs};
 
 use crate::entry::{Entry, EntryList};
@@ -46,7 +46,7 @@ fn ask<V: Evaluate>(
     builder: &mut Builder,
 ) -> Result<(), MakingFault<V::Fault>>
     requires { AreHoused setting.now.roots.now job.outs }
-    ensures { Did V.answers V.kept V.faults V.is_host_fault V.is_out_of_memory V.CanFault (λ c s. asks c s (job_of job) tt) setting.now site.now evaluator.old evaluator.new builder.old builder.new result }
+    ensures { Does V.Evaluate (λ c s. asks c s (job_of job) tt) setting.now site.now evaluator.old evaluator.new builder.old builder.new result }
 {
     let text = text_of(&job, evaluator)?;
     let step = step_of(setting.alloc, site, job, text)?;
@@ -65,7 +65,7 @@ pub(crate) fn run<V: Evaluate>(
 ) -> Result<EntryList, MakingFault<V::Fault>>
     requires set { IsSet setting.now.registry.now site.now.set.now }
     requires some { outputs.now ≢ [] }
-    ensures { Did V.answers V.kept V.faults V.is_host_fault V.is_out_of_memory V.CanFault (λ c s. runs c s name.now ins.now outputs.now) setting.now site.now evaluator.old evaluator.new builder.old builder.new result }
+    ensures { Does V.Evaluate (λ c s. runs c s name.now ins.now outputs.now) setting.now site.now evaluator.old evaluator.new builder.old builder.new result }
 {
     let made = place_all::<V::Fault>(setting, site, outputs)?;
     let outs = made.as_slice();

@@ -1,16 +1,28 @@
 -- What an open main target gives, once nothing more is due.
-use Rattle.std.specs.Prelude.{◌≡◌, ◌≤◌, ℕ, List, [], ◌∷◌, map, slice_get, codes}
+use Rattle.std.specs.Prelude.{◌≡◌, ◌≤◌, ℕ, List, [], ◌∷◌, Some, Result, Ok, Err, IfOk, IfErr, map, slice_get, codes}
 use Rattle.std.specs.List.{AllByRecursion, flat_map}
 use Rattle.std.specs.Option.{option_map_or}
+use Rattle.b2_plan.specs.declared.step.Step.{Step}
 use Rattle.b2_props.specs.Sets.{IsSet}
 use Rattle.b2_metatargets.specs.declared.whole.Declared.{Declared}
 use Rattle.b2_references.specs.Names.{features, dir_of}
+use Rattle.b2_evaluation.specs.Answers.{Answers}
+use Rattle.b2_evaluation.specs.declared.evaluate.Evaluate.{Ghosts as Evaluate}
 use Rattle.b2_alternatives.specs.Choosing.{Chosen}
+use Rattle.b2_alternatives.specs.Picking.{seen}
+use Rattle.b2_conversions.specs.declared.entry.Supply.{Supply}
+use Rattle.b2_conversions.specs.Conversions.{makes}
 use Rattle.b2_conversions.specs.Supplies.{entries_of}
 use Rattle.b2_generate.specs.Standing.{Standing}
 use Rattle.b2_generate.specs.Supplies.{is_source, is_part, is_order, supplied_by, final_set}
 use Rattle.b2_generate.specs.Answers.{Generated}
+use Rattle.b2_generate.specs.Generation.{site, Finishes}
+use Rattle.b2_generate.specs.Loaded.{context}
+use Rattle.b2_generate.specs.Machine.{standing_of}
 use Rattle.b2_generate.specs.Nodes.{latest_in}
+use Rattle.b2_generate.specs.Told.{loaded_of, IsRefusal}
+use Rattle.b2_generate.specs.declared.fault.GenFault.{GenFault}
+use Rattle.b2_generate.specs.declared.frame.Frame.{Frame}
 use Rattle.b2_generate.specs.declared.node.Node.{Node}
 use Rattle.b2_generate.specs.declared.making.Supplied.{Supplied}
 use Rattle.b2_generate.specs.declared.making.Home.{Home}
@@ -39,3 +51,26 @@ given_of c s made =
 pub record IsLatest (nodes : List Node) (children : List ℕ) (first latest : ℕ) : Type 0 where
   pub own : first ≤ latest
   pub others : AllByRecursion (λ place. latest_in nodes place ≤ latest) children
+
+-- what was chosen for an open main target
+abbrev pub chosen_of : Frame → Chosen
+chosen_of f = seen f.name f.chosen
+
+module _ {S E : Type 0} (e : Evaluate S E) (d : Declared) (roots : List (List ℕ)) (nodes : List Node) (f : Frame) where
+  -- where the project's text is told, the steps of an open main target are made, and joined to those before
+  abbrev pub StepsAreMade : S → List Step → List Step → Result Supply (GenFault E) → Type 0
+  StepsAreMade old before after result =
+      (told : Answers E) → e.answers old ≡ Some told
+      → IfOk result (λ made. makes (context (loaded_of d roots told)) (site (loaded_of d roots told) (chosen_of f) (standing_of nodes f)) before (Ok (made, after)))
+
+  -- where it is told, an open main target gives what is answered
+  abbrev pub IsFinished : S → List Step → List Step → Result Made (GenFault E) → Type 0
+  IsFinished old before after result =
+      (told : Answers E) → e.answers old ≡ Some told
+      → IfOk result (λ made. Finishes (loaded_of d roots told) (chosen_of f) (standing_of nodes f) before (Ok (given_of (chosen_of f) (standing_of nodes f) made, after)))
+
+  -- where it is told, it gives nothing for the reason that is answered, unless that is the host or memory
+  abbrev pub IsUnfinished : {T : Type 0} → S → List Step → Result T (GenFault E) → Type 0
+  IsUnfinished old before result =
+      (told : Answers E) → e.answers old ≡ Some told
+      → IfErr result (IsRefusal e.is_host_fault e.is_out_of_memory (λ fault. Finishes (loaded_of d roots told) (chosen_of f) (standing_of nodes f) before (Err fault)))

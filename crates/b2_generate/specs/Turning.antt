@@ -1,6 +1,6 @@
 -- What one turn of generation does.
-use Rattle.std.specs.Prelude.{◌≡◌, ◌<◌, ℕ, Bool, List, [], ◌∷◌, Option, Some, None, Result, Ok, Err, IfOk, OnOk, map, length, if◌then◌else◌}
-use Rattle.std.specs.Option.{option_or}
+use Rattle.std.specs.Prelude.{◌≡◌, ◌<◌, ℕ, Bool, List, [], ◌∷◌, Option, Some, None, Result, Ok, Err, IfOk, OnOk, map, length, reverse, if◌then◌else◌}
+use Rattle.std.specs.Option.{option_or, unwrap_or}
 use Rattle.std.specs.FinMap as finite
 use Rattle.b2_plan.specs.declared.step.Step.{Step}
 use Rattle.b2_props.specs.Sets.{Pair}
@@ -12,7 +12,7 @@ use Rattle.b2_conversions.specs.Answers.{Grows}
 use Rattle.b2_generate.specs.Generation.{Generates}
 use Rattle.b2_generate.specs.Loaded.{Loaded}
 use Rattle.b2_generate.specs.Machine.{standing_of, frame_of, AreKept}
-use Rattle.b2_generate.specs.Making.{given_of}
+use Rattle.b2_generate.specs.Making.{IsLatest, given_of}
 use Rattle.b2_generate.specs.Measure.{turns_left}
 use Rattle.b2_generate.specs.Nodes.{entry_in, given_by, AreAdded}
 use Rattle.b2_generate.specs.Opening.{AreReady}
@@ -20,6 +20,7 @@ use Rattle.b2_generate.specs.Remembered.{AreMade}
 use Rattle.b2_generate.specs.Stack.{IsUnderWay}
 use Rattle.b2_generate.specs.Tables.{Table}
 use Rattle.b2_generate.specs.Told.{IsRefusal, Leaves, loaded_of}
+use Rattle.b2_generate.specs.declared.completing.Nodes.{Nodes}
 use Rattle.b2_generate.specs.declared.fault.GenFault.{GenFault}
 use Rattle.b2_generate.specs.declared.frame.Frame.{Frame}
 use Rattle.b2_generate.specs.declared.making.Made.{Made}
@@ -49,6 +50,15 @@ pub record IsCompleted (d : Declared) (old : List Node) (f : Frame) (made : Made
   pub asked : node.asked ≡ f.asked
   pub gives : given_by old node ≡ given_of (seen f.name f.chosen) (standing_of old f) made
   pub ready : AreReady d new firsts
+
+-- each main target that was opened for an open one was generated first at this place or before it, and so was the open one
+abbrev pub IsLatestFor : Nodes → Frame → ℕ → Type 0
+IsLatestFor nodes f latest = IsLatest (reverse nodes.list.items) f.done (unwrap_or (finite.get nodes.firsts f.name) (length nodes.list.items)) latest
+
+-- an open main target became a further node, at the place that is answered
+abbrev pub Completes : {F : Type 0} → Nodes → Frame → Made → Nodes → Result ℕ F → Type 0
+Completes old f made new result =
+    (d : Declared) → AreReady d (reverse old.list.items) old.firsts → IfOk result (IsCompleted d (reverse old.list.items) f made (reverse new.list.items) new.firsts)
 
 -- the turns that are left for some open main targets
 abbrev pub turns_of : Declared → List Node → List Frame → ℕ

@@ -2,13 +2,11 @@
 ghost use Rattle.std.specs.Prelude.{◌≡◌, ◌≤◌, ◌⊎◌, [], Some, None, if◌then◌else◌, reverse, length, IfOk, OnOk};
 ghost use Rattle.std.specs.FinMap as finite;
 ghost use Rattle.std.specs.Option.{option_or, unwrap_or};
-ghost use Rattle.b2_metatargets.specs.declared.whole.Declared.{Declared};
 ghost use Rattle.b2_references.specs.Names.{Name, is_same};
 ghost use Rattle.b2_generate.specs.Machine.{HasPlaces};
 ghost use Rattle.b2_generate.specs.Making.{IsLatest};
 ghost use Rattle.b2_generate.specs.Nodes.{latest_in};
-ghost use Rattle.b2_generate.specs.Opening.{AreReady};
-ghost use Rattle.b2_generate.specs.Turning.{IsCompleted, IsNodeOf, IsNoted};
+ghost use Rattle.b2_generate.specs.Turning.{Completes, IsLatestFor, IsNodeOf, IsNoted};
 
 use crate::frame::Frame;
 use crate::making::Made;
@@ -146,7 +144,7 @@ impl Nodes {
     /// which a main target that was opened for it was generated first, and the place of the node before it.
     fn note(&mut self, frame: &Frame<'_>) -> Result<Noted, OutOfMemory>
         ensures noted { OnOk result (IsNoted frame.now.name (length self.old.list.items) self.old.firsts self.new.firsts) }
-        ensures latest { IfOk result (λ made. IsLatest (reverse self.old.list.items) frame.now.done (unwrap_or (finite.get self.old.firsts frame.now.name) (length self.old.list.items)) made.latest) }
+        ensures latest { IfOk result (λ made. IsLatestFor self.old frame.now made.latest) }
         ensures same { self.new.list.items ≡ self.old.list.items }
     {
         let place = self.list.len();
@@ -166,7 +164,7 @@ impl Nodes {
         made: Made,
     ) -> Result<usize, OutOfMemory>
         requires { HasPlaces (reverse self.old.list.items) frame.now.done frame.now.places }
-        ensures { (d : Declared) → AreReady d (reverse self.old.list.items) self.old.firsts → IfOk result (IsCompleted d (reverse self.old.list.items) frame.now made (reverse self.new.list.items) self.new.firsts) }
+        ensures { Completes self.old frame.now made self.new result }
     {
         let place = self.list.len();
         let noted = self.note(frame)?;

@@ -1,24 +1,16 @@
 //! What an open main target gives, once nothing more is due.
-ghost use Rattle.std.specs.Prelude.{◌≡◌, ◌++◌, ◌∷◌, [], Some, Ok, Err, map, reverse, slice_get, codes, length, IfOk, IfErr, OnOk};
-ghost use Rattle.std.specs.Option.{option_map_or};
+ghost use Rattle.std.specs.Prelude.{◌≡◌, ◌++◌, map, reverse, IfOk};
 ghost use Rattle.b2_props.specs.Sets.{IsSet};
-ghost use Rattle.b2_evaluation.specs.Answers.{Answers};
 ghost use Rattle.b2_props.specs.Refinement.{refined};
 ghost use Rattle.b2_references.specs.Names.{features};
-ghost use Rattle.b2_alternatives.specs.Picking.{seen};
 ghost use Rattle.b2_alternatives.specs.Usage.{own_usage, passed_usage};
 ghost use Rattle.b2_conversions.specs.Answers.{Grows};
-ghost use Rattle.b2_conversions.specs.Conversions.{makes};
 ghost use Rattle.b2_conversions.specs.Supplies.{entries_of, header_directories};
-ghost use Rattle.b2_generate.specs.Generation.{site, Finishes};
-ghost use Rattle.b2_generate.specs.Loaded.{context};
-ghost use Rattle.b2_generate.specs.Gathering.{named_by};
+ghost use Rattle.b2_generate.specs.Gathering.{supplied_to};
 ghost use Rattle.b2_generate.specs.Machine.{IsKept, HasPlaces, standing_of};
-ghost use Rattle.b2_generate.specs.Nodes.{entry_in};
-ghost use Rattle.b2_generate.specs.Supplies.{supplied};
 ghost use Rattle.b2_generate.specs.declared.supplies.Wanted.TheVariants.{Order};
-ghost use Rattle.b2_generate.specs.Making.{AreSupplied, IsHome, given_of};
-ghost use Rattle.b2_generate.specs.Told.{loaded_of, IsRefusal, Leaves};
+ghost use Rattle.b2_generate.specs.Making.{AreSupplied, IsHome, chosen_of, StepsAreMade, IsFinished, IsUnfinished};
+ghost use Rattle.b2_generate.specs.Told.{Leaves};
 
 use crate::fault::GenFault;
 use crate::frame::Frame;
@@ -127,7 +119,7 @@ fn order_of(
     frame: &Frame<'_>,
 ) -> Result<PathList, OutOfMemory>
     requires { HasPlaces (reverse nodes.now) frame.now.done frame.now.places }
-    ensures { IfOk result (λ made. made ≡ map (λ e. e.path) (entries_of (supplied types.now.types (map (entry_in (reverse nodes.now)) frame.now.done) [] (named_by Order (frame.now.needs.sources.needs ++ frame.now.needs.properties.needs))))) }
+    ensures { IfOk result (λ made. made ≡ map (λ e. e.path) (entries_of (supplied_to types.now.types (reverse nodes.now) frame.now Order))) }
 {
     let order = supplied(alloc, types, nodes, frame, Wanted::Order)?;
     let entries = entries_of(alloc, order.as_slice())?;
@@ -142,7 +134,7 @@ fn supplies_of(
     frame: &Frame<'_>,
 ) -> Result<Supplied, OutOfMemory>
     requires { IsKept (reverse nodes.now) index.now frame.now }
-    ensures { IfOk result (AreSupplied index.now (seen frame.now.name frame.now.chosen) (standing_of (reverse nodes.now) frame.now)) }
+    ensures { IfOk result (AreSupplied index.now (chosen_of frame.now) (standing_of (reverse nodes.now) frame.now)) }
 {
     let types = &index.declared().types;
     let sources = supplied(alloc, types, nodes, frame, Wanted::Sources)?;
@@ -184,9 +176,9 @@ fn steps_of<E: Evaluate>(
     evaluator: &mut E,
     builder: &mut Builder,
 ) -> Result<Supply, GenFault<E::Fault>>
-    requires { AreSupplied index.now (seen frame.now.name frame.now.chosen) (standing_of (reverse nodes.now) frame.now) supplied.now }
-    ensures made { (told : Answers E.Fault) → E.answers evaluator.old ≡ Some told → IfOk result (λ made. makes (context (loaded_of index.now roots.now told)) (site (loaded_of index.now roots.now told) (seen frame.now.name frame.now.chosen) (standing_of (reverse nodes.now) frame.now)) builder.old (Ok (made, builder.new))) }
-    ensures refused { (told : Answers E.Fault) → E.answers evaluator.old ≡ Some told → IfErr result (IsRefusal E.is_host_fault E.is_out_of_memory (λ fault. Finishes (loaded_of index.now roots.now told) (seen frame.now.name frame.now.chosen) (standing_of (reverse nodes.now) frame.now) builder.old (Err fault))) }
+    requires { AreSupplied index.now (chosen_of frame.now) (standing_of (reverse nodes.now) frame.now) supplied.now }
+    ensures made { StepsAreMade E.Evaluate index.now roots.now (reverse nodes.now) frame.now evaluator.old builder.old builder.new result }
+    ensures refused { IsUnfinished E.Evaluate index.now roots.now (reverse nodes.now) frame.now evaluator.old builder.old result }
     ensures grows { Grows roots.now builder.old builder.new }
     ensures leaves { Leaves E.answers E.kept E.faults E.is_host_fault E.is_out_of_memory E.CanFault evaluator.old evaluator.new result }
 {
@@ -230,8 +222,8 @@ pub(crate) fn finish<E: Evaluate>(
     builder: &mut Builder,
 ) -> Result<Made, GenFault<E::Fault>>
     requires { IsKept (reverse nodes.now) index.now frame.now }
-    ensures made { (told : Answers E.Fault) → E.answers evaluator.old ≡ Some told → IfOk result (λ made. Finishes (loaded_of index.now roots.now told) (seen frame.now.name frame.now.chosen) (standing_of (reverse nodes.now) frame.now) builder.old (Ok (given_of (seen frame.now.name frame.now.chosen) (standing_of (reverse nodes.now) frame.now) made, builder.new))) }
-    ensures refused { (told : Answers E.Fault) → E.answers evaluator.old ≡ Some told → IfErr result (IsRefusal E.is_host_fault E.is_out_of_memory (λ fault. Finishes (loaded_of index.now roots.now told) (seen frame.now.name frame.now.chosen) (standing_of (reverse nodes.now) frame.now) builder.old (Err fault))) }
+    ensures made { IsFinished E.Evaluate index.now roots.now (reverse nodes.now) frame.now evaluator.old builder.old builder.new result }
+    ensures refused { IsUnfinished E.Evaluate index.now roots.now (reverse nodes.now) frame.now evaluator.old builder.old result }
     ensures grows { Grows roots.now builder.old builder.new }
     ensures leaves { Leaves E.answers E.kept E.faults E.is_host_fault E.is_out_of_memory E.CanFault evaluator.old evaluator.new result }
 {

@@ -1,14 +1,13 @@
 //! Opening main targets.
-ghost use Rattle.std.specs.Prelude.{◌≡◌, ◌==◌, ◌||◌, not, length, List, ◌++◌, ◌∷◌, [], true, Some, Ok, map, reverse, IfOk, IfErr, OnOk};
+ghost use Rattle.std.specs.Prelude.{◌≡◌, ◌==◌, ◌||◌, not, length, [], true, Some, map, IfOk, OnOk};
 ghost use Rattle.b2_props.specs.Sets.{IsSet};
 ghost use Rattle.b2_evaluation.specs.Answers.{Answers};
-ghost use Rattle.b2_references.specs.Names.{Name, features, is_target, is_same, is_among, target_text};
-ghost use Rattle.b2_alternatives.specs.Choosing.{Chooses};
-ghost use Rattle.b2_alternatives.specs.Picking.{seen, IsNumbered};
-ghost use Rattle.b2_generate.specs.Generation.{from_first};
+ghost use Rattle.b2_references.specs.Names.{features, is_target, is_same, is_among};
+ghost use Rattle.b2_alternatives.specs.Picking.{IsNumbered};
+ghost use Rattle.b2_alternatives.specs.Settling.{GivesBy};
 ghost use Rattle.b2_generate.specs.Machine.{names_of};
-ghost use Rattle.b2_generate.specs.Opening.{frames, IsOpened, IsUnchosen};
-ghost use Rattle.b2_generate.specs.Told.{IsRefusal, Leaves};
+ghost use Rattle.b2_generate.specs.Opening.{frames, IsOpened, OpensBy, RefusesBy, texts_from, AddsFrom};
+ghost use Rattle.b2_generate.specs.Told.{Leaves};
 
 use crate::fault::GenFault;
 use crate::frame::Frame;
@@ -63,8 +62,8 @@ fn chosen_for<'a, E: Evaluate + Drop>(
     asked: &Props,
 ) -> Result<Chosen<'a>, GenFault<E::Fault>>
     requires { IsNumbered (asker.old.index.now) }
-    ensures chosen { (told : Answers E.Fault) → E.answers asker.old.evaluator ≡ Some told → IfOk result (λ c. Chooses (asker.old.index.now) told.returned name.now asked.now (Ok (seen name.now c))) }
-    ensures refused { (told : Answers E.Fault) → E.answers asker.old.evaluator ≡ Some told → IfErr result (IsRefusal E.is_host_fault E.is_out_of_memory (IsUnchosen (asker.old.index.now) told.returned name.now asked.now)) }
+    ensures chosen { (told : Answers E.Fault) → E.answers asker.old.evaluator ≡ Some told → GivesBy asker.old told name.now asked.now result }
+    ensures refused { (told : Answers E.Fault) → E.answers asker.old.evaluator ≡ Some told → RefusesBy E.Evaluate asker.old told name.now asked.now result }
     ensures set { IfOk result (λ c. IsSet (features (asker.old.index.now)) c.set) }
     ensures target { IfOk result (λ _. is_target (asker.old.index.now) name.now ≡ true) }
     ensures leaves { Leaves E.answers E.kept E.faults E.is_host_fault E.is_out_of_memory E.CanFault asker.old.evaluator asker.new.evaluator result }
@@ -85,8 +84,8 @@ pub(crate) fn begin<'a, E: Evaluate + Drop>(
 ) -> Result<Frame<'a>, GenFault<E::Fault>>
     requires { IsNumbered (asker.old.index.now) }
     ensures opened { IfOk result (IsOpened (asker.old.index.now) name asked earliest) }
-    ensures chosen { (told : Answers E.Fault) → E.answers asker.old.evaluator ≡ Some told → IfOk result (λ f. Chooses (asker.old.index.now) told.returned name asked (Ok (seen name f.chosen))) }
-    ensures refused { (told : Answers E.Fault) → E.answers asker.old.evaluator ≡ Some told → IfErr result (IsRefusal E.is_host_fault E.is_out_of_memory (IsUnchosen (asker.old.index.now) told.returned name asked)) }
+    ensures chosen { (told : Answers E.Fault) → E.answers asker.old.evaluator ≡ Some told → OpensBy asker.old told name asked result }
+    ensures refused { (told : Answers E.Fault) → E.answers asker.old.evaluator ≡ Some told → RefusesBy E.Evaluate asker.old told name asked result }
     ensures leaves { Leaves E.answers E.kept E.faults E.is_host_fault E.is_out_of_memory E.CanFault asker.old.evaluator asker.new.evaluator result }
     ensures project { asker.new.index.now ≡ asker.old.index.now }
 {
@@ -110,7 +109,7 @@ fn push_next(
     name: &TargetName,
     targets: &mut TextList,
 ) -> Result<(), OutOfMemory>
-    ensures { (before : List Name) → targets.old ≡ map (target_text index.now) (from_first name.now before) → OnOk result (targets.new ≡ map (target_text index.now) (from_first name.now (before ++ frame.now.name ∷ []))) }
+    ensures { AddsFrom index.now name.now frame.now.name targets.old targets.new result }
 {
     if is_of_cycle(targets.as_slice(), frame, name) {
         targets.push(index.target_text(frame.name.project(), frame.name.name())?)
@@ -127,7 +126,7 @@ fn push_from(
     targets: &mut TextList,
 ) -> Result<(), OutOfMemory>
     requires { targets.old ≡ [] }
-    ensures { OnOk result (targets.new ≡ map (target_text index.now) (from_first name.now (map (λ f. f.name) frames.now))) }
+    ensures { OnOk result (targets.new ≡ texts_from index.now name.now (map (λ f. f.name) frames.now)) }
 {
     for frame in frames {
         push_next(index, frame, name, targets)?;
@@ -144,7 +143,7 @@ pub(crate) fn cycle(
     name: &TargetName,
 ) -> Result<TextList, OutOfMemory>
     requires { is_among (names_of (frames stack.now)) name.now ≡ true }
-    ensures { IfOk result (λ made. made ≡ map (target_text index.now) (from_first name.now (names_of (frames stack.now)))) }
+    ensures { IfOk result (λ made. made ≡ texts_from index.now name.now (names_of (frames stack.now))) }
 {
     let mut targets = TextList::new(alloc);
     push_from(index, stack.below.as_slice(), name, &mut targets)?;

@@ -2,6 +2,7 @@
 use crate::args::io_answer;
 use crate::child_commands::child_command;
 use crate::file_commands::file_command;
+use crate::program_commands::program_command;
 use crate::system::System;
 use b2_host::sink::Sink;
 use b2_realhost::real_host::RealHost;
@@ -42,6 +43,11 @@ impl<R: System> Session for CaseSession<R> {
             return Ok(answer);
         }
         if let Some(answer) = child_command(alloc, &mut self.host, command)? {
+            return Ok(answer);
+        }
+        if let Some(answer) =
+            program_command(alloc, &mut self.host, &mut self.sink, command)?
+        {
             return Ok(answer);
         }
         match command.name() {

@@ -5,6 +5,7 @@ mod args;
 mod case_session;
 mod child_commands;
 mod file_commands;
+mod program_commands;
 mod system;
 
 use crate::case_session::CaseSession;

@@ -1,4 +1,2 @@
-pub mod WritingLemmas
 pub mod WordLemmas
-pub mod FaultLemmas
 pub mod ShowLemmas

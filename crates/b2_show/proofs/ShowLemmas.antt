@@ -4,7 +4,7 @@ use Rattle.std.specs.Option.{option_map}
 use Rattle.b2_host.specs.Disks.{Disk}
 use Rattle.b2_host.specs.Faults.{Rose}
 use Rattle.b2_host.specs.Outside.{Outside}
-use Rattle.b2_host.specs.Output.{Output, with_written}
+use Rattle.b2_host.specs.Output.{Output}
 use Rattle.b2_words.specs.Words.{Word}
 use Rattle.b2_generate.specs.declared.planned.Planned.{Planned as Made}
 use Rattle.b2_generate.specs.Plans.{seen}
@@ -21,44 +21,20 @@ use Rattle.b2_runs.specs.Reports.{IsFrontOf}
 use Rattle.b2_refusals.specs.Lines.{usage_line}
 use Rattle.b2_answers.specs.declared.answer.Answer.{Answer}
 use Rattle.b2_answers.specs.declared.answer.Answer.TheVariants as answers
+use Rattle.b2_answers.specs.Causes.{fault_of}
+use Rattle.b2_answers.specs.Reports.{refusal_report, fault_report}
+use Rattle.b2_answers.specs.Writing.{FailsIn, StopsIn, Says, SaysFault}
+use Rattle.b2_answers.specs.Writing.Says.{said, failed, stopped}
+use Rattle.b2_answers.specs.Writing.SaysFault.{fault_said, fault_failed, fault_stopped}
 use Rattle.b2_update.specs.Moments.{moment}
 use Rattle.b2_show.specs.declared.look.Look.{Look}
-use Rattle.b2_show.specs.Looks.{look_of, look_report, refusal_report, fault_report}
-use Rattle.b2_show.specs.Causes.{fault_of, HasCause, IsOfPlanning}
-use Rattle.b2_show.specs.Shows.{HasPlan, IsShown, IsRefused, BeginsReport, BeginsSome, WrittenTold, IsAnswered}
+use Rattle.b2_show.specs.Looks.{look_of, look_report}
+use Rattle.b2_show.specs.Shows.{HasPlan, IsShown, IsRefused, BeginsReport, BeginsSome, IsOfPlanning, IsAnswered}
 use Rattle.b2_show.specs.Shows.BeginsReport.{usage, shown, refused}
 use Rattle.b2_show.specs.Shows.BeginsSome.{nothing, report, host_fault}
-use Rattle.b2_show.specs.Writing.{FailsIn, StopsIn, Says, SaysFault, AnswersWith}
-use Rattle.b2_show.specs.Writing.Says.{said, failed, stopped}
-use Rattle.b2_show.specs.Writing.SaysFault.{fault_said, fault_failed, fault_stopped}
-use Rattle.b2_show.proofs.FaultLemmas.{whole_of, pattern_refused}
-
--- ---- where the files are visible
-
-if_map : {P Q : Disk → Type 0} (d : Option Disk) → ((disk : Disk) → P disk → Q disk) → IfSome d P → IfSome d Q
-if_map None f h = tt
-if_map (Some disk) f h = f disk h
-
-if_all : {Q : Disk → Type 0} (d : Option Disk) → ((disk : Disk) → Q disk) → IfSome d Q
-if_all None f = tt
-if_all (Some disk) f = f disk
-
--- these bytes were written
-written_told : (before after : Moment) (bytes : List ℕ) (Holds : Disk → List ℕ → Type 0) → after.out.written ≡ option_map (λ so_far. so_far ++ bytes) before.out.written
-    → IfSome before.host.disk (λ disk. Holds disk bytes) → WrittenTold before after Holds
-written_told before after bytes Holds e h = go before.host.disk before.out.written after.out.written e h
-  where
-    go : (d : Option Disk) (text later : Option (List ℕ)) → later ≡ option_map (λ so_far. so_far ++ bytes) text → IfSome d (λ disk. Holds disk bytes)
-        → IfSome d (λ disk. IfSome text (λ so_far. (written : List ℕ) × (later ≡ Some (so_far ++ written)) × Holds disk written))
-    go None text later e h = tt
-    go (Some disk) None later e h = tt
-    go (Some disk) (Some so_far) later e h = (bytes, e, h)
-
-text_of : (bytes : List ℕ) (x y : Output) → y ≡ with_written bytes x → y.written ≡ option_map (λ so_far. so_far ++ bytes) x.written
-text_of bytes x y p = ap (λ (o : Output). o.written) p
-
-faults_of : (bytes : List ℕ) (x y : Output) → y ≡ with_written bytes x → y.faults ≡ x.faults
-faults_of bytes x y p = ap (λ (o : Output). o.faults) p
+use Rattle.b2_show.specs.Tells.{AnswersWith}
+use Rattle.b2_answers.proofs.FaultLemmas.{whole_of, pattern_refused}
+use Rattle.b2_answers.proofs.ToldLemmas.{if_map, if_all, written_told, text_of, faults_of, has_cause}
 
 -- ---- answers, whatever the words are
 
@@ -141,11 +117,6 @@ answered_usage words host x y result none (stopped is s) =
 
 -- ---- a look
 
-has_cause : (disk : Disk) (free echoes : List Word) (why : Refusal) → IsPrepared disk free echoes (Err (stops.Refused why)) → HasCause disk free echoes (fault_of why)
-has_cause disk free echoes (refusals.Load fault) h = h
-has_cause disk free echoes (refusals.Request fault) h = h
-has_cause disk free echoes (refusals.Generation fault) h = h
-
 is_of_planning : (why : Refusal) → IsOfPlanning (fault_of why)
 is_of_planning (refusals.Load fault) = tt
 is_of_planning (refusals.Request fault) = tt
@@ -193,7 +164,7 @@ module _ (law : OneMeaning) (words : List Word) (look : Look) (asked : look_of w
   -- there is none
   module _ (why : Refusal) (told : IsTold (Err (stops.Refused why))) (input : IsWholeRefusal why) (same : h1.faults ≡ h0.faults) where
     abbrev whole_refusal : List ℕ
-    whole_refusal = refusal_report echoes (fault_of why)
+    whole_refusal = refusal_report echoes [] (fault_of why)
 
     is_refused : (disk : Disk) → IsPrepared disk look.words echoes (Err (stops.Refused why)) → IsRefused words disk (fault_of why) whole_refusal
     is_refused disk h = record { look = look; echoes = echoes; asked = asked; cause = has_cause disk look.words echoes why h; report = refl }

@@ -1,5 +1,4 @@
 pub mod Modes
 pub mod Looks
-pub mod Causes
+pub mod Tells
 pub mod Shows
-pub mod Writing

@@ -1,19 +1,18 @@
 -- Looks: what their words ask for, and what is written.
-use Rattle.std.specs.Prelude.{ℕ, List, [], ◌++◌, Option, Some, None}
+use Rattle.std.specs.Prelude.{ℕ, List, ◌++◌, Option, Some, None}
 use Rattle.std.specs.Option.{option_map}
 use Rattle.std.specs.List.{flat_map}
 use Rattle.b2_generate.specs.Planning.{Line, Planned}
 use Rattle.b2_generate.specs.declared.planned.Built.{Built}
 use Rattle.b2_plan.specs.declared.step.Step.{Step}
-use Rattle.b2_refusals.specs.declared.fault.Fault.{Fault}
-use Rattle.b2_refusals.specs.Lines.{table_line, step_lines, refusal_line, host_fault_line}
-use Rattle.b2_runs.specs.Reports.{line}
+use Rattle.b2_refusals.specs.Lines.{table_line, step_lines}
 use Rattle.b2_words.specs.Words.{Word, reading}
 use Rattle.b2_words.specs.declared.words.Command.{Command}
 use Rattle.b2_words.specs.declared.words.Command.TheVariants as commands
 use Rattle.b2_words.specs.declared.words.View.{View}
 use Rattle.b2_words.specs.declared.words.View.TheVariants as views
 use Rattle.b2_words.specs.declared.words.Words.{Words}
+use Rattle.b2_answers.specs.Reports.{echo_lines}
 use Rattle.b2_show.specs.declared.look.Look.{Look}
 
 -- ---- words
@@ -37,9 +36,6 @@ look_of words = look_in (reading words)
 
 -- ---- lines
 
-abbrev pub echo_lines : List (List ℕ) → List ℕ
-echo_lines echoes = flat_map line echoes
-
 abbrev pub row_line : Line → List ℕ
 row_line row = table_line row.target row.alternative row.set
 
@@ -54,13 +50,6 @@ abbrev pub view_lines : View → Planned → List ℕ
 view_lines views.Steps plan = steps_lines plan.steps
 view_lines views.Table plan = flat_map row_line plan.table
 
--- ---- reports, which the lines of ECHO begin
-
+-- the report of a look, which the lines of ECHO begin
 abbrev pub look_report : List (List ℕ) → View → Planned → List ℕ
 look_report echoes view plan = echo_lines echoes ++ view_lines view plan
-
-abbrev pub refusal_report : List (List ℕ) → Fault → List ℕ
-refusal_report echoes fault = echo_lines echoes ++ refusal_line [] fault
-
-abbrev pub fault_report : List (List ℕ) → List ℕ
-fault_report echoes = echo_lines echoes ++ host_fault_line

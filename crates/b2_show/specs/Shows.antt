@@ -1,6 +1,6 @@
 -- What a call of the look command promises, from the moment of its start to that of its answer. Definitions of this file whose names
 -- end with `Told` and take a disk speak of visible files, and of a sink that tells what was written.
-use Rattle.std.specs.Prelude.{◌≡◌, ℕ, List, [], ◌++◌, Some, None, Ok, IfSome, ◌⊎◌, ⊤}
+use Rattle.std.specs.Prelude.{◌≡◌, ℕ, List, [], Some, None, Ok, IfSome, ◌⊎◌, ⊤}
 use Rattle.b2_host.specs.Disks.{Disk}
 use Rattle.b2_host.specs.Faults.{Rose}
 use Rattle.b2_host.specs.Outside.{Outside}
@@ -10,21 +10,19 @@ use Rattle.b2_front.specs.Meaning.{Means}
 use Rattle.b2_runs.specs.Moments.{Moment}
 use Rattle.b2_runs.specs.Reports.{IsFrontOf}
 use Rattle.b2_refusals.specs.declared.fault.Fault.{Fault}
+use Rattle.b2_refusals.specs.declared.fault.Fault.TheVariants as faults
 use Rattle.b2_refusals.specs.Lines.{usage_line}
 use Rattle.b2_refusals.specs.Wholes.{IsWhole}
 use Rattle.b2_answers.specs.declared.answer.Answer.{Answer}
 use Rattle.b2_answers.specs.declared.answer.Answer.TheVariants as answers
 use Rattle.b2_answers.specs.Endings.{IsOrCutShort, IsUsageOrCutShort, IfRefused}
+use Rattle.b2_answers.specs.Causes.{HasCause, IsPatternRefused}
+use Rattle.b2_answers.specs.Reports.{refusal_report, fault_report}
+use Rattle.b2_answers.specs.Told.{CountsStay, WrittenTold}
 use Rattle.b2_show.specs.declared.look.Look.{Look}
-use Rattle.b2_show.specs.Looks.{look_of, look_report, refusal_report, fault_report}
-use Rattle.b2_show.specs.Causes.{HasCause, IsOfPlanning, IsOfPattern}
+use Rattle.b2_show.specs.Looks.{look_of, look_report}
 
 -- ---- the counts of faults
-
--- neither count has changed
-pub record CountsStay (before after : Moment) : Type 0 where
-  pub host : after.host.faults ≡ before.host.faults
-  pub sink : after.out.faults ≡ before.out.faults
 
 -- How the counts stand to an answer: Ok, Refused and Usage come only where they are as at entry, and a fault only where its count
 -- rose. The first fault decides: with SinkFault the host's count is as at entry; with HostFault the sink may have failed after it.
@@ -58,7 +56,7 @@ pub record IsRefused (words : List Word) (disk : Disk) (fault : Fault) (written 
   pub echoes : List Word
   pub asked : look_of words ≡ Some look
   pub cause : HasCause disk look.words echoes fault
-  pub report : written ≡ refusal_report echoes fault
+  pub report : written ≡ refusal_report echoes [] fault
 
 -- The words are a look, and the line of a fault of the host was written; or a beginning of this, where the sink failed too.
 pub record HasHostFault (words : List Word) (sink sink_after : ℕ) (written : List ℕ) : Type 0 where
@@ -89,12 +87,6 @@ ReportedBy words before after answers.HostFault disk written = HasHostFault word
 ReportedBy words before after answers.OutOfMemory disk written = BeginsSome words disk before.host.faults after.host.faults written
 ReportedBy words before after answers.SinkFault disk written = BeginsReport words disk written
 
--- this holds of the bytes that were written between two moments, where files and bytes are visible
-abbrev pub WrittenTold : Moment → Moment → (Disk → List ℕ → Type 0) → Type 0
-WrittenTold before after Holds =
-    IfSome before.host.disk (λ disk. IfSome before.out.written (λ so_far.
-    (written : List ℕ) × (after.out.written ≡ Some (so_far ++ written)) × Holds disk written))
-
 -- what was written is the report
 abbrev pub ReportTold : List Word → Moment → Moment → Answer → Type 0
 ReportTold words before after result = WrittenTold before after (ReportedBy words before after result)
@@ -105,6 +97,15 @@ ShownTold words before after result = result ≡ answers.Ok → WrittenTold befo
 
 -- ---- answers
 
+-- the fault is one of the load, the request or generation
+abbrev pub IsOfPlanning : Fault → Type 0
+IsOfPlanning (faults.NotYet path line) = ⊥
+IsOfPlanning (faults.Load fault) = ⊤
+IsOfPlanning (faults.Request fault) = ⊤
+IsOfPlanning (faults.Gen fault) = ⊤
+IsOfPlanning (faults.StepCycle list) = ⊥
+IsOfPlanning (faults.TooBig path size) = ⊥
+
 -- an answer that a look may have
 abbrev pub IsOfLook : Answer → Type 0
 IsOfLook answers.Ok = ⊤
@@ -114,16 +115,6 @@ IsOfLook answers.Usage = ⊤
 IsOfLook answers.HostFault = ⊤
 IsOfLook answers.OutOfMemory = ⊤
 IsOfLook answers.SinkFault = ⊤
-
--- a pattern was refused though it reads as one
-abbrev pub IsPatternRefused : Answer → Type 0
-IsPatternRefused answers.Ok = ⊥
-IsPatternRefused (answers.Failed lists) = ⊥
-IsPatternRefused (answers.Refused fault) = IsOfPattern fault
-IsPatternRefused answers.Usage = ⊥
-IsPatternRefused answers.HostFault = ⊥
-IsPatternRefused answers.OutOfMemory = ⊥
-IsPatternRefused answers.SinkFault = ⊥
 
 -- where there is a plan, the answer is Ok, or the call was cut short, or a pattern was refused though it reads as one
 abbrev pub CompleteTold : List Word → Outside → Answer → Type 0

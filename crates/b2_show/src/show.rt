@@ -8,8 +8,9 @@ ghost use Rattle.b2_show.specs.Shows.{ShownTold, ReportTold, CountsTold, IsOfLoo
 ghost use Rattle.b2_update.specs.Moments.{moment};
 
 use crate::look::{Look, look_of};
-use crate::tell::{tell, tell_usage};
+use crate::tell::tell;
 use b2_answers::answer::Answer;
+use b2_answers::tell::tell_usage;
 use b2_base::text::Text;
 use b2_front::laws::one_meaning;
 use b2_front::prepare::prepare;

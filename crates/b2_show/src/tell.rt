@@ -1,46 +1,20 @@
 //! What the answer of a look is, and what is written with it.
-ghost use Rattle.std.specs.Prelude.{◌≡◌, IfErr};
+ghost use Rattle.std.specs.Prelude.{IfErr};
 ghost use Rattle.b2_front.specs.Preparing.{IsWhole as IsWholeStop};
-ghost use Rattle.b2_front.specs.Refusals.{IsWholeRefusal};
 ghost use Rattle.b2_generate.specs.Plans.{seen};
-ghost use Rattle.b2_refusals.specs.Lines.{usage_line};
-ghost use Rattle.b2_refusals.specs.Wholes.{IsWhole};
-ghost use Rattle.b2_show.specs.Causes.{fault_of};
-ghost use Rattle.b2_show.specs.Looks.{look_report, refusal_report, fault_report};
-ghost use Rattle.b2_show.specs.Writing.{unwritten, Says, SaysFault, AnswersStop, AnswersWith};
+ghost use Rattle.b2_answers.specs.Writing.{Says};
+ghost use Rattle.b2_show.specs.Looks.{look_report};
+ghost use Rattle.b2_show.specs.Tells.{AnswersWith};
 
-use crate::lines::{write_host_fault, write_look, write_refusal, write_text};
+use crate::lines::write_look;
 use b2_answers::answer::Answer;
+use b2_answers::tell::{tell_stop, unwritten};
 use b2_base::text::Text;
 use b2_front::prepare::Prepared;
-use b2_front::refusal::{Refusal, Stop};
 use b2_generate::planned::Planned;
-use b2_host::fault::IoFault;
 use b2_host::sink::Sink;
-use b2_refusals::fault::Fault;
-use b2_refusals::lines::usage_line;
 use b2_words::words::View;
 use std::alloc::Global;
-
-/// The answer where a line could not be written.
-fn unwritten(fault: IoFault) -> Answer
-    ensures { result ≡ unwritten fault }
-{
-    match fault {
-        IoFault::Failed => Answer::SinkFault,
-        IoFault::OutOfMemory => Answer::OutOfMemory,
-    }
-}
-
-/// Writes the usage line.
-pub fn tell_usage<S: Sink>(out: &mut S) -> Answer
-    ensures { Says Answer.Usage usage_line (S.output out.old) (S.output out.new) result }
-{
-    match write_text(usage_line(), out) {
-        Ok(()) => Answer::Usage,
-        Err(fault) => unwritten(fault),
-    }
-}
 
 /// Writes the report of a look at a plan.
 fn tell_look<S: Sink>(
@@ -55,55 +29,6 @@ fn tell_look<S: Sink>(
     match write_look(alloc, echoes, view, planned, out) {
         Ok(()) => Answer::Ok,
         Err(fault) => unwritten(fault),
-    }
-}
-
-/// Writes the report of a refusal.
-fn tell_refusal<S: Sink>(alloc: Global, echoes: &[Text], fault: Fault, out: &mut S) -> Answer
-    requires { IsWhole fault }
-    ensures { Says (Answer.Refused fault) (refusal_report echoes.now fault) (S.output out.old) (S.output out.new) result }
-{
-    match write_refusal(alloc, echoes, &fault, out) {
-        Ok(()) => Answer::Refused(fault),
-        Err(error) => {
-            drop(fault);
-            unwritten(error)
-        }
-    }
-}
-
-/// Writes the report of a fault of the host, which is the answer though the sink may fail here.
-fn tell_host_fault<S: Sink>(alloc: Global, echoes: &[Text], out: &mut S) -> Answer
-    ensures { SaysFault (fault_report echoes.now) (S.output out.old) (S.output out.new) result }
-{
-    match write_host_fault(alloc, echoes, out) {
-        Ok(()) => Answer::HostFault,
-        Err(IoFault::Failed) => Answer::HostFault,
-        Err(IoFault::OutOfMemory) => Answer::OutOfMemory,
-    }
-}
-
-/// The refusal as the program's own.
-fn fault_of(refusal: Refusal) -> Fault
-    ensures fault { result ≡ fault_of refusal }
-    ensures whole { IsWholeRefusal refusal → IsWhole result }
-{
-    match refusal {
-        Refusal::Load(fault) => Fault::Load(fault),
-        Refusal::Request(fault) => Fault::Request(fault),
-        Refusal::Generation(fault) => Fault::Gen(fault),
-    }
-}
-
-/// Tells why there is no plan.
-fn tell_stop<S: Sink>(alloc: Global, echoes: &[Text], stop: Stop, out: &mut S) -> Answer
-    requires { IsWholeStop stop }
-    ensures { AnswersStop echoes.now stop (S.output out.old) (S.output out.new) result }
-{
-    match stop {
-        Stop::Refused(refusal) => tell_refusal(alloc, echoes, fault_of(refusal), out),
-        Stop::Host => tell_host_fault(alloc, echoes, out),
-        Stop::OutOfMemory => Answer::OutOfMemory,
     }
 }
 

@@ -1,125 +1,164 @@
-use Rattle.std.proofs.Common.{◌≡◌, ℕ, false, List, [], ◌∷◌, ◌++◌, Option, None, Some, IfSome, inl, inr, refl, subst, arith}
-use Rattle.std.specs.List.{Contains}
-use Rattle.b2_host.specs.declared.children.ChildEvent.{ChildEvent}
-use Rattle.b2_host.specs.declared.children.ChildEvent.TheVariants.{Done}
-use Rattle.b2_host.specs.Disks.{Disk}
+-- A build, from what the files and the words came to.
+use Rattle.std.proofs.Common.{◌≡◌, ℕ, List, ◌++◌, Some, None, IfSome, Result, Ok, Err, inl, inr, refl, sym, ap, ◌∙◌, subst}
+use Rattle.b2_answers.proofs.FaultLemmas.{whole_of, pattern_refused}
+use Rattle.b2_answers.proofs.ToldLemmas.{if_map}
+use Rattle.b2_answers.specs.Causes.{fault_of}
+use Rattle.b2_answers.specs.Reports.{echo_lines}
+use Rattle.b2_answers.specs.Writing.{Writes, unwritten, AnswersStop}
+use Rattle.b2_answers.specs.declared.answer.Answer.{Answer}
+use Rattle.b2_front.specs.Laws.{OneMeaning}
+use Rattle.b2_front.specs.Meaning.{Refusal as Why, Means}
+use Rattle.b2_front.specs.Preparing.{IsPrepared, IsWhole as IsWholeStop, CountsStop}
+use Rattle.b2_front.specs.declared.refusal.Refusal.{Refusal}
+use Rattle.b2_front.specs.declared.refusal.Refusal.TheVariants as refusals
+use Rattle.b2_front.specs.declared.refusal.Stop.{Stop}
+use Rattle.b2_front.specs.declared.refusal.Stop.TheVariants as stops
+use Rattle.b2_generate.specs.Planning as planning
+use Rattle.b2_generate.specs.Plans.{seen}
+use Rattle.b2_generate.specs.declared.planned.Planned.{Planned}
 use Rattle.b2_host.specs.ChildProcesses.{Family, BothTold}
-use Rattle.b2_plan.specs.declared.step.Step.{Step}
-use Rattle.b2_plan.specs.Plans.{step_at}
-use Rattle.b2_plan.specs.Sources.{IsGiven}
-use Rattle.b2_plan.specs.Closures.{Known}
-use Rattle.b2_plan.specs.Closures.Known.{input, include}
-use Rattle.b2_update.specs.declared.failed_lists.FailedLists.{FailedLists}
-use Rattle.b2_update.specs.declared.update_answer.UpdateAnswer.{UpdateAnswer}
-use Rattle.b2_update.specs.declared.update_answer.UpdateAnswer.TheVariants as ends
-use Rattle.b2_runs.specs.Staleness.{Update}
-use Rattle.b2_runs.specs.Runs.{on_settled}
-use Rattle.b2_runs.specs.Outcomes.{IsMissed, Skipped}
-use Rattle.b2_runs.specs.Outcomes.Skipped.{missing as skip_missing, failed as skip_failed, skipped as skip_skipped, quits as skip_quits}
-use Rattle.b2_runs.specs.Reports.{AreLists}
-use Rattle.b2_runs.specs.UpdateAnswers.{SomethingLacks}
-use Rattle.b2_update.specs.Answers.{lists_of, answer_of}
-use Rattle.b2_update.specs.Plain.{IsPlain, Made, update_all}
-use Rattle.b2_update.specs.Updates.{HasRunAll}
-use Rattle.b2_top.specs.declared.answer.Answer.{Answer}
-use Rattle.b2_top.specs.declared.answer.Answer.TheVariants as answers
-use Rattle.b2_top.specs.Rules.{roots}
-use Rattle.b2_top.specs.Jamroots.{outs_of}
-use Rattle.b2_top.specs.ProjectFiles.{jamroot_of, HasPlan}
-use Rattle.b2_top.specs.Builds.{build_at, update_at, HasBuilt, HappenedBy, LeavesClean, ShouldEndWell}
+use Rattle.b2_host.specs.Disks.{Disk}
+use Rattle.b2_host.specs.Outside.{Outside}
+use Rattle.b2_host.specs.OutsideLaws.{Keeps, then_rose}
+use Rattle.b2_host.specs.Output.{Output, with_written}
+use Rattle.b2_host.specs.declared.children.ChildEvent.{ChildEvent}
+use Rattle.b2_host.specs.declared.fault.IoFault.{IoFault}
+use Rattle.b2_host.specs.declared.fault.IoFault.TheVariants as io
+use Rattle.b2_plan.specs.Plans.{Apart}
+use Rattle.b2_refusals.specs.declared.fault.Fault.TheVariants as faults
+use Rattle.b2_runs.specs.CompleteLaws.{NothingIsLeft, NothingIsMissed}
+use Rattle.b2_runs.specs.UpdateAnswers.{HasHappened, LeavesNone}
+use Rattle.b2_update.specs.Answers.{answer_of}
+use Rattle.b2_update.specs.Moments.{moment}
+use Rattle.b2_update.specs.Plain.{Made, update_of}
+use Rattle.b2_update.specs.Updates.{HasRunAll, BytesTold}
+use Rattle.b2_words.specs.Words.{Word}
+use Rattle.b2_top.specs.Commands.{free_words}
+use Rattle.b2_top.specs.Unbuilt.{unbuilt_option, unbuilt_file}
+use Rattle.b2_top.specs.Plans.{HasPlan}
+use Rattle.b2_top.specs.Causes.{HasCause}
+use Rattle.b2_top.specs.Causes.IsUnbuilt.{by_file}
+use Rattle.b2_top.specs.Reported.BeginsReport.{echoing}
+use Rattle.b2_top.specs.Reported.BeginsSome.{reporting}
+use Rattle.b2_top.specs.Answered.{IsAnswered}
+use Rattle.b2_top.specs.Running.{Updates, Runs, Carries, RefusesFile}
+use Rattle.b2_top.specs.Running.Runs.{updates, stops as stops_echoing}
+use Rattle.b2_top.specs.Running.RefusesFile.{tells, lacks}
+use Rattle.b2_top.specs.Running.Carries.{runs, refuses}
+use Rattle.b2_top.proofs.StillLemmas.{IsStill, IsEarly, still_sink, still_memory, still_short, still_refused, still_fault}
+use Rattle.b2_top.proofs.RunLemmas.{ended}
 
--- nothing is in the empty list
-pub not_in_nil : {X Y : Type 0} (x : X) → Contains [] x → Y
-not_in_nil x h = absurd (omega (arith, h.1))
+is_early : (why : Refusal) → IsEarly (fault_of why)
+is_early (refusals.Load fault) = tt
+is_early (refusals.Request fault) = tt
+is_early (refusals.Generation fault) = tt
 
-first_in : {X : Type 0} (x : X) (xs : List X) → Contains (x ∷ xs) x
-first_in x xs = (0, omega arith, refl)
+module _ (law : OneMeaning) (left : NothingIsLeft) (missed : NothingIsMissed) (made : Made) (words free : List Word) (asked : free_words words ≡ Some free) (can : unbuilt_option words ≡ None)
+    (h0 h1 : Outside) (o0 : Output) (echoes : List Word) (disk_same : h1.disk ≡ h0.disk) (children_same : h1.children ≡ h0.children) where
+  not_none : {X : Type 0} → free_words words ≡ None → X
+  not_none none = let e : None ≡ Some free = sym none ∙ asked in absurd cc
 
--- a list without an element is empty
-empty_list : {X : Type 0} (xs : List X) → ((x : X) → Contains xs x → ⊥) → xs ≡ []
-empty_list [] h = refl
-empty_list (x ∷ xs) h = absurd (h x (first_in x xs))
+  not_some : {X : Type 0} (name : Word) → unbuilt_option words ≡ Some name → X
+  not_some name is = let e : None ≡ Some name = sym can ∙ is in absurd cc
 
--- no step is skipped where all sources stand and no step failed
-none_skipped : (made : Made) (steps : List Step) (disk : Disk) (events : List ChildEvent)
-    → ((i : ℕ) (step : Step) (path : List ℕ) → step_at steps i ≡ Some step → Contains step.ins path → IsGiven (build_at made steps disk) path)
-    → ((i : ℕ) → Contains events (Done i false) → ⊥) → (i : ℕ) → Skipped (update_at made steps disk) events i → ⊥
-none_skipped made steps disk events sources well i (skip_missing j step path left at known missing) = go known
-  where
-    go : Known (build_at made steps disk) (on_settled (update_at made steps disk) events) step path → ⊥
-    go (input p among) = missing (sources i step path at among)
-    go (include p bytes found k v includes) = not_in_nil includes.include includes.listed
-none_skipped made steps disk events sources well i (skip_failed j step path k other left at known makes failed) = well k failed
-none_skipped made steps disk events sources well i (skip_skipped j step path k other left at known makes was) = none_skipped made steps disk events sources well k was
-none_skipped made steps disk events sources well i (skip_quits j k left quit failed) = absurd cc
+  still : IsStill words h0 h1
+  still = record { disk = disk_same; children = children_same; alone = λ none. not_none none; without = λ name is. not_some name is }
 
--- nothing lacks where all sources stand and no step failed
-none_lack : (made : Made) (words : List (List ℕ)) (steps : List Step) (old new : Family) (before : Disk) (events : List ChildEvent) (lists : FailedLists)
-    → IsPlain steps (outs_of steps) → ShouldEndWell made words steps old new before → new.events ≡ old.events ++ events → AreLists (update_at made steps before) events (lists_of lists) → SomethingLacks (lists_of lists) → ⊥
-none_lack made words steps old new before events lists plain should are named lacks =
-    elim lacks [
-      | inl some ↦ some (empty_list lists.failed (λ i among. well i (named.failed.each i among)))
-      | inr more ↦ elim more [
-        | inl some ↦ some (empty_list lists.skipped (λ i among. none_skipped made steps before events should.sources well i (named.skipped.each i among)))
-        | inr some ↦ some (empty_list lists.missing (λ path among. no_missing path (named.missing.each path among)))
-      ]
-    ]
-  where
-    well : (i : ℕ) → Contains events (Done i false) → ⊥
-    well = should.all_well events are
+  abbrev Prepared : Result Planned Stop → Type 0
+  Prepared result = IfSome h0.disk (λ disk. IsPrepared disk free echoes result)
 
-    no_missing : (path : List ℕ) → IsMissed (update_at made steps before) events path → ⊥
-    no_missing path missed = elim missed.asked [
-      | inl is_wanted ↦ missed.missing (inr (plain.wanted_made path is_wanted))
-      | inr needs ↦ missed.missing (should.sources needs.0 needs.1 path needs.3 needs.4)
-    ]
+  -- the plan's words are these
+  plan_means : (disk : Disk) (plan : HasPlan words disk) → Means disk None free plan.echoes (Ok plan.planned)
+  plan_means disk plan =
+      let same : Some plan.free ≡ Some free = sym plan.asked ∙ asked in
+      let free_same : plan.free ≡ free = cc in
+      subst (λ f. Means disk None f plan.echoes (Ok plan.planned)) free_same plan.means
 
--- the answer of the program to an update's
-abbrev pub top_of : UpdateAnswer → Answer
-top_of ends.Done = answers.Ok
-top_of (ends.Failed lists) = answers.Failed lists
-top_of ends.HostFault = answers.HostFault
-top_of ends.SinkFault = answers.SinkFault
-top_of ends.OutOfMemory = answers.OutOfMemory
+  -- ---- there is no plan
 
--- the update of a plan with these wanted files and roots
-abbrev pub began : Made → List Step → List (List ℕ) → List (List ℕ) → Disk → Update
-began made steps wants folders disk = update_all steps wants folders made disk.now
+  abbrev Stopped : Output → Answer → Type 0
+  Stopped o1 result = IsAnswered made words (moment h0 o0) (moment h1 o1) result
 
--- what an update has done, as the plan's own wanted files and roots say it
-pub at_plan : (P : (Disk → Update) → Type 0) (made : Made) (steps : List Step) (wants folders : List (List ℕ)) → wants ≡ outs_of steps → folders ≡ roots → P (began made steps wants folders) → P (update_at made steps)
-at_plan P made steps wants folders w r h = subst (λ x. P (began made steps x roots)) w (subst (λ x. P (began made steps wants x)) r h)
+  cause_of : (why : Refusal) (disk : Disk) → IsPrepared disk free echoes (Err (stops.Refused why)) → HasCause words disk echoes (fault_of why)
+  cause_of (refusals.Load fault) disk h = record { free = free; asked = asked; can = can; cause = h }
+  cause_of (refusals.Request fault) disk h = record { free = free; asked = asked; can = can; cause = h }
+  cause_of (refusals.Generation fault) disk h = record { free = free; asked = asked; can = can; cause = h }
 
--- what happened in an update is what happened in the call
-pub happened_of : (made : Made) (steps : List Step) (old new : Family) (d e : Option Disk) (r : UpdateAnswer)
-    → IfSome d (λ before. HasPlan (jamroot_of before) steps) → BothTold (λ before after. HasRunAll (update_at made steps before) (answer_of r) old new before after) d e → BothTold (HappenedBy made [] (top_of r) old new) d e
-happened_of made steps old new None None r plan told = tt
-happened_of made steps old new None (Some after) r plan told = told
-happened_of made steps old new (Some before) None r plan told = told
-happened_of made steps old new (Some before) (Some after) r plan told = go r told
-  where
-    built : (q : UpdateAnswer) → (u : HasRunAll (update_at made steps before) (answer_of q) old new before after) → HasBuilt made [] steps u.events old new before after
-    built q u = record { no_word = refl; plan = plan; ran = u.ran }
+  pub stopped : (o1 : Output) (stop : Stop) (result : Answer) → Prepared (Err stop) → IsWholeStop stop → CountsStop stop h0 h1 → AnswersStop echoes stop o0 o1 result → Stopped o1 result
+  stopped o1 (stops.Refused why) result told whole counts says =
+      still_refused made words h0 h1 o0 o1 still (fault_of why) echoes result (is_early why) (whole_of why whole) (λ none. not_none none) counts
+      (if_map h0.disk (cause_of why) told)
+      (if_map h0.disk (λ disk h plan. pattern_refused law disk free plan.echoes echoes plan.planned (plan_means disk plan) why whole h) told) says
+  stopped o1 stops.Host result told whole counts says = still_fault made words h0 h1 o0 o1 still free asked can echoes counts result says
+  stopped o1 stops.OutOfMemory result told whole counts says = subst (Stopped o1) (sym says.0) (still_short made words h0 h1 o0 o1 still says.1)
 
-    go : (q : UpdateAnswer) → HasRunAll (update_at made steps before) (answer_of q) old new before after → HappenedBy made [] (top_of q) old new before after
-    go ends.Done u = (steps, u.events, built ends.Done u, u.told)
-    go (ends.Failed lists) u = (steps, u.events, built (ends.Failed lists) u, u.told)
-    go ends.HostFault u = inr (steps, u.events, built ends.HostFault u)
-    go ends.SinkFault u = inr (steps, u.events, built ends.SinkFault u)
-    go ends.OutOfMemory u = inr (steps, u.events, built ends.OutOfMemory u)
+  -- ---- there is one
 
--- after an update that is done the wanted files are clean
-pub clean_of : (made : Made) (steps : List Step) (old new : Family) (d e : Option Disk)
-    → IfSome d (λ before. HasPlan (jamroot_of before) steps) → BothTold (λ before after. HasRunAll (update_at made steps before) (answer_of ends.Done) old new before after) d e → BothTold (LeavesClean made) d e
-clean_of made steps old new None None plan told = tt
-clean_of made steps old new None (Some after) plan told = told
-clean_of made steps old new (Some before) None plan told = told
-clean_of made steps old new (Some before) (Some after) plan told = (steps, plan, told.told.2)
+  module _ (planned : Planned) (told : Prepared (Ok planned)) (apart : Apart planned.plan.steps planned.plan.roots) (same : h1.faults ≡ h0.faults) (keeps : Keeps h0 h1) where
+    abbrev IsTold : Disk → Type 0
+    IsTold disk = IsPrepared disk free echoes (Ok planned)
 
--- an update that failed did not have all that it needs to end well
-pub complete_of : (made : Made) (steps : List Step) (old new : Family) (d e : Option Disk) (lists : FailedLists)
-    → IsPlain steps (outs_of steps) → BothTold (λ before after. HasRunAll (update_at made steps before) (answer_of (ends.Failed lists)) old new before after) d e → BothTold (λ before after. ShouldEndWell made [] steps old new before → ⊥) d e
-complete_of made steps old new None None lists plain told = tt
-complete_of made steps old new None (Some after) lists plain told = told
-complete_of made steps old new (Some before) None lists plain told = told
-complete_of made steps old new (Some before) (Some after) lists plain told = λ should. none_lack made [] steps old new before told.events lists plain should told.ran.events_are told.told.2 told.told.3
+    abbrev plan_at : unbuilt_file planned.plan.steps ≡ None → (disk : Disk) → IsTold disk → HasPlan words disk
+    plan_at builds disk h = record { free = free; echoes = echoes; planned = seen planned; asked = asked; can = can; means = h.1; builds = builds }
+
+    -- a file is refused
+    file_cause : (path : List ℕ) → unbuilt_file planned.plan.steps ≡ Some path → (disk : Disk) → IsTold disk → HasCause words disk echoes (faults.NotYet path 0)
+    file_cause path is disk h = (refl, by_file free (seen planned) asked can h.1 is)
+
+    no_plan : (path : List ℕ) → unbuilt_file planned.plan.steps ≡ Some path → (disk : Disk) → IsTold disk → HasPlan words disk → ⊥
+    no_plan path is disk h plan =
+        let one = law disk None free plan.echoes echoes (Ok plan.planned) (Ok (seen planned)) (plan_means disk plan) h.1 in
+        let e : ◌≡◌ {A = Result planning.Planned Why} (Ok plan.planned) (Ok (seen planned)) = one.1 in
+        let planned_same : plan.planned ≡ seen planned = cc in
+        let clash : None ≡ Some path = sym plan.builds ∙ ap (λ (p : planning.Planned). unbuilt_file p.steps) planned_same ∙ is in
+        cc
+
+    file_refused : (path : List ℕ) (o1 : Output) (result : Answer) → unbuilt_file planned.plan.steps ≡ Some path → RefusesFile echoes path o0 o1 result → Stopped o1 result
+    file_refused path o1 result is (tells says) =
+        still_refused made words h0 h1 o0 o1 still (faults.NotYet path 0) echoes result tt tt (λ none. not_none none) same
+        (if_map h0.disk (file_cause path is) told) (if_map h0.disk (λ disk h plan. absurd (no_plan path is disk h plan)) told) says
+    file_refused path o1 result is (lacks out none) = subst (Stopped o1) (sym out) (still_short made words h0 h1 o0 o1 still none)
+
+    -- the lines of ECHO are not written
+    echoes_failed : unbuilt_file planned.plan.steps ≡ None → (o1 : Output) (fault : IoFault) → Writes {T = Unit {0}} (echo_lines echoes) o0 o1 (Err fault) → Stopped o1 (unwritten fault)
+    echoes_failed builds o1 io.Failed w =
+        still_sink made words h0 h1 o0 o1 still (echo_lines echoes) w same (λ part front. if_map h0.disk (λ disk h. echoing (plan_at builds disk h) refl front) told)
+    echoes_failed builds o1 io.OutOfMemory w =
+        still_memory made words h0 h1 o0 o1 still (echo_lines echoes) w (λ part front. if_map h0.disk (λ disk h. reporting (echoing (plan_at builds disk h) refl front)) told)
+
+    -- the plan is updated
+    module _ (builds : unbuilt_file planned.plan.steps ≡ None) (h2 : Outside) (o1 o2 : Output) (echoed : o1 ≡ with_written (echo_lines echoes) o0) (result : Answer) where
+      updated : Updates made planned.plan (moment h1 o1) (moment h2 o2) result → IsAnswered made words (moment h0 o0) (moment h2 o2) result
+      updated u =
+          let a = answer_of u.ended in
+          let from_here = λ (disk : Disk). update_of planned.plan made disk.now in
+          let ran = subst (λ d. BothTold (λ disk later. HasRunAll (from_here disk) a h0.children h2.children disk later) d h2.disk) disk_same
+          (subst (λ (f : Family). BothTold (λ disk later. HasRunAll (from_here disk) a f h2.children disk later) h1.disk h2.disk) children_same u.updated)
+          in
+          let wrote = subst (λ d. BothTold (λ disk later. (events : List ChildEvent) → h2.children.events ≡ h0.children.events ++ events
+          → IfSome o1.written (λ text. (written : List ℕ) × (u.out.written ≡ Some (text ++ written)) × BytesTold (from_here disk) events a written)) d h2.disk) disk_same
+          (subst (λ (f : Family). BothTold (λ disk later. (events : List ChildEvent) → h2.children.events ≡ f.events ++ events
+          → IfSome o1.written (λ text. (written : List ℕ) × (u.out.written ≡ Some (text ++ written)) × BytesTold (from_here disk) events a written)) h1.disk h2.disk) children_same u.written)
+          in
+          let turns = subst (λ d. HasHappened planned.plan.steps 1 d h0.children.events h2.children.events a) disk_same
+          (subst (λ (f : Family). HasHappened planned.plan.steps 1 h1.disk f.events h2.children.events a) children_same u.turns)
+          in
+          ended law left missed made words free asked can h0 h2 o0 o1 u.out o2 echoes planned builds apart told echoed h1 same keeps u.ended result ran wrote turns u.counts u.ends
+
+    run_of : unbuilt_file planned.plan.steps ≡ None → (h2 : Outside) (o2 : Output) (result : Answer) → Runs made echoes planned.plan (moment h1 o0) (moment h2 o2) result
+        → IsAnswered made words (moment h0 o0) (moment h2 o2) result
+    run_of builds h2 o2 result (updates out echoed u) = updated builds h2 out o2 echoed result u
+    run_of builds h2 o2 result (stops_echoing fault w host is) =
+        subst (λ h. IsAnswered made words (moment h0 o0) (moment h o2) result) (sym host) (subst (Stopped o2) (sym is) (echoes_failed builds o2 fault w))
+
+    pub carried : (h2 : Outside) (o2 : Output) (result : Answer) → Carries made echoes planned.plan (moment h1 o0) (moment h2 o2) result → IsAnswered made words (moment h0 o0) (moment h2 o2) result
+    carried h2 o2 result (runs builds run) = run_of builds h2 o2 result run
+    carried h2 o2 result (refuses path is host file) = subst (λ h. IsAnswered made words (moment h0 o0) (moment h o2) result) (sym host) (file_refused path o2 result is file)
+
+-- no child is left, also where what came before started none
+pub left_from : (h0 h1 h2 : Outside) → Keeps h0 h1 → LeavesNone h1 h2 → LeavesNone h0 h2
+left_from h0 h1 h2 keeps (inl none) = inl none
+left_from h0 h1 h2 keeps (inr wait) = inr (record {
+  faults = then_rose h0.faults h1.faults h2.faults keeps.faults wait.faults;
+  waits = then_rose h0.failed_waits h1.failed_waits h2.failed_waits keeps.waits wait.waits;
+})

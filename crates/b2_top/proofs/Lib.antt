@@ -1,15 +1,8 @@
-pub mod NameLemmas
-pub mod ReadLemmas
-pub mod StatementLemmas
-pub mod BodyLemmas
-pub mod NormalLemmas
-pub mod RuleLemmas
-pub mod StepLemmas
-pub mod PlanLemmas
-pub mod KindLemmas
-pub mod LawLemmas
-pub mod ExactLemmas
-pub mod BuildLemmas
-pub mod ReportLemmas
-pub mod AnsweredLemmas
-pub mod TellLemmas
+mod FoundLemmas
+mod WalkLemmas
+mod FileLemmas
+mod WordLemmas
+mod StillLemmas
+mod EndLemmas
+mod RunLemmas
+mod BuildLemmas

@@ -1,62 +1,67 @@
 //! The build command.
-ghost use Rattle.std.specs.Prelude.{◌≡◌, ◌≢◌, []};
-ghost use Rattle.std.specs.Option.{IfSome};
+ghost use Rattle.std.specs.Prelude.{◌≡◌, [], Some, None};
+ghost use Rattle.b2_answers.specs.Endings.{IsUsageOrCutShort, IfRefused};
 ghost use Rattle.b2_host.specs.OutsideLaws.{Keeps};
+ghost use Rattle.b2_refusals.specs.Wholes.{IsWhole};
 ghost use Rattle.b2_runs.specs.UpdateAnswers.{LeavesNone};
 ghost use Rattle.b2_update.specs.Moments.{moment};
-ghost use Rattle.b2_top.specs.Jamroots.{IsReady};
-ghost use Rattle.b2_top.specs.Builds.{IsOfWords, StartsNone, RefusalIsNotOutOfMemory, CountsTold};
-ghost use Rattle.b2_top.specs.Answered.{CleanTold, HappenedTold, NotYetTold, NoTokensTold, CompleteTold, ReportTold, TurnsTold, IsAnswered, IsThePlan};
+ghost use Rattle.b2_words.specs.Words.{Word};
+ghost use Rattle.b2_top.specs.Commands.{free_words};
+ghost use Rattle.b2_top.specs.Unbuilt.{unbuilt_option};
+ghost use Rattle.b2_top.specs.Causes.{IsNotTooBig};
+ghost use Rattle.b2_top.specs.Answered.{CleanTold, HappenedTold, CountsTold, StartsNone, CompleteTold, ReportTold, TurnsTold, IsAnswered};
 
-use crate::answer::Answer;
-use crate::load::{LoadEnd, load};
-use crate::refusal::Fault;
-use crate::tell::{tell_host_fault, tell_stop, tell_usage};
+use crate::build::build;
+use crate::command::free_words;
+use crate::unbuilt::unbuilt_option;
+use b2_answers::answer::Answer;
+use b2_answers::tell::{tell_refusal, tell_usage};
 use b2_base::text::Text;
 use b2_host::children::Children;
 use b2_host::sink::Sink;
-use b2_plan::plan::Plan;
-use b2_update::update::update;
-use b2_update::update_answer::UpdateAnswer;
+use b2_refusals::fault::Fault;
+use b2_words::fault::WordsFault;
 use std::alloc::Global;
 
-/// Runs the plan that was read, and tells a fault of the host.
-fn build<H: Children, S: Sink>(alloc: Global, plan: &Plan, host: &mut H, out: &mut S) -> Answer
+/// Builds what the words ask for, whose free words these are, or refuses an option that is not carried out yet.
+fn build_words<H: Children, S: Sink>(
+    alloc: Global,
+    words: &[Text],
+    free: &[Text],
+    host: &mut H,
+    out: &mut S,
+) -> Answer
     requires idle { (H.outside host.old).children.running ≡ [] }
-    requires ready { IsReady plan.now }
-    requires read { IfSome (H.outside host.old).disk (IsThePlan plan.now) }
-    ensures answered { IsAnswered H.made [] (moment (H.outside host.old) (S.output out.old)) (moment (H.outside host.new) (S.output out.new)) result }
+    requires asked { free_words words.now ≡ Some free.now }
+    ensures answered { IsAnswered H.made words.now (moment (H.outside host.old) (S.output out.old)) (moment (H.outside host.new) (S.output out.new)) result }
     ensures none_left { LeavesNone (H.outside host.old) (H.outside host.new) }
     ensures keeps { Keeps (H.outside host.old) (H.outside host.new) }
 {
-    match update(alloc, plan, host, out) {
-        UpdateAnswer::Done => Answer::Ok,
-        UpdateAnswer::Failed(lists) => Answer::Failed(lists),
-        UpdateAnswer::HostFault => tell_host_fault(out),
-        UpdateAnswer::SinkFault => Answer::SinkFault,
-        UpdateAnswer::OutOfMemory => Answer::OutOfMemory,
+    match unbuilt_option(alloc, words) {
+        Ok(Some(path)) => tell_refusal(alloc, &[], &[], Fault::NotYet { path, line: 0 }, out),
+        Ok(None) => build(alloc, free, host, out),
+        Err(_error) => Answer::OutOfMemory,
     }
 }
 
-/// Reads the project and builds it, or tells why not.
+/// Reads the words, and builds what they ask for.
 fn answer<H: Children, S: Sink>(alloc: Global, words: &[Text], host: &mut H, out: &mut S) -> Answer
     requires { (H.outside host.old).children.running ≡ [] }
     ensures answered { IsAnswered H.made words.now (moment (H.outside host.old) (S.output out.old)) (moment (H.outside host.new) (S.output out.new)) result }
     ensures none_left { LeavesNone (H.outside host.old) (H.outside host.new) }
     ensures keeps { Keeps (H.outside host.old) (H.outside host.new) }
 {
-    if !words.is_empty() {
-        return tell_usage(out);
-    }
-    match load(alloc, host) {
-        Ok(plan) => build(alloc, &plan, host, out),
-        Err(LoadEnd::Host) => tell_host_fault(out),
-        Err(LoadEnd::Stopped(stop)) => tell_stop(alloc, stop, out),
+    match free_words(alloc, words) {
+        Ok(free) => build_words(alloc, words, free.as_slice(), host, out),
+        Err(WordsFault::Usage) => tell_usage(out),
+        Err(WordsFault::OutOfMemory) => Answer::OutOfMemory,
     }
 }
 
-/// Builds the project in the folder: reads its `Jamroot`, runs its steps in order, and writes the report to the sink. The
-/// command takes no words yet.
+/// Builds what the words ask for in the project that its files describe: the projects are loaded, the request is read and planned, the
+/// lines of ECHO are written, and the needed steps run, one at a time, inputs before outputs. Options other than `-j1` and `-a`, and
+/// steps that read or make C and C++ files, are refused as not carried out yet. A build whose words are not of its grammar, a look and
+/// a drill are answered by the usage line.
 pub fn run_b2<H: Children, S: Sink>(
     alloc: Global,
     words: &[Text],
@@ -66,27 +71,26 @@ pub fn run_b2<H: Children, S: Sink>(
     requires idle { (H.outside host.old).children.running ≡ [] }
 
     // The headline: after Ok each wanted file has the bytes of the clean build of the sources at entry.
-    ensures clean { result ≡ Answer.Ok → CleanTold H.made (H.outside host.old) (H.outside host.new) }
-    // What happened, by the answer: a whole run, nothing, or the beginning of a run.
+    ensures clean { result ≡ Answer.Ok → CleanTold H.made words.now (H.outside host.old) (H.outside host.new) }
+    // What happened, by the answer: an update that has ended with it, nothing, or the beginning of an update.
     ensures happened { HappenedTold H.made words.now (H.outside host.old) (H.outside host.new) result }
-    // Ok, Failed, Refused and Usage come only where nothing failed; a fault comes only where its count rose, and the first
-    // one decides.
+    // Ok, Failed, Refused and Usage come only where nothing failed; a fault comes only where its count rose, and the first one decides.
     ensures counts { CountsTold (moment (H.outside host.old) (S.output out.old)) (moment (H.outside host.new) (S.output out.new)) result }
-    // A word asks for the usage line, before the host is called, and nothing else does.
-    ensures usage { words.now ≢ [] → IsOfWords result }
-    ensures alone { words.now ≢ [] → H.outside host.new ≡ H.outside host.old }
-    ensures no_usage { result ≡ Answer.Usage → words.now ≢ [] }
-    // A call that is refused has started nothing.
-    ensures starts_none { StartsNone result (H.outside host.old).children (H.outside host.new).children }
-    // A refusal never stands for running out of memory.
-    ensures not_out_of_memory { RefusalIsNotOutOfMemory result }
-    // A Jamroot that has no tokens is refused by the name of its fault, and one that is not as it should be at its first
-    // bad line.
-    ensures not_yet { NotYetTold words.now (H.outside host.old) (H.outside host.new) result }
-    ensures without_tokens { NoTokensTold words.now (H.outside host.old) (H.outside host.new) result }
-    // Where all sources stand, no child ends badly and nothing fails, the answer is Ok, or the call was cut short.
-    ensures complete { CompleteTold H.made words.now (moment (H.outside host.old) (S.output out.old)) (moment (H.outside host.new) (S.output out.new)) result }
-    // What was written is the report.
+    // Words that are no build ask for the usage line, and the host is not called; nothing else does.
+    ensures usage { free_words words.now ≡ None → IsUsageOrCutShort result }
+    ensures alone { free_words words.now ≡ None → H.outside host.new ≡ H.outside host.old }
+    ensures no_usage { result ≡ Answer.Usage → free_words words.now ≡ None }
+    // Nor is it called where an option is not carried out yet.
+    ensures without { (name : Word) → unbuilt_option words.now ≡ Some name → H.outside host.new ≡ H.outside host.old }
+    // A call that is refused for another reason than a step cycle has started nothing and changed no file.
+    ensures starts_none { StartsNone result (H.outside host.old) (H.outside host.new) }
+    // No fault of the host and no out of memory is within a refusal, and no file is too big.
+    ensures whole { IfRefused IsWhole result }
+    ensures not_too_big { IfRefused IsNotTooBig result }
+    // Where there is a plan whose clean build is defined, and no child ends badly, the answer is Ok, or the call was cut short, or a
+    // pattern of the project's own text was refused though it reads as one.
+    ensures complete { CompleteTold H.made words.now (H.outside host.old) (H.outside host.new) result }
+    // What was written is the report; each refusal has its cause.
     ensures reported { ReportTold H.made words.now (moment (H.outside host.old) (S.output out.old)) (moment (H.outside host.new) (S.output out.new)) result }
     // The events are in order, over every host: one step is open at a time, and none starts twice. Each failed step was done
     // badly, or left an output out; with Ok none did so.

@@ -1,4 +1,4 @@
-use Rattle.std.proofs.Common.{◌≡◌, ℕ, ◌+◌, ◌<◌, Bool, true, false, cond, List, take, length, get_or, ◌⊎◌, inl, inr, refl, sym, ap, subst, ◌∙◌, Option, Some, None, IfSome, option_map, arith}
+use Rattle.std.proofs.Common.{◌≡◌, ℕ, ◌+◌, ◌<◌, ◌↔◌, Bool, true, false, cond, List, take, length, get_or, ◌⊎◌, inl, inr, refl, sym, ap, subst, ◌∙◌, Option, Some, None, IfSome, IfOk, IsTrue, Result, Ok, Err, option_map, arith}
 use Rattle.std.specs.List.{Contains}
 use Rattle.std.specs.Str.{bytes_eq}
 use Rattle.std.proofs.lemmas.Slice.Eq.{bytes_eq-Decides}
@@ -6,7 +6,7 @@ use Rattle.b2_host.specs.Disks.{File, Disk, without}
 use Rattle.b2_host.specs.ChildProcesses.{BothTold}
 use Rattle.b2_host.specs.Outside.{Outside, Fails}
 use Rattle.b2_host.specs.FileCalls.{removed}
-use Rattle.b2_update.specs.Outputs.{KeepsOthers, AreGone, Clears}
+use Rattle.b2_update.specs.Outputs.{KeepsOthers, AllStand, AreGone, Clears}
 use Rattle.b2_update.proofs.ListLemmas.{taken_more, taken_old, taken_new, taken_in}
 use Rattle.b2_update.proofs.MakerLemmas.{same_bytes}
 
@@ -73,3 +73,9 @@ pub clears_failed : (outs : List (List ℕ)) (i : ℕ) (d path : List ℕ) (x y 
 clears_failed outs i d path x y z h is clears (inl failed) = clears_all outs i x z (clears_fails (take i outs) x y z clears failed)
 clears_failed outs i d path x y z h is clears (inr failed) =
     clears_all outs (i + 1) x z (clears_fails (take (i + 1) outs) x (removed path y) z (clears_more outs i d x y (removed path y) h clears (ap (λ p. removed p y) is)) failed)
+
+-- where each output stands, the step has left each
+pub all_left : {E : Type 0} (r : Result Bool E) (disk : Option Disk) (listed outs : List (List ℕ)) (well : Bool) → listed ≡ outs → IfOk r (λ all. IfSome disk (λ d. IsTrue all ↔ AllStand listed d)) → IfOk r (λ left. IfSome disk (λ d. well ≡ true → AllStand outs d → left ≡ true))
+all_left (Err stop) disk listed outs well e told = tt
+all_left (Ok all) None listed outs well e told = tt
+all_left (Ok all) (Some d) listed outs well e told = λ ended stand. told.1 (subst (λ l. AllStand l d) (sym e) stand)

@@ -1,6 +1,5 @@
-use Rattle.std.proofs.Common.{◌≡◌, ◌≢◌, ℕ, zero, suc, ◌+◌, ◌<◌, true, false, List, [], ◌++◌, length, get_or, refl, sym, ap, subst, arith, ◌∙◌, Option, Some, None, IfSome, append-nil, Result, Ok, Err, MatchResult, inl, inr}
-use Rattle.std.proofs.lemmas.Option.{slice_get_read}
-use Rattle.b2_host.specs.declared.children.ChildEvent.TheVariants.{Start}
+use Rattle.std.proofs.Common.{◌≡◌, ◌≢◌, ℕ, Bool, true, false, List, [], ◌++◌, refl, sym, ap, subst, ◌∙◌, Option, Some, None, IfSome, append-nil, Result, Ok, Err, MatchResult, inl, inr}
+use Rattle.b2_host.specs.declared.children.ChildEvent.{ChildEvent}
 use Rattle.b2_host.specs.Disks.{Disk, Folder, IsConsistent}
 use Rattle.b2_host.specs.ChildProcesses.{Family, Given}
 use Rattle.b2_host.specs.Outside.{Outside}
@@ -8,45 +7,35 @@ use Rattle.b2_host.specs.Output.{Output, with_written}
 use Rattle.b2_host.specs.Faults.{Rose}
 use Rattle.b2_host.specs.OutsideLaws.{Keeps, keeps_same, keeps_fails}
 use Rattle.b2_plan.specs.declared.plan.Plan.{Plan}
-use Rattle.b2_plan.specs.declared.step.Step.{Step}
-use Rattle.b2_plan.specs.Plans.{log_path, step_at, Apart}
+use Rattle.b2_plan.specs.Plans.{log_path, Apart}
 use Rattle.b2_runs.specs.Staleness.{Update}
 use Rattle.b2_runs.specs.Moments.{Moment}
 use Rattle.b2_runs.specs.UpdateAnswers.{CountsStay, IsQuietHost, CausedBy, LeavesNone}
 use Rattle.b2_runs.specs.Soundness.{AreAtWork}
-use Rattle.b2_runs.proofs.ElementLemmas.{Contains_nil}
 use Rattle.b2_runs.proofs.SoundLaws.{sound_at_entry}
 use Rattle.b2_runs.proofs.OutcomeLaws.{nothing_left_at_entry}
 use Rattle.b2_runs.proofs.ChildLaws.{at_work_at_entry}
-use Rattle.b2_update.specs.declared.outcome.Outcome.{Outcome}
 use Rattle.b2_update.specs.declared.stop.Stop.{Stop}
 use Rattle.b2_update.specs.declared.stop.Stop.TheVariants as stops
-use Rattle.b2_update.specs.declared.failed_lists.FailedLists.{FailedLists}
 use Rattle.b2_update.specs.declared.update_answer.UpdateAnswer.{UpdateAnswer}
 use Rattle.b2_update.specs.declared.update_answer.UpdateAnswer.TheVariants as answers
-use Rattle.b2_update.specs.Answers.{answer_of, stop_answer, IsEndOf}
-use Rattle.b2_update.specs.Plain.{IsPlain, Made, update_of}
+use Rattle.b2_update.specs.Answers.{answer_of, stop_answer, IsEnd}
+use Rattle.b2_update.specs.Plain.{Made, update_of}
 use Rattle.b2_update.specs.Stops.{Says, HostTold, StopLooks, ChangesFiles, FaultsTold, StopCausedBy, IsCalm, Halts, Proceeds}
-use Rattle.b2_update.specs.Inputs.{outcome_at}
 use Rattle.b2_update.specs.Progress.{IsWhole, Stands, Stopped, GoesOn}
 use Rattle.b2_update.specs.Moments.{moment}
-use Rattle.b2_update.proofs.EventLemmas.{by_stamp}
+use Rattle.b2_update.proofs.WholeLemmas.{by_stamp}
 use Rattle.b2_update.proofs.WritingLemmas.{adds_nothing}
 
 given_none : (given : Option (List Given)) → IfSome given (λ before. given ≡ Some (before ++ []))
 given_none None = tt
 given_none (Some list) = ap Some (sym (append-nil list))
 
-no_outcome : (i : ℕ) (o : Outcome) → outcome_at [] i ≡ Some o → ⊥
-no_outcome zero o e = let f : None ≡ Some o = e in cc
-no_outcome (suc place) o e = let f : None ≡ Some o = e in cc
-
--- an update begins with no outcome
+-- an update begins
 pub stands_begin : (u : Update) → IsWhole u → (entry : Moment) (before : Disk) → entry.host.disk ≡ Some before → u.build.folder ≡ before.now → entry.host.children.running ≡ [] → IfSome entry.host.disk IsConsistent → Stands u entry [] entry
 stands_begin u w entry before now_is folder idle consistent = record {
   now = before;
   now_is = now_is;
-  events = [];
   core = record {
     events_are = sym (append-nil entry.host.children.events);
     given = [];
@@ -56,20 +45,16 @@ stands_begin u w entry before now_is folder idle consistent = record {
     at_work = subst (AreAtWork u []) (sym idle) (at_work_at_entry u);
     sound = sound_at_entry u before (subst (λ d. IfSome d IsConsistent) now_is consistent) (λ off. absurd (let e : true ≡ false = sym w.all ∙ off in cc)) (λ path. ap (λ f. f path) folder) (by_stamp u w before);
     log = ap (λ f. f log_path) (sym folder);
-    became = λ i o e. absurd (no_outcome i o e);
   };
   gone = nothing_left_at_entry u before.now [];
   even = refl;
-  within = λ i c. absurd (Contains_nil (Start i) c);
-  settled = refl;
   lines = adds_nothing entry.out.written;
 }
 
--- the update of a plain plan is whole
-pub whole_update : (plan : Plan) (made : Made) (before : Folder) → Apart plan.steps plan.roots → IsPlain plan.steps plan.wanted → IsWhole (update_of plan made before)
-whole_update plan made before apart plain = record {
+-- the update of a plan is whole
+pub whole_update : (plan : Plan) (made : Made) (before : Folder) → Apart plan.steps plan.roots → IsWhole (update_of plan made before)
+whole_update plan made before apart = record {
   apart = apart;
-  plain = plain;
   inc = λ path bytes. refl;
   all = refl;
   by_stamp = λ on. (let e : false ≡ true = on in cc);
@@ -98,14 +83,8 @@ pub no_sink : (stop : Stop) → stop ≡ stops.OutOfMemory → stop ≢ stops.Si
 no_sink stop e f = let g : stops.OutOfMemory ≡ stops.Sink = sym e ∙ f in cc
 
 -- what goes on is known from the result
-pub goes_err : (u : Update) (entry : Moment) (list : List Outcome) (r : Result Outcome Stop) (here : Moment) (stop : Stop) → r ≡ Err stop → Stopped u entry stop here → GoesOn u entry list r here
-goes_err u entry list r here stop e s = subst (λ z. GoesOn u entry list z here) (sym e) s
-
--- the next step of a plan, by the number of outcomes
-pub next_step : (steps : List Step) (n i : ℕ) (step : Step) → n ≡ i → i < length steps → step ≡ get_or steps i step → step_at steps (n + 1) ≡ Some step
-next_step steps n i step size within is =
-    let one : suc i ≡ n + 1 = omega arith in
-    subst (λ k. step_at steps k ≡ Some step) one (slice_get_read steps (length steps) i step refl within is)
+pub goes_err : (u : Update) (entry : Moment) (front : List ChildEvent) (number : ℕ) (r : Result Bool Stop) (here : Moment) (stop : Stop) → r ≡ Err stop → Stopped u entry stop here → GoesOn u entry front number r here
+goes_err u entry front number r here stop e s = subst (λ z. GoesOn u entry front number z here) (sym e) s
 
 pub match_err : {T E : Type 0} (r : Result T E) (P : T → Type 0) (Q : E → Type 0) (y : E) → r ≡ Err y → Q y → MatchResult r P Q
 match_err r P Q y e q = subst (λ z. MatchResult z P Q) (sym e) q
@@ -218,12 +197,13 @@ calm_said x y out text calm said = record {
 }
 
 -- how the counts stand to the answer of an update
-pub finished_counts : (before after : Moment) (lists : FailedLists) (answer : UpdateAnswer) → IsEndOf lists answer → IsCalm before after → CausedBy before after (answer_of answer)
-finished_counts before after lists answers.Done end calm = calm.counts
-finished_counts before after lists (answers.Failed others) end calm = calm.counts
-finished_counts before after lists answers.HostFault end calm = absurd end
-finished_counts before after lists answers.SinkFault end calm = absurd end
-finished_counts before after lists answers.OutOfMemory end calm = absurd end
+pub ended_counts : (before after : Moment) (answer : UpdateAnswer) → IsEnd answer → IsCalm before after → CausedBy before after (answer_of answer)
+ended_counts before after answers.Done end calm = calm.counts
+ended_counts before after (answers.Failed lists) end calm = calm.counts
+ended_counts before after (answers.StepCycle list) end calm = calm.counts
+ended_counts before after answers.HostFault end calm = absurd end
+ended_counts before after answers.SinkFault end calm = absurd end
+ended_counts before after answers.OutOfMemory end calm = absurd end
 
 pub stopped_counts : (before after : Moment) (stop : Stop) (answer : UpdateAnswer) → answer ≡ stop_answer stop → Halts before after stop → CausedBy before after (answer_of answer)
 stopped_counts before after stop answer is halts = subst (λ a. CausedBy before after (answer_of a)) (sym is) halts.counts

@@ -5,7 +5,13 @@ pub mod Moments
 pub mod Writings
 pub mod Stops
 pub mod Inputs
+pub mod Boards
+pub mod Sightings
+pub mod Needs
+pub mod Looks
 pub mod Runners
 pub mod Outputs
 pub mod Progress
 pub mod Turns
+pub mod Ends
+pub mod Starts

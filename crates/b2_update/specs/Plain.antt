@@ -1,19 +1,9 @@
-use Rattle.std.specs.Prelude.{◌≡◌, ℕ, ◌<◌, true, false, List, [], Some, refl}
-use Rattle.std.specs.List.{Contains}
+use Rattle.std.specs.Prelude.{ℕ, true, false, List, [], refl}
 use Rattle.b2_host.specs.Disks.{Folder}
 use Rattle.b2_plan.specs.declared.step.Step.{Step}
 use Rattle.b2_plan.specs.declared.plan.Plan.{Plan}
-use Rattle.b2_plan.specs.Plans.{step_at, Makes}
 use Rattle.b2_plan.specs.Sources.{Build}
 use Rattle.b2_runs.specs.Staleness.{Update}
-
--- The plan is in topological order: a step reads outputs of earlier steps alone. All outputs are wanted and nothing
--- else, and each step owes a file at each output.
-pub record IsPlain (steps : List Step) (wanted : List (List ℕ)) : Type 0 where
-  pub in_order : (i k : ℕ) (step other : Step) (path : List ℕ) → step_at steps i ≡ Some step → Contains step.ins path → Makes steps k other path → k < i
-  pub all_wanted : (i : ℕ) (step : Step) (path : List ℕ) → Makes steps i step path → Contains wanted path
-  pub wanted_made : (path : List ℕ) → Contains wanted path → (i : ℕ) × (step : Step) × Makes steps i step path
-  pub leaves_files : (i : ℕ) (step : Step) → step_at steps i ≡ Some step → step.notfile ≡ false
 
 -- what a text makes of named inputs, at an output
 abbrev pub Made : Type 0

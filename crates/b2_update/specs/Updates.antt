@@ -14,8 +14,9 @@ use Rattle.b2_plan.specs.Cleans.{Clean}
 use Rattle.b2_runs.specs.Staleness.{Update}
 use Rattle.b2_runs.specs.Runs.{IsRun, IsBegun, AreFed}
 use Rattle.b2_runs.specs.Outcomes.{NoneStuck, AllWent, HasCleanBytes, IsCleanBuild, LeavesNothing, OnlyOutputsChange}
+use Rattle.b2_runs.specs.Cycles.{IsStepCycle}
 use Rattle.b2_runs.specs.Soundness.{Holds, AreAtWork}
-use Rattle.b2_runs.specs.Reports.{AreLists, no_lists, report, TellsStarts, StopsAtEvent, StopsAtEnd}
+use Rattle.b2_runs.specs.Reports.{AreLists, no_lists, event_lines, report, TellsStarts, StopsAtEvent, StopsAtEnd}
 use Rattle.b2_runs.specs.Moments.{Moment}
 use Rattle.b2_runs.specs.UpdateAnswers.{UpdateAnswer as RunAnswer, SomethingLacks}
 use Rattle.b2_runs.specs.UpdateAnswers.UpdateAnswer.{all_went, failed as some_failed, step_cycle, too_big, host_fault, sink_fault, out_of_memory}
@@ -34,7 +35,7 @@ pub record HasRunToEnd (u : Update) (events : List ChildEvent) (now : Folder) : 
 abbrev pub RunTold : Update → List ChildEvent → Folder → RunAnswer → Type 0
 RunTold u events now all_went = HasRunToEnd u events now × AllWent u events × IsCleanBuild u.build now
 RunTold u events now (some_failed lists) = HasRunToEnd u events now × NoneStuck u events × AreLists u events lists × SomethingLacks lists
-RunTold u events now (step_cycle list) = ⊥
+RunTold u events now (step_cycle list) = HasRunToEnd u events now × IsStepCycle u events list
 RunTold u events now (too_big path size) = ⊥
 RunTold u events now host_fault = ⊤
 RunTold u events now sink_fault = ⊤
@@ -75,11 +76,11 @@ StopsAtWrite u events written = StopsAtEvent u.build.steps events written ⊎ St
 abbrev pub StopsSomewhere : Update → List ChildEvent → List ℕ → Type 0
 StopsSomewhere u events written = TellsStarts u.build.steps events written ⊎ StopsAtWrite u events written
 
--- what an answer says of the bytes that were written
+-- what an answer says of the bytes that were written; the line of a refusal comes after them
 abbrev pub BytesTold : Update → List ChildEvent → RunAnswer → List ℕ → Type 0
 BytesTold u events all_went written = written ≡ report u.build.steps events no_lists
 BytesTold u events (some_failed lists) written = written ≡ report u.build.steps events lists
-BytesTold u events (step_cycle list) written = ⊥
+BytesTold u events (step_cycle list) written = written ≡ event_lines u.build.steps events
 BytesTold u events (too_big path size) written = ⊥
 BytesTold u events host_fault written = TellsStarts u.build.steps events written
 BytesTold u events sink_fault written = StopsAtWrite u events written

@@ -1,100 +1,22 @@
-//! What an update that ended names, and the end of its report.
-ghost use Rattle.std.specs.Prelude.{◌≡◌, ◌≤◌, [], ◌∷◌, ◌++◌, if◌then◌else◌, Some, false, IfOk, OnOk, length, count_by, IsTrue, ◌↔◌};
+//! The end of a report.
+ghost use Rattle.std.specs.Prelude.{◌≡◌, [], false, IsTrue};
 ghost use Rattle.std.specs.List.{flat_map};
-ghost use Rattle.std.specs.Option.{option_copied};
 ghost use Rattle.b2_plan.specs.Plans.{step_at};
-ghost use Rattle.b2_runs.specs.Outcomes.{IsListOf};
 ghost use Rattle.b2_runs.specs.Reports.{missing_line, skipped_line, said_of, end_lines};
 ghost use Rattle.b2_runs.specs.UpdateAnswers.{SomethingLacks};
 ghost use Rattle.b2_update.specs.Answers.{lists_of};
 ghost use Rattle.b2_update.specs.Stops.{Says};
-ghost use Rattle.b2_update.specs.Inputs.{outcome_at, is_settled, AreListed};
 ghost use Rattle.b2_update.specs.Writings.{skipped_lines};
 
 use crate::child::write_line;
 use crate::failed_lists::FailedLists;
 use crate::lines::{missing_text, skipped_text, summary_text};
-use crate::number_list::NumberList;
-use crate::outcome::Outcome;
+use crate::step_of::find_step;
 use crate::stop::Stop;
-use b2_base::fault::OutOfMemory;
 use b2_base::path::Path;
-use b2_base::path_list::PathList;
 use b2_host::sink::Sink;
 use b2_plan::step::Step;
 use std::alloc::Global;
-
-/// Whether the outcomes are the same.
-fn is_same(outcome: Outcome, wanted: Outcome) -> bool
-    ensures { IsTrue result ↔ (outcome ≡ wanted) }
-{
-    outcome == wanted
-}
-
-/// Adds a number where it is to be noted.
-fn note(numbers: &mut NumberList, number: u32, noted: bool) -> Result<(), OutOfMemory>
-    ensures { OnOk result (numbers.new ≡ (if noted then numbers.old ++ number ∷ [] else numbers.old)) }
-{
-    if noted {
-        numbers.push(number)?;
-    }
-    Ok(())
-}
-
-/// The numbers of the steps with this outcome, in rising order.
-fn numbers_of(
-    alloc: Global,
-    outcomes: &[Outcome],
-    wanted: Outcome,
-) -> Result<NumberList, OutOfMemory>
-    requires { length outcomes.now ≤ 65536 }
-    ensures { IfOk result (IsListOf (λ i. outcome_at outcomes.now i ≡ Some wanted)) }
-{
-    let mut numbers = NumberList::new(alloc);
-    for (place, outcome) in outcomes.iter().enumerate() {
-        let noted = is_same(*outcome, wanted);
-        note(&mut numbers, place as u32 + 1, noted)?;
-    }
-    Ok(numbers)
-}
-
-/// What an update names whose steps have these outcomes, and to which these inputs are missing.
-pub fn list_outcomes(
-    alloc: Global,
-    outcomes: &[Outcome],
-    missing: PathList,
-) -> Result<FailedLists, OutOfMemory>
-    requires { length outcomes.now ≤ 65536 }
-    ensures { IfOk result (AreListed outcomes.now missing) }
-{
-    let failed = numbers_of(alloc, outcomes, Outcome::Failed)?;
-    let skipped = numbers_of(alloc, outcomes, Outcome::Skipped)?;
-    Ok(FailedLists {
-        failed,
-        skipped,
-        missing,
-    })
-}
-
-/// How many steps have settled.
-pub fn count_settled(outcomes: &[Outcome]) -> usize
-    ensures { result ≡ count_by is_settled outcomes.now }
-{
-    outcomes
-        .iter()
-        .filter(|outcome| matches!(**outcome, Outcome::Settled))
-        .count()
-}
-
-/// The step with a number, where there is one.
-fn step_of(steps: &[Step], number: u32) -> Option<&Step>
-    ensures { option_copied result ≡ step_at steps.now number }
-{
-    if number == 0 {
-        return None;
-    }
-    steps.get(number as usize - 1)
-}
 
 /// Writes what is missing.
 fn tell_missing<S: Sink>(alloc: Global, out: &mut S, paths: &[Path]) -> Result<(), Stop>
@@ -116,7 +38,7 @@ fn tell_one_skipped<S: Sink>(
 ) -> Result<(), Stop>
     ensures { Says (said_of skipped_line (step_at steps.now number)) (S.output out.old) (S.output out.new) result }
 {
-    match step_of(steps, number) {
+    match find_step(steps, number) {
         None => Ok(()),
         Some(step) => {
             let line = skipped_text(alloc, step)?;

@@ -1,5 +1,6 @@
 //! The answers of an update.
 use crate::failed_lists::FailedLists;
+use crate::number_list::NumberList;
 
 /// How an update ended.
 #[derive(Drop)]
@@ -8,6 +9,8 @@ pub enum UpdateAnswer {
     Done,
     /// Something failed, was skipped or is missing.
     Failed(FailedLists),
+    /// Steps need one another: the cycle, by the numbers of its steps.
+    StepCycle(NumberList),
     /// The host failed.
     HostFault,
     /// The sink failed.

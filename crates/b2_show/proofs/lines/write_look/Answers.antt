@@ -1,9 +1,10 @@
 use Rattle.std.proofs.Common.{Err, sym, subst}
 use Rattle.std.proofs.lemmas.Result.{err_from_is_err_and}
 use Rattle.b2_generate.specs.Plans.{seen}
-use Rattle.b2_show.specs.Looks.{echo_lines, view_lines, look_report}
-use Rattle.b2_show.specs.Writing.{Writes}
-use Rattle.b2_show.proofs.WritingLemmas.{writes_err, writes_stop, writes_then}
+use Rattle.b2_answers.specs.Reports.{echo_lines}
+use Rattle.b2_show.specs.Looks.{view_lines, look_report}
+use Rattle.b2_answers.specs.Writing.{Writes}
+use Rattle.b2_answers.proofs.WritingLemmas.{writes_err, writes_stop, writes_then}
 use Rattle.b2_show.proofs.lines.write_look.Goals as goal
 
 pub returns-in_err-write_echoes : goal.returns-in_err-write_echoes

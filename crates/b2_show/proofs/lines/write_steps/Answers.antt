@@ -2,8 +2,8 @@ use Rattle.std.proofs.Common.{Err, sym, subst}
 use Rattle.std.proofs.lemmas.Result.{err_from_is_err_and}
 use Rattle.b2_refusals.specs.Lines.{step_lines}
 use Rattle.b2_show.specs.Looks.{steps_lines}
-use Rattle.b2_show.specs.Writing.{Writes}
-use Rattle.b2_show.proofs.WritingLemmas.{written_none, writes_err, list_more, list_stops, list_done}
+use Rattle.b2_answers.specs.Writing.{Writes}
+use Rattle.b2_answers.proofs.WritingLemmas.{written_none, writes_err, list_more, list_stops, list_done}
 use Rattle.b2_show.proofs.lines.write_steps.Goals as goal
 
 pub loop-step-init : goal.loop-step-init

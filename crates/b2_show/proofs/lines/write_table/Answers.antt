@@ -3,8 +3,8 @@ use Rattle.std.proofs.lemmas.Result.{err_from_is_err_and}
 use Rattle.b2_generate.specs.declared.planned.Built.{Built}
 use Rattle.b2_refusals.specs.Lines.{table_line}
 use Rattle.b2_show.specs.Looks.{table_lines}
-use Rattle.b2_show.specs.Writing.{Writes}
-use Rattle.b2_show.proofs.WritingLemmas.{written_none, writes_err, list_more, list_stops, list_done, made_again}
+use Rattle.b2_answers.specs.Writing.{Writes}
+use Rattle.b2_answers.proofs.WritingLemmas.{written_none, writes_err, list_more, list_stops, list_done, made_again}
 use Rattle.b2_show.proofs.lines.write_table.Goals as goal
 
 abbrev row_line : Built → List ℕ

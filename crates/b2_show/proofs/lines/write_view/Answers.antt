@@ -4,7 +4,7 @@ use Rattle.b2_generate.specs.Planning.{Line}
 use Rattle.b2_generate.specs.Plans.{seen}
 use Rattle.b2_generate.specs.declared.planned.Built.{Built}
 use Rattle.b2_show.specs.Looks.{row_line, table_lines, steps_lines, view_lines}
-use Rattle.b2_show.specs.Writing.{Writes}
+use Rattle.b2_answers.specs.Writing.{Writes}
 use Rattle.b2_show.proofs.lines.write_view.Goals as goal
 
 abbrev line_of : Built → Line

@@ -1,7 +1,7 @@
 use Rattle.b2_answers.specs.declared.answer.Answer.TheVariants as answers
 use Rattle.b2_generate.specs.Plans.{seen}
 use Rattle.b2_show.specs.Looks.{look_report}
-use Rattle.b2_show.proofs.WritingLemmas.{says_done, says_not}
+use Rattle.b2_answers.proofs.WritingLemmas.{says_done, says_not}
 use Rattle.b2_show.proofs.tell.tell_look.Goals as goal
 
 pub returns-in-Ok : goal.returns-in-Ok

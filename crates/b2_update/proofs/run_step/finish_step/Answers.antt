@@ -1,14 +1,10 @@
-use Rattle.std.proofs.Common.{◌≡◌, sym, subst, true, false, IfSome, List, ℕ, Err}
+use Rattle.std.proofs.Common.{◌≡◌, sym, subst, Bool, true, false, Err}
 use Rattle.std.proofs.lemmas.Result.{err_from_is_err_and}
-use Rattle.b2_host.specs.Disks.{Disk}
 use Rattle.b2_host.specs.OutsideLaws.{Keeps}
 use Rattle.b2_update.specs.Moments.{moment}
 use Rattle.b2_update.specs.Stops.{StopLooks, ChangesFiles, FaultsTold}
-use Rattle.b2_update.specs.Outputs.{AllStand}
 use Rattle.b2_update.specs.Progress.{HasEndedChild}
 use Rattle.b2_update.proofs.StopLemmas.{goes_err, look_stops, look_told, look_files, look_keeps, faults_err}
-use Rattle.b2_update.specs.declared.outcome.Outcome.{Outcome}
-use Rattle.b2_update.specs.declared.outcome.Outcome.TheVariants as outcomes
 use Rattle.b2_update.specs.Turns.{EndedAs}
 use Rattle.b2_update.proofs.InputLemmas.{if_ok_map}
 use Rattle.b2_update.proofs.TurnLemmas.{left_out_told}
@@ -44,21 +40,21 @@ returns-in_err-left-clause-keeps g c =
     look_keeps h0 h1 y looked
 
 pub returns-in_err-left-clause-told : goal.returns-in_err-left-clause-told
-returns-in_err-left-clause-told g c = λ u entry list w at come.
+returns-in_err-left-clause-told g c = λ u entry front i w at come.
     let h0 = g.H.Files.outside c.args.host.now in
     let h1 = g.H.Files.outside c.has_left.new.host in
     let out = g.S.Sink.output c.args.out.now in
     let (y, e, q) = err_from_is_err_and c.from_residual.result c.from_residual.ensures.1 in
     let looked = subst (λ z. StopLooks {T = Unit {0}} h0 h1 (Err z)) (sym q) c.in_err-left.ensures.host in
-    goes_err u entry list c.from_residual.result (moment h1 out) y e (stopped_look u entry y (moment h0 out) h1 looked (ended_stopped u entry list c.args.well (moment h0 out) y (look_stops h0 h1 y looked) come))
+    goes_err u entry front i c.from_residual.result (moment h1 out) y e (stopped_look u entry y (moment h0 out) h1 looked (ended_stopped u entry front i c.args.well (moment h0 out) y (look_stops h0 h1 y looked) come))
 
 pub returns-then-left-clause-told : goal.returns-then-left-clause-told
-returns-then-left-clause-told g c = λ u entry list w at come.
+returns-then-left-clause-told g c = λ u entry front i w at come.
     let h0 = g.H.Files.outside c.args.host.now in
     let h1 = g.H.Files.outside c.has_left.new.host in
     let out = g.S.Sink.output c.args.out.now in
     let well : c.args.well ≡ true = c.in_ok-left.ensures.well c.if-left.true in
-    stands_along u entry _ (moment h0 out) h1 c.in_ok-left.ensures.host (ended_settled u entry list (moment h0 out) (subst (λ b. HasEndedChild u entry list b (moment h0 out)) well come))
+    stands_along u entry _ (moment h0 out) h1 c.in_ok-left.ensures.host (ended_settled u entry front i (moment h0 out) (subst (λ b. HasEndedChild u entry front i b (moment h0 out)) well come))
 
 pub returns-clause-counts : goal.returns-clause-counts
 returns-clause-counts g c =
@@ -76,13 +72,12 @@ returns-clause-keeps g c =
     subst (λ h. Keeps h (g.H.Files.outside c.fail_step.new.host)) c.in_ok-left.ensures.host c.fail_step.ensures.keeps
 
 pub returns-clause-told : goal.returns-clause-told
-returns-clause-told g c = λ u entry list w at come.
+returns-clause-told g c = λ u entry front i w at come.
     let h0 = g.H.Files.outside c.args.host.now in
     let h1 = g.H.Files.outside c.has_left.new.host in
     let out = g.S.Sink.output c.args.out.now in
-    let told = subst (λ (l : List (List ℕ)). IfSome h0.disk (λ (disk : Disk). c.args.well ≡ true → AllStand l disk → c.in_ok-left.left ≡ true)) c.as_slice.ensures c.in_ok-left.ensures.answer in
-    let bad = ended_badly u entry list c.args.step.now c.args.well c.in_ok-left.left (moment h0 out) w at come told c.if-left.false in
-    c.fail_step.ensures.told u entry list w at (ended_along u entry list false (moment h0 out) h1 c.in_ok-left.ensures.host bad)
+    let bad = ended_badly u entry front i c.args.step.now c.args.well c.in_ok-left.left (moment h0 out) w at come c.in_ok-left.ensures.owes c.in_ok-left.ensures.answer c.if-left.false in
+    c.fail_step.ensures.told u entry front i w at (ended_along u entry front i false (moment h0 out) h1 c.in_ok-left.ensures.host bad)
 
 pub returns-then-left-clause-became : goal.returns-then-left-clause-became
 returns-then-left-clause-became g c = c.in_ok-left.ensures.well c.if-left.true
@@ -90,6 +85,5 @@ returns-then-left-clause-became g c = c.in_ok-left.ensures.well c.if-left.true
 pub returns-clause-became : goal.returns-clause-became
 returns-clause-became g c =
     let disk = (g.H.Files.outside c.args.host.now).disk in
-    let told = subst (λ (l : List (List ℕ)). IfSome disk (λ (files : Disk). c.args.well ≡ true → AllStand l files → c.in_ok-left.left ≡ true)) c.as_slice.ensures c.in_ok-left.ensures.answer in
-    if_ok_map (λ (o : Outcome). o ≡ outcomes.Failed) (EndedAs c.args.well c.args.step.now disk) c.fail_step.result c.fail_step.ensures.failed
-    (λ o is. subst (EndedAs c.args.well c.args.step.now disk) (sym is) (left_out_told disk c.args.well c.in_ok-left.left c.args.step.now told c.if-left.false))
+    if_ok_map (λ (o : Bool). o ≡ false) (EndedAs c.args.well c.args.step.now disk) c.fail_step.result c.fail_step.ensures.failed
+    (λ o is. subst (EndedAs c.args.well c.args.step.now disk) (sym is) (left_out_told disk c.args.well c.in_ok-left.left c.args.step.now c.in_ok-left.ensures.owes c.in_ok-left.ensures.answer c.if-left.false))

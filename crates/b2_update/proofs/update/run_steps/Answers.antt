@@ -1,108 +1,163 @@
-use Rattle.std.proofs.Common.{◌≡◌, ◌+◌, ◌∙◌, ◌++◌, ◌∷◌, [], List, Some, length, refl, sym, ap, subst}
+use Rattle.std.proofs.Common.{◌+◌, refl, sym, subst, arith, Ok, Err}
 use Rattle.std.proofs.lemmas.Result.{err_from_is_err_and}
-use Rattle.b2_host.specs.OutsideLaws.{keeps_same, keeps_then, stays_visible}
-use Rattle.b2_plan.specs.declared.step.Step.{Step}
-use Rattle.b2_plan.specs.Plans.{step_at}
-use Rattle.b2_update.specs.declared.outcome.Outcome.{Outcome}
+use Rattle.b2_sched.specs.Schedules.{IsStale}
+use Rattle.b2_update.specs.declared.board.Board.{Board}
 use Rattle.b2_update.specs.Moments.{moment}
-use Rattle.b2_update.specs.Plain.{update_of}
-use Rattle.b2_update.specs.Progress.{Stands, Stopped, StepsRan}
-use Rattle.b2_update.specs.Stops.{Halts}
-use Rattle.b2_update.specs.Turns.{HadTurns, StoppedTurns}
-use Rattle.b2_update.proofs.StopLemmas.{next_step, no_sink, calm_here, calm_halts, calm_again, calm_memory}
-use Rattle.b2_update.proofs.StepLemmas.{stands_stopped, length_push}
-use Rattle.b2_update.proofs.TurnLemmas.{had_stopped}
+use Rattle.b2_update.specs.Stops.{StopLooks}
+use Rattle.b2_update.specs.Starts.{RunsNext}
+use Rattle.b2_update.specs.Progress.{StepsRan}
+use Rattle.b2_update.proofs.RunLemmas.{IsBetween, stale_is_step, byte_is, byte_small, next_runs, next_alone, round_smaller, board_same, between_begins, between_looked, look_stopped, round_ran, round_stopped, started_board, none_is_stale}
 use Rattle.b2_update.proofs.update.run_steps.Goals as goal
 
-pub returns-in_err-outcome-clause-ran : goal.returns-in_err-outcome-clause-ran
-returns-in_err-outcome-clause-ran g c =
+pub returns-in_err-look_all-clause-ran : goal.returns-in_err-look_all-clause-ran
+returns-in_err-look_all-clause-ran g c =
     let (y, e, q) = err_from_is_err_and c.from_residual.result c.from_residual.ensures.1 in
     let plan = c.args.plan.now in
     let made = g.H.Children.made in
-    let first = moment (g.H.Files.outside c.args.host.now) (g.S.Sink.output c.args.out.now) in
-    let here = moment (g.H.Files.outside c.loop-step.host) (g.S.Sink.output c.loop-step.out) in
-    let there = moment (g.H.Files.outside c.run_step.new.host) (g.S.Sink.output c.run_step.new.out) in
-    let inv = c.loop-step.invariant in
-    subst (StepsRan plan made c.args.missing.now first there) (sym e) (record {
-      proceeds = calm_halts first here there y inv.calm (subst (λ z. Halts here there z) (sym q) c.in_err-outcome.ensures.proceeds);
-      keeps = keeps_then first.host here.host there.host inv.keeps c.run_step.ensures.keeps;
-      turns = λ disk old same h.
-          let visible = stays_visible first.host here.host inv.keeps ∙ same in
-          subst (λ z. StoppedTurns plan.steps disk z old there.host.children.events) (sym q)
-          (c.in_err-outcome.ensures.turns disk old visible (subst (λ (l : List Outcome). HadTurns plan.steps disk l old here.host.children.events) (sym c.as_slice.ensures.value) (inv.turns disk old same h)));
-      told = λ folder entry p s.
-          let u = update_of plan made folder in
-          subst (λ z. Stopped u entry z there) (sym q) (c.in_err-outcome.ensures.told folder entry p (subst (λ (l : List Outcome). Stands u entry l here) (sym c.as_slice.ensures.value) (inv.told folder entry p s)));
-    })
+    let b = c.args.board.now in
+    let s = c.args.sights.now in
+    let start = moment (g.H.Files.outside c.args.host.now) (g.S.Sink.output c.args.out.now) in
+    let host = g.H.Files.outside c.look_all.new.host in
+    let looked = subst (λ z. StopLooks {T = Unit {0}} start.host host (Err z)) (sym q) c.in_err-look_all.ensures.host in
+    subst (StepsRan plan made b s start c.look_all.new.board c.look_all.new.sights (moment host start.out)) (sym e)
+    (look_stopped plan made b s start b s start 0 (between_begins plan made b s start c.requires.idle c.requires.board c.requires.none_runs) c.look_all.new.board c.look_all.new.sights host y looked)
 
-pub returns-in_err-push-clause-ran : goal.returns-in_err-push-clause-ran
-returns-in_err-push-clause-ran g c =
-    let (y, e, q) = err_from_is_err_and c.from_residual-in_err-push.result c.from_residual-in_err-push.ensures.1 in
+pub loop-number-init : goal.loop-number-init
+loop-number-init g c =
     let plan = c.args.plan.now in
     let made = g.H.Children.made in
-    let first = moment (g.H.Files.outside c.args.host.now) (g.S.Sink.output c.args.out.now) in
-    let here = moment (g.H.Files.outside c.loop-step.host) (g.S.Sink.output c.loop-step.out) in
-    let there = moment (g.H.Files.outside c.run_step.new.host) (g.S.Sink.output c.run_step.new.out) in
-    let inv = c.loop-step.invariant in
-    subst (StepsRan plan made c.args.missing.now first there) (sym e) (record {
-      proceeds = calm_memory first there y q (calm_again first here there inv.calm c.in_ok-outcome.ensures.proceeds);
-      keeps = keeps_then first.host here.host there.host inv.keeps c.run_step.ensures.keeps;
-      turns = λ disk old same h.
-          let visible = stays_visible first.host here.host inv.keeps ∙ same in
-          had_stopped plan.steps disk _ y old there.host.children.events
-          (c.in_ok-outcome.ensures.turns disk old visible (subst (λ (l : List Outcome). HadTurns plan.steps disk l old here.host.children.events) (sym c.as_slice.ensures.value) (inv.turns disk old same h)));
-      told = λ folder entry p s.
-          let u = update_of plan made folder in
-          stands_stopped u entry _ there y (no_sink y q) (c.in_ok-outcome.ensures.told folder entry p (subst (λ (l : List Outcome). Stands u entry l here) (sym c.as_slice.ensures.value) (inv.told folder entry p s)));
-    })
-
-pub loop-step-preserved : goal.loop-step-preserved
-loop-step-preserved g c =
-    let first = moment (g.H.Files.outside c.args.host.now) (g.S.Sink.output c.args.out.now) in
-    let here = moment (g.H.Files.outside c.loop-step.host) (g.S.Sink.output c.loop-step.out) in
-    let there = moment (g.H.Files.outside c.run_step.new.host) (g.S.Sink.output c.run_step.new.out) in
-    let inv = c.loop-step.invariant in
-    let outcome = c.in_ok-outcome.outcome in
-    let pushed : c.push.new.self.items ≡ c.loop-step.outcomes.items ++ outcome ∷ [] = c.in_ok-push.ensures.items in
-    let whole : c.push.new.self.items ≡ c.as_slice.result.now ++ outcome ∷ [] = pushed ∙ ap (λ l. l ++ outcome ∷ []) (sym c.as_slice.ensures.value) in
+    let b = c.args.board.now in
+    let s = c.args.sights.now in
+    let start = moment (g.H.Files.outside c.args.host.now) (g.S.Sink.output c.args.out.now) in
+    let host = g.H.Files.outside c.look_all.new.host in
+    let looked = c.in_ok-look_all.ensures in
     record {
-      calm = calm_again first here there inv.calm c.in_ok-outcome.ensures.proceeds;
-      keeps = keeps_then first.host here.host there.host inv.keeps c.run_step.ensures.keeps;
-      size = ap length pushed ∙ length_push c.loop-step.outcomes.items outcome ∙ ap (λ n. n + 1) inv.size;
-      turns = λ disk old same h. subst (λ (l : List Outcome). HadTurns c.args.plan.now.steps disk l old there.host.children.events) (sym whole)
-          (c.in_ok-outcome.ensures.turns disk old (stays_visible first.host here.host inv.keeps ∙ same)
-          (subst (λ (l : List Outcome). HadTurns c.args.plan.now.steps disk l old here.host.children.events) (sym c.as_slice.ensures.value) (inv.turns disk old same h)));
-      told = λ folder entry p s.
-          let u = update_of c.args.plan.now g.H.Children.made folder in
-          subst (λ (l : List Outcome). Stands u entry l there) (sym whole)
-          (c.in_ok-outcome.ensures.told folder entry p (subst (λ (l : List Outcome). Stands u entry l here) (sym c.as_slice.ensures.value) (inv.told folder entry p s)));
+      between = between_looked plan made b s start b s start 0 (between_begins plan made b s start c.requires.idle c.requires.board c.requires.none_runs) c.look_all.new.board c.look_all.new.sights host looked.host looked.board looked.looks looked.told;
+      none_looks = looked.all;
     }
 
-pub loop-step-init : goal.loop-step-init
-loop-step-init g c =
-    let first = moment (g.H.Files.outside c.args.host.now) (g.S.Sink.output c.args.out.now) in
-    let empty : c.new-outcomes.result.items ≡ [] = c.new-outcomes.ensures.items in
+pub run_next-requires-clause-idle : goal.run_next-requires-clause-idle
+run_next-requires-clause-idle g c = c.loop-number.invariant.between.ran.proceeds.idle
+
+pub run_next-requires-clause-board : goal.run_next-requires-clause-board
+run_next-requires-clause-board g c =
+    let plan = c.args.plan.now in
+    let made = g.H.Children.made in
+    let start = moment (g.H.Files.outside c.args.host.now) (g.S.Sink.output c.args.out.now) in
+    let here = moment (g.H.Files.outside c.loop-number.host) (g.S.Sink.output c.loop-number.out) in
+    let b = c.loop-number.board in
+    let mid : Board = record b { sched = c.take_start.new.self } in
+    started_board plan made c.args.board.now c.args.sights.now start b c.loop-number.sights here c.loop-number.updated c.loop-number.invariant.between c.loop-number.invariant.none_looks c.in-Some.number c.in-Some.ensures.lowest
+    mid c.in-Some.ensures.after refl refl refl here
+
+pub run_next-requires-clause-runs : goal.run_next-requires-clause-runs
+run_next-requires-clause-runs g c =
+    let s = c.loop-number.board.sched in
+    let n = c.in-Some.number in
+    next_runs s c.take_start.new.self n c.in-Some.ensures.after (stale_is_step s c.loop-number.invariant.between.board.request n c.in-Some.ensures.lowest.lowest.has).within
+
+pub run_next-requires-clause-alone : goal.run_next-requires-clause-alone
+run_next-requires-clause-alone g c = next_alone c.loop-number.board.sched c.take_start.new.self c.in-Some.number c.in-Some.ensures.after c.loop-number.invariant.between.none_runs
+
+pub returns-in_err-settled-clause-ran : goal.returns-in_err-settled-clause-ran
+returns-in_err-settled-clause-ran g c =
+    let (y, e, q) = err_from_is_err_and c.from_residual-in_err-settled.result c.from_residual-in_err-settled.ensures.1 in
+    let plan = c.args.plan.now in
+    let made = g.H.Children.made in
+    let first = c.args.board.now in
+    let sights = c.args.sights.now in
+    let start = moment (g.H.Files.outside c.args.host.now) (g.S.Sink.output c.args.out.now) in
+    let here = moment (g.H.Files.outside c.loop-number.host) (g.S.Sink.output c.loop-number.out) in
+    let there = moment (g.H.Files.outside c.run_next.new.host) (g.S.Sink.output c.run_next.new.out) in
+    let b = c.loop-number.board in
+    let later = c.run_next.new.board in
+    let n = c.in-Some.number in
+    let mid : Board = record b { sched = c.take_start.new.self } in
+    let ran = subst (λ z. RunsNext plan made n mid later here there (Err z)) (sym q) c.in_err-settled.ensures.ran in
+    subst (StepsRan plan made first sights start later c.loop-number.sights there) (sym e)
+    (round_stopped plan made first sights start b c.loop-number.sights here c.loop-number.updated c.loop-number.invariant.between c.loop-number.invariant.none_looks n c.in-Some.ensures.lowest mid c.in-Some.ensures.after refl refl refl there
+    later later c.loop-number.sights y ran)
+
+pub overflow_add-updated : goal.overflow_add-updated
+overflow_add-updated g c =
+    let a = c.loop-number.invariant.between.few in
+    let b = byte_small c.in_ok-settled.settled in
+    let d = c.requires.apart.few in
+    omega (arith, a, b, d)
+
+pub look_all-requires-in-Some : goal.look_all-requires-in-Some
+look_all-requires-in-Some g c = c.in_ok-settled.ensures.board
+
+pub loop-number-smaller : goal.loop-number-smaller
+loop-number-smaller g c =
+    let s = c.loop-number.board.sched in
+    let n = c.in-Some.number in
+    let stale = c.in-Some.ensures.lowest.lowest.has in
+    round_smaller s c.take_start.new.self c.run_next.new.board.sched c.look_all-in-Some.new.board.sched n c.in-Some.ensures.after (stale_is_step s c.loop-number.invariant.between.board.request n stale) stale c.in_ok-settled.ensures.left c.in_ok-look_all-2.ensures.looks
+
+pub loop-number-preserved : goal.loop-number-preserved
+loop-number-preserved g c =
+    let plan = c.args.plan.now in
+    let made = g.H.Children.made in
+    let first = c.args.board.now in
+    let sights = c.args.sights.now in
+    let start = moment (g.H.Files.outside c.args.host.now) (g.S.Sink.output c.args.out.now) in
+    let here = moment (g.H.Files.outside c.loop-number.host) (g.S.Sink.output c.loop-number.out) in
+    let there = moment (g.H.Files.outside c.run_next.new.host) (g.S.Sink.output c.run_next.new.out) in
+    let b = c.loop-number.board in
+    let found = c.loop-number.sights in
+    let later = c.run_next.new.board in
+    let n = c.in-Some.number in
+    let settled = c.in_ok-settled.settled in
+    let mid : Board = record b { sched = c.take_start.new.self } in
+    let ran = c.in_ok-settled.ensures in
+    let round = round_ran plan made first sights start b found here c.loop-number.updated c.loop-number.invariant.between c.loop-number.invariant.none_looks n c.in-Some.ensures.lowest mid c.in-Some.ensures.after refl refl refl there
+    later settled ran.ran ran.board ran.none_runs ran.left in
+    let counted = subst (λ k. IsBetween plan made first sights start later found there (c.loop-number.updated + k)) (sym (byte_is settled)) round in
+    let host = g.H.Files.outside c.look_all-in-Some.new.host in
+    let looked = c.in_ok-look_all-2.ensures in
     record {
-      calm = calm_here first c.requires.idle;
-      keeps = keeps_same first.host first.host refl;
-      size = ap length empty;
-      turns = λ disk old same h. subst (λ (l : List Outcome). HadTurns c.args.plan.now.steps disk l old first.host.children.events) (sym empty) h;
-      told = λ folder entry p s. subst (λ (l : List Outcome). Stands (update_of c.args.plan.now g.H.Children.made folder) entry l first) (sym empty) s;
+      between = between_looked plan made first sights start later found there _ counted c.look_all-in-Some.new.board c.look_all-in-Some.new.sights host looked.host looked.board looked.looks looked.told;
+      none_looks = looked.all;
     }
 
-pub run_step-requires-clause-idle : goal.run_step-requires-clause-idle
-run_step-requires-clause-idle g c = c.loop-step.invariant.calm.idle
+pub returns-in_err-look_all-2-clause-ran : goal.returns-in_err-look_all-2-clause-ran
+returns-in_err-look_all-2-clause-ran g c =
+    let (y, e, q) = err_from_is_err_and c.from_residual-in_err-look_all-2.result c.from_residual-in_err-look_all-2.ensures.1 in
+    let plan = c.args.plan.now in
+    let made = g.H.Children.made in
+    let first = c.args.board.now in
+    let sights = c.args.sights.now in
+    let start = moment (g.H.Files.outside c.args.host.now) (g.S.Sink.output c.args.out.now) in
+    let here = moment (g.H.Files.outside c.loop-number.host) (g.S.Sink.output c.loop-number.out) in
+    let there = moment (g.H.Files.outside c.run_next.new.host) (g.S.Sink.output c.run_next.new.out) in
+    let b = c.loop-number.board in
+    let found = c.loop-number.sights in
+    let later = c.run_next.new.board in
+    let n = c.in-Some.number in
+    let settled = c.in_ok-settled.settled in
+    let mid : Board = record b { sched = c.take_start.new.self } in
+    let ran = c.in_ok-settled.ensures in
+    let round = round_ran plan made first sights start b found here c.loop-number.updated c.loop-number.invariant.between c.loop-number.invariant.none_looks n c.in-Some.ensures.lowest mid c.in-Some.ensures.after refl refl refl there
+    later settled ran.ran ran.board ran.none_runs ran.left in
+    let host = g.H.Files.outside c.look_all-in-Some.new.host in
+    let looked = subst (λ z. StopLooks {T = Unit {0}} there.host host (Err z)) (sym q) c.in_err-look_all-2.ensures.host in
+    subst (StepsRan plan made first sights start c.look_all-in-Some.new.board c.look_all-in-Some.new.sights (moment host there.out)) (sym e)
+    (look_stopped plan made first sights start later found there _ round c.look_all-in-Some.new.board c.look_all-in-Some.new.sights host y looked)
 
-pub run_step-requires-clause-rising : goal.run_step-requires-clause-rising
-run_step-requires-clause-rising g c = c.requires.rising
-
-pub run_step-requires-clause-owes : goal.run_step-requires-clause-owes
-run_step-requires-clause-owes g c =
-    let steps = c.as_slice-step-items.result.now in
-    let number = length c.loop-step.outcomes.items in
-    let item = c.step-item.result in
-    let at : step_at steps (number + 1) ≡ Some item = next_step steps number c.loop-step.step-index item c.loop-step.invariant.size c.loop-step-test.true c.step-item.is in
-    c.requires.owes (number + 1) item (subst (λ (l : List Step). step_at l (number + 1) ≡ Some item) c.as_slice-step-items.ensures at)
+pub returns-clause-none_starts : goal.returns-clause-none_starts
+returns-clause-none_starts g c = λ i stale.
+    let plan = c.args.plan.now in
+    let start = moment (g.H.Files.outside c.args.host.now) (g.S.Sink.output c.args.out.now) in
+    let here = moment (g.H.Files.outside c.loop-number.host) (g.S.Sink.output c.loop-number.out) in
+    none_is_stale plan g.H.Children.made c.args.board.now c.args.sights.now start c.loop-number.board c.loop-number.sights here c.loop-number.updated c.loop-number.invariant.between c.in_default.ensures.lowest i
+    (subst (λ s. IsStale s i) c.in_default.ensures.after stale)
 
 pub returns-clause-ran : goal.returns-clause-ran
-returns-clause-ran g c = let inv = c.loop-step.invariant in record { proceeds = inv.calm; keeps = inv.keeps; turns = inv.turns; told = inv.told }
+returns-clause-ran g c =
+    let plan = c.args.plan.now in
+    let made = g.H.Children.made in
+    let start = moment (g.H.Files.outside c.args.host.now) (g.S.Sink.output c.args.out.now) in
+    let here = moment (g.H.Files.outside c.loop-number.host) (g.S.Sink.output c.loop-number.out) in
+    subst (λ b. StepsRan plan made c.args.board.now c.args.sights.now start b c.loop-number.sights here (Ok c.loop-number.updated)) (sym (board_same c.loop-number.board c.take_start.new.self c.in_default.ensures.after))
+    c.loop-number.invariant.between.ran

@@ -1,8 +1,0 @@
-use Rattle.std.proofs.Common.{◌≡◌, ◌+◌, drop}
-use Rattle.std.specs.List.{position_or_len}
-use Rattle.b2_top.specs.Bodies.{is_white}
-use Rattle.b2_top.proofs.body.end_of_word.Given as goal
-
--- the bytes before this place are no white space
-abbrev pub invariant-loop-place : goal.invariant-loop-place
-invariant-loop-place l = position_or_len is_white l.bytes ≡ l.place + position_or_len is_white (drop l.place l.bytes)

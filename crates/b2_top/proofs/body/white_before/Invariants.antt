@@ -1,8 +1,0 @@
-use Rattle.std.proofs.Common.{◌≡◌, ◌+◌, drop}
-use Rattle.std.specs.List.{prefix_len}
-use Rattle.b2_top.specs.Bodies.{is_white}
-use Rattle.b2_top.proofs.body.white_before.Given as goal
-
--- the bytes before this place are white space
-abbrev pub invariant-loop-place : goal.invariant-loop-place
-invariant-loop-place l = prefix_len is_white l.bytes ≡ l.place + prefix_len is_white (drop l.place l.bytes)

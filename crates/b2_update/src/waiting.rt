@@ -1,0 +1,64 @@
+//! The steps that a step waits for.
+use b2_sched::sched::Sched;
+use std::alloc::Global;
+use std::marker::Model;
+
+/// The steps that a step may still have to wait for, seen as the list of their numbers.
+#[derive(Drop)]
+pub struct Waiting {
+    numbers: Vec<u32>,
+}
+
+impl Model for Waiting {
+    ghost use Rattle.std.specs.Prelude.{ℕ, List};
+
+    ghost Value = { List ℕ };
+
+    ghost view = { λ waiting. waiting.numbers.items };
+}
+
+impl Waiting {
+    ghost use Rattle.std.specs.Prelude.{◌≡◌, ◌⊎◌, [], ℕ, false, IsTrue};
+    ghost use Rattle.std.specs.List.{Contains};
+    ghost use Rattle.b2_sched.specs.Schedules.{IsStep, IsSettled};
+
+    /// None; takes no memory.
+    pub fn new(alloc: Global) -> Waiting
+        ensures { result ≡ [] }
+    {
+        Waiting {
+            numbers: Vec::new(alloc),
+        }
+    }
+
+    /// These numbers.
+    pub fn from_vec(numbers: Vec<u32>) -> Waiting
+        ensures { result ≡ numbers.items }
+    {
+        Waiting { numbers }
+    }
+
+    /// The numbers.
+    pub fn as_slice(&self) -> &[u32]
+        ensures { result.now ≡ self.now }
+    {
+        &self.numbers
+    }
+
+    /// Takes settled steps off the end, until one is not settled, and says whether none is left.
+    pub fn is_over(&mut self, sched: &Sched) -> bool
+        requires { (k : ℕ) → Contains self.old k → IsStep sched.now k }
+        ensures fewer { (k : ℕ) → Contains self.new k → Contains self.old k }
+        ensures rest { (k : ℕ) → Contains self.old k → IsSettled sched.now k ⊎ Contains self.new k }
+        ensures over { IsTrue result → self.new ≡ [] }
+        ensures waits { result ≡ false → (k : ℕ) × Contains self.new k × (IsSettled sched.now k → ⊥) }
+    {
+        while let Some(number) = self.numbers.last() {
+            if !sched.settled(*number) {
+                return false;
+            }
+            let _settled = self.numbers.pop();
+        }
+        true
+    }
+}
