@@ -86,7 +86,7 @@ module _ (law : OneMeaning) (left : NothingIsLeft) (missed : NothingIsMissed) (m
 
   pub stopped : (o1 : Output) (stop : Stop) (result : Answer) → Prepared (Err stop) → IsWholeStop stop → CountsStop stop h0 h1 → AnswersStop echoes stop o0 o1 result → Stopped o1 result
   stopped o1 (stops.Refused why) result told whole counts says =
-      still_refused made words h0 h1 o0 o1 still (fault_of why) echoes result (is_early why) (whole_of why whole) (λ none. not_none none) counts
+      still_refused made words h0 h1 o0 o1 still (fault_of why) echoes result (is_early why) (whole_of why whole) (λ none. not_none none) (λ name is. not_some name is) counts
       (if_map h0.disk (cause_of why) told)
       (if_map h0.disk (λ disk h plan. pattern_refused law disk free plan.echoes echoes plan.planned (plan_means disk plan) why whole h) told) says
   stopped o1 stops.Host result told whole counts says = still_fault made words h0 h1 o0 o1 still free asked can echoes counts result says
@@ -115,7 +115,7 @@ module _ (law : OneMeaning) (left : NothingIsLeft) (missed : NothingIsMissed) (m
 
     file_refused : (path : List ℕ) (o1 : Output) (result : Answer) → unbuilt_file planned.plan.steps ≡ Some path → RefusesFile echoes path o0 o1 result → Stopped o1 result
     file_refused path o1 result is (tells says) =
-        still_refused made words h0 h1 o0 o1 still (faults.NotYet path 0) echoes result tt tt (λ none. not_none none) same
+        still_refused made words h0 h1 o0 o1 still (faults.NotYet path 0) echoes result tt tt (λ none. not_none none) (λ name other. not_some name other) same
         (if_map h0.disk (file_cause path is) told) (if_map h0.disk (λ disk h plan. absurd (no_plan path is disk h plan)) told) says
     file_refused path o1 result is (lacks out none) = subst (Stopped o1) (sym out) (still_short made words h0 h1 o0 o1 still none)
 

@@ -46,6 +46,7 @@ use Rattle.b2_top.specs.Unbuilt.{unbuilt_option, unbuilt_file}
 use Rattle.b2_top.specs.Plans.{HasPlan, update_at}
 use Rattle.b2_top.specs.Builds.{HasBuilt}
 use Rattle.b2_top.specs.Reported.{IsCycleReport, IsFaultReport, cycle_report, ReportedBy}
+use Rattle.b2_top.specs.Reported.TellsFault.{in_update}
 use Rattle.b2_top.specs.Reported.BeginsReport.{cycle, updating as stops_updating}
 use Rattle.b2_top.specs.Reported.BeginsSome.{reporting, faulting, updating}
 use Rattle.b2_top.specs.Answered.{StaysOrWaits, ShouldEndWell, ReportTold, IsAnswered}
@@ -257,6 +258,7 @@ module _ (law : OneMeaning) (left : NothingIsLeft) (missed : NothingIsMissed) (m
         usage = λ none. not_none none;
         alone = λ none. not_none none;
         without = λ name is. not_some name is;
+        not_yet = λ others name some is. not_some name is;
         no_usage = λ e. absurd cc;
         starts_none = tt;
         whole = tt;
@@ -276,6 +278,7 @@ module _ (law : OneMeaning) (left : NothingIsLeft) (missed : NothingIsMissed) (m
         usage = λ none. not_none none;
         alone = λ none. not_none none;
         without = λ name is. not_some name is;
+        not_yet = λ others name some is. not_some name is;
         no_usage = λ e. absurd cc;
         starts_none = tt;
         whole = tt;
@@ -298,6 +301,7 @@ module _ (law : OneMeaning) (left : NothingIsLeft) (missed : NothingIsMissed) (m
         usage = λ none. not_none none;
         alone = λ none. not_none none;
         without = λ name is. not_some name is;
+        not_yet = λ others name some is. not_some name is;
         no_usage = λ e. absurd cc;
         starts_none = tt;
         whole = tt;
@@ -316,6 +320,7 @@ module _ (law : OneMeaning) (left : NothingIsLeft) (missed : NothingIsMissed) (m
         usage = λ none. not_none none;
         alone = λ none. not_none none;
         without = λ name is. not_some name is;
+        not_yet = λ others name some is. not_some name is;
         no_usage = λ e. absurd cc;
         starts_none = tt;
         whole = tt;
@@ -334,6 +339,7 @@ module _ (law : OneMeaning) (left : NothingIsLeft) (missed : NothingIsMissed) (m
         usage = λ none. not_none none;
         alone = λ none. not_none none;
         without = λ name is. not_some name is;
+        not_yet = λ others name some is. not_some name is;
         no_usage = λ e. absurd cc;
         starts_none = tt;
         whole = tt;
@@ -370,6 +376,7 @@ module _ (law : OneMeaning) (left : NothingIsLeft) (missed : NothingIsMissed) (m
           usage = λ none. not_none none;
           alone = λ none. not_none none;
           without = λ name is. not_some name is;
+          not_yet = λ others name some is. not_some name is;
           no_usage = λ e. absurd cc;
           starts_none = tt;
           whole = tt;
@@ -413,19 +420,12 @@ module _ (law : OneMeaning) (left : NothingIsLeft) (missed : NothingIsMissed) (m
         ended_fault result (fault_said is p) =
             subst Promised (sym is) (cut_host host_fault ran wrote turns rose_host
             (reported_piece host_fault ran wrote turns answers.HostFault host_fault_line (text_of host_fault_line m o2 p)
-            (λ disk later events written h t bytes. record {
-              whole = (echo_lines echoes ++ written) ++ host_fault_line;
-              report = fault_at disk events written h bytes;
-              ended = inl (refl, faults_of host_fault_line m o2 p ∙ same_sink counts.1);
-            })))
+            (λ disk later events written h t bytes.
+            in_update (plan_at disk h) written host_fault_line bytes (inl (refl, faults_of host_fault_line m o2 p ∙ same_sink counts.1)) refl)))
         ended_fault result (fault_failed is f) =
             subst Promised (sym is) (cut_host host_fault ran wrote turns rose_host
             (reported_piece host_fault ran wrote turns answers.HostFault f.part f.written
-            (λ disk later events written h t bytes. record {
-              whole = (echo_lines echoes ++ written) ++ host_fault_line;
-              report = fault_at disk events written h bytes;
-              ended = inr (rose_sink o2 counts.1 f.rose, front_after f.part (echo_lines echoes ++ written) host_fault_line f.begins);
-            })))
+            (λ disk later events written h t bytes. in_update (plan_at disk h) written f.part bytes (inr (rose_sink o2 counts.1 f.rose, f.begins)) refl)))
         ended_fault result (fault_stopped is s) =
             subst Promised (sym is) (cut_memory host_fault ran wrote turns (faults_of s.part m o2 s.same ∙ same_sink counts.1)
             (reported_piece host_fault ran wrote turns answers.OutOfMemory s.part (text_of s.part m o2 s.same)

@@ -35,6 +35,7 @@ use Rattle.b2_top.specs.Causes.{HasCause, IsNotTooBig}
 use Rattle.b2_top.specs.Causes.IsUnbuilt.{by_option}
 use Rattle.b2_top.specs.Builds.{IsUntouched, RefusedBy, run_answer}
 use Rattle.b2_top.specs.Reported.{IsRefusalReport, IsRefused, IsFaultReport, BeginsReport, BeginsSome, ReportedBy}
+use Rattle.b2_top.specs.Reported.TellsFault.{before_update}
 use Rattle.b2_top.specs.Reported.BeginsReport.{usage, refusal}
 use Rattle.b2_top.specs.Reported.BeginsSome.{nothing, reporting, faulting}
 use Rattle.b2_top.specs.Answered.{TurnsTold, RefusedStill, IsAnswered}
@@ -131,6 +132,7 @@ module _ (made : Made) (words : List Word) (h0 h1 : Outside) (o0 o1 : Output) (s
     usage = λ none. inr (inl refl);
     alone = still.alone;
     without = still.without;
+    not_yet = λ others name some is. inr (inl refl);
     no_usage = λ e. absurd cc;
     starts_none = tt;
     whole = tt;
@@ -148,6 +150,7 @@ module _ (made : Made) (words : List Word) (h0 h1 : Outside) (o0 o1 : Output) (s
     usage = λ none. inr (inr refl);
     alone = still.alone;
     without = still.without;
+    not_yet = λ others name some is. inr (inr refl);
     no_usage = λ e. absurd cc;
     starts_none = tt;
     whole = tt;
@@ -175,6 +178,7 @@ module _ (made : Made) (words : List Word) (h0 h1 : Outside) (o0 o1 : Output) (s
     usage = λ e. inl refl;
     alone = still.alone;
     without = still.without;
+    not_yet = λ others name some is. let e : None ≡ Some others = sym none ∙ some in absurd cc;
     no_usage = λ e. none;
     starts_none = record { disk = still.disk; children = still.children };
     whole = tt;
@@ -234,16 +238,18 @@ module _ (made : Made) (words : List Word) (h0 h1 : Outside) (o0 o1 : Output) (s
   turns_still (faults.StepCycle list) early = absurd early
   turns_still (faults.TooBig path size) early = absurd early
 
-  pub still_refused : (fault : Fault) (echoes : List Word) (result : Answer) → IsEarly fault → IsWhole fault → (free_words words ≡ None → ⊥) → h1.faults ≡ h0.faults
+  pub still_refused : (fault : Fault) (echoes : List Word) (result : Answer) → IsEarly fault → IsWhole fault → (free_words words ≡ None → ⊥)
+      → ((name : Word) → unbuilt_option words ≡ Some name → fault ≡ faults.NotYet name 0) → h1.faults ≡ h0.faults
       → IfSome h0.disk (λ disk. HasCause words disk echoes fault) → IfSome h0.disk (λ disk. HasPlan words disk → IsOfPattern fault)
       → Says (answers.Refused fault) (refusal_report echoes [] fault) o0 o1 result → Promised result
-  still_refused fault echoes result early input some same cause no_plan (said is p) = subst Promised (sym is) (record {
+  still_refused fault echoes result early input some named same cause no_plan (said is p) = subst Promised (sym is) (record {
     clean = λ e. absurd cc;
     happened = both_still _ (if_map h0.disk (refused_still echoes fault early) cause);
     counts = record { host = same; sink = faults_of (refusal_report echoes [] fault) o0 o1 p };
     usage = λ none. absurd (some none);
     alone = still.alone;
     without = still.without;
+    not_yet = λ others name a is. inl (ap (λ f. answers.Refused f) (named name is));
     no_usage = λ e. absurd cc;
     starts_none = starts_still fault early;
     whole = input;
@@ -253,10 +259,10 @@ module _ (made : Made) (words : List Word) (h0 h1 : Outside) (o0 o1 : Output) (s
         (if_map h0.disk (report_still echoes fault early) cause);
     turns = turns_still fault early;
   })
-  still_refused fault echoes result early input some same cause no_plan (failed is f) =
+  still_refused fault echoes result early input some named same cause no_plan (failed is f) =
       subst Promised (sym is) (still_sink (refusal_report echoes [] fault) f same
       (λ part front. if_map h0.disk (λ disk c. refusal fault (refusal_report echoes [] fault) (report_of echoes fault disk c) front) cause))
-  still_refused fault echoes result early input some same cause no_plan (stopped is s) =
+  still_refused fault echoes result early input some named same cause no_plan (stopped is s) =
       subst Promised (sym is) (still_memory (refusal_report echoes [] fault) s
       (λ part front. if_map h0.disk (λ disk c. reporting (refusal fault (refusal_report echoes [] fault) (report_of echoes fault disk c) front)) cause))
 
@@ -283,6 +289,7 @@ module _ (made : Made) (words : List Word) (h0 h1 : Outside) (o0 o1 : Output) (s
       usage = λ none. let e : None ≡ Some free = sym none ∙ asked in absurd cc;
       alone = still.alone;
       without = still.without;
+      not_yet = λ others name some is. let e : None ≡ Some name = sym can ∙ is in absurd cc;
       no_usage = λ e. absurd cc;
       starts_none = tt;
       whole = tt;
@@ -295,9 +302,9 @@ module _ (made : Made) (words : List Word) (h0 h1 : Outside) (o0 o1 : Output) (s
     pub still_fault : (result : Answer) → SaysFault (fault_report echoes) o0 o1 result → Promised result
     still_fault result (fault_said is p) =
         subst Promised (sym is) (still_host (fault_report echoes) (text_of (fault_report echoes) o0 o1 p)
-        (if_all h0.disk (λ disk. record { whole = fault_report echoes; report = fault_at disk; ended = inl (refl, faults_of (fault_report echoes) o0 o1 p) })))
+        (if_all h0.disk (λ disk. before_update free echoes asked can refl (inl (refl, faults_of (fault_report echoes) o0 o1 p)))))
     still_fault result (fault_failed is f) =
-        subst Promised (sym is) (still_host f.part f.written (if_all h0.disk (λ disk. record { whole = fault_report echoes; report = fault_at disk; ended = inr (f.rose, f.begins) })))
+        subst Promised (sym is) (still_host f.part f.written (if_all h0.disk (λ disk. before_update free echoes asked can refl (inr (f.rose, f.begins)))))
     still_fault result (fault_stopped is s) =
         subst Promised (sym is) (still_memory (fault_report echoes) s (λ part front. if_all h0.disk (λ disk. faulting (fault_report echoes) rose (fault_at disk) front)))
 
@@ -305,6 +312,7 @@ module _ (made : Made) (words : List Word) (h0 h1 : Outside) (o0 o1 : Output) (s
 pub option_refused : (made : Made) (words free : List Word) (host : Outside) (o0 o1 : Output) (path : List ℕ) (result : Answer) → free_words words ≡ Some free → unbuilt_option words ≡ Some path
     → Says (answers.Refused (faults.NotYet path 0)) (refusal_report [] [] (faults.NotYet path 0)) o0 o1 result → IsAnswered made words (moment host o0) (moment host o1) result
 option_refused made words free host o0 o1 path result asked is says =
-    still_refused made words host host o0 o1 (still_same words host) (faults.NotYet path 0) [] result tt tt (λ none. let e : None ≡ Some free = sym none ∙ asked in cc) refl
+    still_refused made words host host o0 o1 (still_same words host) (faults.NotYet path 0) [] result tt tt (λ none. let e : None ≡ Some free = sym none ∙ asked in cc)
+    (λ name other. let e : Some path ≡ Some name = sym is ∙ other in let same : path ≡ name = cc in ap (λ p. faults.NotYet p 0) same) refl
     (if_all host.disk (λ disk. (refl, by_option free asked is refl)))
     (if_all host.disk (λ disk plan. let e : None ≡ Some path = sym plan.can ∙ is in absurd cc)) says

@@ -52,6 +52,11 @@ CountsTold before after answers.HostFault = Rose before.host.faults after.host.f
 CountsTold before after answers.OutOfMemory = after.out.faults ≡ before.out.faults
 CountsTold before after answers.SinkFault = Rose before.out.faults after.out.faults × StaysOrWaits before.host after.host
 
+-- The answers that may come where the option of this name is not carried out yet: it is refused, or the sink failed or memory ran out
+-- at its line.
+abbrev pub IsNotYetOrCutShort : Word → Answer → Type 0
+IsNotYetOrCutShort name result = (result ≡ answers.Refused (faults.NotYet name 0)) ⊎ (result ≡ answers.SinkFault) ⊎ (result ≡ answers.OutOfMemory)
+
 -- nothing was started, and no file has changed
 pub record StaysStill (before after : Outside) : Type 0 where
   pub disk : after.disk ≡ before.disk
@@ -105,6 +110,7 @@ pub record IsAnswered (made : Made) (words : List Word) (before after : Moment) 
   pub usage : free_words words ≡ None → IsUsageOrCutShort result
   pub alone : free_words words ≡ None → after.host ≡ before.host
   pub without : (name : Word) → unbuilt_option words ≡ Some name → after.host ≡ before.host
+  pub not_yet : (free : List Word) (name : Word) → free_words words ≡ Some free → unbuilt_option words ≡ Some name → IsNotYetOrCutShort name result
   pub no_usage : result ≡ answers.Usage → free_words words ≡ None
   pub starts_none : StartsNone result before.host after.host
   pub whole : IfRefused IsWhole result

@@ -68,11 +68,17 @@ pub record IsFaultReport (words : List Word) (disk : Disk) (events : List ChildE
   pub comes : FaultComes words disk events echoes lines
   pub is : written ≡ echo_lines echoes ++ lines ++ host_fault_line
 
--- The report of a fault of the host was written; or a beginning of it, where the sink failed too.
-pub record TellsFault (words : List Word) (sink sink_after : ℕ) (disk : Disk) (events : List ChildEvent) (written : List ℕ) : Type 0 where
-  pub whole : List ℕ
-  pub report : IsFaultReport words disk events whole
-  pub ended : ((written ≡ whole) × (sink_after ≡ sink)) ⊎ (Rose sink sink_after × IsFrontOf written whole)
+-- These bytes were told in full; or a beginning of them, where the sink failed.
+abbrev pub IsToldOrCut : ℕ → ℕ → List ℕ → List ℕ → Type 0
+IsToldOrCut sink sink_after whole part = ((part ≡ whole) × (sink_after ≡ sink)) ⊎ (Rose sink sink_after × IsFrontOf part whole)
+
+-- What was written where the host fails. Before anything is started some lines of ECHO are told together with the line of the fault. In
+-- the update of the plan all lines of ECHO and of the update stand, and only the line of the fault may be cut.
+pub data TellsFault (words : List Word) (sink sink_after : ℕ) (disk : Disk) (events : List ChildEvent) (written : List ℕ) : Type 0 where
+  before_update : (free echoes : List Word) → free_words words ≡ Some free → unbuilt_option words ≡ None → events ≡ []
+      → IsToldOrCut sink sink_after (echo_lines echoes ++ host_fault_line) written → TellsFault words sink sink_after disk events written
+  in_update : (plan : HasPlan words disk) (lines part : List ℕ) → TellsStarts plan.planned.steps events lines → IsToldOrCut sink sink_after host_fault_line part
+      → written ≡ echo_lines plan.echoes ++ lines ++ part → TellsFault words sink sink_after disk events written
 
 -- A beginning was written: of the usage line, where no build is asked for; of the report of a refusal with its cause; of the lines of
 -- ECHO of the plan; of the report of its update, after which nothing was started; or of that of a step cycle.

@@ -1,5 +1,5 @@
 //! The build command.
-ghost use Rattle.std.specs.Prelude.{◌≡◌, [], Some, None};
+ghost use Rattle.std.specs.Prelude.{◌≡◌, List, [], Some, None};
 ghost use Rattle.b2_answers.specs.Endings.{IsUsageOrCutShort, IfRefused};
 ghost use Rattle.b2_host.specs.OutsideLaws.{Keeps};
 ghost use Rattle.b2_refusals.specs.Wholes.{IsWhole};
@@ -9,7 +9,7 @@ ghost use Rattle.b2_words.specs.Words.{Word};
 ghost use Rattle.b2_top.specs.Commands.{free_words};
 ghost use Rattle.b2_top.specs.Unbuilt.{unbuilt_option};
 ghost use Rattle.b2_top.specs.Causes.{IsNotTooBig};
-ghost use Rattle.b2_top.specs.Answered.{CleanTold, HappenedTold, CountsTold, StartsNone, CompleteTold, ReportTold, TurnsTold, IsAnswered};
+ghost use Rattle.b2_top.specs.Answered.{CleanTold, HappenedTold, CountsTold, IsNotYetOrCutShort, StartsNone, CompleteTold, ReportTold, TurnsTold, IsAnswered};
 
 use crate::build::build;
 use crate::command::free_words;
@@ -80,8 +80,9 @@ pub fn run_b2<H: Children, S: Sink>(
     ensures usage { free_words words.now ≡ None → IsUsageOrCutShort result }
     ensures alone { free_words words.now ≡ None → H.outside host.new ≡ H.outside host.old }
     ensures no_usage { result ≡ Answer.Usage → free_words words.now ≡ None }
-    // Nor is it called where an option is not carried out yet.
+    // Nor is it called where an option is not carried out yet, and the first such option of a build is refused by its name.
     ensures without { (name : Word) → unbuilt_option words.now ≡ Some name → H.outside host.new ≡ H.outside host.old }
+    ensures not_yet { (free : List Word) (name : Word) → free_words words.now ≡ Some free → unbuilt_option words.now ≡ Some name → IsNotYetOrCutShort name result }
     // A call that is refused for another reason than a step cycle has started nothing and changed no file.
     ensures starts_none { StartsNone result (H.outside host.old) (H.outside host.new) }
     // No fault of the host and no out of memory is within a refusal, and no file is too big.
