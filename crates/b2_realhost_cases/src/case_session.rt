@@ -45,9 +45,7 @@ impl<R: System> Session for CaseSession<R> {
         if let Some(answer) = child_command(alloc, &mut self.host, command)? {
             return Ok(answer);
         }
-        if let Some(answer) =
-            program_command(alloc, &mut self.host, &mut self.sink, command)?
-        {
+        if let Some(answer) = program_command(alloc, &mut self.host, &mut self.sink, command)? {
             return Ok(answer);
         }
         match command.name() {
