@@ -51,5 +51,5 @@ echo "The program is $top/b2. It builds examples/hello:"
 rm -rf examples/hello/bin
 (cd examples/hello && "$top/b2")
 cat examples/hello/bin/greeting.txt
-echo "The steps of examples/demo, which it does not build yet:"
+echo "The steps of examples/demo, whose files are of a kind that it does not build yet:"
 (cd examples/demo && "$top/b2" -n release)
