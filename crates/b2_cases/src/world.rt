@@ -85,6 +85,13 @@ fn mode_shown(alloc: Global, command: &Command) -> Result<Answer, CaseFault> {
     Answer::line(alloc, mode)
 }
 
+/// A sink of which this write fails; none does in the run after it.
+fn take_sink(alloc: Global, failing: &mut FailingWrite) -> CaseSink {
+    let out = CaseSink::new(alloc, *failing);
+    *failing = NO_FAULT;
+    out
+}
+
 impl World {
     /// An empty host, over which nothing is to fail.
     pub fn new(alloc: Global) -> Result<World, CaseFault> {
@@ -178,20 +185,13 @@ impl World {
         Ok(Answer::new(alloc))
     }
 
-    /// A sink, of which the write fails that is to fail in the next run.
-    fn sink(&mut self, alloc: Global) -> CaseSink {
-        let out = CaseSink::new(alloc, self.failing);
-        self.failing = NO_FAULT;
-        out
-    }
-
     /// `run_b2 WORD ..`: a build with these words.
     fn run_b2(&mut self, alloc: Global, command: &Command) -> Result<Answer, CaseFault> {
         let words = texts_of(alloc, command.words())?;
         if !self.host.is_idle() {
             return child_left(alloc);
         }
-        let mut out = self.sink(alloc);
+        let mut out = take_sink(alloc, &mut self.failing);
         let ended = run_b2(alloc, words.as_slice(), &mut self.host, &mut out);
         let shown = end_shown(alloc, &ended, out.bytes());
         drop(ended);
@@ -201,7 +201,7 @@ impl World {
     /// `show_b2 WORD ..`: a look with these words.
     fn show_b2(&mut self, alloc: Global, command: &Command) -> Result<Answer, CaseFault> {
         let words = texts_of(alloc, command.words())?;
-        let mut out = self.sink(alloc);
+        let mut out = take_sink(alloc, &mut self.failing);
         let ended = show_b2(alloc, words.as_slice(), &mut self.host, &mut out);
         let shown = end_shown(alloc, &ended, out.bytes());
         drop(ended);
