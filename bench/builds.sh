@@ -14,7 +14,7 @@ measure() {
     python3 "$top/bench/measure.py" "$@"
 }
 
-for count in 10000 20000 40000; do
+for count in 5000 10000 20000; do
     { echo 'actions join { cat $(>) > $(<) }'
         awk -v n="$count" 'BEGIN { for (i = 1; i <= n; i++) printf "make t%d : s%d : @join ;\n", i, i }'; } > Jamroot
     measure "$count steps without sources" "$program" || true
