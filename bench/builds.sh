@@ -3,11 +3,7 @@
 # looked at and skipped; a chain in which each step waits for the one before it, of which the first is missing; and steps that run
 # `true`, beside a loop of the shell. It runs the program ./b2 that setup.sh leaves, or the one that B2 names.
 set -eu
-top=$(cd "$(dirname "$0")/.." && pwd)
-program=${B2:-$top/b2}
-[ -x "$program" ] || { echo "$program is not there: run ./setup.sh first" >&2; exit 1; }
-work=$(mktemp -d)
-trap 'rm -rf "$work"' EXIT
+. "$(dirname "$0")/program.sh"
 cd "$work"
 
 measure() {

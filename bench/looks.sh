@@ -3,11 +3,7 @@
 # in Jamfiles of their own. It runs the program ./b2 that setup.sh leaves, or the one that B2 names; and Debian's `b2` beside it for the
 # calls of `make`, where that is installed.
 set -eu
-top=$(cd "$(dirname "$0")/.." && pwd)
-program=${B2:-$top/b2}
-[ -x "$program" ] || { echo "$program is not there: run ./setup.sh first" >&2; exit 1; }
-work=$(mktemp -d)
-trap 'rm -rf "$work"' EXIT
+. "$(dirname "$0")/program.sh"
 cd "$work"
 
 # part NAME: shows the steps of the project in the present folder
