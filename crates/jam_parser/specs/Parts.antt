@@ -1,9 +1,11 @@
 -- What reading a part answers.
-use Rattle.std.specs.Prelude.{◌≡◌, ℕ, ◌+◌, ◌≤◌, List, [], ◌∷◌, ◌++◌, length}
+use Rattle.std.specs.Prelude.{◌≡◌, ℕ, ◌+◌, ◌≤◌, List, [], ◌∷◌, ◌++◌, length, Result, MatchResult}
 use Rattle.b2_base.specs.declared.token.Token.{Token}
+use Rattle.jam_grammar.specs.declared.mark.Mark.{Mark}
 use Rattle.jam_grammar.specs.declared.mark.Mark.TheVariants as marks
-use Rattle.jam_grammar.specs.Grammar.{Part, Key, OneWord, OneStmt, OneBlock, OneArg, OneInner, OneExpr, Both, Single, OrTail}
+use Rattle.jam_grammar.specs.Grammar.{Part, Key, OneWord, OneStmt, OneBlock, OneArg, OneInner, OneExpr, Both, Single, OrTail, AndTail}
 use Rattle.jam_grammar.specs.Spelling.{Sym, Spells}
+use Rattle.jam_grammar.specs.Spelling as spelling
 use Rattle.jam_grammar.specs.Gives.{Leads, Ends}
 use Rattle.jam_parser.specs.declared.reading.Fault.{Fault}
 use Rattle.jam_parser.specs.declared.reading.Fault.TheVariants as faults
@@ -50,9 +52,25 @@ pub record Continues (prefix : List Sym) (parts others : List Part) (tokens : Li
 abbrev pub Completes : List Sym → List Part → List Token → ℕ → List Sym → List Token → Type 0
 Completes prefix parts tokens depth all after = Continues prefix parts [] tokens depth all after
 
+-- the answer completes what was read before, with these symbols, and the tokens after; or reading ends
+abbrev pub ReadsOn : {T : Type 0} → Result T Fault → List Sym → List Part → List Token → ℕ → (T → List Sym) → (T → List Token) → Type 0
+ReadsOn result prefix parts tokens depth all after =
+    MatchResult result (λ r. Completes prefix parts tokens depth (all r) (after r)) (λ e. EndsBy parts tokens depth e)
+
 -- what is read after an opening bracket, and after the first `||` of a condition
 abbrev pub in_brackets : List Part
 in_brackets = OneInner ∷ Key marks.SquareClose ∷ []
 
 abbrev pub after_or : List Part
 after_or = Both ∷ OrTail ∷ []
+
+-- what is read after the first `&&` of a condition, and after an opening parenthesis
+abbrev pub after_and : List Part
+after_and = Single ∷ AndTail ∷ []
+
+abbrev pub in_parens : List Part
+in_parens = OneExpr ∷ Key marks.ParenClose ∷ []
+
+-- symbols with a sign after them
+abbrev pub with_sign : List Sym → Mark → List Sym
+with_sign syms mark = syms ++ spelling.Key mark ∷ []

@@ -5,7 +5,7 @@ ghost use Rattle.jam_grammar.specs.Spelling as spelling;
 ghost use Rattle.jam_grammar.specs.Grammar.{OneExpr, Both, Single, AndTail, OneArg, Compared, Args, Key};
 ghost use Rattle.jam_grammar.specs.declared.mark.Mark.TheVariants as marks;
 ghost use Rattle.jam_parser.specs.Starts.{starts_with};
-ghost use Rattle.jam_parser.specs.Parts.{IsRead, Completes, EndsBy, after_or};
+ghost use Rattle.jam_parser.specs.Parts.{IsRead, EndsBy, ReadsOn, after_or, after_and, in_parens, with_sign};
 
 use crate::args::{MAX_OPEN, arg, args};
 use crate::reading::{Fault, key_here, past};
@@ -54,7 +54,7 @@ fn or_rest<'a>(
     depth: u8,
 ) -> Result<(Expr, &'a [Token]), Fault<'a>>
     requires { depth ≤ 64 }
-    ensures { MatchResult result (λ r. Completes (expr_syms WithinOr first ++ spelling.Key marks.Or ∷ []) after_or rest.now depth (expr_syms Anywhere r.0) r.1.now) (EndsBy after_or rest.now depth) }
+    ensures { ReadsOn result (expr_syms WithinOr first ++ spelling.Key marks.Or ∷ []) after_or rest.now depth (λ r. expr_syms Anywhere r.0) (λ r. r.1.now) }
 {
     let (second, mut left) = both(alloc, rest, depth)?;
     let mut members = pair_of(alloc, first, second)?;
@@ -91,7 +91,7 @@ fn and_rest<'a>(
     depth: u8,
 ) -> Result<(Expr, &'a [Token]), Fault<'a>>
     requires { depth ≤ 64 }
-    ensures { MatchResult result (λ r. Completes (expr_syms WithinAnd first ++ spelling.Key marks.And ∷ []) (Single ∷ AndTail ∷ []) rest.now depth (expr_syms WithinOr r.0) r.1.now) (λ e. EndsBy (Single ∷ AndTail ∷ []) rest.now depth e) }
+    ensures { ReadsOn result (with_sign (expr_syms WithinAnd first) marks.And) after_and rest.now depth (λ r. expr_syms WithinOr r.0) (λ r. r.1.now) }
 {
     let (second, mut left) = single(alloc, rest, depth)?;
     let mut members = pair_of(alloc, first, second)?;
@@ -124,7 +124,7 @@ fn negated<'a>(
     depth: u8,
 ) -> Result<(Expr, &'a [Token]), Fault<'a>>
     requires { depth ≤ 64 }
-    ensures { MatchResult result (λ r. Completes (spelling.Key marks.Not ∷ []) (Single ∷ []) rest.now depth (expr_syms WithinAnd r.0) r.1.now) (λ e. EndsBy (Single ∷ []) rest.now depth e) }
+    ensures { ReadsOn result (spelling.Key marks.Not ∷ []) (Single ∷ []) rest.now depth (λ r. expr_syms WithinAnd r.0) (λ r. r.1.now) }
 {
     let (inner, after) = single(alloc, rest, depth)?;
     let inner = Box::new(alloc, inner)?;
@@ -153,7 +153,7 @@ fn positive<'a>(
 #[cycle(exprs)]
 fn group<'a>(alloc: Global, rest: &'a [Token], depth: u8) -> Result<(Expr, &'a [Token]), Fault<'a>>
     requires { depth < 64 }
-    ensures { MatchResult result (λ r. Completes (spelling.Key marks.ParenOpen ∷ []) (OneExpr ∷ Key marks.ParenClose ∷ []) rest.now depth (expr_syms WithinAnd r.0) r.1.now) (λ e. EndsBy (OneExpr ∷ Key marks.ParenClose ∷ []) rest.now depth e) }
+    ensures { ReadsOn result (with_sign [] marks.ParenOpen) in_parens rest.now depth (λ r. expr_syms WithinAnd r.0) (λ r. r.1.now) }
 {
     let (inner, after) = expr(alloc, rest, depth + 1)?;
     let inner = Box::new(alloc, inner)?;
@@ -183,7 +183,7 @@ fn compared<'a>(
     depth: u8,
 ) -> Result<(Expr, &'a [Token]), Fault<'a>>
     requires { depth ≤ 64 }
-    ensures { MatchResult result (λ r. Completes (arg_syms left) (Compared ∷ []) rest.now depth (expr_syms WithinAnd r.0) r.1.now) (λ e. EndsBy (Compared ∷ []) rest.now depth e) }
+    ensures { ReadsOn result (arg_syms left) (Compared ∷ []) rest.now depth (λ r. expr_syms WithinAnd r.0) (λ r. r.1.now) }
 {
     if let Some(after) = past(rest, Mark::Equals) {
         return equal(alloc, left, after, depth);
@@ -205,7 +205,7 @@ fn equal<'a>(
     depth: u8,
 ) -> Result<(Expr, &'a [Token]), Fault<'a>>
     requires { depth ≤ 64 }
-    ensures { MatchResult result (λ r. Completes (arg_syms left ++ spelling.Key marks.Equals ∷ []) (OneArg ∷ []) rest.now depth (expr_syms WithinAnd r.0) r.1.now) (λ e. EndsBy (OneArg ∷ []) rest.now depth e) }
+    ensures { ReadsOn result (with_sign (arg_syms left) marks.Equals) (OneArg ∷ []) rest.now depth (λ r. expr_syms WithinAnd r.0) (λ r. r.1.now) }
 {
     let (right, after) = arg(alloc, rest, depth)?;
     Ok((Expr::Equal(left, right), after))
@@ -219,7 +219,7 @@ fn differ<'a>(
     depth: u8,
 ) -> Result<(Expr, &'a [Token]), Fault<'a>>
     requires { depth ≤ 64 }
-    ensures { MatchResult result (λ r. Completes (arg_syms left ++ spelling.Key marks.NotEquals ∷ []) (OneArg ∷ []) rest.now depth (expr_syms WithinAnd r.0) r.1.now) (λ e. EndsBy (OneArg ∷ []) rest.now depth e) }
+    ensures { ReadsOn result (with_sign (arg_syms left) marks.NotEquals) (OneArg ∷ []) rest.now depth (λ r. expr_syms WithinAnd r.0) (λ r. r.1.now) }
 {
     let (right, after) = arg(alloc, rest, depth)?;
     Ok((Expr::Differ(left, right), after))
@@ -233,7 +233,7 @@ fn within<'a>(
     depth: u8,
 ) -> Result<(Expr, &'a [Token]), Fault<'a>>
     requires { depth ≤ 64 }
-    ensures { MatchResult result (λ r. Completes (arg_syms left ++ spelling.Key marks.In ∷ []) (Args ∷ []) rest.now depth (expr_syms WithinAnd r.0) r.1.now) (λ e. EndsBy (Args ∷ []) rest.now depth e) }
+    ensures { ReadsOn result (with_sign (arg_syms left) marks.In) (Args ∷ []) rest.now depth (λ r. expr_syms WithinAnd r.0) (λ r. r.1.now) }
 {
     let (list, after) = args(alloc, rest, depth)?;
     Ok((Expr::Within(left, list), after))
