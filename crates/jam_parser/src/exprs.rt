@@ -1,8 +1,7 @@
 //! Reading conditions.
-ghost use Rattle.std.specs.Prelude.{◌≡◌, ◌<◌, ◌≤◌, ◌∷◌, ◌++◌, [], false, IfOk, MatchResult};
+ghost use Rattle.std.specs.Prelude.{◌≡◌, ◌<◌, ◌≤◌, ◌∷◌, [], false, IfOk, MatchResult};
 ghost use Rattle.jam_grammar.specs.Spelling.{Anywhere, WithinOr, WithinAnd, expr_syms, arg_syms};
-ghost use Rattle.jam_grammar.specs.Spelling as spelling;
-ghost use Rattle.jam_grammar.specs.Grammar.{OneExpr, Both, Single, AndTail, OneArg, Compared, Args, Key};
+ghost use Rattle.jam_grammar.specs.Grammar.{OneExpr, Both, Single, OneArg, Compared, Args};
 ghost use Rattle.jam_grammar.specs.declared.mark.Mark.TheVariants as marks;
 ghost use Rattle.jam_parser.specs.Starts.{starts_with};
 ghost use Rattle.jam_parser.specs.Parts.{IsRead, EndsBy, ReadsOn, after_or, after_and, in_parens, with_sign};
@@ -54,7 +53,7 @@ fn or_rest<'a>(
     depth: u8,
 ) -> Result<(Expr, &'a [Token]), Fault<'a>>
     requires { depth ≤ 64 }
-    ensures { ReadsOn result (expr_syms WithinOr first ++ spelling.Key marks.Or ∷ []) after_or rest.now depth (λ r. expr_syms Anywhere r.0) (λ r. r.1.now) }
+    ensures { ReadsOn result (with_sign (expr_syms WithinOr first) marks.Or) after_or rest.now depth (λ r. expr_syms Anywhere r.0) (λ r. r.1.now) }
 {
     let (second, mut left) = both(alloc, rest, depth)?;
     let mut members = pair_of(alloc, first, second)?;
@@ -124,7 +123,7 @@ fn negated<'a>(
     depth: u8,
 ) -> Result<(Expr, &'a [Token]), Fault<'a>>
     requires { depth ≤ 64 }
-    ensures { ReadsOn result (spelling.Key marks.Not ∷ []) (Single ∷ []) rest.now depth (λ r. expr_syms WithinAnd r.0) (λ r. r.1.now) }
+    ensures { ReadsOn result (with_sign [] marks.Not) (Single ∷ []) rest.now depth (λ r. expr_syms WithinAnd r.0) (λ r. r.1.now) }
 {
     let (inner, after) = single(alloc, rest, depth)?;
     let inner = Box::new(alloc, inner)?;
