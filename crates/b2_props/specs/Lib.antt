@@ -1,6 +1,7 @@
 pub mod Sets
 pub mod Refinement
 pub mod Membership
+pub mod Numbers
 pub mod Holding
 pub mod Indexing
 pub mod Elements

@@ -195,6 +195,6 @@ impl Draft {
         let mut pairs = self.valued(alloc, registry)?;
         let mut free = self.free;
         pairs.append(&mut free)?;
-        Ok(Props::from_vec(pairs))
+        Props::from_vec(alloc, pairs)
     }
 }

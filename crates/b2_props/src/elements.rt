@@ -29,7 +29,7 @@ pub fn propagated(alloc: Global, registry: &Registry, set: &Props) -> Result<Pro
             pairs.push(copy_pair(pair)?)?;
         }
     }
-    Ok(Props::from_vec(pairs))
+    Props::from_vec(alloc, pairs)
 }
 
 /// The value of a feature that goes without saying: the one that is given, else the default.

@@ -3,11 +3,11 @@
 
 mod choice;
 mod clashes;
-mod copies;
 mod draft;
 pub mod elements;
 pub mod laws;
 pub mod lookups;
+mod numbered;
 pub mod pair_index;
 pub mod pair_list;
 mod product;
