@@ -6,8 +6,13 @@ use b2_project::load::{LoadFault, Loaded, load as load_projects};
 use b2_project::project::Project;
 use jam_effects::turns::Turns;
 use std::alloc::Global;
+use std::mem::ManuallyDrop;
 use transcript::answer::Answer;
 use transcript::case_fault::CaseFault;
+
+/// What was loaded. What takes its place lets it be, until the process ends: a program that takes it apart proves the drop of all
+/// that it holds, which costs more than the proof of its commands.
+pub type Kept = ManuallyDrop<Project>;
 
 fn refusal_line(alloc: Global, fault: &LoadFault) -> Result<String, CaseFault> {
     let text = refusal_text(alloc, fault)?;
@@ -18,21 +23,28 @@ fn refusal_line(alloc: Global, fault: &LoadFault) -> Result<String, CaseFault> {
 fn keep(
     alloc: Global,
     project: Project,
-    last: &mut Option<Box<Project>>,
+    last: &mut Option<Box<Kept>>,
 ) -> Result<String, CaseFault> {
-    *last = Some(Box::new(alloc, project)?);
+    let kept = ManuallyDrop::new(project);
+    *last = Some(Box::new(alloc, kept)?);
     Ok(String::from_str(alloc, "ok")?)
+}
+
+fn refused(alloc: Global, fault: LoadFault) -> Result<String, CaseFault> {
+    let line = refusal_line(alloc, &fault);
+    drop(fault);
+    line
 }
 
 /// Keeps what was loaded; the last line of the answer.
 fn last_line(
     alloc: Global,
     ended: Result<Project, LoadFault>,
-    last: &mut Option<Box<Project>>,
+    last: &mut Option<Box<Kept>>,
 ) -> Result<String, CaseFault> {
     match ended {
         Ok(project) => keep(alloc, project, last),
-        Err(fault) => refusal_line(alloc, &fault),
+        Err(fault) => refused(alloc, fault),
     }
 }
 
@@ -51,7 +63,7 @@ pub fn load(
     host: &mut MemoryHost,
     words: &[Text],
     turns: &mut Turns,
-    last: &mut Option<Box<Project>>,
+    last: &mut Option<Box<Kept>>,
 ) -> Result<Answer, CaseFault> {
     let Loaded {
         echoes,

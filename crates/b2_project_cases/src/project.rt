@@ -138,11 +138,7 @@ pub fn dir_of(alloc: Global, project: &Project, words: &[Word]) -> Result<Answer
 
 /// The output roots.
 pub fn roots(alloc: Global, project: &Project) -> Result<Answer, CaseFault> {
-    let mut answer = Answer::new(alloc);
-    for root in project.world.roots() {
-        answer.push_line(root.as_str())?;
-    }
-    Ok(answer)
+    Answer::paths(alloc, project.world.roots())
 }
 
 fn lists_line(alloc: Global, head: &str, lists: &[TextList]) -> Result<String, CaseFault> {

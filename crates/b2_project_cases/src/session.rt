@@ -1,25 +1,27 @@
 //! The session of a transcript.
-use crate::loading::load;
+use crate::loading::{Kept, load};
 use crate::project::{decls, dir_of, indirect, projects, roots, targets};
 use crate::tables::{count, find, generator, parts_of, suffix_of, type_of};
-use crate::words::{kind_of, number_of, path_of, texts_of};
+use crate::words::kind_of;
 use b2_base::fault::OutOfMemory;
 use b2_memory::memory::{CallKind, MemoryHost};
 use b2_project::project::Project;
 use jam_effects::turns::Turns;
 use std::alloc::Global;
+use std::mem::ManuallyDrop;
 use transcript::answer::Answer;
 use transcript::case_fault::CaseFault;
 use transcript::command::{Command, Word};
 use transcript::session::Session;
+use transcript::words::{first, number, only, path, texts};
 
 /// The files, how many turns each load has, how many the last one left, and what was loaded last.
 #[derive(Drop)]
 pub struct Cases {
-    host: MemoryHost,
+    host: ManuallyDrop<MemoryHost>,
     budget: u32,
     left: u32,
-    last: Option<Box<Project>>,
+    last: Option<Box<Kept>>,
 }
 
 /// A text so many times.
@@ -55,7 +57,7 @@ impl Cases {
     /// No files, and nothing loaded.
     pub fn new(alloc: Global) -> Result<Cases, OutOfMemory> {
         Ok(Cases {
-            host: MemoryHost::new(alloc)?,
+            host: ManuallyDrop::new(MemoryHost::new(alloc)?),
             budget: 1_000_000,
             left: 0,
             last: None,
@@ -63,15 +65,12 @@ impl Cases {
     }
 
     fn renew(&mut self, alloc: Global) -> Result<Answer, CaseFault> {
-        self.host = MemoryHost::new(alloc)?;
-        self.budget = 1_000_000;
-        self.left = 0;
-        self.last = None;
+        *self = Cases::new(alloc)?;
         Ok(Answer::new(alloc))
     }
 
     fn change(&mut self, alloc: Global, word: &Word, bytes: &[u8]) -> Result<Answer, CaseFault> {
-        let path = path_of(alloc, word)?;
+        let path = path(alloc, word.as_str()?)?;
         if self.host.running().is_empty() {
             self.host.edit(&path, Some(bytes))?;
         }
@@ -83,7 +82,8 @@ impl Cases {
             [path] => self.change(alloc, path, command.text().as_bytes()),
             [path, bytes] => self.change(alloc, path, bytes.bytes()),
             [path, text, times] => {
-                let text = repeated(alloc, text.as_str()?, number_of(times)?)?;
+                let times = number(times.as_str()?)?;
+                let text = repeated(alloc, text.as_str()?, times)?;
                 self.change(alloc, path, text.as_bytes())
             }
             _ => Err(CaseFault::WrongWords),
@@ -96,28 +96,21 @@ impl Cases {
     }
 
     fn fail_calls(&mut self, alloc: Global, words: &[Word]) -> Result<Answer, CaseFault> {
-        let Some((kind, numbers)) = words.split_first() else {
-            return Err(CaseFault::WrongWords);
-        };
+        let (kind, numbers) = first(words)?;
         let kind = kind_of(kind)?;
-        for number in numbers {
-            self.fail_call(kind, number_of(number)?)?;
+        for word in numbers {
+            self.fail_call(kind, number(word.as_str()?)?)?;
         }
         Ok(Answer::new(alloc))
     }
 
     fn turns(&mut self, alloc: Global, words: &[Word]) -> Result<Answer, CaseFault> {
-        match words {
-            [number] => {
-                self.budget = number_of(number)?;
-                Ok(Answer::new(alloc))
-            }
-            _ => Err(CaseFault::WrongWords),
-        }
+        self.budget = number(only(words)?)?;
+        Ok(Answer::new(alloc))
     }
 
     fn load(&mut self, alloc: Global, words: &[Word]) -> Result<Answer, CaseFault> {
-        let words = texts_of(alloc, words)?;
+        let words = texts(alloc, words)?;
         let mut turns = Turns::new(self.budget);
         let answer = load(
             alloc,
@@ -136,11 +129,6 @@ impl Cases {
             None => Err(CaseFault::WrongWords),
         }
     }
-
-    fn left(&self, alloc: Global) -> Result<Answer, CaseFault> {
-        let left = self.left;
-        Answer::line(alloc, format!(in alloc; "{left}")?.as_str())
-    }
 }
 
 impl Session for Cases {
@@ -152,7 +140,7 @@ impl Session for Cases {
             "turns" => self.turns(alloc, words),
             "fail_calls" => self.fail_calls(alloc, words),
             "load" => self.load(alloc, words),
-            "left" => self.left(alloc),
+            "left" => Answer::number(alloc, self.left as u64),
             _ => self.show(alloc, command),
         }
     }

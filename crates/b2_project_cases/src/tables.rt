@@ -1,6 +1,5 @@
 //! The tables of features, types and generators.
 use crate::shown::{push_pair_list, push_pairs, push_words};
-use crate::words::path_of;
 use b2_features::feature::Feature;
 use b2_generators::generator::Generator;
 use b2_project::project::Project;
@@ -8,10 +7,10 @@ use std::alloc::Global;
 use transcript::answer::Answer;
 use transcript::case_fault::CaseFault;
 use transcript::command::Word;
+use transcript::words::{both, path};
 
 pub fn count(alloc: Global, project: &Project) -> Result<Answer, CaseFault> {
-    let count = project.declared.registry.count();
-    Answer::line(alloc, format!(in alloc; "{count}")?.as_str())
+    Answer::number(alloc, project.declared.registry.count() as u64)
 }
 
 /// A feature with its values, and its attributes after a colon.
@@ -53,20 +52,16 @@ fn parts_line(
 
 /// What a value of a feature, which stand in two words, is composed of.
 pub fn parts_of(alloc: Global, project: &Project, words: &[Word]) -> Result<Answer, CaseFault> {
-    match words {
-        [feature, value] => {
-            let line = parts_line(alloc, project, feature.as_str()?, value.as_str()?)?;
-            Answer::line(alloc, line.as_str())
-        }
-        _ => Err(CaseFault::WrongWords),
-    }
+    let (feature, value) = both(words)?;
+    let line = parts_line(alloc, project, feature, value)?;
+    Answer::line(alloc, line.as_str())
 }
 
 /// The types of files.
 pub fn type_of(alloc: Global, project: &Project, words: &[Word]) -> Result<Answer, CaseFault> {
     let mut answer = Answer::new(alloc);
     for word in words {
-        let path = path_of(alloc, word)?;
+        let path = path(alloc, word.as_str()?)?;
         answer.push_line(project.declared.types.type_of(&path))?;
     }
     Ok(answer)

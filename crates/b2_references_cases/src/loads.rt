@@ -1,15 +1,17 @@
 //! A load: projects and their declaring calls.
 ghost use Rattle.std.specs.Prelude.{◌≡◌, ◌<◌, true, All, length};
 
-use crate::words::{first, lists, number, path, path_of};
+use crate::words::place;
 use b2_base::path::Path;
 use b2_base::text::Text;
+use b2_base::text_list::TextList;
 use b2_declarations::reading::declaration;
 use b2_metatargets::visit::{Call, Visit};
 use std::alloc::Global;
 use transcript::answer::Answer;
 use transcript::case_fault::CaseFault;
 use transcript::command::Word;
+use transcript::words::{first, lists, path, text};
 
 /// The projects that were visited, and the calls that their files made.
 #[derive(Drop)]
@@ -25,14 +27,13 @@ pub fn are_placed(visits: &[Visit], calls: &[Call]) -> bool
     calls.iter().all(|call| call.project < visits.len())
 }
 
-fn number_line(alloc: Global, number: usize) -> Result<Answer, CaseFault> {
-    Answer::line(alloc, format!(in alloc; "{number}")?.as_str())
+fn file_in(alloc: Global, dir: &str) -> Result<Path, CaseFault> {
+    path(alloc, format!(in alloc; "{dir}/Jamfile")?.as_str())
 }
 
 /// A project of a directory, with the file `Jamfile` there.
 fn visit(alloc: Global, dir: Path, parent: Option<usize>) -> Result<Visit, CaseFault> {
-    let text = dir.as_str();
-    let file = path_of(alloc, format!(in alloc; "{text}/Jamfile")?.as_str())?;
+    let file = file_in(alloc, dir.as_str())?;
     let module = Text::new(alloc, "")?;
     Ok(Visit {
         dir,
@@ -50,32 +51,56 @@ impl Load {
         }
     }
 
-    /// Adds a project.
-    pub fn project(&mut self, alloc: Global, words: &[Word]) -> Result<Answer, CaseFault> {
-        let (dir, parent) = match words {
-            [dir] => (path(alloc, dir)?, None),
-            [dir, parent] => (path(alloc, dir)?, Some(number(parent)?)),
-            _ => return Err(CaseFault::WrongWords),
-        };
-        let place = self.visits.len();
+    fn add_project(
+        &mut self,
+        alloc: Global,
+        dir: &str,
+        parent: Option<usize>,
+    ) -> Result<Answer, CaseFault> {
+        let number = self.visits.len();
+        let dir = path(alloc, dir)?;
         self.visits.push(visit(alloc, dir, parent)?)?;
-        number_line(alloc, place)
+        Answer::number(alloc, number as u64)
     }
 
-    /// Adds a call.
-    pub fn call(&mut self, alloc: Global, words: &[Word]) -> Result<Answer, CaseFault> {
-        let (place, words) = first(words)?;
-        let (rule, words) = first(words)?;
-        let lists = lists(alloc, words)?;
-        let declaration = declaration(alloc, rule.as_str()?, lists.as_slice())?;
+    /// Adds a project.
+    pub fn project(&mut self, alloc: Global, words: &[Word]) -> Result<Answer, CaseFault> {
+        match words {
+            [dir] => self.add_project(alloc, dir.as_str()?, None),
+            [dir, parent] => {
+                let parent = place(parent.as_str()?)?;
+                self.add_project(alloc, dir.as_str()?, Some(parent))
+            }
+            _ => Err(CaseFault::WrongWords),
+        }
+    }
+
+    fn add_call(
+        &mut self,
+        alloc: Global,
+        project: usize,
+        rule: Text,
+        lists: &[TextList],
+    ) -> Result<Answer, CaseFault> {
+        let declaration = declaration(alloc, rule.as_str(), lists)?;
         let answer = if declaration.is_some() { "ok" } else { "none" };
         self.calls.push(Call {
-            project: number(place)?,
-            rule: rule.as_text(alloc)?,
+            project,
+            rule,
             line: 1,
             declaration,
             refused: false,
         })?;
         Answer::line(alloc, answer)
+    }
+
+    /// Adds a call.
+    pub fn call(&mut self, alloc: Global, words: &[Word]) -> Result<Answer, CaseFault> {
+        let (project, words) = first(words)?;
+        let project = place(project)?;
+        let (rule, words) = first(words)?;
+        let lists = lists(alloc, words)?;
+        let rule = text(alloc, rule)?;
+        self.add_call(alloc, project, rule, lists.as_slice())
     }
 }

@@ -1,17 +1,21 @@
 //! Questions about what a load declares.
+ghost use Rattle.std.specs.Prelude.{◌<◌, All, length};
+
 use crate::loads::{Load, are_placed};
 use crate::shown::{
     meaning, number_or_none, numbers, pairs as pairs_line, pieces, places, sets, targets,
 };
-use crate::words::{first, number, only, pairs, path, texts};
+use crate::words::{pairs, place};
 use b2_base::text::Text;
 use b2_metatargets::fault::DeclaringFault;
 use b2_metatargets::metatargets::declared;
+use b2_metatargets::whole::Declared;
 use b2_props::refinement::set_of;
-use b2_props::request::read_request;
+use b2_props::request::{PropsList, Request, read_request};
 use b2_props::request_fault::RequestFault;
 use b2_references::default_sets::sets_for;
 use b2_references::index::Index;
+use b2_references::meaning::Meaning;
 use b2_references::name::TargetName;
 use b2_references::projects::project_meaning;
 use b2_references::references::{source_meaning, value_meaning, word_meaning};
@@ -20,27 +24,51 @@ use std::alloc::Global;
 use transcript::answer::Answer;
 use transcript::case_fault::CaseFault;
 use transcript::command::Word;
+use transcript::words::{both, first, only, path, text, texts};
 
 /// A place and a word.
 fn placed(alloc: Global, words: &[Word]) -> Result<(usize, Text), CaseFault> {
-    match words {
-        [place, word] => Ok((number(place)?, word.as_text(alloc)?)),
-        _ => Err(CaseFault::WrongWords),
+    let (at, word) = both(words)?;
+    let at = place(at)?;
+    Ok((at, text(alloc, word)?))
+}
+
+/// What a text names in a project.
+fn source(alloc: Global, index: &Index, words: &[Word]) -> Result<Meaning, CaseFault> {
+    let (at, text) = placed(alloc, words)?;
+    Ok(source_meaning(alloc, index, at, &text)?)
+}
+
+fn value(alloc: Global, index: &Index, words: &[Word]) -> Result<Meaning, CaseFault> {
+    let text = text(alloc, only(words)?)?;
+    Ok(value_meaning(alloc, index, &text)?)
+}
+
+fn word(alloc: Global, index: &Index, words: &[Word]) -> Result<Meaning, CaseFault> {
+    let text = text(alloc, only(words)?)?;
+    Ok(word_meaning(alloc, index, &text)?)
+}
+
+/// What a text or a project names.
+fn meaning_of(
+    alloc: Global,
+    index: &Index,
+    name: &str,
+    words: &[Word],
+) -> Result<Meaning, CaseFault> {
+    match name {
+        "source_meaning" => source(alloc, index, words),
+        "value_meaning" => value(alloc, index, words),
+        "word_meaning" => word(alloc, index, words),
+        _ => Ok(project_meaning(alloc, index, place(only(words)?)?)?),
     }
 }
 
-/// What a text names.
 fn named(alloc: Global, index: &Index, name: &str, words: &[Word]) -> Result<Answer, CaseFault> {
-    let found = match name {
-        "source_meaning" => {
-            let (place, text) = placed(alloc, words)?;
-            source_meaning(alloc, index, place, &text)?
-        }
-        "value_meaning" => value_meaning(alloc, index, &only(words)?.as_text(alloc)?)?,
-        "word_meaning" => word_meaning(alloc, index, &only(words)?.as_text(alloc)?)?,
-        _ => project_meaning(alloc, index, number(only(words)?)?)?,
-    };
-    meaning(alloc, index, &found)
+    let found = meaning_of(alloc, index, name, words)?;
+    let answer = meaning(alloc, index, &found);
+    drop(found);
+    answer
 }
 
 /// What the index tells of projects.
@@ -52,8 +80,8 @@ fn told_of_projects(
 ) -> Result<Answer, CaseFault> {
     match name {
         "place_at" => number_or_none(alloc, index.place_at(&path(alloc, only(words)?)?)),
-        "place_with" => number_or_none(alloc, index.place_with(only(words)?.as_str()?)),
-        _ => places(alloc, index.lineage(number(only(words)?)?)?.as_slice()),
+        "place_with" => number_or_none(alloc, index.place_with(only(words)?)),
+        _ => places(alloc, index.lineage(place(only(words)?)?)?.as_slice()),
     }
 }
 
@@ -73,27 +101,42 @@ fn told_of_target(
     }
 }
 
+/// The sets that the set of pairs stands for.
+fn sets_of(
+    alloc: Global,
+    index: &Index,
+    name: &TargetName,
+    pairs: &[(Text, Text)],
+) -> Result<PropsList, CaseFault> {
+    let set = set_of(alloc, &index.declared().registry, pairs)?;
+    Ok(sets_for(alloc, index, &set, name)?)
+}
+
 fn sets_line(alloc: Global, index: &Index, words: &[Word]) -> Result<Answer, CaseFault> {
-    let (place, words) = first(words)?;
+    let (at, words) = first(words)?;
+    let at = place(at)?;
     let (name, words) = first(words)?;
-    let name = TargetName::new(number(place)?, name.as_text(alloc)?);
     let pairs = pairs(alloc, words)?;
-    let set = set_of(alloc, &index.declared().registry, pairs.as_slice())?;
-    sets(alloc, &sets_for(alloc, index, &set, &name)?)
+    let name = TargetName::new(at, text(alloc, name)?);
+    let found = sets_of(alloc, index, &name, pairs.as_slice())?;
+    sets(alloc, &found)
+}
+
+/// What the sets and the targets of a request ask for.
+fn asked_of(alloc: Global, index: &Index, request: &Request) -> Result<Answer, CaseFault> {
+    let found = asked(
+        alloc,
+        index,
+        request.sets.as_slice(),
+        request.targets.as_slice(),
+    )?;
+    pieces(alloc, index, found.as_slice())
 }
 
 fn asked_lines(alloc: Global, index: &Index, words: &[Word]) -> Result<Answer, CaseFault> {
     let words = texts(alloc, words)?;
     match read_request(alloc, &index.declared().registry, words.as_slice()) {
-        Ok(request) => {
-            let found = asked(
-                alloc,
-                index,
-                request.sets.as_slice(),
-                request.targets.as_slice(),
-            )?;
-            pieces(alloc, index, found.as_slice())
-        }
+        Ok(request) => asked_of(alloc, index, &request),
         Err(RequestFault::OutOfMemory) => Err(CaseFault::OutOfMemory),
         Err(_fault) => Answer::line(alloc, "refused"),
     }
@@ -114,6 +157,19 @@ fn told(alloc: Global, index: &Index, name: &str, words: &[Word]) -> Result<Answ
     }
 }
 
+/// The answer of a question over what is declared.
+fn told_over(
+    alloc: Global,
+    declared: &Declared,
+    name: &str,
+    words: &[Word],
+) -> Result<Answer, CaseFault>
+    requires { All (λ t. t.project < length declared.now.places) declared.now.targets }
+{
+    let index = Index::new(alloc, declared)?;
+    told(alloc, &index, name, words)
+}
+
 /// The answer of a question over what the calls of a load declare.
 pub fn answered(
     alloc: Global,
@@ -125,10 +181,7 @@ pub fn answered(
         return Err(CaseFault::WrongWords);
     }
     match declared(alloc, load.visits.as_slice(), load.calls.as_slice()) {
-        Ok(declared) => {
-            let index = Index::new(alloc, &declared)?;
-            told(alloc, &index, name, words)
-        }
+        Ok(declared) => told_over(alloc, &declared, name, words),
         Err(DeclaringFault::OutOfMemory) => Err(CaseFault::OutOfMemory),
         Err(_fault) => Answer::line(alloc, "refused"),
     }

@@ -6,6 +6,7 @@ use transcript::answer::Answer;
 use transcript::case_fault::CaseFault;
 use transcript::command::{Command, Word};
 use transcript::session::Session;
+use transcript::words::no_words;
 
 /// The load at hand.
 #[derive(Drop)]
@@ -21,9 +22,7 @@ impl Cases {
     }
 
     fn renew(&mut self, alloc: Global, words: &[Word]) -> Result<Answer, CaseFault> {
-        if !words.is_empty() {
-            return Err(CaseFault::WrongWords);
-        }
+        no_words(words)?;
         self.load = Load::new(alloc);
         Answer::line(alloc, "ok")
     }

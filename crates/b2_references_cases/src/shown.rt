@@ -10,13 +10,9 @@ use std::alloc::Global;
 use transcript::answer::Answer;
 use transcript::case_fault::CaseFault;
 
-pub fn number(alloc: Global, number: usize) -> Result<Answer, CaseFault> {
-    Answer::line(alloc, format!(in alloc; "{number}")?.as_str())
-}
-
 pub fn number_or_none(alloc: Global, found: Option<usize>) -> Result<Answer, CaseFault> {
     match found {
-        Some(found) => number(alloc, found),
+        Some(found) => Answer::number(alloc, found as u64),
         None => Answer::line(alloc, "none"),
     }
 }

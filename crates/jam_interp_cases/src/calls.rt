@@ -1,29 +1,22 @@
 //! Calls that leave the world as it is.
-use crate::faults::push_fault;
+use crate::faults::fault_answer;
 use crate::machine::Machine;
-use crate::words::{first, lists};
-use b2_base::text::{Text, has_no_zero};
+use b2_base::text::has_no_zero;
+use b2_base::text_list::TextList;
 use jam_interp::fault::EvalFault;
 use jam_interp::rolled::{CallAnswer, call_rolled};
 use jam_interp::turns::Turns;
-use jam_values::lists::TextLists;
 use std::alloc::Global;
 use transcript::answer::Answer;
 use transcript::case_fault::CaseFault;
 use transcript::command::Word;
-
-fn push_texts(answer: &mut Answer, texts: &[Text]) -> Result<(), CaseFault> {
-    for text in texts {
-        answer.push_line(text.as_str())?;
-    }
-    Ok(())
-}
+use transcript::words::{first, lists};
 
 fn call(
     alloc: Global,
     machine: &mut Machine,
     rule: &str,
-    lists: &TextLists,
+    lists: &[TextList],
     turns: &mut Turns,
 ) -> Result<CallAnswer, EvalFault> {
     if !has_no_zero(rule) {
@@ -33,11 +26,49 @@ fn call(
         alloc,
         &mut machine.world,
         rule,
-        lists.as_slice(),
+        lists,
         turns,
-        &mut machine.natives,
-        &mut machine.host,
+        &mut *machine.natives,
+        &mut *machine.host,
     )
+}
+
+fn called(alloc: Global, ended: &Result<CallAnswer, EvalFault>) -> Result<Answer, CaseFault> {
+    match ended {
+        Ok(called) => Answer::texts(alloc, called.value.as_slice()),
+        Err(fault) => fault_answer(alloc, fault),
+    }
+}
+
+/// Calls a rule in the present module, and shows its value.
+fn call_shown(
+    alloc: Global,
+    machine: &mut Machine,
+    rule: &str,
+    lists: &[TextList],
+    turns: &mut Turns,
+) -> Result<Answer, CaseFault> {
+    let ended = call(alloc, machine, rule, lists, turns);
+    let answer = called(alloc, &ended);
+    drop(ended);
+    answer
+}
+
+/// Calls a rule in a module.
+fn call_there(
+    alloc: Global,
+    machine: &mut Machine,
+    module: &str,
+    rule: &str,
+    lists: &[TextList],
+    turns: &mut Turns,
+) -> Result<Answer, CaseFault> {
+    machine.world.enter(module)?;
+    let answer = call_shown(alloc, machine, rule, lists, turns);
+    if machine.world.may_leave() {
+        machine.world.leave();
+    }
+    answer
 }
 
 /// Calls a rule in a module, and shows its value.
@@ -50,15 +81,5 @@ pub fn call_rule(
 ) -> Result<Answer, CaseFault> {
     let (rule, others) = first(words)?;
     let lists = lists(alloc, others)?;
-    machine.world.enter(module)?;
-    let ended = call(alloc, machine, rule, &lists, turns);
-    if machine.world.may_leave() {
-        machine.world.leave();
-    }
-    let mut answer = Answer::new(alloc);
-    match ended {
-        Ok(called) => push_texts(&mut answer, called.value.as_slice())?,
-        Err(fault) => push_fault(alloc, &mut answer, &fault)?,
-    }
-    Ok(answer)
+    call_there(alloc, machine, module, rule, lists.as_slice(), turns)
 }

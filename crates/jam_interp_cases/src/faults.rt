@@ -102,3 +102,10 @@ pub fn push_fault(alloc: Global, answer: &mut Answer, fault: &EvalFault) -> Resu
         }
     }
 }
+
+/// Why an evaluation ended.
+pub fn fault_answer(alloc: Global, fault: &EvalFault) -> Result<Answer, CaseFault> {
+    let mut answer = Answer::new(alloc);
+    push_fault(alloc, &mut answer, fault)?;
+    Ok(answer)
+}

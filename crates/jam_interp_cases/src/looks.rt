@@ -1,6 +1,5 @@
 //! Looking at the world.
 use crate::machine::Machine;
-use crate::words::first;
 use b2_base::look::Look;
 use b2_base::text::Text;
 use b2_base::text_list::TextList;
@@ -9,6 +8,7 @@ use std::alloc::Global;
 use transcript::answer::Answer;
 use transcript::case_fault::CaseFault;
 use transcript::command::Word;
+use transcript::words::first;
 
 /// A text, and then others, each after a space.
 fn line_of(alloc: Global, head: &str, texts: &[Text]) -> Result<String, CaseFault> {

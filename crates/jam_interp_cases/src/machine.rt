@@ -4,13 +4,17 @@ use b2_memory::memory::MemoryHost;
 use jam_natives::natives::JamNatives;
 use jam_scope::world::World;
 use std::alloc::Global;
+use std::mem::ManuallyDrop;
 
 /// A world with its natives and files.
+///
+/// What is put in place of them lets them be, until the process ends: a program that takes them apart proves the drop of all that
+/// they hold, which costs more than the proof of its commands.
 #[derive(Drop)]
 pub struct Machine {
-    pub world: World,
-    pub natives: JamNatives,
-    pub host: MemoryHost,
+    pub world: ManuallyDrop<World>,
+    pub natives: ManuallyDrop<JamNatives>,
+    pub host: ManuallyDrop<MemoryHost>,
     /// How many lines of ECHO were shown.
     pub shown: usize,
 }
@@ -18,11 +22,11 @@ pub struct Machine {
 impl Machine {
     /// An empty world over no files.
     pub fn new(alloc: Global) -> Result<Machine, OutOfMemory> {
-        let world = World::new(alloc)?;
-        let host = MemoryHost::new(alloc)?;
+        let world = ManuallyDrop::new(World::new(alloc)?);
+        let host = ManuallyDrop::new(MemoryHost::new(alloc)?);
         Ok(Machine {
             world,
-            natives: JamNatives::new(alloc),
+            natives: ManuallyDrop::new(JamNatives::new(alloc)),
             host,
             shown: 0,
         })

@@ -18,7 +18,6 @@ mod machine;
 mod running;
 mod session;
 mod steps;
-mod words;
 
 use crate::session::Cases;
 use std::io;

@@ -27,7 +27,7 @@ fn statements(alloc: Global, text: &str) -> Result<Tree, CaseFault> {
 }
 
 /// Shows the lines of ECHO that were not shown yet.
-pub fn push_echoes(machine: &mut Machine, answer: &mut Answer) -> Result<(), CaseFault> {
+fn push_echoes(machine: &mut Machine, answer: &mut Answer) -> Result<(), CaseFault> {
     let echoes = machine.natives.echoes();
     for line in echoes.iter().skip(machine.shown) {
         answer.push_line(line.as_str())?;
@@ -52,13 +52,27 @@ fn run_there(
         path,
         tree,
         turns,
-        &mut machine.natives,
-        &mut machine.host,
+        &mut *machine.natives,
+        &mut *machine.host,
     );
     if machine.world.may_leave() {
         machine.world.leave();
     }
     ended
+}
+
+/// The lines of ECHO that were not shown yet, and why the run ended, unless all was done.
+fn shown(
+    alloc: Global,
+    machine: &mut Machine,
+    ended: &Result<(), EvalFault>,
+) -> Result<Answer, CaseFault> {
+    let mut answer = Answer::new(alloc);
+    push_echoes(machine, &mut answer)?;
+    if let Err(fault) = ended {
+        push_fault(alloc, &mut answer, fault)?;
+    }
+    Ok(answer)
 }
 
 /// Runs a text as a file in a module, and shows what came of it.
@@ -72,11 +86,7 @@ pub fn run_text(
 ) -> Result<Answer, CaseFault> {
     let tree = statements(alloc, text)?;
     let ended = run_there(alloc, machine, module, path, &tree, turns);
-    let mut answer = Answer::new(alloc);
-    push_echoes(machine, &mut answer)?;
-    match ended {
-        Ok(()) => {}
-        Err(fault) => push_fault(alloc, &mut answer, &fault)?,
-    }
-    Ok(answer)
+    let answer = shown(alloc, machine, &ended);
+    drop(ended);
+    answer
 }

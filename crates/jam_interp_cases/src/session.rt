@@ -4,7 +4,6 @@ use crate::looks::{decls, own_values, values};
 use crate::machine::Machine;
 use crate::running::run_text;
 use crate::steps::text_of_step;
-use crate::words::{number, only, only_text, path};
 use b2_base::fault::OutOfMemory;
 use b2_base::text::Text;
 use jam_interp::turns::Turns;
@@ -13,6 +12,7 @@ use transcript::answer::Answer;
 use transcript::case_fault::CaseFault;
 use transcript::command::{Command, Word};
 use transcript::session::Session;
+use transcript::words::{number, only, path};
 
 /// A machine, the module of the files that are run, and the turns of a run.
 #[derive(Drop)]
@@ -21,6 +21,14 @@ pub struct Cases {
     module: Text,
     budget: u32,
     left: u32,
+}
+
+/// The one word that a command takes, as a text.
+fn only_text(alloc: Global, words: &[Word]) -> Result<Text, CaseFault> {
+    match words {
+        [word] => word.as_text(alloc),
+        _ => Err(CaseFault::WrongWords),
+    }
 }
 
 impl Cases {
@@ -78,36 +86,36 @@ impl Cases {
         answer
     }
 
-    fn left(&self, alloc: Global) -> Result<Answer, CaseFault> {
-        let left = self.left;
-        Answer::line(alloc, format!(in alloc; "{left}")?.as_str())
+    fn renew(&mut self, alloc: Global) -> Result<Answer, CaseFault> {
+        *self = Cases::new(alloc)?;
+        Ok(Answer::new(alloc))
     }
 
-    fn settings(&mut self, alloc: Global, command: &Command) -> Result<Option<Answer>, CaseFault> {
-        match command.name() {
-            "new" => *self = Cases::new(alloc)?,
-            "turns" => self.budget = number(only(command.words())?)?,
-            "module" => self.module = only_text(alloc, command.words())?,
-            _ => return Ok(None),
-        }
-        Ok(Some(Answer::new(alloc)))
+    fn turns(&mut self, alloc: Global, words: &[Word]) -> Result<Answer, CaseFault> {
+        self.budget = number(only(words)?)?;
+        Ok(Answer::new(alloc))
+    }
+
+    fn module(&mut self, alloc: Global, words: &[Word]) -> Result<Answer, CaseFault> {
+        self.module = only_text(alloc, words)?;
+        Ok(Answer::new(alloc))
     }
 }
 
 impl Session for Cases {
     fn carry_out(&mut self, alloc: Global, command: &Command) -> Result<Answer, CaseFault> {
-        if let Some(answer) = self.settings(alloc, command)? {
-            return Ok(answer);
-        }
         let words = command.words();
         match command.name() {
+            "new" => self.renew(alloc),
+            "turns" => self.turns(alloc, words),
+            "module" => self.module(alloc, words),
             "file" => self.file(alloc, command),
             "run" => self.run(alloc, command),
             "call_rolled" => self.call(alloc, words),
             "step_text" => self.step(alloc, words),
             "value" => values(alloc, &mut self.machine, self.module.as_str(), words),
             "on" => own_values(alloc, &self.machine, words),
-            "left" => self.left(alloc),
+            "left" => Answer::number(alloc, self.left as u64),
             "decls" => decls(alloc, &self.machine),
             _ => Err(CaseFault::UnknownCommand),
         }

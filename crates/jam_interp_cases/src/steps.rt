@@ -1,12 +1,10 @@
 //! Texts of steps.
-use crate::faults::push_fault;
+use crate::faults::fault_answer;
 use crate::machine::Machine;
-use crate::words::{lists, paths};
-use b2_base::path::Path;
-use b2_base::path_list::PathList;
 use b2_base::text::Text;
 use b2_base::text_list::TextList;
 use jam_eval::step::{StepJob, StepText};
+use jam_interp::fault::EvalFault;
 use jam_interp::step::step_text;
 use jam_interp::turns::Turns;
 use jam_values::lists::copy_texts;
@@ -14,6 +12,7 @@ use std::alloc::Global;
 use transcript::answer::Answer;
 use transcript::case_fault::CaseFault;
 use transcript::command::Word;
+use transcript::words::{lists, paths_of};
 
 fn list_at(lists: &[TextList], place: usize) -> &[Text] {
     match lists.get(place) {
@@ -34,8 +33,8 @@ fn job_of(alloc: Global, module: &Text, words: &[Word]) -> Result<StepJob, CaseF
     let lists = lists.as_slice();
     let name = name_of(lists)?;
     let path = Text::new(alloc, "Jamroot")?;
-    let outs = paths(alloc, list_at(lists, 1))?;
-    let ins = paths(alloc, list_at(lists, 2))?;
+    let outs = paths_of(alloc, list_at(lists, 1))?;
+    let ins = paths_of(alloc, list_at(lists, 2))?;
     let props = copy_texts(alloc, list_at(lists, 3))?;
     Ok(StepJob {
         name,
@@ -48,23 +47,9 @@ fn job_of(alloc: Global, module: &Text, words: &[Word]) -> Result<StepJob, CaseF
     })
 }
 
-/// Each path on a line, after a word.
-fn push_paths(
-    alloc: Global,
-    answer: &mut Answer,
-    word: &str,
-    paths: &[Path],
-) -> Result<(), CaseFault> {
-    for path in paths {
-        let path = path.as_str();
-        answer.push_line(format!(in alloc; "{word} {path}")?.as_str())?;
-    }
-    Ok(())
-}
-
 fn push_step(alloc: Global, answer: &mut Answer, step: &StepText) -> Result<(), CaseFault> {
     answer.push_text(step.text.as_str())?;
-    push_paths(alloc, answer, "depends", step.depends.as_slice())?;
+    answer.push_paths(alloc, "depends", step.depends.as_slice())?;
     if step.always {
         answer.push_line("always")?;
     }
@@ -72,6 +57,42 @@ fn push_step(alloc: Global, answer: &mut Answer, step: &StepText) -> Result<(), 
         answer.push_line("notfile")?;
     }
     Ok(())
+}
+
+fn step_answer(alloc: Global, step: &StepText) -> Result<Answer, CaseFault> {
+    let mut answer = Answer::new(alloc);
+    push_step(alloc, &mut answer, step)?;
+    Ok(answer)
+}
+
+fn shown(alloc: Global, ended: &Result<StepText, EvalFault>) -> Result<Answer, CaseFault> {
+    match ended {
+        Ok(step) => step_answer(alloc, step),
+        Err(fault) => fault_answer(alloc, fault),
+    }
+}
+
+/// The text of a step, while no step is open.
+fn job_answer(
+    alloc: Global,
+    machine: &mut Machine,
+    job: &StepJob,
+    turns: &mut Turns,
+) -> Result<Answer, CaseFault> {
+    if machine.world.step().is_some() {
+        return Err(CaseFault::WrongWords);
+    }
+    let ended = step_text(
+        alloc,
+        &mut machine.world,
+        job,
+        turns,
+        &mut *machine.natives,
+        &mut *machine.host,
+    );
+    let answer = shown(alloc, &ended);
+    drop(ended);
+    answer
 }
 
 /// Shows the text of a step.
@@ -83,21 +104,5 @@ pub fn text_of_step(
     turns: &mut Turns,
 ) -> Result<Answer, CaseFault> {
     let job = job_of(alloc, module, words)?;
-    if machine.world.step().is_some() {
-        return Err(CaseFault::WrongWords);
-    }
-    let ended = step_text(
-        alloc,
-        &mut machine.world,
-        &job,
-        turns,
-        &mut machine.natives,
-        &mut machine.host,
-    );
-    let mut answer = Answer::new(alloc);
-    match ended {
-        Ok(step) => push_step(alloc, &mut answer, &step)?,
-        Err(fault) => push_fault(alloc, &mut answer, &fault)?,
-    }
-    Ok(answer)
+    job_answer(alloc, machine, &job, turns)
 }

@@ -1,61 +1,55 @@
-//! The host and the scene at hand.
-use crate::call_commands::call_command;
-use crate::file_commands::file_command;
-use crate::scene::Scene;
-use crate::step_commands::step_command;
-use crate::text_commands::text_command;
-use crate::world_commands::world_command;
+//! The world at hand with its native rules and files.
+use crate::naming::naming_command;
 use b2_base::fault::OutOfMemory;
 use b2_memory::memory::MemoryHost;
+use jam_natives::natives::JamNatives;
+use jam_scope::mark::Mark;
+use jam_scope::world::World;
 use std::alloc::Global;
+use std::mem::ManuallyDrop;
 use transcript::answer::Answer;
 use transcript::case_fault::CaseFault;
-use transcript::command::Command;
+use transcript::command::{Command, Word};
 use transcript::session::Session;
+use transcript::words::no_words;
 
-/// A host in memory, and a scene.
+/// A world, the marks that were made of it, the newest last, the native rules with what they keep, and a host in memory.
+///
+/// What is put in place of a world, of rules or of a host lets them be, until the process ends: a program that takes them apart
+/// proves the drop of all that they hold, which costs more than the proof of its commands.
 #[derive(Drop)]
 pub struct Cases {
-    host: MemoryHost,
-    scene: Scene,
+    pub host: ManuallyDrop<MemoryHost>,
+    pub natives: ManuallyDrop<JamNatives>,
+    pub marks: Vec<Mark>,
+    pub world: ManuallyDrop<World>,
 }
 
 impl Cases {
-    /// A host without files, and a new scene.
+    /// A new world without a mark, nothing kept, and no files.
     pub fn new(alloc: Global) -> Result<Cases, OutOfMemory> {
-        let host = MemoryHost::new(alloc)?;
-        let scene = Scene::new(alloc)?;
-        Ok(Cases { host, scene })
+        let host = ManuallyDrop::new(MemoryHost::new(alloc)?);
+        let world = ManuallyDrop::new(World::new(alloc)?);
+        Ok(Cases {
+            host,
+            natives: ManuallyDrop::new(JamNatives::new(alloc)),
+            marks: Vec::new(alloc),
+            world,
+        })
     }
 
-    fn renew(&mut self, alloc: Global) -> Result<Answer, CaseFault> {
-        self.host = MemoryHost::new(alloc)?;
-        self.scene = Scene::new(alloc)?;
+    fn renew(&mut self, alloc: Global, words: &[Word]) -> Result<Answer, CaseFault> {
+        no_words(words)?;
+        *self = Cases::new(alloc)?;
         Ok(Answer::new(alloc))
     }
 }
 
 impl Session for Cases {
     fn carry_out(&mut self, alloc: Global, command: &Command) -> Result<Answer, CaseFault> {
-        if command.name() == "new" {
-            return self.renew(alloc);
-        }
-        if let Some(answer) = text_command(alloc, command)? {
-            return Ok(answer);
-        }
-        if let Some(answer) = step_command(alloc, command)? {
-            return Ok(answer);
-        }
-        let scene = &mut self.scene;
-        if let Some(answer) = world_command(alloc, &mut scene.world, &mut scene.marks, command)? {
-            return Ok(answer);
-        }
-        if let Some(answer) = call_command(alloc, scene, &mut self.host, command)? {
-            return Ok(answer);
-        }
-        match file_command(alloc, &mut self.host, command)? {
-            Some(answer) => Ok(answer),
-            None => Err(CaseFault::UnknownCommand),
+        match command.name() {
+            "new" => self.renew(alloc, command.words()),
+            _ => naming_command(alloc, self, command),
         }
     }
 }

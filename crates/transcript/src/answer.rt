@@ -1,5 +1,8 @@
 //! The answer to a command.
 use crate::case_fault::CaseFault;
+use b2_base::fault::OutOfMemory;
+use b2_base::path::Path;
+use b2_base::text::Text;
 use std::alloc::Global;
 use std::io;
 
@@ -72,6 +75,56 @@ impl Answer {
         let mut answer = Answer::new(alloc);
         answer.push_line(line)?;
         Ok(answer)
+    }
+
+    /// An answer of no lines to a call that has nothing to tell.
+    pub fn done(alloc: Global, called: Result<(), OutOfMemory>) -> Result<Answer, CaseFault> {
+        match called {
+            Ok(()) => Ok(Answer::new(alloc)),
+            Err(_fault) => Err(CaseFault::OutOfMemory),
+        }
+    }
+
+    /// `yes` or `no`.
+    pub fn yes_or_no(alloc: Global, holds: bool) -> Result<Answer, CaseFault> {
+        Answer::line(alloc, if holds { "yes" } else { "no" })
+    }
+
+    /// A number in decimal.
+    pub fn number(alloc: Global, number: u64) -> Result<Answer, CaseFault> {
+        Answer::line(alloc, format!(in alloc; "{number}")?.as_str())
+    }
+
+    /// Each text on a line.
+    pub fn texts(alloc: Global, texts: &[Text]) -> Result<Answer, CaseFault> {
+        let mut answer = Answer::new(alloc);
+        for text in texts {
+            answer.push_line(text.as_str())?;
+        }
+        Ok(answer)
+    }
+
+    /// Each path on a line.
+    pub fn paths(alloc: Global, paths: &[Path]) -> Result<Answer, CaseFault> {
+        let mut answer = Answer::new(alloc);
+        for path in paths {
+            answer.push_line(path.as_str())?;
+        }
+        Ok(answer)
+    }
+
+    /// Adds a line for each path: a word, a space and the path.
+    pub fn push_paths(
+        &mut self,
+        alloc: Global,
+        word: &str,
+        paths: &[Path],
+    ) -> Result<(), CaseFault> {
+        for path in paths {
+            let path = path.as_str();
+            self.push_line(format!(in alloc; "{word} {path}")?.as_str())?;
+        }
+        Ok(())
     }
 
     /// Adds a line, whose control bytes are shown as escapes. After an error the answer may hold a part of it.

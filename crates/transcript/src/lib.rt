@@ -64,3 +64,4 @@ pub mod case_fault;
 pub mod command;
 pub mod session;
 mod word_reader;
+pub mod words;

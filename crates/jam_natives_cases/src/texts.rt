@@ -1,6 +1,5 @@
 //! Commands on texts.
-use crate::answers::texts_answer;
-use crate::words::{lists, only, texts};
+use crate::parts::part_command;
 use jam_natives::list::{list_at, text_of};
 use jam_natives::native::{is_declaring, native_of, shape_of};
 use jam_natives::pattern_match::match_all;
@@ -11,6 +10,7 @@ use std::alloc::Global;
 use transcript::answer::Answer;
 use transcript::case_fault::CaseFault;
 use transcript::command::{Command, Word};
+use transcript::words::{lists, only, texts};
 
 fn line(alloc: Global, words: &[Word]) -> Result<Answer, CaseFault> {
     let given = texts(alloc, words)?;
@@ -19,26 +19,26 @@ fn line(alloc: Global, words: &[Word]) -> Result<Answer, CaseFault> {
 
 fn sort(alloc: Global, words: &[Word]) -> Result<Answer, CaseFault> {
     let given = texts(alloc, words)?;
-    texts_answer(alloc, sorted(alloc, given.as_slice())?.as_slice())
+    Answer::texts(alloc, sorted(alloc, given.as_slice())?.as_slice())
 }
 
 fn once(alloc: Global, words: &[Word]) -> Result<Answer, CaseFault> {
     let given = texts(alloc, words)?;
-    texts_answer(alloc, without_repeats(alloc, given.as_slice())?.as_slice())
+    Answer::texts(alloc, without_repeats(alloc, given.as_slice())?.as_slice())
 }
 
 fn after(alloc: Global, words: &[Word]) -> Result<Answer, CaseFault> {
     let given = lists(alloc, words)?;
     let given = given.as_slice();
     let found = after_start(alloc, text_of(list_at(given, 0)), list_at(given, 1))?;
-    texts_answer(alloc, found.as_slice())
+    Answer::texts(alloc, found.as_slice())
 }
 
 fn matched(alloc: Global, words: &[Word]) -> Result<Answer, CaseFault> {
     let given = lists(alloc, words)?;
     let given = given.as_slice();
     match match_all(alloc, list_at(given, 0), list_at(given, 1)) {
-        Ok(found) => texts_answer(alloc, found.as_slice()),
+        Ok(found) => Answer::texts(alloc, found.as_slice()),
         Err(PatternFault::Refused(refusal)) => {
             let text = refusal.text();
             let why = if refusal.syntax() { "no" } else { "refused" };
@@ -60,23 +60,17 @@ fn shape(alloc: Global, words: &[Word]) -> Result<Answer, CaseFault> {
     Answer::line(alloc, if fits { "taken" } else { "wrong lists" })
 }
 
-fn declaring(alloc: Global, words: &[Word]) -> Result<Answer, CaseFault> {
-    let declares = is_declaring(only(words)?);
-    Answer::line(alloc, if declares { "yes" } else { "no" })
-}
-
-/// The answer to a command on texts; none where it is another command.
-pub fn text_command(alloc: Global, command: &Command) -> Result<Option<Answer>, CaseFault> {
+/// Carries out a command on texts, or another one.
+pub fn text_command(alloc: Global, command: &Command) -> Result<Answer, CaseFault> {
     let words = command.words();
-    let answer = match command.name() {
-        "line_of" => line(alloc, words)?,
-        "sorted" => sort(alloc, words)?,
-        "without_repeats" => once(alloc, words)?,
-        "after_start" => after(alloc, words)?,
-        "match_all" => matched(alloc, words)?,
-        "shape" => shape(alloc, words)?,
-        "is_declaring" => declaring(alloc, words)?,
-        _ => return Ok(None),
-    };
-    Ok(Some(answer))
+    match command.name() {
+        "line_of" => line(alloc, words),
+        "sorted" => sort(alloc, words),
+        "without_repeats" => once(alloc, words),
+        "after_start" => after(alloc, words),
+        "match_all" => matched(alloc, words),
+        "shape" => shape(alloc, words),
+        "is_declaring" => Answer::yes_or_no(alloc, is_declaring(only(words)?)),
+        _ => part_command(alloc, command),
+    }
 }

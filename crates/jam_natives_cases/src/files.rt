@@ -1,6 +1,5 @@
 //! Commands on files.
-use crate::answers::texts_answer;
-use crate::words::{lists, number, only, path, paths, texts};
+use crate::texts::text_command;
 use b2_base::path_list::PathList;
 use b2_base::text_list::TextList;
 use b2_host::fault::IoFault;
@@ -11,6 +10,7 @@ use std::alloc::Global;
 use transcript::answer::Answer;
 use transcript::case_fault::CaseFault;
 use transcript::command::{Command, Word};
+use transcript::words::{lists, number, only, path, paths};
 
 /// The output roots of a new world.
 fn first_roots(alloc: Global) -> Result<PathList, CaseFault> {
@@ -23,7 +23,7 @@ fn first_roots(alloc: Global) -> Result<PathList, CaseFault> {
 
 fn found(alloc: Global, found: Result<TextList, IoFault>) -> Result<Answer, CaseFault> {
     match found {
-        Ok(texts) => texts_answer(alloc, texts.as_slice()),
+        Ok(texts) => Answer::texts(alloc, texts.as_slice()),
         Err(IoFault::Failed) => Answer::line(alloc, "host fault"),
         Err(IoFault::OutOfMemory) => Err(CaseFault::OutOfMemory),
     }
@@ -51,13 +51,12 @@ fn project_glob_command(
     found(alloc, answer)
 }
 
-/// Puts files there, each with one byte. The host runs no child.
-fn files(alloc: Global, host: &mut MemoryHost, words: &[Word]) -> Result<Answer, CaseFault> {
-    let names = texts(alloc, words)?;
-    let paths = paths(alloc, names.as_slice())?;
+/// Makes the text lines of the command the file of each path. The host runs no child.
+fn files(alloc: Global, host: &mut MemoryHost, command: &Command) -> Result<Answer, CaseFault> {
+    let paths = paths(alloc, command.words())?;
     for path in paths.as_slice() {
         if host.running().is_empty() {
-            host.edit(path, Some(b"x".as_slice()))?;
+            host.edit(path, Some(command.text().as_bytes()))?;
         }
     }
     Ok(Answer::new(alloc))
@@ -69,19 +68,18 @@ fn fail_list(alloc: Global, host: &mut MemoryHost, words: &[Word]) -> Result<Ans
     Ok(Answer::new(alloc))
 }
 
-/// The answer to a command on files; none where it is another command.
+/// Carries out a command on files, or another one.
 pub fn file_command(
     alloc: Global,
     host: &mut MemoryHost,
     command: &Command,
-) -> Result<Option<Answer>, CaseFault> {
+) -> Result<Answer, CaseFault> {
     let words = command.words();
-    let answer = match command.name() {
-        "file" => files(alloc, host, words)?,
-        "fail_list" => fail_list(alloc, host, words)?,
-        "glob" => glob_command(alloc, host, words)?,
-        "project_glob" => project_glob_command(alloc, host, words)?,
-        _ => return Ok(None),
-    };
-    Ok(Some(answer))
+    match command.name() {
+        "file" => files(alloc, host, command),
+        "fail_list" => fail_list(alloc, host, words),
+        "glob" => glob_command(alloc, host, words),
+        "project_glob" => project_glob_command(alloc, host, words),
+        _ => text_command(alloc, command),
+    }
 }

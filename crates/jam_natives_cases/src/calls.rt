@@ -1,17 +1,17 @@
 //! Calls of native and declaring rules, and what they keep.
-use crate::answers::texts_answer;
-use crate::scene::Scene;
-use crate::words::{first, lists, number};
+use crate::files::file_command;
+use crate::session::Cases;
 use b2_base::text_list::TextList;
-use b2_memory::memory::MemoryHost;
 use jam_eval::natives::{NativeError, NativeStep, Natives};
 use jam_natives::decl::Decl;
+use jam_natives::natives::JamNatives;
 use jam_natives::texts::line_of;
 use jam_patterns::native_fault::NativeFault;
 use std::alloc::Global;
 use transcript::answer::Answer;
 use transcript::case_fault::CaseFault;
 use transcript::command::{Command, Word};
+use transcript::words::{first, lists, number};
 
 fn each_answer(
     alloc: Global,
@@ -32,7 +32,7 @@ fn each_answer(
 fn step_answer(alloc: Global, step: &NativeStep) -> Result<Answer, CaseFault> {
     match step {
         NativeStep::Unknown => Answer::line(alloc, "no native rule"),
-        NativeStep::Value(texts) => texts_answer(alloc, texts.as_slice()),
+        NativeStep::Value(texts) => Answer::texts(alloc, texts.as_slice()),
         NativeStep::Exit(text) => {
             let text = text.as_str();
             Answer::line(alloc, format!(in alloc; "exit \"{text}\"")?.as_str())
@@ -78,21 +78,13 @@ fn error_answer(alloc: Global, error: &NativeError) -> Result<Answer, CaseFault>
     }
 }
 
-fn call(
-    alloc: Global,
-    scene: &mut Scene,
-    host: &mut MemoryHost,
-    words: &[Word],
-) -> Result<Answer, CaseFault> {
+fn call(alloc: Global, cases: &mut Cases, words: &[Word]) -> Result<Answer, CaseFault> {
     let (line, others) = first(words)?;
     let line = number(line)?;
     let (name, others) = first(others)?;
     let given = lists(alloc, others)?;
     let given = given.as_slice();
-    match scene
-        .natives
-        .call(alloc, name, given, line, &mut scene.world, host)
-    {
+    match cases.natives.call(alloc, name, given, line, &mut cases.world, &mut *cases.host) {
         Ok(step) => step_answer(alloc, &step),
         Err(error) => error_answer(alloc, &error),
     }
@@ -113,26 +105,24 @@ fn push_decl(alloc: Global, answer: &mut Answer, decl: &Decl) -> Result<(), Case
     Ok(())
 }
 
-fn decls(alloc: Global, scene: &Scene) -> Result<Answer, CaseFault> {
+fn decls(alloc: Global, natives: &JamNatives) -> Result<Answer, CaseFault> {
     let mut answer = Answer::new(alloc);
-    for decl in scene.natives.decls() {
+    for decl in natives.decls() {
         push_decl(alloc, &mut answer, decl)?;
     }
     Ok(answer)
 }
 
-/// The answer to a command on calls; none where it is another command.
+/// Carries out a command on calls, or another one.
 pub fn call_command(
     alloc: Global,
-    scene: &mut Scene,
-    host: &mut MemoryHost,
+    cases: &mut Cases,
     command: &Command,
-) -> Result<Option<Answer>, CaseFault> {
-    let answer = match command.name() {
-        "call" => call(alloc, scene, host, command.words())?,
-        "decls" => decls(alloc, scene)?,
-        "echoes" => texts_answer(alloc, scene.natives.echoes())?,
-        _ => return Ok(None),
-    };
-    Ok(Some(answer))
+) -> Result<Answer, CaseFault> {
+    match command.name() {
+        "call" => call(alloc, cases, command.words()),
+        "decls" => decls(alloc, &cases.natives),
+        "echoes" => Answer::texts(alloc, cases.natives.echoes()),
+        _ => file_command(alloc, &mut cases.host, command),
+    }
 }

@@ -1,0 +1,124 @@
+//! Commands on marks, and on many calls at once.
+use crate::session::Cases;
+use crate::steps::step_command;
+use b2_base::fault::OutOfMemory;
+use jam_scope::mark::Mark;
+use jam_scope::world::World;
+use std::alloc::Global;
+use transcript::answer::Answer;
+use transcript::case_fault::CaseFault;
+use transcript::command::{Command, Word};
+use transcript::words::{first, named, no_words, number, only, texts};
+
+/// Goes back to the newest mark, and tells whether there is one.
+fn roll_one_back(world: &mut World, marks: &mut Vec<Mark>) -> bool {
+    match marks.pop() {
+        Some(mark) if world.is_newest(&mark) => {
+            world.roll_back(mark);
+            true
+        }
+        _ => false,
+    }
+}
+
+fn mark(world: &mut World, marks: &mut Vec<Mark>) -> Result<(), OutOfMemory> {
+    marks.push(world.mark()?)?;
+    Ok(())
+}
+
+/// Goes back so often.
+fn roll_back(
+    alloc: Global,
+    world: &mut World,
+    marks: &mut Vec<Mark>,
+    count: u32,
+) -> Result<Answer, CaseFault> {
+    for _ in 0..count {
+        if !roll_one_back(world, marks) {
+            return Answer::line(alloc, "no mark");
+        }
+    }
+    Ok(Answer::new(alloc))
+}
+
+/// How often a command is carried out, and its other words.
+fn counted(words: &[Word]) -> Result<(u32, &[Word]), CaseFault> {
+    let (count, others) = first(words)?;
+    Ok((number(count)?, others))
+}
+
+fn set(alloc: Global, world: &mut World, words: &[Word]) -> Result<(), CaseFault> {
+    let (name, value) = named(alloc, words)?;
+    world.set(name, value)?;
+    Ok(())
+}
+
+fn sets(alloc: Global, world: &mut World, words: &[Word]) -> Result<Answer, CaseFault> {
+    let (count, words) = counted(words)?;
+    for _ in 0..count {
+        set(alloc, world, words)?;
+    }
+    Ok(Answer::new(alloc))
+}
+
+fn appends(alloc: Global, world: &mut World, words: &[Word]) -> Result<Answer, CaseFault> {
+    let (count, words) = counted(words)?;
+    let (name, value) = named(alloc, words)?;
+    for _ in 0..count {
+        world.append(name, value.as_slice())?;
+    }
+    Ok(Answer::new(alloc))
+}
+
+fn appends_on(alloc: Global, world: &mut World, words: &[Word]) -> Result<Answer, CaseFault> {
+    let (count, others) = counted(words)?;
+    let (target, others) = first(others)?;
+    let (name, value) = named(alloc, others)?;
+    for _ in 0..count {
+        world.append_on(target, name, value.as_slice())?;
+    }
+    Ok(Answer::new(alloc))
+}
+
+fn marked_sets(
+    alloc: Global,
+    world: &mut World,
+    marks: &mut Vec<Mark>,
+    words: &[Word],
+) -> Result<Answer, CaseFault> {
+    let (count, words) = counted(words)?;
+    for _ in 0..count {
+        mark(world, marks)?;
+        set(alloc, world, words)?;
+    }
+    Ok(Answer::new(alloc))
+}
+
+/// Carries out a command on marks, or another one.
+pub fn marking_command(
+    alloc: Global,
+    cases: &mut Cases,
+    command: &Command,
+) -> Result<Answer, CaseFault> {
+    let words = command.words();
+    match command.name() {
+        "mark" => {
+            no_words(words)?;
+            Answer::done(alloc, mark(&mut cases.world, &mut cases.marks))
+        }
+        "roll_back" => {
+            no_words(words)?;
+            roll_back(alloc, &mut cases.world, &mut cases.marks, 1)
+        }
+        "roll_backs" => {
+            let count = number(only(words)?)?;
+            roll_back(alloc, &mut cases.world, &mut cases.marks, count)
+        }
+        "marked" => Answer::yes_or_no(alloc, cases.world.marked()),
+        "sets" => sets(alloc, &mut cases.world, words),
+        "appends" => appends(alloc, &mut cases.world, words),
+        "appends_on" => appends_on(alloc, &mut cases.world, words),
+        "marked_sets" => marked_sets(alloc, &mut cases.world, &mut cases.marks, words),
+        _ => step_command(alloc, cases, command),
+    }
+}

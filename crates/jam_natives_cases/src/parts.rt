@@ -1,0 +1,56 @@
+//! Commands on the paths of a step, and on output roots that a call names.
+use b2_base::text_list::TextList;
+use jam_natives::list::list_at;
+use jam_natives::output_dirs::{names_output_dirs, root_paths};
+use jam_natives::target::{Named, first_foreign};
+use std::alloc::Global;
+use transcript::answer::Answer;
+use transcript::case_fault::CaseFault;
+use transcript::command::Command;
+use transcript::words::{lists, paths_of};
+
+fn foreign_answer(
+    alloc: Global,
+    given: &[TextList],
+    named: &Named<'_>,
+) -> Result<Answer, CaseFault> {
+    match first_foreign(alloc, list_at(given, 3), list_at(given, 4), named)? {
+        None => Answer::line(alloc, "none"),
+        Some(text) => {
+            let text = text.as_str();
+            Answer::line(alloc, format!(in alloc; "foreign \"{text}\"")?.as_str())
+        }
+    }
+}
+
+fn foreign(alloc: Global, given: &[TextList]) -> Result<Answer, CaseFault> {
+    let outs = paths_of(alloc, list_at(given, 0))?;
+    let ins = paths_of(alloc, list_at(given, 1))?;
+    let added = paths_of(alloc, list_at(given, 2))?;
+    let named = Named {
+        outs: outs.as_slice(),
+        ins: ins.as_slice(),
+        added: added.as_slice(),
+    };
+    foreign_answer(alloc, given, &named)
+}
+
+fn named_roots(alloc: Global, given: &[TextList]) -> Result<Answer, CaseFault> {
+    if !names_output_dirs(given) {
+        return Answer::line(alloc, "names none");
+    }
+    match root_paths(alloc, given)? {
+        None => Answer::line(alloc, "no root"),
+        Some(roots) => Answer::paths(alloc, roots.as_slice()),
+    }
+}
+
+/// Carries out a command on paths of a step or output roots.
+pub fn part_command(alloc: Global, command: &Command) -> Result<Answer, CaseFault> {
+    let words = command.words();
+    match command.name() {
+        "first_foreign" => foreign(alloc, lists(alloc, words)?.as_slice()),
+        "root_paths" => named_roots(alloc, lists(alloc, words)?.as_slice()),
+        _ => Err(CaseFault::UnknownCommand),
+    }
+}

@@ -1,0 +1,80 @@
+//! Commands on own values of targets, the project's directory and the output roots.
+use crate::calls::call_command;
+use crate::session::Cases;
+use jam_scope::world::World;
+use std::alloc::Global;
+use transcript::answer::Answer;
+use transcript::case_fault::CaseFault;
+use transcript::command::{Command, Word};
+use transcript::words::{both, first, named, no_words, only, path, paths};
+
+fn set_on(alloc: Global, world: &mut World, words: &[Word]) -> Result<Answer, CaseFault> {
+    let (target, others) = first(words)?;
+    let (name, value) = named(alloc, others)?;
+    Answer::done(alloc, world.set_on(target, name, value))
+}
+
+fn append_on(alloc: Global, world: &mut World, words: &[Word]) -> Result<Answer, CaseFault> {
+    let (target, others) = first(words)?;
+    let (name, value) = named(alloc, others)?;
+    Answer::done(alloc, world.append_on(target, name, value.as_slice()))
+}
+
+fn own_size(alloc: Global, world: &World, words: &[Word]) -> Result<Answer, CaseFault> {
+    let (target, name) = both(words)?;
+    Answer::number(alloc, world.own_size(target, name))
+}
+
+fn on_target(alloc: Global, world: &World, words: &[Word]) -> Result<Answer, CaseFault> {
+    let (target, name) = both(words)?;
+    match world.on_target(target, name) {
+        Some(texts) => Answer::texts(alloc, texts),
+        None => Answer::line(alloc, "none"),
+    }
+}
+
+fn bind_own(alloc: Global, world: &mut World, words: &[Word]) -> Result<Answer, CaseFault> {
+    let target = only(words)?;
+    if !world.may_leave() {
+        return Answer::line(alloc, "no frame");
+    }
+    Answer::done(alloc, world.bind_own(target))
+}
+
+fn set_place(alloc: Global, world: &mut World, words: &[Word]) -> Result<Answer, CaseFault> {
+    let dir = path(alloc, only(words)?)?;
+    Answer::done(alloc, world.set_place(&dir))
+}
+
+fn add_roots(alloc: Global, world: &mut World, words: &[Word]) -> Result<Answer, CaseFault> {
+    let dirs = paths(alloc, words)?;
+    let added = world.add_roots(dirs.as_slice())?;
+    Answer::line(alloc, if added { "added" } else { "frozen" })
+}
+
+/// Carries out a command on a project, or another one.
+pub fn project_command(
+    alloc: Global,
+    cases: &mut Cases,
+    command: &Command,
+) -> Result<Answer, CaseFault> {
+    let words = command.words();
+    match command.name() {
+        "set_on" => set_on(alloc, &mut cases.world, words),
+        "append_on" => append_on(alloc, &mut cases.world, words),
+        "own_size" => own_size(alloc, &cases.world, words),
+        "on_target" => on_target(alloc, &cases.world, words),
+        "own_names" => Answer::texts(alloc, cases.world.own_names(only(words)?)?.as_slice()),
+        "bind_own" => bind_own(alloc, &mut cases.world, words),
+        "set_place" => set_place(alloc, &mut cases.world, words),
+        "place" => Answer::line(alloc, cases.world.place().as_str()),
+        "add_roots" => add_roots(alloc, &mut cases.world, words),
+        "freeze_roots" => {
+            no_words(words)?;
+            cases.world.freeze_roots();
+            Ok(Answer::new(alloc))
+        }
+        "roots" => Answer::paths(alloc, cases.world.roots()),
+        _ => call_command(alloc, cases, command),
+    }
+}
