@@ -26,7 +26,6 @@ pub struct Replaced<V: Drop> {
 
 /// A table, and what stood in it at marks. It is seen as the present table with those of the marks, the newest first; it
 /// keeps the present table, and what was replaced since each mark. Without a mark nothing is noted.
-#[derive(Drop)]
 pub struct Past<V: Drop> {
     alloc: Global,
     table: Table<V>,
@@ -34,6 +33,20 @@ pub struct Past<V: Drop> {
     changes: Vec<Replaced<V>>,
     /// What had been replaced when each mark was made, since the mark before it, the newest last.
     older: Vec<Vec<Replaced<V>>>,
+}
+
+impl<V: Drop> Drop for Past<V> {
+    fn drop(self) {
+        let Past {
+            alloc: _,
+            table,
+            changes,
+            older,
+        } = self;
+        drop(table);
+        drop(changes);
+        drop(older);
+    }
 }
 
 impl<V: Drop> Model for Past<V> {

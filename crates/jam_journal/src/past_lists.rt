@@ -33,7 +33,6 @@ pub struct ListChange {
 
 /// A table of lists, and what stood in it at marks. It is seen as the present table with those of the marks, the newest first; it
 /// keeps the present table, and what changed since each mark. Without a mark nothing is noted.
-#[derive(Drop)]
 pub struct PastLists {
     alloc: Global,
     table: Table<SizedList>,
@@ -41,6 +40,20 @@ pub struct PastLists {
     changes: Vec<ListChange>,
     /// What had changed when each mark was made, since the mark before it, the newest last.
     older: Vec<Vec<ListChange>>,
+}
+
+impl Drop for PastLists {
+    fn drop(self) {
+        let PastLists {
+            alloc: _,
+            table,
+            changes,
+            older,
+        } = self;
+        drop(table);
+        drop(changes);
+        drop(older);
+    }
 }
 
 impl Model for PastLists {

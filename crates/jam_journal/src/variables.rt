@@ -26,7 +26,6 @@ struct Layer {
 /// table, with what each binding, and since a mark each assignment, replaced.
 ///
 /// A call that answers no `Result` takes no memory. After an error all is as before.
-#[derive(Drop)]
 pub struct Variables {
     alloc: Global,
     registers: Registers,
@@ -36,6 +35,22 @@ pub struct Variables {
     changes: Vec<Replaced<Cell>>,
     /// The same before each mark, the newest last.
     older: Vec<Layer>,
+}
+
+impl Drop for Variables {
+    fn drop(self) {
+        let Variables {
+            alloc: _,
+            registers,
+            entries,
+            changes,
+            older,
+        } = self;
+        drop(registers);
+        drop(entries);
+        drop(changes);
+        drop(older);
+    }
 }
 
 impl Model for Variables {

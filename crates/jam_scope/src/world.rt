@@ -31,7 +31,6 @@ mod step;
 /// and the marked ones, the newest first.
 ///
 /// A call that answers no `Result` takes no memory. After an error the world is as before.
-#[derive(Drop)]
 pub struct World {
     alloc: Global,
     variables: Variables,
@@ -43,6 +42,32 @@ pub struct World {
     roots: Saved<Roots>,
     frozen: Saved<bool>,
     steps: Steps,
+}
+
+impl Drop for World {
+    fn drop(self) {
+        let World {
+            alloc: _,
+            variables,
+            rules,
+            actions,
+            parents,
+            own,
+            place,
+            roots,
+            frozen,
+            steps,
+        } = self;
+        drop(variables);
+        drop(rules);
+        drop(actions);
+        drop(parents);
+        drop(own);
+        drop(place);
+        drop(roots);
+        drop(frozen);
+        drop(steps);
+    }
 }
 
 impl Model for World {
