@@ -9,15 +9,15 @@ use Rattle.b2_virtual.specs.Paths.{name_of, source_tail, located, IsPlaced}
 use Rattle.b2_virtual.specs.declared.fault.VirtualFault.{VirtualFault}
 use Rattle.b2_conversions.specs.declared.setting.Setting.{Setting}
 use Rattle.b2_conversions.specs.declared.site.Site as code
-use Rattle.b2_conversions.specs.declared.entry.Entry.{Entry}
-use Rattle.b2_conversions.specs.declared.entry.Supply.{Supply}
+use Rattle.b2_supplies.specs.declared.entry.Entry.{Entry}
+use Rattle.b2_supplies.specs.declared.entry.Supply.{Supply}
 use Rattle.b2_conversions.specs.declared.fault.MakingFault.{MakingFault}
 use Rattle.b2_conversions.specs.Faults.{Fault}
 use Rattle.b2_conversions.specs.Acts.{Outcome, for_each, InsideIf, Joins}
 use Rattle.b2_conversions.specs.Contexts.{context_of, site_of}
 use Rattle.b2_conversions.specs.Answers.{IsRefused, AreHoused, Grows}
 use Rattle.b2_conversions.specs.Doing.{of_virtual, IsCopiedTo, IsJoined, Alone}
-use Rattle.b2_conversions.specs.Supplies.{entries_of}
+use Rattle.b2_supplies.specs.Supplies.{entries_of}
 use Rattle.b2_conversions.specs.Steps.{location_of}
 use Rattle.b2_conversions.specs.Conversions.{copy_step, copies_at, makes_copies}
 use Rattle.b2_conversions.proofs.ActLemmas.{IsSoFar, refused_map, refused_first, for_each_next, so_far_next, so_far_end, so_far_refused}

@@ -1,7 +1,6 @@
 pub mod ActLemmas
 pub mod DidLemmas
 pub mod PartLemmas
-pub mod RepeatLemmas
 pub mod ChainLemmas
 pub mod AlongLemmas
 pub mod OneLemmas

@@ -11,7 +11,7 @@ use Rattle.b2_base.specs.Segments.{normal_of}
 use Rattle.b2_props.specs.Sets.{Pair, value_of}
 use Rattle.b2_props.proofs.Gaining.{next_take}
 use Rattle.b2_virtual.specs.Paths.{dotted}
-use Rattle.b2_virtual.proofs.PieceLemmas.{clean_both, clean_parts, clean_dotted}
+use Rattle.b2_virtual.proofs.PieceLemmas.{clean_both, clean_dotted}
 use Rattle.b2_conversions.specs.Steps.{location_of, include_dirs, values_of}
 
 -- ---- no zero byte
@@ -33,10 +33,6 @@ clean_copy from to f t =
 pub clean_library : (name : List ℕ) (suffix : Option (List ℕ)) → HasNoZero name → IfSome suffix HasNoZero → HasNoZero (codes "lib" ++ (name ++ dotted suffix))
 clean_library name suffix n s =
     clean_both (codes "lib") (name ++ dotted suffix) (All-from_recursion (λ byte. 0 < byte) (codes "lib") (lit< tt, (lit< tt, (lit< tt, tt)))) (clean_both name (dotted suffix) n (clean_dotted suffix s))
-
--- the parts of a path that is cut at a slash
-pub clean_name : (path folder name : List ℕ) → path ≡ folder ++ 47 ∷ name → HasNoZero path → HasNoZero name
-clean_name path folder name is clean = (clean_parts (codes "/") name (clean_parts folder (47 ∷ name) (subst HasNoZero is clean)).1).1
 
 -- ---- the location
 

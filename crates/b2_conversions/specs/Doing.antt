@@ -17,8 +17,8 @@ use Rattle.jam_eval.specs.declared.step.StepText.{StepText}
 use Rattle.jam_eval.specs.Rolled.{Job, StepAnswer}
 use Rattle.jam_eval.specs.StepJobs.{step_answer}
 use Rattle.b2_conversions.specs.declared.along.Route.{Route}
-use Rattle.b2_conversions.specs.declared.entry.Entry.{Entry}
-use Rattle.b2_conversions.specs.declared.entry.Supply.{Supply}
+use Rattle.b2_supplies.specs.declared.entry.Entry.{Entry}
+use Rattle.b2_supplies.specs.declared.entry.Supply.{Supply}
 use Rattle.b2_conversions.specs.declared.output.Output.{Output}
 use Rattle.b2_conversions.specs.declared.setting.Setting.{Setting}
 use Rattle.b2_conversions.specs.declared.site.Site as code

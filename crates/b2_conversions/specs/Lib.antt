@@ -1,7 +1,5 @@
 pub mod Faults
 pub mod Acts
-pub mod Supplies
-pub mod Repeats
 pub mod Contexts
 pub mod Steps
 pub mod Conversions

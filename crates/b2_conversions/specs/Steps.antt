@@ -8,7 +8,7 @@ use Rattle.b2_plan.specs.declared.step.Step.{Step}
 use Rattle.b2_plan.specs.Sources.{IsInRoots}
 use Rattle.b2_virtual.specs.Paths.{name_of as file_name, output_path, located, IsPlaced}
 use Rattle.jam_eval.specs.Rolled.{Job, StepAnswer}
-use Rattle.b2_conversions.specs.declared.entry.Entry.{Entry}
+use Rattle.b2_supplies.specs.declared.entry.Entry.{Entry}
 use Rattle.b2_conversions.specs.declared.output.Output.{Output}
 use Rattle.b2_conversions.specs.Faults.{eval}
 use Rattle.b2_conversions.specs.Acts.{Act, gives, refuses, and_then, for_each, InsideIf, Joins}

@@ -6,11 +6,10 @@ ghost use Rattle.b2_base.specs.Bytes.{HasNoZero};
 ghost use Rattle.b2_plan.specs.declared.step.Step.{Step as PlanStep};
 ghost use Rattle.b2_props.specs.Sets.{IsSet};
 ghost use Rattle.b2_conversions.specs.Acts.{for_all};
-ghost use Rattle.b2_conversions.specs.Supplies.{is_of};
+ghost use Rattle.b2_supplies.specs.Supplies.{is_of};
 ghost use Rattle.b2_conversions.specs.Doing.{GivesSome, if_last, Alone, Does, along_route};
 ghost use Rattle.b2_conversions.specs.Conversions.{chains, outputs_of, naming, first_tail, to_objects, linked};
 
-use crate::entry::{Entry, EntryList, joined};
 use crate::fault::MakingFault;
 use crate::output::{Output, OutputList, naming, outputs_of};
 use crate::run::run;
@@ -22,6 +21,7 @@ use b2_base::text::Text;
 use b2_base::text_list::TextList;
 use b2_evaluation::evaluate::Evaluate;
 use b2_generators::chain::chain;
+use b2_supplies::entry::{Entry, EntryList, joined};
 use b2_virtual::builder::Builder;
 use std::alloc::Global;
 

@@ -3,24 +3,24 @@ ghost use Rattle.std.specs.Prelude.{◌≡◌, [], ◌++◌, not, filter, Some, 
 ghost use Rattle.b2_props.specs.Sets.{IsSet};
 ghost use Rattle.b2_evaluation.specs.Answers.{Answers, IsCounted};
 ghost use Rattle.b2_conversions.specs.Contexts.{site_of};
-ghost use Rattle.b2_conversions.specs.Supplies.{is_header, entries_of, carried_of, libraries_of};
+ghost use Rattle.b2_supplies.specs.Supplies.{is_header, entries_of, carried_of, libraries_of};
 ghost use Rattle.b2_conversions.specs.Conversions.{links, makes_objects, makes_program, makes_library, makes_file, passes_on, makes, to_convert};
 ghost use Rattle.b2_conversions.specs.Answers.{IsKnownFault, is_of_eval, Grows};
 ghost use Rattle.b2_conversions.specs.Doing.{Does, Makes, RefusesToMake};
 
 use crate::along::{all_objects, linked};
 use crate::copies::make_copies;
-use crate::entry::{EntryList, Supply, joined, only};
 use crate::fault::MakingFault;
 use crate::named::{is_shared, library_file, named_file, program};
 use crate::output::Output;
 use crate::run::run;
 use crate::setting::Setting;
 use crate::site::Site;
-use crate::supplies::{carried_of, entries_of, libraries_of};
 use b2_base::fault::OutOfMemory;
 use b2_declarations::declaration::Kind;
 use b2_evaluation::evaluate::Evaluate;
+use b2_supplies::entry::{EntryList, Supply, joined, only};
+use b2_supplies::supplies::{carried_of, entries_of, libraries_of};
 use b2_virtual::builder::Builder;
 use std::alloc::Global;
 

@@ -9,15 +9,15 @@ ghost use Rattle.b2_conversions.specs.Acts.{for_each};
 ghost use Rattle.b2_conversions.specs.Doing.{IsInside, IsPlacedAt, Alone, bin_path};
 ghost use Rattle.b2_conversions.specs.Steps.{location_of, places};
 
-use crate::entry::{Entry, EntryList};
 use crate::fault::MakingFault;
 use crate::output::Output;
-use crate::paths::{file_name, path_of};
 use crate::setting::Setting;
 use crate::site::Site;
 use crate::step::location_of;
 use b2_base::path::Path;
 use b2_props::elements::dir_of;
+use b2_supplies::entry::{Entry, EntryList};
+use b2_supplies::paths::{file_name, path_of};
 use b2_virtual::fault::VirtualFault;
 use b2_virtual::paths::{is_in_roots, location_path, output_path};
 

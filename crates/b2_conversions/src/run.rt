@@ -6,7 +6,6 @@ ghost use Rattle.b2_conversions.specs.Answers.{AreHoused};
 ghost use Rattle.b2_conversions.specs.Doing.{Asked, IsJoined, Does};
 ghost use Rattle.b2_conversions.specs.Steps.{asks, runs};
 
-use crate::entry::{Entry, EntryList};
 use crate::fault::MakingFault;
 use crate::output::Output;
 use crate::place::place_all;
@@ -16,6 +15,7 @@ use crate::step::{job, step_of};
 use b2_base::text::Text;
 use b2_evaluation::evaluate::Evaluate;
 use b2_plan::step::Step;
+use b2_supplies::entry::{Entry, EntryList};
 use b2_virtual::builder::Builder;
 use jam_eval::step::{StepJob, StepText};
 

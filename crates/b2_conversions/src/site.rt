@@ -1,9 +1,9 @@
 //! A main target whose steps are made.
-use crate::entry::Supply;
 use b2_base::path::Path;
 use b2_base::text::Text;
 use b2_declarations::declaration::Kind;
 use b2_props::props::Props;
+use b2_supplies::entry::Supply;
 
 /// A main target whose steps are made.
 #[derive(Clone, Copy)]

@@ -7,8 +7,6 @@ ghost use Rattle.b2_conversions.specs.Contexts.{site_of};
 ghost use Rattle.b2_conversions.specs.Steps.{paths_of, property_text, location_of, include_dirs, job, step_of};
 ghost use Rattle.b2_conversions.specs.Conversions.{copy_step};
 
-use crate::entry::Entry;
-use crate::paths::path_of;
 use crate::site::Site;
 use b2_base::fault::OutOfMemory;
 use b2_base::path::Path;
@@ -17,6 +15,8 @@ use b2_base::text::Text;
 use b2_base::text_list::TextList;
 use b2_plan::step::Step;
 use b2_props::props::Props;
+use b2_supplies::entry::Entry;
+use b2_supplies::paths::path_of;
 use jam_eval::step::{StepJob, StepText};
 use std::alloc::Global;
 

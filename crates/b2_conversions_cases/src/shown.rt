@@ -2,7 +2,7 @@
 use crate::texts::TextFault;
 use b2_base::path::Path;
 use b2_base::text::Text;
-use b2_conversions::entry::{Entry, Supply};
+use b2_supplies::entry::{Entry, Supply};
 use b2_conversions::fault::MakingFault;
 use b2_plan::step::Step;
 use std::alloc::Global;

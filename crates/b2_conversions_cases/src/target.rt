@@ -3,7 +3,7 @@ use crate::words::{halves, path_of, text};
 use b2_base::path::Path;
 use b2_base::path_list::PathList;
 use b2_base::text::Text;
-use b2_conversions::entry::{Entry, EntryList, Supply, file_entry};
+use b2_supplies::entry::{Entry, EntryList, Supply, file_entry};
 use b2_generators::types::Types;
 use b2_props::pair_list::PairList;
 use b2_virtual::tails::source_tail;

@@ -9,7 +9,7 @@ use Rattle.b2_alternatives.proofs.ChoiceLaws.{names_itself}
 use Rattle.b2_alternatives.proofs.NeedLemmas.{due_new}
 use Rattle.b2_conversions.specs.Acts as making
 use Rattle.b2_conversions.specs.Conversions.{makes}
-use Rattle.b2_conversions.specs.declared.entry.Supply.{Supply}
+use Rattle.b2_supplies.specs.declared.entry.Supply.{Supply}
 use Rattle.b2_conversions.proofs.SteadyLemmas.{steady_kind}
 use Rattle.b2_metatargets.specs.declared.whole.Declared.{Declared}
 use Rattle.b2_generate.specs.Answers.{Generated}

@@ -17,7 +17,7 @@ use Rattle.b2_references.specs.declared.asked.Asked.{Asked}
 use Rattle.b2_alternatives.specs.Picking.{IsNumbered}
 use Rattle.b2_alternatives.specs.declared.fault.ChoiceFault.TheVariants as choices
 use Rattle.b2_conversions.specs.Answers.{AreHoused, Grows}
-use Rattle.b2_conversions.specs.declared.entry.Supply.{Supply}
+use Rattle.b2_supplies.specs.declared.entry.Supply.{Supply}
 use Rattle.b2_conversions.specs.declared.fault.MakingFault.TheVariants as makings
 use Rattle.b2_generate.specs.Answers.{Generated}
 use Rattle.b2_generate.specs.Faults.{Fault}

@@ -1,9 +1,9 @@
 //! What was generated.
 use b2_base::list::List;
-use b2_conversions::entry::Supply;
 use b2_props::pair_list::PairList;
 use b2_props::props::Props;
 use b2_references::name::TargetName;
+use b2_supplies::entry::Supply;
 
 /// A main target that was generated. Nodes have places, from 0, in order of completion.
 #[derive(Drop)]

@@ -21,7 +21,6 @@ use b2_base::list::List;
 use b2_base::path::Path;
 use b2_base::path_list::{PathList, copy_paths};
 use b2_base::text::Text;
-use b2_conversions::entry::Entry;
 use b2_evaluation::evaluate::Evaluate;
 use b2_metatargets::whole::Declared;
 use b2_plan::plan::Plan;
@@ -30,6 +29,7 @@ use b2_references::asked::AskedList;
 use b2_references::index::Index;
 use b2_references::name::TargetName;
 use b2_references::requests::asked;
+use b2_supplies::entry::Entry;
 use b2_virtual::builder::Builder;
 use std::alloc::Global;
 

@@ -1,6 +1,6 @@
 use Rattle.std.proofs.Common.{map, ap, ◌∙◌}
 use Rattle.std.proofs.lemmas.Result.{IfOk-weaker}
-use Rattle.b2_conversions.specs.Supplies.{entries_of}
+use Rattle.b2_supplies.specs.Supplies.{entries_of}
 use Rattle.b2_generate.proofs.making.order_of.Goals as goal
 
 pub returns : goal.returns
