@@ -18,7 +18,7 @@ use Rattle.b2_metatargets.specs.declared.place.Target.{Target}
 use Rattle.b2_metatargets.specs.declared.place.IndirectRule.{IndirectRule}
 use Rattle.b2_metatargets.specs.declared.whole.Declared.{Declared}
 use Rattle.b2_references.specs.Names.{Name, features, alternatives, dir_of, target_text, lineage, default_build}
-use Rattle.b2_references.specs.Requests.{missing}
+use Rattle.b2_texts.specs.Missing.{missing}
 use Rattle.b2_alternatives.specs.declared.reading.Reading.{Reading}
 use Rattle.b2_alternatives.specs.declared.reading.Reading.TheVariants.{Properties, Bad}
 use Rattle.b2_alternatives.specs.declared.fault.ChoiceFault.{ChoiceFault}

@@ -1,9 +1,7 @@
 //! The alternative of a main target, and what its requirements make of a set.
-ghost use Rattle.std.specs.Prelude.{◌≡◌, ◌++◌, true, not, is_some, filter, Some, All, length, IfOk};
-ghost use Rattle.std.specs.FinMap as map;
+ghost use Rattle.std.specs.Prelude.{◌≡◌, true, Some, All, length, IfOk};
 ghost use Rattle.b2_props.specs.Sets.{IsSet};
 ghost use Rattle.b2_references.specs.Names.{features, is_target, target_text};
-ghost use Rattle.b2_references.specs.Requests.{missing};
 ghost use Rattle.b2_refine.specs.Answers.{AsksBelow};
 ghost use Rattle.b2_evaluation.specs.Answers.{Answers};
 ghost use Rattle.b2_alternatives.specs.declared.fault.ChoiceFault.TheVariants as faults;
@@ -15,13 +13,9 @@ ghost use Rattle.b2_alternatives.specs.Settling.{Settles, SettlesFor, ChoosesBy,
 use crate::asker::Asker;
 use crate::conditions::{conditions, requirements};
 use crate::fault::ChoiceFault;
-use crate::usage::features_of;
 use b2_base::fault::OutOfMemory;
-use b2_base::text::Text;
-use b2_base::text_map::TextMap;
 use b2_evaluation::evaluate::Evaluate;
 use b2_metatargets::place::Target;
-use b2_props::pair_list::PairList;
 use b2_props::props::Props;
 use b2_props::refinement::{expand, set_of};
 use b2_props::requirement::Requirement;
@@ -30,6 +24,7 @@ use b2_references::name::TargetName;
 use b2_refine::choice::{Choice, choose as choose_among};
 use b2_refine::evaluate::evaluate;
 use b2_refine::fault::RefineFault;
+use b2_texts::missing::with_missing;
 use std::alloc::Global;
 
 /// The alternative that was settled on, by its number from 1, and the set of its properties.
@@ -53,48 +48,6 @@ enum Picked<'a> {
     None,
     Ambiguous { i: usize, k: usize },
     One { number: usize, target: &'a Target },
-}
-
-fn copied(alloc: Global, pairs: &[(Text, Text)]) -> Result<PairList, OutOfMemory>
-    ensures { IfOk result (λ made. made ≡ pairs.now) }
-{
-    let mut made = PairList::new(alloc);
-    for pair in pairs {
-        made.push(pair.0.copy()?, pair.1.copy()?)?;
-    }
-    Ok(made)
-}
-
-/// The pairs whose features are not among some.
-fn others(
-    alloc: Global,
-    features: &TextMap<()>,
-    pairs: &[(Text, Text)],
-) -> Result<PairList, OutOfMemory>
-    ensures { IfOk result (λ made. made ≡ filter (λ p. not (is_some (map.get features.now p.0))) pairs.now) }
-{
-    let mut made = PairList::new(alloc);
-    for pair in pairs {
-        if features.get(&pair.0).is_none() {
-            made.push(pair.0.copy()?, pair.1.copy()?)?;
-        }
-    }
-    Ok(made)
-}
-
-/// A set, then the pairs of a `default-build` whose features it does not name.
-fn with_missing(
-    alloc: Global,
-    set: &[(Text, Text)],
-    defaults: &[(Text, Text)],
-) -> Result<PairList, OutOfMemory>
-    ensures { IfOk result (λ made. made ≡ set.now ++ missing set.now defaults.now) }
-{
-    let features = features_of(alloc, set)?;
-    let more = others(alloc, &features, defaults)?;
-    let mut made = copied(alloc, set)?;
-    made.append(more)?;
-    Ok(made)
 }
 
 /// The full set of a main target: the set joined with the values of the `default-build` for features that it does not name, of

@@ -1,10 +1,9 @@
 //! What a main target asks of those that use it.
-ghost use Rattle.std.specs.Prelude.{◌≡◌, ◌++◌, ◌∷◌, ◌||◌, [], ℕ, List, not, filter, is_some, map, OnOk, IfOk};
+ghost use Rattle.std.specs.Prelude.{◌≡◌, ◌++◌, ◌||◌, List, not, filter, is_some, map, OnOk, IfOk};
 ghost use Rattle.std.specs.FinMap as map;
 ghost use Rattle.b2_features.specs.declared.attribute.Attribute.TheVariants.{Free};
 ghost use Rattle.b2_features.specs.Faults.{is_with};
 ghost use Rattle.b2_props.specs.Sets.{Pair};
-ghost use Rattle.b2_props.specs.Refinement.{names};
 ghost use Rattle.b2_props.specs.Indexing.{IsIndexOf};
 ghost use Rattle.b2_alternatives.specs.Usage.{usage_pairs, usage_in, yielding, own_levels, own_usage, passed_usage};
 
@@ -22,6 +21,7 @@ use b2_props::pair_list::PairList;
 use b2_props::props::Props;
 use b2_props::requirement::Requirement;
 use b2_references::index::Index;
+use b2_texts::missing::take_all;
 use std::alloc::Global;
 
 /// Adds the property of a usage requirement, where all its conditions are indexed.
@@ -71,25 +71,6 @@ fn levels(
     for place in places {
         made.push(usage_in(alloc, index, place.usage.as_slice())?)?;
     }
-    Ok(made)
-}
-
-/// Puts the features of some pairs among those that are taken.
-fn take_all(taken: &mut TextMap<()>, pairs: &[(Text, Text)]) -> Result<(), OutOfMemory>
-    ensures { OnOk result ((feature : List ℕ) → is_some (map.get taken.new feature) ≡ (is_some (map.get taken.old feature) || names pairs.now feature)) }
-{
-    for pair in pairs {
-        let _before = taken.insert(pair.0.copy()?, ())?;
-    }
-    Ok(())
-}
-
-/// The features of some pairs as a set.
-pub(crate) fn features_of(alloc: Global, pairs: &[(Text, Text)]) -> Result<TextMap<()>, OutOfMemory>
-    ensures { IfOk result (λ made. (feature : List ℕ) → is_some (map.get made feature) ≡ names pairs.now feature) }
-{
-    let mut made = TextMap::new(alloc);
-    take_all(&mut made, pairs)?;
     Ok(made)
 }
 

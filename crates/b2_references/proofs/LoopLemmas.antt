@@ -24,7 +24,8 @@ use Rattle.b2_props.proofs.Gaining.{next_take, next_at, get_put, options_next as
 use Rattle.b2_props.proofs.Pairs.{text_is, text_sym, option_or-none, value_of-append, firsts_push, same_sym}
 use Rattle.b2_props.proofs.Rows.{product-push}
 use Rattle.b2_references.specs.Names.{first_list, lineage_in}
-use Rattle.b2_references.specs.Requests.{missing, choosable}
+use Rattle.b2_references.specs.Requests.{choosable}
+use Rattle.b2_texts.specs.Missing.{missing}
 use Rattle.b2_references.proofs.NameLemmas.{number_is}
 
 -- ---- one more element
@@ -175,16 +176,6 @@ first_own xs ys ds b e test none = e ∙ sym (first_of_one xs ys some)
 
 pub first_other : (xs ys : List (List Pair)) (ds : List Pair) (b : Bool) → ds ≡ first_list xs → b ≡ eqb (length ds) 0 → b ≡ true → first_list ys ≡ first_list (xs ++ ys)
 first_other xs ys ds b e test none = sym (first_of_two xs ys (sym (ap length e) ∙ number_is (length ds) 0 (sym test ∙ none)))
-
--- a name more among those that are known
-pub names_next : (pairs : List Pair) (i : ℕ) (p : Pair) (feature : List ℕ) → i < length pairs → p ≡ get_or pairs i p → names (take (i + 1) pairs) feature ≡ cond (bytes_eq feature p.0) true (names (take i pairs) feature)
-names_next pairs i p feature within is = ap (λ ps. names ps feature) (next_take pairs i p within is) ∙ ap is_some (value_of-append (take i pairs) (p ∷ []) feature) ∙ go (value_of (take i pairs) feature) (bytes_eq feature p.0)
-  where
-    go : (o : Option (List ℕ)) (b : Bool) → is_some (option_or o (cond b (Some p.1) None)) ≡ cond b true (is_some o)
-    go None true = refl
-    go None false = refl
-    go (Some v) true = refl
-    go (Some v) false = refl
 
 -- one pair more that a set leaves open
 pub choosable_next : (table : List Declared) (set pairs : List Pair) (i : ℕ) (p : Pair) (b : Bool) (made old : List Pair) → i < length pairs → p ≡ get_or pairs i p

@@ -8,6 +8,7 @@ use Rattle.b2_features.specs.Faults.{is_with}
 use Rattle.b2_props.specs.Sets.{Pair, firsts, set_of, IsSet}
 use Rattle.b2_props.specs.Refinement.{names}
 use Rattle.b2_props.specs.Requests.{product}
+use Rattle.b2_texts.specs.Missing.{missing}
 use Rattle.b2_metatargets.specs.declared.whole.Declared.{Declared}
 use Rattle.b2_references.specs.declared.meaning.Meaning.{Meaning}
 use Rattle.b2_references.specs.declared.meaning.Meaning.TheVariants.{File, Targets, Nothing}
@@ -33,11 +34,7 @@ joined (pairs ∷ more) p = if are_of p.0 pairs then (pairs ++ p ∷ []) ∷ mor
 abbrev pub by_feature : List Pair → List (List Pair)
 by_feature pairs = fold joined [] pairs
 
--- the pairs of a `default-build` whose features a set does not name
-abbrev pub missing : List Pair → List Pair → List Pair
-missing set defaults = filter (λ p. not (names set p.0)) defaults
-
--- those of them whose features are not free
+-- the pairs of a `default-build` whose features a set does not name and that are not free
 abbrev pub choosable : List Feature → List Pair → List Pair → List Pair
 choosable table set defaults = filter (λ p. not (is_with Free table p.0)) (missing set defaults)
 

@@ -1,11 +1,10 @@
 //! The sets that a set of a request stands for.
-ghost use Rattle.std.specs.Prelude.{◌≡◌, ℕ, List, ◌++◌, ◌∷◌, [], ◌&&◌, not, is_some, if◌then◌else◌, map, IfOk, OnOk};
+ghost use Rattle.std.specs.Prelude.{◌≡◌, ◌++◌, ◌∷◌, [], ◌&&◌, not, is_some, if◌then◌else◌, map, IfOk, OnOk};
 ghost use Rattle.std.specs.FinMap as finite;
 ghost use Rattle.std.specs.List.{AllByRecursion};
 ghost use Rattle.b2_features.specs.declared.attribute.Attribute.TheVariants.{Free};
 ghost use Rattle.b2_features.specs.Faults.{is_with};
 ghost use Rattle.b2_features.specs.Table.{HasDistinctNames};
-ghost use Rattle.b2_props.specs.Refinement.{names};
 ghost use Rattle.b2_props.specs.Sets.{firsts, set_of, IsSet};
 ghost use Rattle.b2_references.specs.Requests.{choosable, open_values, sets_for};
 
@@ -23,6 +22,7 @@ use b2_props::pair_list::PairList;
 use b2_props::props::Props;
 use b2_props::refinement::set_of;
 use b2_props::request::PropsList;
+use b2_texts::missing::features_of;
 use std::alloc::Global;
 use std::collections::BTreeSet;
 
@@ -31,17 +31,6 @@ pub(crate) fn distinct(registry: &Registry)
     ensures { HasDistinctNames registry.now }
 {
     let _count = registry.count();
-}
-
-/// The features of some pairs as a set.
-fn features_of(alloc: Global, pairs: &[(Text, Text)]) -> Result<TextMap<()>, OutOfMemory>
-    ensures { IfOk result (λ made. (feature : List ℕ) → is_some (finite.get made feature) ≡ names pairs.now feature) }
-{
-    let mut made = TextMap::new(alloc);
-    for pair in pairs {
-        let _before = made.insert(pair.0.copy()?, ())?;
-    }
-    Ok(made)
 }
 
 /// Adds a pair at the end, where that is asked for.

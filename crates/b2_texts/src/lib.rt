@@ -1,10 +1,11 @@
-//! The property texts of project files: how they are read, completed and checked.
+//! The property texts of project files: how they are read, completed and checked, and what a list of pairs does not name.
 #![tactic(auto)]
 
 pub mod clashes;
 mod completion;
 mod cuts;
 pub mod lists;
+pub mod missing;
 pub mod places;
 pub mod properties;
 pub mod reading;

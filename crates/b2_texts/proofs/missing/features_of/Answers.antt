@@ -3,7 +3,7 @@ use Rattle.std.specs.FinMap as map
 use Rattle.std.specs.FinMap.{get-from_entries}
 use Rattle.std.proofs.lemmas.Cmp.{nat_list_cmp_total}
 use Rattle.b2_props.specs.Refinement.{names}
-use Rattle.b2_alternatives.proofs.usage.features_of.Goals as goal
+use Rattle.b2_texts.proofs.missing.features_of.Goals as goal
 
 pub returns : goal.returns
 returns c = λ feature.

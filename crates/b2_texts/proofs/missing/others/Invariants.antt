@@ -1,7 +1,7 @@
 use Rattle.std.proofs.Common.{◌≡◌, not, take, is_some}
 use Rattle.std.specs.List.{filter}
 use Rattle.std.specs.FinMap as map
-use Rattle.b2_alternatives.proofs.choosing.others.Given as goal
+use Rattle.b2_texts.proofs.missing.others.Given as goal
 
 -- those of the pairs so far
 abbrev pub invariant-loop-pair : goal.invariant-loop-pair

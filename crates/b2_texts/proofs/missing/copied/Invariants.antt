@@ -1,5 +1,5 @@
 use Rattle.std.proofs.Common.{◌≡◌, take}
-use Rattle.b2_alternatives.proofs.choosing.copied.Given as goal
+use Rattle.b2_texts.proofs.missing.copied.Given as goal
 
 abbrev pub invariant-loop-pair : goal.invariant-loop-pair
 invariant-loop-pair l = l.made ≡ take l.pair-index l.pairs

@@ -1,7 +1,7 @@
 use Rattle.std.proofs.Common.{◌≡◌, ◌||◌, ℕ, List, take, is_some}
 use Rattle.std.specs.FinMap as map
 use Rattle.b2_props.specs.Refinement.{names}
-use Rattle.b2_alternatives.proofs.usage.take_all.Given as goal
+use Rattle.b2_texts.proofs.missing.take_all.Given as goal
 
 -- the features of the pairs so far are taken
 abbrev pub invariant-loop-pair : goal.invariant-loop-pair

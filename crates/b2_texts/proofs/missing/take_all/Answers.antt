@@ -1,7 +1,7 @@
 use Rattle.std.proofs.Common.{is_some}
 use Rattle.std.specs.FinMap as map
 use Rattle.b2_props.proofs.Completing.{taken_more}
-use Rattle.b2_alternatives.proofs.usage.take_all.Goals as goal
+use Rattle.b2_texts.proofs.missing.take_all.Goals as goal
 
 pub loop-pair-preserved : goal.loop-pair-preserved
 loop-pair-preserved c =

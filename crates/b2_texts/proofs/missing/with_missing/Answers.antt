@@ -2,8 +2,8 @@ use Rattle.std.proofs.Common.{◌∙◌, ◌++◌, List, not, is_some, ap, ap₂
 use Rattle.std.specs.FinMap as map
 use Rattle.b2_props.specs.Sets.{Pair}
 use Rattle.b2_props.specs.Refinement.{names}
-use Rattle.b2_alternatives.proofs.ListLemmas.{same_filter}
-use Rattle.b2_alternatives.proofs.choosing.with_missing.Goals as goal
+use Rattle.b2_texts.proofs.Lists.{same_filter}
+use Rattle.b2_texts.proofs.missing.with_missing.Goals as goal
 
 pub returns : goal.returns
 returns c =

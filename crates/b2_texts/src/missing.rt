@@ -1,0 +1,72 @@
+//! The pairs of a list whose features another list does not name.
+ghost use Rattle.std.specs.Prelude.{◌≡◌, ◌++◌, ◌||◌, ℕ, List, not, filter, is_some, IfOk, OnOk};
+ghost use Rattle.std.specs.FinMap as map;
+ghost use Rattle.b2_props.specs.Refinement.{names};
+ghost use Rattle.b2_texts.specs.Missing.{missing};
+
+use b2_base::fault::OutOfMemory;
+use b2_base::text::Text;
+use b2_base::text_map::TextMap;
+use b2_props::pair_list::PairList;
+use std::alloc::Global;
+
+/// Puts the features of some pairs among those that are taken.
+pub fn take_all(taken: &mut TextMap<()>, pairs: &[(Text, Text)]) -> Result<(), OutOfMemory>
+    ensures { OnOk result ((feature : List ℕ) → is_some (map.get taken.new feature) ≡ (is_some (map.get taken.old feature) || names pairs.now feature)) }
+{
+    for pair in pairs {
+        let _before = taken.insert(pair.0.copy()?, ())?;
+    }
+    Ok(())
+}
+
+/// The features of some pairs as a set.
+pub fn features_of(alloc: Global, pairs: &[(Text, Text)]) -> Result<TextMap<()>, OutOfMemory>
+    ensures { IfOk result (λ made. (feature : List ℕ) → is_some (map.get made feature) ≡ names pairs.now feature) }
+{
+    let mut made = TextMap::new(alloc);
+    take_all(&mut made, pairs)?;
+    Ok(made)
+}
+
+fn copied(alloc: Global, pairs: &[(Text, Text)]) -> Result<PairList, OutOfMemory>
+    ensures { IfOk result (λ made. made ≡ pairs.now) }
+{
+    let mut made = PairList::new(alloc);
+    for pair in pairs {
+        made.push(pair.0.copy()?, pair.1.copy()?)?;
+    }
+    Ok(made)
+}
+
+/// The pairs whose features are not among some.
+fn others(
+    alloc: Global,
+    features: &TextMap<()>,
+    pairs: &[(Text, Text)],
+) -> Result<PairList, OutOfMemory>
+    ensures { IfOk result (λ made. made ≡ filter (λ p. not (is_some (map.get features.now p.0))) pairs.now) }
+{
+    let mut made = PairList::new(alloc);
+    for pair in pairs {
+        if features.get(&pair.0).is_none() {
+            made.push(pair.0.copy()?, pair.1.copy()?)?;
+        }
+    }
+    Ok(made)
+}
+
+/// A set, then the pairs of a `default-build` whose features it does not name.
+pub fn with_missing(
+    alloc: Global,
+    set: &[(Text, Text)],
+    defaults: &[(Text, Text)],
+) -> Result<PairList, OutOfMemory>
+    ensures { IfOk result (λ made. made ≡ set.now ++ missing set.now defaults.now) }
+{
+    let features = features_of(alloc, set)?;
+    let more = others(alloc, &features, defaults)?;
+    let mut made = copied(alloc, set)?;
+    made.append(more)?;
+    Ok(made)
+}
