@@ -3,4 +3,4 @@ pub mod Naming
 pub mod Pieces
 pub mod Listing
 pub mod Meeting
-pub mod Lists
+pub mod FilterLemmas
