@@ -1,6 +1,3 @@
-mod CleanLemmas
-mod WayLemmas
-mod VisitLemmas
 mod CallLemmas
 mod LineLemmas
 mod FindSteps

@@ -1,9 +1,7 @@
-pub mod Directories
 pub mod Walks
 pub mod Faults
 pub mod Walking
 pub mod Laws
 pub mod Finding
-pub mod Indexing
 pub mod Running
 pub mod Doing

@@ -1,9 +1,7 @@
 -- Which projects a load visits, and what it does there.
 use Rattle.std.specs.Prelude.{◌≡◌, ℕ, List, [], ◌∷◌, ◌++◌, drop, length, map as each, Option, Some, None, if◌then◌else◌}
 use Rattle.std.specs.List.{flat_map}
-use Rattle.b2_declarations.specs.declared.declaration.Declaration.{Declaration}
-use Rattle.b2_declarations.specs.Declarations.{shape_of}
-use Rattle.b2_declarations.specs.Directories.{named_directories, directories}
+use Rattle.b2_declarations.specs.Directories.{directories}
 use Rattle.b2_metatargets.specs.declared.fault.DeclaringFault.{DeclaringFault}
 use Rattle.b2_metatargets.specs.declared.visit.Visit.{Visit}
 use Rattle.b2_metatargets.specs.declared.visit.Call.{Call}
@@ -17,10 +15,10 @@ use Rattle.jam_eval.specs.States.{State, with_world}
 use Rattle.jam_eval.specs.Settings.{Reading, is_missing, is_too_big, has_no_tokens, has_no_tree, is_file, Setting}
 use Rattle.jam_eval.specs.Outcomes.{Outcome, gives, faults, in_module}
 use Rattle.jam_eval.specs.Eval.{run}
-use Rattle.jam_natives.specs.declared.decl.Decl.{Decl}
 use Rattle.jam_natives.specs.Keeping.{Kept}
 use Rattle.jam_values.specs.FileReadings.{ReadsAny}
-use Rattle.b2_walk.specs.Directories.{here, way_to, project_files, seen, first_file, is_visited, first_new, visit_of, module_above}
+use Rattle.b2_visits.specs.Calls.{call_of, names_of}
+use Rattle.b2_visits.specs.Directories.{here, way_to, project_files, seen, first_file, is_visited, first_new, visit_of, module_above}
 
 -- The walk so far: the projects that were visited, in order; the calls of declaring rules that their files made, in order; the
 -- directories that these calls name, in order; and the world, the turns that are left, and what the natives keep.
@@ -54,21 +52,6 @@ and_then (goes_on w) next = next w
 and_then (refused why s) next = refused why s
 
 -- ---- what a file adds
-
--- a call of a declaring rule that the file of the project at a place made
-abbrev pub call_of : ℕ → Decl → Call
-call_of project decl = record {
-  project = project;
-  rule = decl.rule;
-  line = decl.line;
-  declaration = shape_of decl.rule decl.lists;
-  refused = decl.refused;
-}
-
--- the directories that a call names, also where what it declares is refused; one of a wrong shape names none
-abbrev pub names_of : Text → Option Declaration → List Text
-names_of dir None = []
-names_of dir (Some declaration) = named_directories dir declaration
 
 -- the calls that were recorded after some others
 abbrev pub new_calls : ℕ → Kept → Kept → List Call

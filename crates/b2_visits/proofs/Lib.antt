@@ -1,0 +1,3 @@
+pub mod CleanLemmas
+pub mod WayLemmas
+pub mod VisitLemmas

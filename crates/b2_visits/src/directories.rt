@@ -1,0 +1,108 @@
+//! The directories of projects: the way to each from the folder, the names of its project file, its module.
+ghost use Rattle.std.specs.Prelude.{◌≡◌, ◌∷◌, [], All, map, IfOk, string_bytes};
+ghost use Rattle.std.specs.List.{join_with_byte};
+ghost use Rattle.std.specs.Str.{bytes_eq};
+ghost use Rattle.b2_base.specs.Bytes.{HasNoZero};
+ghost use Rattle.b2_base.specs.Segments.{segments, texts};
+ghost use Rattle.jam_eval.specs.Includes.{path_from, is_below};
+ghost use Rattle.b2_visits.specs.Directories.{here, beginnings, path_of, way_to, module_name, file_names};
+
+use b2_base::fault::OutOfMemory;
+use b2_base::path::Path;
+use b2_base::path_list::PathList;
+use b2_base::text::Text;
+use b2_texts::places::path_of;
+use jam_values::paths::path_from;
+use std::alloc::Global;
+
+/// The folder itself.
+pub fn folder(alloc: Global) -> Result<Path, OutOfMemory>
+    ensures { IfOk result (λ path. path ≡ here) }
+{
+    path_of(alloc, ".")
+}
+
+/// Whether it is the folder itself. Takes no memory.
+fn is_folder(dir: &Path) -> bool
+    ensures { result ≡ bytes_eq dir.now here }
+{
+    dir.as_str() == "."
+}
+
+/// Segments, joined by slashes.
+fn joined(alloc: Global, segments: &[&str]) -> Result<String, OutOfMemory>
+    ensures { IfOk result (λ text. string_bytes text ≡ join_with_byte 47 (texts segments.now)) }
+{
+    Ok(segments.join(alloc, "/")?)
+}
+
+/// The paths of the beginnings of some segments, the shortest first.
+fn paths_of(alloc: Global, segments: &[&str]) -> Result<PathList, OutOfMemory>
+    requires { All HasNoZero (texts segments.now) }
+    ensures { IfOk result (λ paths. paths ≡ map path_of (beginnings (texts segments.now))) }
+{
+    let mut paths = PathList::new(alloc);
+    for place in 0..segments.len() {
+        let text = joined(alloc, &segments[..place + 1])?;
+        paths.push(path_of(alloc, text.as_str())?)?;
+    }
+    Ok(paths)
+}
+
+/// The text, cut at its slashes.
+fn cut(alloc: Global, text: &str) -> Result<Vec<&str>, OutOfMemory>
+    ensures { IfOk result (λ cuts. texts cuts.items ≡ segments text.now) }
+{
+    let cuts = text.split('/').collect(alloc)?;
+    Ok(cuts)
+}
+
+/// Whether a directory lies below another one. Takes no memory.
+fn is_below(dir: &Path, top: &Path) -> bool
+    ensures { result ≡ is_below dir.now top.now }
+{
+    dir.under(top)
+}
+
+/// The directories on the way to a directory, from the top down, and itself as the last; none where it does not lie below the
+/// folder.
+pub fn way_to(alloc: Global, dir: &Path) -> Result<PathList, OutOfMemory>
+    ensures { IfOk result (λ dirs. dirs ≡ way_to dir.now) }
+{
+    let folder = folder(alloc)?;
+    if !is_below(dir, &folder) {
+        return Ok(PathList::new(alloc));
+    }
+    let segments = cut(alloc, dir.as_str())?;
+    paths_of(alloc, segments.as_slice())
+}
+
+/// The name of the module in which the file of a project runs.
+pub fn module_name(alloc: Global, dir: &Path) -> Result<Text, OutOfMemory>
+    ensures { IfOk result (λ name. name ≡ module_name dir.now) }
+{
+    let name = format!(in alloc; "Jamfile<{dir}>", dir = dir.as_str())?;
+    Ok(Text::from_string(name))
+}
+
+/// The names that the project file of a directory may have, the first one first.
+pub fn file_names(dir: &Path) -> (&'static str, &'static str)
+    ensures names { result.0.now ∷ result.1.now ∷ [] ≡ file_names dir.now }
+    ensures first { HasNoZero result.0.now }
+    ensures second { HasNoZero result.1.now }
+{
+    if is_folder(dir) {
+        ("Jamroot", "Jamroot.jam")
+    } else {
+        ("Jamfile", "Jamfile.jam")
+    }
+}
+
+/// The path of a file in a directory, by its name.
+pub fn file_in(alloc: Global, dir: &Path, name: &str) -> Result<Path, OutOfMemory>
+    requires { HasNoZero name.now }
+    ensures { IfOk result (λ path. path ≡ path_from dir.now name.now) }
+{
+    let name = Text::new(alloc, name)?;
+    path_from(alloc, dir, &name)
+}
