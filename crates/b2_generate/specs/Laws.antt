@@ -70,7 +70,7 @@ RowsAreOpenings E = (l : Loaded E) (above : List Name) (name : Name) (set : List
 
 -- ---- steps
 
--- the steps before stay as they are, and new ones stand behind them
+-- the steps before stay as they are, and new ones stand after them
 abbrev pub StepsStay : Type 0 → Type 0
 StepsStay E = (l : Loaded E) (above : List Name) (name : Name) (set : List Pair) (before after : List Step) (given : Generated) →
     Generates l above name set before (Ok (given, after)) → (more : List Step) × (after ≡ before ++ more)

@@ -36,7 +36,7 @@ pub record AreSupplied (d : Declared) (c : Chosen) (s : Standing) (made : Suppli
   pub set : made.set ≡ final_set d c s
   pub is_set : IsSet (features d) made.set
 
--- the project of a main target, as its steps want it
+-- the project of a main target, as its steps take it
 pub record IsHome (d : Declared) (project : ℕ) (home : Home) : Type 0 where
   pub dir : home.dir ≡ dir_of d project
   pub owner : home.owner ≡ option_map_or (λ p. p.«module») (slice_get d.places project) []

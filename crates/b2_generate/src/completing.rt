@@ -116,7 +116,7 @@ fn node_of(
     })
 }
 
-/// The place of the newest node of a main target, in whose stead this one comes.
+/// The place of the newest node of a main target, which this one replaces.
 fn note_newest(
     newest: &mut NameTable<usize>,
     name: &TargetName,

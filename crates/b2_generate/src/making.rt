@@ -53,7 +53,7 @@ pub(crate) struct Made {
     pub(crate) usage: PairList,
 }
 
-/// The project of a main target, as its steps want it: its directory, its module and its file.
+/// The project of a main target, as its steps take it: its directory, its module and its file.
 #[derive(Drop)]
 struct Home {
     dir: Path,

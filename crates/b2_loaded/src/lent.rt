@@ -17,7 +17,7 @@ use jam_eval::step::{StepJob, StepText};
 use std::alloc::Global;
 use std::marker::PhantomData;
 
-/// A host that was lent when it was what `S` says. Its files and child processes are as then, and no count of its failures fell.
+/// A host that was lent when it was what `S` says. Its files and child processes are those of that moment, and no count of its failures fell.
 #[derive(Drop)]
 pub struct Lent<'a, F: Files, S: Entry> {
     pub files: &'a mut F,

@@ -14,7 +14,7 @@ pub rules_in-append : (c : Call) (xs ys : List RequirementText) → rules_in c (
 unfolding rules_in
 rules_in-append c xs ys = filter_map-append (rule_of c) xs ys
 
--- the numbers of a second list go on behind the rules of the first one
+-- the numbers of a second list go on after the rules of the first one
 pub numbered-append : (c : Call) (first : ℕ) (xs ys : List RequirementText) → numbered first (xs ++ ys) ≡ numbered first xs ++ numbered (first + length (rules_in c xs)) ys
 unfolding numbered rules_in
 numbered-append c first [] ys = let e : first ≡ first + 0 = omega arith in ap (λ n. numbered n ys) e

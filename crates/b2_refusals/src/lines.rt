@@ -1,6 +1,6 @@
 //! The lines of refusals and of looks at a project.
 ghost use Rattle.std.specs.Prelude.{◌≡◌, IfOk, string_bytes};
-ghost use Rattle.b2_refusals.specs.Lines.{fault_text, refusal_line, usage_line, host_fault_line, table_line, text_line, step_lines};
+ghost use Rattle.b2_refusals.specs.Lines.{fault_text, refusal_line, usage_line, host_fault_line, table_line, text_line};
 ghost use Rattle.b2_refusals.specs.Wholes.{IsWhole};
 ghost use Rattle.b2_runs.specs.Reports.{start_line};
 
@@ -92,13 +92,4 @@ pub fn text_line(alloc: Global, step: &Step) -> Result<String, OutOfMemory>
     ensures { IfOk result (λ line. string_bytes line ≡ text_line step.now) }
 {
     concat(alloc, step.text.as_str(), "\n")
-}
-
-/// What a look tells of a step: the line of its start and that of its text.
-pub fn step_lines(alloc: Global, step: &Step) -> Result<String, OutOfMemory>
-    ensures { IfOk result (λ lines. string_bytes lines ≡ step_lines step.now) }
-{
-    let start = start_line(alloc, step)?;
-    let text = step.text.as_str();
-    Ok(format!(in alloc; "{start}{text}\n")?)
 }

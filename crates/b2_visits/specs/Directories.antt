@@ -83,7 +83,7 @@ last_visited visits (dir ∷ dirs) = option_or (last_visited visits dirs) (place
 abbrev pub parent_of : Text → List Visit → Option ℕ
 parent_of dir visits = last_visited visits (here ∷ way_to dir)
 
--- a project with its file, behind those that were visited
+-- a project with its file, after those that were visited
 abbrev pub visit_of : Text → Text → List Visit → Visit
 visit_of dir file visits = record { dir = dir; file = file; «module» = module_name dir; parent = parent_of dir visits }
 

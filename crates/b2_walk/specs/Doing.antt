@@ -1,4 +1,4 @@
--- What the parts of a walk do, as they are proved. Who wants to know what a walk is needs Directories, Walks and Walking alone.
+-- What the parts of a walk do, as they are proved. What a walk is stands in Walks and Walking.
 use Rattle.std.specs.Prelude.{◌≡◌, ◌≤◌, ◌++◌, ℕ, true, List, [], length, take, drop, map as each, Some, None, Result, Ok, Err, slice_get}
 use Rattle.std.specs.FinMap as map
 use Rattle.b2_host.specs.Outside.{Outside}

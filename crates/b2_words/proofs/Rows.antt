@@ -44,7 +44,7 @@ module _ (id : Text) (how : Reading) (s : ValueSource) (values : List Text) wher
   abbrev changed : Row → Row
   changed r = record r { values = r.values ++ values; source = Some (stronger r.source s) }
 
-  -- the values of this id go behind those that it has
+  -- the values of this id go after those that it has
   pub all_of-same : (rows : List Row) → bytes_eq id id ≡ true → all_of id (with_values id how s values rows) ≡ Some (unwrap_or (all_of id rows) [] ++ values)
   all_of-same [] self = by_id true fresh [] id self
   all_of-same (r ∷ rs) self = ⊎_elim

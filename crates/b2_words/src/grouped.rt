@@ -6,7 +6,7 @@ ghost use Rattle.b2_words.specs.Grouped.{has_n, is_grouped, any_grouped};
 
 use b2_base::text::Text;
 
-/// Whether an `n` stands before any `j`, behind which the value of `-j` begins.
+/// Whether an `n` stands before any `j`; after a `j` the value of `-j` begins.
 fn has_n(letters: &[u8]) -> bool
     ensures { result ≡ has_n letters.now }
 {
