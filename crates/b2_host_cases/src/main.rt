@@ -1,27 +1,24 @@
-//! Worked examples of texts, paths and plans, and of the host and the sink in memory, as a transcript.
+//! The cases of what a build stands on: texts, paths and makers of a plan, with the host and the sink in memory (`host`), the
+//! log of actions (`log`), and the words of the command line (`words`). Each of the three is a part of the program, and a file
+//! of that name tells its commands.
+//!
+//! `part NAME` says which part carries out the commands that follow; at first it is `host`. A part keeps what it holds while
+//! another one is at hand.
 #![tactic(auto)]
 
-mod args;
-mod case_session;
-mod child_commands;
-mod file_commands;
-mod free;
-mod look_commands;
-mod path_commands;
-mod plan_commands;
-mod script_commands;
-mod sink_commands;
-mod text_commands;
-mod write_commands;
+mod host;
+mod log;
+mod session;
+mod words;
 
-use crate::case_session::CaseSession;
+use crate::session::Cases;
 use std::io;
 use std::process::ExitCode;
 use transcript::session::run;
 
 fn main(rt: HostRuntime) -> io::Result<ExitCode> {
-    match CaseSession::new(rt.alloc()) {
-        Ok(mut session) => run(&rt, &mut session),
+    match Cases::new(rt.alloc()) {
+        Ok(mut cases) => run(&rt, &mut cases),
         Err(_error) => Err(io::Error::from(io::ErrorKind::OutOfMemory)),
     }
 }

@@ -1,6 +1,8 @@
 //! Commands on the child processes of the host in memory.
-use crate::args::{io_answer, number, paths};
-use crate::free::may_start;
+use crate::host::InMemory;
+use crate::host::answers::io_answer;
+use crate::host::free::may_start;
+use crate::host::script_commands::script_command;
 use b2_base::path::Path;
 use b2_base::path_list::PathList;
 use b2_host::children::Children;
@@ -10,6 +12,7 @@ use std::alloc::Global;
 use transcript::answer::Answer;
 use transcript::case_fault::CaseFault;
 use transcript::command::{Command, Word};
+use transcript::words::{no_words, number, paths};
 
 /// What a child reads and writes: the paths before the first word `>`, and those after it.
 fn ins_and_outs(alloc: Global, words: &[Word]) -> Result<(PathList, PathList), CaseFault> {
@@ -45,7 +48,7 @@ fn start(alloc: Global, host: &mut MemoryHost, words: &[Word]) -> Result<Answer,
     let [step, text, more @ ..] = words else {
         return Err(CaseFault::WrongWords);
     };
-    let step = number(step)?;
+    let step = number(step.as_str()?)?;
     let text = text.as_str()?;
     let (ins, outs) = ins_and_outs(alloc, more)?;
     start_child(alloc, host, step, text, ins.as_slice(), outs.as_slice())
@@ -53,9 +56,7 @@ fn start(alloc: Global, host: &mut MemoryHost, words: &[Word]) -> Result<Answer,
 
 /// `wait_one`: which child has ended, and how. It needs that one runs.
 fn wait_one(alloc: Global, host: &mut MemoryHost, words: &[Word]) -> Result<Answer, CaseFault> {
-    if !words.is_empty() {
-        return Err(CaseFault::WrongWords);
-    }
+    no_words(words)?;
     if host.running().is_empty() {
         return Answer::line(alloc, "no child runs");
     }
@@ -66,17 +67,16 @@ fn wait_one(alloc: Global, host: &mut MemoryHost, words: &[Word]) -> Result<Answ
     }
 }
 
-/// Carries out a command on children; None where it is none.
+/// Carries out a command on children, or another one.
 pub fn child_command(
     alloc: Global,
-    host: &mut MemoryHost,
+    state: &mut InMemory,
     command: &Command,
-) -> Result<Option<Answer>, CaseFault> {
+) -> Result<Answer, CaseFault> {
     let words = command.words();
-    let answer = match command.name() {
-        "start" => start(alloc, host, words)?,
-        "wait_one" => wait_one(alloc, host, words)?,
-        _ => return Ok(None),
-    };
-    Ok(Some(answer))
+    match command.name() {
+        "start" => start(alloc, &mut state.host, words),
+        "wait_one" => wait_one(alloc, &mut state.host, words),
+        _ => script_command(alloc, state, command),
+    }
 }

@@ -1,13 +1,24 @@
 //! Commands that tell the host in memory which calls fail and how its child processes end.
-use crate::args::{number, numbers};
+use crate::host::InMemory;
+use crate::host::look_commands::look_command;
 use b2_memory::memory::{CallKind, MemoryHost};
 use std::alloc::Global;
 use transcript::answer::Answer;
 use transcript::case_fault::CaseFault;
 use transcript::command::{Command, Word};
+use transcript::words::{both, no_words, number, only};
 
-fn call_kind(word: &Word) -> Result<CallKind, CaseFault> {
-    match word.as_str()? {
+/// The words as numbers.
+fn numbers(alloc: Global, words: &[Word]) -> Result<Vec<u32>, CaseFault> {
+    let mut numbers = Vec::new(alloc);
+    for word in words {
+        numbers.push(number(word.as_str()?)?)?;
+    }
+    Ok(numbers)
+}
+
+fn call_kind(word: &str) -> Result<CallKind, CaseFault> {
+    match word {
         "Stat" => Ok(CallKind::Stat),
         "Read" => Ok(CallKind::Read),
         "List" => Ok(CallKind::List),
@@ -22,68 +33,54 @@ fn call_kind(word: &Word) -> Result<CallKind, CaseFault> {
 
 /// `fail_calls KIND NUMBER`: lets a call of that kind fail, by its number from now on.
 fn fail_calls(alloc: Global, host: &mut MemoryHost, words: &[Word]) -> Result<Answer, CaseFault> {
-    let [kind, place] = words else {
-        return Err(CaseFault::WrongWords);
-    };
+    let (kind, place) = both(words)?;
     let calls = [(call_kind(kind)?, number(place)?)];
-    host.fail_calls(calls.as_slice())?;
-    Ok(Answer::new(alloc))
+    Answer::done(alloc, host.fail_calls(calls.as_slice()))
 }
 
 /// `child_fails NUMBER ..`: lets children end badly, by the numbers of their starts from now on.
 fn child_fails(alloc: Global, host: &mut MemoryHost, words: &[Word]) -> Result<Answer, CaseFault> {
-    host.child_fails(numbers(alloc, words)?.as_slice())?;
-    Ok(Answer::new(alloc))
+    Answer::done(alloc, host.child_fails(numbers(alloc, words)?.as_slice()))
 }
 
 /// `order NUMBER ..`: which of the running children each wait gives.
 fn order(alloc: Global, host: &mut MemoryHost, words: &[Word]) -> Result<Answer, CaseFault> {
-    host.order(numbers(alloc, words)?.as_slice())?;
-    Ok(Answer::new(alloc))
+    Answer::done(alloc, host.order(numbers(alloc, words)?.as_slice()))
 }
 
 /// `tear BYTES`: how many bytes a failing write leaves.
 fn tear(alloc: Global, host: &mut MemoryHost, words: &[Word]) -> Result<Answer, CaseFault> {
-    let [bytes] = words else {
-        return Err(CaseFault::WrongWords);
-    };
-    host.tear(number(bytes)?);
+    host.tear(number(only(words)?)?);
     Ok(Answer::new(alloc))
 }
 
 /// `fuse CALLS`: after so many more calls every call fails.
 fn fuse(alloc: Global, host: &mut MemoryHost, words: &[Word]) -> Result<Answer, CaseFault> {
-    let [calls] = words else {
-        return Err(CaseFault::WrongWords);
-    };
-    host.fuse(number(calls)?);
+    host.fuse(number(only(words)?)?);
     Ok(Answer::new(alloc))
 }
 
 /// `reopen`: ends the children that run, and lets calls succeed again.
 fn reopen(alloc: Global, host: &mut MemoryHost, words: &[Word]) -> Result<Answer, CaseFault> {
-    if !words.is_empty() {
-        return Err(CaseFault::WrongWords);
-    }
+    no_words(words)?;
     host.reopen();
     Ok(Answer::new(alloc))
 }
 
-/// Carries out a command that tells the host what is to come; None where it is none.
+/// Carries out a command that tells the host what is to come, or another one.
 pub fn script_command(
     alloc: Global,
-    host: &mut MemoryHost,
+    state: &mut InMemory,
     command: &Command,
-) -> Result<Option<Answer>, CaseFault> {
+) -> Result<Answer, CaseFault> {
     let words = command.words();
-    let answer = match command.name() {
-        "fail_calls" => fail_calls(alloc, host, words)?,
-        "child_fails" => child_fails(alloc, host, words)?,
-        "order" => order(alloc, host, words)?,
-        "tear" => tear(alloc, host, words)?,
-        "fuse" => fuse(alloc, host, words)?,
-        "reopen" => reopen(alloc, host, words)?,
-        _ => return Ok(None),
-    };
-    Ok(Some(answer))
+    match command.name() {
+        "fail_calls" => fail_calls(alloc, &mut state.host, words),
+        "child_fails" => child_fails(alloc, &mut state.host, words),
+        "order" => order(alloc, &mut state.host, words),
+        "tear" => tear(alloc, &mut state.host, words),
+        "fuse" => fuse(alloc, &mut state.host, words),
+        "reopen" => reopen(alloc, &mut state.host, words),
+        _ => look_command(alloc, state, command),
+    }
 }

@@ -1,11 +1,12 @@
 //! Records that are given as words.
 
-use crate::words::{path_of, stamp_of};
+use crate::log::words::stamp;
 use b2_base::text_list::TextList;
 use b2_log::line::{Digests, Record, StampedPaths};
 use std::alloc::Global;
 use transcript::case_fault::CaseFault;
 use transcript::command::Word;
+use transcript::words::{first, path, text};
 
 /// What was read of a record after its text.
 #[derive(Drop)]
@@ -30,20 +31,20 @@ impl Parts {
         }
     }
 
-    fn push_out(&mut self, path: &Word, stamp: &Word) -> Result<(), CaseFault> {
-        let path = path_of(self.alloc, path)?;
-        self.outs.push((path, stamp_of(stamp)?))?;
+    fn push_out(&mut self, name: &str, time: &str) -> Result<(), CaseFault> {
+        let stamp = stamp(time)?;
+        self.outs.push((path(self.alloc, name)?, stamp))?;
         Ok(())
     }
 
-    fn push_in(&mut self, path: &Word, stamp: &Word) -> Result<(), CaseFault> {
-        let path = path_of(self.alloc, path)?;
-        self.ins.push((path, stamp_of(stamp)?))?;
+    fn push_in(&mut self, name: &str, time: &str) -> Result<(), CaseFault> {
+        let stamp = stamp(time)?;
+        self.ins.push((path(self.alloc, name)?, stamp))?;
         Ok(())
     }
 
-    fn push_digest(&mut self, list: &str, digest: &Word) -> Result<(), CaseFault> {
-        let digest = digest.as_text(self.alloc)?;
+    fn push_digest(&mut self, list: &str, digest: &str) -> Result<(), CaseFault> {
+        let digest = text(self.alloc, digest)?;
         self.has_digests = true;
         match list {
             "out" => self.out_digests.push(digest)?,
@@ -53,13 +54,25 @@ impl Parts {
         Ok(())
     }
 
-    fn push(&mut self, kind: &str, name: &Word, value: &Word) -> Result<(), CaseFault> {
-        match kind {
+    /// Adds what three words tell.
+    fn push(&mut self, words: &[Word]) -> Result<(), CaseFault> {
+        let [kind, name, value] = words else {
+            return Err(CaseFault::WrongWords);
+        };
+        let (name, value) = (name.as_str()?, value.as_str()?);
+        match kind.as_str()? {
             "out" => self.push_out(name, value),
             "in" => self.push_in(name, value),
-            "digest" => self.push_digest(name.as_str()?, value),
+            "digest" => self.push_digest(name, value),
             _ => Err(CaseFault::WrongWords),
         }
+    }
+
+    fn push_all(&mut self, words: &[Word]) -> Result<(), CaseFault> {
+        for part in words.chunks(3) {
+            self.push(part)?;
+        }
+        Ok(())
     }
 
     fn digests(outs: TextList, ins: TextList, are_there: bool) -> Option<Digests> {
@@ -73,23 +86,17 @@ impl Parts {
 
 fn parts_of(alloc: Global, words: &[Word]) -> Result<Parts, CaseFault> {
     let mut parts = Parts::new(alloc);
-    for part in words.chunks(3) {
-        let [kind, name, value] = part else {
-            return Err(CaseFault::WrongWords);
-        };
-        parts.push(kind.as_str()?, name, value)?;
-    }
+    parts.push_all(words)?;
     Ok(parts)
 }
 
 /// The record of these words: its text, and `out`, `in` and `digest` with two words each.
 pub fn record_of(alloc: Global, words: &[Word]) -> Result<Record, CaseFault> {
-    let Some((text, rest)) = words.split_first() else {
-        return Err(CaseFault::WrongWords);
-    };
+    let (given, rest) = first(words)?;
+    let text = text(alloc, given)?;
     let parts = parts_of(alloc, rest)?;
     Ok(Record {
-        text: text.as_text(alloc)?,
+        text,
         outs: parts.outs,
         ins: parts.ins,
         digests: Parts::digests(parts.out_digests, parts.in_digests, parts.has_digests),

@@ -1,31 +1,20 @@
 //! Commands that list and write the files of the host in memory.
-use crate::args::{io_answer, path};
-use b2_base::text_list::TextList;
-use b2_host::fault::IoFault;
+use crate::host::InMemory;
+use crate::host::answers::{fault_answer, io_answer};
+use crate::host::child_commands::child_command;
 use b2_host::files::Files;
 use b2_memory::memory::MemoryHost;
 use std::alloc::Global;
 use transcript::answer::Answer;
 use transcript::case_fault::CaseFault;
 use transcript::command::{Command, Word};
-
-fn names_answer(alloc: Global, names: &TextList) -> Result<Answer, CaseFault> {
-    let mut answer = Answer::new(alloc);
-    for name in names.as_slice() {
-        answer.push_line(name.as_str())?;
-    }
-    Ok(answer)
-}
+use transcript::words::{only, path};
 
 /// `list DIR`: the names of the files directly in a directory.
 fn list(alloc: Global, host: &mut MemoryHost, words: &[Word]) -> Result<Answer, CaseFault> {
-    let [word] = words else {
-        return Err(CaseFault::WrongWords);
-    };
-    match host.list(&path(alloc, word)?) {
-        Ok(names) => names_answer(alloc, &names),
-        Err(IoFault::Failed) => Answer::line(alloc, "Failed"),
-        Err(IoFault::OutOfMemory) => Err(CaseFault::OutOfMemory),
+    match host.list(&path(alloc, only(words)?)?) {
+        Ok(names) => Answer::texts(alloc, names.as_slice()),
+        Err(fault) => fault_answer(alloc, fault),
     }
 }
 
@@ -34,7 +23,7 @@ fn append(alloc: Global, host: &mut MemoryHost, words: &[Word]) -> Result<Answer
     let [word, piece] = words else {
         return Err(CaseFault::WrongWords);
     };
-    let path = path(alloc, word)?;
+    let path = path(alloc, word.as_str()?)?;
     io_answer(alloc, host.append(&path, piece.bytes()))
 }
 
@@ -43,22 +32,21 @@ fn replace(alloc: Global, host: &mut MemoryHost, words: &[Word]) -> Result<Answe
     let [word, piece] = words else {
         return Err(CaseFault::WrongWords);
     };
-    let path = path(alloc, word)?;
+    let path = path(alloc, word.as_str()?)?;
     io_answer(alloc, host.replace(&path, piece.bytes()))
 }
 
-/// Carries out a command that lists or writes files; None where it is none.
+/// Carries out a command that lists or writes files, or another one.
 pub fn write_command(
     alloc: Global,
-    host: &mut MemoryHost,
+    state: &mut InMemory,
     command: &Command,
-) -> Result<Option<Answer>, CaseFault> {
+) -> Result<Answer, CaseFault> {
     let words = command.words();
-    let answer = match command.name() {
-        "list" => list(alloc, host, words)?,
-        "append" => append(alloc, host, words)?,
-        "replace" => replace(alloc, host, words)?,
-        _ => return Ok(None),
-    };
-    Ok(Some(answer))
+    match command.name() {
+        "list" => list(alloc, &mut state.host, words),
+        "append" => append(alloc, &mut state.host, words),
+        "replace" => replace(alloc, &mut state.host, words),
+        _ => child_command(alloc, state, command),
+    }
 }

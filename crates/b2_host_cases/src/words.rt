@@ -1,4 +1,8 @@
-//! The command by its name.
+//! The words of the command line. There is one command, named after the call that it makes:
+//!
+//! - `read_words WORD ..` answers `usage` where the words are not of the grammar. Else it answers what they ask for:
+//!   `build N` with the number of jobs and then `all`, `quit` and `digest` where they stand, `look steps`, `look table` or
+//!   `drill N`; and below it a line `<WORD>` for each word that is no option.
 use b2_base::text::Text;
 use b2_words::fault::WordsFault;
 use b2_words::reader::read_words;
@@ -6,20 +10,13 @@ use b2_words::words::{BuildOptions, Command as Asked, View, Words};
 use std::alloc::Global;
 use transcript::answer::Answer;
 use transcript::case_fault::CaseFault;
-use transcript::command::{Command, Word};
+use transcript::command::Command;
 use transcript::session::Session;
+use transcript::words::texts;
 
-/// Nothing is kept from one command to the next.
+/// Nothing is kept from one command line to the next.
 #[derive(Drop)]
-pub struct Cases;
-
-fn texts(alloc: Global, words: &[Word]) -> Result<Vec<Text>, CaseFault> {
-    let mut made = Vec::new(alloc);
-    for word in words {
-        made.push(word.as_text(alloc)?)?;
-    }
-    Ok(made)
-}
+pub struct CommandLine;
 
 fn build_line(alloc: Global, options: BuildOptions) -> Result<String, CaseFault> {
     let jobs = options.jobs;
@@ -68,13 +65,10 @@ fn answer(alloc: Global, words: &[Text]) -> Result<Answer, CaseFault> {
     }
 }
 
-impl Session for Cases {
+impl Session for CommandLine {
     fn carry_out(&mut self, alloc: Global, command: &Command) -> Result<Answer, CaseFault> {
         match command.name() {
-            "read_words" => {
-                let texts = texts(alloc, command.words())?;
-                answer(alloc, texts.as_slice())
-            }
+            "read_words" => answer(alloc, texts(alloc, command.words())?.as_slice()),
             _ => Err(CaseFault::UnknownCommand),
         }
     }

@@ -1,5 +1,7 @@
 //! Commands on plans.
-use crate::args::{path, paths};
+use crate::host::InMemory;
+use crate::host::file_commands::file_command;
+use b2_base::path::Path;
 use b2_base::path_list::PathList;
 use b2_base::text::Text;
 use b2_plan::plan::Plan;
@@ -8,6 +10,7 @@ use std::alloc::Global;
 use transcript::answer::Answer;
 use transcript::case_fault::CaseFault;
 use transcript::command::{Command, Word};
+use transcript::words::{first, path, paths};
 
 /// A step without inputs that has these outputs.
 fn step_of(alloc: Global, outs: PathList) -> Result<Step, CaseFault> {
@@ -39,22 +42,31 @@ fn plan_of(alloc: Global, steps: StepList) -> Result<Plan, CaseFault> {
     Ok(Plan::new(alloc, steps, PathList::new(alloc), PathList::new(alloc))?)
 }
 
-/// `maker PATH OUT .. > OUT ..`: which of the steps with these outputs makes the path, from 1 on.
-fn maker(alloc: Global, words: &[Word]) -> Result<Answer, CaseFault> {
-    let [asked, outs @ ..] = words else {
-        return Err(CaseFault::WrongWords);
-    };
-    let plan = plan_of(alloc, steps_of(alloc, outs)?)?;
-    match plan.maker(&path(alloc, asked)?) {
+fn shown_maker(alloc: Global, plan: &Plan, path: &Path) -> Result<Answer, CaseFault> {
+    match plan.maker(path) {
         None => Answer::line(alloc, "none"),
-        Some(step) => Answer::line(alloc, format!(in alloc; "{step}")?.as_str()),
+        Some(step) => Answer::number(alloc, step as u64),
     }
 }
 
-/// Carries out a command on plans; None where it is none.
-pub fn plan_command(alloc: Global, command: &Command) -> Result<Option<Answer>, CaseFault> {
+/// `maker PATH OUT .. > OUT ..`: which of the steps with these outputs makes the path, from 1 on.
+fn maker(alloc: Global, words: &[Word]) -> Result<Answer, CaseFault> {
+    let (asked, outs) = first(words)?;
+    let asked = path(alloc, asked)?;
+    let plan = plan_of(alloc, steps_of(alloc, outs)?)?;
+    let answer = shown_maker(alloc, &plan, &asked);
+    drop(plan);
+    answer
+}
+
+/// Carries out a command on plans, or another one.
+pub fn plan_command(
+    alloc: Global,
+    state: &mut InMemory,
+    command: &Command,
+) -> Result<Answer, CaseFault> {
     match command.name() {
-        "maker" => Ok(Some(maker(alloc, command.words())?)),
-        _ => Ok(None),
+        "maker" => maker(alloc, command.words()),
+        _ => file_command(alloc, state, command),
     }
 }

@@ -1,4 +1,7 @@
 //! Commands on texts, lists of them and a map from them.
+use crate::host::InMemory;
+use crate::host::answers::truth;
+use crate::host::path_commands::path_command;
 use b2_base::text::{Text, has_no_zero};
 use b2_base::text_list::TextList;
 use b2_base::text_map::TextMap;
@@ -6,36 +9,23 @@ use std::alloc::Global;
 use transcript::answer::Answer;
 use transcript::case_fault::CaseFault;
 use transcript::command::{Command, Word};
+use transcript::words::{both, only, text, texts};
 
 /// `has_no_zero TEXT`: whether no byte is zero.
 fn no_zero(alloc: Global, words: &[Word]) -> Result<Answer, CaseFault> {
-    let [word] = words else {
-        return Err(CaseFault::WrongWords);
-    };
-    let holds = has_no_zero(word.as_str()?);
-    Answer::line(alloc, if holds { "true" } else { "false" })
+    truth(alloc, has_no_zero(only(words)?))
 }
 
 /// `texts TEXT ..`: a list of texts, made of a vector of them again.
 fn text_list(alloc: Global, words: &[Word]) -> Result<Answer, CaseFault> {
-    let mut texts = TextList::new(alloc);
-    for word in words {
-        texts.push(word.as_text(alloc)?)?;
-    }
-    let list = TextList::from_vec(texts.into_vec());
-    let mut answer = Answer::new(alloc);
-    for text in list.as_slice() {
-        answer.push_line(text.as_str())?;
-    }
-    Ok(answer)
+    let list = TextList::from_vec(texts(alloc, words)?.into_vec());
+    Answer::texts(alloc, list.as_slice())
 }
 
 /// `insert TEXT VALUE`: gives a text a value in the map, and answers the one before.
 fn insert(alloc: Global, map: &mut TextMap<Text>, words: &[Word]) -> Result<Answer, CaseFault> {
-    let [word, value] = words else {
-        return Err(CaseFault::WrongWords);
-    };
-    match map.insert(word.as_text(alloc)?, value.as_text(alloc)?)? {
+    let (name, value) = both(words)?;
+    match map.insert(text(alloc, name)?, text(alloc, value)?)? {
         None => Answer::line(alloc, "none"),
         Some(before) => Answer::line(alloc, before.as_str()),
     }
@@ -43,28 +33,24 @@ fn insert(alloc: Global, map: &mut TextMap<Text>, words: &[Word]) -> Result<Answ
 
 /// `get TEXT`: the value of a text in the map.
 fn get(alloc: Global, map: &TextMap<Text>, words: &[Word]) -> Result<Answer, CaseFault> {
-    let [word] = words else {
-        return Err(CaseFault::WrongWords);
-    };
-    match map.get(&word.as_text(alloc)?) {
+    match map.get(&text(alloc, only(words)?)?) {
         None => Answer::line(alloc, "none"),
         Some(value) => Answer::line(alloc, value.as_str()),
     }
 }
 
-/// Carries out a command on texts; None where it is none.
+/// Carries out a command on texts, or another one.
 pub fn text_command(
     alloc: Global,
-    map: &mut TextMap<Text>,
+    state: &mut InMemory,
     command: &Command,
-) -> Result<Option<Answer>, CaseFault> {
+) -> Result<Answer, CaseFault> {
     let words = command.words();
-    let answer = match command.name() {
-        "has_no_zero" => no_zero(alloc, words)?,
-        "texts" => text_list(alloc, words)?,
-        "insert" => insert(alloc, map, words)?,
-        "get" => get(alloc, map, words)?,
-        _ => return Ok(None),
-    };
-    Ok(Some(answer))
+    match command.name() {
+        "has_no_zero" => no_zero(alloc, words),
+        "texts" => text_list(alloc, words),
+        "insert" => insert(alloc, &mut state.map, words),
+        "get" => get(alloc, &state.map, words),
+        _ => path_command(alloc, state, command),
+    }
 }

@@ -1,4 +1,6 @@
 //! Commands that look at the host in memory.
+use crate::host::InMemory;
+use crate::host::sink_commands::sink_command;
 use b2_base::path::Path;
 use b2_host::children::ChildEvent;
 use b2_memory::job::Job;
@@ -125,15 +127,6 @@ fn given(alloc: Global, host: &MemoryHost) -> Result<Answer, CaseFault> {
     Ok(answer)
 }
 
-/// `reads`: the paths of the reads that were answered.
-fn reads(alloc: Global, host: &MemoryHost) -> Result<Answer, CaseFault> {
-    let mut answer = Answer::new(alloc);
-    for path in host.reads() {
-        answer.push_line(path.as_str())?;
-    }
-    Ok(answer)
-}
-
 /// `faults`: how often a call failed, and how often a wait did.
 fn faults(alloc: Global, host: &MemoryHost) -> Result<Answer, CaseFault> {
     let calls = host.fault_count();
@@ -141,21 +134,20 @@ fn faults(alloc: Global, host: &MemoryHost) -> Result<Answer, CaseFault> {
     Answer::line(alloc, format!(in alloc; "{calls}, waits {waits}")?.as_str())
 }
 
-/// Carries out a command that looks at the host; None where it is none.
+/// Carries out a command that looks at the host, or another one. `reads` shows the paths of the reads that were answered.
 pub fn look_command(
     alloc: Global,
-    host: &MemoryHost,
+    state: &mut InMemory,
     command: &Command,
-) -> Result<Option<Answer>, CaseFault> {
-    let answer = match command.name() {
-        "events" => events(alloc, host)?,
-        "files" => files(alloc, host)?,
-        "past" => past(alloc, host)?,
-        "running" => running(alloc, host)?,
-        "given" => given(alloc, host)?,
-        "reads" => reads(alloc, host)?,
-        "faults" => faults(alloc, host)?,
-        _ => return Ok(None),
-    };
-    Ok(Some(answer))
+) -> Result<Answer, CaseFault> {
+    match command.name() {
+        "events" => events(alloc, &state.host),
+        "files" => files(alloc, &state.host),
+        "past" => past(alloc, &state.host),
+        "running" => running(alloc, &state.host),
+        "given" => given(alloc, &state.host),
+        "reads" => Answer::paths(alloc, state.host.reads()),
+        "faults" => faults(alloc, &state.host),
+        _ => sink_command(alloc, &mut state.sink, command),
+    }
 }

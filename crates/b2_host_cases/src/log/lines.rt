@@ -1,11 +1,12 @@
 //! Lines of the log that are given as words.
 
-use crate::record_words::record_of;
-use crate::words::{path_of, paths_of, stamp_of};
+use crate::log::record_words::record_of;
+use crate::log::words::stamp;
 use b2_log::line::{IncludeList, LogLine, ScanLine};
 use std::alloc::Global;
 use transcript::case_fault::CaseFault;
 use transcript::command::Word;
+use transcript::words::{first, path, paths};
 
 fn is_quoted(mark: &str) -> Result<bool, CaseFault> {
     match mark {
@@ -39,25 +40,23 @@ fn includes_of(alloc: Global, words: &[Word]) -> Result<IncludeList, CaseFault> 
 
 /// The scan of these words: its path, its stamp, and of each include its mark and its name.
 pub fn scan_of(alloc: Global, words: &[Word]) -> Result<ScanLine, CaseFault> {
-    let [path, stamp, rest @ ..] = words else {
+    let [name, time, rest @ ..] = words else {
         return Err(CaseFault::WrongWords);
     };
-    let includes = includes_of(alloc, rest)?;
+    let stamp = stamp(time.as_str()?)?;
     Ok(ScanLine {
-        path: path_of(alloc, path)?,
-        stamp: stamp_of(stamp)?,
-        includes,
+        path: path(alloc, name.as_str()?)?,
+        stamp,
+        includes: includes_of(alloc, rest)?,
     })
 }
 
 /// The line of these words: its kind, and what it takes.
 pub fn line_of(alloc: Global, words: &[Word]) -> Result<LogLine, CaseFault> {
-    let Some((kind, rest)) = words.split_first() else {
-        return Err(CaseFault::WrongWords);
-    };
-    match kind.as_str()? {
+    let (kind, rest) = first(words)?;
+    match kind {
         "record" => Ok(LogLine::Record(record_of(alloc, rest)?)),
-        "drop" => Ok(LogLine::Drop(paths_of(alloc, rest)?)),
+        "drop" => Ok(LogLine::Drop(paths(alloc, rest)?)),
         "scan" => Ok(LogLine::Scan(scan_of(alloc, rest)?)),
         _ => Err(CaseFault::WrongWords),
     }
