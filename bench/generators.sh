@@ -1,13 +1,13 @@
 #!/bin/sh
 # Prints the seconds and the memory that registering types and generators, and the search for a chain among them, take. It
-# first builds crates/b2_refine_cases.
+# first builds crates/b2_props_cases.
 set -eu
 top=$(cd "$(dirname "$0")/.." && pwd)
 work=$(mktemp -d)
 trap 'rm -rf "$work"' EXIT
-(cd "$top/crates/b2_refine_cases" && rt run >/dev/null 2>&1) || true
-program=$top/crates/b2_refine_cases/out/b2_refine_cases
-[ -x "$program" ] || { echo "b2_refine_cases is not proved or not built" >&2; exit 1; }
+(cd "$top/crates/b2_props_cases" && rt run >/dev/null 2>&1) || true
+program=$top/crates/b2_props_cases/out/b2_props_cases
+[ -x "$program" ] || { echo "b2_props_cases is not proved or not built" >&2; exit 1; }
 cd "$work"
 
 part() {
@@ -26,14 +26,14 @@ layers() {
 }
 
 for count in 500 5000; do
-    layers $count > commands
+    { echo "part refinement"; layers $count; } > commands
     part "$((2 * count)) types in $count layers of two, registered"
     echo "chain T0.a T$((count - 1)).b" >> commands
     part "$((2 * count)) types in $count layers of two, and a chain through them"
 done
 
 for count in 1000 10000; do
-    { echo "register_type A"; awk -v n=$count 'BEGIN {
+    { echo "part refinement"; echo "register_type A"; awk -v n=$count 'BEGIN {
         for (i = 0; i < n; i++) printf "register_type T%d\n", i
         for (i = 0; i < n; i++) printf "register in%d A : T%d\nregister on%d T%d : T%d\n", i, i, i, i, (i + 1) % n
     }'; } > commands

@@ -43,6 +43,16 @@ pub struct Rules {
     pub rules: Vec<Rule>,
 }
 
+impl Rules {
+    /// No rules.
+    pub fn new(alloc: Global) -> Rules {
+        Rules {
+            alloc,
+            rules: Vec::new(alloc),
+        }
+    }
+}
+
 fn has_all(set: &Props, conditions: &PairList) -> bool {
     conditions
         .as_slice()

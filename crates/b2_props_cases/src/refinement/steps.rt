@@ -1,17 +1,14 @@
 //! The commands that make calls.
-ghost use Rattle.std.specs.Prelude.{◌≡◌, ◌↔◌, All, IfOk, IsTrue};
-ghost use Rattle.b2_props.specs.Sets.{IsSet};
+ghost use Rattle.std.specs.Prelude.{◌↔◌, All, IsTrue};
 ghost use Rattle.b2_refine.specs.Answers.{AsksBelow};
 
-use crate::rules::{Row, Rule, RuleFault, Rules};
-use crate::shown::{ok, set_line, unstable_lines};
-use crate::words::{first, halves, only, pair, pairs, texts};
-use b2_base::fault::OutOfMemory;
-use b2_base::text::Text;
+use crate::pairs::{given, made, pair, pairs};
+use crate::refinement::rules::{Row, Rule, RuleFault, Rules};
+use crate::shown::{ok, push_pairs, set_line};
 use b2_features::registry::Registry;
 use b2_props::pair_list::PairList;
 use b2_props::props::Props;
-use b2_props::refinement::{expand, set_of};
+use b2_props::refinement::expand;
 use b2_props::requirement::Requirement;
 use b2_refine::choice::{Choice, choose};
 use b2_refine::evaluate::evaluate;
@@ -20,48 +17,11 @@ use std::alloc::Global;
 use transcript::answer::Answer;
 use transcript::case_fault::CaseFault;
 use transcript::command::Word;
-
-pub fn feature(
-    alloc: Global,
-    registry: &mut Registry,
-    words: &[Word],
-) -> Result<Answer, CaseFault> {
-    let (name, words) = first(words)?;
-    let name = name.as_text(alloc)?;
-    let (values, attributes) = halves(words);
-    let values = texts(alloc, values)?;
-    let attributes = texts(alloc, attributes)?;
-    match registry.feature(name.as_str(), values.as_slice(), attributes.as_slice()) {
-        Ok(()) => ok(alloc),
-        Err(_) => Err(CaseFault::WrongWords),
-    }
-}
-
-pub fn compose(
-    alloc: Global,
-    registry: &mut Registry,
-    words: &[Word],
-) -> Result<Answer, CaseFault> {
-    let (composite, words) = first(words)?;
-    let (name, value) = pair(alloc, composite)?;
-    let parts = pairs(alloc, words)?;
-    match registry.compose(name.as_str(), value.as_str(), parts.as_slice()) {
-        Ok(()) => ok(alloc),
-        Err(_) => Err(CaseFault::WrongWords),
-    }
-}
-
-/// The set that pairs make.
-fn made(alloc: Global, registry: &Registry, pairs: &[(Text, Text)]) -> Result<Props, OutOfMemory>
-    ensures { IfOk result (λ made. IsSet registry.now made) }
-{
-    set_of(alloc, registry, pairs)
-}
+use transcript::words::{halves, no_words, only, text};
 
 /// The whole set of a request.
 pub fn whole(alloc: Global, registry: &Registry, words: &[Word]) -> Result<Props, CaseFault> {
-    let pairs = pairs(alloc, words)?;
-    let set = made(alloc, registry, pairs.as_slice())?;
+    let set = given(alloc, registry, words)?;
     Ok(expand(alloc, registry, &set)?)
 }
 
@@ -80,7 +40,7 @@ pub fn requirement(alloc: Global, words: &[Word]) -> Result<Requirement, CaseFau
 }
 
 pub fn indirect(words: &[Word]) -> Result<Requirement, CaseFault> {
-    match only(words)?.as_str()?.parse::<usize>() {
+    match only(words)?.parse::<usize>() {
         Ok(rule) => Ok(Requirement::Indirect { rule }),
         Err(_) => Err(CaseFault::WrongWords),
     }
@@ -99,7 +59,7 @@ pub fn row(alloc: Global, words: &[Word]) -> Result<Row, CaseFault> {
 /// A row that answers with a fault.
 pub fn fault_row(alloc: Global, words: &[Word]) -> Result<Row, CaseFault> {
     let (conditions, word) = halves(words);
-    let word = only(word)?.as_text(alloc)?;
+    let word = text(alloc, only(word)?)?;
     Ok(Row {
         conditions: pairs(alloc, conditions)?,
         properties: PairList::new(alloc),
@@ -107,7 +67,8 @@ pub fn fault_row(alloc: Global, words: &[Word]) -> Result<Row, CaseFault> {
     })
 }
 
-pub fn add_rule(alloc: Global, rules: &mut Rules) -> Result<Answer, CaseFault> {
+pub fn add_rule(alloc: Global, rules: &mut Rules, words: &[Word]) -> Result<Answer, CaseFault> {
+    no_words(words)?;
     rules.rules.push(Rule {
         rows: Vec::new(alloc),
     })?;
@@ -141,14 +102,26 @@ fn all_ask_below(required: &[Requirement], count: usize) -> bool
         .all(|requirement| asks_below(requirement, count))
 }
 
-fn refused(alloc: Global, fault: RefineFault<RuleFault>) -> Result<Answer, CaseFault> {
+fn push_set(answer: &mut Answer, alloc: Global, set: &Props) -> Result<(), CaseFault> {
+    let mut line = String::new(alloc);
+    push_pairs(&mut line, set.pairs())?;
+    answer.push_line(line.as_str())
+}
+
+/// The two sets of which neither stays.
+fn unstable_lines(alloc: Global, first: &Props, second: &Props) -> Result<Answer, CaseFault> {
+    let mut answer = Answer::line(alloc, "unstable")?;
+    push_set(&mut answer, alloc, first)?;
+    push_set(&mut answer, alloc, second)?;
+    Ok(answer)
+}
+
+fn refused(alloc: Global, fault: &RefineFault<RuleFault>) -> Result<Answer, CaseFault> {
     match fault {
-        RefineFault::Unstable { first, second } => unstable_lines(alloc, &first, &second),
+        RefineFault::Unstable { first, second } => unstable_lines(alloc, first, second),
         RefineFault::Asked(RuleFault::Word(word)) => {
-            Answer::line(
-                alloc,
-                format!(in alloc; "asked {}", word.as_str())?.as_str(),
-            )
+            let word = word.as_str();
+            Answer::line(alloc, format!(in alloc; "asked {word}")?.as_str())
         }
         RefineFault::Asked(RuleFault::OutOfMemory) => Err(CaseFault::OutOfMemory),
         RefineFault::OutOfMemory => Err(CaseFault::OutOfMemory),
@@ -168,7 +141,11 @@ pub fn evaluated(
     }
     match evaluate(alloc, registry, &request, required, rules) {
         Ok(set) => set_line(alloc, &set),
-        Err(fault) => refused(alloc, fault),
+        Err(fault) => {
+            let answer = refused(alloc, &fault);
+            drop(fault);
+            answer
+        }
     }
 }
 

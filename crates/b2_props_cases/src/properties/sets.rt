@@ -1,38 +1,21 @@
 //! Commands to sets of properties. The set at hand is made again of its pairs, since the table may have changed.
-ghost use Rattle.std.specs.Prelude.{IfOk};
-ghost use Rattle.b2_props.specs.Sets.{IsSet};
-
-use crate::shown::{push_sets, push_targets, refusal, set_line, truth};
-use crate::words::{no_words, only, pair, pairs, texts};
-use b2_base::fault::OutOfMemory;
+use crate::declaring::refusal;
+use crate::pairs::{made, pair, pairs};
+use crate::properties::shown::{push_sets, push_targets};
+use crate::shown::{set_line, truth};
 use b2_base::text::Text;
 use b2_features::registry::Registry;
 use b2_props::elements;
 use b2_props::pair_index::PairIndex;
 use b2_props::props::Props;
-use b2_props::refinement::{expand, refine, set_of};
+use b2_props::refinement::{expand, refine};
 use b2_props::request::{Request, read_request};
 use b2_props::request_fault::RequestFault;
 use std::alloc::Global;
 use transcript::answer::Answer;
 use transcript::case_fault::CaseFault;
 use transcript::command::Word;
-
-/// The set that pairs make.
-pub fn made(
-    alloc: Global,
-    registry: &Registry,
-    pairs: &[(Text, Text)],
-) -> Result<Props, OutOfMemory>
-    ensures { IfOk result (λ made. IsSet registry.now made) }
-{
-    set_of(alloc, registry, pairs)
-}
-
-pub fn given(alloc: Global, registry: &Registry, words: &[Word]) -> Result<Props, CaseFault> {
-    let pairs = pairs(alloc, words)?;
-    Ok(made(alloc, registry, pairs.as_slice())?)
-}
+use transcript::words::{no_words, only, texts};
 
 pub fn expanded(
     alloc: Global,
@@ -117,6 +100,10 @@ pub fn request(alloc: Global, registry: &Registry, words: &[Word]) -> Result<Ans
     let words = texts(alloc, words)?;
     match read_request(alloc, registry, words.as_slice()) {
         Ok(request) => asked(alloc, &request),
-        Err(fault) => refused(alloc, &fault),
+        Err(fault) => {
+            let answer = refused(alloc, &fault);
+            drop(fault);
+            answer
+        }
     }
 }

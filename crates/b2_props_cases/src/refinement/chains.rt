@@ -1,16 +1,22 @@
 //! The command that asks for a chain.
+use crate::pairs::given;
 use crate::shown::push_texts;
-use crate::words::{first, pairs};
 use b2_base::text::Text;
 use b2_features::registry::Registry;
-use b2_generators::chain::chain;
+use b2_generators::chain::{GenChain, chain};
 use b2_generators::fault::ChainFault;
 use b2_generators::types::Types;
-use b2_props::refinement::set_of;
 use std::alloc::Global;
 use transcript::answer::Answer;
 use transcript::case_fault::CaseFault;
 use transcript::command::Word;
+use transcript::words::{first, text};
+
+fn chain_line(alloc: Global, chain: &GenChain) -> Result<Answer, CaseFault> {
+    let mut line = String::from_str(alloc, "chain")?;
+    push_texts(&mut line, chain.ids.as_slice())?;
+    Answer::line(alloc, line.as_str())
+}
 
 fn no_chain(alloc: Global, from: &Text, to: &Text) -> Result<Answer, CaseFault> {
     let from = from.as_str();
@@ -59,15 +65,15 @@ pub fn found_chain(
 ) -> Result<Answer, CaseFault> {
     let (from, words) = first(words)?;
     let (to, words) = first(words)?;
-    let from = from.as_text(alloc)?;
-    let to = to.as_text(alloc)?;
-    let set = set_of(alloc, registry, pairs(alloc, words)?.as_slice())?;
+    let from = text(alloc, from)?;
+    let to = text(alloc, to)?;
+    let set = given(alloc, registry, words)?;
     match chain(alloc, types, from.as_str(), to.as_str(), &set) {
-        Ok(chain) => {
-            let mut line = String::from_str(alloc, "chain")?;
-            push_texts(&mut line, chain.ids.as_slice())?;
-            Answer::line(alloc, line.as_str())
+        Ok(chain) => chain_line(alloc, &chain),
+        Err(fault) => {
+            let answer = refused(alloc, &fault);
+            drop(fault);
+            answer
         }
-        Err(fault) => refused(alloc, &fault),
     }
 }

@@ -1,25 +1,15 @@
 //! The commands that declare the gcc toolset.
-use crate::shown::{ok, truth};
-use crate::types::ask_types;
-use crate::words::no_words;
+use crate::refinement::types::type_command;
+use crate::shown::told;
 use b2_base::text::Text;
-use b2_features::registry::Registry;
-use b2_gcc::features::declare_features;
 use b2_gcc::text::gcc_text;
 use b2_gcc::types::{declare_generators, declare_types};
 use b2_generators::types::Types;
 use std::alloc::Global;
 use transcript::answer::Answer;
 use transcript::case_fault::CaseFault;
-use transcript::command::Word;
-
-fn declared(alloc: Global, registry: &mut Registry, words: &[Word]) -> Result<Answer, CaseFault> {
-    no_words(words)?;
-    match declare_features(alloc, registry) {
-        Ok(()) => ok(alloc),
-        Err(_) => Err(CaseFault::WrongWords),
-    }
-}
+use transcript::command::{Command, Word};
+use transcript::words::no_words;
 
 fn text_lines(alloc: Global, command: Option<&Text>) -> Result<Answer, CaseFault> {
     let bytes = gcc_text(alloc, command)?;
@@ -41,19 +31,23 @@ fn shown_text(alloc: Global, words: &[Word]) -> Result<Answer, CaseFault> {
     }
 }
 
-/// Carries out a command that declares a part of the toolset, or calls types or generators.
-pub fn ask_gcc(
+/// Declares a part of the toolset or shows its text, or carries out another command.
+pub fn gcc_command(
     alloc: Global,
-    registry: &mut Registry,
     types: &mut Types,
-    name: &str,
-    words: &[Word],
+    command: &Command,
 ) -> Result<Answer, CaseFault> {
-    match name {
-        "declare_features" => declared(alloc, registry, words),
-        "declare_types" => truth(alloc, declare_types(alloc, types)?),
-        "declare_generators" => truth(alloc, declare_generators(alloc, types)?),
+    let words = command.words();
+    match command.name() {
+        "declare_types" => {
+            no_words(words)?;
+            told(alloc, declare_types(alloc, types))
+        }
+        "declare_generators" => {
+            no_words(words)?;
+            told(alloc, declare_generators(alloc, types))
+        }
         "gcc_text" => shown_text(alloc, words),
-        _ => ask_types(alloc, types, name, words),
+        _ => type_command(alloc, types, command),
     }
 }
