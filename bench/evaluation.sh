@@ -10,9 +10,10 @@ program=$top/crates/jam_interp_cases/out/jam_interp_cases
 [ -x "$program" ] || { echo "jam_interp_cases is not proved or not built" >&2; exit 1; }
 cd "$work"
 
-# part NAME: runs the commands of the file `commands`
+# part NAME: runs the commands of the file `commands`, which are those of evaluation
 part() {
-    python3 "$top/bench/measure.py" "$1" sh -c 'exec "$0" < commands' "$program"
+    { echo 'part evaluation'; cat commands; } > all
+    python3 "$top/bench/measure.py" "$1" sh -c 'exec "$0" < all' "$program"
 }
 
 # file: the standard input as files that are run one after the other, of 20,000 lines, since a text may have 1 MiB

@@ -1,23 +1,14 @@
-//! The cases of evaluation, over files in memory and the native rules. The text lines of a command are statements.
+//! The cases of evaluation, and of the world of a build file on which it works: names, rules, marks and native rules in the part
+//! `world`, statements that are run over files in memory in the part `evaluation`.
 //!
-//! - `new` begins anew: no files, an empty world, the global module, 1,000,000 turns for each run.
-//! - `file PATHS` puts a file with the text lines at each path; `module NAME` makes this the module of the files that are run.
-//! - `turns N` gives each run so many turns.
-//! - `run PATH` runs the text lines as a file of this path. It shows the lines of ECHO, then why it ended, unless all was done.
-//! - `call_rolled RULE LISTS` calls a rule with lists that are divided by `:`, and shows its value, a text on each line.
-//! - `step_text NAME : OUTS : INS : PROPERTIES` shows the text of a step, declared at line 1 of `Jamroot` in this module, and
-//!   what its rule noted.
-//! - `value NAMES` shows what variables hold in this module, `on TARGET NAMES` what they hold on a target. `left` shows the turns
-//!   that the last run left, and `decls` the recorded calls.
+//! `part NAME` says which part carries out the commands that follow; at first it is `world`. Each part has commands and a state of
+//! its own, which stays as it is while the other one is at hand.
 #![tactic(auto)]
 
-mod calls;
-mod faults;
-mod looks;
-mod machine;
-mod running;
+mod evaluation;
+mod host_files;
 mod session;
-mod steps;
+mod world;
 
 use crate::session::Cases;
 use std::io;

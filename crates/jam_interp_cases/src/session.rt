@@ -1,123 +1,67 @@
-//! The session of a transcript.
-use crate::calls::call_rule;
-use crate::looks::{decls, own_values, values};
-use crate::machine::Machine;
-use crate::running::run_text;
-use crate::steps::text_of_step;
+//! The parts of the transcript.
+use crate::evaluation::session::Evaluation;
+use crate::world::session::Scene;
 use b2_base::fault::OutOfMemory;
-use b2_base::text::Text;
-use jam_interp::turns::Turns;
 use std::alloc::Global;
 use transcript::answer::Answer;
 use transcript::case_fault::CaseFault;
 use transcript::command::{Command, Word};
 use transcript::session::Session;
-use transcript::words::{number, only, path};
+use transcript::words::only;
 
-/// A machine, the module of the files that are run, and the turns of a run.
-#[derive(Drop)]
-pub struct Cases {
-    machine: Box<Machine>,
-    module: Text,
-    budget: u32,
-    left: u32,
+/// A part, which carries out commands of its own.
+#[derive(Clone, Copy)]
+enum Part {
+    World,
+    Evaluation,
 }
 
-/// The one word that a command takes, as a text.
-fn only_text(alloc: Global, words: &[Word]) -> Result<Text, CaseFault> {
-    match words {
-        [word] => word.as_text(alloc),
+/// The states of the parts, and the part at hand.
+///
+/// What a part puts in place of a world, of native rules or of a host lets them be, until the process ends: a program that takes
+/// them apart proves the drop of all that they hold, which costs more than the proof of its commands.
+#[derive(Drop)]
+pub struct Cases {
+    scene: Scene,
+    evaluation: Evaluation,
+    at_hand: Part,
+}
+
+/// The part that the one word names.
+fn named_part(words: &[Word]) -> Result<Part, CaseFault> {
+    match only(words)? {
+        "world" => Ok(Part::World),
+        "evaluation" => Ok(Part::Evaluation),
         _ => Err(CaseFault::WrongWords),
     }
 }
 
 impl Cases {
-    /// An empty world without files.
+    /// Each part as it is at first; the world is at hand.
     pub fn new(alloc: Global) -> Result<Cases, OutOfMemory> {
-        let machine = Box::new(alloc, Machine::new(alloc)?)?;
-        let module = Text::new(alloc, "")?;
+        let scene = Scene::new(alloc)?;
+        let evaluation = Evaluation::new(alloc)?;
         Ok(Cases {
-            machine,
-            module,
-            budget: 1_000_000,
-            left: 0,
+            scene,
+            evaluation,
+            at_hand: Part::World,
         })
     }
 
-    fn file(&mut self, alloc: Global, command: &Command) -> Result<Answer, CaseFault> {
-        for word in command.words() {
-            let at = path(alloc, word.as_str()?)?;
-            if self.machine.host.running().is_empty() {
-                let bytes = command.text().as_bytes();
-                self.machine.host.edit(&at, Some(bytes))?;
-            }
-        }
-        Ok(Answer::new(alloc))
-    }
-
-    fn run(&mut self, alloc: Global, command: &Command) -> Result<Answer, CaseFault> {
-        let at = path(alloc, only(command.words())?)?;
-        let mut turns = Turns::new(self.budget);
-        let module = self.module.as_str();
-        let answer = run_text(
-            alloc,
-            &mut self.machine,
-            module,
-            &at,
-            command.text(),
-            &mut turns,
-        );
-        self.left = turns.left;
-        answer
-    }
-
-    fn call(&mut self, alloc: Global, words: &[Word]) -> Result<Answer, CaseFault> {
-        let mut turns = Turns::new(self.budget);
-        let module = self.module.as_str();
-        let answer = call_rule(alloc, &mut self.machine, module, words, &mut turns);
-        self.left = turns.left;
-        answer
-    }
-
-    fn step(&mut self, alloc: Global, words: &[Word]) -> Result<Answer, CaseFault> {
-        let mut turns = Turns::new(self.budget);
-        let answer = text_of_step(alloc, &mut self.machine, &self.module, words, &mut turns);
-        self.left = turns.left;
-        answer
-    }
-
-    fn renew(&mut self, alloc: Global) -> Result<Answer, CaseFault> {
-        *self = Cases::new(alloc)?;
-        Ok(Answer::new(alloc))
-    }
-
-    fn turns(&mut self, alloc: Global, words: &[Word]) -> Result<Answer, CaseFault> {
-        self.budget = number(only(words)?)?;
-        Ok(Answer::new(alloc))
-    }
-
-    fn module(&mut self, alloc: Global, words: &[Word]) -> Result<Answer, CaseFault> {
-        self.module = only_text(alloc, words)?;
+    fn turn_to(&mut self, alloc: Global, words: &[Word]) -> Result<Answer, CaseFault> {
+        self.at_hand = named_part(words)?;
         Ok(Answer::new(alloc))
     }
 }
 
 impl Session for Cases {
     fn carry_out(&mut self, alloc: Global, command: &Command) -> Result<Answer, CaseFault> {
-        let words = command.words();
-        match command.name() {
-            "new" => self.renew(alloc),
-            "turns" => self.turns(alloc, words),
-            "module" => self.module(alloc, words),
-            "file" => self.file(alloc, command),
-            "run" => self.run(alloc, command),
-            "call_rolled" => self.call(alloc, words),
-            "step_text" => self.step(alloc, words),
-            "value" => values(alloc, &mut self.machine, self.module.as_str(), words),
-            "on" => own_values(alloc, &self.machine, words),
-            "left" => Answer::number(alloc, self.left as u64),
-            "decls" => decls(alloc, &self.machine),
-            _ => Err(CaseFault::UnknownCommand),
+        if command.name() == "part" {
+            return self.turn_to(alloc, command.words());
+        }
+        match self.at_hand {
+            Part::World => self.scene.carry_out(alloc, command),
+            Part::Evaluation => self.evaluation.carry_out(alloc, command),
         }
     }
 }

@@ -1,25 +1,18 @@
 //! Texts of steps.
-use crate::faults::fault_answer;
-use crate::machine::Machine;
+use crate::evaluation::faults::fault_answer;
+use crate::evaluation::machine::Machine;
 use b2_base::text::Text;
 use b2_base::text_list::TextList;
 use jam_eval::step::{StepJob, StepText};
 use jam_interp::fault::EvalFault;
 use jam_interp::step::step_text;
 use jam_interp::turns::Turns;
-use jam_values::lists::copy_texts;
+use jam_values::lists::{copy_texts, list_at};
 use std::alloc::Global;
 use transcript::answer::Answer;
 use transcript::case_fault::CaseFault;
 use transcript::command::Word;
 use transcript::words::{lists, paths_of};
-
-fn list_at(lists: &[TextList], place: usize) -> &[Text] {
-    match lists.get(place) {
-        Some(list) => list.as_slice(),
-        None => &[],
-    }
-}
 
 fn name_of(lists: &[TextList]) -> Result<Text, CaseFault> {
     match list_at(lists, 0) {

@@ -1,6 +1,6 @@
 //! Commands on rules and actions.
-use crate::marking::marking_command;
-use crate::session::Cases;
+use crate::world::marking::marking_command;
+use crate::world::session::Scene;
 use b2_base::fault::OutOfMemory;
 use b2_base::text::Text;
 use jam_grammar::tree::Block;
@@ -130,20 +130,20 @@ fn set_parent(alloc: Global, world: &mut World, words: &[Word]) -> Result<Answer
 /// Carries out a command on rules and actions, or another one.
 pub fn rule_command(
     alloc: Global,
-    cases: &mut Cases,
+    scene: &mut Scene,
     command: &Command,
 ) -> Result<Answer, CaseFault> {
     let words = command.words();
     match command.name() {
-        "define_rule" => define_rule(alloc, &mut cases.world, words),
-        "define_actions" => define_actions(alloc, &mut cases.world, words),
-        "find_rule" => find_rule(alloc, &cases.world, words),
-        "find_actions" => find_actions(alloc, &cases.world, words),
-        "rule_body" => rule_body(alloc, &cases.world, words),
-        "import_rule" => import_rule(alloc, &mut cases.world, words),
-        "rule_at" => rule_at(alloc, &mut cases.world, words),
-        "rule_names" => Answer::texts(alloc, cases.world.rule_names(only(words)?)?.as_slice()),
-        "set_parent" => set_parent(alloc, &mut cases.world, words),
-        _ => marking_command(alloc, cases, command),
+        "define_rule" => define_rule(alloc, &mut scene.world, words),
+        "define_actions" => define_actions(alloc, &mut scene.world, words),
+        "find_rule" => find_rule(alloc, &scene.world, words),
+        "find_actions" => find_actions(alloc, &scene.world, words),
+        "rule_body" => rule_body(alloc, &scene.world, words),
+        "import_rule" => import_rule(alloc, &mut scene.world, words),
+        "rule_at" => rule_at(alloc, &mut scene.world, words),
+        "rule_names" => Answer::texts(alloc, scene.world.rule_names(only(words)?)?.as_slice()),
+        "set_parent" => set_parent(alloc, &mut scene.world, words),
+        _ => marking_command(alloc, scene, command),
     }
 }

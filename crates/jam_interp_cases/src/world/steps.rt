@@ -1,7 +1,6 @@
 //! Commands on the notes of a step.
-use crate::project::project_command;
-use crate::session::Cases;
-use b2_base::fault::OutOfMemory;
+use crate::world::project::project_command;
+use crate::world::session::Scene;
 use b2_base::path_list::PathList;
 use jam_scope::notes::StepNotes;
 use jam_scope::world::World;
@@ -24,18 +23,8 @@ fn open(
     Answer::done(alloc, world.open_step(outs.as_slice(), ins.as_slice()))
 }
 
-/// The outputs and the inputs of a step, which a word `:` divides; without one the first word is the only output.
-fn sides(words: &[Word]) -> (&[Word], &[Word]) {
-    let (outs, ins) = halves(words);
-    if outs.len() > 1 && outs.len() == words.len() {
-        (&words[..1], &words[1..])
-    } else {
-        (outs, ins)
-    }
-}
-
 fn open_step(alloc: Global, world: &mut World, words: &[Word]) -> Result<Answer, CaseFault> {
-    let (outs, ins) = sides(words);
+    let (outs, ins) = halves(words);
     let ins = paths(alloc, ins)?;
     open(alloc, world, outs, &ins)
 }
@@ -64,27 +53,30 @@ fn step(alloc: Global, world: &World) -> Result<Answer, CaseFault> {
 /// Carries out a command on a step, or another one.
 pub fn step_command(
     alloc: Global,
-    cases: &mut Cases,
+    scene: &mut Scene,
     command: &Command,
 ) -> Result<Answer, CaseFault> {
     let words = command.words();
     match command.name() {
-        "open_step" => open_step(alloc, &mut cases.world, words),
-        "step" => step(alloc, &cases.world),
+        "open_step" => open_step(alloc, &mut scene.world, words),
+        "step" => {
+            no_words(words)?;
+            step(alloc, &scene.world)
+        }
         "add_depends" => {
             let path = path(alloc, only(words)?)?;
-            Answer::done(alloc, cases.world.add_depends(path))
+            Answer::done(alloc, scene.world.add_depends(path))
         }
         "set_always" => {
             no_words(words)?;
-            cases.world.set_always();
+            scene.world.set_always();
             Ok(Answer::new(alloc))
         }
         "set_notfile" => {
             no_words(words)?;
-            cases.world.set_notfile();
+            scene.world.set_notfile();
             Ok(Answer::new(alloc))
         }
-        _ => project_command(alloc, cases, command),
+        _ => project_command(alloc, scene, command),
     }
 }

@@ -1,5 +1,5 @@
 //! Looking at the world.
-use crate::machine::Machine;
+use crate::evaluation::machine::Machine;
 use b2_base::look::Look;
 use b2_base::text::Text;
 use b2_base::text_list::TextList;

@@ -1,6 +1,6 @@
 //! Running files.
-use crate::faults::push_fault;
-use crate::machine::Machine;
+use crate::evaluation::faults::push_fault;
+use crate::evaluation::machine::Machine;
 use b2_base::path::Path;
 use jam_grammar::tree::Tree;
 use jam_interp::fault::EvalFault;

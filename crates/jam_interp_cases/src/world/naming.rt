@@ -1,6 +1,6 @@
 //! Commands on names and frames.
-use crate::rules::rule_command;
-use crate::session::Cases;
+use crate::world::rules::rule_command;
+use crate::world::session::Scene;
 use b2_base::look::Look;
 use jam_scope::world::World;
 use std::alloc::Global;
@@ -39,23 +39,23 @@ fn leave(alloc: Global, world: &mut World, words: &[Word]) -> Result<Answer, Cas
 /// Carries out a command on names and frames, or another one.
 pub fn naming_command(
     alloc: Global,
-    cases: &mut Cases,
+    scene: &mut Scene,
     command: &Command,
 ) -> Result<Answer, CaseFault> {
     let words = command.words();
     match command.name() {
-        "look" => Answer::texts(alloc, cases.world.look(only(words)?)),
-        "look_size" => Answer::number(alloc, cases.world.look(only(words)?).len() as u64),
-        "assigned" => Answer::texts(alloc, cases.world.assigned(only(words)?)),
-        "assigned_size" => Answer::number(alloc, cases.world.assigned_size(only(words)?)),
-        "set" => set(alloc, &mut cases.world, words),
-        "append" => append(alloc, &mut cases.world, words),
-        "bind" => bind(alloc, &mut cases.world, words),
-        "enter" => Answer::done(alloc, cases.world.enter(only(words)?)),
-        "enter_call" => Answer::done(alloc, cases.world.enter_call(only(words)?)),
-        "leave" => leave(alloc, &mut cases.world, words),
-        "module" => Answer::line(alloc, cases.world.module()),
-        "caller" => Answer::line(alloc, cases.world.caller()),
-        _ => rule_command(alloc, cases, command),
+        "look" => Answer::texts(alloc, scene.world.look(only(words)?)),
+        "look_size" => Answer::number(alloc, scene.world.look(only(words)?).len() as u64),
+        "assigned" => Answer::texts(alloc, scene.world.assigned(only(words)?)),
+        "assigned_size" => Answer::number(alloc, scene.world.assigned_size(only(words)?)),
+        "set" => set(alloc, &mut scene.world, words),
+        "append" => append(alloc, &mut scene.world, words),
+        "bind" => bind(alloc, &mut scene.world, words),
+        "enter" => Answer::done(alloc, scene.world.enter(only(words)?)),
+        "enter_call" => Answer::done(alloc, scene.world.enter_call(only(words)?)),
+        "leave" => leave(alloc, &mut scene.world, words),
+        "module" => Answer::line(alloc, scene.world.module()),
+        "caller" => Answer::line(alloc, scene.world.caller()),
+        _ => rule_command(alloc, scene, command),
     }
 }

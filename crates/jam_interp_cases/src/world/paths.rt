@@ -45,8 +45,8 @@ fn named_roots(alloc: Global, given: &[TextList]) -> Result<Answer, CaseFault> {
     }
 }
 
-/// Carries out a command on paths of a step or output roots.
-pub fn part_command(alloc: Global, command: &Command) -> Result<Answer, CaseFault> {
+/// Carries out a command on the paths of a step or on output roots.
+pub fn path_command(alloc: Global, command: &Command) -> Result<Answer, CaseFault> {
     let words = command.words();
     match command.name() {
         "first_foreign" => foreign(alloc, lists(alloc, words)?.as_slice()),

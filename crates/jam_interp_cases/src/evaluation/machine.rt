@@ -7,9 +7,6 @@ use std::alloc::Global;
 use std::mem::ManuallyDrop;
 
 /// A world with its natives and files.
-///
-/// What is put in place of them lets them be, until the process ends: a program that takes them apart proves the drop of all that
-/// they hold, which costs more than the proof of its commands.
 #[derive(Drop)]
 pub struct Machine {
     pub world: ManuallyDrop<World>,

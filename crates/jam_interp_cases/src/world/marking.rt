@@ -1,6 +1,6 @@
 //! Commands on marks, and on many calls at once.
-use crate::session::Cases;
-use crate::steps::step_command;
+use crate::world::session::Scene;
+use crate::world::steps::step_command;
 use b2_base::fault::OutOfMemory;
 use jam_scope::mark::Mark;
 use jam_scope::world::World;
@@ -8,7 +8,7 @@ use std::alloc::Global;
 use transcript::answer::Answer;
 use transcript::case_fault::CaseFault;
 use transcript::command::{Command, Word};
-use transcript::words::{first, named, no_words, number, only, texts};
+use transcript::words::{first, named, no_words, number, only};
 
 /// Goes back to the newest mark, and tells whether there is one.
 fn roll_one_back(world: &mut World, marks: &mut Vec<Mark>) -> bool {
@@ -97,28 +97,28 @@ fn marked_sets(
 /// Carries out a command on marks, or another one.
 pub fn marking_command(
     alloc: Global,
-    cases: &mut Cases,
+    scene: &mut Scene,
     command: &Command,
 ) -> Result<Answer, CaseFault> {
     let words = command.words();
     match command.name() {
         "mark" => {
             no_words(words)?;
-            Answer::done(alloc, mark(&mut cases.world, &mut cases.marks))
+            Answer::done(alloc, mark(&mut scene.world, &mut scene.marks))
         }
         "roll_back" => {
             no_words(words)?;
-            roll_back(alloc, &mut cases.world, &mut cases.marks, 1)
+            roll_back(alloc, &mut scene.world, &mut scene.marks, 1)
         }
         "roll_backs" => {
             let count = number(only(words)?)?;
-            roll_back(alloc, &mut cases.world, &mut cases.marks, count)
+            roll_back(alloc, &mut scene.world, &mut scene.marks, count)
         }
-        "marked" => Answer::yes_or_no(alloc, cases.world.marked()),
-        "sets" => sets(alloc, &mut cases.world, words),
-        "appends" => appends(alloc, &mut cases.world, words),
-        "appends_on" => appends_on(alloc, &mut cases.world, words),
-        "marked_sets" => marked_sets(alloc, &mut cases.world, &mut cases.marks, words),
-        _ => step_command(alloc, cases, command),
+        "marked" => Answer::yes_or_no(alloc, scene.world.marked()),
+        "sets" => sets(alloc, &mut scene.world, words),
+        "appends" => appends(alloc, &mut scene.world, words),
+        "appends_on" => appends_on(alloc, &mut scene.world, words),
+        "marked_sets" => marked_sets(alloc, &mut scene.world, &mut scene.marks, words),
+        _ => step_command(alloc, scene, command),
     }
 }

@@ -1,6 +1,6 @@
 //! Calls that leave the world as it is.
-use crate::faults::fault_answer;
-use crate::machine::Machine;
+use crate::evaluation::faults::fault_answer;
+use crate::evaluation::machine::Machine;
 use b2_base::text::has_no_zero;
 use b2_base::text_list::TextList;
 use jam_interp::fault::EvalFault;

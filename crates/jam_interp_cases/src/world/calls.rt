@@ -1,6 +1,6 @@
 //! Calls of native and declaring rules, and what they keep.
-use crate::files::file_command;
-use crate::session::Cases;
+use crate::world::files::file_command;
+use crate::world::session::Scene;
 use b2_base::text_list::TextList;
 use jam_eval::natives::{NativeError, NativeStep, Natives};
 use jam_natives::decl::Decl;
@@ -78,16 +78,33 @@ fn error_answer(alloc: Global, error: &NativeError) -> Result<Answer, CaseFault>
     }
 }
 
-fn call(alloc: Global, cases: &mut Cases, words: &[Word]) -> Result<Answer, CaseFault> {
+fn called(alloc: Global, ended: &Result<NativeStep, NativeError>) -> Result<Answer, CaseFault> {
+    match ended {
+        Ok(step) => step_answer(alloc, step),
+        Err(error) => error_answer(alloc, error),
+    }
+}
+
+/// Calls a rule with lists, and shows what came of it.
+fn call_shown(
+    alloc: Global,
+    scene: &mut Scene,
+    name: &str,
+    given: &[TextList],
+    line: u32,
+) -> Result<Answer, CaseFault> {
+    let ended = scene.natives.call(alloc, name, given, line, &mut scene.world, &mut *scene.host);
+    let answer = called(alloc, &ended);
+    drop(ended);
+    answer
+}
+
+fn call(alloc: Global, scene: &mut Scene, words: &[Word]) -> Result<Answer, CaseFault> {
     let (line, others) = first(words)?;
     let line = number(line)?;
     let (name, others) = first(others)?;
     let given = lists(alloc, others)?;
-    let given = given.as_slice();
-    match cases.natives.call(alloc, name, given, line, &mut cases.world, &mut *cases.host) {
-        Ok(step) => step_answer(alloc, &step),
-        Err(error) => error_answer(alloc, &error),
-    }
+    call_shown(alloc, scene, name, given.as_slice(), line)
 }
 
 fn push_decl(alloc: Global, answer: &mut Answer, decl: &Decl) -> Result<(), CaseFault> {
@@ -116,13 +133,13 @@ fn decls(alloc: Global, natives: &JamNatives) -> Result<Answer, CaseFault> {
 /// Carries out a command on calls, or another one.
 pub fn call_command(
     alloc: Global,
-    cases: &mut Cases,
+    scene: &mut Scene,
     command: &Command,
 ) -> Result<Answer, CaseFault> {
     match command.name() {
-        "call" => call(alloc, cases, command.words()),
-        "decls" => decls(alloc, &cases.natives),
-        "echoes" => Answer::texts(alloc, cases.natives.echoes()),
-        _ => file_command(alloc, &mut cases.host, command),
+        "call" => call(alloc, scene, command.words()),
+        "decls" => decls(alloc, &scene.natives),
+        "echoes" => Answer::texts(alloc, scene.natives.echoes()),
+        _ => file_command(alloc, &mut scene.host, command),
     }
 }

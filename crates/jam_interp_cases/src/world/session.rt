@@ -1,5 +1,5 @@
 //! The world at hand with its native rules and files.
-use crate::naming::naming_command;
+use crate::world::naming::naming_command;
 use b2_base::fault::OutOfMemory;
 use b2_memory::memory::MemoryHost;
 use jam_natives::natives::JamNatives;
@@ -14,23 +14,20 @@ use transcript::session::Session;
 use transcript::words::no_words;
 
 /// A world, the marks that were made of it, the newest last, the native rules with what they keep, and a host in memory.
-///
-/// What is put in place of a world, of rules or of a host lets them be, until the process ends: a program that takes them apart
-/// proves the drop of all that they hold, which costs more than the proof of its commands.
 #[derive(Drop)]
-pub struct Cases {
+pub struct Scene {
     pub host: ManuallyDrop<MemoryHost>,
     pub natives: ManuallyDrop<JamNatives>,
     pub marks: Vec<Mark>,
     pub world: ManuallyDrop<World>,
 }
 
-impl Cases {
+impl Scene {
     /// A new world without a mark, nothing kept, and no files.
-    pub fn new(alloc: Global) -> Result<Cases, OutOfMemory> {
+    pub fn new(alloc: Global) -> Result<Scene, OutOfMemory> {
         let host = ManuallyDrop::new(MemoryHost::new(alloc)?);
         let world = ManuallyDrop::new(World::new(alloc)?);
-        Ok(Cases {
+        Ok(Scene {
             host,
             natives: ManuallyDrop::new(JamNatives::new(alloc)),
             marks: Vec::new(alloc),
@@ -40,12 +37,12 @@ impl Cases {
 
     fn renew(&mut self, alloc: Global, words: &[Word]) -> Result<Answer, CaseFault> {
         no_words(words)?;
-        *self = Cases::new(alloc)?;
+        *self = Scene::new(alloc)?;
         Ok(Answer::new(alloc))
     }
 }
 
-impl Session for Cases {
+impl Session for Scene {
     fn carry_out(&mut self, alloc: Global, command: &Command) -> Result<Answer, CaseFault> {
         match command.name() {
             "new" => self.renew(alloc, command.words()),

@@ -1,4 +1,4 @@
-//! The cases of the world of a build file, and of the native rules that are called in it. A world is at hand, with the marks that
+//! The part `world`: the world of a build file, and the native rules that are called in it. A world is at hand, with the marks that
 //! were made of it, the native rules with what they keep, and a host in memory; all are new at first. Each command that makes a call
 //! has its name; VALUE stands for any number of words, LISTS for lists of words that are divided by `:`.
 //!
@@ -18,7 +18,7 @@
 //! - `set_on TARGET NAME VALUE`, `append_on TARGET NAME VALUE`, `on_target TARGET NAME` and `own_size TARGET NAME` set an own value
 //!   of a target, add to it, show it, and show its size. `own_names TARGET` shows its names, and `bind_own TARGET` binds them in
 //!   the newest frame, or answers `no frame` as `bind` does.
-//! - `open_step OUTS : INS`, or `open_step OUT INS`, opens a step, or answers `open` where one is; `step` shows its notes.
+//! - `open_step OUTS : INS` opens a step, or answers `open` where one is; `step` shows its notes.
 //!   `add_depends PATH`, `set_always` and `set_notfile` note something of it.
 //! - `set_place DIR`, `place`, `add_roots DIRS`, `freeze_roots` and `roots` are about the project's directory and the output
 //!   roots.
@@ -36,27 +36,14 @@
 //! - `shape NAME LISTS` tells whether a native rule takes the lists, and `is_declaring NAME` whether a rule of the name declares.
 //! - `root_paths LISTS` shows the output roots that a call of `project` with these lists names.
 //! - `first_foreign OUTS : INS : ADDED : TARGETS : SOURCES` shows the first text that a step has no place for.
-#![tactic(auto)]
 
 mod calls;
 mod files;
 mod marking;
 mod naming;
-mod parts;
+mod paths;
 mod project;
 mod rules;
-mod session;
+pub mod session;
 mod steps;
 mod texts;
-
-use crate::session::Cases;
-use std::io;
-use std::process::ExitCode;
-use transcript::session::run;
-
-fn main(rt: HostRuntime) -> io::Result<ExitCode> {
-    match Cases::new(rt.alloc()) {
-        Ok(mut cases) => run(&rt, &mut cases),
-        Err(_) => Err(io::Error::from(io::ErrorKind::OutOfMemory)),
-    }
-}

@@ -1,6 +1,6 @@
 //! Commands on own values of targets, the project's directory and the output roots.
-use crate::calls::call_command;
-use crate::session::Cases;
+use crate::world::calls::call_command;
+use crate::world::session::Scene;
 use jam_scope::world::World;
 use std::alloc::Global;
 use transcript::answer::Answer;
@@ -55,26 +55,26 @@ fn add_roots(alloc: Global, world: &mut World, words: &[Word]) -> Result<Answer,
 /// Carries out a command on a project, or another one.
 pub fn project_command(
     alloc: Global,
-    cases: &mut Cases,
+    scene: &mut Scene,
     command: &Command,
 ) -> Result<Answer, CaseFault> {
     let words = command.words();
     match command.name() {
-        "set_on" => set_on(alloc, &mut cases.world, words),
-        "append_on" => append_on(alloc, &mut cases.world, words),
-        "own_size" => own_size(alloc, &cases.world, words),
-        "on_target" => on_target(alloc, &cases.world, words),
-        "own_names" => Answer::texts(alloc, cases.world.own_names(only(words)?)?.as_slice()),
-        "bind_own" => bind_own(alloc, &mut cases.world, words),
-        "set_place" => set_place(alloc, &mut cases.world, words),
-        "place" => Answer::line(alloc, cases.world.place().as_str()),
-        "add_roots" => add_roots(alloc, &mut cases.world, words),
+        "set_on" => set_on(alloc, &mut scene.world, words),
+        "append_on" => append_on(alloc, &mut scene.world, words),
+        "own_size" => own_size(alloc, &scene.world, words),
+        "on_target" => on_target(alloc, &scene.world, words),
+        "own_names" => Answer::texts(alloc, scene.world.own_names(only(words)?)?.as_slice()),
+        "bind_own" => bind_own(alloc, &mut scene.world, words),
+        "set_place" => set_place(alloc, &mut scene.world, words),
+        "place" => Answer::line(alloc, scene.world.place().as_str()),
+        "add_roots" => add_roots(alloc, &mut scene.world, words),
         "freeze_roots" => {
             no_words(words)?;
-            cases.world.freeze_roots();
+            scene.world.freeze_roots();
             Ok(Answer::new(alloc))
         }
-        "roots" => Answer::paths(alloc, cases.world.roots()),
-        _ => call_command(alloc, cases, command),
+        "roots" => Answer::paths(alloc, scene.world.roots()),
+        _ => call_command(alloc, scene, command),
     }
 }

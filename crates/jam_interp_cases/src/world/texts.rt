@@ -1,5 +1,6 @@
 //! Commands on texts.
-use crate::parts::part_command;
+use crate::world::paths::path_command;
+use b2_base::text_list::TextList;
 use jam_natives::list::{list_at, text_of};
 use jam_natives::native::{is_declaring, native_of, shape_of};
 use jam_natives::pattern_match::match_all;
@@ -34,11 +35,12 @@ fn after(alloc: Global, words: &[Word]) -> Result<Answer, CaseFault> {
     Answer::texts(alloc, found.as_slice())
 }
 
-fn matched(alloc: Global, words: &[Word]) -> Result<Answer, CaseFault> {
-    let given = lists(alloc, words)?;
-    let given = given.as_slice();
-    match match_all(alloc, list_at(given, 0), list_at(given, 1)) {
-        Ok(found) => Answer::texts(alloc, found.as_slice()),
+fn groups_answer(
+    alloc: Global,
+    found: &Result<TextList, PatternFault>,
+) -> Result<Answer, CaseFault> {
+    match found {
+        Ok(groups) => Answer::texts(alloc, groups.as_slice()),
         Err(PatternFault::Refused(refusal)) => {
             let text = refusal.text();
             let why = if refusal.syntax() { "no" } else { "refused" };
@@ -46,6 +48,15 @@ fn matched(alloc: Global, words: &[Word]) -> Result<Answer, CaseFault> {
         }
         Err(PatternFault::OutOfMemory) => Err(CaseFault::OutOfMemory),
     }
+}
+
+fn matched(alloc: Global, words: &[Word]) -> Result<Answer, CaseFault> {
+    let given = lists(alloc, words)?;
+    let given = given.as_slice();
+    let found = match_all(alloc, list_at(given, 0), list_at(given, 1));
+    let answer = groups_answer(alloc, &found);
+    drop(found);
+    answer
 }
 
 fn shape(alloc: Global, words: &[Word]) -> Result<Answer, CaseFault> {
@@ -71,6 +82,6 @@ pub fn text_command(alloc: Global, command: &Command) -> Result<Answer, CaseFaul
         "match_all" => matched(alloc, words),
         "shape" => shape(alloc, words),
         "is_declaring" => Answer::yes_or_no(alloc, is_declaring(only(words)?)),
-        _ => part_command(alloc, command),
+        _ => path_command(alloc, command),
     }
 }

@@ -1,5 +1,6 @@
 //! Commands on files.
-use crate::texts::text_command;
+use crate::host_files::put_files;
+use crate::world::texts::text_command;
 use b2_base::path_list::PathList;
 use b2_base::text_list::TextList;
 use b2_host::fault::IoFault;
@@ -10,7 +11,7 @@ use std::alloc::Global;
 use transcript::answer::Answer;
 use transcript::case_fault::CaseFault;
 use transcript::command::{Command, Word};
-use transcript::words::{lists, number, only, path, paths};
+use transcript::words::{lists, number, only, path};
 
 /// The output roots of a new world.
 fn first_roots(alloc: Global) -> Result<PathList, CaseFault> {
@@ -51,17 +52,6 @@ fn project_glob_command(
     found(alloc, answer)
 }
 
-/// Makes the text lines of the command the file of each path. The host runs no child.
-fn files(alloc: Global, host: &mut MemoryHost, command: &Command) -> Result<Answer, CaseFault> {
-    let paths = paths(alloc, command.words())?;
-    for path in paths.as_slice() {
-        if host.running().is_empty() {
-            host.edit(path, Some(command.text().as_bytes()))?;
-        }
-    }
-    Ok(Answer::new(alloc))
-}
-
 fn fail_list(alloc: Global, host: &mut MemoryHost, words: &[Word]) -> Result<Answer, CaseFault> {
     let number = number(only(words)?)?;
     host.fail_calls([(CallKind::List, number)].as_slice())?;
@@ -76,7 +66,7 @@ pub fn file_command(
 ) -> Result<Answer, CaseFault> {
     let words = command.words();
     match command.name() {
-        "file" => files(alloc, host, command),
+        "file" => put_files(alloc, host, command),
         "fail_list" => fail_list(alloc, host, words),
         "glob" => glob_command(alloc, host, words),
         "project_glob" => project_glob_command(alloc, host, words),
