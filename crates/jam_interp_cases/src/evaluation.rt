@@ -8,7 +8,7 @@
 //! - `step_text NAME : OUTS : INS : PROPERTIES` shows the text of a step, declared at line 1 of `Jamroot` in this module, and
 //!   what its rule noted.
 //! - `value NAMES` shows what variables hold in this module, `on TARGET NAMES` what they hold on a target. `left` shows the turns
-//!   that the last run left.
+//!   that the last run left, and `decls` the recorded calls.
 
 mod calls;
 mod faults;

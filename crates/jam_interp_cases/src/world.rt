@@ -22,8 +22,9 @@
 //!   `add_depends PATH`, `set_always` and `set_notfile` note something of it.
 //! - `set_place DIR`, `place`, `add_roots DIRS`, `freeze_roots` and `roots` are about the project's directory and the output
 //!   roots.
-//! - `appends COUNT NAME VALUE` and `appends_on COUNT TARGET NAME VALUE` add so often, `marked_sets COUNT NAME VALUE` marks and
-//!   sets so often, and `roll_backs COUNT` goes back so often. `look_size NAME` shows how many texts a name has.
+//! - `sets COUNT NAME VALUE`, `appends COUNT NAME VALUE` and `appends_on COUNT TARGET NAME VALUE` set and add so often,
+//!   `marked_sets COUNT NAME VALUE` makes a mark before each setting, and `roll_backs COUNT` goes back so often.
+//!   `look_size NAME` shows how many texts a name has.
 //! - `call LINE NAME LISTS` calls a native or declaring rule at a line, and shows its value, a text on each line, or what else came
 //!   of it. `decls` and `echoes` show what is kept: of each call of a declaring rule the module and directory, the line, and each
 //!   list after a `:`.

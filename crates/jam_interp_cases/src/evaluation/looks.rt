@@ -2,6 +2,8 @@
 use crate::evaluation::machine::Machine;
 use b2_base::look::Look;
 use b2_base::text::Text;
+use b2_base::text_list::TextList;
+use jam_natives::decl::Decl;
 use std::alloc::Global;
 use transcript::answer::Answer;
 use transcript::case_fault::CaseFault;
@@ -48,6 +50,31 @@ pub fn own_values(alloc: Global, machine: &Machine, words: &[Word]) -> Result<An
             Some(value) => answer.push_line(line_of(alloc, name, value)?.as_str())?,
             None => {}
         }
+    }
+    Ok(answer)
+}
+
+fn lists_line(alloc: Global, head: &str, lists: &[TextList]) -> Result<String, CaseFault> {
+    let mut line = String::new(alloc);
+    line.push_str(head)?;
+    for list in lists {
+        line.push_str(" :")?;
+        line.push_str(line_of(alloc, "", list.as_slice())?.as_str())?;
+    }
+    Ok(line)
+}
+
+fn decl_line(alloc: Global, decl: &Decl) -> Result<String, CaseFault> {
+    let (rule, line) = (decl.rule.as_str(), decl.line);
+    let head = format!(in alloc; "{line}: {rule}")?;
+    lists_line(alloc, head.as_str(), decl.lists.as_slice())
+}
+
+/// The recorded calls of declaring rules.
+pub fn decls(alloc: Global, machine: &Machine) -> Result<Answer, CaseFault> {
+    let mut answer = Answer::new(alloc);
+    for decl in machine.natives.decls() {
+        answer.push_line(decl_line(alloc, decl)?.as_str())?;
     }
     Ok(answer)
 }

@@ -1,6 +1,6 @@
 //! The machine at hand, and how files are run on it.
 use crate::evaluation::calls::call_rule;
-use crate::evaluation::looks::{own_values, values};
+use crate::evaluation::looks::{decls, own_values, values};
 use crate::evaluation::machine::Machine;
 use crate::evaluation::running::run_text;
 use crate::evaluation::steps::text_of_step;
@@ -98,6 +98,7 @@ impl Session for Evaluation {
             "value" => values(alloc, &mut self.machine, self.module.as_str(), words),
             "on" => own_values(alloc, &self.machine, words),
             "left" => Answer::number(alloc, self.left as u64),
+            "decls" => decls(alloc, &self.machine),
             _ => Err(CaseFault::UnknownCommand),
         }
     }

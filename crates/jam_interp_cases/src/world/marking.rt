@@ -53,6 +53,14 @@ fn set(alloc: Global, world: &mut World, words: &[Word]) -> Result<(), CaseFault
     Ok(())
 }
 
+fn sets(alloc: Global, world: &mut World, words: &[Word]) -> Result<Answer, CaseFault> {
+    let (count, words) = counted(words)?;
+    for _ in 0..count {
+        set(alloc, world, words)?;
+    }
+    Ok(Answer::new(alloc))
+}
+
 fn appends(alloc: Global, world: &mut World, words: &[Word]) -> Result<Answer, CaseFault> {
     let (count, words) = counted(words)?;
     let (name, value) = named(alloc, words)?;
@@ -107,6 +115,7 @@ pub fn marking_command(
             roll_back(alloc, &mut scene.world, &mut scene.marks, count)
         }
         "marked" => Answer::yes_or_no(alloc, scene.world.marked()),
+        "sets" => sets(alloc, &mut scene.world, words),
         "appends" => appends(alloc, &mut scene.world, words),
         "appends_on" => appends_on(alloc, &mut scene.world, words),
         "marked_sets" => marked_sets(alloc, &mut scene.world, &mut scene.marks, words),
