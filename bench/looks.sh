@@ -49,3 +49,7 @@ for i in $(seq 100); do
     sources "l$i/s%.0f.cpp" 20
 done
 part "100 libraries of 20 sources"
+
+find . -name Jamfile -delete
+awk 'BEGIN { for (i = 0; i < 32768; i++) print "# a comment of thirty-two bytes." }' | head -c 1048576 > Jamroot
+part "1 MiB of comments"
