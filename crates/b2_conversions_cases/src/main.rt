@@ -1,28 +1,18 @@
-//! The cases of what main targets make. There are tables of features, types and generators at hand, a project, a set of
-//! properties, what sources and libraries supply, and the steps so far; all are empty at first.
+//! The cases of what stands between the calls of project files and a plan, in four parts: what calls declare, what texts of a load
+//! name, how steps join a plan, and what main targets make.
 //!
-//! - `new` empties all, `new_target` the properties and what is supplied, `new_steps` the steps.
-//! - `gcc` declares the features, types and generators of the toolset. `feature NAME VALUES : ATTRIBUTES`, `type NAME SUFFIXES`
-//!   and `generator ID SOURCES : TARGETS : REQUIRED` declare one each; a property is written `<feature>value`.
-//! - `project DIR` is the project of the main targets, with the module `Jamfile<DIR>` and the file `DIR/Jamfile`; `roots PATHS`
-//!   are the output roots.
-//! - `properties PROPERTIES` is the set that they make. `source FILES` adds files as sources; `source_target ENTRIES : CARRIED`
-//!   adds a main target among the sources, and `library ENTRIES : CARRIED` one among the libraries, which supply these paths,
-//!   made by steps. `order PATHS` are to be there before each step.
-//! - `no_text NAMES` are the steps that have no text. Every other text shows its job: module, file and line, outputs, inputs and
-//!   properties, with the sign `|` between them. `notes PATHS` is what each rule notes.
-//! - `exe NAME`, `lib NAME`, `obj NAME`, `alias NAME`, `install NAME` and `make NAME RULE` make a main target, which is declared
-//!   at line 1, and show its entries, each with its type, its tail and whether it is made, and the libraries that it carries on;
-//!   or why it is refused.
-//! - `steps` shows each step: its number and name, outputs, inputs and directories, and its text.
+//! `part NAME` says which part carries out the commands that follow: `declarations`, which is at hand at first, `references`,
+//! `outputs` or `conversions`. Each part keeps what it holds while another one is at hand. The commands of a part are told at the
+//! head of its file.
 #![tactic(auto)]
 
-mod kinds;
+mod answers;
+mod conversions;
+mod declarations;
+mod lines;
+mod outputs;
+mod references;
 mod session;
-mod shown;
-mod tables;
-mod target;
-mod texts;
 mod words;
 
 use crate::session::Cases;

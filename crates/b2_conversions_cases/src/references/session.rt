@@ -1,35 +1,33 @@
 //! The commands by their names.
-use crate::loads::Load;
-use crate::questions::answered;
+use crate::references::loads::Load;
+use crate::references::questions::answered;
 use std::alloc::Global;
+use std::mem::ManuallyDrop;
 use transcript::answer::Answer;
 use transcript::case_fault::CaseFault;
 use transcript::command::{Command, Word};
-use transcript::session::Session;
 use transcript::words::no_words;
 
 /// The load at hand.
 #[derive(Drop)]
-pub struct Cases {
-    load: Load,
+pub struct References {
+    load: ManuallyDrop<Load>,
 }
 
-impl Cases {
-    pub fn new(alloc: Global) -> Cases {
-        Cases {
-            load: Load::new(alloc),
+impl References {
+    pub fn new(alloc: Global) -> References {
+        References {
+            load: ManuallyDrop::new(Load::new(alloc)),
         }
     }
 
     fn renew(&mut self, alloc: Global, words: &[Word]) -> Result<Answer, CaseFault> {
         no_words(words)?;
-        self.load = Load::new(alloc);
+        *self = References::new(alloc);
         Answer::line(alloc, "ok")
     }
-}
 
-impl Session for Cases {
-    fn carry_out(&mut self, alloc: Global, command: &Command) -> Result<Answer, CaseFault> {
+    pub fn carry_out(&mut self, alloc: Global, command: &Command) -> Result<Answer, CaseFault> {
         match command.name() {
             "new" => self.renew(alloc, command.words()),
             "project" => self.load.project(alloc, command.words()),

@@ -1,5 +1,6 @@
 //! The commands that declare features, types and generators.
-use crate::words::{first, halves, no_words, pairs, texts};
+use crate::words::{pairs, plain};
+use b2_features::fault::FeatureFault;
 use b2_features::registry::Registry;
 use b2_gcc::features::declare_features;
 use b2_gcc::types::{declare_generators, declare_types};
@@ -9,6 +10,7 @@ use std::alloc::Global;
 use transcript::answer::Answer;
 use transcript::case_fault::CaseFault;
 use transcript::command::Word;
+use transcript::words::{first, halves, named, no_words, text, texts};
 
 /// No lines where a declaration was taken.
 fn taken(alloc: Global, is_taken: bool) -> Result<Answer, CaseFault> {
@@ -19,6 +21,13 @@ fn taken(alloc: Global, is_taken: bool) -> Result<Answer, CaseFault> {
     }
 }
 
+/// Whether a declaration of features was taken.
+fn is_taken(declared: Result<(), FeatureFault>) -> bool {
+    let is_taken = declared.is_ok();
+    drop(declared);
+    is_taken
+}
+
 fn declare_gcc(
     alloc: Global,
     registry: &mut Registry,
@@ -26,7 +35,7 @@ fn declare_gcc(
     words: &[Word],
 ) -> Result<Answer, CaseFault> {
     no_words(words)?;
-    if declare_features(alloc, registry).is_err() {
+    if !is_taken(declare_features(alloc, registry)) {
         return Err(CaseFault::WrongWords);
     }
     let has_types = declare_types(alloc, types)?;
@@ -36,20 +45,20 @@ fn declare_gcc(
 
 fn feature(alloc: Global, registry: &mut Registry, words: &[Word]) -> Result<Answer, CaseFault> {
     let (name, words) = first(words)?;
-    let name = name.as_text(alloc)?;
+    let name = plain(name)?;
     let (values, attributes) = halves(words);
     let values = texts(alloc, values)?;
     let attributes = texts(alloc, attributes)?;
-    let added = registry.feature(name.as_str(), values.as_slice(), attributes.as_slice());
-    taken(alloc, added.is_ok())
+    let added = registry.feature(name, values.as_slice(), attributes.as_slice());
+    taken(alloc, is_taken(added))
 }
 
 fn file_type(alloc: Global, types: &mut Types, words: &[Word]) -> Result<Answer, CaseFault> {
-    let (name, words) = first(words)?;
-    let name = name.as_text(alloc)?;
-    let suffixes = texts(alloc, words)?;
-    let is_taken = types.register_type(name.as_str(), suffixes.as_slice())?;
-    taken(alloc, is_taken)
+    let (name, suffixes) = named(alloc, words)?;
+    taken(
+        alloc,
+        types.register_type(plain(name)?, suffixes.as_slice())?,
+    )
 }
 
 fn generator(alloc: Global, types: &mut Types, words: &[Word]) -> Result<Answer, CaseFault> {
@@ -57,13 +66,12 @@ fn generator(alloc: Global, types: &mut Types, words: &[Word]) -> Result<Answer,
     let (sources, words) = halves(words);
     let (targets, required) = halves(words);
     let generator = Generator {
-        id: id.as_text(alloc)?,
+        id: text(alloc, id)?,
         sources: texts(alloc, sources)?,
         targets: texts(alloc, targets)?,
         required: pairs(alloc, required)?,
     };
-    let is_taken = types.register(generator)?;
-    taken(alloc, is_taken)
+    taken(alloc, types.register(generator)?)
 }
 
 /// Carries out a command that declares.

@@ -1,4 +1,4 @@
-//! The cases of joined steps and of the paths of outputs. There are steps at hand, none at first.
+//! Joined steps, and the paths of outputs. There are steps at hand, none at first.
 //!
 //! - `add NAME TEXT : OUTS : INS : DIRS : FLAGS` lets a step join the others and shows its number, or the path that clashes,
 //!   or how many steps there would be. A flag is `always` or `notfile`; lists at the end may be left out.
@@ -10,20 +10,8 @@
 //!   `output_path ELEMENTS TAIL` show the path that the call of this name gives.
 //! - `location_path DIR LOCATION NAME : ROOTS` shows the path, or the one that would lie outside. `is_in_roots PATH : ROOTS`
 //!   shows whether the path lies under a root.
-#![tactic(auto)]
 
 mod adding;
 mod paths;
-mod session;
+pub mod session;
 mod shown;
-mod words;
-
-use crate::session::Cases;
-use std::io;
-use std::process::ExitCode;
-use transcript::session::run;
-
-fn main(rt: HostRuntime) -> io::Result<ExitCode> {
-    let mut cases = Cases::new(rt.alloc());
-    run(&rt, &mut cases)
-}

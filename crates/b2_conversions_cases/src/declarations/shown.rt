@@ -1,4 +1,5 @@
 //! How declarations are shown.
+use crate::lines::{push_word, push_words};
 use b2_base::text::Text;
 use b2_declarations::declaration::{
     Attributes, Declaration, Kind, ListName, MainTarget, PropertyList,
@@ -7,33 +8,18 @@ use std::alloc::Global;
 use transcript::answer::Answer;
 use transcript::case_fault::CaseFault;
 
-fn push_word(line: &mut String, word: &str) -> Result<(), CaseFault> {
-    line.push(' ')?;
-    if word.is_empty() {
-        line.push_str("\"\"")?;
-    } else {
-        line.push_str(word)?;
-    }
-    Ok(())
+/// A line of a name and a word.
+fn headed_line(alloc: Global, name: &str, word: &str) -> Result<String, CaseFault> {
+    let mut line = String::from_str(alloc, name)?;
+    push_word(&mut line, word)?;
+    Ok(line)
 }
 
-fn push_words(line: &mut String, words: &[Text]) -> Result<(), CaseFault> {
-    for word in words {
-        push_word(line, word.as_str())?;
-    }
-    Ok(())
-}
-
-/// Adds a line of a name and words.
-fn push_named(
-    alloc: Global,
-    answer: &mut Answer,
-    name: &str,
-    words: &[Text],
-) -> Result<(), CaseFault> {
+/// A line of a name and words.
+fn listed_line(alloc: Global, name: &str, words: &[Text]) -> Result<String, CaseFault> {
     let mut line = String::from_str(alloc, name)?;
     push_words(&mut line, words)?;
-    answer.push_line(line.as_str())
+    Ok(line)
 }
 
 /// Adds a line of a name and words, where there are some.
@@ -46,14 +32,12 @@ fn push_list(
     if words.is_empty() {
         return Ok(());
     }
-    push_named(alloc, answer, name, words)
+    answer.push_line(listed_line(alloc, name, words)?.as_str())
 }
 
 /// An answer whose line is a name and a word.
 fn headed(alloc: Global, name: &str, word: &str) -> Result<Answer, CaseFault> {
-    let mut line = String::from_str(alloc, name)?;
-    push_word(&mut line, word)?;
-    Answer::line(alloc, line.as_str())
+    Answer::line(alloc, headed_line(alloc, name, word)?.as_str())
 }
 
 /// An answer whose line is a name, and a word where there is one.
@@ -77,11 +61,7 @@ fn kind_word(kind: Kind) -> &'static str {
 
 fn push_rule(alloc: Global, answer: &mut Answer, target: &MainTarget) -> Result<(), CaseFault> {
     match target.kind {
-        Kind::Make => {
-            let mut line = String::from_str(alloc, "rule")?;
-            push_word(&mut line, target.rule.as_str())?;
-            answer.push_line(line.as_str())
-        }
+        Kind::Make => answer.push_line(headed_line(alloc, "rule", target.rule.as_str())?.as_str()),
         _ => Ok(()),
     }
 }
@@ -117,55 +97,23 @@ fn project(alloc: Global, attributes: &Attributes) -> Result<Answer, CaseFault> 
     Ok(answer)
 }
 
-fn named(alloc: Global, name: &str, words: &[Text]) -> Result<Answer, CaseFault> {
-    let mut answer = Answer::new(alloc);
-    push_named(alloc, &mut answer, name, words)?;
-    Ok(answer)
-}
-
 fn used_project(alloc: Global, id: &Text, dir: &str) -> Result<Answer, CaseFault> {
-    let mut line = String::from_str(alloc, "use-project")?;
-    push_word(&mut line, id.as_str())?;
+    let mut line = headed_line(alloc, "use-project", id.as_str())?;
     push_word(&mut line, dir)?;
     Answer::line(alloc, line.as_str())
 }
 
-fn feature(
-    alloc: Global,
-    name: &Text,
-    values: &[Text],
-    attributes: &[Text],
-) -> Result<Answer, CaseFault> {
-    let mut answer = headed(alloc, "feature", name.as_str())?;
-    push_list(alloc, &mut answer, "values", values)?;
-    push_list(alloc, &mut answer, "attributes", attributes)?;
-    Ok(answer)
-}
-
-/// A name with one list.
+/// A name, and below it each list that is not empty.
 fn listed(
     alloc: Global,
     kind: &str,
     name: &Text,
-    list: &str,
-    words: &[Text],
+    lists: &[(&str, &[Text])],
 ) -> Result<Answer, CaseFault> {
     let mut answer = headed(alloc, kind, name.as_str())?;
-    push_list(alloc, &mut answer, list, words)?;
-    Ok(answer)
-}
-
-fn generator(
-    alloc: Global,
-    id: &Text,
-    sources: &[Text],
-    targets: &[Text],
-    requirements: &[Text],
-) -> Result<Answer, CaseFault> {
-    let mut answer = headed(alloc, "generator", id.as_str())?;
-    push_list(alloc, &mut answer, "sources", sources)?;
-    push_list(alloc, &mut answer, "targets", targets)?;
-    push_list(alloc, &mut answer, "requirements", requirements)?;
+    for list in lists {
+        push_list(alloc, &mut answer, list.0, list.1)?;
+    }
     Ok(answer)
 }
 
@@ -174,7 +122,12 @@ pub fn shown(alloc: Global, declaration: &Declaration) -> Result<Answer, CaseFau
     match declaration {
         Declaration::Project(attributes) => project(alloc, attributes),
         Declaration::Main(target) => main_target(alloc, target),
-        Declaration::Explicit(names) => named(alloc, "explicit", names.as_slice()),
+        Declaration::Explicit(names) => {
+            Answer::line(
+                alloc,
+                listed_line(alloc, "explicit", names.as_slice())?.as_str(),
+            )
+        }
         Declaration::BuildProject(dir) => headed(alloc, "build-project", dir.as_str()),
         Declaration::UseProject { id, dir } => used_project(alloc, id, dir.as_str()),
         Declaration::Using { command } => maybe_headed(alloc, "using gcc", command.as_ref()),
@@ -182,24 +135,38 @@ pub fn shown(alloc: Global, declaration: &Declaration) -> Result<Answer, CaseFau
             name,
             values,
             attributes,
-        } => feature(alloc, name, values.as_slice(), attributes.as_slice()),
-        Declaration::Compose { property, parts } => {
-            listed(alloc, "compose", property, "components", parts.as_slice())
-        }
+        } => listed(
+            alloc,
+            "feature",
+            name,
+            &[
+                ("values", values.as_slice()),
+                ("attributes", attributes.as_slice()),
+            ],
+        ),
+        Declaration::Compose { property, parts } => listed(
+            alloc,
+            "compose",
+            property,
+            &[("components", parts.as_slice())],
+        ),
         Declaration::FileType { name, suffixes } => {
-            listed(alloc, "type", name, "suffixes", suffixes.as_slice())
+            listed(alloc, "type", name, &[("suffixes", suffixes.as_slice())])
         }
         Declaration::Generator {
             id,
             sources,
             targets,
             requirements,
-        } => generator(
+        } => listed(
             alloc,
+            "generator",
             id,
-            sources.as_slice(),
-            targets.as_slice(),
-            requirements.as_slice(),
+            &[
+                ("sources", sources.as_slice()),
+                ("targets", targets.as_slice()),
+                ("requirements", requirements.as_slice()),
+            ],
         ),
         Declaration::Import => Answer::line(alloc, "import"),
     }

@@ -1,5 +1,5 @@
 //! The main target at hand: its project, its properties, and what is supplied to it.
-use crate::words::{halves, path_of, text};
+use crate::words::file_in;
 use b2_base::path::Path;
 use b2_base::path_list::PathList;
 use b2_base::text::Text;
@@ -10,6 +10,7 @@ use b2_virtual::tails::source_tail;
 use std::alloc::Global;
 use transcript::case_fault::CaseFault;
 use transcript::command::Word;
+use transcript::words::{halves, path, text};
 
 /// A project, by its directory, its module and its file.
 #[derive(Drop)]
@@ -37,6 +38,42 @@ impl Needs {
             order: PathList::new(alloc),
         }
     }
+
+    /// Adds what a main target supplies that is no source: `ENTRIES : CARRIED`.
+    pub fn add_part(
+        &mut self,
+        alloc: Global,
+        types: &Types,
+        words: &[Word],
+    ) -> Result<(), CaseFault> {
+        self.parts.push(target_supply(alloc, types, words)?)?;
+        Ok(())
+    }
+
+    /// Adds what a main target supplies that is a source: `ENTRIES : CARRIED`.
+    pub fn add_source_target(
+        &mut self,
+        alloc: Global,
+        types: &Types,
+        words: &[Word],
+    ) -> Result<(), CaseFault> {
+        self.sources.push(target_supply(alloc, types, words)?)?;
+        self.add_part(alloc, types, words)
+    }
+
+    /// Adds files as sources.
+    pub fn add_files(
+        &mut self,
+        alloc: Global,
+        types: &Types,
+        words: &[Word],
+    ) -> Result<(), CaseFault> {
+        for word in words {
+            self.sources.push(file_supply(alloc, types, word)?)?;
+            self.parts.push(file_supply(alloc, types, word)?)?;
+        }
+        Ok(())
+    }
 }
 
 fn module_of(alloc: Global, dir: &Path) -> Result<Text, CaseFault> {
@@ -45,30 +82,24 @@ fn module_of(alloc: Global, dir: &Path) -> Result<Text, CaseFault> {
     text(alloc, name.as_str())
 }
 
-fn file_in(alloc: Global, dir: &Path) -> Result<Path, CaseFault> {
-    let dir = dir.as_str();
-    let path = format!(in alloc; "{dir}/Jamfile")?;
-    path_of(alloc, path.as_str())
-}
-
 /// The project in a directory.
 pub fn project_in(alloc: Global, dir: &str) -> Result<Project, CaseFault> {
-    let dir = path_of(alloc, dir)?;
+    let dir = path(alloc, dir)?;
     let owner = module_of(alloc, &dir)?;
-    let file = file_in(alloc, &dir)?;
+    let file = file_in(alloc, dir.as_str())?;
     Ok(Project { dir, owner, file })
 }
 
 /// A file that a step made. Below `bin` its tail is the rest of its path.
 fn made_entry(alloc: Global, types: &Types, word: &Word) -> Result<Entry, CaseFault> {
-    let path = path_of(alloc, word.as_str()?)?;
-    let tail = match path.as_str().strip_prefix("bin/") {
-        Some(tail) => path_of(alloc, tail)?,
-        None => source_tail(alloc, &path)?,
+    let made = path(alloc, word.as_str()?)?;
+    let tail = match made.as_str().strip_prefix("bin/") {
+        Some(tail) => path(alloc, tail)?,
+        None => source_tail(alloc, &made)?,
     };
-    let file_type = text(alloc, types.type_of(&path))?;
+    let file_type = text(alloc, types.type_of(&made))?;
     Ok(Entry {
-        path,
+        path: made,
         file_type,
         tail,
         is_made: true,
@@ -83,8 +114,7 @@ fn made_entries(alloc: Global, types: &Types, words: &[Word]) -> Result<EntryLis
     Ok(made)
 }
 
-/// What a main target supplies: `ENTRIES : CARRIED`.
-pub fn target_supply(alloc: Global, types: &Types, words: &[Word]) -> Result<Supply, CaseFault> {
+fn target_supply(alloc: Global, types: &Types, words: &[Word]) -> Result<Supply, CaseFault> {
     let (entries, carried) = halves(words);
     Ok(Supply {
         entries: made_entries(alloc, types, entries)?,
@@ -93,8 +123,8 @@ pub fn target_supply(alloc: Global, types: &Types, words: &[Word]) -> Result<Sup
 }
 
 /// What a file supplies.
-pub fn file_supply(alloc: Global, types: &Types, word: &Word) -> Result<Supply, CaseFault> {
-    let path = path_of(alloc, word.as_str()?)?;
+fn file_supply(alloc: Global, types: &Types, word: &Word) -> Result<Supply, CaseFault> {
+    let path = path(alloc, word.as_str()?)?;
     let mut entries = EntryList::new(alloc);
     entries.push(file_entry(alloc, types, &path)?)?;
     Ok(Supply {

@@ -1,6 +1,7 @@
 //! Answers as lines.
-use crate::texts::TextFault;
-use b2_base::path::Path;
+use crate::answers::{happened, too_many};
+use crate::conversions::texts::TextFault;
+use crate::lines::{push_paths, push_words};
 use b2_base::text::Text;
 use b2_supplies::entry::{Entry, Supply};
 use b2_conversions::fault::MakingFault;
@@ -8,22 +9,6 @@ use b2_plan::step::Step;
 use std::alloc::Global;
 use transcript::answer::Answer;
 use transcript::case_fault::CaseFault;
-
-fn push_paths(line: &mut String, paths: &[Path]) -> Result<(), CaseFault> {
-    for path in paths {
-        line.push(' ')?;
-        line.push_str(path.as_str())?;
-    }
-    Ok(())
-}
-
-fn push_texts(line: &mut String, texts: &[Text]) -> Result<(), CaseFault> {
-    for text in texts {
-        line.push(' ')?;
-        line.push_str(text.as_str())?;
-    }
-    Ok(())
-}
 
 fn entry_line(alloc: Global, entry: &Entry) -> Result<String, CaseFault> {
     let path = entry.path.as_str();
@@ -53,7 +38,7 @@ fn push_carried(alloc: Global, answer: &mut Answer, entries: &[Entry]) -> Result
 }
 
 /// The entries of a main target, and what it carries on.
-pub fn supply_lines(alloc: Global, supply: &Supply) -> Result<Answer, CaseFault> {
+fn supply_lines(alloc: Global, supply: &Supply) -> Result<Answer, CaseFault> {
     let mut answer = Answer::new(alloc);
     push_entries(alloc, &mut answer, supply.entries.as_slice())?;
     push_carried(alloc, &mut answer, supply.carried.as_slice())?;
@@ -61,10 +46,6 @@ pub fn supply_lines(alloc: Global, supply: &Supply) -> Result<Answer, CaseFault>
 }
 
 // ---- refusals
-
-fn words_line(alloc: Global, words: &str, text: &str) -> Result<Answer, CaseFault> {
-    Answer::line(alloc, format!(in alloc; "{words}: {text}")?.as_str())
-}
 
 fn no_chain(alloc: Global, from: &Text, to: &Text) -> Result<Answer, CaseFault> {
     let from = from.as_str();
@@ -85,21 +66,20 @@ fn two_chains(
     let from = from.as_str();
     let to = to.as_str();
     let mut line = format!(in alloc; "two chains from {from} to {to}:")?;
-    push_texts(&mut line, first)?;
+    push_words(&mut line, first)?;
     line.push(';')?;
-    push_texts(&mut line, second)?;
+    push_words(&mut line, second)?;
     Answer::line(alloc, line.as_str())
 }
 
 fn without_text(alloc: Global, fault: &TextFault) -> Result<Answer, CaseFault> {
     match fault {
-        TextFault::NoText(name) => words_line(alloc, "no text", name.as_str()),
+        TextFault::NoText(name) => happened(alloc, "no text", name.as_str()),
         TextFault::OutOfMemory => Err(CaseFault::OutOfMemory),
     }
 }
 
-/// A refusal in its words.
-pub fn refused(alloc: Global, fault: &MakingFault<TextFault>) -> Result<Answer, CaseFault> {
+fn fault_line(alloc: Global, fault: &MakingFault<TextFault>) -> Result<Answer, CaseFault> {
     match fault {
         MakingFault::NoChain { from, to } => no_chain(alloc, from, to),
         MakingFault::TwoChains {
@@ -108,17 +88,34 @@ pub fn refused(alloc: Global, fault: &MakingFault<TextFault>) -> Result<Answer, 
             first,
             second,
         } => two_chains(alloc, from, to, first.as_slice(), second.as_slice()),
-        MakingFault::PathClash { path } => words_line(alloc, "path clash", path.as_str()),
-        MakingFault::LocationOutside { path } => words_line(
-            alloc,
-            "location outside",
-            path.as_str(),
-        ),
-        MakingFault::TooManySteps { count } => {
-            Answer::line(alloc, format!(in alloc; "{count} steps")?.as_str())
+        MakingFault::PathClash { path } => happened(alloc, "path clash", path.as_str()),
+        MakingFault::LocationOutside { path } => {
+            happened(alloc, "location outside", path.as_str())
         }
+        MakingFault::TooManySteps { count } => too_many(alloc, *count),
         MakingFault::Eval(fault) => without_text(alloc, fault),
         MakingFault::OutOfMemory => Err(CaseFault::OutOfMemory),
+    }
+}
+
+fn refused(alloc: Global, fault: MakingFault<TextFault>) -> Result<Answer, CaseFault> {
+    let answer = fault_line(alloc, &fault);
+    drop(fault);
+    answer
+}
+
+/// What a main target supplies, or why it is refused.
+pub fn made_answer(
+    alloc: Global,
+    made: Result<Supply, MakingFault<TextFault>>,
+) -> Result<Answer, CaseFault> {
+    match made {
+        Ok(supply) => {
+            let answer = supply_lines(alloc, &supply);
+            drop(supply);
+            answer
+        }
+        Err(fault) => refused(alloc, fault),
     }
 }
 

@@ -1,4 +1,6 @@
 //! Answers as lines.
+use crate::answers::{happened, too_many};
+use crate::lines::push_paths;
 use b2_base::path::Path;
 use b2_plan::step::Step;
 use b2_virtual::fault::VirtualFault;
@@ -6,32 +8,29 @@ use std::alloc::Global;
 use transcript::answer::Answer;
 use transcript::case_fault::CaseFault;
 
-/// A refusal in its words.
 fn fault_line(alloc: Global, fault: &VirtualFault) -> Result<Answer, CaseFault> {
     match fault {
-        VirtualFault::PathClash { path } => {
-            let path = path.as_str();
-            Answer::line(alloc, format!(in alloc; "path clash: {path}")?.as_str())
-        }
+        VirtualFault::PathClash { path } => happened(alloc, "path clash", path.as_str()),
         VirtualFault::LocationOutside { path } => {
-            let path = path.as_str();
-            Answer::line(
-                alloc,
-                format!(in alloc; "location outside: {path}")?.as_str(),
-            )
+            happened(alloc, "location outside", path.as_str())
         }
-        VirtualFault::TooManySteps { count } => {
-            Answer::line(alloc, format!(in alloc; "{count} steps")?.as_str())
-        }
+        VirtualFault::TooManySteps { count } => too_many(alloc, *count),
         VirtualFault::OutOfMemory => Err(CaseFault::OutOfMemory),
     }
+}
+
+/// A refusal in its words.
+pub fn refused(alloc: Global, fault: VirtualFault) -> Result<Answer, CaseFault> {
+    let answer = fault_line(alloc, &fault);
+    drop(fault);
+    answer
 }
 
 /// The number of a step, or why it is refused.
 pub fn number_answer(alloc: Global, added: Result<u32, VirtualFault>) -> Result<Answer, CaseFault> {
     match added {
-        Ok(number) => Answer::line(alloc, format!(in alloc; "{number}")?.as_str()),
-        Err(fault) => fault_line(alloc, &fault),
+        Ok(number) => Answer::number(alloc, u64::from(number)),
+        Err(fault) => refused(alloc, fault),
     }
 }
 
@@ -39,17 +38,14 @@ pub fn number_answer(alloc: Global, added: Result<u32, VirtualFault>) -> Result<
 pub fn path_answer(alloc: Global, path: Result<Path, VirtualFault>) -> Result<Answer, CaseFault> {
     match path {
         Ok(path) => Answer::line(alloc, path.as_str()),
-        Err(fault) => fault_line(alloc, &fault),
+        Err(fault) => refused(alloc, fault),
     }
 }
 
 fn step_line(alloc: Global, number: usize, step: &Step) -> Result<String, CaseFault> {
     let name = step.name.as_str();
     let mut line = format!(in alloc; "{number} {name}")?;
-    for out in step.outs.as_slice() {
-        line.push(' ')?;
-        line.push_str(out.as_str())?;
-    }
+    push_paths(&mut line, step.outs.as_slice())?;
     Ok(line)
 }
 

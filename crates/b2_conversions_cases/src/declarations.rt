@@ -1,4 +1,4 @@
-//! The cases of calls of declaring rules. A call is written as its rule and its lists, divided by words `:`.
+//! Calls of declaring rules. A call is written as its rule and its lists, divided by words `:`.
 //!
 //! - `declaration RULE WORD .. : WORD .. : ..` answers what the call declares: a line with its kind and its name, and below it
 //!   a line for each of its lists that is not empty; `none` where there is no such declaration.
@@ -7,17 +7,6 @@
 //!   `none` where it declares nothing.
 //!
 //! Words of one line have one space between them, and `""` is the empty word.
-#![tactic(auto)]
 
-mod calls;
-mod session;
+pub mod calls;
 mod shown;
-
-use crate::session::Cases;
-use std::io;
-use std::process::ExitCode;
-use transcript::session::run;
-
-fn main(rt: HostRuntime) -> io::Result<ExitCode> {
-    run(&rt, &mut Cases)
-}

@@ -1,4 +1,5 @@
 //! How answers are shown.
+use crate::lines::{push_pairs, push_word, push_words};
 use b2_base::text::Text;
 use b2_metatargets::place::{Place, Target};
 use b2_props::request::PropsList;
@@ -26,27 +27,13 @@ pub fn numbers(alloc: Global, numbers: &[usize]) -> Result<Answer, CaseFault> {
     Ok(answer)
 }
 
-fn push_word(line: &mut String, word: &str) -> Result<(), CaseFault> {
-    if !line.is_empty() {
-        line.push(' ')?;
-    }
-    line.push_str(if word.is_empty() { "\"\"" } else { word })?;
-    Ok(())
-}
-
-fn words(alloc: Global, words: &[Text]) -> Result<String, CaseFault> {
-    let mut line = String::new(alloc);
-    for word in words {
-        push_word(&mut line, word.as_str())?;
-    }
-    Ok(line)
-}
-
 /// The sources of each alternative.
 pub fn targets(alloc: Global, targets: &[&Target]) -> Result<Answer, CaseFault> {
     let mut answer = Answer::new(alloc);
     for target in targets {
-        answer.push_line(words(alloc, target.sources.as_slice())?.as_str())?;
+        let mut line = String::new(alloc);
+        push_words(&mut line, target.sources.as_slice())?;
+        answer.push_line(line.as_str())?;
     }
     Ok(answer)
 }
@@ -58,19 +45,6 @@ pub fn places(alloc: Global, places: &[&Place]) -> Result<Answer, CaseFault> {
         answer.push_line(place.dir.as_str())?;
     }
     Ok(answer)
-}
-
-fn push_pairs(line: &mut String, pairs: &[(Text, Text)]) -> Result<(), CaseFault> {
-    for pair in pairs {
-        if !line.is_empty() {
-            line.push(' ')?;
-        }
-        line.push('<')?;
-        line.push_str(pair.0.as_str())?;
-        line.push('>')?;
-        line.push_str(pair.1.as_str())?;
-    }
-    Ok(())
 }
 
 pub fn pairs(alloc: Global, pairs: &[(Text, Text)]) -> Result<Answer, CaseFault> {

@@ -1,7 +1,7 @@
 //! A load: projects and their declaring calls.
 ghost use Rattle.std.specs.Prelude.{◌≡◌, ◌<◌, true, All, length};
 
-use crate::words::place;
+use crate::words::file_in;
 use b2_base::path::Path;
 use b2_base::text::Text;
 use b2_base::text_list::TextList;
@@ -11,7 +11,7 @@ use std::alloc::Global;
 use transcript::answer::Answer;
 use transcript::case_fault::CaseFault;
 use transcript::command::Word;
-use transcript::words::{first, lists, path, text};
+use transcript::words::{first, lists, number, path, text};
 
 /// The projects that were visited, and the calls that their files made.
 #[derive(Drop)]
@@ -27,8 +27,9 @@ pub fn are_placed(visits: &[Visit], calls: &[Call]) -> bool
     calls.iter().all(|call| call.project < visits.len())
 }
 
-fn file_in(alloc: Global, dir: &str) -> Result<Path, CaseFault> {
-    path(alloc, format!(in alloc; "{dir}/Jamfile")?.as_str())
+/// A word as the place of a project.
+pub fn place(word: &str) -> Result<usize, CaseFault> {
+    Ok(number(word)? as usize)
 }
 
 /// A project of a directory, with the file `Jamfile` there.

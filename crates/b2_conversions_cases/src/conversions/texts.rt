@@ -1,7 +1,7 @@
 //! Texts of steps that show their jobs.
+use crate::lines::{push_paths, push_words};
 use b2_base::fault::OutOfMemory;
-use b2_base::path::Path;
-use b2_base::path_list::PathList;
+use b2_base::path_list::{PathList, copy_paths};
 use b2_base::text::{Text, has_no_zero};
 use b2_base::text_list::TextList;
 use b2_evaluation::evaluate::Evaluate;
@@ -30,22 +30,6 @@ pub struct Texts {
     pub noted: PathList,
 }
 
-fn push_paths(shown: &mut String, paths: &[Path]) -> Result<(), OutOfMemory> {
-    for path in paths {
-        shown.push(' ')?;
-        shown.push_str(path.as_str())?;
-    }
-    Ok(())
-}
-
-fn push_texts(shown: &mut String, texts: &[Text]) -> Result<(), OutOfMemory> {
-    for text in texts {
-        shown.push(' ')?;
-        shown.push_str(text.as_str())?;
-    }
-    Ok(())
-}
-
 fn shown_job(alloc: Global, job: &StepJob) -> Result<String, OutOfMemory> {
     let module = job.module.as_str();
     let path = job.path.as_str();
@@ -55,16 +39,8 @@ fn shown_job(alloc: Global, job: &StepJob) -> Result<String, OutOfMemory> {
     shown.push_str(" |")?;
     push_paths(&mut shown, job.ins.as_slice())?;
     shown.push_str(" |")?;
-    push_texts(&mut shown, job.props.as_slice())?;
+    push_words(&mut shown, job.props.as_slice())?;
     Ok(shown)
-}
-
-fn copies(alloc: Global, paths: &[Path]) -> Result<PathList, OutOfMemory> {
-    let mut made = PathList::new(alloc);
-    for path in paths {
-        made.push(path.copy()?)?;
-    }
-    Ok(made)
 }
 
 fn job_text(alloc: Global, job: &StepJob) -> Result<Text, TextFault> {
@@ -75,21 +51,36 @@ fn job_text(alloc: Global, job: &StepJob) -> Result<Text, TextFault> {
     Err(TextFault::NoText(job.name.copy()?))
 }
 
+fn has(names: &[Text], name: &Text) -> bool {
+    for one in names {
+        if one == name {
+            return true;
+        }
+    }
+    false
+}
+
 fn text_of(texts: &Texts, job: &StepJob) -> Result<StepText, TextFault> {
-    if texts
-        .without
-        .as_slice()
-        .iter()
-        .any(|name| name == &job.name)
-    {
+    if has(texts.without.as_slice(), &job.name) {
         return Err(TextFault::NoText(job.name.copy()?));
     }
     Ok(StepText {
         text: job_text(texts.alloc, job)?,
-        depends: copies(texts.alloc, texts.noted.as_slice())?,
+        depends: copy_paths(texts.alloc, texts.noted.as_slice())?,
         always: false,
         notfile: false,
     })
+}
+
+impl Texts {
+    /// No step is without a text, and nothing is noted.
+    pub fn new(alloc: Global) -> Texts {
+        Texts {
+            alloc,
+            without: TextList::new(alloc),
+            noted: PathList::new(alloc),
+        }
+    }
 }
 
 impl Evaluate for Texts {

@@ -1,11 +1,11 @@
 //! Questions about what a load declares.
 ghost use Rattle.std.specs.Prelude.{◌<◌, All, length};
 
-use crate::loads::{Load, are_placed};
-use crate::shown::{
+use crate::references::loads::{Load, are_placed, place};
+use crate::references::shown::{
     meaning, number_or_none, numbers, pairs as pairs_line, pieces, places, sets, targets,
 };
-use crate::words::{pairs, place};
+use crate::words::pairs;
 use b2_base::text::Text;
 use b2_metatargets::fault::DeclaringFault;
 use b2_metatargets::metatargets::declared;
@@ -33,22 +33,6 @@ fn placed(alloc: Global, words: &[Word]) -> Result<(usize, Text), CaseFault> {
     Ok((at, text(alloc, word)?))
 }
 
-/// What a text names in a project.
-fn source(alloc: Global, index: &Index, words: &[Word]) -> Result<Meaning, CaseFault> {
-    let (at, text) = placed(alloc, words)?;
-    Ok(source_meaning(alloc, index, at, &text)?)
-}
-
-fn value(alloc: Global, index: &Index, words: &[Word]) -> Result<Meaning, CaseFault> {
-    let text = text(alloc, only(words)?)?;
-    Ok(value_meaning(alloc, index, &text)?)
-}
-
-fn word(alloc: Global, index: &Index, words: &[Word]) -> Result<Meaning, CaseFault> {
-    let text = text(alloc, only(words)?)?;
-    Ok(word_meaning(alloc, index, &text)?)
-}
-
 /// What a text or a project names.
 fn meaning_of(
     alloc: Global,
@@ -57,9 +41,18 @@ fn meaning_of(
     words: &[Word],
 ) -> Result<Meaning, CaseFault> {
     match name {
-        "source_meaning" => source(alloc, index, words),
-        "value_meaning" => value(alloc, index, words),
-        "word_meaning" => word(alloc, index, words),
+        "source_meaning" => {
+            let (at, text) = placed(alloc, words)?;
+            Ok(source_meaning(alloc, index, at, &text)?)
+        }
+        "value_meaning" => {
+            let text = text(alloc, only(words)?)?;
+            Ok(value_meaning(alloc, index, &text)?)
+        }
+        "word_meaning" => {
+            let text = text(alloc, only(words)?)?;
+            Ok(word_meaning(alloc, index, &text)?)
+        }
         _ => Ok(project_meaning(alloc, index, place(only(words)?)?)?),
     }
 }
@@ -170,6 +163,16 @@ fn told_over(
     told(alloc, &index, name, words)
 }
 
+fn refused(alloc: Global, fault: DeclaringFault) -> Result<Answer, CaseFault> {
+    let is_refused = !matches!(fault, DeclaringFault::OutOfMemory);
+    drop(fault);
+    if is_refused {
+        Answer::line(alloc, "refused")
+    } else {
+        Err(CaseFault::OutOfMemory)
+    }
+}
+
 /// The answer of a question over what the calls of a load declare.
 pub fn answered(
     alloc: Global,
@@ -181,8 +184,11 @@ pub fn answered(
         return Err(CaseFault::WrongWords);
     }
     match declared(alloc, load.visits.as_slice(), load.calls.as_slice()) {
-        Ok(declared) => told_over(alloc, &declared, name, words),
-        Err(DeclaringFault::OutOfMemory) => Err(CaseFault::OutOfMemory),
-        Err(_fault) => Answer::line(alloc, "refused"),
+        Ok(declared) => {
+            let answer = told_over(alloc, &declared, name, words);
+            drop(declared);
+            answer
+        }
+        Err(fault) => refused(alloc, fault),
     }
 }

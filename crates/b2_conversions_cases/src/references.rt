@@ -1,4 +1,4 @@
-//! The cases of what texts name in a loaded project. There is a load at hand, at first empty: projects and their calls.
+//! What texts name in a loaded project. There is a load at hand, at first empty: projects and their calls.
 //!
 //! - `new` begins a load. `project DIR` adds a project without a parent, `project DIR PLACE` one whose parent is the project
 //!   at a place; places count from 0. They answer the place of the project.
@@ -18,20 +18,8 @@
 //!
 //! Words of one line have one space between them, and `""` is the empty word. A main target is shown as it is written, a
 //! property as `<feature>value`.
-#![tactic(auto)]
 
 mod loads;
 mod questions;
-mod session;
+pub mod session;
 mod shown;
-mod words;
-
-use crate::session::Cases;
-use std::io;
-use std::process::ExitCode;
-use transcript::session::run;
-
-fn main(rt: HostRuntime) -> io::Result<ExitCode> {
-    let mut cases = Cases::new(rt.alloc());
-    run(&rt, &mut cases)
-}

@@ -1,0 +1,88 @@
+//! The commands by their names.
+use crate::conversions::kinds::{kind_of, made_target};
+use crate::conversions::shown::steps_answer;
+use crate::conversions::tables::declare;
+use crate::conversions::target::{Needs, Project, project_in};
+use crate::conversions::texts::Texts;
+use crate::words::pairs;
+use b2_base::path_list::PathList;
+use b2_features::registry::Registry;
+use b2_generators::types::Types;
+use b2_virtual::builder::Builder;
+use std::alloc::Global;
+use std::mem::ManuallyDrop;
+use transcript::answer::Answer;
+use transcript::case_fault::CaseFault;
+use transcript::command::{Command, Word};
+use transcript::words::{no_words, only, paths, texts};
+
+/// What is at hand.
+#[derive(Drop)]
+pub struct Conversions {
+    pub registry: ManuallyDrop<Registry>,
+    pub types: ManuallyDrop<Types>,
+    pub roots: PathList,
+    pub project: Option<Project>,
+    pub needs: ManuallyDrop<Needs>,
+    pub texts: Texts,
+    pub builder: ManuallyDrop<Builder>,
+}
+
+impl Conversions {
+    pub fn new(alloc: Global) -> Conversions {
+        Conversions {
+            registry: ManuallyDrop::new(Registry::new(alloc)),
+            types: ManuallyDrop::new(Types::new(alloc)),
+            roots: PathList::new(alloc),
+            project: None,
+            needs: ManuallyDrop::new(Needs::new(alloc)),
+            texts: Texts::new(alloc),
+            builder: ManuallyDrop::new(Builder::new(alloc)),
+        }
+    }
+
+    fn renew(&mut self, alloc: Global, name: &str, words: &[Word]) -> Result<Answer, CaseFault> {
+        no_words(words)?;
+        match name {
+            "new_target" => self.needs = ManuallyDrop::new(Needs::new(alloc)),
+            "new_steps" => self.builder = ManuallyDrop::new(Builder::new(alloc)),
+            _ => *self = Conversions::new(alloc),
+        }
+        Ok(Answer::new(alloc))
+    }
+
+    fn steps(&self, alloc: Global, words: &[Word]) -> Result<Answer, CaseFault> {
+        no_words(words)?;
+        steps_answer(alloc, self.builder.steps())
+    }
+
+    /// Carries out a command that puts something in place, or one that declares.
+    fn put(&mut self, alloc: Global, name: &str, words: &[Word]) -> Result<Answer, CaseFault> {
+        match name {
+            "roots" => self.roots = paths(alloc, words)?,
+            "project" => self.project = Some(project_in(alloc, only(words)?)?),
+            "properties" => self.needs.properties = pairs(alloc, words)?,
+            "source" => self.needs.add_files(alloc, &self.types, words)?,
+            "source_target" => self.needs.add_source_target(alloc, &self.types, words)?,
+            "library" => self.needs.add_part(alloc, &self.types, words)?,
+            "order" => self.needs.order = paths(alloc, words)?,
+            "no_text" => self.texts.without = texts(alloc, words)?,
+            "notes" => self.texts.noted = paths(alloc, words)?,
+            _ => return declare(alloc, &mut self.registry, &mut self.types, name, words),
+        }
+        Ok(Answer::new(alloc))
+    }
+
+    pub fn carry_out(&mut self, alloc: Global, command: &Command) -> Result<Answer, CaseFault> {
+        let words = command.words();
+        let name = command.name();
+        if let Some(kind) = kind_of(name) {
+            return made_target(alloc, self, kind, words);
+        }
+        match name {
+            "new" | "new_target" | "new_steps" => self.renew(alloc, name, words),
+            "steps" => self.steps(alloc, words),
+            _ => self.put(alloc, name, words),
+        }
+    }
+}

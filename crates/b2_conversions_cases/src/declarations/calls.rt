@@ -1,0 +1,71 @@
+//! Calls of declaring rules, and what comes of them.
+use crate::answers::truth;
+use crate::declarations::shown::shown;
+use b2_base::path::Path;
+use b2_declarations::declaration::Declaration;
+use b2_declarations::naming::named_directories;
+use b2_declarations::reading::{declaration, is_refused};
+use std::alloc::Global;
+use transcript::answer::Answer;
+use transcript::case_fault::CaseFault;
+use transcript::command::{Command, Word};
+use transcript::words::{first, lists, path};
+
+/// What the call of a rule with lists declares.
+fn called(alloc: Global, words: &[Word]) -> Result<Option<Declaration>, CaseFault> {
+    let (rule, words) = first(words)?;
+    let lists = lists(alloc, words)?;
+    Ok(declaration(alloc, rule, lists.as_slice())?)
+}
+
+fn told(alloc: Global, question: &str, declaration: &Declaration) -> Result<Answer, CaseFault> {
+    match question {
+        "declaration" => shown(alloc, declaration),
+        _ => truth(alloc, is_refused(alloc, declaration)?),
+    }
+}
+
+fn told_of_call(alloc: Global, question: &str, words: &[Word]) -> Result<Answer, CaseFault> {
+    match called(alloc, words)? {
+        None => Answer::line(alloc, "none"),
+        Some(declaration) => {
+            let answer = told(alloc, question, &declaration);
+            drop(declaration);
+            answer
+        }
+    }
+}
+
+fn directories(
+    alloc: Global,
+    owner: &Path,
+    declaration: &Declaration,
+) -> Result<Answer, CaseFault> {
+    Answer::paths(
+        alloc,
+        named_directories(alloc, owner, declaration)?.as_slice(),
+    )
+}
+
+fn directories_of_call(alloc: Global, words: &[Word]) -> Result<Answer, CaseFault> {
+    let (dir, call) = first(words)?;
+    let owner = path(alloc, dir)?;
+    match called(alloc, call)? {
+        None => Answer::line(alloc, "none"),
+        Some(declaration) => {
+            let answer = directories(alloc, &owner, &declaration);
+            drop(declaration);
+            answer
+        }
+    }
+}
+
+/// Carries out a command on the call of a declaring rule.
+pub fn call_command(alloc: Global, command: &Command) -> Result<Answer, CaseFault> {
+    let words = command.words();
+    match command.name() {
+        "declaration" | "is_refused" => told_of_call(alloc, command.name(), words),
+        "named_directories" => directories_of_call(alloc, words),
+        _ => Err(CaseFault::UnknownCommand),
+    }
+}

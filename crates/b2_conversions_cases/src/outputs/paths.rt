@@ -1,0 +1,85 @@
+//! Commands that show paths.
+use crate::answers::truth;
+use crate::outputs::shown::path_answer;
+use crate::words::plain;
+use b2_base::fault::OutOfMemory;
+use b2_base::path::Path;
+use b2_virtual::paths::{is_in_roots, location_path, named_tail, output_path};
+use b2_virtual::tails::{converted_tail, source_tail};
+use std::alloc::Global;
+use transcript::answer::Answer;
+use transcript::case_fault::CaseFault;
+use transcript::command::{Command, Word};
+use transcript::words::{both, halves, only, path, paths};
+
+fn shown(alloc: Global, made: Result<Path, OutOfMemory>) -> Result<Answer, CaseFault> {
+    Answer::line(alloc, made?.as_str())
+}
+
+fn show_converted_tail(alloc: Global, words: &[Word]) -> Result<Answer, CaseFault> {
+    match words {
+        [tail] => {
+            let tail = path(alloc, tail.as_str()?)?;
+            shown(alloc, converted_tail(alloc, &tail, None))
+        }
+        [tail, suffix] => {
+            let suffix = plain(suffix.as_str()?)?;
+            let tail = path(alloc, tail.as_str()?)?;
+            shown(alloc, converted_tail(alloc, &tail, Some(suffix)))
+        }
+        _ => Err(CaseFault::WrongWords),
+    }
+}
+
+fn show_named_tail(alloc: Global, words: &[Word]) -> Result<Answer, CaseFault> {
+    let (dir, name) = both(words)?;
+    let name = plain(name)?;
+    let dir = path(alloc, dir)?;
+    shown(alloc, named_tail(alloc, &dir, name))
+}
+
+fn show_output_path(alloc: Global, words: &[Word]) -> Result<Answer, CaseFault> {
+    let (elements, tail) = both(words)?;
+    let elements = plain(elements)?;
+    let tail = path(alloc, tail)?;
+    shown(alloc, output_path(alloc, elements, &tail))
+}
+
+fn show_location_path(alloc: Global, words: &[Word]) -> Result<Answer, CaseFault> {
+    let (words, roots) = halves(words);
+    let [dir, location, name] = words else {
+        return Err(CaseFault::WrongWords);
+    };
+    let location = plain(location.as_str()?)?;
+    let name = plain(name.as_str()?)?;
+    let roots = paths(alloc, roots)?;
+    let dir = path(alloc, dir.as_str()?)?;
+    path_answer(
+        alloc,
+        location_path(alloc, roots.as_slice(), &dir, location, name),
+    )
+}
+
+fn show_is_in_roots(alloc: Global, words: &[Word]) -> Result<Answer, CaseFault> {
+    let (words, roots) = halves(words);
+    let path = path(alloc, only(words)?)?;
+    let roots = paths(alloc, roots)?;
+    truth(alloc, is_in_roots(roots.as_slice(), &path))
+}
+
+/// Carries out a command on paths.
+pub fn path_command(alloc: Global, command: &Command) -> Result<Answer, CaseFault> {
+    let words = command.words();
+    match command.name() {
+        "source_tail" => {
+            let path = path(alloc, only(words)?)?;
+            shown(alloc, source_tail(alloc, &path))
+        }
+        "converted_tail" => show_converted_tail(alloc, words),
+        "named_tail" => show_named_tail(alloc, words),
+        "output_path" => show_output_path(alloc, words),
+        "location_path" => show_location_path(alloc, words),
+        "is_in_roots" => show_is_in_roots(alloc, words),
+        _ => Err(CaseFault::UnknownCommand),
+    }
+}
