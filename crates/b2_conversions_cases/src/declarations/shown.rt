@@ -117,39 +117,28 @@ fn listed(
     Ok(answer)
 }
 
-/// A declaration in lines.
-pub fn shown(alloc: Global, declaration: &Declaration) -> Result<Answer, CaseFault> {
+/// A declaration of the tables in lines; the only other one is an import.
+fn registered(alloc: Global, declaration: &Declaration) -> Result<Answer, CaseFault> {
     match declaration {
-        Declaration::Project(attributes) => project(alloc, attributes),
-        Declaration::Main(target) => main_target(alloc, target),
-        Declaration::Explicit(names) => {
-            Answer::line(
-                alloc,
-                listed_line(alloc, "explicit", names.as_slice())?.as_str(),
-            )
-        }
-        Declaration::BuildProject(dir) => headed(alloc, "build-project", dir.as_str()),
-        Declaration::UseProject { id, dir } => used_project(alloc, id, dir.as_str()),
-        Declaration::Using { command } => maybe_headed(alloc, "using gcc", command.as_ref()),
         Declaration::Feature {
             name,
             values,
             attributes,
-        } => listed(
-            alloc,
-            "feature",
-            name,
-            &[
+        } => {
+            let lists = [
                 ("values", values.as_slice()),
                 ("attributes", attributes.as_slice()),
-            ],
-        ),
-        Declaration::Compose { property, parts } => listed(
-            alloc,
-            "compose",
-            property,
-            &[("components", parts.as_slice())],
-        ),
+            ];
+            listed(alloc, "feature", name, &lists)
+        }
+        Declaration::Compose { property, parts } => {
+            listed(
+                alloc,
+                "compose",
+                property,
+                &[("components", parts.as_slice())],
+            )
+        }
         Declaration::FileType { name, suffixes } => {
             listed(alloc, "type", name, &[("suffixes", suffixes.as_slice())])
         }
@@ -158,16 +147,31 @@ pub fn shown(alloc: Global, declaration: &Declaration) -> Result<Answer, CaseFau
             sources,
             targets,
             requirements,
-        } => listed(
-            alloc,
-            "generator",
-            id,
-            &[
+        } => {
+            let lists = [
                 ("sources", sources.as_slice()),
                 ("targets", targets.as_slice()),
                 ("requirements", requirements.as_slice()),
-            ],
-        ),
-        Declaration::Import => Answer::line(alloc, "import"),
+            ];
+            listed(alloc, "generator", id, &lists)
+        }
+        _ => Answer::line(alloc, "import"),
+    }
+}
+
+fn names_line(alloc: Global, kind: &str, names: &[Text]) -> Result<Answer, CaseFault> {
+    Answer::line(alloc, listed_line(alloc, kind, names)?.as_str())
+}
+
+/// A declaration in lines.
+pub fn shown(alloc: Global, declaration: &Declaration) -> Result<Answer, CaseFault> {
+    match declaration {
+        Declaration::Project(attributes) => project(alloc, attributes),
+        Declaration::Main(target) => main_target(alloc, target),
+        Declaration::Explicit(names) => names_line(alloc, "explicit", names.as_slice()),
+        Declaration::BuildProject(dir) => headed(alloc, "build-project", dir.as_str()),
+        Declaration::UseProject { id, dir } => used_project(alloc, id, dir.as_str()),
+        Declaration::Using { command } => maybe_headed(alloc, "using gcc", command.as_ref()),
+        _ => registered(alloc, declaration),
     }
 }
