@@ -1,19 +1,16 @@
 //! Commands on the files of a host.
-use crate::args::{fault_answer, io_answer, number, path};
-use b2_base::text_list::TextList;
+use crate::real::answers::{fault_answer, io_answer};
 use b2_host::fault::Failed;
 use b2_host::files::{Files, ReadAnswer};
 use std::alloc::Global;
 use transcript::answer::{Answer, shown};
 use transcript::case_fault::CaseFault;
 use transcript::command::{Command, Word};
+use transcript::words::{both, number, only, path};
 
 /// `stat PATH`: whether a file stands there.
 fn stat<H: Files>(alloc: Global, host: &mut H, words: &[Word]) -> Result<Answer, CaseFault> {
-    let [word] = words else {
-        return Err(CaseFault::WrongWords);
-    };
-    match host.stat(&path(alloc, word)?) {
+    match host.stat(&path(alloc, only(words)?)?) {
         Ok(None) => Answer::line(alloc, "None"),
         Ok(Some(_stamp)) => Answer::line(alloc, "Some"),
         Err(Failed) => Answer::line(alloc, "Failed"),
@@ -34,77 +31,62 @@ fn read_answer(alloc: Global, answer: &ReadAnswer) -> Result<Answer, CaseFault> 
 
 /// `read PATH MOST`: the bytes of the file there, where it has no more than so many.
 fn read<H: Files>(alloc: Global, host: &mut H, words: &[Word]) -> Result<Answer, CaseFault> {
-    let [word, most] = words else {
-        return Err(CaseFault::WrongWords);
-    };
+    let (name, most) = both(words)?;
     let most = number(most)? as u64;
-    match host.read(&path(alloc, word)?, most) {
+    match host.read(&path(alloc, name)?, most) {
         Ok(answer) => read_answer(alloc, &answer),
         Err(fault) => fault_answer(alloc, fault),
     }
 }
 
-fn names_answer(alloc: Global, names: &TextList) -> Result<Answer, CaseFault> {
-    let mut answer = Answer::new(alloc);
-    for name in names.as_slice() {
-        answer.push_line(name.as_str())?;
-    }
-    Ok(answer)
-}
-
 /// `list DIR`: the names of the files in it, one a line.
 fn list<H: Files>(alloc: Global, host: &mut H, words: &[Word]) -> Result<Answer, CaseFault> {
-    let [word] = words else {
-        return Err(CaseFault::WrongWords);
-    };
-    match host.list(&path(alloc, word)?) {
-        Ok(names) => names_answer(alloc, &names),
+    match host.list(&path(alloc, only(words)?)?) {
+        Ok(names) => Answer::texts(alloc, names.as_slice()),
         Err(fault) => fault_answer(alloc, fault),
     }
 }
 
 /// `append PATH BYTES`: adds bytes to a file.
 fn append<H: Files>(alloc: Global, host: &mut H, words: &[Word]) -> Result<Answer, CaseFault> {
-    let [word, piece] = words else {
+    let [name, piece] = words else {
         return Err(CaseFault::WrongWords);
     };
-    io_answer(alloc, host.append(&path(alloc, word)?, piece.bytes()))
+    let path = path(alloc, name.as_str()?)?;
+    io_answer(alloc, host.append(&path, piece.bytes()))
 }
 
 /// `replace PATH BYTES`: puts bytes in place of a file.
 fn replace<H: Files>(alloc: Global, host: &mut H, words: &[Word]) -> Result<Answer, CaseFault> {
-    let [word, piece] = words else {
+    let [name, piece] = words else {
         return Err(CaseFault::WrongWords);
     };
-    io_answer(alloc, host.replace(&path(alloc, word)?, piece.bytes()))
+    let path = path(alloc, name.as_str()?)?;
+    io_answer(alloc, host.replace(&path, piece.bytes()))
 }
 
 /// `remove PATH`: leaves no file there.
 fn remove<H: Files>(alloc: Global, host: &mut H, words: &[Word]) -> Result<Answer, CaseFault> {
-    let [word] = words else {
-        return Err(CaseFault::WrongWords);
-    };
-    match host.remove(&path(alloc, word)?) {
+    match host.remove(&path(alloc, only(words)?)?) {
         Ok(()) => Answer::line(alloc, "Ok"),
         Err(Failed) => Answer::line(alloc, "Failed"),
     }
 }
 
-/// Carries out a command on files; None where it is none. It asks no more of the host than files.
+/// Carries out a command on files. It asks no more of the host than files.
 pub fn file_command<H: Files>(
     alloc: Global,
     host: &mut H,
     command: &Command,
-) -> Result<Option<Answer>, CaseFault> {
+) -> Result<Answer, CaseFault> {
     let words = command.words();
-    let answer = match command.name() {
-        "stat" => stat(alloc, host, words)?,
-        "read" => read(alloc, host, words)?,
-        "list" => list(alloc, host, words)?,
-        "append" => append(alloc, host, words)?,
-        "replace" => replace(alloc, host, words)?,
-        "remove" => remove(alloc, host, words)?,
-        _ => return Ok(None),
-    };
-    Ok(Some(answer))
+    match command.name() {
+        "stat" => stat(alloc, host, words),
+        "read" => read(alloc, host, words),
+        "list" => list(alloc, host, words),
+        "append" => append(alloc, host, words),
+        "replace" => replace(alloc, host, words),
+        "remove" => remove(alloc, host, words),
+        _ => Err(CaseFault::UnknownCommand),
+    }
 }

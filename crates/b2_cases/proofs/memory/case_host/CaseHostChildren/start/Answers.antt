@@ -5,7 +5,7 @@ use Rattle.b2_host.specs.ChildCalls.{Starts}
 use Rattle.b2_memory.specs.Hosts.{told_outside}
 use Rattle.b2_cases.specs.Untold.{hidden}
 use Rattle.b2_cases.proofs.UntoldLemmas.{may_start, starts_hidden}
-use Rattle.b2_cases.proofs.case_host.CaseHostChildren.start.Goals as goal
+use Rattle.b2_cases.proofs.memory.case_host.CaseHostChildren.start.Goals as goal
 
 pub start-requires : goal.start-requires
 start-requires c = may_start (told_outside c.note.new.self.memory).children c.args.ins.now c.args.outs.now (subst (λ (o : Outside). MayStart o.children.running c.args.ins.now c.args.outs.now) (sym c.note.ensures) c.requires)

@@ -1,6 +1,7 @@
 //! Commands on the child processes of the system.
-use crate::args::{io_answer, number, paths};
-use crate::system::System;
+use crate::real::answers::io_answer;
+use crate::real::file_commands::file_command;
+use crate::real::system::System;
 use b2_base::path::Path;
 use b2_host::children::Children;
 use b2_host::fault::{Failed, IoFault};
@@ -9,6 +10,7 @@ use std::alloc::Global;
 use transcript::answer::Answer;
 use transcript::case_fault::CaseFault;
 use transcript::command::{Command, Word};
+use transcript::words::{no_words, number, only, paths};
 
 fn start_child<R: System>(
     alloc: Global,
@@ -35,8 +37,8 @@ fn start<R: System>(
     let [step, text, outs @ ..] = words else {
         return Err(CaseFault::WrongWords);
     };
-    let outs = paths(alloc, outs)?;
-    start_child(alloc, host, number(step)?, text.as_str()?, outs.as_slice())
+    let (step, text) = (number(step.as_str()?)?, text.as_str()?);
+    start_child(alloc, host, step, text, paths(alloc, outs)?.as_slice())
 }
 
 /// `wait_one`: which child has ended, and how. It needs that one runs.
@@ -45,9 +47,7 @@ fn wait_one<R: System>(
     host: &mut RealHost<R>,
     words: &[Word],
 ) -> Result<Answer, CaseFault> {
-    if !words.is_empty() {
-        return Err(CaseFault::WrongWords);
-    }
+    no_words(words)?;
     if host.running_count() == 0 {
         return Answer::line(alloc, "no child runs");
     }
@@ -105,10 +105,8 @@ fn run_all<R: System>(
     host: &mut RealHost<R>,
     command: &Command,
 ) -> Result<Answer, CaseFault> {
-    let [jobs] = command.words() else {
-        return Err(CaseFault::WrongWords);
-    };
-    match run_lines(host, number(jobs)? as usize, command.text()) {
+    let jobs = number(only(command.words())?)? as usize;
+    match run_lines(host, jobs, command.text()) {
         Ok(ended) => {
             let Ended { well, badly } = ended;
             Answer::line(
@@ -121,18 +119,17 @@ fn run_all<R: System>(
     }
 }
 
-/// Carries out a command on children; None where it is none.
+/// Carries out a command on children, or else one on files.
 pub fn child_command<R: System>(
     alloc: Global,
     host: &mut RealHost<R>,
     command: &Command,
-) -> Result<Option<Answer>, CaseFault> {
+) -> Result<Answer, CaseFault> {
     let words = command.words();
-    let answer = match command.name() {
-        "start" => start(alloc, host, words)?,
-        "wait_one" => wait_one(alloc, host, words)?,
-        "run" => run_all(alloc, host, command)?,
-        _ => return Ok(None),
-    };
-    Ok(Some(answer))
+    match command.name() {
+        "start" => start(alloc, host, words),
+        "wait_one" => wait_one(alloc, host, words),
+        "run" => run_all(alloc, host, command),
+        _ => file_command(alloc, host, command),
+    }
 }

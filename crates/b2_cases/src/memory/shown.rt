@@ -1,5 +1,5 @@
 //! Answers of the program and of its host, as lines.
-use crate::case_host::Calls;
+use crate::memory::case_host::Calls;
 use b2_answers::answer::Answer as Ended;
 use b2_base::fault::OutOfMemory;
 use b2_base::path::Path;
@@ -130,9 +130,4 @@ pub fn calls_shown(alloc: Global, calls: Calls) -> Result<Answer, CaseFault> {
         "stat {stat}, read {read}, list {list}, append {append}, replace {replace}, remove {remove}, start {start}, wait {wait}"
     )?;
     Answer::line(alloc, line.as_str())
-}
-
-/// A count.
-pub fn count_shown(alloc: Global, count: u64) -> Result<Answer, CaseFault> {
-    Answer::line(alloc, format!(in alloc; "{count}")?.as_str())
 }

@@ -1,0 +1,6 @@
+//! The whole program over files, child processes and a sink in memory.
+
+mod case_host;
+mod case_sink;
+pub mod session;
+mod shown;
