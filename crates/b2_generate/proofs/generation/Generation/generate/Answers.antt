@@ -13,9 +13,6 @@ returns-in_err-earliest-clause-request g c = request_out c.from_residual.result 
 pub same-name : goal.same-name
 same-name g c = refl
 
-pub same-asked : goal.same-asked
-same-asked g c = refl
-
 pub begin-requires : goal.begin-requires
 begin-requires g c = c.requires.ready.numbered
 

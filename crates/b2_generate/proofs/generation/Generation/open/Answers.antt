@@ -106,6 +106,3 @@ returns-clause-roots g c = refl
 
 pub same-name : goal.same-name
 same-name g c = refl
-
-pub same-asked : goal.same-asked
-same-asked g c = refl

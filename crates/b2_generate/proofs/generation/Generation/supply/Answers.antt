@@ -115,6 +115,3 @@ returns-in_ok-take-in-Some-clause-roots g c = refl
 
 pub same-name : goal.same-name
 same-name g c = refl
-
-pub same-asked : goal.same-asked
-same-asked g c = refl
