@@ -23,11 +23,12 @@ use Rattle.b2_generate.specs.Told.{unless}
 use Rattle.b2_generate.specs.declared.fault.GenFault.{GenFault}
 use Rattle.b2_generate.specs.declared.fault.GenFault.TheVariants as generating
 use Rattle.b2_front.specs.Laws.{OneMeaning}
-use Rattle.b2_front.specs.Meaning.{Refusal as Why, of_load, of_request, of_generation, Means}
-use Rattle.b2_front.specs.Preparing.{IfRefusal, call_of}
-use Rattle.b2_front.specs.Refusals.{refusal_of, pattern_of as front_pattern, IsWholeRefusal}
+use Rattle.b2_front.specs.Meaning.{Refusal as Why, of_load, of_request, of_generation, ReachesGeneration, Means}
+use Rattle.b2_front.specs.Preparing.{IfRefusal, IsPrepared, call_of}
+use Rattle.b2_front.specs.Refusals.{refusal_of, IsWholeRefusal}
 use Rattle.b2_front.specs.declared.refusal.Refusal.{Refusal}
 use Rattle.b2_front.specs.declared.refusal.Refusal.TheVariants as refusals
+use Rattle.b2_front.specs.declared.refusal.Stop.TheVariants as stops
 use Rattle.b2_refusals.specs.Wholes.{IsEvalRefusal, IsLoadRefusal, IsChoiceRefusal, IsMakingRefusal, IsGenRefusal, IsWhole}
 use Rattle.b2_answers.specs.Causes.{fault_of, pattern_of_choice, pattern_of_making, pattern_of_generation, IsOfPattern}
 
@@ -112,6 +113,10 @@ module _ (law : OneMeaning) (disk : Disk) (words echoes others : List Text) (pla
   abbrev IsTold : Option Text → Why → Type 0
   IsTold pattern found = (left : ℕ) × Means disk (call_of left pattern) words others (Err found)
 
+  -- what is told of a pattern that is refused in generation
+  abbrev Reaches : Type 0
+  Reaches = ReachesGeneration disk words others
+
   no_refusal : (found : Why) → IsTold None found → ⊥
   no_refusal found told = let e : ◌≡◌ {A = Result Planned Why} (Ok planned) (Err found) = (law disk None words echoes others (Ok planned) (Err found) means told.1).1 in cc
 
@@ -119,20 +124,20 @@ module _ (law : OneMeaning) (disk : Disk) (words echoes others : List Text) (pla
   by_pattern None found told = absurd (no_refusal found told)
   by_pattern (Some p) found told = (p, refl)
 
-  by_load : (fault : LoadFault) → (why : LoadRefusal) × (load_refusal fault ≡ Some why) → IfRefusal (option_map of_load (load_refusal fault)) (IsTold (load_refused_by fault)) → (p : Text) × (load_refused_by fault ≡ Some p)
-  by_load fault found told = by_pattern (load_refused_by fault) (of_load found.0) (subst (λ o. IfRefusal (option_map of_load o) (IsTold (load_refused_by fault))) found.1 told)
+  by_load : (fault : LoadFault) → (why : LoadRefusal) × (load_refusal fault ≡ Some why) → IfRefusal (Unit {0}) (option_map of_load (load_refusal fault)) (IsTold (load_refused_by fault)) → (p : Text) × (load_refused_by fault ≡ Some p)
+  by_load fault found told = by_pattern (load_refused_by fault) (of_load found.0) (subst (λ o. IfRefusal (Unit {0}) (option_map of_load o) (IsTold (load_refused_by fault))) found.1 told)
 
-  by_request : (fault : RequestFault) → IsWholeRefusal (refusals.Request fault) → IfRefusal (refusal_of (refusals.Request fault)) (IsTold None) → ⊥
+  by_request : (fault : RequestFault) → IsWholeRefusal (refusals.Request fault) → IfRefusal (Unit {0}) (refusal_of (refusals.Request fault)) (IsTold None) → ⊥
   by_request (asking.UnknownWord word) h told = no_refusal (of_request (asking.UnknownWord word)) told
   by_request (asking.UnknownValue word) h told = no_refusal (of_request (asking.UnknownValue word)) told
   by_request (asking.Conflict word) h told = no_refusal (of_request (asking.Conflict word)) told
   by_request asking.OutOfMemory h told = h
 
-  by_evaluation : (refused : Option Text) (fault : Generating EvalFault) → IfRefusal (option_map of_generation (unless (is_some refused) (is_some refused) fault)) (IsTold None) → (p : Text) × (refused ≡ Some p)
+  by_evaluation : (refused : Option Text) (fault : Generating EvalFault) → IfRefusal Reaches (option_map of_generation (unless (is_some refused) (is_some refused) fault)) (IsTold None) → (p : Text) × (refused ≡ Some p)
   by_evaluation None fault told = absurd (no_refusal (of_generation fault) told)
   by_evaluation (Some p) fault told = (p, refl)
 
-  by_choice : (fault : ChoiceFault EvalFault) → IsWholeRefusal (refusals.Generation (generating.NotChosen fault)) → IfRefusal (refusal_of (refusals.Generation (generating.NotChosen fault))) (IsTold None)
+  by_choice : (fault : ChoiceFault EvalFault) → IsWholeRefusal (refusals.Generation (generating.NotChosen fault)) → IfRefusal Reaches (refusal_of (refusals.Generation (generating.NotChosen fault))) (IsTold None)
       → (p : Text) × (pattern_of_choice fault ≡ Some p)
   by_choice (choosing.NoAlternative target set) h told = absurd (no_refusal (of_generation (not_chosen (choosing.NoAlternative target set))) told)
   by_choice (choosing.AmbiguousAlternative target set i k) h told = absurd (no_refusal (of_generation (not_chosen (choosing.AmbiguousAlternative target set i k))) told)
@@ -144,7 +149,7 @@ module _ (law : OneMeaning) (disk : Disk) (words echoes others : List Text) (pla
       by_evaluation (refused_by (evaluating.At path line why)) (not_chosen (choosing.Eval (evaluating.At path line why))) told
   by_choice choosing.OutOfMemory h told = absurd h
 
-  by_making : (fault : MakingFault EvalFault) → IsWholeRefusal (refusals.Generation (generating.NotMade fault)) → IfRefusal (refusal_of (refusals.Generation (generating.NotMade fault))) (IsTold None)
+  by_making : (fault : MakingFault EvalFault) → IsWholeRefusal (refusals.Generation (generating.NotMade fault)) → IfRefusal Reaches (refusal_of (refusals.Generation (generating.NotMade fault))) (IsTold None)
       → (p : Text) × (pattern_of_making fault ≡ Some p)
   by_making (making.NoChain from to) h told = absurd (no_refusal (of_generation (not_made (made.no_chain from to))) told)
   by_making (making.TwoChains from to first second) h told = absurd (no_refusal (of_generation (not_made (made.two_chains from to first second))) told)
@@ -157,7 +162,7 @@ module _ (law : OneMeaning) (disk : Disk) (words echoes others : List Text) (pla
       by_evaluation (refused_by (evaluating.At path line why)) (not_made (made.eval (evaluating.At path line why))) told
   by_making making.OutOfMemory h told = absurd h
 
-  by_generation : (fault : GenFault EvalFault) → IsWholeRefusal (refusals.Generation fault) → IfRefusal (refusal_of (refusals.Generation fault)) (IsTold None)
+  by_generation : (fault : GenFault EvalFault) → IsWholeRefusal (refusals.Generation fault) → IfRefusal Reaches (refusal_of (refusals.Generation fault)) (IsTold None)
       → (p : Text) × (pattern_of_generation fault ≡ Some p)
   by_generation (generating.NoTarget name) h told = absurd (no_refusal (of_generation (no_target name)) told)
   by_generation (generating.TargetCycle targets) h told = absurd (no_refusal (of_generation (target_cycle targets)) told)
@@ -166,7 +171,7 @@ module _ (law : OneMeaning) (disk : Disk) (words echoes others : List Text) (pla
   by_generation (generating.NotMade fault) h told = by_making fault h told
   by_generation generating.OutOfMemory h told = absurd h
 
-  pub pattern_refused : (why : Refusal) → IsWholeRefusal why → IfRefusal (refusal_of why) (IsTold (front_pattern why)) → IsOfPattern (fault_of why)
+  pub pattern_refused : (why : Refusal) → IsWholeRefusal why → IsPrepared disk words others (Err (stops.Refused why)) → IsOfPattern (fault_of why)
   pattern_refused (refusals.Load fault) h told = by_load fault (load_found fault h) told
   pattern_refused (refusals.Request fault) h told = absurd (by_request fault h told)
   pattern_refused (refusals.Generation fault) h told = by_generation fault h told

@@ -12,6 +12,7 @@ use Rattle.jam_effects.specs.declared.fault.EvalFault.{EvalFault}
 use Rattle.jam_effects.specs.declared.turns.Turns.{Turns}
 use Rattle.jam_effects.specs.Machines.{folder_of}
 use Rattle.b2_plan.specs.Plans.{Apart}
+use Rattle.b2_props.specs.Requests.{request_fault}
 use Rattle.b2_metatargets.specs.declared.whole.Declared.{Declared}
 use Rattle.b2_walk.specs.declared.fault.LoadFault.{LoadFault}
 use Rattle.b2_walk.specs.Faults.{refusal_of as load_refusal, refused_by, IsWhole as IsWholeLoad}
@@ -27,7 +28,7 @@ use Rattle.b2_generate.specs.Planning.{Planned}
 use Rattle.b2_front.specs.declared.refusal.Stop.{Stop}
 use Rattle.b2_front.specs.declared.refusal.Stop.TheVariants as stops
 use Rattle.b2_front.specs.Meaning.{Refusal, of_load, of_request, of_generation, load_turns, load_setting, project_of, Means}
-use Rattle.b2_front.specs.Meaning.{not_loaded, not_asked, not_planned, planned}
+use Rattle.b2_front.specs.Meaning.{ReachesGeneration, not_loaded, not_asked, not_planned, planned}
 use Rattle.b2_front.specs.Refusals.{stop_of_load}
 use Rattle.b2_front.specs.Preparing.{IfRefusal, Tells, call_of, IsPrepared, IsWhole, Counts}
 use Rattle.b2_front.specs.Parts.{IsReady, IsAsked, GoesOn}
@@ -59,10 +60,21 @@ module _ (disk : Disk) (words lines : List Text) where
       (subst (λ (v : Worlds). project_of disk project.world project.declared ≡ project_of disk v project.declared) is.world refl)
 
   prepared_so : (project : Project) (last : ℕ) → IsLoaded (load_setting disk None) words load_turns last lines (Ok project) → (result : Result Made Stop)
-      → Tells (λ pattern outcome. (pattern ≡ None) × IsAsked (project_of disk project.world project.declared) words outcome) result → IsPrepared disk words lines result
+      → Tells (request_fault project.declared.registry words ≡ None) (λ pattern outcome. (pattern ≡ None) × IsAsked (project_of disk project.world project.declared) words outcome) result
+      → IsPrepared disk words lines result
   prepared_so project last (w, found, loads, is, echoes, after) result told =
-      tells_map (λ pattern outcome. (pattern ≡ None) × IsAsked (project_of disk project.world project.declared) words outcome) Comes follows result told
+      tells_map (request_fault project.declared.registry words ≡ None) (λ pattern outcome. (pattern ≡ None) × IsAsked (project_of disk project.world project.declared) words outcome)
+      (ReachesGeneration disk words lines) Comes reaches follows result told
     where
+      reaches : request_fault project.declared.registry words ≡ None → ReachesGeneration disk words lines
+      reaches sound = record {
+        walk = w;
+        found = found;
+        loads = loads;
+        asked = subst (λ (d : Declared). request_fault d.registry words ≡ None) is.declared sound;
+        echoes = echoes;
+      }
+
       follows : (pattern : Option Text) (outcome : Result Planned Refusal) → (pattern ≡ None) × IsAsked (project_of disk project.world project.declared) words outcome → Comes pattern outcome
       follows pattern outcome h = (
         0,
@@ -73,10 +85,10 @@ module _ (disk : Disk) (words lines : List Text) where
 
   refused_so : (fault : LoadFault) (last : ℕ) → IsLoaded (load_setting disk (call_of last (refused_by fault))) words load_turns last lines (Err fault)
       → IsPrepared disk words lines (Err (stop_of_load fault))
-  refused_so fault last h = load_told Comes fault (go (load_refusal fault) h)
+  refused_so fault last h = load_told (ReachesGeneration disk words lines) Comes fault (go (load_refusal fault) h)
     where
       go : (why : Option LoadRefusal) → IsRefused (load_setting disk (call_of last (refused_by fault))) words load_turns last lines why
-          → IfRefusal (option_map of_load why) (λ f. Comes (refused_by fault) (Err f))
+          → IfRefusal (Unit {0}) (option_map of_load why) (λ f. Comes (refused_by fault) (Err f))
       go None g = tt
       go (Some why) (s, loads, echoes, after) = (last, subst (λ ls. Means disk (call_of last (refused_by fault)) words ls (Err (of_load why))) (sym echoes) (not_loaded why s loads))
 
@@ -93,7 +105,7 @@ module _ (words lines : List Text) (from mid to : Outside) (first last : Turns) 
       (subst (λ n. IsLoaded (load_setting disk None) words n last.left lines (Ok project)) left_is
       (told (load_setting disk None) (subst (λ n. IsSettingFor (load_setting disk None) n from) (sym budget_is) (setting_for from disk visible consistent None)) (λ left low high. refl)))
       result
-      (subst (λ d. IfSome d (λ (e : Disk). Tells (λ pattern outcome. (pattern ≡ None) × IsAsked (project_of e project.world project.declared) words outcome) result)) (same ∙ visible) goes.told)
+      (subst (λ d. IfSome d (λ (e : Disk). Tells (request_fault project.declared.registry words ≡ None) (λ pattern outcome. (pattern ≡ None) × IsAsked (project_of e project.world project.declared) words outcome) result)) (same ∙ visible) goes.told)
   so disk visible consistent (Err fault) told same result goes =
       let call = call_of last.left (refused_by fault) in
       subst (IsPrepared disk words lines) (sym goes.0)

@@ -38,9 +38,9 @@ use Rattle.b2_front.proofs.StopLemmas.{generated_told, generated_whole, generate
 -- ---- what is kept
 
 -- an answer that nothing was done for
-pub nothing_done : (Told : Disk → Result Planned Refusal → Type 0) (o : Outside) (stop : Stop)
-    → IfSome o.disk (λ disk. Tells (λ pattern outcome. (pattern ≡ None) × Told disk outcome) (Err stop)) → IsWhole stop → Counts (Err stop) o o → Does Told o o (Err stop)
-nothing_done Told o stop told whole counts = record {
+pub nothing_done : (Rest : Type 0) (Told : Disk → Result Planned Refusal → Type 0) (o : Outside) (stop : Stop)
+    → IfSome o.disk (λ disk. Tells Rest (λ pattern outcome. (pattern ≡ None) × Told disk outcome) (Err stop)) → IsWhole stop → Counts (Err stop) o o → Does Rest Told o o (Err stop)
+nothing_done Rest Told o stop told whole counts = record {
   told = told;
   whole = whole;
   apart = tt;
@@ -50,10 +50,10 @@ nothing_done Told o stop told whole counts = record {
   counts = counts;
 }
 
-pub no_memory : (Told : Disk → Result Planned Refusal → Type 0) (o : Outside) → Does Told o o (Err stops.OutOfMemory)
-no_memory Told o = nothing_done Told o stops.OutOfMemory (visible o.disk) tt tt
+pub no_memory : (Rest : Type 0) (Told : Disk → Result Planned Refusal → Type 0) (o : Outside) → Does Rest Told o o (Err stops.OutOfMemory)
+no_memory Rest Told o = nothing_done Rest Told o stops.OutOfMemory (visible o.disk) tt tt
   where
-    visible : (disk : Option Disk) → IfSome disk (λ d. Tells (λ pattern outcome. (pattern ≡ None) × Told d outcome) (Err stops.OutOfMemory))
+    visible : (disk : Option Disk) → IfSome disk (λ d. Tells Rest (λ pattern outcome. (pattern ≡ None) × Told d outcome) (Err stops.OutOfMemory))
     visible None = tt
     visible (Some d) = tt
 
@@ -62,11 +62,11 @@ no_memory Told o = nothing_done Told o stops.OutOfMemory (visible o.disk) tt tt
 module _ (found : Declared) (worlds : Worlds) (request : Request) (roots : List (List ℕ)) (from to : Outside) (result : Result Made (GenFault EvalFault)) where
   told_over : ((told : Answers EvalFault) → told_in found.places worlds from.disk ≡ Some told → IsPlanned (loaded_of found roots told) is_host_fault is_out_of_memory request result)
       → roots ≡ worlds.now.roots
-      → IfSome from.disk (λ disk. Tells (λ pattern outcome. (pattern ≡ None) × IsGenerated (project_of disk worlds found) request.sets request.targets outcome) (planned_or_stop result))
+      → IfSome from.disk (λ disk. Tells (Unit {0}) (λ pattern outcome. (pattern ≡ None) × IsGenerated (project_of disk worlds found) request.sets request.targets outcome) (planned_or_stop result))
   told_over told same = go from.disk refl
     where
       go : (disk : Option Disk) → from.disk ≡ disk
-          → IfSome disk (λ d. Tells (λ pattern outcome. (pattern ≡ None) × IsGenerated (project_of d worlds found) request.sets request.targets outcome) (planned_or_stop result))
+          → IfSome disk (λ d. Tells (Unit {0}) (λ pattern outcome. (pattern ≡ None) × IsGenerated (project_of d worlds found) request.sets request.targets outcome) (planned_or_stop result))
       go None e = tt
       go (Some d) e =
           generated_told (project_of d worlds found) request result
@@ -106,7 +106,7 @@ generated_asked l words sound pattern (Err (of_generation why)) h = (h.0, (sound
 
 module _ (words : List Text) (found : Declared) (worlds : Worlds) (from to : Outside) where
   abbrev IsTold : Result Made Stop → List (List Pair) → List Text → Option Disk → Type 0
-  IsTold result sets targets disk = IfSome disk (λ d. Tells (λ pattern outcome. (pattern ≡ None) × IsGenerated (project_of d worlds found) sets targets outcome) result)
+  IsTold result sets targets disk = IfSome disk (λ d. Tells (Unit {0}) (λ pattern outcome. (pattern ≡ None) × IsGenerated (project_of d worlds found) sets targets outcome) result)
 
   pub asks_planned : (sets : List (List Pair)) (targets : List Text) (result : Result Made Stop) → sets ≡ request_sets found.registry words → targets ≡ target_words found.registry words
       → request_fault found.registry words ≡ None → PlansRequest found worlds sets targets from to result → Asks words found worlds from to result
@@ -121,17 +121,17 @@ module _ (words : List Text) (found : Declared) (worlds : Worlds) (from to : Out
   }
     where
       go : (disk : Option Disk) → IsTold result (request_sets found.registry words) (target_words found.registry words) disk
-          → IfSome disk (λ d. Tells (λ pattern outcome. (pattern ≡ None) × IsAsked (project_of d worlds found) words outcome) result)
+          → IfSome disk (λ d. Tells (request_fault found.registry words ≡ None) (λ pattern outcome. (pattern ≡ None) × IsAsked (project_of d worlds found) words outcome) result)
       go None h = tt
       go (Some d) h =
-          tells_map (λ pattern outcome. (pattern ≡ None) × IsGenerated (project_of d worlds found) (request_sets found.registry words) (target_words found.registry words) outcome)
-          (λ pattern outcome. (pattern ≡ None) × IsAsked (project_of d worlds found) words outcome) (generated_asked (project_of d worlds found) words sound) result h
+          tells_map (Unit {0}) (λ pattern outcome. (pattern ≡ None) × IsGenerated (project_of d worlds found) (request_sets found.registry words) (target_words found.registry words) outcome)
+          (request_fault found.registry words ≡ None) (λ pattern outcome. (pattern ≡ None) × IsAsked (project_of d worlds found) words outcome) (λ unit. sound) (generated_asked (project_of d worlds found) words sound) result h
 
   pub asks_refused : (fault : RequestFault) → IsBy (request_fault found.registry words) fault
       → Asks words found worlds from from (Err (stop_of_request fault))
   asks_refused fault cause =
-      nothing_done (λ disk. IsAsked (project_of disk worlds found) words) from (stop_of_request fault) (go from.disk) (asked_whole fault) (asked_counts fault from)
+      nothing_done (request_fault found.registry words ≡ None) (λ disk. IsAsked (project_of disk worlds found) words) from (stop_of_request fault) (go from.disk) (asked_whole fault) (asked_counts fault from)
     where
-      go : (disk : Option Disk) → IfSome disk (λ d. Tells (λ pattern outcome. (pattern ≡ None) × IsAsked (project_of d worlds found) words outcome) (Err (stop_of_request fault)))
+      go : (disk : Option Disk) → IfSome disk (λ d. Tells (request_fault found.registry words ≡ None) (λ pattern outcome. (pattern ≡ None) × IsAsked (project_of d worlds found) words outcome) (Err (stop_of_request fault)))
       go None = tt
       go (Some d) = asked_told (project_of d worlds found) words fault cause

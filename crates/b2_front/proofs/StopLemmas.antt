@@ -67,7 +67,7 @@ load_counts (loading.Feature path line fault) from to h = h
 -- ---- requests
 
 pub asked_told : (l : Loaded EvalFault) (words : List Text) (fault : RequestFault) → IsBy (request_fault l.declared.registry words) fault
-    → Tells (λ pattern outcome. (pattern ≡ None) × IsAsked l words outcome) (Err (stop_of_request fault))
+    → Tells (request_fault l.declared.registry words ≡ None) (λ pattern outcome. (pattern ≡ None) × IsAsked l words outcome) (Err (stop_of_request fault))
 asked_told l words (asking.UnknownWord word) h = (refl, h)
 asked_told l words (asking.UnknownValue word) h = (refl, h)
 asked_told l words (asking.Conflict word) h = (refl, h)
@@ -88,13 +88,13 @@ asked_counts asking.OutOfMemory o = tt
 -- ---- generation
 
 pub generated_told : (l : Loaded EvalFault) (request : Request) (result : Result Made (GenFault EvalFault)) → IsPlanned l is_host_fault is_out_of_memory request result
-    → Tells (λ pattern outcome. (pattern ≡ None) × IsGenerated l request.sets request.targets outcome) (planned_or_stop result)
+    → Tells (Unit {0}) (λ pattern outcome. (pattern ≡ None) × IsGenerated l request.sets request.targets outcome) (planned_or_stop result)
 generated_told l request (Ok made) h = (refl, h)
 generated_told l request (Err fault) h =
-    generation_told (λ pattern outcome. (pattern ≡ None) × IsGenerated l request.sets request.targets outcome) fault (go (fault_of is_host_fault is_out_of_memory fault) h)
+    generation_told (Unit {0}) (λ pattern outcome. (pattern ≡ None) × IsGenerated l request.sets request.targets outcome) fault (go (fault_of is_host_fault is_out_of_memory fault) h)
   where
     go : (found : Option (Fault EvalFault)) → IfFault (λ why. Plans l request.sets request.targets (Err why)) found
-        → IfRefusal (option_map of_generation found) (λ f. (◌≡◌ {A = Option Text} None None) × IsGenerated l request.sets request.targets (Err f))
+        → IfRefusal (Unit {0}) (option_map of_generation found) (λ f. (◌≡◌ {A = Option Text} None None) × IsGenerated l request.sets request.targets (Err f))
     go None h = tt
     go (Some why) h = (refl, h)
 

@@ -15,17 +15,24 @@ use Rattle.b2_generate.specs.declared.fault.GenFault.TheVariants as generating
 use Rattle.b2_generate.specs.declared.planned.Planned.{Planned as Made}
 use Rattle.b2_generate.specs.Planning.{Planned}
 use Rattle.b2_generate.specs.Plans.{seen}
+use Rattle.b2_front.specs.declared.refusal.Refusal.{Refusal as Why}
 use Rattle.b2_front.specs.declared.refusal.Refusal.TheVariants as refusals
 use Rattle.b2_front.specs.declared.refusal.Stop.{Stop}
 use Rattle.b2_front.specs.declared.refusal.Stop.TheVariants as stops
 use Rattle.b2_front.specs.Meaning.{Refusal}
 use Rattle.b2_front.specs.Refusals.{refusal_of, pattern_of, stop_of_load, stop_of_choice, stop_of_making, stop_of_generation}
-use Rattle.b2_front.specs.Preparing.{IfRefusal, Tells}
+use Rattle.b2_front.specs.Preparing.{IfRefusal, IfOfGeneration, Tells}
 
-module _ (P : Option Text → Result Planned Refusal → Type 0) where
+-- what holds of a refusal of generation
+rest_map : (R S : Type 0) → (R → S) → (why : Why) → IfOfGeneration R why → IfOfGeneration S why
+rest_map R S follows (refusals.Load fault) h = tt
+rest_map R S follows (refusals.Request fault) h = tt
+rest_map R S follows (refusals.Generation fault) h = follows h
+
+module _ (R : Type 0) (P : Option Text → Result Planned Refusal → Type 0) where
   -- ---- faults as answers
 
-  pub load_told : (fault : LoadFault) → IfRefusal (refusal_of (refusals.Load fault)) (λ found. P (refused_by fault) (Err found)) → Tells P (Err (stop_of_load fault))
+  pub load_told : (fault : LoadFault) → IfRefusal (Unit {0}) (refusal_of (refusals.Load fault)) (λ found. P (refused_by fault) (Err found)) → Tells R P (Err (stop_of_load fault))
   load_told loading.Host h = tt
   load_told loading.OutOfMemory h = tt
   load_told loading.NoJamroot h = h
@@ -38,9 +45,9 @@ module _ (P : Option Text → Result Planned Refusal → Type 0) where
   load_told (loading.Feature path line fault) h = h
 
   abbrev IsTold : GenFault EvalFault → Type 0
-  IsTold fault = IfRefusal (refusal_of (refusals.Generation fault)) (λ found. P None (Err found))
+  IsTold fault = IfRefusal R (refusal_of (refusals.Generation fault)) (λ found. P None (Err found))
 
-  choice_told : (fault : ChoiceFault EvalFault) → IsTold (generating.NotChosen fault) → Tells P (Err (stop_of_choice fault))
+  choice_told : (fault : ChoiceFault EvalFault) → IsTold (generating.NotChosen fault) → Tells R P (Err (stop_of_choice fault))
   choice_told (choosing.NoAlternative target set) h = h
   choice_told (choosing.AmbiguousAlternative target set i k) h = h
   choice_told (choosing.Unstable target first second) h = h
@@ -50,7 +57,7 @@ module _ (P : Option Text → Result Planned Refusal → Type 0) where
   choice_told (choosing.Eval (evaluating.At path line cause)) h = h
   choice_told choosing.OutOfMemory h = tt
 
-  making_told : (fault : MakingFault EvalFault) → IsTold (generating.NotMade fault) → Tells P (Err (stop_of_making fault))
+  making_told : (fault : MakingFault EvalFault) → IsTold (generating.NotMade fault) → Tells R P (Err (stop_of_making fault))
   making_told (making.NoChain source goal) h = h
   making_told (making.TwoChains source goal first second) h = h
   making_told (making.PathClash path) h = h
@@ -61,7 +68,7 @@ module _ (P : Option Text → Result Planned Refusal → Type 0) where
   making_told (making.Eval (evaluating.At path line cause)) h = h
   making_told making.OutOfMemory h = tt
 
-  pub generation_told : (fault : GenFault EvalFault) → IsTold fault → Tells P (Err (stop_of_generation fault))
+  pub generation_told : (fault : GenFault EvalFault) → IsTold fault → Tells R P (Err (stop_of_generation fault))
   generation_told (generating.NoTarget name) h = h
   generation_told (generating.TargetCycle targets) h = h
   generation_told (generating.UsageConflict target feature first second) h = h
@@ -70,13 +77,13 @@ module _ (P : Option Text → Result Planned Refusal → Type 0) where
   generation_told generating.OutOfMemory h = tt
 
   -- what follows from what is told is told too
-  pub tells_map : (Q : Option Text → Result Planned Refusal → Type 0) → ((pattern : Option Text) (outcome : Result Planned Refusal) → P pattern outcome → Q pattern outcome)
-      → (result : Result Made Stop) → Tells P result → Tells Q result
-  tells_map Q follows (Ok made) h = follows None (Ok (seen made)) h
-  tells_map Q follows (Err (stops.Refused why)) h = go (refusal_of why) h
+  pub tells_map : (S : Type 0) (Q : Option Text → Result Planned Refusal → Type 0) → (R → S) → ((pattern : Option Text) (outcome : Result Planned Refusal) → P pattern outcome → Q pattern outcome)
+      → (result : Result Made Stop) → Tells R P result → Tells S Q result
+  tells_map S Q also follows (Ok made) h = follows None (Ok (seen made)) h
+  tells_map S Q also follows (Err (stops.Refused why)) h = go (refusal_of why) h
     where
-      go : (found : Option Refusal) → IfRefusal found (λ f. P (pattern_of why) (Err f)) → IfRefusal found (λ f. Q (pattern_of why) (Err f))
-      go None h = tt
+      go : (found : Option Refusal) → IfRefusal (IfOfGeneration R why) found (λ f. P (pattern_of why) (Err f)) → IfRefusal (IfOfGeneration S why) found (λ f. Q (pattern_of why) (Err f))
+      go None h = rest_map R S also why h
       go (Some f) h = follows (pattern_of why) (Err f) h
-  tells_map Q follows (Err stops.Host) h = tt
-  tells_map Q follows (Err stops.OutOfMemory) h = tt
+  tells_map S Q also follows (Err stops.Host) h = tt
+  tells_map S Q also follows (Err stops.OutOfMemory) h = tt

@@ -37,6 +37,14 @@ load_setting disk refused = record (setting_of disk) { budget = load_turns; refu
 abbrev pub project_of : Disk → Worlds → Declared → Loaded EvalFault
 project_of disk worlds found = record { declared = found; roots = worlds.now.roots; answers = answers_in (setting_of disk) found.places worlds }
 
+-- The files and the words come as far as generation, after these lines of ECHO: a project is loaded, and the words are a request.
+pub record ReachesGeneration (disk : Disk) (words lines : List Text) : Type 0 where
+  pub walk : Walk
+  pub found : Declared
+  pub loads : Loads (load_setting disk None) load_turns words (loaded walk found)
+  pub asked : request_fault found.registry words ≡ None
+  pub echoes : lines ≡ walk.state.kept.echoes
+
 -- The files of a disk and the free words of a command come to lines of ECHO, and to a plan or the first refusal: that of the load, to
 -- which all words are given; else that of the request, which is read by the features that were loaded; else that of generation.
 -- `refused` is the call of a project file, by the turns left in it, of which a pattern is refused though it reads as one, if there is

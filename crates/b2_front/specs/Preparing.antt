@@ -8,30 +8,40 @@ use Rattle.jam_journal.specs.Tables.{Text}
 use Rattle.b2_generate.specs.declared.planned.Planned.{Planned as Made}
 use Rattle.b2_generate.specs.Planning.{Planned}
 use Rattle.b2_generate.specs.Plans.{seen}
+use Rattle.b2_front.specs.declared.refusal.Refusal.{Refusal as Why}
+use Rattle.b2_front.specs.declared.refusal.Refusal.TheVariants as refusals
 use Rattle.b2_front.specs.declared.refusal.Stop.{Stop}
 use Rattle.b2_front.specs.declared.refusal.Stop.TheVariants.{Refused, Host, OutOfMemory}
-use Rattle.b2_front.specs.Meaning.{Refusal, Means}
+use Rattle.b2_front.specs.Meaning.{Refusal, ReachesGeneration, Means}
 use Rattle.b2_front.specs.Refusals.{refusal_of, pattern_of, IsWholeRefusal}
 
--- Something holds of the answer as data, and of the pattern of a project file that was refused though it reads as one, if there was
--- one. Nothing is said of a fault of the host, of out of memory, and of such a pattern of the project's own text.
-abbrev pub IfRefusal : Option Refusal → (Refusal → Type 0) → Type 0
-IfRefusal None Holds = Unit {0}
-IfRefusal (Some why) Holds = Holds why
+-- Something holds of a refusal as data; the rest holds where there is none.
+abbrev pub IfRefusal : Type 0 → Option Refusal → (Refusal → Type 0) → Type 0
+IfRefusal Rest None Holds = Rest
+IfRefusal Rest (Some why) Holds = Holds why
 
-abbrev pub Tells : (Option Text → Result Planned Refusal → Type 0) → Result Made Stop → Type 0
-Tells Holds (Ok plan) = Holds None (Ok (seen plan))
-Tells Holds (Err (Refused why)) = IfRefusal (refusal_of why) (λ found. Holds (pattern_of why) (Err found))
-Tells Holds (Err Host) = Unit {0}
-Tells Holds (Err OutOfMemory) = Unit {0}
+-- something holds, where the refusal is one of generation
+abbrev pub IfOfGeneration : Type 0 → Why → Type 0
+IfOfGeneration Rest (refusals.Load fault) = Unit {0}
+IfOfGeneration Rest (refusals.Request fault) = Unit {0}
+IfOfGeneration Rest (refusals.Generation fault) = Rest
+
+-- Something holds of the answer as data, and of the pattern of a project file that was refused though it reads as one, if there was
+-- one. Where such a pattern of the project's own text is refused in generation, the rest alone holds. Nothing is said of a fault of
+-- the host and of out of memory.
+abbrev pub Tells : Type 0 → (Option Text → Result Planned Refusal → Type 0) → Result Made Stop → Type 0
+Tells Rest Holds (Ok plan) = Holds None (Ok (seen plan))
+Tells Rest Holds (Err (Refused why)) = IfRefusal (IfOfGeneration Rest why) (refusal_of why) (λ found. Holds (pattern_of why) (Err found))
+Tells Rest Holds (Err Host) = Unit {0}
+Tells Rest Holds (Err OutOfMemory) = Unit {0}
 
 -- the call of a pattern, by the turns left in it
 abbrev pub call_of : ℕ → Option Text → Option (ℕ × Text)
 call_of left = option_map (λ pattern. (left, pattern))
 
--- the answer is what the files and the words come to
+-- The answer is what the files and the words come to, or at least they come as far as generation, where a pattern is refused in it.
 abbrev pub IsPrepared : Disk → List Text → List Text → Result Made Stop → Type 0
-IsPrepared disk words lines = Tells (λ pattern result. (left : ℕ) × Means disk (call_of left pattern) words lines result)
+IsPrepared disk words lines = Tells (ReachesGeneration disk words lines) (λ pattern result. (left : ℕ) × Means disk (call_of left pattern) words lines result)
 
 -- no fault of the host and no out of memory is within a refusal
 abbrev pub IsWhole : Stop → Type 0
