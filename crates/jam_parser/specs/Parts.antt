@@ -3,7 +3,7 @@ use Rattle.std.specs.Prelude.{◌≡◌, ℕ, ◌+◌, ◌≤◌, List, [], ◌�
 use Rattle.b2_base.specs.declared.token.Token.{Token}
 use Rattle.jam_grammar.specs.declared.mark.Mark.{Mark}
 use Rattle.jam_grammar.specs.declared.mark.Mark.TheVariants as marks
-use Rattle.jam_grammar.specs.Grammar.{Part, Key, OneWord, OneStmt, OneBlock, OneArg, OneInner, OneExpr, Both, Single, OrTail, AndTail}
+use Rattle.jam_grammar.specs.Grammar.{Part, Key, Args, Params, OneWord, OneStmt, OneBlock, OneArg, OneInner, OneExpr, Both, Single, OrTail, AndTail}
 use Rattle.jam_grammar.specs.Spelling.{Sym, Spells}
 use Rattle.jam_grammar.specs.Spelling as spelling
 use Rattle.jam_grammar.specs.Gives.{Leads, Ends}
@@ -52,10 +52,23 @@ pub record Continues (prefix : List Sym) (parts others : List Part) (tokens : Li
 abbrev pub Completes : List Sym → List Part → List Token → ℕ → List Sym → List Token → Type 0
 Completes prefix parts tokens depth all after = Continues prefix parts [] tokens depth all after
 
+-- the answer has all of the parts, with these symbols, and the tokens after; or reading ends
+abbrev pub Reads : {T : Type 0} → Result T Fault → List Part → List Token → ℕ → (T → List Sym) → (T → List Token) → Type 0
+Reads result parts tokens depth syms after =
+    MatchResult result (λ r. IsRead parts tokens depth (syms r) (after r)) (λ e. EndsBy parts tokens depth e)
+
 -- the answer completes what was read before, with these symbols, and the tokens after; or reading ends
 abbrev pub ReadsOn : {T : Type 0} → Result T Fault → List Sym → List Part → List Token → ℕ → (T → List Sym) → (T → List Token) → Type 0
 ReadsOn result prefix parts tokens depth all after =
     MatchResult result (λ r. Completes prefix parts tokens depth (all r) (after r)) (λ e. EndsBy parts tokens depth e)
+
+-- what is read after the bracket that opens the parameters of a rule
+abbrev pub after_params : List Part
+after_params = Params ∷ Key marks.ParenClose ∷ OneBlock ∷ []
+
+-- a list up to the end of its statement
+abbrev pub list_to_end : List Part
+list_to_end = Args ∷ Key marks.Semicolon ∷ []
 
 -- what is read after an opening bracket, and after the first `||` of a condition
 abbrev pub in_brackets : List Part

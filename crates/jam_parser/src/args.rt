@@ -5,7 +5,7 @@ ghost use Rattle.jam_grammar.specs.Spelling as spelling;
 ghost use Rattle.jam_grammar.specs.Grammar.{OneArg, Args, More, OneInner, InnerTail};
 ghost use Rattle.jam_grammar.specs.declared.mark.Mark.TheVariants as marks;
 ghost use Rattle.jam_parser.specs.Starts.{starts_arg, starts_with, StandsAfter};
-ghost use Rattle.jam_parser.specs.Parts.{IsRead, Completes, EndsBy, in_brackets};
+ghost use Rattle.jam_parser.specs.Parts.{IsRead, Completes, EndsBy, in_brackets, ReadsOn, Reads};
 
 use crate::reading::{Fault, key_here, next_of, past, word_here};
 use b2_base::token::Token;
@@ -98,7 +98,7 @@ fn on_inside<'a>(
     depth: u8,
 ) -> Result<(Inner, &'a [Token]), Fault<'a>>
     requires { depth ≤ 64 }
-    ensures { MatchResult result (λ r. Completes (spelling.Key marks.On ∷ []) (OneArg ∷ InnerTail ∷ []) rest.now depth (inner_syms r.0) r.1.now) (λ e. EndsBy (OneArg ∷ InnerTail ∷ []) rest.now depth e) }
+    ensures { ReadsOn result (spelling.Key marks.On ∷ []) (OneArg ∷ InnerTail ∷ []) rest.now depth (λ r. inner_syms r.0) (λ r. r.1.now) }
 {
     let (target, after) = arg(alloc, rest, depth)?;
     match past(after, Mark::Return) {

@@ -3,10 +3,10 @@ ghost use Rattle.std.specs.Prelude.{◌≡◌, ◌<◌, ◌≤◌, ◌∷◌, �
 ghost use Rattle.jam_grammar.specs.Trees.{value_tree};
 ghost use Rattle.jam_grammar.specs.Spelling.{form_syms, arg_syms, args_syms, value_syms, braced, sign_mark};
 ghost use Rattle.jam_grammar.specs.Spelling as spelling;
-ghost use Rattle.jam_grammar.specs.Grammar.{OneStmt, Tail, Assigned, LocalTail, BodyBlock, OneWord, OneArg, Args, More, Key};
+ghost use Rattle.jam_grammar.specs.Grammar.{Tail, Assigned, LocalTail, BodyBlock, OneWord, OneArg, Args, More, Key};
 ghost use Rattle.jam_grammar.specs.declared.mark.Mark.TheVariants as marks;
-ghost use Rattle.jam_parser.specs.Starts.{starts_with, starts_sign, StandsAfter};
-ghost use Rattle.jam_parser.specs.Parts.{IsRead, ComesTo, Completes, EndsBy};
+ghost use Rattle.jam_parser.specs.Starts.{starts_sign, StandsAfter};
+ghost use Rattle.jam_parser.specs.Parts.{IsRead, ComesTo, Completes, EndsBy, Reads, ReadsOn, list_to_end};
 
 use crate::args::{MAX_OPEN, arg, args, lists};
 use crate::reading::{Fault, body_here, key_here, next_of, past, word_here};
@@ -23,7 +23,7 @@ fn list_end<'a>(
     depth: u8,
 ) -> Result<(Vec<Arg>, &'a [Token]), Fault<'a>>
     requires { depth ≤ 64 }
-    ensures { MatchResult result (λ r. IsRead (Args ∷ Key marks.Semicolon ∷ []) rest.now depth (args_syms r.0.items ++ spelling.Key marks.Semicolon ∷ []) r.1.now) (λ e. EndsBy (Args ∷ Key marks.Semicolon ∷ []) rest.now depth e) }
+    ensures { Reads result list_to_end rest.now depth (λ r. args_syms r.0.items ++ spelling.Key marks.Semicolon ∷ []) (λ r. r.1.now) }
 {
     let (list, after) = args(alloc, rest, depth)?;
     let after = key_here(after, Mark::Semicolon, depth)?;
@@ -37,7 +37,7 @@ pub fn include<'a>(
     depth: u8,
 ) -> Result<(Form, &'a [Token]), Fault<'a>>
     requires { depth ≤ 64 }
-    ensures { MatchResult result (λ r. Completes (spelling.Key marks.Include ∷ []) (Args ∷ Key marks.Semicolon ∷ []) rest.now depth (form_syms r.0) r.1.now) (λ e. EndsBy (Args ∷ Key marks.Semicolon ∷ []) rest.now depth e) }
+    ensures { ReadsOn result (spelling.Key marks.Include ∷ []) list_to_end rest.now depth (λ r. form_syms r.0) (λ r. r.1.now) }
 {
     let (names, after) = list_end(alloc, rest, depth)?;
     Ok((Form::Include(names), after))
@@ -50,7 +50,7 @@ pub fn returned<'a>(
     depth: u8,
 ) -> Result<(Form, &'a [Token]), Fault<'a>>
     requires { depth ≤ 64 }
-    ensures { MatchResult result (λ r. Completes (spelling.Key marks.Return ∷ []) (Args ∷ Key marks.Semicolon ∷ []) rest.now depth (form_syms r.0) r.1.now) (λ e. EndsBy (Args ∷ Key marks.Semicolon ∷ []) rest.now depth e) }
+    ensures { ReadsOn result (spelling.Key marks.Return ∷ []) list_to_end rest.now depth (λ r. form_syms r.0) (λ r. r.1.now) }
 {
     let (value, after) = list_end(alloc, rest, depth)?;
     Ok((Form::Return(value), after))
@@ -63,7 +63,7 @@ pub fn local<'a>(
     depth: u8,
 ) -> Result<(Form, &'a [Token]), Fault<'a>>
     requires { depth ≤ 64 }
-    ensures { MatchResult result (λ r. Completes (spelling.Key marks.Local ∷ []) (Args ∷ LocalTail ∷ []) rest.now depth (form_syms r.0) r.1.now) (λ e. EndsBy (Args ∷ LocalTail ∷ []) rest.now depth e) }
+    ensures { ReadsOn result (spelling.Key marks.Local ∷ []) (Args ∷ LocalTail ∷ []) rest.now depth (λ r. form_syms r.0) (λ r. r.1.now) }
 {
     let (names, after) = args(alloc, rest, depth)?;
     let (value, after) = local_value(alloc, after, depth)?;
@@ -92,7 +92,7 @@ fn local_value<'a>(
 /// Reads what stands after `actions`.
 pub fn actions<'a>(rest: &'a [Token], depth: u8) -> Result<(Form, &'a [Token]), Fault<'a>>
     requires { depth < 64 }
-    ensures { MatchResult result (λ r. Completes (spelling.Key marks.Actions ∷ []) (OneWord ∷ BodyBlock ∷ []) rest.now depth (form_syms r.0) r.1.now) (λ e. EndsBy (OneWord ∷ BodyBlock ∷ []) rest.now depth e) }
+    ensures { ReadsOn result (spelling.Key marks.Actions ∷ []) (OneWord ∷ BodyBlock ∷ []) rest.now depth (λ r. form_syms r.0) (λ r. r.1.now) }
 {
     let (name, after) = word_here(rest, depth)?;
     let (body, after) = body_block(after, depth)?;
@@ -168,7 +168,7 @@ fn assign<'a>(
     depth: u8,
 ) -> Result<(Form, &'a [Token]), Fault<'a>>
     requires { depth ≤ 64 }
-    ensures { MatchResult result (λ r. Completes (arg_syms target ++ spelling.Key (sign_mark sign) ∷ []) (Args ∷ Key marks.Semicolon ∷ []) rest.now depth (form_syms r.0) r.1.now) (λ e. EndsBy (Args ∷ Key marks.Semicolon ∷ []) rest.now depth e) }
+    ensures { ReadsOn result (arg_syms target ++ spelling.Key (sign_mark sign) ∷ []) list_to_end rest.now depth (λ r. form_syms r.0) (λ r. r.1.now) }
 {
     let (value, after) = list_end(alloc, rest, depth)?;
     Ok((
@@ -189,7 +189,7 @@ fn assign_on<'a>(
     depth: u8,
 ) -> Result<(Form, &'a [Token]), Fault<'a>>
     requires { depth ≤ 64 }
-    ensures { MatchResult result (λ r. Completes (arg_syms target ++ spelling.Key marks.On ∷ []) (Args ∷ Assigned ∷ []) rest.now depth (form_syms r.0) r.1.now) (λ e. EndsBy (Args ∷ Assigned ∷ []) rest.now depth e) }
+    ensures { ReadsOn result (arg_syms target ++ spelling.Key marks.On ∷ []) (Args ∷ Assigned ∷ []) rest.now depth (λ r. form_syms r.0) (λ r. r.1.now) }
 {
     let (on, after) = args(alloc, rest, depth)?;
     let (sign, after) = sign_read(after, depth)?;
@@ -207,7 +207,7 @@ fn assign_on<'a>(
 
 /// Reads the sign of an assignment, which has to stand here.
 fn sign_read<'a>(rest: &'a [Token], depth: u8) -> Result<(Sign, &'a [Token]), Fault<'a>>
-    ensures { MatchResult result (λ r. ComesTo (Assigned ∷ []) (Args ∷ Key marks.Semicolon ∷ []) rest.now depth (spelling.Key (sign_mark r.0) ∷ []) r.1.now) (λ e. EndsBy (Assigned ∷ []) rest.now depth e) }
+    ensures { MatchResult result (λ r. ComesTo (Assigned ∷ []) list_to_end rest.now depth (spelling.Key (sign_mark r.0) ∷ []) r.1.now) (λ e. EndsBy (Assigned ∷ []) rest.now depth e) }
 {
     match sign_here(rest) {
         Some((sign, after)) => Ok((sign, after)),
@@ -223,7 +223,7 @@ fn call<'a>(
     depth: u8,
 ) -> Result<(Form, &'a [Token]), Fault<'a>>
     requires { depth ≤ 64 }
-    ensures { MatchResult result (λ r. Completes (arg_syms head) (Args ∷ More 8 ∷ Key marks.Semicolon ∷ []) rest.now depth (form_syms r.0) r.1.now) (λ e. EndsBy (Args ∷ More 8 ∷ Key marks.Semicolon ∷ []) rest.now depth e) }
+    ensures { ReadsOn result (arg_syms head) (Args ∷ More 8 ∷ Key marks.Semicolon ∷ []) rest.now depth (λ r. form_syms r.0) (λ r. r.1.now) }
 {
     let (lists, after) = lists(alloc, rest, depth)?;
     let after = key_here(after, Mark::Semicolon, depth)?;

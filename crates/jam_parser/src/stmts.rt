@@ -1,11 +1,11 @@
 //! Reading statements.
-ghost use Rattle.std.specs.Prelude.{◌<◌, ◌≤◌, ◌∷◌, ◌++◌, [], MatchResult};
+ghost use Rattle.std.specs.Prelude.{◌<◌, ◌≤◌, ◌∷◌, [], MatchResult};
 ghost use Rattle.jam_grammar.specs.Trees.{form_tree};
 ghost use Rattle.jam_grammar.specs.Spelling.{stmt_syms, stmts_syms, form_syms, block_syms, braced, case_syms, cases_syms, other_syms, local_syms, is_if, only};
 ghost use Rattle.jam_grammar.specs.Spelling as spelling;
-ghost use Rattle.jam_grammar.specs.Grammar.{Stmts, OneStmt, OneBlock, OneExpr, OneElse, ElseTail, ForTail, RuleTail, CaseBlock, Cases, OneWord, OneArg, Args, Params, Key};
+ghost use Rattle.jam_grammar.specs.Grammar.{Stmts, OneStmt, OneBlock, OneExpr, OneElse, ElseTail, ForTail, RuleTail, CaseBlock, Cases, OneWord, OneArg, Args, Key};
 ghost use Rattle.jam_grammar.specs.declared.mark.Mark.TheVariants as marks;
-ghost use Rattle.jam_parser.specs.Parts.{IsRead, Completes, EndsBy};
+ghost use Rattle.jam_parser.specs.Parts.{IsRead, EndsBy, ReadsOn, Reads, after_params};
 
 use crate::args::{MAX_OPEN, arg, args};
 use crate::exprs::expr;
@@ -119,7 +119,7 @@ fn if_form<'a>(
     depth: u8,
 ) -> Result<(Form, &'a [Token]), Fault<'a>>
     requires { depth < 64 }
-    ensures { MatchResult result (λ r. Completes (spelling.Key marks.If ∷ []) (OneExpr ∷ OneBlock ∷ OneElse ∷ []) rest.now depth (only (is_if (form_tree r.0)) (form_syms r.0)) r.1.now) (λ e. EndsBy (OneExpr ∷ OneBlock ∷ OneElse ∷ []) rest.now depth e) }
+    ensures { ReadsOn result (spelling.Key marks.If ∷ []) (OneExpr ∷ OneBlock ∷ OneElse ∷ []) rest.now depth (λ r. only (is_if (form_tree r.0)) (form_syms r.0)) (λ r. r.1.now) }
 {
     let (test, after) = expr(alloc, rest, depth)?;
     let (then, after) = block(alloc, after, depth)?;
@@ -147,7 +147,7 @@ fn else_tail<'a>(
     depth: u8,
 ) -> Result<(Other, &'a [Token]), Fault<'a>>
     requires { depth < 64 }
-    ensures { MatchResult result (λ r. Completes (spelling.Key marks.Else ∷ []) (ElseTail ∷ []) rest.now depth (other_syms r.0) r.1.now) (λ e. EndsBy (ElseTail ∷ []) rest.now depth e) }
+    ensures { ReadsOn result (spelling.Key marks.Else ∷ []) (ElseTail ∷ []) rest.now depth (λ r. other_syms r.0) (λ r. r.1.now) }
 {
     match past(rest, Mark::If) {
         Some(after) if depth + 1 < MAX_OPEN => else_if(alloc, line_of(rest), after, depth + 1),
@@ -168,7 +168,7 @@ fn else_if<'a>(
     depth: u8,
 ) -> Result<(Other, &'a [Token]), Fault<'a>>
     requires { depth < 64 }
-    ensures { MatchResult result (λ r. Completes (spelling.Key marks.Else ∷ spelling.From line ∷ spelling.Key marks.If ∷ []) (OneExpr ∷ OneBlock ∷ OneElse ∷ []) rest.now depth (other_syms r.0) r.1.now) (λ e. EndsBy (OneExpr ∷ OneBlock ∷ OneElse ∷ []) rest.now depth e) }
+    ensures { ReadsOn result (spelling.Key marks.Else ∷ spelling.From line ∷ spelling.Key marks.If ∷ []) (OneExpr ∷ OneBlock ∷ OneElse ∷ []) rest.now depth (λ r. other_syms r.0) (λ r. r.1.now) }
 {
     let (form, after) = if_form(alloc, rest, depth)?;
     let stmt = Box::new(alloc, Stmt { line, form })?;
@@ -183,7 +183,7 @@ fn for_form<'a>(
     depth: u8,
 ) -> Result<(Form, &'a [Token]), Fault<'a>>
     requires { depth ≤ 64 }
-    ensures { MatchResult result (λ r. Completes (spelling.Key marks.For ∷ []) (ForTail ∷ []) rest.now depth (form_syms r.0) r.1.now) (λ e. EndsBy (ForTail ∷ []) rest.now depth e) }
+    ensures { ReadsOn result (spelling.Key marks.For ∷ []) (ForTail ∷ []) rest.now depth (λ r. form_syms r.0) (λ r. r.1.now) }
 {
     match past(rest, Mark::Local) {
         Some(after) => for_rest(alloc, true, after, depth),
@@ -200,7 +200,7 @@ fn for_rest<'a>(
     depth: u8,
 ) -> Result<(Form, &'a [Token]), Fault<'a>>
     requires { depth ≤ 64 }
-    ensures { MatchResult result (λ r. Completes (spelling.Key marks.For ∷ local_syms local) (OneWord ∷ Key marks.In ∷ Args ∷ OneBlock ∷ []) rest.now depth (form_syms r.0) r.1.now) (λ e. EndsBy (OneWord ∷ Key marks.In ∷ Args ∷ OneBlock ∷ []) rest.now depth e) }
+    ensures { ReadsOn result (spelling.Key marks.For ∷ local_syms local) (OneWord ∷ Key marks.In ∷ Args ∷ OneBlock ∷ []) rest.now depth (λ r. form_syms r.0) (λ r. r.1.now) }
 {
     let (name, after) = word_here(rest, depth)?;
     let after = key_here(after, Mark::In, depth)?;
@@ -225,7 +225,7 @@ fn while_form<'a>(
     depth: u8,
 ) -> Result<(Form, &'a [Token]), Fault<'a>>
     requires { depth ≤ 64 }
-    ensures { MatchResult result (λ r. Completes (spelling.Key marks.While ∷ []) (OneExpr ∷ OneBlock ∷ []) rest.now depth (form_syms r.0) r.1.now) (λ e. EndsBy (OneExpr ∷ OneBlock ∷ []) rest.now depth e) }
+    ensures { ReadsOn result (spelling.Key marks.While ∷ []) (OneExpr ∷ OneBlock ∷ []) rest.now depth (λ r. form_syms r.0) (λ r. r.1.now) }
 {
     let (test, after) = expr(alloc, rest, depth)?;
     let (block, after) = block(alloc, after, depth)?;
@@ -240,7 +240,7 @@ fn module_form<'a>(
     depth: u8,
 ) -> Result<(Form, &'a [Token]), Fault<'a>>
     requires { depth ≤ 64 }
-    ensures { MatchResult result (λ r. Completes (spelling.Key marks.Module ∷ []) (Args ∷ OneBlock ∷ []) rest.now depth (form_syms r.0) r.1.now) (λ e. EndsBy (Args ∷ OneBlock ∷ []) rest.now depth e) }
+    ensures { ReadsOn result (spelling.Key marks.Module ∷ []) (Args ∷ OneBlock ∷ []) rest.now depth (λ r. form_syms r.0) (λ r. r.1.now) }
 {
     let (name, after) = args(alloc, rest, depth)?;
     let (block, after) = block(alloc, after, depth)?;
@@ -255,7 +255,7 @@ fn switch_form<'a>(
     depth: u8,
 ) -> Result<(Form, &'a [Token]), Fault<'a>>
     requires { depth ≤ 64 }
-    ensures { MatchResult result (λ r. Completes (spelling.Key marks.Switch ∷ []) (Args ∷ CaseBlock ∷ []) rest.now depth (form_syms r.0) r.1.now) (λ e. EndsBy (Args ∷ CaseBlock ∷ []) rest.now depth e) }
+    ensures { ReadsOn result (spelling.Key marks.Switch ∷ []) (Args ∷ CaseBlock ∷ []) rest.now depth (λ r. form_syms r.0) (λ r. r.1.now) }
 {
     let (value, after) = args(alloc, rest, depth)?;
     let (cases, after) = case_block(alloc, after, depth)?;
@@ -310,7 +310,7 @@ fn one_case<'a>(
     depth: u8,
 ) -> Result<(Case, &'a [Token]), Fault<'a>>
     requires { depth ≤ 64 }
-    ensures { MatchResult result (λ r. Completes (spelling.Key marks.Case ∷ []) (OneWord ∷ Key marks.Colon ∷ Stmts ∷ []) rest.now depth (case_syms r.0) r.1.now) (λ e. EndsBy (OneWord ∷ Key marks.Colon ∷ Stmts ∷ []) rest.now depth e) }
+    ensures { ReadsOn result (spelling.Key marks.Case ∷ []) (OneWord ∷ Key marks.Colon ∷ Stmts ∷ []) rest.now depth (λ r. case_syms r.0) (λ r. r.1.now) }
 {
     let (pattern, after) = word_here(rest, depth)?;
     let after = key_here(after, Mark::Colon, depth)?;
@@ -332,7 +332,7 @@ fn rule_form<'a>(
     depth: u8,
 ) -> Result<(Form, &'a [Token]), Fault<'a>>
     requires { depth < 64 }
-    ensures { MatchResult result (λ r. Completes (spelling.Key marks.Rule ∷ []) (OneWord ∷ RuleTail ∷ []) rest.now depth (form_syms r.0) r.1.now) (λ e. EndsBy (OneWord ∷ RuleTail ∷ []) rest.now depth e) }
+    ensures { ReadsOn result (spelling.Key marks.Rule ∷ []) (OneWord ∷ RuleTail ∷ []) rest.now depth (λ r. form_syms r.0) (λ r. r.1.now) }
 {
     let (name, after) = word_here(rest, depth)?;
     let (form, after) = rule_tail(alloc, name, after, depth)?;
@@ -348,7 +348,7 @@ fn rule_tail<'a>(
     depth: u8,
 ) -> Result<(Form, &'a [Token]), Fault<'a>>
     requires { depth < 64 }
-    ensures { MatchResult result (λ r. Completes (spelling.Key marks.Rule ∷ spelling.Says name ∷ []) (RuleTail ∷ []) rest.now depth (form_syms r.0) r.1.now) (λ e. EndsBy (RuleTail ∷ []) rest.now depth e) }
+    ensures { ReadsOn result (spelling.Key marks.Rule ∷ spelling.Says name ∷ []) (RuleTail ∷ []) rest.now depth (λ r. form_syms r.0) (λ r. r.1.now) }
 {
     match past(rest, Mark::ParenOpen) {
         Some(after) => with_params(alloc, name, after, depth),
@@ -377,7 +377,7 @@ fn with_params<'a>(
     depth: u8,
 ) -> Result<(Form, &'a [Token]), Fault<'a>>
     requires { depth < 64 }
-    ensures { MatchResult result (λ r. Completes (spelling.Key marks.Rule ∷ spelling.Says name ∷ spelling.Key marks.ParenOpen ∷ []) (Params ∷ Key marks.ParenClose ∷ OneBlock ∷ []) rest.now depth (form_syms r.0) r.1.now) (λ e. EndsBy (Params ∷ Key marks.ParenClose ∷ OneBlock ∷ []) rest.now depth e) }
+    ensures { ReadsOn result (spelling.Key marks.Rule ∷ spelling.Says name ∷ spelling.Key marks.ParenOpen ∷ []) after_params rest.now depth (λ r. form_syms r.0) (λ r. r.1.now) }
 {
     let (params, after) = params(alloc, rest, depth + 1)?;
     let after = key_here(after, Mark::ParenClose, depth)?;
@@ -401,7 +401,7 @@ fn on_form<'a>(
     depth: u8,
 ) -> Result<(Form, &'a [Token]), Fault<'a>>
     requires { depth ≤ 64 }
-    ensures { MatchResult result (λ r. Completes (spelling.Key marks.On ∷ []) (OneArg ∷ OneStmt ∷ []) rest.now depth (form_syms r.0) r.1.now) (λ e. EndsBy (OneArg ∷ OneStmt ∷ []) rest.now depth e) }
+    ensures { ReadsOn result (spelling.Key marks.On ∷ []) (OneArg ∷ OneStmt ∷ []) rest.now depth (λ r. form_syms r.0) (λ r. r.1.now) }
 {
     let (target, after) = arg(alloc, rest, depth)?;
     let (stmt, after) = stmt(alloc, after, depth)?;
