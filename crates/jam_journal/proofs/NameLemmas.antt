@@ -1,5 +1,5 @@
 -- Finite maps from texts in which the value at one text is replaced.
-use Rattle.std.proofs.Common.{T, Bor, String, string_bytes, ◌≡◌, true, false, Bool, cond, ◌&&◌, List, [], ◌∷◌, map as each, Option, Some, None, is_some, refl, sym, ap, subst, ◌∙◌}
+use Rattle.std.proofs.Common.{T, Bor, String, string_bytes, ◌≡◌, true, false, Bool, cond, ◌&&◌, List, [], ◌∷◌, length, map as each, Option, Some, None, is_some, refl, sym, ap, subst, ◌∙◌}
 use Rattle.std.specs.declared.cmp.Ordering.TheVariants.{Less}
 use Rattle.std.specs.Ordering.{nat_cmp, is_lt}
 use Rattle.std.specs.List.{AllByRecursion}
@@ -8,7 +8,7 @@ use Rattle.std.specs.Str.{bytes_eq}
 use Rattle.std.specs.Map.{lookup, keys_of}
 use Rattle.std.specs.Map.Iter.{deref_pair}
 use Rattle.std.specs.Cmp.Lexicographic.{slice_cmp}
-use Rattle.std.specs.FinMap.{get, entries, remove, from_sorted, get-insert, get-remove, get-from_entries, get-from_sorted, entries-from_sorted, same_map}
+use Rattle.std.specs.FinMap.{get, empty, entries, remove, from_sorted, get-empty, get-insert, get-remove, get-from_entries, get-from_sorted, entries-from_sorted, same_map}
 use Rattle.std.specs.FinMap.Entries.{find, is_sorted, below_all}
 use Rattle.std.proofs.lemmas.Cmp.{nat_list_cmp_total, nat_list_eq_equiv}
 use Rattle.std.proofs.lemmas.Map.Lookups.{exact_bytes}
@@ -48,6 +48,18 @@ module _ {X : Type 0} where
         get_names fs q ∙ h q
         ∙ (λ i. cond (nat_list_eq_equiv.symm s q i) w (sym (get_names es q) i))
         ∙ sym (get_put_name (names_of text es) s w q))
+
+    -- the map that no entries stand for
+    pub none_named : (es : List (K × X)) → length es ≡ 0 → names_of text es ≡ empty
+    none_named [] e = same_names _ _ (λ q. get_names [] q ∙ sym (get-empty (slice_cmp nat_cmp) q))
+    none_named (e ∷ es) h = cc
+
+    pub named_none : (es : List (K × X)) → names_of text es ≡ empty → length es ≡ 0
+    named_none [] h = refl
+    named_none (e ∷ es) h =
+        let two : Some e.1 ≡ None =
+        ap (λ b. cond b (Some e.1) (at_name es (text e.0))) (sym ((bytes_eq-Decides (text e.0) (text e.0)).1 refl))
+        ∙ sym (get_names (e ∷ es) (text e.0)) ∙ ap (λ m. get m (text e.0)) h ∙ get-empty (slice_cmp nat_cmp) (text e.0) in cc
 
 module _ {X : Type 0} where
   gone : (m : Names X) (k q : Text) → get m k ≡ None → (t : Bool) → bytes_eq q k ≡ t → cond t None (get m q) ≡ get m q
@@ -117,6 +129,10 @@ module _ {Y X : Type 0} where
 -- what the map in the code has at a text after another text got a value
 pub at_changed : {Y X S : Type 0} (m n : HashMap (String Y) X S) (bs : Text) (v w : X) → UpdatesBy string_eq (λ k. bytes_eq bs (string_bytes k)) m n (Some v) → v ≡ w → (a : Text) → at_name string_bytes n.entries a ≡ cond (bytes_eq bs a) (Some w) (at_name string_bytes m.entries a)
 at_changed m n bs v w h e a = hash_map_updates_text bs m n (Some v) h a ∙ ap (λ x. cond (bytes_eq bs a) (Some x) (at_name string_bytes m.entries a)) e
+
+-- what it has where the value at a text went
+pub at_gone : {Y X S : Type 0} (m n : HashMap (String Y) X S) (bs : Text) → UpdatesBy string_eq (λ k. bytes_eq bs (string_bytes k)) m n None → (a : Text) → at_name string_bytes n.entries a ≡ cond (bytes_eq bs a) None (at_name string_bytes m.entries a)
+at_gone m n bs h a = hash_map_updates_text bs m n None h a
 
 module _ {X : Type 0} where
   name_twice : (t : Bool) (x y z : Option X) → cond t y (cond t x z) ≡ cond t y z

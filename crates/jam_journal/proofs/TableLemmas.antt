@@ -8,7 +8,7 @@ use Rattle.std.specs.Ordering.{nat_cmp, eq_by_cmp, is_eq, ordering_then}
 use Rattle.std.specs.Str.{bytes_eq}
 use Rattle.std.specs.Cmp.{IsTotalOrder, then_total, tied_itself}
 use Rattle.std.specs.Cmp.Lexicographic.{slice_cmp, on_texts}
-use Rattle.std.specs.FinMap.{get, entries, retain_keys, from_sorted, get-empty, get-entries, get-insert, get-remove, get-retain_keys, get-from_entries, get-from_sorted, entries-from_sorted, same_map, IsAntisymmetric}
+use Rattle.std.specs.FinMap.{get, empty, entries, retain_keys, from_sorted, get-empty, get-entries, get-insert, get-remove, get-retain_keys, get-from_entries, get-from_sorted, entries-from_sorted, same_map, IsAntisymmetric}
 use Rattle.std.specs.FinMap.Entries.{find}
 use Rattle.std.proofs.lemmas.Cmp.{nat_list_eq_equiv, nat_list_cmp_total, eq_by_cmp_equiv}
 use Rattle.std.proofs.lemmas.Map.Lookups.{exact_bytes}
@@ -159,6 +159,18 @@ module _ {X : Type 0} where
     back_rows es fs f s row x is h =
         back_rows_by es fs f s row x is (is_some (get row s)) refl h
         ∙ ap (λ b. cond b (put (table_of text es) (f, s) x) (table_of text es)) (ap is_some (sym (get_table es f s ∙ ap (λ o. row_at o s) is)))
+
+    row_gone_by : (es : List (K × Names X)) (f : Text) → at_name text es f ≡ Some empty → (a n : Text) (t : Bool) → bytes_eq f a ≡ t → row_at (cond t None (at_name text es a)) n ≡ row_at (at_name text es a) n
+    row_gone_by es f is a n true e =
+        sym (ap (λ o. row_at o n) (ap (at_name text es) (sym ((bytes_eq-Decides f a).0 e)) ∙ is) ∙ get-empty (slice_cmp nat_cmp) n)
+    row_gone_by es f is a n false e = refl
+
+    -- a row without a value may go
+    pub row_gone : (es fs : List (K × Names X)) (f : Text) → at_name text es f ≡ Some empty → ((a : Text) → at_name text fs a ≡ cond (bytes_eq f a) None (at_name text es a)) → table_of text fs ≡ table_of text es
+    row_gone es fs f is h = same _ _ (λ q.
+        get_table fs q.0 q.1 ∙ ap (λ o. row_at o q.1) (h q.0)
+        ∙ row_gone_by es f is q.0 q.1 (bytes_eq f q.0) refl
+        ∙ sym (get_table es q.0 q.1))
 
     -- nothing is put back where there is no row
     pub back_no_row : (es fs : List (K × Names X)) (f s : Text) (x : Option X) → at_name text es f ≡ None → fs ≡ es → table_of text fs ≡ put_back (table_of text es) (f, s) x

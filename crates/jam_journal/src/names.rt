@@ -1,5 +1,5 @@
 //! A map from texts, asked by borrowed ones.
-ghost use Rattle.std.specs.Prelude.{◌≡◌, map as each, string_bytes, IfOk, OnOk, OnErr};
+ghost use Rattle.std.specs.Prelude.{◌≡◌, ◌↔◌, map as each, string_bytes, IfOk, IsTrue, OnOk, OnErr};
 ghost use Rattle.std.specs.Option.{option_copied};
 ghost use Rattle.std.specs.FinMap as map;
 ghost use Rattle.jam_journal.specs.Tables.{back_name};
@@ -43,6 +43,13 @@ impl<V: Drop> Names<V> {
             slots: Vec::new(alloc),
             others: Others::new(alloc),
         }
+    }
+
+    /// Whether no text has a value; takes no memory.
+    pub fn is_empty(&self) -> bool
+        ensures { IsTrue result ↔ (self.now ≡ map.empty) }
+    {
+        self.others.is_empty() && slots::are_vacant(self.slots.as_slice())
     }
 
     /// The value of a text; takes no memory.

@@ -1,5 +1,5 @@
 //! A map from texts in a tree, asked by borrowed ones.
-ghost use Rattle.std.specs.Prelude.{◌≡◌, map as each, string_bytes, is_some, IfOk, OnOk, OnErr};
+ghost use Rattle.std.specs.Prelude.{◌≡◌, ◌↔◌, map as each, string_bytes, is_some, IfOk, IsTrue, OnOk, OnErr};
 ghost use Rattle.std.specs.Option.{option_copied};
 ghost use Rattle.std.specs.FinMap as map;
 ghost use Rattle.jam_journal.specs.Tables.{put_name, back_name};
@@ -39,6 +39,13 @@ impl<V: Drop> Others<V> {
         Others {
             values: BTreeMap::new(alloc),
         }
+    }
+
+    /// Whether no text has a value.
+    pub fn is_empty(&self) -> bool
+        ensures { IsTrue result ↔ (self.now ≡ map.empty) }
+    {
+        self.values.is_empty()
     }
 
     /// The value of a text; takes no memory.

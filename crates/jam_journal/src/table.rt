@@ -1,5 +1,5 @@
 //! A map from pairs of texts, asked by borrowed ones.
-ghost use Rattle.std.specs.Prelude.{◌≡◌, map as each, IfOk, OnOk, OnErr, None, Some, string_bytes};
+ghost use Rattle.std.specs.Prelude.{◌≡◌, map as each, IfOk, IsTrue, OnOk, OnErr, None, Some, string_bytes};
 ghost use Rattle.std.specs.Option.{option_copied};
 ghost use Rattle.std.specs.FinMap as map;
 ghost use Rattle.std.specs.HashMap.{get_by_text};
@@ -56,6 +56,25 @@ fn add_row<V: Drop>(
     let key = String::from_str(alloc, first)?;
     let _ = rows.insert(key, row)?;
     Ok(None)
+}
+
+/// Gives a pair that has a value another one or none, and tells whether its row is left without a value. Takes no memory.
+fn put_in_row<V: Drop>(
+    rows: &mut HashMap<String, Names<V>>,
+    first: &str,
+    second: &str,
+    value: Option<V>,
+) -> bool
+    ensures table { table_of string_bytes rows.new.entries ≡ put_back (table_of string_bytes rows.old.entries) (first.now, second.now) value }
+    ensures empty { IsTrue result → get_by_text rows.new first.now ≡ Some map.empty }
+{
+    match rows.get_mut(first) {
+        Some(row) => {
+            row.put_back(second, value);
+            row.is_empty()
+        }
+        None => false,
+    }
 }
 
 impl<V: Drop> Table<V> {
@@ -118,12 +137,13 @@ impl<V: Drop> Table<V> {
         }
     }
 
-    /// Gives a pair that has a value another one or none. A pair without a value gets none. Takes no memory.
+    /// Gives a pair that has a value another one or none. A pair without a value gets none. A row without a value goes. Takes
+    /// no memory.
     pub fn put_back(&mut self, first: &str, second: &str, value: Option<V>)
         ensures { self.new ≡ put_back self.old (first.now, second.now) value }
     {
-        if let Some(row) = self.rows.get_mut(first) {
-            row.put_back(second, value);
+        if put_in_row(&mut self.rows, first, second, value) {
+            drop(self.rows.remove(first));
         }
     }
 }
