@@ -1,5 +1,5 @@
 -- Places for the names of argument lists.
-use Rattle.std.proofs.Common.{Bor, String, Global, drop, ◌≡◌, ◌≢◌, ℕ, zero, suc, ◌+◌, ◌-◌, ◌<◌, ◌≤◌, ◌==◌, true, false, Bool, cond, ◌&&◌, nat_lt, List, [], ◌∷◌, ◌++◌, length, slice_index_or, slice_set, Option, Some, None, is_some, is_none, Result, Ok, Err, OnErr, string_bytes, refl, sym, ap, subst, ◌∙◌, arith}
+use Rattle.std.proofs.Common.{Bor, String, Global, drop, ◌≡◌, ◌≢◌, ℕ, zero, suc, ◌+◌, ◌-◌, ◌<◌, ◌≤◌, ◌==◌, true, false, Bool, cond, ◌&&◌, nat_lt, List, [], ◌∷◌, ◌++◌, length, slice_index_or, slice_set, Option, Some, None, is_some, Result, Ok, Err, OnErr, string_bytes, refl, sym, ap, subst, ◌∙◌, arith}
 use Rattle.std.specs.declared.cmp.Ordering.{Ordering}
 use Rattle.std.specs.declared.cmp.Ordering.TheVariants.{Less, Equal, Greater}
 use Rattle.std.specs.List.{insert}
@@ -15,7 +15,7 @@ use Rattle.std.proofs.lemmas.List.{at_drop_more, at_drop_all}
 use Rattle.std.proofs.lemmas.Slice.Eq.{bytes_eq-Decides}
 use Rattle.jam_journal.specs.declared.slots.Slot.{Slot}
 use Rattle.jam_journal.specs.Tables.{Text, Names, put_name, back_name, lent_row}
-use Rattle.jam_journal.specs.Slots.{slot_of, slot_name, fixed_name, slot_value, with_value, back_value, with_slots, with_entry, with_entries, smaller, are_vacant, AreSlots, AreApart, IsGrown}
+use Rattle.jam_journal.specs.Slots.{slot_of, slot_name, fixed_name, slot_value, with_value, back_value, with_slots, with_entry, with_entries, smaller, AreSlots, AreApart, IsGrown}
 use Rattle.jam_journal.proofs.NameLemmas.{same_names, get_put_name, back_none}
 
 -- ---- the names of places
@@ -115,10 +115,6 @@ same_place q name r p e h = by (bytes_eq q name) (r == p) refl refl
         let is : q ≡ name = (placed q r e).0 ∙ ap slot_name ((Decides-eqb r p).0 g) ∙ sym ((placed name p h).0) in
         sym ((bytes_eq-Decides q name).1 is) ∙ f
 
-none_there : {X : Type 0} (o : Option X) → is_none o ≡ true → o ≡ None
-none_there None h = refl
-none_there (Some x) h = cc
-
 pub if_err : {T E P : Type 0} (r : Result T E) → P → OnErr r P
 if_err (Ok x) p = tt
 if_err (Err e) p = p
@@ -216,37 +212,6 @@ module _ {X : Type 0} where
   found_at ss m h q (Some p) e =
       let two = placed q p e in
       ap (get (with_slots 0 ss m)) two.0 ∙ get_placed 0 ss m p p (omega arith) (h.others p two.1)
-
-  -- ---- no value
-
-  vacant_value : (ss : List (Slot X)) → are_vacant ss ≡ true → (p : ℕ) → slot_value ss p ≡ None
-  vacant_value [] h p = refl
-  vacant_value (s ∷ ss) h zero = none_there s.value ((both (is_none s.value) (are_vacant ss) h).0)
-  vacant_value (s ∷ ss) h (suc p) = vacant_value ss ((both (is_none s.value) (are_vacant ss) h).1) p
-
-  vacant_all : (ss : List (Slot X)) → ((p : ℕ) → slot_value ss p ≡ None) → are_vacant ss ≡ true
-  vacant_all [] h = refl
-  vacant_all (s ∷ ss) h = ap (λ o. is_none o && are_vacant ss) (h 0) ∙ vacant_all ss (λ p. h (suc p))
-
-  -- a map without a value
-  pub none_kept : (ss : List (Slot X)) (m : Names X) → AreApart ss m → are_vacant ss ≡ true → m ≡ empty → with_slots 0 ss m ≡ empty
-  none_kept ss m h vacant none = same_names _ _ (λ q. found_at ss m h q (slot_of q) refl ∙ by q (slot_of q) ∙ sym (get-empty (slice_cmp nat_cmp) q))
-    where
-      by : (q : Text) (o : Option ℕ) → by_place ss m q o ≡ None
-      by q None = ap (λ m. get m q) none ∙ get-empty (slice_cmp nat_cmp) q
-      by q (Some p) = vacant_value ss vacant p
-
-  pub others_none : (ss : List (Slot X)) (m : Names X) → AreApart ss m → with_slots 0 ss m ≡ empty → m ≡ empty
-  others_none ss m h e = same_names _ _ (λ q. by q (slot_of q) refl ∙ sym (get-empty (slice_cmp nat_cmp) q))
-    where
-      by : (q : Text) (o : Option ℕ) → slot_of q ≡ o → get m q ≡ None
-      by q None is = sym (found_at ss m h q None is) ∙ ap (λ m. get m q) e ∙ get-empty (slice_cmp nat_cmp) q
-      by q (Some p) is = let two = placed q p is in ap (get m) two.0 ∙ h.others p two.1
-
-  pub slots_none : (ss : List (Slot X)) (m : Names X) → AreApart ss m → with_slots 0 ss m ≡ empty → are_vacant ss ≡ true
-  slots_none ss m h e = vacant_all ss (λ p.
-      sym (get_placed 0 ss m p p (omega arith) (ap (λ m. get m (slot_name p)) (others_none ss m h e) ∙ get-empty (slice_cmp nat_cmp) (slot_name p)))
-      ∙ ap (λ m. get m (slot_name p)) e ∙ get-empty (slice_cmp nat_cmp) (slot_name p))
 
   -- ---- changes
 

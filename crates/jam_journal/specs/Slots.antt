@@ -1,5 +1,5 @@
 -- Places for the names of one byte from `1` to `>`, among which are those of argument lists.
-use Rattle.std.specs.Prelude.{◌≡◌, ℕ, zero, suc, ◌+◌, ◌-◌, ◌<◌, Bool, true, ◌&&◌, nat_lt, List, [], ◌∷◌, Option, Some, None, is_some, is_none, string_bytes, if◌then◌else◌}
+use Rattle.std.specs.Prelude.{◌≡◌, ℕ, zero, suc, ◌+◌, ◌-◌, ◌<◌, ◌&&◌, nat_lt, List, [], ◌∷◌, Option, Some, None, is_some, string_bytes, if◌then◌else◌}
 use Rattle.std.specs.List.{insert}
 use Rattle.std.specs.Ordering.{nat_cmp, is_lt}
 use Rattle.std.specs.Cmp.Lexicographic.{slice_cmp}
@@ -26,11 +26,6 @@ abbrev pub slot_value : {X : Type 0} → List (Slot X) → ℕ → Option X
 slot_value [] place = None
 slot_value (slot ∷ slots) zero = slot.value
 slot_value (slot ∷ slots) (suc place) = slot_value slots place
-
--- whether no slot has a value
-abbrev pub are_vacant : {X : Type 0} → List (Slot X) → Bool
-are_vacant [] = true
-are_vacant (slot ∷ slots) = is_none slot.value && are_vacant slots
 
 -- slots with another value at a place, if there is a slot
 abbrev pub with_value : {X : Type 0} → List (Slot X) → ℕ → Option X → List (Slot X)

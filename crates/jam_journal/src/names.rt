@@ -1,5 +1,5 @@
 //! A map from texts, asked by borrowed ones.
-ghost use Rattle.std.specs.Prelude.{◌≡◌, ◌↔◌, map as each, string_bytes, IfOk, IsTrue, OnOk, OnErr};
+ghost use Rattle.std.specs.Prelude.{◌≡◌, map as each, string_bytes, IfOk, IsTrue, OnOk, OnErr};
 ghost use Rattle.std.specs.Option.{option_copied};
 ghost use Rattle.std.specs.FinMap as map;
 ghost use Rattle.jam_journal.specs.Tables.{back_name};
@@ -45,11 +45,11 @@ impl<V: Drop> Names<V> {
         }
     }
 
-    /// Whether no text has a value; takes no memory.
-    pub fn is_empty(&self) -> bool
-        ensures { IsTrue result ↔ (self.now ≡ map.empty) }
+    /// Whether it keeps nothing, neither a value nor a place for one. Takes no memory.
+    pub fn keeps_nothing(&self) -> bool
+        ensures { IsTrue result → self.now ≡ map.empty }
     {
-        self.others.is_empty() && slots::are_vacant(self.slots.as_slice())
+        self.slots.is_empty() && self.others.is_empty()
     }
 
     /// The value of a text; takes no memory.

@@ -4,7 +4,7 @@ ghost use Rattle.std.specs.Option.{option_copied};
 ghost use Rattle.std.specs.Ordering.{nat_cmp, is_lt};
 ghost use Rattle.std.specs.Cmp.Lexicographic.{slice_cmp};
 ghost use Rattle.jam_journal.specs.Tables.{lent_row};
-ghost use Rattle.jam_journal.specs.Slots.{slot_of, fixed_name, slot_value, with_value, back_value, with_entry, with_entries, smaller, are_vacant, AreSlots, IsGrown};
+ghost use Rattle.jam_journal.specs.Slots.{slot_of, fixed_name, slot_value, with_value, back_value, with_entry, with_entries, smaller, AreSlots, IsGrown};
 
 use b2_base::fault::OutOfMemory;
 use std::alloc::Global;
@@ -60,16 +60,6 @@ pub fn value_of<V: Drop>(slots: &[Slot<V>], place: usize) -> Option<&V>
         slots[place].value.as_ref()
     } else {
         None
-    }
-}
-
-/// Whether no slot has a value. Takes no memory.
-pub fn are_vacant<V: Drop>(slots: &[Slot<V>]) -> bool
-    ensures { result ≡ are_vacant slots.now }
-{
-    match slots {
-        [] => true,
-        [first, more @ ..] => first.value.is_none() && are_vacant(more),
     }
 }
 

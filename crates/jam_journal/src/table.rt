@@ -58,7 +58,7 @@ fn add_row<V: Drop>(
     Ok(None)
 }
 
-/// Gives a pair that has a value another one or none, and tells whether its row is left without a value. Takes no memory.
+/// Gives a pair that has a value another one or none, and tells whether its row then keeps nothing. Takes no memory.
 fn put_in_row<V: Drop>(
     rows: &mut HashMap<String, Names<V>>,
     first: &str,
@@ -71,7 +71,7 @@ fn put_in_row<V: Drop>(
     match rows.get_mut(first) {
         Some(row) => {
             row.put_back(second, value);
-            row.is_empty()
+            row.keeps_nothing()
         }
         None => false,
     }
@@ -137,11 +137,11 @@ impl<V: Drop> Table<V> {
         }
     }
 
-    /// Gives a pair that has a value another one or none. A pair without a value gets none. A row without a value goes. Takes
-    /// no memory.
+    /// Gives a pair that has a value another one or none. A pair without a value gets none. Takes no memory.
     pub fn put_back(&mut self, first: &str, second: &str, value: Option<V>)
         ensures { self.new ≡ put_back self.old (first.now, second.now) value }
     {
+        // A row with places for argument lists stays: the next call of its module would make it again.
         if put_in_row(&mut self.rows, first, second, value) {
             drop(self.rows.remove(first));
         }

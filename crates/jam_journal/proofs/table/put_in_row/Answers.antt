@@ -19,7 +19,7 @@ returns-in-Some-clause-table g c =
 pub returns-in-Some-clause-empty : goal.returns-in-Some-clause-empty
 returns-in-Some-clause-empty g c =
     let is = sym c.get_mut.ensures.value ∙ ap option_copied_mut c.in-Some.is in
-    λ t. ((c.get_mut.follows.holds c.put_back.new.self).3 (ap is_some is)).1 ∙ ap (λ row. Some row) (c.is_empty.ensures.0 t)
+    λ t. ((c.get_mut.follows.holds c.put_back.new.self).3 (ap is_some is)).1 ∙ ap (λ row. Some row) (c.keeps_nothing.ensures t)
 
 pub returns-in-None-clause-table : goal.returns-in-None-clause-table
 returns-in-None-clause-table g c =
