@@ -8,6 +8,7 @@ pub mod list;
 pub mod look;
 pub mod path;
 pub mod path_list;
+pub mod rooted;
 mod segments;
 pub mod text;
 pub mod text_list;

@@ -46,11 +46,14 @@ impl<T: Drop> List<T> {
         self.values
     }
 
-    /// Adds a value at the end. After an error the list is as before.
+    /// Adds a value at the end. After an error the list is as before. A list of one value has room for one: most stay so.
     pub fn push(&mut self, value: T) -> Result<(), OutOfMemory>
         ensures ok { OnOk result (self.new ≡ self.old ++ value ∷ []) }
         ensures err { OnErr result (self.new ≡ self.old) }
     {
+        if self.values.is_empty() {
+            self.values.reserve_exact(1)?;
+        }
         self.values.push(value)?;
         Ok(())
     }

@@ -1,12 +1,13 @@
 //! Paths in normal form.
-ghost use Rattle.std.specs.Prelude.{◌≡◌, ◌↔◌, ℕ, List, [], IfOk, IsErrOf, IsTrue, string_bytes};
+ghost use Rattle.std.specs.Prelude.{◌≡◌, ◌≢◌, ◌↔◌, ◌++◌, ℕ, List, [], codes, IfOk, IsErrOf, IsTrue, string_bytes};
 ghost use Rattle.b2_base.specs.Bytes.{HasNoZero};
 ghost use Rattle.b2_base.specs.Segments.{normal_of, is_rooted, segments};
 ghost use Rattle.b2_base.specs.Normal.{IsNormal, IsUnder, parts};
 ghost use Rattle.b2_base.specs.Simpler.{Reaches, IsSimplest};
 
 use crate::fault::OutOfMemory;
-use crate::segments::{cut, is_below, is_rooted_text, join, keep};
+use crate::rooted::is_rooted;
+use crate::segments::{cut, is_below, join, keep};
 use crate::text::{Text, has_no_zero};
 use std::alloc::Global;
 use std::cmp::Ordering;
@@ -59,10 +60,45 @@ impl Model for Path {
 fn normal_text(alloc: Global, text: &str) -> Result<String, OutOfMemory>
     ensures { IfOk result (λ made. string_bytes made ≡ normal_of text.now) }
 {
-    let rooted = is_rooted_text(text);
+    let rooted = is_rooted(text);
     let cuts = cut(alloc, text)?;
     let kept = keep(alloc, rooted, cuts.as_slice())?;
     join(alloc, rooted, kept.as_slice())
+}
+
+/// The path of a text that is not empty.
+fn path_of_some(alloc: Global, text: &str) -> Result<Path, OutOfMemory>
+    requires no_zero { HasNoZero text.now }
+    requires some { text.now ≢ [] }
+    ensures { IfOk result (λ path. path ≡ normal_of text.now) }
+{
+    match Path::normal(alloc, text) {
+        Ok(path) => Ok(path),
+        Err(PathFault::OutOfMemory) => Err(OutOfMemory),
+        Err(PathFault::Empty | PathFault::Nul) => unreachable!(),
+    }
+}
+
+/// The path of a text, which has no zero byte; that of the empty text is `.`.
+pub fn path_of(alloc: Global, text: &str) -> Result<Path, OutOfMemory>
+    requires { HasNoZero text.now }
+    ensures { IfOk result (λ path. path ≡ normal_of text.now) }
+{
+    if text.is_empty() {
+        path_of_some(alloc, ".")
+    } else {
+        path_of_some(alloc, text)
+    }
+}
+
+/// The path of two texts with a slash between them.
+pub fn joined_path(alloc: Global, dir: &str, text: &str) -> Result<Path, OutOfMemory>
+    requires dir { HasNoZero dir.now }
+    requires text { HasNoZero text.now }
+    ensures { IfOk result (λ path. path ≡ normal_of (dir.now ++ codes "/" ++ text.now)) }
+{
+    let text = format!(in alloc; "{dir}/{text}")?;
+    path_of(alloc, text.as_str())
 }
 
 impl Path {

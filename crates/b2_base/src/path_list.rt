@@ -14,6 +14,7 @@ pub fn copy_paths(alloc: Global, paths: &[Path]) -> Result<PathList, OutOfMemory
     ensures { IfOk result (λ made. made ≡ paths.now) }
 {
     let mut made = Vec::new(alloc);
+    made.reserve_exact(paths.len())?;
     for path in paths {
         made.push(path.copy()?)?;
     }

@@ -1,17 +1,11 @@
 //! A path's segments: cut at slashes, brought into normal form, and joined again.
 ghost use Rattle.std.specs.Prelude.{◌≡◌, ◌↔◌, ℕ, List, [], ◌∷◌, ◌++◌, codes, IfOk, IsTrue, OnOk, string_bytes};
 ghost use Rattle.b2_base.specs.Normal.{IsNormal, IsUnder, first_part};
-ghost use Rattle.b2_base.specs.Segments.{segments, is_rooted, is_dropped, is_up, step, kept, written, texts, stack};
+ghost use Rattle.b2_base.specs.Segments.{segments, is_dropped, is_up, step, kept, written, texts, stack};
 
 use crate::fault::OutOfMemory;
+use crate::rooted::is_rooted;
 use std::alloc::Global;
-
-/// Whether the text begins at the root.
-pub fn is_rooted_text(text: &str) -> bool
-    ensures { result ≡ is_rooted text.now }
-{
-    text.starts_with('/')
-}
 
 fn is_dropped_segment(segment: &str) -> bool
     ensures { result ≡ is_dropped segment.now }
@@ -97,7 +91,7 @@ fn is_below_here(path: &str) -> bool
     requires { IsNormal path.now }
     ensures { IsTrue result ↔ IsUnder path.now (codes ".") }
 {
-    path != "." && !is_rooted_text(path) && !begins_above(path)
+    path != "." && !is_rooted(path) && !begins_above(path)
 }
 
 /// Whether a text in normal form lies below the root.
@@ -105,7 +99,7 @@ fn is_below_root(path: &str) -> bool
     requires { IsNormal path.now }
     ensures { IsTrue result ↔ IsUnder path.now (codes "/") }
 {
-    path != "/" && is_rooted_text(path)
+    path != "/" && is_rooted(path)
 }
 
 /// Whether a text is another one with a slash after it, and maybe more.
