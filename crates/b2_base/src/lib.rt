@@ -1,4 +1,4 @@
-//! Texts, paths, tokens and maps from texts, each seen by contracts as the value that it stands for.
+//! Texts, paths, tokens and maps from texts, and how many texts a call's lists have, each seen by contracts as the value that it stands for.
 #![tactic(auto)]
 
 pub mod expand_fault;
@@ -10,6 +10,7 @@ pub mod path;
 pub mod path_list;
 pub mod rooted;
 mod segments;
+pub mod shape;
 pub mod text;
 pub mod text_list;
 pub mod text_map;

@@ -14,10 +14,10 @@ use crate::output::Output;
 use crate::setting::Setting;
 use crate::site::Site;
 use crate::step::location_of;
-use b2_base::path::Path;
+use b2_base::path::{Path, path_of};
 use b2_props::elements::dir_of;
 use b2_supplies::entry::{Entry, EntryList};
-use b2_supplies::paths::{file_name, path_of};
+use b2_supplies::paths::file_name;
 use b2_virtual::fault::VirtualFault;
 use b2_virtual::paths::{is_in_roots, location_path, output_path};
 

@@ -9,14 +9,13 @@ ghost use Rattle.b2_conversions.specs.Conversions.{copy_step};
 
 use crate::site::Site;
 use b2_base::fault::OutOfMemory;
-use b2_base::path::Path;
+use b2_base::path::{Path, path_of};
 use b2_base::path_list::PathList;
 use b2_base::text::Text;
 use b2_base::text_list::TextList;
 use b2_plan::step::Step;
 use b2_props::props::Props;
 use b2_supplies::entry::Entry;
-use b2_supplies::paths::path_of;
 use jam_eval::step::{StepJob, StepText};
 use std::alloc::Global;
 

@@ -14,10 +14,10 @@ use Rattle.b2_declarations.specs.declared.declaration.Kind.{Kind}
 use Rattle.b2_declarations.specs.declared.declaration.Kind.TheVariants.{Exe, Lib, Obj, Alias, Make, Install}
 use Rattle.b2_declarations.specs.declared.rule.Rule.{Rule}
 use Rattle.b2_declarations.specs.declared.rule.Rule.TheVariants as rules
-use Rattle.b2_declarations.specs.declared.shape.Count.{Count}
-use Rattle.b2_declarations.specs.declared.shape.Count.TheVariants.{Nothing, One, AtMostOne, Any, AtLeastOne}
+use Rattle.b2_base.specs.declared.shape.Count.{Count}
+use Rattle.b2_base.specs.declared.shape.Count.TheVariants.{Nothing, One, AtMostOne, Any, AtLeastOne}
 use Rattle.b2_declarations.specs.Lists.{Texts, list_at, text_at}
-use Rattle.b2_declarations.specs.Shapes.{is_counted, are_empty, has_shape}
+use Rattle.b2_base.specs.Shapes.{is_counted, are_empty, has_shape}
 use Rattle.b2_declarations.specs.Rules.{rule_of}
 use Rattle.b2_declarations.specs.Attributes.{id_of, is_attribute, are_attributes, property_list, attributes}
 use Rattle.b2_declarations.specs.Targets.{counts_of, target}

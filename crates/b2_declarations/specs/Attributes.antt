@@ -8,7 +8,7 @@ use Rattle.b2_declarations.specs.declared.declaration.ListName.{ListName}
 use Rattle.b2_declarations.specs.declared.declaration.ListName.TheVariants.{Requirements, DefaultBuild, Usage}
 use Rattle.b2_declarations.specs.declared.declaration.PropertyList.{PropertyList}
 use Rattle.b2_declarations.specs.Lists.{Texts, list_at, listed}
-use Rattle.b2_declarations.specs.Shapes.{are_empty}
+use Rattle.b2_base.specs.Shapes.{are_empty}
 
 -- an id begins with a slash
 abbrev pub id_of : List ℕ → List ℕ

@@ -1,5 +1,4 @@
 pub mod Lists
-pub mod Shapes
 pub mod Rules
 pub mod References
 pub mod Attributes

@@ -9,8 +9,8 @@ use Rattle.b2_declarations.specs.declared.declaration.Kind.TheVariants.{Make, In
 use Rattle.b2_declarations.specs.declared.declaration.ListName.TheVariants.{Requirements, DefaultBuild, Usage}
 use Rattle.b2_declarations.specs.declared.declaration.MainTarget.{MainTarget}
 use Rattle.b2_declarations.specs.declared.declaration.PropertyList.{PropertyList}
-use Rattle.b2_declarations.specs.declared.shape.Count.{Count}
-use Rattle.b2_declarations.specs.declared.shape.Count.TheVariants.{One, Any}
+use Rattle.b2_base.specs.declared.shape.Count.{Count}
+use Rattle.b2_base.specs.declared.shape.Count.TheVariants.{One, Any}
 use Rattle.b2_declarations.specs.Lists.{Texts, list_at, text_at, listed}
 
 -- no main target has such a name: it is empty, absolute, has `//` or a segment `..`, or its normal form is `.`

@@ -7,12 +7,12 @@ ghost use Rattle.b2_declarations.specs.Attributes.{id_of, has_name, list_name, i
 
 use crate::declaration::{Attributes, ListName, PropertyList};
 use crate::lists::{list_at, push_list};
-use crate::shape::are_empty;
 use b2_base::fault::OutOfMemory;
 use b2_base::list::List;
+use b2_base::rooted::is_rooted;
+use b2_base::shape::are_empty;
 use b2_base::text::Text;
 use b2_base::text_list::TextList;
-use b2_texts::places::is_rooted;
 use std::alloc::Global;
 
 /// The id of a text, which begins with a slash.

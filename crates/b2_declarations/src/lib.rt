@@ -2,7 +2,6 @@
 #![tactic(auto)]
 
 mod attributes;
-mod cuts;
 pub mod declaration;
 pub mod laws;
 mod lists;
@@ -11,5 +10,4 @@ mod places;
 pub mod reading;
 mod references;
 mod rule;
-mod shape;
 mod target;

@@ -3,10 +3,11 @@ ghost use Rattle.std.specs.Prelude.{◌≡◌, IfOk};
 ghost use Rattle.b2_base.specs.Bytes.{HasNoZero};
 ghost use Rattle.b2_declarations.specs.Directories.{directory_before, directory_of};
 
-use crate::cuts::cut_at;
 use b2_base::fault::OutOfMemory;
-use b2_base::path::Path;
-use b2_texts::places::{is_rooted, path_in, path_of};
+use b2_base::path::{Path, path_of};
+use b2_base::rooted::is_rooted;
+use b2_texts::cuts::cut_at;
+use b2_texts::places::path_in;
 use std::alloc::Global;
 
 /// The directory that stands before `//` in a reference.

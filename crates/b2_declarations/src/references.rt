@@ -4,11 +4,11 @@ ghost use Rattle.b2_base.specs.Bytes.{HasNoZero};
 ghost use Rattle.b2_texts.specs.Cuts.{named_pair, AreClean};
 ghost use Rattle.b2_declarations.specs.References.{is_dependency, property_in, dependency_in, dependencies, reading_of, list_dependencies};
 
-use crate::cuts::{cut_at, named_pair, pair_after};
 use crate::declaration::{ListName, PropertyList};
 use b2_base::fault::OutOfMemory;
 use b2_base::text::Text;
 use b2_base::text_list::TextList;
+use b2_texts::cuts::{cut_at, named_pair, pair_after};
 use std::alloc::Global;
 
 /// How the texts of a list are read.

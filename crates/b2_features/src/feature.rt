@@ -8,7 +8,7 @@ ghost use Rattle.b2_features.specs.Table.{seen, lists, declared, default_value, 
 use crate::attribute::Attribute;
 use b2_base::fault::OutOfMemory;
 use b2_base::text::Text;
-use b2_base::text_list::TextList;
+use b2_base::text_list::{TextList, copy_texts};
 use std::alloc::Global;
 
 /// A declared feature. `values` and `attributes` stand in order of declaration, `parts` has the components of each composed
@@ -19,17 +19,6 @@ pub struct Feature {
     pub values: TextList,
     pub attributes: TextList,
     pub parts: Vec<(Text, Vec<(Text, Text)>)>,
-}
-
-/// The same texts, in order.
-pub(crate) fn copy_texts(alloc: Global, texts: &[Text]) -> Result<TextList, OutOfMemory>
-    ensures { IfOk result (λ made. made ≡ texts.now) }
-{
-    let mut made = Vec::new(alloc);
-    for text in texts {
-        made.push(text.copy()?)?;
-    }
-    Ok(TextList::from_vec(made))
 }
 
 /// The same pairs, in order.

@@ -13,7 +13,7 @@ ghost use Rattle.b2_features.specs.Faults.{is_taken, is_conflict, twice_value, t
 use crate::attribute::Attribute;
 use crate::checks::{bad_word, contradicted};
 use crate::fault::FeatureFault;
-use crate::feature::{Feature, copy_pairs, copy_texts};
+use crate::feature::{Feature, copy_pairs};
 use crate::implicit::{ImplicitValues, implicit_values};
 use b2_base::fault::OutOfMemory;
 use b2_base::text::Text;

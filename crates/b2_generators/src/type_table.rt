@@ -8,7 +8,7 @@ ghost use Rattle.b2_generators.specs.Table.{FileType, has_text, has_repeat, type
 use crate::suffixes::{Suffixes, copy_strings};
 use b2_base::fault::OutOfMemory;
 use b2_base::text::Text;
-use b2_base::text_list::TextList;
+use b2_base::text_list::{TextList, copy_texts};
 use b2_base::text_map::TextMap;
 use indexmap::IndexMap;
 use std::alloc::Global;
@@ -141,15 +141,4 @@ fn has_repeat(alloc: Global, texts: &[Text]) -> Result<bool, OutOfMemory>
         let _before = seen.insert(text.copy()?, ())?;
     }
     Ok(false)
-}
-
-/// The same texts, in order.
-fn copy_texts(alloc: Global, texts: &[Text]) -> Result<TextList, OutOfMemory>
-    ensures { IfOk result (λ made. made ≡ texts.now) }
-{
-    let mut made = TextList::new(alloc);
-    for text in texts {
-        made.push(text.copy()?)?;
-    }
-    Ok(made)
 }

@@ -8,7 +8,7 @@ ghost use Rattle.b2_loaded.specs.Doing.{HasRule, IsPlaced, EvaluatesOn, ReturnsO
 
 use b2_base::fault::OutOfMemory;
 use b2_base::text::Text;
-use b2_base::text_list::TextList;
+use b2_base::text_list::{TextList, copy_texts};
 use b2_host::files::Files;
 use b2_metatargets::place::Place;
 use jam_effects::at::{At, LEVELS};
@@ -20,7 +20,7 @@ use jam_interp::rolled::{CallAnswer, call_rolled};
 use jam_interp::step::step_text;
 use jam_natives::natives::JamNatives;
 use jam_scope::world::World;
-use jam_values::lists::{TextLists, copy_texts};
+use jam_values::lists::TextLists;
 use std::alloc::Global;
 
 /// How many turns each evaluation has.

@@ -9,10 +9,10 @@ ghost use Rattle.b2_metatargets.specs.Views.{seen};
 
 use crate::fault::{DeclaringFault, feature_refusal, refusal};
 use crate::lists::{read_pair, read_pairs};
-use crate::texts::copy_texts;
 use crate::visit::{Call, Visit, visit_of};
 use b2_base::fault::OutOfMemory;
 use b2_base::text::Text;
+use b2_base::text_list::copy_texts;
 use b2_declarations::declaration::Declaration;
 use b2_declarations::reading::is_refused;
 use b2_features::registry::Registry;

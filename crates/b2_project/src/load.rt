@@ -12,14 +12,13 @@ use crate::project::Project;
 use crate::toolset::{declaring_fault, run_toolset};
 use b2_base::fault::OutOfMemory;
 use b2_base::text::Text;
-use b2_base::text_list::TextList;
+use b2_base::text_list::{TextList, copy_texts};
 use b2_host::files::Files;
 use b2_metatargets::metatargets::declared;
 use b2_metatargets::whole::Declared;
 pub use b2_walk::fault::LoadFault;
 use b2_walk::walk::Walk;
 use jam_effects::turns::Turns;
-use jam_values::lists::copy_texts;
 use std::alloc::Global;
 
 /// The lines of ECHO, in order, and the project or why there is none.

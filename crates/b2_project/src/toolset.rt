@@ -6,7 +6,7 @@ ghost use Rattle.b2_project.specs.Loads.{toolset_of};
 ghost use Rattle.b2_project.specs.Parts.{of_declaring, IsToolsetAt, IsTextOf, RunsToolset};
 
 use b2_base::fault::OutOfMemory;
-use b2_base::path::Path;
+use b2_base::path::{Path, path_of};
 use b2_base::text::Text;
 use b2_declarations::declaration::Declaration;
 use b2_features::fault::FeatureFault;
@@ -15,7 +15,6 @@ use b2_host::files::Files;
 use b2_metatargets::fault::DeclaringFault;
 use b2_metatargets::tables::carry_out;
 use b2_metatargets::visit::{Call, Visit};
-use b2_texts::places::path_of;
 use b2_walk::fault::LoadFault;
 use b2_walk::walk::Walk;
 use jam_effects::turns::Turns;

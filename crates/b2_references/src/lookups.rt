@@ -6,10 +6,9 @@ ghost use Rattle.b2_references.specs.Names.{alternatives, lineage, default_build
 use crate::index::Index;
 use crate::written::reference_to;
 use b2_base::fault::OutOfMemory;
-use b2_base::path::Path;
+use b2_base::path::{Path, path_of};
 use b2_base::text::Text;
 use b2_metatargets::place::{Place, Target};
-use b2_texts::places::path_of;
 use std::alloc::Global;
 
 /// The folder.

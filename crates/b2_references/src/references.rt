@@ -12,8 +12,9 @@ use crate::projects::project_meaning;
 use crate::written::cut_reference;
 use b2_base::fault::OutOfMemory;
 use b2_base::path::Path;
+use b2_base::rooted::is_rooted;
 use b2_base::text::Text;
-use b2_texts::places::{is_rooted, path_in};
+use b2_texts::places::path_in;
 use std::alloc::Global;
 
 /// The place of Jamroot's project.

@@ -1,38 +1,12 @@
 //! The file's name in a path, and its directory.
-ghost use Rattle.std.specs.Prelude.{◌≡◌, ◌≢◌, [], IfOk};
+ghost use Rattle.std.specs.Prelude.{◌≡◌, IfOk};
 ghost use Rattle.b2_base.specs.Bytes.{HasNoZero};
-ghost use Rattle.b2_base.specs.Segments.{normal_of};
 ghost use Rattle.b2_virtual.specs.Paths.{name_of};
 ghost use Rattle.b2_supplies.specs.Supplies.{directory_of};
 
 use b2_base::fault::OutOfMemory;
-use b2_base::path::{Path, PathFault};
+use b2_base::path::{Path, path_of};
 use std::alloc::Global;
-
-/// The path of a text that is not empty.
-fn normal_path(alloc: Global, text: &str) -> Result<Path, OutOfMemory>
-    requires no_zero { HasNoZero text.now }
-    requires some { text.now ≢ [] }
-    ensures { IfOk result (λ path. path ≡ normal_of text.now) }
-{
-    match Path::normal(alloc, text) {
-        Ok(path) => Ok(path),
-        Err(PathFault::OutOfMemory) => Err(OutOfMemory),
-        Err(PathFault::Empty) => unreachable!(),
-        Err(PathFault::Nul) => unreachable!(),
-    }
-}
-
-/// The path of a text; that of the empty text is `.`.
-pub fn path_of(alloc: Global, text: &str) -> Result<Path, OutOfMemory>
-    requires { HasNoZero text.now }
-    ensures { IfOk result (λ path. path ≡ normal_of text.now) }
-{
-    if text.is_empty() {
-        return normal_path(alloc, ".");
-    }
-    normal_path(alloc, text)
-}
 
 /// The file's name in a path: what stands after its last slash; takes no memory.
 pub fn file_name(path: &Path) -> &str

@@ -1,4 +1,4 @@
-use Rattle.std.proofs.Common.{◌≢◌, ℕ, ◌<◌, List, [], ◌∷◌, ◌++◌, ap, arith, length, length-append, lit<}
+use Rattle.std.proofs.Common.{ℕ, ◌<◌, List, ◌++◌, lit<}
 use Rattle.std.specs.Prelude.{codes}
 use Rattle.std.proofs.lemmas.List.Elements.{All-append, All-from_recursion}
 use Rattle.b2_base.specs.Bytes.{HasNoZero}
@@ -7,12 +7,5 @@ use Rattle.b2_base.specs.Bytes.{HasNoZero}
 pub clean_pieces : (xs ys zs : List ℕ) → HasNoZero xs → HasNoZero ys → HasNoZero zs → HasNoZero (xs ++ (ys ++ zs))
 clean_pieces xs ys zs x y z = All-append (λ byte. 0 < byte) xs (ys ++ zs) x (All-append (λ byte. 0 < byte) ys zs y z)
 
-pub clean_slash : HasNoZero (codes "/")
-clean_slash = All-from_recursion (λ byte. 0 < byte) (codes "/") (lit< tt, tt)
-
 pub clean_slashes : HasNoZero (codes "//")
 clean_slashes = All-from_recursion (λ byte. 0 < byte) (codes "//") (lit< tt, (lit< tt, tt))
-
--- a text with a slash in it is not empty
-pub not_empty : (xs zs : List ℕ) → xs ++ (codes "/" ++ zs) ≢ []
-not_empty xs zs e = absurd (omega (arith, ap length e, length-append xs (47 ∷ zs)))

@@ -5,9 +5,10 @@ ghost use Rattle.b2_base.specs.Bytes.{HasNoZero};
 ghost use Rattle.b2_texts.specs.Completion.{reference_to, reference_in, value_in};
 
 use crate::cuts::cut_at;
-use crate::places::{is_rooted, path_in};
+use crate::places::path_in;
 use b2_base::fault::OutOfMemory;
 use b2_base::path::Path;
+use b2_base::rooted::is_rooted;
 use b2_base::text::Text;
 use b2_features::attribute::Attribute;
 use b2_features::registry::Registry;

@@ -3,7 +3,7 @@
 
 pub mod clashes;
 mod completion;
-mod cuts;
+pub mod cuts;
 pub mod lists;
 pub mod missing;
 pub mod places;

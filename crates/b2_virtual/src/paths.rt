@@ -1,65 +1,25 @@
 //! The tails of outputs, and their paths.
-ghost use Rattle.std.specs.Prelude.{◌≡◌, ◌≢◌, ◌↔◌, ◌++◌, [], codes, map, string_bytes, IfOk, IfErr, IfSome, IsTrue, ◌⊎◌, if◌then◌else◌};
+ghost use Rattle.std.specs.Prelude.{◌≡◌, ◌↔◌, ◌++◌, codes, map, string_bytes, IfOk, IfErr, IfSome, IsTrue, ◌⊎◌, if◌then◌else◌};
 ghost use Rattle.std.specs.List.{Contains, join_with_byte};
 ghost use Rattle.std.specs.Option.{option_copied};
 ghost use Rattle.b2_base.specs.Bytes.{HasNoZero};
-ghost use Rattle.b2_base.specs.Segments.{normal_of, is_rooted, segments, texts};
+ghost use Rattle.b2_base.specs.Segments.{segments, texts};
 ghost use Rattle.b2_plan.specs.Sources.{IsInRoots};
 ghost use Rattle.b2_virtual.specs.Refusals.{IsOutsideBy};
 ghost use Rattle.b2_virtual.specs.Paths.{up_shown, source_tail, name_of, folder_of, stem_of, dotted, converted_tail, named_tail, output_path, place_of, located, IsPlaced};
 
 use crate::fault::VirtualFault;
 use b2_base::fault::OutOfMemory;
-use b2_base::path::{Path, PathFault};
+use b2_base::path::{Path, joined_path, path_of};
+use b2_base::rooted::is_rooted;
 use std::alloc::Global;
-
-/// The path of a text that is not empty.
-fn normal_path(alloc: Global, text: &str) -> Result<Path, OutOfMemory>
-    requires no_zero { HasNoZero text.now }
-    requires some { text.now ≢ [] }
-    ensures { IfOk result (λ path. path ≡ normal_of text.now) }
-{
-    match Path::normal(alloc, text) {
-        Ok(path) => Ok(path),
-        Err(PathFault::OutOfMemory) => Err(OutOfMemory),
-        Err(PathFault::Empty) => unreachable!(),
-        Err(PathFault::Nul) => unreachable!(),
-    }
-}
-
-/// The path of a text; that of the empty text is `.`.
-pub(crate) fn path_of(alloc: Global, text: &str) -> Result<Path, OutOfMemory>
-    requires { HasNoZero text.now }
-    ensures { IfOk result (λ path. path ≡ normal_of text.now) }
-{
-    if text.is_empty() {
-        return normal_path(alloc, ".");
-    }
-    normal_path(alloc, text)
-}
-
-/// The path of two texts with a slash between them.
-fn path_in(alloc: Global, dir: &str, text: &str) -> Result<Path, OutOfMemory>
-    requires dir { HasNoZero dir.now }
-    requires text { HasNoZero text.now }
-    ensures { IfOk result (λ path. path ≡ normal_of (dir.now ++ codes "/" ++ text.now)) }
-{
-    let text = format!(in alloc; "{dir}/{text}")?;
-    path_of(alloc, text.as_str())
-}
-
-pub(crate) fn is_rooted(text: &str) -> bool
-    ensures { result ≡ is_rooted text.now }
-{
-    text.starts_with('/')
-}
 
 /// The tail of an output that has a name in a project's directory.
 pub fn named_tail(alloc: Global, dir: &Path, name: &str) -> Result<Path, OutOfMemory>
     requires { HasNoZero name.now }
     ensures { IfOk result (λ tail. tail ≡ named_tail dir.now name.now) }
 {
-    path_in(alloc, dir.as_str(), name)
+    joined_path(alloc, dir.as_str(), name)
 }
 
 /// The path of an output in `bin`: below the elements of its properties, which are joined by slashes, its tail.
@@ -68,7 +28,7 @@ pub fn output_path(alloc: Global, elements: &str, tail: &Path) -> Result<Path, O
     ensures { IfOk result (λ path. path ≡ output_path elements.now tail.now) }
 {
     let folder = format!(in alloc; "bin/{elements}")?;
-    path_in(alloc, folder.as_str(), tail.as_str())
+    joined_path(alloc, folder.as_str(), tail.as_str())
 }
 
 /// Whether a path lies under an output root; takes no memory.
@@ -103,7 +63,7 @@ fn place_of(alloc: Global, dir: &Path, location: &str) -> Result<Path, OutOfMemo
     if is_rooted(location) {
         return path_of(alloc, location);
     }
-    path_in(alloc, dir.as_str(), location)
+    joined_path(alloc, dir.as_str(), location)
 }
 
 /// Whether the place of a location is an output root or lies under one, and a file's path lies under one.
@@ -129,7 +89,7 @@ pub fn location_path(
     ensures outside { IfErr result (IsOutsideBy roots.now dir.now location.now name.now) }
 {
     let place = place_of(alloc, dir, location)?;
-    let path = path_in(alloc, place.as_str(), name)?;
+    let path = joined_path(alloc, place.as_str(), name)?;
     if !is_placed(roots, &place, &path) {
         return Err(VirtualFault::LocationOutside { path });
     }

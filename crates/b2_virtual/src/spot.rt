@@ -7,15 +7,10 @@ ghost use Rattle.b2_virtual.specs.Spots.{spot};
 
 use b2_base::fault::OutOfMemory;
 use b2_base::path::Path;
+use b2_base::rooted::is_rooted;
 use b2_base::text::Text;
 use b2_base::text_list::TextList;
 use std::alloc::Global;
-
-fn is_rooted(path: &str) -> bool
-    ensures { result ≡ is_rooted path.now }
-{
-    path.starts_with('/')
-}
 
 /// Whether a text in normal form begins with the segment `..`.
 fn begins_above(path: &str) -> bool

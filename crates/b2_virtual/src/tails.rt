@@ -6,9 +6,9 @@ ghost use Rattle.b2_base.specs.Bytes.{HasNoZero};
 ghost use Rattle.b2_base.specs.Segments.{segments, texts};
 ghost use Rattle.b2_virtual.specs.Paths.{up_shown, source_tail, stem_of, dotted, converted_tail};
 
-use crate::paths::{is_rooted, path_of};
 use b2_base::fault::OutOfMemory;
-use b2_base::path::Path;
+use b2_base::path::{Path, path_of};
+use b2_base::rooted::is_rooted;
 use std::alloc::Global;
 
 fn up_shown(segment: &str) -> &str

@@ -8,10 +8,9 @@ ghost use Rattle.jam_eval.specs.Includes.{path_from, is_below};
 ghost use Rattle.b2_visits.specs.Directories.{here, beginnings, path_of, way_to, module_name, file_names};
 
 use b2_base::fault::OutOfMemory;
-use b2_base::path::Path;
+use b2_base::path::{Path, path_of};
 use b2_base::path_list::PathList;
 use b2_base::text::Text;
-use b2_texts::places::path_of;
 use jam_values::paths::path_from;
 use std::alloc::Global;
 

@@ -23,7 +23,7 @@ use Rattle.jam_natives.specs.declared.native.Noting.TheVariants as notes
 use Rattle.jam_natives.specs.Keeping.{Kept}
 use Rattle.jam_natives.specs.OutputDirs.{names_output_dirs, root_paths, is_refused}
 use Rattle.jam_natives.specs.Rules.{native_of, shape_of, is_declaring}
-use Rattle.jam_natives.specs.Shapes.{has_shape}
+use Rattle.b2_base.specs.Shapes.{has_shape}
 use Rattle.jam_natives.specs.Rows.{read, read_answer, add_each, noted, foreign_in, unless_foreign, import_each, unless_missing, missing_rule, imported, is_project, declare_at, declare, row, call_of, jam_meaning}
 
 -- the modules above modules, after an answer

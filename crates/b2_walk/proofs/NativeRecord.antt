@@ -22,7 +22,7 @@ use Rattle.jam_natives.specs.declared.native.Native.TheVariants as natives
 use Rattle.jam_natives.specs.declared.native.Noting.{Noting}
 use Rattle.jam_natives.specs.Keeping.{Kept}
 use Rattle.jam_natives.specs.Rules.{native_of, shape_of, is_declaring}
-use Rattle.jam_natives.specs.Shapes.{has_shape}
+use Rattle.b2_base.specs.Shapes.{has_shape}
 use Rattle.jam_natives.specs.Texts.{line_of}
 use Rattle.jam_natives.specs.Rows.{read, read_answer, noted, foreign_in, unless_foreign, import_each, unless_missing, missing_rule, imported, keep, decl_of, declare_at, declare, row, call_of, jam_meaning}
 use Rattle.b2_walk.specs.Laws.{KeepsRecord}

@@ -18,12 +18,12 @@ use b2_base::look::Look;
 use b2_base::path::Path;
 use b2_base::path_list::{PathList, copy_paths};
 use b2_base::text::Text;
-use b2_base::text_list::TextList;
+use b2_base::text_list::{TextList, copy_texts};
 use jam_eval::step::{StepJob, StepText};
 use jam_expand::body::expand_body;
 use jam_scope::notes::StepNotes;
 use jam_scope::world::World;
-use jam_values::lists::{TextLists, copy_texts};
+use jam_values::lists::TextLists;
 use std::alloc::Global;
 
 /// What names stand for in the body of actions.

@@ -11,11 +11,11 @@ use crate::fault::EvalFault;
 use crate::words::join_at;
 use b2_base::fault::OutOfMemory;
 use b2_base::text::Text;
-use b2_base::text_list::TextList;
+use b2_base::text_list::{TextList, copy_texts};
 use jam_expand::limit::Gathered;
 use jam_scope::rule::Rule;
 use jam_scope::world::World;
-use jam_values::lists::{TextLists, copy_texts};
+use jam_values::lists::TextLists;
 use std::alloc::Global;
 
 /// The name of what is called, and its lists.

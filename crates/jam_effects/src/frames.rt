@@ -7,10 +7,9 @@ ghost use Rattle.jam_effects.specs.Framing.{entered, on_entered, loop_entered, c
 
 use b2_base::fault::OutOfMemory;
 use b2_base::text::Text;
-use b2_base::text_list::TextList;
+use b2_base::text_list::{TextList, copy_texts};
 use jam_scope::world::World;
 use jam_values::bindings::Bound;
-use jam_values::lists::copy_texts;
 use std::alloc::Global;
 
 /// Opens a frame of the present module.

@@ -22,12 +22,11 @@ use crate::words::expand_fault;
 use b2_base::expand_fault::ExpandFault;
 use b2_base::fault::OutOfMemory;
 use b2_base::text::Text;
-use b2_base::text_list::TextList;
+use b2_base::text_list::{TextList, copy_texts};
 use jam_expand::limit::{LIMIT, longer};
 use jam_grammar::tree::{Block, Param, Sign};
 use jam_scope::body::{ActionBody, RuleBody};
 use jam_scope::world::World;
-use jam_values::lists::copy_texts;
 use std::alloc::Global;
 use std::rc::Rc;
 

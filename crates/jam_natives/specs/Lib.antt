@@ -1,4 +1,3 @@
-pub mod Shapes
 pub mod Rules
 pub mod Lists
 pub mod Texts

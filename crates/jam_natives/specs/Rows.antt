@@ -27,7 +27,7 @@ use Rattle.jam_natives.specs.declared.native.Noting.TheVariants as notes
 use Rattle.jam_natives.specs.Keeping.{Kept}
 use Rattle.jam_natives.specs.Lists.{text_of}
 use Rattle.jam_natives.specs.Rules.{native_of, shape_of, is_declaring}
-use Rattle.jam_natives.specs.Shapes.{has_shape}
+use Rattle.b2_base.specs.Shapes.{has_shape}
 use Rattle.jam_natives.specs.Texts.{line_of, after_start, sorted}
 use Rattle.jam_natives.specs.Matches.{Found, matches_of}
 use Rattle.jam_natives.specs.Globs.{globbed, project_globbed}

@@ -3,8 +3,8 @@ use Rattle.std.specs.Prelude.{Bool, List, [], ◌∷◌, codes, Option, Some, No
 use Rattle.std.specs.List.{list_any}
 use Rattle.std.specs.Str.{bytes_eq}
 use Rattle.jam_journal.specs.Tables.{Text}
-use Rattle.jam_natives.specs.declared.shape.Count.{Count}
-use Rattle.jam_natives.specs.declared.shape.Count.TheVariants.{One, AtMostOne, Any, AtLeastOne}
+use Rattle.b2_base.specs.declared.shape.Count.{Count}
+use Rattle.b2_base.specs.declared.shape.Count.TheVariants.{One, AtMostOne, Any, AtLeastOne}
 use Rattle.jam_natives.specs.declared.native.Native.{Native}
 use Rattle.jam_natives.specs.declared.native.Native.TheVariants.{Echo, Reads, Notes, Import, Export, Glob, ProjectGlob}
 use Rattle.jam_natives.specs.declared.native.Reading.TheVariants as reads

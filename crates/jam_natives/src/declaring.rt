@@ -6,10 +6,9 @@ ghost use Rattle.jam_natives.specs.Rows.{is_project, decl_of, with_roots};
 
 use crate::decl::Decl;
 use crate::output_dirs::{names_output_dirs, root_paths};
-use crate::texts::copy_texts;
 use b2_base::fault::OutOfMemory;
 use b2_base::list::List;
-use b2_base::text_list::TextList;
+use b2_base::text_list::{TextList, copy_texts};
 use jam_journal::name::Name;
 use jam_scope::world::World;
 use std::alloc::Global;

@@ -8,10 +8,9 @@ ghost use Rattle.jam_natives.specs.Sights.{ForMatching, WhereSeen};
 ghost use Rattle.jam_natives.specs.Searches.{picks, finds};
 ghost use Rattle.jam_natives.specs.Globs.{path_in, is_output_dir, is_matched, globbed, found_by, project_globbed};
 
-use crate::target::path_of;
 use crate::texts::without_repeats;
 use b2_base::fault::OutOfMemory;
-use b2_base::path::Path;
+use b2_base::path::{Path, joined_path, path_of};
 use b2_base::text::Text;
 use b2_base::text_list::TextList;
 use b2_host::fault::IoFault;
@@ -189,9 +188,7 @@ fn path_from(alloc: Global, place: &Path, text: &str) -> Result<Path, OutOfMemor
     if text.starts_with('/') {
         return path_of(alloc, text);
     }
-    let place = place.as_str();
-    let whole = format!(in alloc; "{place}/{text}")?;
-    path_of(alloc, whole.as_str())
+    joined_path(alloc, place.as_str(), text)
 }
 
 /// Adds the files that one pattern of `glob` finds.

@@ -13,6 +13,5 @@ mod noting;
 pub mod output_dirs;
 pub mod pattern_match;
 mod reading;
-pub mod shape;
 pub mod target;
 pub mod texts;

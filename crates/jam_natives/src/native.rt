@@ -4,7 +4,7 @@ ghost use Rattle.std.specs.List.{list_any};
 ghost use Rattle.std.specs.Str.{bytes_eq};
 ghost use Rattle.jam_natives.specs.Rules.{native_in, native_of, shape_of, is_declaring};
 
-use crate::shape::Count;
+use b2_base::shape::Count;
 
 /// Native rules that look at their lists and the world alone.
 #[derive(Clone, Copy)]

@@ -9,8 +9,9 @@ ghost use Rattle.jam_natives.specs.Calls.{IsPut};
 
 use crate::list::{list_at, text_of};
 use crate::native::Noting;
-use crate::target::{Named, first_foreign, path_of};
+use crate::target::{Named, first_foreign};
 use b2_base::fault::OutOfMemory;
+use b2_base::path::path_of;
 use b2_base::text::Text;
 use b2_base::text_list::TextList;
 use jam_eval::natives::{NativeError, NativeStep};

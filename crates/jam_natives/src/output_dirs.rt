@@ -5,8 +5,8 @@ ghost use Rattle.b2_base.specs.Segments.{normal_of};
 ghost use Rattle.jam_eval.specs.Params.{rest_of};
 ghost use Rattle.jam_natives.specs.OutputDirs.{is_output_dirs, names_output_dirs, output_dirs, is_no_root, root_paths};
 
-use crate::target::path_of;
 use b2_base::fault::OutOfMemory;
+use b2_base::path::path_of;
 use b2_base::path_list::PathList;
 use b2_base::text::Text;
 use b2_base::text_list::TextList;

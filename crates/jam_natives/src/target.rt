@@ -4,12 +4,11 @@ ghost use Rattle.std.specs.List.{find, list_any};
 ghost use Rattle.std.specs.Option.{option_copied};
 ghost use Rattle.std.specs.Str.{bytes_eq};
 ghost use Rattle.b2_base.specs.Bytes.{HasNoZero};
-ghost use Rattle.b2_base.specs.Segments.{normal_of};
 ghost use Rattle.jam_natives.specs.Named.{paths_in};
 ghost use Rattle.jam_natives.specs.Targets.{is_no_path, names_one, first_foreign};
 
 use b2_base::fault::OutOfMemory;
-use b2_base::path::Path;
+use b2_base::path::{Path, path_of};
 use b2_base::text::Text;
 use std::alloc::Global;
 
@@ -19,26 +18,6 @@ pub struct Named<'a> {
     pub outs: &'a [Path],
     pub ins: &'a [Path],
     pub added: &'a [Path],
-}
-
-/// The normal form of a text that is not empty.
-fn normal_path(alloc: Global, text: &str) -> Result<Path, OutOfMemory>
-    ensures { IfOk result (λ path. path ≡ normal_of text.now) }
-{
-    match Path::normal(alloc, text) {
-        Ok(path) => Ok(path),
-        Err(_) => Err(OutOfMemory),
-    }
-}
-
-/// The normal form of a text; that of the empty text is `.`.
-pub(crate) fn path_of(alloc: Global, text: &str) -> Result<Path, OutOfMemory>
-    ensures { IfOk result (λ path. path ≡ normal_of text.now) }
-{
-    match text {
-        "" => normal_path(alloc, "."),
-        _ => normal_path(alloc, text),
-    }
 }
 
 fn stands_in(path: &Path, paths: &[Path]) -> bool

@@ -10,7 +10,7 @@ ghost use Rattle.jam_natives.specs.Texts.{line_of, after_start, sorted, add_new,
 
 use b2_base::fault::OutOfMemory;
 use b2_base::text::Text;
-use b2_base::text_list::TextList;
+use b2_base::text_list::{TextList, copy_texts};
 use b2_base::text_map::TextMap;
 use std::alloc::Global;
 
@@ -79,17 +79,6 @@ pub fn after_start(alloc: Global, start: &str, texts: &[Text]) -> Result<TextLis
     let mut made = TextList::new(alloc);
     for text in texts {
         push_after(alloc, &mut made, start, text)?;
-    }
-    Ok(made)
-}
-
-/// The same texts, in order.
-pub(crate) fn copy_texts(alloc: Global, texts: &[Text]) -> Result<TextList, OutOfMemory>
-    ensures { IfOk result (λ made. made ≡ texts.now) }
-{
-    let mut made = TextList::new(alloc);
-    for text in texts {
-        made.push(text.copy()?)?;
     }
     Ok(made)
 }

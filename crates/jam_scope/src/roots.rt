@@ -1,10 +1,9 @@
 //! The output roots.
 ghost use Rattle.std.specs.Prelude.{◌≡◌, ◌++◌, IfOk};
-ghost use Rattle.b2_base.specs.Segments.{normal_of};
 ghost use Rattle.jam_scope.specs.Texts.{first_roots};
 
 use b2_base::fault::OutOfMemory;
-use b2_base::path::Path;
+use b2_base::path::{Path, path_of};
 use b2_base::path_list::{PathList, copy_paths};
 use std::alloc::Global;
 use std::marker::Model;
@@ -80,14 +79,4 @@ fn joined(alloc: Global, paths: &[Path], more: &[Path]) -> Result<PathList, OutO
         made.push(path.copy()?)?;
     }
     Ok(made)
-}
-
-/// The path of a text.
-pub(crate) fn path_of(alloc: Global, text: &str) -> Result<Path, OutOfMemory>
-    ensures { IfOk result (λ made. made ≡ normal_of text.now) }
-{
-    match Path::normal(alloc, text) {
-        Ok(path) => Ok(path),
-        Err(_) => Err(OutOfMemory),
-    }
 }

@@ -4,11 +4,11 @@ ghost use Rattle.jam_scope.specs.Texts.{here};
 
 use crate::body::ActionBody;
 use crate::parents::Parents;
-use crate::roots::{Roots, path_of};
+use crate::roots::Roots;
 use crate::rule::Rule;
 use crate::steps::Steps;
 use b2_base::fault::OutOfMemory;
-use b2_base::path::Path;
+use b2_base::path::{Path, path_of};
 use jam_journal::past::Past;
 use jam_journal::past_lists::PastLists;
 use jam_journal::saved::Saved;

@@ -3,11 +3,11 @@ ghost use Rattle.std.specs.Prelude.{◌≡◌, ◌<◌, ◌+◌, [], ◌∷◌, 
 ghost use Rattle.jam_eval.specs.Params.{list_at, numbered, special, call_binds};
 ghost use Rattle.jam_values.specs.Bindings.{bindings_of, lists_of};
 
-use crate::lists::{copy_texts, list_at};
+use crate::lists::list_at;
 use crate::params::take_params;
 use b2_base::fault::OutOfMemory;
 use b2_base::text::Text;
-use b2_base::text_list::TextList;
+use b2_base::text_list::{TextList, copy_texts};
 use jam_grammar::tree::Param;
 use jam_journal::name::Name;
 use std::alloc::Global;

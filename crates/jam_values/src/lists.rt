@@ -1,26 +1,13 @@
 //! Lists of values.
-ghost use Rattle.std.specs.Prelude.{◌≡◌, IfOk};
+ghost use Rattle.std.specs.Prelude.{◌≡◌};
 ghost use Rattle.jam_eval.specs.Params.{list_at, rest_of};
 
-use b2_base::fault::OutOfMemory;
 use b2_base::list::List;
 use b2_base::text::Text;
 use b2_base::text_list::TextList;
-use std::alloc::Global;
 
 /// Lists of texts in order.
 pub type TextLists = List<TextList>;
-
-/// The same texts, in order.
-pub fn copy_texts(alloc: Global, texts: &[Text]) -> Result<TextList, OutOfMemory>
-    ensures { IfOk result (λ made. made ≡ texts.now) }
-{
-    let mut made = Vec::new(alloc);
-    for text in texts {
-        made.push(text.copy()?)?;
-    }
-    Ok(TextList::from_vec(made))
-}
 
 /// The list at a place, counted from 0; the empty one where there are fewer. Takes no memory.
 pub fn list_at(lists: &[TextList], place: usize) -> &[Text]

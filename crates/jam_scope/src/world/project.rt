@@ -7,21 +7,10 @@ use super::World;
 use b2_base::fault::OutOfMemory;
 use b2_base::path::Path;
 use b2_base::text::Text;
-use b2_base::text_list::TextList;
+use b2_base::text_list::{TextList, copy_texts};
 use jam_journal::sized_list::SizedList;
 use jam_journal::variables::Variables;
 use std::alloc::Global;
-
-/// The same texts, in order.
-fn copy_texts(alloc: Global, texts: &[Text]) -> Result<TextList, OutOfMemory>
-    ensures { IfOk result (λ made. made ≡ texts.now) }
-{
-    let mut made = TextList::new(alloc);
-    for text in texts {
-        made.push(text.copy()?)?;
-    }
-    Ok(made)
-}
 
 /// Binds the names of a row in the newest frame, which is there. After an error the first ones may be bound.
 fn bind_row(

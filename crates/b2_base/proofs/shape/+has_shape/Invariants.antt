@@ -1,5 +1,5 @@
 use Rattle.std.proofs.Common.{length}
-use Rattle.jam_natives.proofs.shape.+has_shape.Given as goal
+use Rattle.b2_base.proofs.shape.+has_shape.Given as goal
 
 abbrev pub decreases-has_shape : goal.decreases-has_shape
 decreases-has_shape l = length l.counts.now

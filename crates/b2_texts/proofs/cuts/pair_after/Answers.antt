@@ -1,5 +1,5 @@
-use Rattle.b2_declarations.proofs.Pairs.{pair_of, pair_clean}
-use Rattle.b2_declarations.proofs.cuts.pair_after.Goals as goal
+use Rattle.b2_texts.proofs.Pairs.{pair_of, pair_clean}
+use Rattle.b2_texts.proofs.cuts.pair_after.Goals as goal
 
 pub returns-clause-named : goal.returns-clause-named
 returns-clause-named c = pair_of c.args.rest.now c.split_once.result c.split_once.ensures.cases

@@ -1,9 +1,11 @@
 -- How many texts the lists of a call have.
-use Rattle.std.specs.Prelude.{◌==◌, nat_le, Bool, true, ◌&&◌, List, [], ◌∷◌, length}
+use Rattle.std.specs.Prelude.{◌==◌, nat_le, ℕ, Bool, true, ◌&&◌, List, [], ◌∷◌, length}
 use Rattle.std.specs.List.{list_all}
-use Rattle.b2_declarations.specs.declared.shape.Count.{Count}
-use Rattle.b2_declarations.specs.declared.shape.Count.TheVariants.{Nothing, One, AtMostOne, Any, AtLeastOne}
-use Rattle.b2_declarations.specs.Lists.{Texts}
+use Rattle.b2_base.specs.declared.shape.Count.{Count}
+use Rattle.b2_base.specs.declared.shape.Count.TheVariants.{Nothing, One, AtMostOne, Any, AtLeastOne}
+
+abbrev Texts : Type 0
+Texts = List (List ℕ)
 
 abbrev pub is_counted : Count → Texts → Bool
 is_counted Nothing texts = length texts == 0

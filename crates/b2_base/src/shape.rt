@@ -1,14 +1,14 @@
 //! How many texts the lists of a call have.
-ghost use Rattle.std.specs.Prelude.{◌≡◌, ◌==◌, length};
-ghost use Rattle.std.specs.List.{list_all};
-ghost use Rattle.jam_natives.specs.Shapes.{is_counted, has_shape};
+ghost use Rattle.std.specs.Prelude.{◌≡◌};
+ghost use Rattle.b2_base.specs.Shapes.{is_counted, are_empty, has_shape};
 
-use b2_base::text::Text;
-use b2_base::text_list::TextList;
+use crate::text::Text;
+use crate::text_list::TextList;
 
 /// How many texts a list has.
 #[derive(Clone, Copy)]
 pub enum Count {
+    Nothing,
     One,
     AtMostOne,
     Any,
@@ -16,10 +16,11 @@ pub enum Count {
 }
 
 impl Count {
-    fn holds(self, texts: &[Text]) -> bool
+    pub fn holds(self, texts: &[Text]) -> bool
         ensures { result ≡ is_counted self texts.now }
     {
         match self {
+            Count::Nothing => texts.is_empty(),
             Count::One => texts.len() == 1,
             Count::AtMostOne => texts.len() <= 1,
             Count::Any => true,
@@ -28,14 +29,17 @@ impl Count {
     }
 }
 
-fn are_empty(lists: &[TextList]) -> bool
-    ensures { result ≡ list_all (λ texts. length texts == 0) lists.now }
+/// Whether nothing stands in some lists; takes no memory.
+pub fn are_empty(lists: &[TextList]) -> bool
+    ensures { result ≡ are_empty lists.now }
 {
-    lists.iter().all(|list| list.as_slice().is_empty())
+    lists
+        .iter()
+        .all(|list| Count::Nothing.holds(list.as_slice()))
 }
 
-/// Whether each list has as many texts as is said. Lists that are not given are empty, and nothing stands in further ones.
-/// Takes no memory.
+/// Whether each list has as many texts as is said. Lists that are not given are empty, and nothing stands in further
+/// ones. Takes no memory.
 pub fn has_shape(counts: &[Count], lists: &[TextList]) -> bool
     ensures { result ≡ has_shape counts.now lists.now }
 {
