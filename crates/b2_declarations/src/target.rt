@@ -8,8 +8,8 @@ ghost use Rattle.b2_declarations.specs.Targets.{is_refused_name, counts_of, rule
 use crate::declaration::{Kind, ListName, MainTarget, PropertyList};
 use crate::lists::{list_at, push_copies, push_list, text_at};
 use b2_base::fault::OutOfMemory;
-use b2_base::path::path_of;
 use b2_base::list::List;
+use b2_base::path::path_of;
 use b2_base::rooted::is_rooted;
 use b2_base::shape::Count;
 use b2_base::text::Text;
