@@ -140,9 +140,11 @@ fn go_on<F: Files>(
         Ok(project) => {
             let Project {
                 world,
-                natives: _natives,
+                natives,
                 declared,
             } = project;
+            // What was recorded while the files ran is declared by now.
+            drop(natives);
             ask(alloc, words, &declared, world, files)
         }
         Err(fault) => Err(not_loaded(fault)),
