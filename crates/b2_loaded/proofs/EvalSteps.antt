@@ -20,7 +20,7 @@ use Rattle.jam_eval.specs.Faults.{Spot, Cause, unknown_rule, refused_in}
 use Rattle.jam_eval.specs.Outcomes.{Outcome, gives, faults, close_frame}
 use Rattle.jam_eval.specs.Refused.{Refuses}
 use Rattle.jam_eval.specs.Rolled.{back_to, call_rolled}
-use Rattle.jam_eval.specs.Settings.{IsSetting}
+use Rattle.jam_eval.specs.Settings.{Setting, IsSetting}
 use Rattle.jam_eval.specs.States.{State}
 use Rattle.jam_eval.specs.StepJobs.{job_of, step_answer}
 use Rattle.jam_eval.specs.declared.step.StepJob.{StepJob}
@@ -31,7 +31,7 @@ use Rattle.jam_effects.specs.declared.fault.EvalCause.{EvalCause}
 use Rattle.jam_effects.specs.declared.fault.EvalCause.TheVariants as causes
 use Rattle.jam_effects.specs.declared.fault.EvalFault.{EvalFault}
 use Rattle.jam_effects.specs.declared.fault.EvalFault.TheVariants as fault
-use Rattle.jam_effects.specs.Causes.{cause_of, refused_of, HoldsNoMemory, IsFault}
+use Rattle.jam_effects.specs.Causes.{cause_of, refused_by, refused_of, HoldsNoMemory, IsFault}
 use Rattle.jam_effects.specs.Does.{Agrees as IsOutcome, Tells, Counts}
 use Rattle.jam_effects.specs.Machines.{Machine, state_of, folder_of}
 use Rattle.jam_effects.specs.Views.{What}
@@ -39,11 +39,12 @@ use Rattle.jam_interp.specs.declared.rolled.CallAnswer.{CallAnswer}
 use Rattle.jam_interp.specs.Parts.{call_value, call_rolled_at, step_text_at}
 use Rattle.jam_interp.proofs.RuleSteps.{first_there}
 use Rattle.jam_effects.proofs.RecordSteps.{some_key}
-use Rattle.b2_loaded.specs.Doing.{HasRule, IsPlaced, Evaluates, call_at, in_project_at, returned_at, entered, texts}
+use Rattle.b2_loaded.specs.Doing.{HasRule, IsPlaced, IsRefused, Evaluates, call_at, in_project_at, returned_at, entered, texts}
 use Rattle.b2_loaded.specs.Faults.{why_of, answer_of, is_host_fault, is_out_of_memory}
-use Rattle.b2_loaded.specs.Held.{Held}
+use Rattle.b2_loaded.specs.Held.{Held, held, CanEndWith}
+use Rattle.b2_loaded.specs.Questions.{Question, of_rule, of_step, EndsWith, IsRefusedIn}
 use Rattle.b2_loaded.specs.Readings.{reads}
-use Rattle.b2_loaded.specs.Seen.{setting_of}
+use Rattle.b2_loaded.specs.Seen.{setting_of, refusing}
 use Rattle.b2_loaded.specs.Turns.{turns}
 use Rattle.b2_loaded.specs.Worlds.{state_in, fault_from, placed, call_if, returned_of, answers_in, told_in}
 use Rattle.b2_loaded.proofs.NamesHold.{names_hold}
@@ -55,6 +56,9 @@ right disk consistent = record {
   sees = record { lists = λ dir. names_hold disk consistent dir; matches = λ pattern text. (match_told (chars text) (chars pattern)).1 };
   reads = λ path. (reads disk.now path).1;
 }
+
+right_refusing : (disk : Disk) → IsConsistent disk → (left : ℕ) (pattern : Text) → IsSetting (refusing disk left pattern)
+right_refusing disk consistent left pattern = record { sees = (right disk consistent).sees; reads = (right disk consistent).reads }
 
 -- nothing is recorded
 abbrev nothing : Kept
@@ -103,6 +107,13 @@ pub none_if : {X : Type 0} (found : Option X) → is_some found ≡ false → fo
 none_if None e = refl
 none_if (Some x) e = absurd (let clash : true ≡ false = e in cc)
 
+none_some : {X Y : Type 0} (x : X) → None ≡ Some x → Y
+none_some x e = absurd (let clash : None ≡ Some x = e in cc)
+
+some_if : {X : Type 0} (found : Option X) → is_some found ≡ true → (x : X) × (found ≡ Some x)
+some_if None e = absurd (let clash : false ≡ true = e in cc)
+some_if (Some x) e = (x, refl)
+
 refuses_none : (before after : ℕ) (found : Option Text) → found ≡ None → Refuses None before after found
 refuses_none before after found e = subst (Refuses None before after) (sym e) (λ left low high. refl)
 
@@ -115,6 +126,14 @@ answered view (Err fault.OutOfMemory) o s before after h = λ t. no_memory t
 answered view (Err (fault.At path line why)) o s before after h = λ t.
     ap answer_of (h (refuses_none before after (refused_in (cause_of why)) (none_if (refused_in (cause_of why)) t.no_host_fault)))
     ∙ ap (λ w. Err (fault.At path line w)) (why_is why)
+
+-- an outcome of which the result is known where a pattern was refused
+ended : {A B : Type 0} (view : A → B) (what : What Kept B) (worlds : Worlds) (disk : Disk) (result : Result A EvalFault) (left : ℕ) (s : State Kept)
+    → ((pattern : Text) → refused_of result ≡ Some pattern → IsOutcome view result (what (refusing disk left pattern) (state_in worlds)) s) → IfErr result (IsRefused what worlds disk)
+ended view what worlds disk (Ok a) left s h = tt
+ended view what worlds disk (Err fault.Host) left s h = λ pattern e. none_some pattern e
+ended view what worlds disk (Err fault.OutOfMemory) left s h = λ pattern e. none_some pattern e
+ended view what worlds disk (Err (fault.At path line why)) left s h = λ pattern e. (left, ap answer_of (h pattern e) ∙ ap (λ w. Err (fault.At path line w)) (why_is why))
 
 both_count : (b : Bool) (before after : ℕ) → after ≡ before → CountsFault b b before after
 both_count true before after h = h
@@ -134,6 +153,11 @@ evaluates view what m n result begins tells disk children keeps counts whole = r
   told = λ now visible consistent. answered view result (what (setting_of now) (state_in m.worlds)) (state_of n) m.left n.left
       (λ none. subst (λ s. IsOutcome view result (what (setting_of now) s) (state_of n)) (state_is m.worlds m.left m.kept begins.left begins.kept)
       (tells (setting_of now) (record { budget = begins.budget; natives = begins.meaning; folder = ap folder_of visible; right = right now consistent }) none));
+  refused = λ now visible consistent. ended view what m.worlds now result n.left (state_of n)
+      (λ pattern is. subst (λ s. IsOutcome view result (what (refusing now n.left pattern) s) (state_of n)) (state_is m.worlds m.left m.kept begins.left begins.kept)
+      (tells (refusing now n.left pattern)
+      (record { budget = begins.budget; natives = begins.meaning; folder = ap folder_of visible; right = right_refusing now consistent n.left pattern })
+      (subst (Refuses (Some (n.left, pattern)) m.left n.left) (sym is) refl)));
   disk = disk;
   children = children;
   keeps = keeps;
@@ -145,6 +169,7 @@ evaluates view what m n result begins tells disk children keeps counts whole = r
 pub no_memory_for : {A B : Type 0} (view : A → B) (what : What Kept B) (worlds : Worlds) (o : Outside) → Evaluates view what worlds o o (Err fault.OutOfMemory)
 no_memory_for view what worlds o = record {
   told = λ disk visible consistent t. no_memory t;
+  refused = λ disk visible consistent pattern e. none_some pattern e;
   disk = refl;
   children = refl;
   keeps = keeps_same o o refl;
@@ -185,6 +210,12 @@ fault_whole spot cause fault.Host is = absurd is
 fault_whole spot cause fault.OutOfMemory is = tt
 fault_whole spot cause (fault.At path line why) is = is.2
 
+-- a rule that is not there is no pattern
+fault_named : (spot : Spot) (name : Text) (e : EvalFault) → IsFault spot (unknown_rule name) e → refused_by e ≡ None
+fault_named spot name fault.Host is = absurd is
+fault_named spot name fault.OutOfMemory is = refl
+fault_named spot name (fault.At path line why) is = ap refused_in is.1
+
 none_key : {X : Type 0} (f : X → Key) (found : Option X) (none : Bool) (place : Option Key) → option_map f found ≡ place → is_some found ≡ not none → none ≡ true → place ≡ None
 none_key f None none place e s n = sym e
 none_key f (Some x) none place e s n = absurd (let clash : true ≡ false = s ∙ ap not n in cc)
@@ -207,6 +238,7 @@ pub no_rule : (spot : Spot) (name : Text) (properties : List Text) (worlds : Wor
     → Evaluates texts (call_at spot name properties) worlds o o (Err e)
 no_rule spot name properties worlds o e none is = record {
   told = λ disk visible consistent t. ap (λ found. answer_of (call_if (setting_of disk) found spot name properties (state_in worlds))) none ∙ fault_told spot (unknown_rule name) e (state_in worlds) is t;
+  refused = λ disk visible consistent pattern named. none_some pattern (sym (fault_named spot name e is) ∙ named);
   disk = refl;
   children = refl;
   keeps = keeps_same o o refl;
@@ -217,9 +249,9 @@ no_rule spot name properties worlds o e none is = record {
 -- ---- a call that is there
 
 -- what is done there
-there : (spot : Spot) (name : Text) (properties : List Text) (worlds : Worlds) (disk : Disk) → HasRule name worlds.now
-    → answer_of (placed spot (call_rolled (setting_of disk) name (properties ∷ []) (state_in worlds))) ≡ answer_of (call_at spot name properties (setting_of disk) (state_in worlds))
-there spot name properties worlds disk has = sym (ap (λ found. answer_of (call_if (setting_of disk) found spot name properties (state_in worlds))) has.1)
+there : (spot : Spot) (name : Text) (properties : List Text) (worlds : Worlds) (setting : Setting Kept) → HasRule name worlds.now
+    → answer_of (placed spot (call_rolled setting name (properties ∷ []) (state_in worlds))) ≡ answer_of (call_at spot name properties setting (state_in worlds))
+there spot name properties worlds setting has = sym (ap (λ found. answer_of (call_if setting found spot name properties (state_in worlds))) has.1)
 
 given_stays : (spot : Spot) (o : Outcome Kept Value) (v : Value) → answer_of o ≡ Ok v → answer_of (placed spot o) ≡ Ok v
 given_stays spot (gives value s) v e = e
@@ -257,6 +289,23 @@ moved_told spot o (fault.At [] line why) (fault.At p l w) is h t =
 moved_told spot o (fault.At (byte ∷ bytes) line why) moved is h t =
     moved_stays spot o byte bytes line why (h (subst Tellable is t)) ∙ ap Err (sym is)
 
+-- a pattern that was refused stays so
+moved_pattern : (spot : Spot) (e moved : EvalFault) → IsPlaced spot e moved → (pattern : Text) → refused_by moved ≡ Some pattern → refused_by e ≡ Some pattern
+moved_pattern spot fault.Host moved is pattern named = ap refused_by (sym is) ∙ named
+moved_pattern spot fault.OutOfMemory moved is pattern named = ap refused_by (sym is) ∙ named
+moved_pattern spot (fault.At [] line why) fault.Host is pattern named = absurd is
+moved_pattern spot (fault.At [] line why) fault.OutOfMemory is pattern named = none_some pattern named
+moved_pattern spot (fault.At [] line why) (fault.At p l w) is pattern named = ap refused_in (sym is.1) ∙ named
+moved_pattern spot (fault.At (byte ∷ bytes) line why) moved is pattern named = ap refused_by (sym is) ∙ named
+
+moved_ends : (spot : Spot) (o : Outcome Kept Value) (e moved : EvalFault) → IsPlaced spot e moved → (pattern : Text) → refused_by moved ≡ Some pattern → answer_of o ≡ Err e → answer_of (placed spot o) ≡ Err moved
+moved_ends spot o fault.Host moved is pattern named h = none_some pattern (ap refused_by (sym is) ∙ named)
+moved_ends spot o fault.OutOfMemory moved is pattern named h = none_some pattern (ap refused_by (sym is) ∙ named)
+moved_ends spot o (fault.At [] line why) fault.Host is pattern named h = absurd is
+moved_ends spot o (fault.At [] line why) fault.OutOfMemory is pattern named h = none_some pattern named
+moved_ends spot o (fault.At [] line why) (fault.At p l w) is pattern named h = moved_empty spot o line why w (record { path = p; line = l }) h is.0 is.1
+moved_ends spot o (fault.At (byte ∷ bytes) line why) moved is pattern named h = moved_stays spot o byte bytes line why h ∙ ap Err (sym is)
+
 moved_counted : (spot : Spot) (e moved : EvalFault) (before after : ℕ) → IsPlaced spot e moved → CountsFault (is_host_fault e) (is_out_of_memory e) before after
     → CountsFault (is_host_fault moved) (is_out_of_memory moved) before after
 moved_counted spot fault.Host moved before after is h = subst (λ e. CountsFault (is_host_fault e) (is_out_of_memory e) before after) (sym is) h
@@ -274,13 +323,14 @@ moved_whole spot (fault.At [] line why) moved is h = fault_whole spot (cause_of 
 moved_whole spot (fault.At (byte ∷ bytes) line why) moved is h = subst HoldsNoMemory (sym is) h
 
 module _ (spot : Spot) (name given : Text) (properties : List Text) (args : List Value) (worlds : Worlds) (from to : Outside) (has : HasRule name worlds.now) (same : given ≡ name) (one : args ≡ properties ∷ []) where
-  called : (disk : Disk) → call_rolled (setting_of disk) given args (state_in worlds) ≡ call_rolled (setting_of disk) name (properties ∷ []) (state_in worlds)
-  called disk = ap (λ n. call_rolled (setting_of disk) n args (state_in worlds)) same ∙ ap (λ a. call_rolled (setting_of disk) name a (state_in worlds)) one
+  called : (setting : Setting Kept) → call_rolled setting given args (state_in worlds) ≡ call_rolled setting name (properties ∷ []) (state_in worlds)
+  called setting = ap (λ n. call_rolled setting n args (state_in worlds)) same ∙ ap (λ a. call_rolled setting name a (state_in worlds)) one
 
   pub call_gave : (answer : CallAnswer) → Evaluates call_value (call_rolled_at given args) worlds from to (Ok answer) → Evaluates texts (call_at spot name properties) worlds from to (Ok answer.value)
   call_gave answer does = record {
-    told = λ disk visible consistent. sym (there spot name properties worlds disk has)
-        ∙ given_stays spot (call_rolled (setting_of disk) name (properties ∷ []) (state_in worlds)) answer.value (ap answer_of (sym (called disk)) ∙ does.told disk visible consistent);
+    told = λ disk visible consistent. sym (there spot name properties worlds (setting_of disk) has)
+        ∙ given_stays spot (call_rolled (setting_of disk) name (properties ∷ []) (state_in worlds)) answer.value (ap answer_of (sym (called (setting_of disk))) ∙ does.told disk visible consistent);
+    refused = λ disk visible consistent. tt;
     disk = does.disk;
     children = does.children;
     keeps = does.keeps;
@@ -290,8 +340,15 @@ module _ (spot : Spot) (name given : Text) (properties : List Text) (args : List
 
   pub call_failed : (e moved : EvalFault) → IsPlaced spot e moved → Evaluates call_value (call_rolled_at given args) worlds from to (Err e) → Evaluates texts (call_at spot name properties) worlds from to (Err moved)
   call_failed e moved is does = record {
-    told = λ disk visible consistent t. sym (there spot name properties worlds disk has)
-        ∙ moved_told spot (call_rolled (setting_of disk) name (properties ∷ []) (state_in worlds)) e moved is (λ u. ap answer_of (sym (called disk)) ∙ does.told disk visible consistent u) t;
+    told = λ disk visible consistent t. sym (there spot name properties worlds (setting_of disk) has)
+        ∙ moved_told spot (call_rolled (setting_of disk) name (properties ∷ []) (state_in worlds)) e moved is (λ u. ap answer_of (sym (called (setting_of disk))) ∙ does.told disk visible consistent u) t;
+    refused = λ disk visible consistent pattern named.
+        let found = does.refused disk visible consistent pattern (moved_pattern spot e moved is pattern named) in
+        (
+          found.0,
+          sym (there spot name properties worlds (refusing disk found.0 pattern) has)
+              ∙ moved_ends spot (call_rolled (refusing disk found.0 pattern) name (properties ∷ []) (state_in worlds)) e moved is pattern named (ap answer_of (sym (called (refusing disk found.0 pattern))) ∙ found.1),
+        );
     disk = does.disk;
     children = does.children;
     keeps = does.keeps;
@@ -316,12 +373,18 @@ answer_back : {A : Type 0} (worlds : Worlds) (o : Outcome Kept A) → answer_of 
 answer_back worlds (gives a s) = refl
 answer_back worlds (faults found s) = refl
 
+same_refused : {A B : Type 0} (what other : What Kept B) (worlds inside : Worlds) (disk : Disk) (result : Result A EvalFault)
+    → ((setting : Setting Kept) → answer_of (other setting (state_in worlds)) ≡ answer_of (what setting (state_in inside))) → IfErr result (IsRefused what inside disk) → IfErr result (IsRefused other worlds disk)
+same_refused what other worlds inside disk (Ok a) same h = tt
+same_refused what other worlds inside disk (Err e) same h = λ pattern named. let found = h pattern named in (found.0, same (refusing disk found.0 pattern) ∙ found.1)
+
 -- the same of another outcome with the same answer, from other worlds
 same_answer : {A B : Type 0} (view : A → B) (what other : What Kept B) (worlds inside : Worlds) (from to : Outside) (result : Result A EvalFault)
-    → ((disk : Disk) → answer_of (other (setting_of disk) (state_in worlds)) ≡ answer_of (what (setting_of disk) (state_in inside)))
+    → ((setting : Setting Kept) → answer_of (other setting (state_in worlds)) ≡ answer_of (what setting (state_in inside)))
     → Evaluates view what inside from to result → Evaluates view other worlds from to result
 same_answer view what other worlds inside from to result same does = record {
-  told = λ disk visible consistent. subst (λ a. Agrees is_host_fault is_out_of_memory view a result) (sym (same disk)) (does.told disk visible consistent);
+  told = λ disk visible consistent. subst (λ a. Agrees is_host_fault is_out_of_memory view a result) (sym (same (setting_of disk))) (does.told disk visible consistent);
+  refused = λ disk visible consistent. same_refused what other worlds inside disk result same (does.refused disk visible consistent);
   disk = does.disk;
   children = does.children;
   keeps = does.keeps;
@@ -334,17 +397,17 @@ pub call_entered : (project : Place) (name : Text) (line : ℕ) (properties : Li
     → Evaluates texts (in_project_at project name line properties) worlds from to result
 call_entered project name line properties spot worlds inside from to result is same does =
     same_answer texts (call_at spot name properties) (in_project_at project name line properties) worlds inside from to result
-    (λ disk. answer_closed (call_at (record { path = project.file; line = line }) name properties (setting_of disk) (state_in (entered project worlds)))
-    ∙ ap (λ p. answer_of (call_at p name properties (setting_of disk) (state_in (entered project worlds)))) (sym same)
-    ∙ ap (λ ws. answer_of (call_at spot name properties (setting_of disk) (state_in ws))) (sym is))
+    (λ setting. answer_closed (call_at (record { path = project.file; line = line }) name properties setting (state_in (entered project worlds)))
+    ∙ ap (λ p. answer_of (call_at p name properties setting (state_in (entered project worlds)))) (sym same)
+    ∙ ap (λ ws. answer_of (call_at spot name properties setting (state_in ws))) (sym is))
     does
 
 pub call_undone : (project : Place) (name : Text) (line : ℕ) (properties : List Text) (worlds inside : Worlds) (from to : Outside) (result : Result Value EvalFault) → inside ≡ mark worlds
     → Evaluates texts (in_project_at project name line properties) inside from to result → Evaluates texts (returned_at project name line properties) worlds from to result
 call_undone project name line properties worlds inside from to result is does =
     same_answer texts (in_project_at project name line properties) (returned_at project name line properties) worlds inside from to result
-    (λ disk. answer_back worlds (in_project_at project name line properties (setting_of disk) (state_in (mark worlds)))
-    ∙ ap (λ ws. answer_of (in_project_at project name line properties (setting_of disk) (state_in ws))) (sym is))
+    (λ setting. answer_back worlds (in_project_at project name line properties setting (state_in (mark worlds)))
+    ∙ ap (λ ws. answer_of (in_project_at project name line properties setting (state_in ws))) (sym is))
     does
 
 -- ---- what is told
@@ -377,14 +440,45 @@ pub told_text : (projects : List Place) (worlds : Worlds) (from to : Outside) (j
 told_text projects worlds from to job result consistent does =
     told_where step_answer (step_text_at (job_of job)) projects worlds from to result (λ a. a.step_text (job_of job)) consistent (λ disk. refl) does
 
+-- ---- what is known of a fault
+
+-- the answer of this question is the one of what was evaluated
+abbrev IsAnswerOf : {B : Type 0} → What Kept B → List Place → Worlds → Question → Type 0
+IsAnswerOf what projects worlds question =
+    (setting : Setting Kept) (e : EvalFault) → answer_of (what setting (state_in worlds)) ≡ Err e → EndsWith (answers_in setting projects worlds) question e
+
+known_where : {A B : Type 0} (view : A → B) (what : What Kept B) (projects : List Place) (worlds : Worlds) (host : ℕ) (from to : Outside) (result : Result A EvalFault) (question : Question)
+    → IfSome from.disk IsConsistent → IsAnswerOf what projects worlds question → Evaluates view what worlds from to result → IfErr result (CanEndWith (held projects worlds host from))
+known_where view what projects worlds host from to (Ok a) question consistent asks does = tt
+known_where view what projects worlds host from to (Err e) question consistent asks does = record { whole = does.whole; refused = go from.disk refl consistent }
+  where
+    go : (disk : Option Disk) → from.disk ≡ disk → IfSome disk IsConsistent → IfSome disk (λ d. is_some (refused_by e) ≡ true → IsRefusedIn projects worlds d e)
+    go None visible one_each = tt
+    go (Some disk) visible one_each = λ is.
+        let pattern = some_if (refused_by e) is in
+        let found = does.refused disk visible one_each pattern.0 pattern.1 in
+        record { question = question; left = found.0; pattern = pattern.0; names = pattern.1; ends = asks (refusing disk found.0 pattern.0) e found.1 }
+
+pub known_returned : (projects : List Place) (worlds : Worlds) (host : ℕ) (from to : Outside) (project : ℕ) (place : Place) (name : Text) (line : ℕ) (properties : List Text) (result : Result Value EvalFault)
+    → slice_get projects project ≡ Some place → IfSome from.disk IsConsistent → Evaluates texts (returned_at place name line properties) worlds from to result
+    → IfErr result (CanEndWith (held projects worlds host from))
+known_returned projects worlds host from to project place name line properties result is consistent does =
+    known_where texts (returned_at place name line properties) projects worlds host from to result (of_rule project name line properties) consistent
+    (λ setting e found. ap (λ p. answer_of (returned_of setting p name line properties (state_in worlds))) is ∙ found) does
+
+pub known_text : (projects : List Place) (worlds : Worlds) (host : ℕ) (from to : Outside) (job : StepJob) (result : Result StepText EvalFault)
+    → IfSome from.disk IsConsistent → Evaluates step_answer (step_text_at (job_of job)) worlds from to result → IfErr result (CanEndWith (held projects worlds host from))
+known_text projects worlds host from to job result consistent does =
+    known_where step_answer (step_text_at (job_of job)) projects worlds host from to result (of_step (job_of job)) consistent (λ setting e found. found) does
+
 -- the same is told after it, and the same is kept
 pub same_told : (projects : List Place) (before after : Worlds) (old new : Option Disk) → after ≡ before → new ≡ old → told_in projects after new ≡ told_in projects before old
 same_told projects before after old new worlds disk = ap (λ ws. told_in projects ws new) worlds ∙ ap (told_in projects before) disk
 
-pub same_held : (before after : Worlds) (host name : ℕ) (old new : Option Disk) (family children : Family) → after ≡ before → name ≡ host → new ≡ old → children ≡ family
-    → (let h : Held = record { worlds = after; host = name; disk = new; children = children } in h) ≡ record { worlds = before; host = host; disk = old; children = family }
-same_held before after host name old new family children worlds same disk running =
-    ap (λ ws. let h : Held = record { worlds = ws; host = name; disk = new; children = children } in h) worlds
-    ∙ ap (λ n. let h : Held = record { worlds = before; host = n; disk = new; children = children } in h) same
-    ∙ ap (λ d. let h : Held = record { worlds = before; host = host; disk = d; children = children } in h) disk
-    ∙ ap (λ f. let h : Held = record { worlds = before; host = host; disk = old; children = f } in h) running
+pub same_held : (projects : List Place) (before after : Worlds) (host name : ℕ) (old new : Option Disk) (family children : Family) → after ≡ before → name ≡ host → new ≡ old → children ≡ family
+    → (let h : Held = record { projects = projects; worlds = after; host = name; disk = new; children = children } in h) ≡ record { projects = projects; worlds = before; host = host; disk = old; children = family }
+same_held projects before after host name old new family children worlds same disk running =
+    ap (λ ws. let h : Held = record { projects = projects; worlds = ws; host = name; disk = new; children = children } in h) worlds
+    ∙ ap (λ n. let h : Held = record { projects = projects; worlds = before; host = n; disk = new; children = children } in h) same
+    ∙ ap (λ d. let h : Held = record { projects = projects; worlds = before; host = host; disk = d; children = children } in h) disk
+    ∙ ap (λ f. let h : Held = record { projects = projects; worlds = before; host = host; disk = old; children = f } in h) running

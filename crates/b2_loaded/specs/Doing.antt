@@ -1,5 +1,5 @@
 -- What the parts of an evaluation do, as they are proved.
-use Rattle.std.specs.Prelude.{◌≡◌, ℕ, List, [], ◌∷◌, Some, Result, IfErr}
+use Rattle.std.specs.Prelude.{◌≡◌, ℕ, List, [], ◌∷◌, Some, Result, Err, IfErr}
 use Rattle.b2_host.specs.Disks.{Disk, IsConsistent}
 use Rattle.b2_host.specs.Outside.{Outside}
 use Rattle.b2_host.specs.OutsideLaws.{Keeps}
@@ -18,10 +18,10 @@ use Rattle.jam_natives.specs.Keeping.{Kept}
 use Rattle.jam_effects.specs.declared.fault.EvalCause.{EvalCause}
 use Rattle.jam_effects.specs.declared.fault.EvalFault.{EvalFault}
 use Rattle.jam_effects.specs.declared.fault.EvalFault.TheVariants as faults
-use Rattle.jam_effects.specs.Causes.{cause_of, HoldsNoMemory, IsFault}
+use Rattle.jam_effects.specs.Causes.{cause_of, refused_by, HoldsNoMemory, IsFault}
 use Rattle.jam_effects.specs.Views.{What}
 use Rattle.b2_loaded.specs.Faults.{answer_of, is_host_fault, is_out_of_memory}
-use Rattle.b2_loaded.specs.Seen.{setting_of}
+use Rattle.b2_loaded.specs.Seen.{setting_of, refusing}
 use Rattle.b2_loaded.specs.Worlds.{state_in, call_found, returned_in}
 
 -- a fault that occurs while no statement runs, moved to a spot
@@ -38,11 +38,17 @@ IsPlaced spot (faults.At path line why) moved = IsPlacedAt spot path line why mo
 abbrev pub IsAnswered : {A B : Type 0} → (A → B) → What Kept B → Worlds → Disk → Result A EvalFault → Type 0
 IsAnswered view what worlds disk result = Agrees is_host_fault is_out_of_memory view (answer_of (what (setting_of disk) (state_in worlds))) result
 
--- An evaluation that begins in these worlds: where the files are visible, its answer is the one that is told. Over every host the
--- files and the child processes are as before, and the count of faults says whether the host failed.
+-- a fault that is a pattern which was refused: evaluation ends with it, where a call has this pattern and it is refused
+abbrev pub IsRefused : {B : Type 0} → What Kept B → Worlds → Disk → EvalFault → Type 0
+IsRefused what worlds disk fault =
+    (pattern : Text) → refused_by fault ≡ Some pattern → (left : ℕ) × (answer_of (what (refusing disk left pattern) (state_in worlds)) ≡ Err fault)
+
+-- An evaluation that begins in these worlds: where the files are visible, its answer is the one that is told, also where a pattern
+-- was refused. Over every host the files and the child processes are as before, and the count of faults says whether the host failed.
 pub record Evaluates {A B : Type 0} (view : A → B) (what : What Kept B) (worlds : Worlds) (before after : Outside)
     (result : Result A EvalFault) : Type 0 where
   pub told : (disk : Disk) → before.disk ≡ Some disk → IsConsistent disk → IsAnswered view what worlds disk result
+  pub refused : (disk : Disk) → before.disk ≡ Some disk → IsConsistent disk → IfErr result (IsRefused what worlds disk)
   pub disk : after.disk ≡ before.disk
   pub children : after.children ≡ before.children
   pub keeps : Keeps before after

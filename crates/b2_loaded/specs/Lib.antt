@@ -4,6 +4,7 @@ pub mod Readings
 pub mod Seen
 pub mod Faults
 pub mod Worlds
+pub mod Questions
 pub mod Held
 pub mod Doing
 pub mod Laws

@@ -1,5 +1,5 @@
 -- How evaluation sees a disk.
-use Rattle.std.specs.Prelude.{Bool, None}
+use Rattle.std.specs.Prelude.{ℕ, Bool, Some, None}
 use Rattle.std.specs.Str.{chars}
 use Rattle.b2_host.specs.Disks.{Disk}
 use Rattle.jam_journal.specs.Tables.{Text}
@@ -21,3 +21,7 @@ sight_of disk = record { folder = disk.now; names = names_in disk; matching = ma
 -- each evaluation has these turns; the files are those of the disk, each as it reads; no pattern is refused that reads as one
 abbrev pub setting_of : Disk → Setting Kept
 setting_of disk = record { budget = turns; natives = jam_meaning; sight = sight_of disk; reading = λ path. (reads disk.now path).0; refused = None }
+
+-- the same where the call with so many turns left has this pattern, which is refused although it reads as one
+abbrev pub refusing : Disk → ℕ → Text → Setting Kept
+refusing disk left pattern = record (setting_of disk) { refused = Some (left, pattern) }

@@ -25,7 +25,8 @@ fn project_at(projects: &[Place], place: usize) -> Option<&Place>
 /// The own text of a loaded project, evaluated in the world that loading left, over files that are lent. Each evaluation has
 /// 100,000 turns of its own; what it echoes is not kept.
 ///
-/// Where the files are visible, each answer is the one that evaluation gives (`told_in`). A project is named by its place; where
+/// Where the files are visible, each answer is the one that evaluation gives (`told_in`), and of a pattern that was refused although
+/// it reads as one it is told in which question, and in which of its calls (`IsRefusedIn`). A project is named by its place; where
 /// none is there, nothing is returned. A name that the project sees no rule of is `UnknownRule`. This, and any other fault of a
 /// rule's call that occurs while no statement runs, stands at the project's file and the line that was given.
 #[derive(Drop)]
@@ -82,9 +83,8 @@ impl<'a, F: Files, S: Entry> OwnText<'a, F, S> {
 }
 
 impl<'a, F: Files, S: Entry> Evaluate for OwnText<'a, F, S> {
-    ghost use Rattle.jam_effects.specs.Causes.{HoldsNoMemory};
     ghost use Rattle.b2_loaded.specs.Faults.{is_host_fault, is_out_of_memory};
-    ghost use Rattle.b2_loaded.specs.Held.{Held, held};
+    ghost use Rattle.b2_loaded.specs.Held.{Held, held, CanEndWith};
     ghost use Rattle.b2_loaded.specs.Worlds.{told_in};
 
     type Fault = EvalFault;
@@ -93,7 +93,7 @@ impl<'a, F: Files, S: Entry> Evaluate for OwnText<'a, F, S> {
 
     ghost Kept = { Held };
 
-    ghost kept = { λ own. held own.loaded.world own.host.files.ghost_name (F.outside own.host.files.now) };
+    ghost kept = { λ own. held own.projects.now own.loaded.world own.host.files.ghost_name (F.outside own.host.files.now) };
 
     ghost faults = { λ own. (F.outside own.host.files.now).faults };
 
@@ -101,7 +101,7 @@ impl<'a, F: Files, S: Entry> Evaluate for OwnText<'a, F, S> {
 
     ghost is_out_of_memory = { is_out_of_memory };
 
-    ghost CanFault = { λ kept fault. HoldsNoMemory fault };
+    ghost CanFault = { CanEndWith };
 
     fn returned(
         &mut self,

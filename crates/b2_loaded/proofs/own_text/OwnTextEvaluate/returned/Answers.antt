@@ -4,7 +4,7 @@ use Rattle.b2_evaluation.specs.Answers.{IsTold}
 use Rattle.b2_loaded.specs.Doing.{texts}
 use Rattle.b2_loaded.specs.Faults.{is_host_fault, is_out_of_memory}
 use Rattle.b2_loaded.specs.Worlds.{told_in}
-use Rattle.b2_loaded.proofs.EvalSteps.{told_nothing, told_returned, same_told, same_held}
+use Rattle.b2_loaded.proofs.EvalSteps.{told_nothing, told_returned, known_returned, same_told, same_held}
 use Rattle.b2_loaded.proofs.own_text.OwnTextEvaluate.returned.Goals as goal
 
 pub returns-in_default-clause-told : goal.returns-in_default-clause-told
@@ -20,7 +20,10 @@ returns-clause-told g c =
     c.args.rule.now c.args.line c.args.properties.now c.returned.result (sym c.project_at.ensures ∙ ap option_copied c.in-Some.is) (g.met.F.Files.consistent c.args.self.now.host.files.now) c.returned.ensures.does
 
 pub returns-clause-known : goal.returns-clause-known
-returns-clause-known g c = c.returned.ensures.does.whole
+returns-clause-known g c =
+    known_returned c.args.self.now.projects.now c.args.self.now.loaded.world c.args.self.now.host.files.ghost_name (g.F.Files.outside c.args.self.now.host.files.now) (g.F.Files.outside c.returned.new.self.files.now)
+    c.args.project c.in-Some.project.now c.args.rule.now c.args.line c.args.properties.now c.returned.result (sym c.project_at.ensures ∙ ap option_copied c.in-Some.is)
+    (g.met.F.Files.consistent c.args.self.now.host.files.now) c.returned.ensures.does
 
 pub returns-clause-counted : goal.returns-clause-counted
 returns-clause-counted g c = c.returned.ensures.does.counted
@@ -32,6 +35,6 @@ returns-clause-answers g c =
 
 pub returns-clause-kept : goal.returns-clause-kept
 returns-clause-kept g c =
-    same_held c.args.self.now.loaded.world c.returned.new.loaded.world c.args.self.now.host.files.ghost_name c.returned.new.self.files.ghost_name
+    same_held c.args.self.now.projects.now c.args.self.now.loaded.world c.returned.new.loaded.world c.args.self.now.host.files.ghost_name c.returned.new.self.files.ghost_name
     (g.F.Files.outside c.args.self.now.host.files.now).disk (g.F.Files.outside c.returned.new.self.files.now).disk (g.F.Files.outside c.args.self.now.host.files.now).children
     (g.F.Files.outside c.returned.new.self.files.now).children c.returned.ensures.world c.returned.ensures.same_reference c.returned.ensures.does.disk c.returned.ensures.does.children
