@@ -23,8 +23,8 @@ use Rattle.b2_generate.specs.Told.{unless}
 use Rattle.b2_generate.specs.declared.fault.GenFault.{GenFault}
 use Rattle.b2_generate.specs.declared.fault.GenFault.TheVariants as generating
 use Rattle.b2_front.specs.Laws.{OneMeaning}
-use Rattle.b2_front.specs.Meaning.{Refusal as Why, of_load, of_request, of_generation, ReachesGeneration, Means}
-use Rattle.b2_front.specs.Preparing.{IfRefusal, IsPrepared, call_of}
+use Rattle.b2_front.specs.Meaning.{Refusal as Why, of_load, of_request, of_generation, IsRefusedInGeneration, Means}
+use Rattle.b2_front.specs.Preparing.{IfRefusal, IfOfGeneration, IsPrepared, call_of}
 use Rattle.b2_front.specs.Refusals.{refusal_of, IsWholeRefusal}
 use Rattle.b2_front.specs.declared.refusal.Refusal.{Refusal}
 use Rattle.b2_front.specs.declared.refusal.Refusal.TheVariants as refusals
@@ -114,8 +114,11 @@ module _ (law : OneMeaning) (disk : Disk) (words echoes others : List Text) (pla
   IsTold pattern found = (left : ℕ) × Means disk (call_of left pattern) words others (Err found)
 
   -- what is told of a pattern that is refused in generation
-  abbrev Reaches : Type 0
-  Reaches = ReachesGeneration disk words others
+  abbrev IsRefused : EvalFault → Type 0
+  IsRefused = IsRefusedInGeneration disk words others
+
+  abbrev IsToldOf : GenFault EvalFault → Type 0
+  IsToldOf fault = IfRefusal (IfOfGeneration IsRefused (refusals.Generation fault)) (refusal_of (refusals.Generation fault)) (IsTold None)
 
   no_refusal : (found : Why) → IsTold None found → ⊥
   no_refusal found told = let e : ◌≡◌ {A = Result Planned Why} (Ok planned) (Err found) = (law disk None words echoes others (Ok planned) (Err found) means told.1).1 in cc
@@ -133,11 +136,11 @@ module _ (law : OneMeaning) (disk : Disk) (words echoes others : List Text) (pla
   by_request (asking.Conflict word) h told = no_refusal (of_request (asking.Conflict word)) told
   by_request asking.OutOfMemory h told = h
 
-  by_evaluation : (refused : Option Text) (fault : Generating EvalFault) → IfRefusal Reaches (option_map of_generation (unless (is_some refused) (is_some refused) fault)) (IsTold None) → (p : Text) × (refused ≡ Some p)
-  by_evaluation None fault told = absurd (no_refusal (of_generation fault) told)
-  by_evaluation (Some p) fault told = (p, refl)
+  by_evaluation : (Rest : Type 0) (refused : Option Text) (fault : Generating EvalFault) → IfRefusal Rest (option_map of_generation (unless (is_some refused) (is_some refused) fault)) (IsTold None) → (p : Text) × (refused ≡ Some p)
+  by_evaluation Rest None fault told = absurd (no_refusal (of_generation fault) told)
+  by_evaluation Rest (Some p) fault told = (p, refl)
 
-  by_choice : (fault : ChoiceFault EvalFault) → IsWholeRefusal (refusals.Generation (generating.NotChosen fault)) → IfRefusal Reaches (refusal_of (refusals.Generation (generating.NotChosen fault))) (IsTold None)
+  by_choice : (fault : ChoiceFault EvalFault) → IsWholeRefusal (refusals.Generation (generating.NotChosen fault)) → IsToldOf (generating.NotChosen fault)
       → (p : Text) × (pattern_of_choice fault ≡ Some p)
   by_choice (choosing.NoAlternative target set) h told = absurd (no_refusal (of_generation (not_chosen (choosing.NoAlternative target set))) told)
   by_choice (choosing.AmbiguousAlternative target set i k) h told = absurd (no_refusal (of_generation (not_chosen (choosing.AmbiguousAlternative target set i k))) told)
@@ -146,10 +149,10 @@ module _ (law : OneMeaning) (disk : Disk) (words echoes others : List Text) (pla
   by_choice (choosing.Eval evaluating.Host) h told = absurd h
   by_choice (choosing.Eval evaluating.OutOfMemory) h told = absurd h
   by_choice (choosing.Eval (evaluating.At path line why)) h told =
-      by_evaluation (refused_by (evaluating.At path line why)) (not_chosen (choosing.Eval (evaluating.At path line why))) told
+      by_evaluation (IsRefused (evaluating.At path line why)) (refused_by (evaluating.At path line why)) (not_chosen (choosing.Eval (evaluating.At path line why))) told
   by_choice choosing.OutOfMemory h told = absurd h
 
-  by_making : (fault : MakingFault EvalFault) → IsWholeRefusal (refusals.Generation (generating.NotMade fault)) → IfRefusal Reaches (refusal_of (refusals.Generation (generating.NotMade fault))) (IsTold None)
+  by_making : (fault : MakingFault EvalFault) → IsWholeRefusal (refusals.Generation (generating.NotMade fault)) → IsToldOf (generating.NotMade fault)
       → (p : Text) × (pattern_of_making fault ≡ Some p)
   by_making (making.NoChain from to) h told = absurd (no_refusal (of_generation (not_made (made.no_chain from to))) told)
   by_making (making.TwoChains from to first second) h told = absurd (no_refusal (of_generation (not_made (made.two_chains from to first second))) told)
@@ -159,10 +162,10 @@ module _ (law : OneMeaning) (disk : Disk) (words echoes others : List Text) (pla
   by_making (making.Eval evaluating.Host) h told = absurd h
   by_making (making.Eval evaluating.OutOfMemory) h told = absurd h
   by_making (making.Eval (evaluating.At path line why)) h told =
-      by_evaluation (refused_by (evaluating.At path line why)) (not_made (made.eval (evaluating.At path line why))) told
+      by_evaluation (IsRefused (evaluating.At path line why)) (refused_by (evaluating.At path line why)) (not_made (made.eval (evaluating.At path line why))) told
   by_making making.OutOfMemory h told = absurd h
 
-  by_generation : (fault : GenFault EvalFault) → IsWholeRefusal (refusals.Generation fault) → IfRefusal Reaches (refusal_of (refusals.Generation fault)) (IsTold None)
+  by_generation : (fault : GenFault EvalFault) → IsWholeRefusal (refusals.Generation fault) → IsToldOf fault
       → (p : Text) × (pattern_of_generation fault ≡ Some p)
   by_generation (generating.NoTarget name) h told = absurd (no_refusal (of_generation (no_target name)) told)
   by_generation (generating.TargetCycle targets) h told = absurd (no_refusal (of_generation (target_cycle targets)) told)

@@ -26,8 +26,8 @@ fault_of (refusals.Load fault) = faults.Load fault
 fault_of (refusals.Request fault) = faults.Request fault
 fault_of (refusals.Generation fault) = faults.Gen fault
 
--- The fault is what the files of a disk and the free words come to, after these lines of ECHO. Of a pattern that is refused in
--- generation it is told that they come so far, after these lines.
+-- The fault is what the files of a disk and the free words come to, after these lines of ECHO; or that of a pattern that is refused in
+-- generation, of which it is told in which question of the project's own text, and in which of its calls.
 abbrev pub HasCause : Disk → List Text → List Text → Fault → Type 0
 HasCause disk words echoes (faults.NotYet path line) = ⊥
 HasCause disk words echoes (faults.Load fault) = IsPrepared disk words echoes (Err (stops.Refused (refusals.Load fault)))

@@ -14,6 +14,7 @@ use Rattle.jam_effects.specs.Machines.{folder_of}
 use Rattle.b2_plan.specs.Plans.{Apart}
 use Rattle.b2_props.specs.Requests.{request_fault}
 use Rattle.b2_metatargets.specs.declared.whole.Declared.{Declared}
+use Rattle.b2_loaded.specs.Questions.{IsRefusedIn}
 use Rattle.b2_walk.specs.declared.fault.LoadFault.{LoadFault}
 use Rattle.b2_walk.specs.Faults.{refusal_of as load_refusal, refused_by, IsWhole as IsWholeLoad}
 use Rattle.b2_walk.specs.Finding.{CountsFault as CountsLoad, Counts as CountsLoaded}
@@ -28,10 +29,10 @@ use Rattle.b2_generate.specs.Planning.{Planned}
 use Rattle.b2_front.specs.declared.refusal.Stop.{Stop}
 use Rattle.b2_front.specs.declared.refusal.Stop.TheVariants as stops
 use Rattle.b2_front.specs.Meaning.{Refusal, of_load, of_request, of_generation, load_turns, load_setting, project_of, Means}
-use Rattle.b2_front.specs.Meaning.{ReachesGeneration, not_loaded, not_asked, not_planned, planned}
+use Rattle.b2_front.specs.Meaning.{IsRefusedInGeneration, not_loaded, not_asked, not_planned, planned}
 use Rattle.b2_front.specs.Refusals.{stop_of_load}
 use Rattle.b2_front.specs.Preparing.{IfRefusal, Tells, call_of, IsPrepared, IsWhole, Counts}
-use Rattle.b2_front.specs.Parts.{IsReady, IsAsked, GoesOn}
+use Rattle.b2_front.specs.Parts.{IsReady, IsAsked, IsRefusedFor, GoesOn}
 use Rattle.b2_front.proofs.TellLemmas.{load_told, tells_map}
 use Rattle.b2_front.proofs.StopLemmas.{load_whole, load_counts}
 use Rattle.b2_front.proofs.SettingLemmas.{right}
@@ -60,18 +61,21 @@ module _ (disk : Disk) (words lines : List Text) where
       (subst (λ (v : Worlds). project_of disk project.world project.declared ≡ project_of disk v project.declared) is.world refl)
 
   prepared_so : (project : Project) (last : ℕ) → IsLoaded (load_setting disk None) words load_turns last lines (Ok project) → (result : Result Made Stop)
-      → Tells (request_fault project.declared.registry words ≡ None) (λ pattern outcome. (pattern ≡ None) × IsAsked (project_of disk project.world project.declared) words outcome) result
+      → Tells (IsRefusedFor words project.declared project.world disk) (λ pattern outcome. (pattern ≡ None) × IsAsked (project_of disk project.world project.declared) words outcome) result
       → IsPrepared disk words lines result
   prepared_so project last (w, found, loads, is, echoes, after) result told =
-      tells_map (request_fault project.declared.registry words ≡ None) (λ pattern outcome. (pattern ≡ None) × IsAsked (project_of disk project.world project.declared) words outcome)
-      (ReachesGeneration disk words lines) Comes reaches follows result told
+      tells_map (IsRefusedFor words project.declared project.world disk) (λ pattern outcome. (pattern ≡ None) × IsAsked (project_of disk project.world project.declared) words outcome)
+      (IsRefusedInGeneration disk words lines) Comes refused follows result told
     where
-      reaches : request_fault project.declared.registry words ≡ None → ReachesGeneration disk words lines
-      reaches sound = record {
+      refused : (fault : EvalFault) → IsRefusedFor words project.declared project.world disk fault → IsRefusedInGeneration disk words lines fault
+      refused fault h = record {
         walk = w;
         found = found;
         loads = loads;
-        asked = subst (λ (d : Declared). request_fault d.registry words ≡ None) is.declared sound;
+        asked = subst (λ (d : Declared). request_fault d.registry words ≡ None) is.declared h.0;
+        refused =
+            subst (λ (d : Declared). IsRefusedIn d.places w.state.worlds disk fault) is.declared
+            (subst (λ (v : Worlds). IsRefusedIn project.declared.places v disk fault) is.world h.1);
         echoes = echoes;
       }
 
@@ -85,7 +89,7 @@ module _ (disk : Disk) (words lines : List Text) where
 
   refused_so : (fault : LoadFault) (last : ℕ) → IsLoaded (load_setting disk (call_of last (refused_by fault))) words load_turns last lines (Err fault)
       → IsPrepared disk words lines (Err (stop_of_load fault))
-  refused_so fault last h = load_told (ReachesGeneration disk words lines) Comes fault (go (load_refusal fault) h)
+  refused_so fault last h = load_told (IsRefusedInGeneration disk words lines) Comes fault (go (load_refusal fault) h)
     where
       go : (why : Option LoadRefusal) → IsRefused (load_setting disk (call_of last (refused_by fault))) words load_turns last lines why
           → IfRefusal (Unit {0}) (option_map of_load why) (λ f. Comes (refused_by fault) (Err f))
@@ -105,7 +109,7 @@ module _ (words lines : List Text) (from mid to : Outside) (first last : Turns) 
       (subst (λ n. IsLoaded (load_setting disk None) words n last.left lines (Ok project)) left_is
       (told (load_setting disk None) (subst (λ n. IsSettingFor (load_setting disk None) n from) (sym budget_is) (setting_for from disk visible consistent None)) (λ left low high. refl)))
       result
-      (subst (λ d. IfSome d (λ (e : Disk). Tells (request_fault project.declared.registry words ≡ None) (λ pattern outcome. (pattern ≡ None) × IsAsked (project_of e project.world project.declared) words outcome) result)) (same ∙ visible) goes.told)
+      (subst (λ d. IfSome d (λ (e : Disk). Tells (IsRefusedFor words project.declared project.world e) (λ pattern outcome. (pattern ≡ None) × IsAsked (project_of e project.world project.declared) words outcome) result)) (same ∙ visible) goes.told)
   so disk visible consistent (Err fault) told same result goes =
       let call = call_of last.left (refused_by fault) in
       subst (IsPrepared disk words lines) (sym goes.0)

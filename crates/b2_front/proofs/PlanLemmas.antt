@@ -24,6 +24,8 @@ use Rattle.b2_generate.specs.Planning.{Planned}
 use Rattle.b2_generate.specs.Plans.{IsPlanned}
 use Rattle.b2_generate.specs.Told.{loaded_of, IsKnown, is_eval, is_memory}
 use Rattle.b2_loaded.specs.Faults.{is_host_fault, is_out_of_memory}
+use Rattle.b2_loaded.specs.Held.{held, CanEndWith}
+use Rattle.b2_loaded.specs.Questions.{IsRefusedIn}
 use Rattle.b2_loaded.specs.Seen.{setting_of}
 use Rattle.b2_loaded.specs.Worlds.{answers_in, told_in}
 use Rattle.b2_front.specs.declared.refusal.Stop.{Stop}
@@ -31,15 +33,15 @@ use Rattle.b2_front.specs.declared.refusal.Stop.TheVariants as stops
 use Rattle.b2_front.specs.Meaning.{Refusal, of_load, of_request, of_generation, project_of}
 use Rattle.b2_front.specs.Refusals.{stop_of_request}
 use Rattle.b2_front.specs.Preparing.{Tells, IsWhole, Counts}
-use Rattle.b2_front.specs.Parts.{planned_or_stop, IsGenerated, IsAsked, Does, PlansRequest, Asks}
+use Rattle.b2_front.specs.Parts.{planned_or_stop, IsGenerated, IsAsked, IsRefusedFor, Does, PlansRequest, Asks}
 use Rattle.b2_front.proofs.TellLemmas.{tells_map}
-use Rattle.b2_front.proofs.StopLemmas.{generated_told, generated_whole, generated_counts, asked_told, asked_whole, asked_counts}
+use Rattle.b2_front.proofs.StopLemmas.{OfPattern, generation_known, generated_told, generated_whole, generated_counts, asked_told, asked_whole, asked_counts}
 
 -- ---- what is kept
 
 -- an answer that nothing was done for
-pub nothing_done : (Rest : Type 0) (Told : Disk → Result Planned Refusal → Type 0) (o : Outside) (stop : Stop)
-    → IfSome o.disk (λ disk. Tells Rest (λ pattern outcome. (pattern ≡ None) × Told disk outcome) (Err stop)) → IsWhole stop → Counts (Err stop) o o → Does Rest Told o o (Err stop)
+pub nothing_done : (Rest : Disk → EvalFault → Type 0) (Told : Disk → Result Planned Refusal → Type 0) (o : Outside) (stop : Stop)
+    → IfSome o.disk (λ disk. Tells (Rest disk) (λ pattern outcome. (pattern ≡ None) × Told disk outcome) (Err stop)) → IsWhole stop → Counts (Err stop) o o → Does Rest Told o o (Err stop)
 nothing_done Rest Told o stop told whole counts = record {
   told = told;
   whole = whole;
@@ -50,44 +52,49 @@ nothing_done Rest Told o stop told whole counts = record {
   counts = counts;
 }
 
-pub no_memory : (Rest : Type 0) (Told : Disk → Result Planned Refusal → Type 0) (o : Outside) → Does Rest Told o o (Err stops.OutOfMemory)
+pub no_memory : (Rest : Disk → EvalFault → Type 0) (Told : Disk → Result Planned Refusal → Type 0) (o : Outside) → Does Rest Told o o (Err stops.OutOfMemory)
 no_memory Rest Told o = nothing_done Rest Told o stops.OutOfMemory (visible o.disk) tt tt
   where
-    visible : (disk : Option Disk) → IfSome disk (λ d. Tells Rest (λ pattern outcome. (pattern ≡ None) × Told d outcome) (Err stops.OutOfMemory))
+    visible : (disk : Option Disk) → IfSome disk (λ d. Tells (Rest d) (λ pattern outcome. (pattern ≡ None) × Told d outcome) (Err stops.OutOfMemory))
     visible None = tt
     visible (Some d) = tt
 
 -- ---- generation
 
-module _ (found : Declared) (worlds : Worlds) (request : Request) (roots : List (List ℕ)) (from to : Outside) (result : Result Made (GenFault EvalFault)) where
+module _ (found : Declared) (worlds : Worlds) (host : ℕ) (request : Request) (roots : List (List ℕ)) (from to : Outside) (result : Result Made (GenFault EvalFault)) where
+  -- what is known of a fault over these files
+  refused_over : (disk : Disk) → from.disk ≡ Some disk → (fault : EvalFault) → CanEndWith (held found.places worlds host from) fault → OfPattern (IsRefusedIn found.places worlds disk) fault
+  refused_over disk visible fault known = subst (λ (d : Option Disk). IfSome d (λ now. OfPattern (IsRefusedIn found.places worlds now) fault)) visible known.refused
+
   told_over : ((told : Answers EvalFault) → told_in found.places worlds from.disk ≡ Some told → IsPlanned (loaded_of found roots told) is_host_fault is_out_of_memory request result)
-      → roots ≡ worlds.now.roots
-      → IfSome from.disk (λ disk. Tells (Unit {0}) (λ pattern outcome. (pattern ≡ None) × IsGenerated (project_of disk worlds found) request.sets request.targets outcome) (planned_or_stop result))
-  told_over told same = go from.disk refl
+      → roots ≡ worlds.now.roots → IfErr result (IsKnown (CanEndWith (held found.places worlds host from)))
+      → IfSome from.disk (λ disk. Tells (IsRefusedIn found.places worlds disk) (λ pattern outcome. (pattern ≡ None) × IsGenerated (project_of disk worlds found) request.sets request.targets outcome) (planned_or_stop result))
+  told_over told same known = go from.disk refl
     where
       go : (disk : Option Disk) → from.disk ≡ disk
-          → IfSome disk (λ d. Tells (Unit {0}) (λ pattern outcome. (pattern ≡ None) × IsGenerated (project_of d worlds found) request.sets request.targets outcome) (planned_or_stop result))
+          → IfSome disk (λ d. Tells (IsRefusedIn found.places worlds d) (λ pattern outcome. (pattern ≡ None) × IsGenerated (project_of d worlds found) request.sets request.targets outcome) (planned_or_stop result))
       go None e = tt
       go (Some d) e =
-          generated_told (project_of d worlds found) request result
+          generated_told (IsRefusedIn found.places worlds d) (project_of d worlds found) request result
           (subst (λ rs. IsPlanned (loaded_of found rs (answers_in (setting_of d) found.places worlds)) is_host_fault is_out_of_memory request result) same
           (told (answers_in (setting_of d) found.places worlds) (ap (told_in found.places worlds) e)))
+          (generation_known (CanEndWith (held found.places worlds host from)) (OfPattern (IsRefusedIn found.places worlds d)) (refused_over d e) result known)
 
   apart_over : (made : Result Made (GenFault EvalFault)) → IfOk made (λ p. Apart p.plan.steps p.plan.roots) → IfOk (planned_or_stop made) (λ p. Apart p.plan.steps p.plan.roots)
   apart_over (Ok p) h = h
   apart_over (Err fault) h = tt
 
-module _ (found : Declared) (worlds : Worlds) (request : Request) (roots : List (List ℕ)) (from to : Outside) (result : Result Made (GenFault EvalFault)) where
+module _ (found : Declared) (worlds : Worlds) (host : ℕ) (request : Request) (roots : List (List ℕ)) (from to : Outside) (result : Result Made (GenFault EvalFault)) where
   -- a plan by an evaluation that keeps what it kept
   pub planned_over : ((told : Answers EvalFault) → told_in found.places worlds from.disk ≡ Some told → IsPlanned (loaded_of found roots told) is_host_fault is_out_of_memory request result)
-      → roots ≡ worlds.now.roots → IfOk result (λ p. Apart p.plan.steps p.plan.roots) → IfErr result (IsKnown HoldsNoMemory)
+      → roots ≡ worlds.now.roots → IfOk result (λ p. Apart p.plan.steps p.plan.roots) → IfErr result (IsKnown (CanEndWith (held found.places worlds host from)))
       → IsCounted (is_eval is_host_fault) (is_memory is_out_of_memory) from.faults to.faults result
       → to.disk ≡ from.disk → to.children ≡ from.children → Keeps from to
       → PlansRequest found worlds request.sets request.targets from to (planned_or_stop result)
   planned_over told same apart known counted disk children keeps = record {
-    told = told_over found worlds request roots from to result told same;
-    whole = generated_whole result known;
-    apart = apart_over found worlds request roots from to result result apart;
+    told = told_over found worlds host request roots from to result told same known;
+    whole = generated_whole result (generation_known (CanEndWith (held found.places worlds host from)) HoldsNoMemory (λ fault h. h.whole) result known);
+    apart = apart_over found worlds host request roots from to result result apart;
     disk = disk;
     children = children;
     keeps = keeps;
@@ -106,7 +113,7 @@ generated_asked l words sound pattern (Err (of_generation why)) h = (h.0, (sound
 
 module _ (words : List Text) (found : Declared) (worlds : Worlds) (from to : Outside) where
   abbrev IsTold : Result Made Stop → List (List Pair) → List Text → Option Disk → Type 0
-  IsTold result sets targets disk = IfSome disk (λ d. Tells (Unit {0}) (λ pattern outcome. (pattern ≡ None) × IsGenerated (project_of d worlds found) sets targets outcome) result)
+  IsTold result sets targets disk = IfSome disk (λ d. Tells (IsRefusedIn found.places worlds d) (λ pattern outcome. (pattern ≡ None) × IsGenerated (project_of d worlds found) sets targets outcome) result)
 
   pub asks_planned : (sets : List (List Pair)) (targets : List Text) (result : Result Made Stop) → sets ≡ request_sets found.registry words → targets ≡ target_words found.registry words
       → request_fault found.registry words ≡ None → PlansRequest found worlds sets targets from to result → Asks words found worlds from to result
@@ -121,17 +128,17 @@ module _ (words : List Text) (found : Declared) (worlds : Worlds) (from to : Out
   }
     where
       go : (disk : Option Disk) → IsTold result (request_sets found.registry words) (target_words found.registry words) disk
-          → IfSome disk (λ d. Tells (request_fault found.registry words ≡ None) (λ pattern outcome. (pattern ≡ None) × IsAsked (project_of d worlds found) words outcome) result)
+          → IfSome disk (λ d. Tells (IsRefusedFor words found worlds d) (λ pattern outcome. (pattern ≡ None) × IsAsked (project_of d worlds found) words outcome) result)
       go None h = tt
       go (Some d) h =
-          tells_map (Unit {0}) (λ pattern outcome. (pattern ≡ None) × IsGenerated (project_of d worlds found) (request_sets found.registry words) (target_words found.registry words) outcome)
-          (request_fault found.registry words ≡ None) (λ pattern outcome. (pattern ≡ None) × IsAsked (project_of d worlds found) words outcome) (λ unit. sound) (generated_asked (project_of d worlds found) words sound) result h
+          tells_map (IsRefusedIn found.places worlds d) (λ pattern outcome. (pattern ≡ None) × IsGenerated (project_of d worlds found) (request_sets found.registry words) (target_words found.registry words) outcome)
+          (IsRefusedFor words found worlds d) (λ pattern outcome. (pattern ≡ None) × IsAsked (project_of d worlds found) words outcome) (λ fault refused. (sound, refused)) (generated_asked (project_of d worlds found) words sound) result h
 
   pub asks_refused : (fault : RequestFault) → IsBy (request_fault found.registry words) fault
       → Asks words found worlds from from (Err (stop_of_request fault))
   asks_refused fault cause =
-      nothing_done (request_fault found.registry words ≡ None) (λ disk. IsAsked (project_of disk worlds found) words) from (stop_of_request fault) (go from.disk) (asked_whole fault) (asked_counts fault from)
+      nothing_done (IsRefusedFor words found worlds) (λ disk. IsAsked (project_of disk worlds found) words) from (stop_of_request fault) (go from.disk) (asked_whole fault) (asked_counts fault from)
     where
-      go : (disk : Option Disk) → IfSome disk (λ d. Tells (request_fault found.registry words ≡ None) (λ pattern outcome. (pattern ≡ None) × IsAsked (project_of d worlds found) words outcome) (Err (stop_of_request fault)))
+      go : (disk : Option Disk) → IfSome disk (λ d. Tells (IsRefusedFor words found worlds d) (λ pattern outcome. (pattern ≡ None) × IsAsked (project_of d worlds found) words outcome) (Err (stop_of_request fault)))
       go None = tt
-      go (Some d) = asked_told (project_of d worlds found) words fault cause
+      go (Some d) = asked_told (IsRefusedFor words found worlds d) (project_of d worlds found) words fault cause

@@ -1,10 +1,11 @@
 -- Faults of loads, of requests and of generation as answers.
-use Rattle.std.proofs.Common.{◌≡◌, Bool, true, false, List, Option, Some, None, Result, Ok, Err, refl}
+use Rattle.std.proofs.Common.{◌≡◌, Bool, true, false, is_some, List, Option, Some, None, Result, Ok, Err, refl}
 use Rattle.std.specs.Prelude.{IfErr}
 use Rattle.std.specs.Option.{option_map}
 use Rattle.b2_host.specs.Outside.{Outside}
 use Rattle.jam_journal.specs.Tables.{Text}
-use Rattle.jam_effects.specs.Causes.{HoldsNoMemory}
+use Rattle.jam_effects.specs.Causes.{cause_of, refused_by, HoldsNoMemory}
+use Rattle.jam_eval.specs.Faults.{refused_in}
 use Rattle.jam_effects.specs.declared.fault.EvalFault.{EvalFault}
 use Rattle.jam_effects.specs.declared.fault.EvalFault.TheVariants as evaluating
 use Rattle.b2_props.specs.declared.request_fault.RequestFault.{RequestFault}
@@ -15,6 +16,7 @@ use Rattle.b2_props.specs.declared.request.Request.{Request}
 use Rattle.b2_evaluation.specs.Answers.{IsCounted, CountsFault}
 use Rattle.b2_alternatives.specs.declared.fault.ChoiceFault.{ChoiceFault}
 use Rattle.b2_alternatives.specs.declared.fault.ChoiceFault.TheVariants as choosing
+use Rattle.b2_conversions.specs.Faults as conversions
 use Rattle.b2_conversions.specs.declared.fault.MakingFault.{MakingFault}
 use Rattle.b2_conversions.specs.declared.fault.MakingFault.TheVariants as making
 use Rattle.b2_walk.specs.declared.fault.LoadFault.{LoadFault}
@@ -24,11 +26,11 @@ use Rattle.b2_walk.specs.Finding.{CountsFault as CountsLoad}
 use Rattle.b2_generate.specs.declared.fault.GenFault.{GenFault}
 use Rattle.b2_generate.specs.declared.fault.GenFault.TheVariants as generating
 use Rattle.b2_generate.specs.declared.planned.Planned.{Planned as Made}
-use Rattle.b2_generate.specs.Faults.{Fault}
+use Rattle.b2_generate.specs.Faults.{Fault, not_chosen, not_made}
 use Rattle.b2_generate.specs.Loaded.{Loaded}
 use Rattle.b2_generate.specs.Planning.{Plans}
 use Rattle.b2_generate.specs.Plans.{IsPlanned}
-use Rattle.b2_generate.specs.Told.{fault_of, IfFault, IsKnown, is_eval, is_memory}
+use Rattle.b2_generate.specs.Told.{unless, fault_of, IfFault, IsKnown, is_eval, is_memory}
 use Rattle.b2_loaded.specs.Faults.{is_host_fault, is_out_of_memory}
 use Rattle.b2_front.specs.declared.refusal.Refusal.{Refusal as Why}
 use Rattle.b2_front.specs.declared.refusal.Refusal.TheVariants as refusals
@@ -36,7 +38,7 @@ use Rattle.b2_front.specs.Meaning.{of_generation}
 use Rattle.b2_front.specs.Refusals.{or_stop, stop_of_load, stop_of_request, stop_of_choice, stop_of_making}
 use Rattle.b2_front.specs.Preparing.{IfRefusal, Tells, IsWhole, CountsStop, Counts}
 use Rattle.b2_front.specs.Parts.{planned_or_stop, IsGenerated, IsAsked}
-use Rattle.b2_front.proofs.TellLemmas.{generation_told}
+use Rattle.b2_front.proofs.TellLemmas.{OfLine, generation_told}
 
 -- ---- loads
 
@@ -66,12 +68,12 @@ load_counts (loading.Feature path line fault) from to h = h
 
 -- ---- requests
 
-pub asked_told : (l : Loaded EvalFault) (words : List Text) (fault : RequestFault) → IsBy (request_fault l.declared.registry words) fault
-    → Tells (request_fault l.declared.registry words ≡ None) (λ pattern outcome. (pattern ≡ None) × IsAsked l words outcome) (Err (stop_of_request fault))
-asked_told l words (asking.UnknownWord word) h = (refl, h)
-asked_told l words (asking.UnknownValue word) h = (refl, h)
-asked_told l words (asking.Conflict word) h = (refl, h)
-asked_told l words asking.OutOfMemory h = tt
+pub asked_told : (Rest : EvalFault → Type 0) (l : Loaded EvalFault) (words : List Text) (fault : RequestFault) → IsBy (request_fault l.declared.registry words) fault
+    → Tells Rest (λ pattern outcome. (pattern ≡ None) × IsAsked l words outcome) (Err (stop_of_request fault))
+asked_told Rest l words (asking.UnknownWord word) h = (refl, h)
+asked_told Rest l words (asking.UnknownValue word) h = (refl, h)
+asked_told Rest l words (asking.Conflict word) h = (refl, h)
+asked_told Rest l words asking.OutOfMemory h = tt
 
 pub asked_whole : (fault : RequestFault) → IsWhole (stop_of_request fault)
 asked_whole (asking.UnknownWord word) = tt
@@ -87,16 +89,86 @@ asked_counts asking.OutOfMemory o = tt
 
 -- ---- generation
 
-pub generated_told : (l : Loaded EvalFault) (request : Request) (result : Result Made (GenFault EvalFault)) → IsPlanned l is_host_fault is_out_of_memory request result
-    → Tells (Unit {0}) (λ pattern outcome. (pattern ≡ None) × IsGenerated l request.sets request.targets outcome) (planned_or_stop result)
-generated_told l request (Ok made) h = (refl, h)
-generated_told l request (Err fault) h =
-    generation_told (Unit {0}) (λ pattern outcome. (pattern ≡ None) × IsGenerated l request.sets request.targets outcome) fault (go (fault_of is_host_fault is_out_of_memory fault) h)
-  where
-    go : (found : Option (Fault EvalFault)) → IfFault (λ why. Plans l request.sets request.targets (Err why)) found
-        → IfRefusal (Unit {0}) (option_map of_generation found) (λ f. (◌≡◌ {A = Option Text} None None) × IsGenerated l request.sets request.targets (Err f))
-    go None h = tt
-    go (Some why) h = (refl, h)
+-- what is known of a fault of the project's own text is known of the one of an answer
+module _ (K L : EvalFault → Type 0) (follows : (fault : EvalFault) → K fault → L fault) where
+  choice_known : (fault : ChoiceFault EvalFault) → IsKnown K (generating.NotChosen fault) → IsKnown L (generating.NotChosen fault)
+  choice_known (choosing.NoAlternative target set) known = tt
+  choice_known (choosing.AmbiguousAlternative target set i k) known = tt
+  choice_known (choosing.Unstable target first second) known = tt
+  choice_known (choosing.BadAnswer target rule word) known = tt
+  choice_known (choosing.Eval fault) known = follows fault known
+  choice_known choosing.OutOfMemory known = tt
+
+  making_known : (fault : MakingFault EvalFault) → IsKnown K (generating.NotMade fault) → IsKnown L (generating.NotMade fault)
+  making_known (making.NoChain source goal) known = tt
+  making_known (making.TwoChains source goal first second) known = tt
+  making_known (making.PathClash path) known = tt
+  making_known (making.LocationOutside path) known = tt
+  making_known (making.TooManySteps count) known = tt
+  making_known (making.Eval fault) known = follows fault known
+  making_known making.OutOfMemory known = tt
+
+  pub generation_known : (result : Result Made (GenFault EvalFault)) → IfErr result (IsKnown K) → IfErr result (IsKnown L)
+  generation_known (Ok made) known = tt
+  generation_known (Err (generating.NoTarget name)) known = tt
+  generation_known (Err (generating.TargetCycle targets)) known = tt
+  generation_known (Err (generating.UsageConflict target feature first second)) known = tt
+  generation_known (Err (generating.NotChosen fault)) known = choice_known fault known
+  generation_known (Err (generating.NotMade fault)) known = making_known fault known
+  generation_known (Err generating.OutOfMemory) known = tt
+
+module _ (R : EvalFault → Type 0) where
+  -- what is known of a pattern that was refused
+  abbrev pub OfPattern : EvalFault → Type 0
+  OfPattern fault = is_some (refused_by fault) ≡ true → R fault
+
+  line_known : (fault : EvalFault) (why : Fault EvalFault) → unless (is_host_fault fault) (is_out_of_memory fault) why ≡ None → OfPattern fault → OfLine R fault
+  line_known evaluating.Host why none known = tt
+  line_known evaluating.OutOfMemory why none known = tt
+  line_known (evaluating.At path line cause) why none known = known (go (is_some (refused_in (cause_of cause))) none)
+    where
+      go : (b : Bool) → unless b b why ≡ None → b ≡ true
+      go true e = refl
+      go false e = absurd (let clash : ◌≡◌ {A = Option (Fault EvalFault)} (Some why) None = e in cc)
+
+  -- where a fault is none as data, a pattern was refused
+  choice_refused : (fault : ChoiceFault EvalFault) → fault_of is_host_fault is_out_of_memory (generating.NotChosen fault) ≡ None → IsKnown OfPattern (generating.NotChosen fault)
+      → IsKnown (OfLine R) (generating.NotChosen fault)
+  choice_refused (choosing.NoAlternative target set) none known = tt
+  choice_refused (choosing.AmbiguousAlternative target set i k) none known = tt
+  choice_refused (choosing.Unstable target first second) none known = tt
+  choice_refused (choosing.BadAnswer target rule word) none known = tt
+  choice_refused (choosing.Eval fault) none known = line_known fault (not_chosen (choosing.Eval fault)) none known
+  choice_refused choosing.OutOfMemory none known = tt
+
+  making_refused : (fault : MakingFault EvalFault) → fault_of is_host_fault is_out_of_memory (generating.NotMade fault) ≡ None → IsKnown OfPattern (generating.NotMade fault)
+      → IsKnown (OfLine R) (generating.NotMade fault)
+  making_refused (making.NoChain source goal) none known = tt
+  making_refused (making.TwoChains source goal first second) none known = tt
+  making_refused (making.PathClash path) none known = tt
+  making_refused (making.LocationOutside path) none known = tt
+  making_refused (making.TooManySteps count) none known = tt
+  making_refused (making.Eval fault) none known = line_known fault (not_made (conversions.eval fault)) none known
+  making_refused making.OutOfMemory none known = tt
+
+  generation_refused : (fault : GenFault EvalFault) → fault_of is_host_fault is_out_of_memory fault ≡ None → IsKnown OfPattern fault → IsKnown (OfLine R) fault
+  generation_refused (generating.NoTarget name) none known = tt
+  generation_refused (generating.TargetCycle targets) none known = tt
+  generation_refused (generating.UsageConflict target feature first second) none known = tt
+  generation_refused (generating.NotChosen fault) none known = choice_refused fault none known
+  generation_refused (generating.NotMade fault) none known = making_refused fault none known
+  generation_refused generating.OutOfMemory none known = tt
+
+  pub generated_told : (l : Loaded EvalFault) (request : Request) (result : Result Made (GenFault EvalFault)) → IsPlanned l is_host_fault is_out_of_memory request result → IfErr result (IsKnown OfPattern)
+      → Tells R (λ pattern outcome. (pattern ≡ None) × IsGenerated l request.sets request.targets outcome) (planned_or_stop result)
+  generated_told l request (Ok made) h known = (refl, h)
+  generated_told l request (Err fault) h known =
+      generation_told R (λ pattern outcome. (pattern ≡ None) × IsGenerated l request.sets request.targets outcome) fault (go (fault_of is_host_fault is_out_of_memory fault) refl h)
+    where
+      go : (found : Option (Fault EvalFault)) → fault_of is_host_fault is_out_of_memory fault ≡ found → IfFault (λ why. Plans l request.sets request.targets (Err why)) found
+          → IfRefusal (IsKnown (OfLine R) fault) (option_map of_generation found) (λ f. (◌≡◌ {A = Option Text} None None) × IsGenerated l request.sets request.targets (Err f))
+      go None none h = generation_refused fault none known
+      go (Some why) is h = (refl, h)
 
 choice_whole : (fault : ChoiceFault EvalFault) → IsKnown HoldsNoMemory (generating.NotChosen fault) → IsWhole (stop_of_choice fault)
 choice_whole (choosing.NoAlternative target set) known = tt

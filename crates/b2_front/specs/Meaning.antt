@@ -16,6 +16,7 @@ use Rattle.b2_project.specs.Loads.{Ending, loaded, fails, Loads}
 use Rattle.b2_generate.specs.Faults.{Fault}
 use Rattle.b2_generate.specs.Loaded.{Loaded}
 use Rattle.b2_generate.specs.Planning.{Planned, Plans}
+use Rattle.b2_loaded.specs.Questions.{IsRefusedIn}
 use Rattle.b2_loaded.specs.Seen.{setting_of}
 use Rattle.b2_loaded.specs.Worlds.{answers_in}
 
@@ -37,12 +38,15 @@ load_setting disk refused = record (setting_of disk) { budget = load_turns; refu
 abbrev pub project_of : Disk → Worlds → Declared → Loaded EvalFault
 project_of disk worlds found = record { declared = found; roots = worlds.now.roots; answers = answers_in (setting_of disk) found.places worlds }
 
--- The files and the words come as far as generation, after these lines of ECHO: a project is loaded, and the words are a request.
-pub record ReachesGeneration (disk : Disk) (words lines : List Text) : Type 0 where
+-- A pattern is refused in generation, although it reads as one, after these lines of ECHO: a project is loaded, the words are a request,
+-- and a question of the project's own text, in the worlds that the load left, ends with this fault, which names the pattern. That
+-- generation comes to this question, and with no other fault before, is not said.
+pub record IsRefusedInGeneration (disk : Disk) (words lines : List Text) (fault : EvalFault) : Type 0 where
   pub walk : Walk
   pub found : Declared
   pub loads : Loads (load_setting disk None) load_turns words (loaded walk found)
   pub asked : request_fault found.registry words ≡ None
+  pub refused : IsRefusedIn found.places walk.state.worlds disk fault
   pub echoes : lines ≡ walk.state.kept.echoes
 
 -- The files of a disk and the free words of a command come to lines of ECHO, and to a plan or the first refusal: that of the load, to

@@ -14,6 +14,7 @@ use Rattle.b2_props.specs.Requests.{request_sets, request_fault}
 use Rattle.b2_props.specs.declared.request.Request.{Request}
 use Rattle.b2_metatargets.specs.declared.whole.Declared.{Declared}
 use Rattle.b2_evaluation.specs.Answers.{Answers}
+use Rattle.b2_loaded.specs.Questions.{IsRefusedIn}
 use Rattle.b2_walk.specs.declared.fault.LoadFault.{LoadFault}
 use Rattle.b2_project.specs.declared.project.Project.{Project}
 use Rattle.b2_project.specs.Loading.{HasPlaces}
@@ -59,10 +60,10 @@ abbrev pub IsPlanIn : {S E X : Type 0} → (S → Option (Answers E)) → (E →
 IsPlanIn answers is_host is_out found copied request evaluator result =
     (roots : List (List ℕ)) → IfOk copied (λ rs. rs ≡ roots) → IsPlanOf answers is_host is_out found roots request evaluator result
 
--- What a part of the way does: where the files are visible, this is told of its answer, and the rest where a pattern is refused in
--- generation; all else holds over every host.
-pub record Does (Rest : Type 0) (Told : Disk → Result Planned Refusal → Type 0) (from to : Outside) (result : Result Made Stop) : Type 0 where
-  pub told : IfSome from.disk (λ disk. Tells Rest (λ pattern outcome. (pattern ≡ None) × Told disk outcome) result)
+-- What a part of the way does: where the files are visible, this is told of its answer, and the rest of the fault where a pattern is
+-- refused in generation; all else holds over every host.
+pub record Does (Rest : Disk → EvalFault → Type 0) (Told : Disk → Result Planned Refusal → Type 0) (from to : Outside) (result : Result Made Stop) : Type 0 where
+  pub told : IfSome from.disk (λ disk. Tells (Rest disk) (λ pattern outcome. (pattern ≡ None) × Told disk outcome) result)
   pub whole : IfErr result IsWhole
   pub apart : IfOk result (λ made. Apart made.plan.steps made.plan.roots)
   pub disk : to.disk ≡ from.disk
@@ -71,10 +72,14 @@ pub record Does (Rest : Type 0) (Told : Disk → Result Planned Refusal → Type
   pub counts : Counts result from to
 
 abbrev pub PlansRequest : Declared → Worlds → List (List Pair) → List Text → Outside → Outside → Result Made Stop → Type 0
-PlansRequest found worlds sets targets = Does (Unit {0}) (λ disk. IsGenerated (project_of disk worlds found) sets targets)
+PlansRequest found worlds sets targets = Does (IsRefusedIn found.places worlds) (λ disk. IsGenerated (project_of disk worlds found) sets targets)
+
+-- a pattern is refused in generation, for words that are a request
+abbrev pub IsRefusedFor : List Text → Declared → Worlds → Disk → EvalFault → Type 0
+IsRefusedFor words found worlds disk fault = (request_fault found.registry words ≡ None) × IsRefusedIn found.places worlds disk fault
 
 abbrev pub Asks : List Text → Declared → Worlds → Outside → Outside → Result Made Stop → Type 0
-Asks words found worlds = Does (request_fault found.registry words ≡ None) (λ disk. IsAsked (project_of disk worlds found) words)
+Asks words found worlds = Does (IsRefusedFor words found worlds) (λ disk. IsAsked (project_of disk worlds found) words)
 
 -- a project is asked, and a load without one has its fault
 abbrev pub GoesOn : List Text → Result Project LoadFault → Outside → Outside → Result Made Stop → Type 0

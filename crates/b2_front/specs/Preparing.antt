@@ -5,6 +5,13 @@ use Rattle.b2_host.specs.Disks.{Disk}
 use Rattle.b2_host.specs.Faults.{Rose}
 use Rattle.b2_host.specs.Outside.{Outside}
 use Rattle.jam_journal.specs.Tables.{Text}
+use Rattle.jam_effects.specs.declared.fault.EvalFault.{EvalFault}
+use Rattle.b2_alternatives.specs.declared.fault.ChoiceFault.{ChoiceFault}
+use Rattle.b2_alternatives.specs.declared.fault.ChoiceFault.TheVariants as choosing
+use Rattle.b2_conversions.specs.declared.fault.MakingFault.{MakingFault}
+use Rattle.b2_conversions.specs.declared.fault.MakingFault.TheVariants as making
+use Rattle.b2_generate.specs.declared.fault.GenFault.{GenFault}
+use Rattle.b2_generate.specs.declared.fault.GenFault.TheVariants as generating
 use Rattle.b2_generate.specs.declared.planned.Planned.{Planned as Made}
 use Rattle.b2_generate.specs.Planning.{Planned}
 use Rattle.b2_generate.specs.Plans.{seen}
@@ -12,7 +19,7 @@ use Rattle.b2_front.specs.declared.refusal.Refusal.{Refusal as Why}
 use Rattle.b2_front.specs.declared.refusal.Refusal.TheVariants as refusals
 use Rattle.b2_front.specs.declared.refusal.Stop.{Stop}
 use Rattle.b2_front.specs.declared.refusal.Stop.TheVariants.{Refused, Host, OutOfMemory}
-use Rattle.b2_front.specs.Meaning.{Refusal, ReachesGeneration, Means}
+use Rattle.b2_front.specs.Meaning.{Refusal, IsRefusedInGeneration, Means}
 use Rattle.b2_front.specs.Refusals.{refusal_of, pattern_of, IsWholeRefusal}
 
 -- Something holds of a refusal as data; the rest holds where there is none.
@@ -20,16 +27,30 @@ abbrev pub IfRefusal : Type 0 → Option Refusal → (Refusal → Type 0) → Ty
 IfRefusal Rest None Holds = Rest
 IfRefusal Rest (Some why) Holds = Holds why
 
--- something holds, where the refusal is one of generation
-abbrev pub IfOfGeneration : Type 0 → Why → Type 0
+-- the refusal is a fault of the project's own text, of which something holds
+abbrev pub IsOfChoice : (EvalFault → Type 0) → ChoiceFault EvalFault → Type 0
+IsOfChoice Rest (choosing.Eval fault) = Rest fault
+IsOfChoice Rest fault = ⊥
+
+abbrev pub IsOfMaking : (EvalFault → Type 0) → MakingFault EvalFault → Type 0
+IsOfMaking Rest (making.Eval fault) = Rest fault
+IsOfMaking Rest fault = ⊥
+
+abbrev pub IsOfGeneration : (EvalFault → Type 0) → GenFault EvalFault → Type 0
+IsOfGeneration Rest (generating.NotChosen fault) = IsOfChoice Rest fault
+IsOfGeneration Rest (generating.NotMade fault) = IsOfMaking Rest fault
+IsOfGeneration Rest fault = ⊥
+
+-- the same, where the refusal is one of generation
+abbrev pub IfOfGeneration : (EvalFault → Type 0) → Why → Type 0
 IfOfGeneration Rest (refusals.Load fault) = Unit {0}
 IfOfGeneration Rest (refusals.Request fault) = Unit {0}
-IfOfGeneration Rest (refusals.Generation fault) = Rest
+IfOfGeneration Rest (refusals.Generation fault) = IsOfGeneration Rest fault
 
 -- Something holds of the answer as data, and of the pattern of a project file that was refused though it reads as one, if there was
--- one. Where such a pattern of the project's own text is refused in generation, the rest alone holds. Nothing is said of a fault of
--- the host and of out of memory.
-abbrev pub Tells : Type 0 → (Option Text → Result Planned Refusal → Type 0) → Result Made Stop → Type 0
+-- one. Where such a pattern of the project's own text is refused in generation, the rest holds of the fault that this is. Nothing is
+-- said of a fault of the host and of out of memory.
+abbrev pub Tells : (EvalFault → Type 0) → (Option Text → Result Planned Refusal → Type 0) → Result Made Stop → Type 0
 Tells Rest Holds (Ok plan) = Holds None (Ok (seen plan))
 Tells Rest Holds (Err (Refused why)) = IfRefusal (IfOfGeneration Rest why) (refusal_of why) (λ found. Holds (pattern_of why) (Err found))
 Tells Rest Holds (Err Host) = Unit {0}
@@ -39,9 +60,9 @@ Tells Rest Holds (Err OutOfMemory) = Unit {0}
 abbrev pub call_of : ℕ → Option Text → Option (ℕ × Text)
 call_of left = option_map (λ pattern. (left, pattern))
 
--- The answer is what the files and the words come to, or at least they come as far as generation, where a pattern is refused in it.
+-- The answer is what the files and the words come to, or the fault of a pattern that is refused in generation.
 abbrev pub IsPrepared : Disk → List Text → List Text → Result Made Stop → Type 0
-IsPrepared disk words lines = Tells (ReachesGeneration disk words lines) (λ pattern result. (left : ℕ) × Means disk (call_of left pattern) words lines result)
+IsPrepared disk words lines = Tells (IsRefusedInGeneration disk words lines) (λ pattern result. (left : ℕ) × Means disk (call_of left pattern) words lines result)
 
 -- no fault of the host and no out of memory is within a refusal
 abbrev pub IsWhole : Stop → Type 0

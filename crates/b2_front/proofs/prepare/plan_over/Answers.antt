@@ -3,7 +3,7 @@ use Rattle.b2_host.specs.OutsideLaws.{Keeps}
 use Rattle.b2_host.specs.Outside.{Outside}
 use Rattle.b2_loaded.specs.Held.{Held}
 use Rattle.b2_front.specs.Parts.{PlansRequest}
-use Rattle.b2_front.proofs.OverLemmas.{bin_there, told_own, counted_own}
+use Rattle.b2_front.proofs.OverLemmas.{bin_there, told_own, known_own, counted_own}
 use Rattle.b2_front.proofs.PlanLemmas.{planned_over}
 use Rattle.b2_front.proofs.prepare.plan_over.Goals as goal
 
@@ -31,11 +31,13 @@ returns g c =
     let start_is : outside own.result.host.files.now ≡ outside c.args.files.now = ap outside own.ensures.files in
     let end_is : outside planned.result.evaluator.host.files.now ≡ outside c.files-1.given.0 = ap outside (sym back.ensures.files ∙ same) in
     subst (λ r. PlansRequest c.args.declared.now c.args.world c.args.request.now.sets c.args.request.now.targets (outside c.args.files.now) (outside c.files-1.given.0) r) (sym c.planned_or_stop.ensures)
-    (planned_over c.args.declared.now c.args.world c.args.request.now c.roots.result.now (outside c.args.files.now) (outside c.files-1.given.0) planned.result.result
+    (planned_over c.args.declared.now c.args.world own.result.host.files.ghost_name c.args.request.now c.roots.result.now (outside c.args.files.now) (outside c.files-1.given.0) planned.result.result
     (told_own c.args.declared.now c.args.world c.args.request.now c.roots.result.now (outside c.args.files.now) planned.result.result
     own.result.projects.now own.result.loaded.world (outside own.result.host.files.now) (own.ensures.projects ∙ c.as_slice.ensures) own.ensures.world start_is
     (planned.ensures.told c.roots.result.now c.copy_paths-roots.ensures))
-    c.roots.ensures.same planned.ensures.apart planned.ensures.leaves.known
+    c.roots.ensures.same planned.ensures.apart
+    (known_own c.args.declared.now c.args.world (outside c.args.files.now) planned.result.result own.result.projects.now own.result.loaded.world own.result.host.files.ghost_name (outside own.result.host.files.now)
+    (own.ensures.projects ∙ c.as_slice.ensures) own.ensures.world start_is planned.ensures.leaves.known)
     (counted_own (outside c.args.files.now) (outside c.files-1.given.0) (outside own.result.host.files.now) (outside planned.result.evaluator.host.files.now) planned.result.result start_is end_is planned.ensures.leaves.counted)
     (ap (λ (o : Outside). o.disk) (sym to_is) ∙ back.ensures.disk ∙ sym (ap (λ (o : Outside). o.disk) c.requires.entry))
     (ap (λ (o : Outside). o.children) (sym to_is) ∙ back.ensures.children ∙ sym (ap (λ (o : Outside). o.children) c.requires.entry))
