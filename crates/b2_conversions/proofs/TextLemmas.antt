@@ -1,5 +1,5 @@
 -- Texts of several pieces, and what a set says of places.
-use Rattle.std.proofs.Common.{◌≡◌, ℕ, ◌<◌, ◌+◌, cond, List, [], ◌∷◌, ◌++◌, Option, Some, map, take, get_or, length, ◌∙◌, ap, subst, lit<}
+use Rattle.std.proofs.Common.{◌≡◌, ℕ, ◌<◌, ◌+◌, cond, List, [], ◌∷◌, ◌++◌, Option, Some, map, take, get_or, length, ◌∙◌, ap, lit<}
 use Rattle.std.specs.Prelude.{codes}
 use Rattle.std.specs.List.{filter}
 use Rattle.std.specs.Option.{IfSome}

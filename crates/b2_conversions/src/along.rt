@@ -103,13 +103,11 @@ fn along<V: Evaluate>(
     let mut entries = ins;
     let ids = route.ids;
     for (place, id) in ids.iter().enumerate() {
-        let current = entries.as_slice();
-        let tail = first_tail(route.spare, current);
+        let tail = first_tail(route.spare, entries.as_slice());
         let named = route.named_at(place);
         let outputs = named_outputs(setting, id, tail, named)?;
         let outs = outputs.as_slice();
-        let made = run(setting, site, id, current, outs, evaluator, builder)?;
-        entries = made;
+        entries = run(setting, site, id, entries, outs, evaluator, builder)?;
     }
     Ok(entries)
 }

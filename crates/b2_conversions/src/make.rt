@@ -86,6 +86,8 @@ fn link<V: Evaluate>(
     let sources = to_convert(setting.alloc, site)?;
     let entries = sources.as_slice();
     let objects = all_objects(setting, site, entries, evaluator, builder)?;
+    // nothing reads the sources while the text of the last step is evaluated
+    drop(sources);
     let libraries = linked_libraries(setting.alloc, site, with_libraries)?;
     let ins = joined(objects, libraries)?;
     linked(setting, site, named, ins, evaluator, builder)
@@ -132,15 +134,8 @@ fn make_file<V: Evaluate>(
     let ins = entries_of(setting.alloc, site.parts)?;
     let named = named_file(setting.alloc, setting.types, site)?;
     let outputs = [named];
-    let entries = run(
-        setting,
-        site,
-        site.rule,
-        ins.as_slice(),
-        outputs.as_slice(),
-        evaluator,
-        builder,
-    )?;
+    let outs = outputs.as_slice();
+    let entries = run(setting, site, site.rule, ins, outs, evaluator, builder)?;
     Ok(only(setting.alloc, entries))
 }
 

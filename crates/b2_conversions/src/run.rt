@@ -1,10 +1,11 @@
 //! Steps that are made and joined.
-ghost use Rattle.std.specs.Prelude.{◌≢◌, []};
+ghost use Rattle.std.specs.Prelude.{◌≡◌, ◌≢◌, [], IfOk};
 ghost use Rattle.b2_props.specs.Sets.{IsSet};
 ghost use Rattle.jam_eval.specs.StepJobs.{job_of};
 ghost use Rattle.b2_conversions.specs.Answers.{AreHoused};
+ghost use Rattle.b2_conversions.specs.Contexts.{site_of};
 ghost use Rattle.b2_conversions.specs.Doing.{Asked, IsJoined, Does};
-ghost use Rattle.b2_conversions.specs.Steps.{asks, runs};
+ghost use Rattle.b2_conversions.specs.Steps.{paths_of, job, asks, runs};
 
 use crate::fault::MakingFault;
 use crate::output::Output;
@@ -12,12 +13,14 @@ use crate::place::place_all;
 use crate::setting::Setting;
 use crate::site::Site;
 use crate::step::{job, step_of};
+use b2_base::fault::OutOfMemory;
 use b2_base::text::Text;
 use b2_evaluation::evaluate::Evaluate;
 use b2_plan::step::Step;
 use b2_supplies::entry::{Entry, EntryList};
 use b2_virtual::builder::Builder;
 use jam_eval::step::{StepJob, StepText};
+use std::alloc::Global;
 
 /// The text of a step.
 fn text_of<V: Evaluate>(job: &StepJob, evaluator: &mut V) -> Result<StepText, MakingFault<V::Fault>>
@@ -53,23 +56,36 @@ fn ask<V: Evaluate>(
     join(step, builder)
 }
 
-/// A step of this name makes outputs of inputs.
+/// The job of a step of this name that makes files of others. The others are dropped here: the job has their paths.
+fn job_of_all(
+    alloc: Global,
+    site: &Site<'_>,
+    name: &Text,
+    outs: &[Entry],
+    ins: EntryList,
+) -> Result<StepJob, OutOfMemory>
+    ensures { IfOk result (λ made. job_of made ≡ job (site_of site.now) name.now (paths_of outs.now) (paths_of ins)) }
+{
+    job(alloc, site, name, outs, ins.as_slice())
+}
+
+/// A step of this name makes outputs of inputs, which are dropped before its text is evaluated.
 pub(crate) fn run<V: Evaluate>(
     setting: &Setting<'_>,
     site: &Site<'_>,
     name: &Text,
-    ins: &[Entry],
+    ins: EntryList,
     outputs: &[Output],
     evaluator: &mut V,
     builder: &mut Builder,
 ) -> Result<EntryList, MakingFault<V::Fault>>
     requires set { IsSet setting.now.registry.now site.now.set.now }
     requires some { outputs.now ≢ [] }
-    ensures { Does V.Evaluate (λ c s. runs c s name.now ins.now outputs.now) setting.now site.now evaluator.old evaluator.new builder.old builder.new result }
+    ensures { Does V.Evaluate (λ c s. runs c s name.now ins outputs.now) setting.now site.now evaluator.old evaluator.new builder.old builder.new result }
 {
     let made = place_all::<V::Fault>(setting, site, outputs)?;
     let outs = made.as_slice();
-    let job = job(setting.alloc, site, name, outs, ins)?;
+    let job = job_of_all(setting.alloc, site, name, outs, ins)?;
     ask(setting, site, job, evaluator, builder)?;
     Ok(made)
 }

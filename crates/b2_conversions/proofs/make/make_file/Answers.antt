@@ -19,8 +19,8 @@ pub returns-in_err-entries : goal.returns-in_err-entries
 returns-in_err-entries g c =
     let (y, e, q) = err_from_is_err_and c.from_residual-in_err-entries.result c.from_residual-in_err-entries.ensures.1 in
     exit e q
-    (file_refused g.V.Evaluate.answers g.V.Evaluate.kept g.V.Evaluate.faults g.V.Evaluate.is_host_fault g.V.Evaluate.is_out_of_memory g.V.Evaluate.CanFault c.args.setting.now c.args.site.now c.as_slice.result.now c.as_slice-2.result.now c.in_err-entries.field-0.0 c.args.evaluator.now c.run.new.evaluator c.args.builder.now c.run.new.builder (c.as_slice.ensures ∙ c.in_ok-ins.ensures) (c.as_slice-2.ensures ∙ ap (λ (o : Output). o ∷ []) c.in_ok-named.ensures) c.in_err-entries.ensures)
+    (file_refused g.V.Evaluate.answers g.V.Evaluate.kept g.V.Evaluate.faults g.V.Evaluate.is_host_fault g.V.Evaluate.is_out_of_memory g.V.Evaluate.CanFault c.args.setting.now c.args.site.now c.in_ok-ins.ins c.as_slice-outs.result.now c.in_err-entries.field-0.0 c.args.evaluator.now c.run.new.evaluator c.args.builder.now c.run.new.builder c.in_ok-ins.ensures (c.as_slice-outs.ensures ∙ ap (λ (o : Output). o ∷ []) c.in_ok-named.ensures) c.in_err-entries.ensures)
 
 pub returns : goal.returns
 returns g c =
-    file_made g.V.Evaluate.answers g.V.Evaluate.kept g.V.Evaluate.faults g.V.Evaluate.is_host_fault g.V.Evaluate.is_out_of_memory g.V.Evaluate.CanFault c.args.setting.now c.args.site.now c.as_slice.result.now c.as_slice-2.result.now c.in_ok-entries.entries c.only.result c.args.evaluator.now c.run.new.evaluator c.args.builder.now c.run.new.builder (c.as_slice.ensures ∙ c.in_ok-ins.ensures) (c.as_slice-2.ensures ∙ ap (λ (o : Output). o ∷ []) c.in_ok-named.ensures) c.only.ensures c.in_ok-entries.ensures
+    file_made g.V.Evaluate.answers g.V.Evaluate.kept g.V.Evaluate.faults g.V.Evaluate.is_host_fault g.V.Evaluate.is_out_of_memory g.V.Evaluate.CanFault c.args.setting.now c.args.site.now c.in_ok-ins.ins c.as_slice-outs.result.now c.in_ok-entries.entries c.only.result c.args.evaluator.now c.run.new.evaluator c.args.builder.now c.run.new.builder c.in_ok-ins.ensures (c.as_slice-outs.ensures ∙ ap (λ (o : Output). o ∷ []) c.in_ok-named.ensures) c.only.ensures c.in_ok-entries.ensures
