@@ -343,8 +343,7 @@ module _ (spot : Spot) (name given : Text) (properties : List Text) (args : List
     told = λ disk visible consistent t. sym (there spot name properties worlds (setting_of disk) has)
         ∙ moved_told spot (call_rolled (setting_of disk) name (properties ∷ []) (state_in worlds)) e moved is (λ u. ap answer_of (sym (called (setting_of disk))) ∙ does.told disk visible consistent u) t;
     refused = λ disk visible consistent pattern named.
-        let found = does.refused disk visible consistent pattern (moved_pattern spot e moved is pattern named) in
-        (
+        let found = does.refused disk visible consistent pattern (moved_pattern spot e moved is pattern named) in (
           found.0,
           sym (there spot name properties worlds (refusing disk found.0 pattern) has)
               ∙ moved_ends spot (call_rolled (refusing disk found.0 pattern) name (properties ∷ []) (state_in worlds)) e moved is pattern named (ap answer_of (sym (called (refusing disk found.0 pattern))) ∙ found.1),
