@@ -151,12 +151,13 @@ fn go_on<F: Files>(
     }
 }
 
-/// Loads the projects that the words of a command name, by the target words among them and with 1,000,000 turns; reads the words as a
-/// request, by the features that were declared; and plans what they ask for. The words are those that are no options, in order: words
-/// of properties, which name no directory, and target words. The first refusal is the answer: that of the load, of the request, or of
-/// generation. Where a pattern is refused in generation though it reads as one, `told` says of which question of the project's own text
-/// this is the fault, by the turns left in the call that has the pattern, and after which lines of ECHO; it does not say that generation
-/// comes to this question, and with no other fault before. A fault of the host comes only where one of its calls failed, and no file is changed.
+/// Loads the projects that the words of a command name, by the target words among them and with 1,000,000 turns; reads the words as
+/// a request, by the features that were declared; and plans what they ask for. The words are those that are no options, in order:
+/// words of properties, which name no directory, and target words. The first refusal is the answer: that of the load, of the
+/// request, or of generation. Where a pattern is refused in generation though it reads as one, `told` says of which question of the
+/// project's own text this is the fault, by the turns left in the call that has the pattern, and after which lines of ECHO; it does
+/// not say that generation comes to this question, and with no other fault before. A fault of the host comes only where one of its
+/// calls failed, and no file is changed.
 pub fn prepare<F: Files>(alloc: Global, words: &[Text], files: &mut F) -> Prepared
     ensures told { IfSome (F.outside files.old).disk (λ disk. IsPrepared disk words.now result.echoes result.result) }
     ensures whole { IfErr result.result IsWhole }
