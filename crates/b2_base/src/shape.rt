@@ -16,6 +16,7 @@ pub enum Count {
 }
 
 impl Count {
+    /// Whether some texts are as many as this says; takes no memory.
     pub fn holds(self, texts: &[Text]) -> bool
         ensures { result ≡ is_counted self texts.now }
     {
