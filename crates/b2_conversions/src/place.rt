@@ -15,11 +15,12 @@ use crate::setting::Setting;
 use crate::site::Site;
 use crate::step::location_of;
 use b2_base::path::{Path, path_of};
+use b2_plan::roots::is_in_roots;
 use b2_props::elements::dir_of;
 use b2_supplies::entry::{Entry, EntryList};
 use b2_supplies::paths::file_name;
 use b2_virtual::fault::VirtualFault;
-use b2_virtual::paths::{is_in_roots, location_path, output_path};
+use b2_virtual::paths::{location_path, output_path};
 
 /// The path of an output in `bin`, which lies in the output roots.
 fn path_in_bin(

@@ -3,4 +3,5 @@
 
 mod makers;
 pub mod plan;
+pub mod roots;
 pub mod step;

@@ -1,7 +1,6 @@
 //! Whether paths are missing.
 ghost use Rattle.std.specs.Prelude.{◌↔◌, IfOk, IsTrue};
 ghost use Rattle.std.specs.Option.{IfSome};
-ghost use Rattle.b2_plan.specs.Sources.{IsInRoots};
 ghost use Rattle.b2_update.specs.Plain.{plan_build};
 ghost use Rattle.b2_update.specs.Stops.{StopLooks};
 ghost use Rattle.b2_update.specs.Inputs.{IsSomeSource, FoundAs};
@@ -10,18 +9,7 @@ use crate::stop::Stop;
 use b2_base::path::Path;
 use b2_host::children::Children;
 use b2_plan::plan::Plan;
-
-/// Whether the path lies under one of the roots.
-fn is_in_roots(roots: &[Path], path: &Path) -> bool
-    ensures { IsTrue result ↔ IsInRoots roots.now path.now }
-{
-    for root in roots {
-        if path.under(root) {
-            return true;
-        }
-    }
-    false
-}
+use b2_plan::roots::is_in_roots;
 
 /// Whether the path is a source: a file that stands outside the output roots.
 fn is_source<H: Children>(plan: &Plan, host: &mut H, path: &Path) -> Result<bool, Stop>

@@ -12,6 +12,7 @@ use crate::fault::VirtualFault;
 use b2_base::fault::OutOfMemory;
 use b2_base::path::{Path, joined_path, path_of};
 use b2_base::rooted::is_rooted;
+use b2_plan::roots::is_in_roots;
 use std::alloc::Global;
 
 /// The tail of an output that has a name in a project's directory.
@@ -29,18 +30,6 @@ pub fn output_path(alloc: Global, elements: &str, tail: &Path) -> Result<Path, O
 {
     let folder = format!(in alloc; "bin/{elements}")?;
     joined_path(alloc, folder.as_str(), tail.as_str())
-}
-
-/// Whether a path lies under an output root; takes no memory.
-pub fn is_in_roots(roots: &[Path], path: &Path) -> bool
-    ensures { IsTrue result ↔ IsInRoots roots.now path.now }
-{
-    for root in roots {
-        if path.under(root) {
-            return true;
-        }
-    }
-    false
 }
 
 /// Whether a path is an output root; takes no memory.

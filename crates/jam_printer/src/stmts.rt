@@ -3,7 +3,7 @@ ghost use Rattle.std.specs.Prelude.{◌≡◌, ◌++◌, ◌∷◌, [], IfOk, ma
 ghost use Rattle.jam_grammar.specs.declared.mark.Mark.TheVariants as marks;
 ghost use Rattle.jam_grammar.specs.Spelling.{Key, Says, Anywhere, arg_syms, args_syms, expr_syms, braced, block_syms, form_syms, other_syms, only, is_if, case_syms, cases_syms, local_syms, params_syms};
 ghost use Rattle.jam_grammar.specs.Trees.{form_tree};
-ghost use Rattle.jam_printer.specs.Lexemes.{written_as};
+ghost use Rattle.jam_printer.specs.Lexemes.{written_as, for_syms};
 
 use crate::args::{push_arg, push_args};
 use crate::exprs::push_expr;
@@ -130,7 +130,7 @@ fn push_for(
     items: &[Arg],
     block: &Block,
 ) -> Result<(), OutOfMemory>
-    ensures { IfOk result (λ _. lexemes.new.items ≡ lexemes.old.items ++ written_as (Key marks.For ∷ (local_syms local ++ (Says name.now ∷ Key marks.In ∷ (args_syms items.now ++ braced (block_syms block.now)))))) }
+    ensures { IfOk result (λ _. lexemes.new.items ≡ lexemes.old.items ++ written_as (for_syms local name.now items.now block.now)) }
 {
     push_key(lexemes, Mark::For)?;
     if local {

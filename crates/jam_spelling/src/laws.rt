@@ -1,5 +1,5 @@
 //! Laws of written lexemes.
-ghost use Rattle.std.specs.Prelude.{◌≡◌, ℕ, ◌++◌, List, Result, All, map, IsTrue, IsOkAnd};
+ghost use Rattle.std.specs.Prelude.{◌≡◌, ℕ, ◌++◌, List, Result, All, IsTrue};
 ghost use Rattle.b2_base.specs.declared.token.Token.{Token};
 ghost use Rattle.b2_base.specs.declared.token.TokenKind.TheVariants as kinds;
 ghost use Rattle.jam_lexer.specs.declared.fault.LexFault.{LexFault};
@@ -9,12 +9,12 @@ ghost use Rattle.jam_lexer.specs.Answers.{IsAnswer};
 ghost use Rattle.jam_spelling.specs.declared.lexeme.Lexeme.{Lexeme};
 ghost use Rattle.jam_spelling.specs.Spelling.{bytes_of};
 ghost use Rattle.jam_spelling.specs.Standing.{IsRaw, CanStand};
-ghost use Rattle.jam_spelling.specs.Readings.{lexeme_of, ReadsAs, AreTexts};
+ghost use Rattle.jam_spelling.specs.Readings.{ReadsAs, AreTexts, Say};
 
 /// Lexemes that can stand in a text are what the tokens of their bytes say, and these bytes have no other answer.
 pub fn read_back()
     ensures tokens { (lexemes : List Lexeme) → CanStand lexemes → AreTexts lexemes → ReadsAs (bytes_of lexemes) lexemes }
-    ensures answer { (lexemes : List Lexeme) (answer : Result (List Token) LexFault) → CanStand lexemes → AreTexts lexemes → IsAnswer (bytes_of lexemes) answer → IsOkAnd answer (λ tokens. map lexeme_of tokens ≡ lexemes) }
+    ensures answer { (lexemes : List Lexeme) (answer : Result (List Token) LexFault) → CanStand lexemes → AreTexts lexemes → IsAnswer (bytes_of lexemes) answer → Say lexemes answer }
 {}
 
 /// Two lists that can stand in a text can stand there one after the other.
