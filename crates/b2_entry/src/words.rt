@@ -1,5 +1,6 @@
 //! The words of the command line.
 
+use b2_answers::answer::Answer;
 use b2_base::text::{Text, has_no_zero};
 use std::alloc::Global;
 use std::env::Env;
@@ -11,6 +12,16 @@ pub enum WordsFault {
     /// A word is no text, or holds the zero byte.
     NoText,
     OutOfMemory,
+}
+
+impl WordsFault {
+    /// The exit status of a program whose words cannot be handed on: that of words which are no command, or that of no memory left.
+    pub fn status(self) -> u8 {
+        match self {
+            WordsFault::NoText => Answer::Usage.status(),
+            WordsFault::OutOfMemory => Answer::OutOfMemory.status(),
+        }
+    }
 }
 
 fn text_of(alloc: Global, word: &str) -> Result<Text, WordsFault> {

@@ -1,0 +1,7 @@
+#include "inc/util.h"
+
+#include <iostream>
+
+void greet() {
+    std::cout << "hello\n";
+}

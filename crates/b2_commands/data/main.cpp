@@ -1,0 +1,5 @@
+#include <util.h>
+
+int main() {
+    greet();
+}
