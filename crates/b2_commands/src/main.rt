@@ -6,8 +6,8 @@ use b2_entry::command::carry_out;
 use b2_entry::words::words_of;
 use std::process::ExitCode;
 
-/// Carries out the commands, which the word `;` divides, one after another; between two of them there may be no words, as in `b2`
-/// alone. Ends with the status of the first command that does not end with 0, else with 0.
+/// Carries out the commands, which the word `;` divides, one after another; one without words is a plain `b2`. Ends with the status
+/// of the first command that does not end with 0, else with 0.
 fn main(rt: HostRuntime) -> ExitCode {
     let words = match words_of(&rt) {
         Ok(words) => words,
