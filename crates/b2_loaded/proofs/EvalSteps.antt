@@ -4,7 +4,6 @@ use Rattle.std.proofs.lemmas.Bool.{eqb-true}
 use Rattle.std.specs.Prelude.{IfErr, slice_get}
 use Rattle.std.specs.Option.{IfSome}
 use Rattle.std.specs.Str.{chars}
-use Rattle.b2_host.specs.ChildProcesses.{Family}
 use Rattle.b2_host.specs.Disks.{Disk, IsConsistent}
 use Rattle.b2_host.specs.Outside.{Outside}
 use Rattle.b2_host.specs.OutsideLaws.{keeps_same, Keeps}
@@ -39,10 +38,13 @@ use Rattle.jam_interp.specs.declared.rolled.CallAnswer.{CallAnswer}
 use Rattle.jam_interp.specs.Parts.{call_value, call_rolled_at, step_text_at}
 use Rattle.jam_interp.proofs.RuleSteps.{first_there}
 use Rattle.jam_effects.proofs.RecordSteps.{some_key}
-use Rattle.b2_loaded.specs.Doing.{HasRule, IsPlaced, IsRefused, Evaluates, call_at, in_project_at, returned_at, entered, texts}
+use Rattle.b2_loaded.specs.Doing.{HasRule, IsPlaced, EndsWithRefusal, Evaluates, call_at, in_project_at, returned_at, entered, texts}
 use Rattle.b2_loaded.specs.Faults.{why_of, answer_of, is_host_fault, is_out_of_memory}
-use Rattle.b2_loaded.specs.Held.{Held, held, CanEndWith}
-use Rattle.b2_loaded.specs.Questions.{Question, of_rule, of_step, EndsWith, IsRefusedIn}
+use Rattle.b2_loaded.specs.Asking.{Asks}
+use Rattle.b2_loaded.specs.Held.{held, EndsQuestion}
+use Rattle.b2_loaded.specs.Questions.{EndsWith, IsRefused}
+use Rattle.b2_loaded.specs.declared.question.Question.{Question}
+use Rattle.b2_loaded.specs.declared.question.Question.TheVariants.{OfRule, OfStep}
 use Rattle.b2_loaded.specs.Readings.{reads}
 use Rattle.b2_loaded.specs.Seen.{setting_of, refusing}
 use Rattle.b2_loaded.specs.Turns.{turns}
@@ -129,7 +131,7 @@ answered view (Err (fault.At path line why)) o s before after h = λ t.
 
 -- an outcome of which the result is known where a pattern was refused
 ended : {A B : Type 0} (view : A → B) (what : What Kept B) (worlds : Worlds) (disk : Disk) (result : Result A EvalFault) (left : ℕ) (s : State Kept)
-    → ((pattern : Text) → refused_of result ≡ Some pattern → IsOutcome view result (what (refusing disk left pattern) (state_in worlds)) s) → IfErr result (IsRefused what worlds disk)
+    → ((pattern : Text) → refused_of result ≡ Some pattern → IsOutcome view result (what (refusing disk left pattern) (state_in worlds)) s) → IfErr result (EndsWithRefusal what worlds disk)
 ended view what worlds disk (Ok a) left s h = tt
 ended view what worlds disk (Err fault.Host) left s h = λ pattern e. none_some pattern e
 ended view what worlds disk (Err fault.OutOfMemory) left s h = λ pattern e. none_some pattern e
@@ -373,7 +375,7 @@ answer_back worlds (gives a s) = refl
 answer_back worlds (faults found s) = refl
 
 same_refused : {A B : Type 0} (what other : What Kept B) (worlds inside : Worlds) (disk : Disk) (result : Result A EvalFault)
-    → ((setting : Setting Kept) → answer_of (other setting (state_in worlds)) ≡ answer_of (what setting (state_in inside))) → IfErr result (IsRefused what inside disk) → IfErr result (IsRefused other worlds disk)
+    → ((setting : Setting Kept) → answer_of (other setting (state_in worlds)) ≡ answer_of (what setting (state_in inside))) → IfErr result (EndsWithRefusal what inside disk) → IfErr result (EndsWithRefusal other worlds disk)
 same_refused what other worlds inside disk (Ok a) same h = tt
 same_refused what other worlds inside disk (Err e) same h = λ pattern named. let found = h pattern named in (found.0, same (refusing disk found.0 pattern) ∙ found.1)
 
@@ -412,7 +414,7 @@ call_undone project name line properties worlds inside from to result is does =
 -- ---- what is told
 
 -- where the files are visible, an evaluation is told
-pub told_where : {A B : Type 0} (view : A → B) (what : What Kept B) (projects : List Place) (worlds : Worlds) (from to : Outside) (result : Result A EvalFault) (asked : Answers EvalFault → Result B EvalFault)
+told_where : {A B : Type 0} (view : A → B) (what : What Kept B) (projects : List Place) (worlds : Worlds) (from to : Outside) (result : Result A EvalFault) (asked : Answers EvalFault → Result B EvalFault)
     → IfSome from.disk IsConsistent → ((disk : Disk) → asked (answers_in (setting_of disk) projects worlds) ≡ answer_of (what (setting_of disk) (state_in worlds))) → Evaluates view what worlds from to result
     → IsTold is_host_fault is_out_of_memory view asked (told_in projects worlds from.disk) result
 told_where {A} {B} view what projects worlds from to result asked consistent same does = go from.disk refl consistent
@@ -421,63 +423,54 @@ told_where {A} {B} view what projects worlds from to result asked consistent sam
     go None e one_each = tt
     go (Some disk) e one_each = subst (λ a. Agrees is_host_fault is_out_of_memory view a result) (sym (same disk)) (does.told disk e one_each)
 
--- where there is no such project, nothing is returned
-pub told_nothing : (projects : List Place) (worlds : Worlds) (disk : Option Disk) (project : ℕ) (name : Text) (line : ℕ) (properties : List Text) → slice_get projects project ≡ None
-    → IsTold is_host_fault is_out_of_memory texts (λ a. a.returned project name line properties) (told_in projects worlds disk) (Ok [])
-told_nothing projects worlds None project name line properties none = tt
-told_nothing projects worlds (Some disk) project name line properties none = ap (λ p. answer_of (returned_of (setting_of disk) p name line properties (state_in worlds))) none
-
-pub told_returned : (projects : List Place) (worlds : Worlds) (from to : Outside) (project : ℕ) (place : Place) (name : Text) (line : ℕ) (properties : List Text) (result : Result Value EvalFault)
-    → slice_get projects project ≡ Some place → IfSome from.disk IsConsistent → Evaluates texts (returned_at place name line properties) worlds from to result
-    → IsTold is_host_fault is_out_of_memory texts (λ a. a.returned project name line properties) (told_in projects worlds from.disk) result
-told_returned projects worlds from to project place name line properties result is consistent does =
-    told_where texts (returned_at place name line properties) projects worlds from to result (λ a. a.returned project name line properties) consistent
-    (λ disk. ap (λ p. answer_of (returned_of (setting_of disk) p name line properties (state_in worlds))) is) does
-
-pub told_text : (projects : List Place) (worlds : Worlds) (from to : Outside) (job : StepJob) (result : Result StepText EvalFault) → IfSome from.disk IsConsistent → Evaluates step_answer (step_text_at (job_of job)) worlds from to result
-    → IsTold is_host_fault is_out_of_memory step_answer (λ a. a.step_text (job_of job)) (told_in projects worlds from.disk) result
-told_text projects worlds from to job result consistent does =
-    told_where step_answer (step_text_at (job_of job)) projects worlds from to result (λ a. a.step_text (job_of job)) consistent (λ disk. refl) does
-
--- ---- what is known of a fault
+-- ---- what comes of a question
 
 -- the answer of this question is the one of what was evaluated
 abbrev IsAnswerOf : {B : Type 0} → What Kept B → List Place → Worlds → Question → Type 0
 IsAnswerOf what projects worlds question =
     (setting : Setting Kept) (e : EvalFault) → answer_of (what setting (state_in worlds)) ≡ Err e → EndsWith (answers_in setting projects worlds) question e
 
-known_where : {A B : Type 0} (view : A → B) (what : What Kept B) (projects : List Place) (worlds : Worlds) (host : ℕ) (from to : Outside) (result : Result A EvalFault) (question : Question)
-    → IfSome from.disk IsConsistent → IsAnswerOf what projects worlds question → Evaluates view what worlds from to result → IfErr result (CanEndWith (held projects worlds host from))
-known_where view what projects worlds host from to (Ok a) question consistent asks does = tt
-known_where view what projects worlds host from to (Err e) question consistent asks does = record { whole = does.whole; refused = go from.disk refl consistent }
+ends_where : {A B : Type 0} (view : A → B) (what : What Kept B) (projects : List Place) (worlds : Worlds) (host : ℕ) (from to : Outside) (result : Result A EvalFault) (question : Question)
+    → IfSome from.disk IsConsistent → IsAnswerOf what projects worlds question → Evaluates view what worlds from to result → IfErr result (EndsQuestion (held projects worlds host from) question)
+ends_where view what projects worlds host from to (Ok a) question consistent asks does = tt
+ends_where view what projects worlds host from to (Err e) question consistent asks does = record { whole = does.whole; refused = go from.disk refl consistent }
   where
-    go : (disk : Option Disk) → from.disk ≡ disk → IfSome disk IsConsistent → IfSome disk (λ d. is_some (refused_by e) ≡ true → IsRefusedIn projects worlds d e)
+    go : (disk : Option Disk) → from.disk ≡ disk → IfSome disk IsConsistent → IfSome disk (λ d. is_some (refused_by e) ≡ true → IsRefused projects worlds d question e)
     go None visible one_each = tt
     go (Some disk) visible one_each = λ is.
         let pattern = some_if (refused_by e) is in
         let found = does.refused disk visible one_each pattern.0 pattern.1 in
-        record { question = question; left = found.0; pattern = pattern.0; names = pattern.1; ends = asks (refusing disk found.0 pattern.0) e found.1 }
+        record { left = found.0; pattern = pattern.0; names = pattern.1; ends = asks (refusing disk found.0 pattern.0) e found.1 }
 
-pub known_returned : (projects : List Place) (worlds : Worlds) (host : ℕ) (from to : Outside) (project : ℕ) (place : Place) (name : Text) (line : ℕ) (properties : List Text) (result : Result Value EvalFault)
+-- where there is no such project, nothing is returned
+pub asks_nothing : (projects : List Place) (worlds : Worlds) (host : ℕ) (o : Outside) (project : ℕ) (name : Text) (line : ℕ) (properties list : List Text) → list ≡ [] → slice_get projects project ≡ None
+    → Asks texts (λ a. a.returned project name line properties) (OfRule project name line properties) projects worlds host o o (Ok list)
+asks_nothing projects worlds host o project name line properties list empty none = record { told = told o.disk; ends = tt; counted = refl; disk = refl; children = refl }
+  where
+    told : (disk : Option Disk) → IsTold is_host_fault is_out_of_memory texts (λ a. a.returned project name line properties) (told_in projects worlds disk) (Ok list)
+    told None = tt
+    told (Some disk) = ap (λ p. answer_of (returned_of (setting_of disk) p name line properties (state_in worlds))) none ∙ ap (λ l. Ok l) (sym empty)
+
+pub asks_returned : (projects : List Place) (worlds : Worlds) (host : ℕ) (from to : Outside) (project : ℕ) (place : Place) (name : Text) (line : ℕ) (properties : List Text) (result : Result Value EvalFault)
     → slice_get projects project ≡ Some place → IfSome from.disk IsConsistent → Evaluates texts (returned_at place name line properties) worlds from to result
-    → IfErr result (CanEndWith (held projects worlds host from))
-known_returned projects worlds host from to project place name line properties result is consistent does =
-    known_where texts (returned_at place name line properties) projects worlds host from to result (of_rule project name line properties) consistent
-    (λ setting e found. ap (λ p. answer_of (returned_of setting p name line properties (state_in worlds))) is ∙ found) does
+    → Asks texts (λ a. a.returned project name line properties) (OfRule project name line properties) projects worlds host from to result
+asks_returned projects worlds host from to project place name line properties result is consistent does = record {
+  told = told_where texts (returned_at place name line properties) projects worlds from to result (λ a. a.returned project name line properties) consistent
+      (λ disk. ap (λ p. answer_of (returned_of (setting_of disk) p name line properties (state_in worlds))) is) does;
+  ends = ends_where texts (returned_at place name line properties) projects worlds host from to result (OfRule project name line properties) consistent
+      (λ setting e found. ap (λ p. answer_of (returned_of setting p name line properties (state_in worlds))) is ∙ found) does;
+  counted = does.counted;
+  disk = does.disk;
+  children = does.children;
+}
 
-pub known_text : (projects : List Place) (worlds : Worlds) (host : ℕ) (from to : Outside) (job : StepJob) (result : Result StepText EvalFault)
-    → IfSome from.disk IsConsistent → Evaluates step_answer (step_text_at (job_of job)) worlds from to result → IfErr result (CanEndWith (held projects worlds host from))
-known_text projects worlds host from to job result consistent does =
-    known_where step_answer (step_text_at (job_of job)) projects worlds host from to result (of_step (job_of job)) consistent (λ setting e found. found) does
-
--- the same is told after it, and the same is kept
-pub same_told : (projects : List Place) (before after : Worlds) (old new : Option Disk) → after ≡ before → new ≡ old → told_in projects after new ≡ told_in projects before old
-same_told projects before after old new worlds disk = ap (λ ws. told_in projects ws new) worlds ∙ ap (told_in projects before) disk
-
-pub same_held : (projects : List Place) (before after : Worlds) (host name : ℕ) (old new : Option Disk) (family children : Family) → after ≡ before → name ≡ host → new ≡ old → children ≡ family
-    → (let h : Held = record { projects = projects; worlds = after; host = name; disk = new; children = children } in h) ≡ record { projects = projects; worlds = before; host = host; disk = old; children = family }
-same_held projects before after host name old new family children worlds same disk running =
-    ap (λ ws. let h : Held = record { projects = projects; worlds = ws; host = name; disk = new; children = children } in h) worlds
-    ∙ ap (λ n. let h : Held = record { projects = projects; worlds = before; host = n; disk = new; children = children } in h) same
-    ∙ ap (λ d. let h : Held = record { projects = projects; worlds = before; host = host; disk = d; children = children } in h) disk
-    ∙ ap (λ f. let h : Held = record { projects = projects; worlds = before; host = host; disk = old; children = f } in h) running
+pub asks_text : (projects : List Place) (worlds : Worlds) (host : ℕ) (from to : Outside) (job : StepJob) (result : Result StepText EvalFault)
+    → IfSome from.disk IsConsistent → Evaluates step_answer (step_text_at (job_of job)) worlds from to result
+    → Asks step_answer (λ a. a.step_text (job_of job)) (OfStep job) projects worlds host from to result
+asks_text projects worlds host from to job result consistent does = record {
+  told = told_where step_answer (step_text_at (job_of job)) projects worlds from to result (λ a. a.step_text (job_of job)) consistent (λ disk. refl) does;
+  ends = ends_where step_answer (step_text_at (job_of job)) projects worlds host from to result (OfStep job) consistent (λ setting e found. found) does;
+  counted = does.counted;
+  disk = does.disk;
+  children = does.children;
+}

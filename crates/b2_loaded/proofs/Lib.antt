@@ -1,2 +1,3 @@
 pub mod NamesHold
 pub mod EvalSteps
+pub mod QuestionSteps

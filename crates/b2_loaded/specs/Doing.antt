@@ -39,8 +39,8 @@ abbrev pub IsAnswered : {A B : Type 0} → (A → B) → What Kept B → Worlds 
 IsAnswered view what worlds disk result = Agrees is_host_fault is_out_of_memory view (answer_of (what (setting_of disk) (state_in worlds))) result
 
 -- a fault that is a pattern which was refused: evaluation ends with it, where a call has this pattern and it is refused
-abbrev pub IsRefused : {B : Type 0} → What Kept B → Worlds → Disk → EvalFault → Type 0
-IsRefused what worlds disk fault =
+abbrev pub EndsWithRefusal : {B : Type 0} → What Kept B → Worlds → Disk → EvalFault → Type 0
+EndsWithRefusal what worlds disk fault =
     (pattern : Text) → refused_by fault ≡ Some pattern → (left : ℕ) × (answer_of (what (refusing disk left pattern) (state_in worlds)) ≡ Err fault)
 
 -- An evaluation that begins in these worlds: where the files are visible, its answer is the one that is told, also where a pattern
@@ -48,7 +48,7 @@ IsRefused what worlds disk fault =
 pub record Evaluates {A B : Type 0} (view : A → B) (what : What Kept B) (worlds : Worlds) (before after : Outside)
     (result : Result A EvalFault) : Type 0 where
   pub told : (disk : Disk) → before.disk ≡ Some disk → IsConsistent disk → IsAnswered view what worlds disk result
-  pub refused : (disk : Disk) → before.disk ≡ Some disk → IsConsistent disk → IfErr result (IsRefused what worlds disk)
+  pub refused : (disk : Disk) → before.disk ≡ Some disk → IsConsistent disk → IfErr result (EndsWithRefusal what worlds disk)
   pub disk : after.disk ≡ before.disk
   pub children : after.children ≡ before.children
   pub keeps : Keeps before after

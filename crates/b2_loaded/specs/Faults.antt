@@ -1,12 +1,12 @@
 -- The faults of an evaluation, as the code has them.
-use Rattle.std.specs.Prelude.{Bool, true, false, is_some, Result, Ok, Err}
+use Rattle.std.specs.Prelude.{Bool, true, false, is_some, Result, Ok, Err, if◌then◌else◌}
 use Rattle.jam_eval.specs.Faults.{Cause, unknown_rule, arity, turns, depth, expand, exit, native, include, lex, syntax_at, too_big, Fault, refused_in}
 use Rattle.jam_eval.specs.Outcomes.{Outcome, gives, faults}
 use Rattle.jam_effects.specs.declared.fault.EvalCause.{EvalCause}
 use Rattle.jam_effects.specs.declared.fault.EvalCause.TheVariants as causes
 use Rattle.jam_effects.specs.declared.fault.EvalFault.{EvalFault}
 use Rattle.jam_effects.specs.declared.fault.EvalFault.TheVariants as evaluating
-use Rattle.jam_effects.specs.Causes.{cause_of}
+use Rattle.jam_effects.specs.Causes.{cause_of, refused_by}
 
 -- ---- what is defined, as an answer
 
@@ -43,3 +43,19 @@ abbrev pub is_out_of_memory : EvalFault → Bool
 is_out_of_memory evaluating.Host = false
 is_out_of_memory evaluating.OutOfMemory = true
 is_out_of_memory (evaluating.At path line why) = is_some (refused_in (cause_of why))
+
+-- ---- the same where a pattern that was refused is an answer like any other
+
+abbrev pub is_host : EvalFault → Bool
+is_host evaluating.Host = true
+is_host evaluating.OutOfMemory = false
+is_host (evaluating.At path line why) = false
+
+abbrev pub is_memory : EvalFault → Bool
+is_memory evaluating.Host = false
+is_memory evaluating.OutOfMemory = true
+is_memory (evaluating.At path line why) = false
+
+-- out of memory in place of a pattern that was refused
+abbrev pub unless_refused : EvalFault → EvalFault
+unless_refused fault = if is_some (refused_by fault) then evaluating.OutOfMemory else fault

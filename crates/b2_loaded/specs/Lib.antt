@@ -7,4 +7,5 @@ pub mod Worlds
 pub mod Questions
 pub mod Held
 pub mod Doing
+pub mod Asking
 pub mod Laws

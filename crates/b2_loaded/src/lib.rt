@@ -7,3 +7,6 @@ pub mod laws;
 pub mod lent;
 pub mod loaded_world;
 pub mod own_text;
+pub mod question;
+pub mod refused;
+pub mod refusing;

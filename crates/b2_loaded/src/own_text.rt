@@ -5,6 +5,9 @@ ghost use Rattle.std.specs.Option.{option_copied};
 use crate::entry::Entry;
 use crate::lent::Lent;
 use crate::loaded_world::LoadedWorld;
+use crate::question::Question;
+use crate::refused::is_refused;
+use b2_base::fault::OutOfMemory;
 use b2_base::text::Text;
 use b2_base::text_list::TextList;
 use b2_evaluation::evaluate::Evaluate;
@@ -25,21 +28,28 @@ fn project_at(projects: &[Place], place: usize) -> Option<&Place>
 /// The own text of a loaded project, evaluated in the world that loading left, over files that are lent. Each evaluation has
 /// 100,000 turns of its own; what it echoes is not kept.
 ///
-/// Where the files are visible, each answer is the one that evaluation gives (`told_in`), and of a pattern that was refused although
-/// it reads as one it is told in which question, and in which of its calls (`IsRefusedIn`). A project is named by its place; where
-/// none is there, nothing is returned. A name that the project sees no rule of is `UnknownRule`. This, and any other fault of a
-/// rule's call that occurs while no statement runs, stands at the project's file and the line that was given.
+/// Where the files are visible, each answer is the one that evaluation gives (`told_in`), unless a call of the host failed, memory ran
+/// out, or a pattern was refused although it reads as one. The newest question with such a pattern is kept, so that it can be asked
+/// again by itself.
+///
+/// A project is named by its place; where none is there, nothing is returned. A name that the project sees no rule of is
+/// `UnknownRule`. This, and any other fault of a rule's call that occurs while no statement runs, stands at the project's file and the
+/// line that was given.
 #[derive(Drop)]
 pub struct OwnText<'a, F: Files, S: Entry> {
     alloc: Global,
     pub projects: &'a [Place],
     pub loaded: LoadedWorld,
     pub host: Lent<'a, F, S>,
+    refused: Option<Question>,
 }
 
 impl<'a, F: Files, S: Entry> OwnText<'a, F, S> {
-    ghost use Rattle.std.specs.Prelude.{◌≡◌, is_some, false};
+    ghost use Rattle.std.specs.Prelude.{◌≡◌, is_some, false, IfErr};
     ghost use Rattle.b2_host.specs.OutsideLaws.{Keeps};
+    ghost use Rattle.b2_evaluation.specs.Answers.{IsCounted};
+    ghost use Rattle.b2_loaded.specs.Asking.{AsksRule, AsksStep, EndsOn};
+    ghost use Rattle.b2_loaded.specs.Faults.{is_host_fault, is_out_of_memory};
 
     /// The own text of these projects, whose files left a world in which no step is open. The host is what `S` says.
     pub fn new(
@@ -60,7 +70,88 @@ impl<'a, F: Files, S: Entry> OwnText<'a, F, S> {
             projects,
             loaded: LoadedWorld { world },
             host: Lent::new(files),
+            refused: None,
         }
+    }
+
+    /// What a rule of the project at a place returns for properties.
+    fn value_of(
+        &mut self,
+        place: usize,
+        rule: &Text,
+        line: u32,
+        texts: &[Text],
+    ) -> Result<TextList, EvalFault>
+        ensures asks { AsksRule F.outside place rule.now line texts.now self.old.projects.now self.old.loaded.world self.old.host.files self.new.host.files result }
+        ensures projects { self.new.projects.now ≡ self.old.projects.now }
+        ensures world { self.new.loaded.world ≡ self.old.loaded.world }
+        ensures same_reference { self.new.host.files.ghost_name ≡ self.old.host.files.ghost_name }
+    {
+        let Some(project) = project_at(self.projects, place) else {
+            return Ok(TextList::new(self.alloc));
+        };
+        let loaded = &mut self.loaded;
+        self.host
+            .returned(self.alloc, loaded, project, rule, line, texts)
+    }
+
+    /// The text of a step.
+    fn text_of(&mut self, job: &StepJob) -> Result<StepText, EvalFault>
+        ensures asks { AsksStep F.outside job.now self.old.projects.now self.old.loaded.world self.old.host.files self.new.host.files result }
+        ensures projects { self.new.projects.now ≡ self.old.projects.now }
+        ensures world { self.new.loaded.world ≡ self.old.loaded.world }
+        ensures same_reference { self.new.host.files.ghost_name ≡ self.old.host.files.ghost_name }
+    {
+        let loaded = &mut self.loaded;
+        self.host.text_of(self.alloc, loaded, job)
+    }
+
+    /// Keeps a question in which a pattern was refused; none where no memory was left to copy it.
+    fn keep(&mut self, question: Result<Question, OutOfMemory>)
+        ensures projects { self.new.projects.now ≡ self.old.projects.now }
+        ensures world { self.new.loaded.world ≡ self.old.loaded.world }
+        ensures same_reference { self.new.host.files.ghost_name ≡ self.old.host.files.ghost_name }
+        ensures files { self.new.host.files.now ≡ self.old.host.files.now }
+    {
+        self.refused = question.ok();
+    }
+
+    /// Takes the newest question in which a pattern was refused although it reads as one; none where there was none since the last
+    /// call, or no memory was left to copy it.
+    pub fn take_refused(&mut self) -> Option<Question>
+        ensures projects { self.new.projects.now ≡ self.old.projects.now }
+        ensures world { self.new.loaded.world ≡ self.old.loaded.world }
+        ensures same_reference { self.new.host.files.ghost_name ≡ self.old.host.files.ghost_name }
+        ensures files { self.new.host.files.now ≡ self.old.host.files.now }
+    {
+        self.refused.take()
+    }
+
+    /// Asks a question by itself, and tells the fault that it ends with. Its answer is let go, and where a pattern is refused, the
+    /// question is not kept.
+    pub fn ask(&mut self, question: &Question) -> Result<(), EvalFault>
+        ensures refused { IfErr result (EndsOn F.outside question.now self.old.projects.now self.old.loaded.world self.old.host.files) }
+        ensures counted { IsCounted is_host_fault is_out_of_memory (F.outside self.old.host.files.now).faults (F.outside self.new.host.files.now).faults result }
+        ensures disk { (F.outside self.new.host.files.now).disk ≡ (F.outside self.old.host.files.now).disk }
+        ensures children { (F.outside self.new.host.files.now).children ≡ (F.outside self.old.host.files.now).children }
+        ensures projects { self.new.projects.now ≡ self.old.projects.now }
+        ensures world { self.new.loaded.world ≡ self.old.loaded.world }
+        ensures same_reference { self.new.host.files.ghost_name ≡ self.old.host.files.ghost_name }
+    {
+        match question {
+            Question::OfRule {
+                project,
+                rule,
+                line,
+                properties,
+            } => {
+                self.value_of(*project, rule, *line, properties.as_slice())?;
+            }
+            Question::OfStep(job) => {
+                self.text_of(job)?;
+            }
+        }
+        Ok(())
     }
 
     /// Gives the host back. Its files and child processes are as they were at first, and no count of its failures fell.
@@ -76,6 +167,7 @@ impl<'a, F: Files, S: Entry> OwnText<'a, F, S> {
             projects: _projects,
             loaded,
             host,
+            refused: _refused,
         } = self;
         loaded.let_go();
         host.into_files()
@@ -110,16 +202,28 @@ impl<'a, F: Files, S: Entry> Evaluate for OwnText<'a, F, S> {
         line: u32,
         properties: &[Text],
     ) -> Result<TextList, EvalFault> {
-        let Some(project) = project_at(self.projects, project) else {
-            return Ok(TextList::new(self.alloc));
-        };
-        let loaded = &mut self.loaded;
-        self.host
-            .returned(self.alloc, loaded, project, rule, line, properties)
+        match self.value_of(project, rule, line, properties) {
+            Ok(value) => Ok(value),
+            Err(fault) => {
+                if !is_refused(&fault) {
+                    return Err(fault);
+                }
+                self.keep(Question::of_rule(self.alloc, project, rule, line, properties));
+                Err(fault)
+            }
+        }
     }
 
     fn step_text(&mut self, job: &StepJob) -> Result<StepText, EvalFault> {
-        let loaded = &mut self.loaded;
-        self.host.text_of(self.alloc, loaded, job)
+        match self.text_of(job) {
+            Ok(text) => Ok(text),
+            Err(fault) => {
+                if !is_refused(&fault) {
+                    return Err(fault);
+                }
+                self.keep(Question::of_step(self.alloc, job));
+                Err(fault)
+            }
+        }
     }
 }

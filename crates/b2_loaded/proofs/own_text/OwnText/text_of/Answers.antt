@@ -1,0 +1,7 @@
+use Rattle.b2_loaded.proofs.EvalSteps.{asks_text}
+use Rattle.b2_loaded.proofs.own_text.OwnText.text_of.Goals as goal
+
+pub returns-clause-asks : goal.returns-clause-asks
+returns-clause-asks g c =
+    asks_text c.args.self.now.projects.now c.args.self.now.loaded.world c.args.self.now.host.files.ghost_name (g.F.Files.outside c.args.self.now.host.files.now) (g.F.Files.outside c.text_of.new.self.files.now) c.args.job.now c.text_of.result
+    (g.met.F.Files.consistent c.args.self.now.host.files.now) c.text_of.ensures.does

@@ -1,0 +1,43 @@
+-- What comes of a question that is asked.
+use Rattle.std.specs.Borrow.{MutBor}
+use Rattle.std.specs.Prelude.{◌≡◌, ℕ, List, Result, IfErr}
+use Rattle.b2_host.specs.Outside.{Outside}
+use Rattle.b2_evaluation.specs.Answers.{Answers, IsTold, IsCounted}
+use Rattle.b2_metatargets.specs.declared.place.Place.{Place}
+use Rattle.jam_journal.specs.Tables.{Text}
+use Rattle.jam_scope.specs.Worlds.{Worlds}
+use Rattle.jam_eval.specs.StepJobs.{job_of, step_answer}
+use Rattle.jam_eval.specs.declared.step.StepJob.{StepJob}
+use Rattle.jam_eval.specs.declared.step.StepText.{StepText}
+use Rattle.jam_effects.specs.declared.fault.EvalFault.{EvalFault}
+use Rattle.b2_loaded.specs.declared.question.Question.{Question}
+use Rattle.b2_loaded.specs.declared.question.Question.TheVariants.{OfRule, OfStep}
+use Rattle.b2_loaded.specs.Doing.{texts}
+use Rattle.b2_loaded.specs.Faults.{is_host_fault, is_out_of_memory}
+use Rattle.b2_loaded.specs.Held.{held, EndsQuestion}
+use Rattle.b2_loaded.specs.Worlds.{told_in}
+
+-- A question is asked of these projects in these worlds: its answer is the one that is told, a fault is one that it ends with, the files
+-- and the child processes are as before, and the count of faults says whether the host failed.
+pub record Asks {A B : Type 0} (view : A → B) (asked : Answers EvalFault → Result B EvalFault) (question : Question)
+    (projects : List Place) (worlds : Worlds) (host : ℕ) (before after : Outside) (result : Result A EvalFault) : Type 0 where
+  pub told : IsTold is_host_fault is_out_of_memory view asked (told_in projects worlds before.disk) result
+  pub ends : IfErr result (EndsQuestion (held projects worlds host before) question)
+  pub counted : IsCounted is_host_fault is_out_of_memory before.faults after.faults result
+  pub disk : after.disk ≡ before.disk
+  pub children : after.children ≡ before.children
+
+-- a rule of a project is asked for, by what the files say of themselves
+abbrev pub AsksRule : {F : Type 0} → (F → Outside) → ℕ → Text → ℕ → List Text → List Place → Worlds → MutBor F → MutBor F → Result (List Text) EvalFault → Type 0
+AsksRule outside project rule line properties projects worlds files later =
+    Asks texts (λ a. a.returned project rule line properties) (OfRule project rule line properties) projects worlds files.ghost_name
+    (outside files.now) (outside later.now)
+
+-- the text of a step is asked for
+abbrev pub AsksStep : {F : Type 0} → (F → Outside) → StepJob → List Place → Worlds → MutBor F → MutBor F → Result StepText EvalFault → Type 0
+AsksStep outside job projects worlds files later =
+    Asks step_answer (λ a. a.step_text (job_of job)) (OfStep job) projects worlds files.ghost_name (outside files.now) (outside later.now)
+
+-- a question ends with a fault
+abbrev pub EndsOn : {F : Type 0} → (F → Outside) → Question → List Place → Worlds → MutBor F → EvalFault → Type 0
+EndsOn outside question projects worlds files fault = EndsQuestion (held projects worlds files.ghost_name (outside files.now)) question fault

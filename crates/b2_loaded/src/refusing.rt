@@ -1,0 +1,96 @@
+//! A loaded project's own text, of which one question is refused.
+ghost use Rattle.std.specs.Prelude.{◌≡◌, true, is_some};
+ghost use Rattle.jam_effects.specs.Causes.{refused_by};
+
+use crate::entry::Entry;
+use crate::own_text::OwnText;
+use crate::question::Question;
+use crate::refused::{copy_refused, unless_refused};
+use b2_base::text::Text;
+use b2_base::text_list::TextList;
+use b2_evaluation::evaluate::Evaluate;
+use b2_host::files::Files;
+use jam_effects::fault::EvalFault;
+use jam_eval::step::{StepJob, StepText};
+
+/// The own text of a loaded project, of which one question ends with a fault that is known beforehand: a pattern that is refused
+/// although it reads as one. Where no memory is left to copy that fault, it is out of memory. All other questions are evaluated; where
+/// a pattern is refused in one of these, the answer is out of memory.
+#[derive(Drop)]
+pub struct Refusing<'a, F: Files, S: Entry> {
+    pub own: OwnText<'a, F, S>,
+    pub question: Question,
+    pub fault: EvalFault,
+    ghost refused: { is_some (refused_by fault) ≡ true },
+}
+
+impl<'a, F: Files, S: Entry> Refusing<'a, F, S> {
+    ghost use Rattle.b2_host.specs.OutsideLaws.{Keeps};
+
+    /// Gives the host back. Its files and child processes are as they were at first, and no count of its failures fell.
+    pub fn into_files(self) -> &'a mut F
+        ensures same_reference { result.ghost_name ≡ self.entry.own.host.files.ghost_name }
+        ensures files { result.now ≡ self.entry.own.host.files.now }
+        ensures disk { (F.outside result.now).disk ≡ S.outside.disk }
+        ensures children { (F.outside result.now).children ≡ S.outside.children }
+        ensures keeps { Keeps S.outside (F.outside result.now) }
+    {
+        let Refusing {
+            own,
+            question: _question,
+            fault,
+        } = self;
+        drop(fault);
+        own.into_files()
+    }
+}
+
+impl<'a, F: Files, S: Entry> Evaluate for Refusing<'a, F, S> {
+    ghost use Rattle.std.specs.Option.{option_map};
+    ghost use Rattle.b2_loaded.specs.Faults.{is_host, is_memory};
+    ghost use Rattle.b2_loaded.specs.Held.{Given, CanEndWithGiven, given, held};
+    ghost use Rattle.b2_loaded.specs.Questions.{with_fault};
+    ghost use Rattle.b2_loaded.specs.Worlds.{told_in};
+
+    type Fault = EvalFault;
+
+    ghost answers = { λ r. option_map (with_fault r.question r.fault) (told_in r.own.projects.now r.own.loaded.world (F.outside r.own.host.files.now).disk) };
+
+    ghost Kept = { Given };
+
+    ghost kept = { λ r. given (held r.own.projects.now r.own.loaded.world r.own.host.files.ghost_name (F.outside r.own.host.files.now)) r.fault };
+
+    ghost faults = { λ r. (F.outside r.own.host.files.now).faults };
+
+    ghost is_host_fault = { is_host };
+
+    ghost is_out_of_memory = { is_memory };
+
+    ghost CanFault = { CanEndWithGiven };
+
+    fn returned(
+        &mut self,
+        project: usize,
+        rule: &Text,
+        line: u32,
+        properties: &[Text],
+    ) -> Result<TextList, EvalFault> {
+        if self.question.is_rule(project, rule, line, properties) {
+            return Err(copy_refused(&self.fault));
+        }
+        match self.own.returned(project, rule, line, properties) {
+            Ok(value) => Ok(value),
+            Err(fault) => Err(unless_refused(fault)),
+        }
+    }
+
+    fn step_text(&mut self, job: &StepJob) -> Result<StepText, EvalFault> {
+        if self.question.is_step(job) {
+            return Err(copy_refused(&self.fault));
+        }
+        match self.own.step_text(job) {
+            Ok(text) => Ok(text),
+            Err(fault) => Err(unless_refused(fault)),
+        }
+    }
+}
