@@ -28,7 +28,8 @@ pub record Asks {A B : Type 0} (view : A → B) (asked : Answers EvalFault → R
   pub children : after.children ≡ before.children
 
 -- a rule of a project is asked for, by what the files say of themselves
-abbrev pub AsksRule : {F : Type 0} → (F → Outside) → ℕ → Text → ℕ → List Text → List Place → Worlds → MutBor F → MutBor F → Result (List Text) EvalFault → Type 0
+abbrev pub AsksRule : {F : Type 0} → (F → Outside) → ℕ → Text → ℕ → List Text → List Place → Worlds → MutBor F → MutBor F
+    → Result (List Text) EvalFault → Type 0
 AsksRule outside project rule line properties projects worlds files later =
     Asks texts (λ a. a.returned project rule line properties) (OfRule project rule line properties) projects worlds files.ghost_name
     (outside files.now) (outside later.now)
