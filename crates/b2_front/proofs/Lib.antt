@@ -1,5 +1,6 @@
 mod TellLemmas
 mod StopLemmas
+mod AgainLemmas
 mod PlanLemmas
 mod OverLemmas
 mod LoadLemmas

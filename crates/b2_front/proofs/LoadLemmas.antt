@@ -1,10 +1,10 @@
 -- A load, and what comes of it.
-use Rattle.std.proofs.Common.{◌≡◌, ℕ, is_some, false, Option, Some, None, List, Result, Ok, Err, refl, sym, ap, ◌∙◌, subst, arith}
+use Rattle.std.proofs.Common.{◌≡◌, ℕ, is_some, false, Option, Some, None, List, Result, Ok, Err, refl, sym, ap, ◌∙◌, subst}
 use Rattle.std.specs.Prelude.{IfOk, IfErr}
 use Rattle.std.specs.Option.{IfSome, option_map}
 use Rattle.b2_host.specs.Disks.{Disk, IsConsistent}
 use Rattle.b2_host.specs.Outside.{Outside}
-use Rattle.b2_host.specs.OutsideLaws.{Keeps, keeps_then, then_rose}
+use Rattle.b2_host.specs.OutsideLaws.{Keeps, keeps_then}
 use Rattle.jam_journal.specs.Tables.{Text}
 use Rattle.jam_scope.specs.Worlds.{Worlds}
 use Rattle.jam_eval.specs.Refused.{Refuses}
@@ -12,9 +12,7 @@ use Rattle.jam_effects.specs.declared.fault.EvalFault.{EvalFault}
 use Rattle.jam_effects.specs.declared.turns.Turns.{Turns}
 use Rattle.jam_effects.specs.Machines.{folder_of}
 use Rattle.b2_plan.specs.Plans.{Apart}
-use Rattle.b2_props.specs.Requests.{request_fault}
 use Rattle.b2_metatargets.specs.declared.whole.Declared.{Declared}
-use Rattle.b2_loaded.specs.Questions.{IsRefusedIn}
 use Rattle.b2_walk.specs.declared.fault.LoadFault.{LoadFault}
 use Rattle.b2_walk.specs.Faults.{refusal_of as load_refusal, refused_by, IsWhole as IsWholeLoad}
 use Rattle.b2_walk.specs.Finding.{CountsFault as CountsLoad, Counts as CountsLoaded}
@@ -27,7 +25,6 @@ use Rattle.b2_generate.specs.declared.planned.Planned.{Planned as Made}
 use Rattle.b2_generate.specs.Loaded.{Loaded}
 use Rattle.b2_generate.specs.Planning.{Planned}
 use Rattle.b2_front.specs.declared.refusal.Stop.{Stop}
-use Rattle.b2_front.specs.declared.refusal.Stop.TheVariants as stops
 use Rattle.b2_front.specs.Meaning.{Refusal, of_load, of_request, of_generation, load_turns, load_setting, project_of, Means}
 use Rattle.b2_front.specs.Meaning.{IsRefusedInGeneration, not_loaded, not_asked, not_planned, planned}
 use Rattle.b2_front.specs.Refusals.{stop_of_load}
@@ -35,6 +32,7 @@ use Rattle.b2_front.specs.Preparing.{IfRefusal, Tells, call_of, IsPrepared, IsWh
 use Rattle.b2_front.specs.Parts.{IsReady, IsAsked, IsRefusedFor, GoesOn}
 use Rattle.b2_front.proofs.TellLemmas.{load_told, tells_map}
 use Rattle.b2_front.proofs.StopLemmas.{load_whole, load_counts}
+use Rattle.b2_front.proofs.AgainLemmas.{counts_then}
 use Rattle.b2_front.proofs.SettingLemmas.{right}
 
 -- the call of a pattern is what was refused
@@ -68,16 +66,9 @@ module _ (disk : Disk) (words lines : List Text) where
       (IsRefusedInGeneration disk words lines) Comes refused follows result told
     where
       refused : (fault : EvalFault) → IsRefusedFor words project.declared project.world disk fault → IsRefusedInGeneration disk words lines fault
-      refused fault h = record {
-        walk = w;
-        found = found;
-        loads = loads;
-        asked = subst (λ (d : Declared). request_fault d.registry words ≡ None) is.declared h.0;
-        refused =
-            subst (λ (d : Declared). IsRefusedIn d.places w.state.worlds disk fault) is.declared
-            (subst (λ (v : Worlds). IsRefusedIn project.declared.places v disk fault) is.world h.1);
-        echoes = echoes;
-      }
+      refused fault h =
+          let is_for = subst (λ (d : Declared). IsRefusedFor words d w.state.worlds disk fault) is.declared (subst (λ (v : Worlds). IsRefusedFor words project.declared v disk fault) is.world h) in
+          record { walk = w; found = found; loads = loads; asked = is_for.0; refuses = is_for.1; echoes = echoes }
 
       follows : (pattern : Option Text) (outcome : Result Planned Refusal) → (pattern ≡ None) × IsAsked (project_of disk project.world project.declared) words outcome → Comes pattern outcome
       follows pattern outcome h = (
@@ -148,13 +139,6 @@ module _ (words : List Text) (mid to : Outside) where
   pub children_prepared : (ended : Result Project LoadFault) (result : Result Made Stop) → GoesOn words ended mid to result → to.children ≡ mid.children
   children_prepared (Ok project) result goes = goes.children
   children_prepared (Err fault) result goes = ap (λ (o : Outside). o.children) goes.1
-
--- the count of faults was as before, and then it counted
-counts_then : (from mid to : Outside) → mid.faults ≡ from.faults → (result : Result Made Stop) → Counts result mid to → Counts result from to
-counts_then from mid to same (Ok made) h = h ∙ same
-counts_then from mid to same (Err (stops.Refused why)) h = h ∙ same
-counts_then from mid to same (Err stops.Host) h = then_rose from.faults mid.faults to.faults (omega (arith, same)) h
-counts_then from mid to same (Err stops.OutOfMemory) h = tt
 
 pub counts_prepared : (words : List Text) (from mid to : Outside) (ended : Result Project LoadFault) → CountsLoaded ended from mid → (result : Result Made Stop) → GoesOn words ended mid to result → Counts result from to
 counts_prepared words from mid to (Ok project) counts result goes = counts_then from mid to counts result goes.counts

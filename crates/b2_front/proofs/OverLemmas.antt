@@ -1,6 +1,6 @@
 -- The plan of a request by the own text of a loaded project, over a host that is lent.
 use Rattle.std.proofs.Common.{◌≡◌, ◌++◌, List, codes, ℕ, Some, Result, Ok, Err, refl, sym, ◌∙◌, subst, arith}
-use Rattle.std.specs.Prelude.{IfOk, IfErr}
+use Rattle.std.specs.Prelude.{IfOk}
 use Rattle.std.specs.List.{Contains}
 use Rattle.b2_host.specs.Outside.{Outside}
 use Rattle.jam_journal.specs.Tables.{Text}
@@ -14,9 +14,8 @@ use Rattle.b2_evaluation.specs.Answers.{Answers, IsCounted}
 use Rattle.b2_generate.specs.declared.fault.GenFault.{GenFault}
 use Rattle.b2_generate.specs.declared.planned.Planned.{Planned as Made}
 use Rattle.b2_generate.specs.Plans.{IsPlanned}
-use Rattle.b2_generate.specs.Told.{loaded_of, is_eval, is_memory, IsKnown}
+use Rattle.b2_generate.specs.Told.{loaded_of, is_eval, is_memory}
 use Rattle.b2_loaded.specs.Faults.{is_host_fault, is_out_of_memory}
-use Rattle.b2_loaded.specs.Held.{held, CanEndWith}
 use Rattle.b2_loaded.specs.Worlds.{told_in}
 
 -- the first output root is `bin`
@@ -44,11 +43,3 @@ pub counted_own : (from to start end : Outside) (result : Result Made (GenFault 
 counted_own from to start end result start_is end_is counted =
     subst (λ (o : Outside). IsCounted (is_eval is_host_fault) (is_memory is_out_of_memory) o.faults to.faults result) start_is
     (subst (λ (o : Outside). IsCounted (is_eval is_host_fault) (is_memory is_out_of_memory) start.faults o.faults result) end_is counted)
-
--- what the own text promises of its faults is promised of the project
-pub known_own : (found : Declared) (worlds : Worlds) (from : Outside) (result : Result Made (GenFault EvalFault)) (projects : List Place) (own : Worlds) (host : ℕ) (start : Outside)
-    → projects ≡ found.places → own ≡ worlds → start ≡ from → IfErr result (IsKnown (CanEndWith (held projects own host start))) → IfErr result (IsKnown (CanEndWith (held found.places worlds host from)))
-known_own found worlds from result projects own host start places_are worlds_are start_is known =
-    subst (λ (ps : List Place). IfErr result (IsKnown (CanEndWith (held ps worlds host from)))) places_are
-    (subst (λ (w : Worlds). IfErr result (IsKnown (CanEndWith (held projects w host from)))) worlds_are
-    (subst (λ (o : Outside). IfErr result (IsKnown (CanEndWith (held projects own host o)))) start_is known))

@@ -1,5 +1,5 @@
 -- The plan of a request over a loaded project.
-use Rattle.std.proofs.Common.{◌≡◌, ℕ, Option, Some, None, List, Result, Ok, Err, refl, ap, subst}
+use Rattle.std.proofs.Common.{◌≡◌, ℕ, Bool, true, false, Option, Some, None, List, Result, Ok, Err, refl, sym, ap, ◌∙◌, subst}
 use Rattle.std.specs.Prelude.{IfOk, IfErr}
 use Rattle.std.specs.Option.{IfSome}
 use Rattle.b2_host.specs.Disks.{Disk}
@@ -17,25 +17,30 @@ use Rattle.b2_props.specs.Words.{IsBy, target_words}
 use Rattle.b2_props.specs.Requests.{request_fault, request_sets}
 use Rattle.b2_metatargets.specs.declared.whole.Declared.{Declared}
 use Rattle.b2_evaluation.specs.Answers.{Answers, IsCounted}
+use Rattle.b2_alternatives.specs.declared.fault.ChoiceFault.{ChoiceFault}
+use Rattle.b2_alternatives.specs.declared.fault.ChoiceFault.TheVariants as choosing
+use Rattle.b2_conversions.specs.declared.fault.MakingFault.{MakingFault}
+use Rattle.b2_conversions.specs.declared.fault.MakingFault.TheVariants as making
 use Rattle.b2_generate.specs.declared.fault.GenFault.{GenFault}
+use Rattle.b2_generate.specs.declared.fault.GenFault.TheVariants as generating
 use Rattle.b2_generate.specs.declared.planned.Planned.{Planned as Made}
 use Rattle.b2_generate.specs.Loaded.{Loaded}
 use Rattle.b2_generate.specs.Planning.{Planned}
 use Rattle.b2_generate.specs.Plans.{IsPlanned}
 use Rattle.b2_generate.specs.Told.{loaded_of, IsKnown, is_eval, is_memory}
 use Rattle.b2_loaded.specs.Faults.{is_host_fault, is_out_of_memory}
-use Rattle.b2_loaded.specs.Held.{held, CanEndWith}
-use Rattle.b2_loaded.specs.Questions.{IsRefusedIn}
 use Rattle.b2_loaded.specs.Seen.{setting_of}
 use Rattle.b2_loaded.specs.Worlds.{answers_in, told_in}
 use Rattle.b2_front.specs.declared.refusal.Stop.{Stop}
 use Rattle.b2_front.specs.declared.refusal.Stop.TheVariants as stops
-use Rattle.b2_front.specs.Meaning.{Refusal, of_load, of_request, of_generation, project_of}
+use Rattle.b2_front.specs.Meaning.{Refusal, of_load, of_request, of_generation, project_of, Refuses}
 use Rattle.b2_front.specs.Refusals.{stop_of_request}
 use Rattle.b2_front.specs.Preparing.{Tells, IsWhole, Counts}
 use Rattle.b2_front.specs.Parts.{planned_or_stop, IsGenerated, IsAsked, IsRefusedFor, Does, PlansRequest, Asks}
+use Rattle.b2_front.specs.Again.{is_refusal, is_refused, Settles, SettlesBy}
 use Rattle.b2_front.proofs.TellLemmas.{tells_map}
-use Rattle.b2_front.proofs.StopLemmas.{OfPattern, generation_known, generated_told, generated_whole, generated_counts, asked_told, asked_whole, asked_counts}
+use Rattle.b2_front.proofs.AgainLemmas.{not_so, first_same, retells_after}
+use Rattle.b2_front.proofs.StopLemmas.{OfPattern, generated_told, generated_whole, generated_counts, asked_told, asked_whole, asked_counts}
 
 -- ---- what is kept
 
@@ -61,45 +66,105 @@ no_memory Rest Told o = nothing_done Rest Told o stops.OutOfMemory (visible o.di
 
 -- ---- generation
 
-module _ (found : Declared) (worlds : Worlds) (host : ℕ) (request : Request) (roots : List (List ℕ)) (from to : Outside) (result : Result Made (GenFault EvalFault)) where
-  -- what is known of a fault over these files
-  refused_over : (disk : Disk) → from.disk ≡ Some disk → (fault : EvalFault) → CanEndWith (held found.places worlds host from) fault → OfPattern (IsRefusedIn found.places worlds disk) fault
-  refused_over disk visible fault known = subst (λ (d : Option Disk). IfSome d (λ now. OfPattern (IsRefusedIn found.places worlds now) fault)) visible known.refused
+-- nothing is to be known of a fault that is no refused pattern
+module _ (R : EvalFault → Type 0) where
+  no_choice : (fault : ChoiceFault EvalFault) → is_refusal (generating.NotChosen fault) ≡ false → IsKnown (OfPattern R) (generating.NotChosen fault)
+  no_choice (choosing.NoAlternative target set) e = tt
+  no_choice (choosing.AmbiguousAlternative target set i k) e = tt
+  no_choice (choosing.Unstable target first second) e = tt
+  no_choice (choosing.BadAnswer target rule word) e = tt
+  no_choice (choosing.Eval fault) e = λ is. not_so (sym e ∙ is)
+  no_choice choosing.OutOfMemory e = tt
 
-  told_over : ((told : Answers EvalFault) → told_in found.places worlds from.disk ≡ Some told → IsPlanned (loaded_of found roots told) is_host_fault is_out_of_memory request result)
-      → roots ≡ worlds.now.roots → IfErr result (IsKnown (CanEndWith (held found.places worlds host from)))
-      → IfSome from.disk (λ disk. Tells (IsRefusedIn found.places worlds disk) (λ pattern outcome. (pattern ≡ None) × IsGenerated (project_of disk worlds found) request.sets request.targets outcome) (planned_or_stop result))
-  told_over told same known = go from.disk refl
+  no_making : (fault : MakingFault EvalFault) → is_refusal (generating.NotMade fault) ≡ false → IsKnown (OfPattern R) (generating.NotMade fault)
+  no_making (making.NoChain source goal) e = tt
+  no_making (making.TwoChains source goal first second) e = tt
+  no_making (making.PathClash path) e = tt
+  no_making (making.LocationOutside path) e = tt
+  no_making (making.TooManySteps count) e = tt
+  no_making (making.Eval fault) e = λ is. not_so (sym e ∙ is)
+  no_making making.OutOfMemory e = tt
+
+  no_refusal : (generated : Result Made (GenFault EvalFault)) → is_refused generated ≡ false → IfErr generated (IsKnown (OfPattern R))
+  no_refusal (Ok made) e = tt
+  no_refusal (Err (generating.NoTarget name)) e = tt
+  no_refusal (Err (generating.TargetCycle targets)) e = tt
+  no_refusal (Err (generating.UsageConflict target feature first second)) e = tt
+  no_refusal (Err (generating.NotChosen fault)) e = no_choice fault e
+  no_refusal (Err (generating.NotMade fault)) e = no_making fault e
+  no_refusal (Err generating.OutOfMemory) e = tt
+
+module _ (found : Declared) (worlds : Worlds) (request : Request) (roots : List (List ℕ)) (from mid to : Outside) (generated : Result Made (GenFault EvalFault)) where
+  told_over : ((told : Answers EvalFault) → told_in found.places worlds from.disk ≡ Some told → IsPlanned (loaded_of found roots told) is_host_fault is_out_of_memory request generated)
+      → roots ≡ worlds.now.roots → is_refused generated ≡ false
+      → IfSome from.disk (λ disk. Tells (Refuses disk worlds found request.sets request.targets) (λ pattern outcome. (pattern ≡ None) × IsGenerated (project_of disk worlds found) request.sets request.targets outcome) (planned_or_stop generated))
+  told_over told same not_refused = go from.disk refl
     where
       go : (disk : Option Disk) → from.disk ≡ disk
-          → IfSome disk (λ d. Tells (IsRefusedIn found.places worlds d) (λ pattern outcome. (pattern ≡ None) × IsGenerated (project_of d worlds found) request.sets request.targets outcome) (planned_or_stop result))
+          → IfSome disk (λ d. Tells (Refuses d worlds found request.sets request.targets) (λ pattern outcome. (pattern ≡ None) × IsGenerated (project_of d worlds found) request.sets request.targets outcome) (planned_or_stop generated))
       go None e = tt
       go (Some d) e =
-          generated_told (IsRefusedIn found.places worlds d) (project_of d worlds found) request result
-          (subst (λ rs. IsPlanned (loaded_of found rs (answers_in (setting_of d) found.places worlds)) is_host_fault is_out_of_memory request result) same
+          generated_told (Refuses d worlds found request.sets request.targets) (project_of d worlds found) request generated
+          (subst (λ rs. IsPlanned (loaded_of found rs (answers_in (setting_of d) found.places worlds)) is_host_fault is_out_of_memory request generated) same
           (told (answers_in (setting_of d) found.places worlds) (ap (told_in found.places worlds) e)))
-          (generation_known (CanEndWith (held found.places worlds host from)) (OfPattern (IsRefusedIn found.places worlds d)) (refused_over d e) result known)
+          (no_refusal (Refuses d worlds found request.sets request.targets) generated not_refused)
 
   apart_over : (made : Result Made (GenFault EvalFault)) → IfOk made (λ p. Apart p.plan.steps p.plan.roots) → IfOk (planned_or_stop made) (λ p. Apart p.plan.steps p.plan.roots)
   apart_over (Ok p) h = h
   apart_over (Err fault) h = tt
 
-module _ (found : Declared) (worlds : Worlds) (host : ℕ) (request : Request) (roots : List (List ℕ)) (from to : Outside) (result : Result Made (GenFault EvalFault)) where
-  -- a plan by an evaluation that keeps what it kept
-  pub planned_over : ((told : Answers EvalFault) → told_in found.places worlds from.disk ≡ Some told → IsPlanned (loaded_of found roots told) is_host_fault is_out_of_memory request result)
-      → roots ≡ worlds.now.roots → IfOk result (λ p. Apart p.plan.steps p.plan.roots) → IfErr result (IsKnown (CanEndWith (held found.places worlds host from)))
-      → IsCounted (is_eval is_host_fault) (is_memory is_out_of_memory) from.faults to.faults result
+  no_apart : (result : Result Made Stop) → IfOk result (λ made. ⊥) → IfOk result (λ p. Apart p.plan.steps p.plan.roots)
+  no_apart (Ok made) h = absurd h
+  no_apart (Err stop) h = tt
+
+  -- the count stays where a pattern was refused
+  same_first : (given : Result Made (GenFault EvalFault)) → is_refused given ≡ true → IsCounted (is_eval is_host_fault) (is_memory is_out_of_memory) from.faults mid.faults given → mid.faults ≡ from.faults
+  same_first (Ok made) e h = h
+  same_first (Err fault) e h = first_same from mid fault e h
+
+  told_map : (result : Result Made Stop) → IfSome from.disk (λ disk. Tells (Refuses disk worlds found request.sets request.targets) (λ pattern outcome. ⊥) result)
+      → IfSome from.disk (λ disk. Tells (Refuses disk worlds found request.sets request.targets) (λ pattern outcome. (pattern ≡ None) × IsGenerated (project_of disk worlds found) request.sets request.targets outcome) result)
+  told_map result h = go from.disk h
+    where
+      go : (disk : Option Disk) → IfSome disk (λ d. Tells (Refuses d worlds found request.sets request.targets) (λ pattern outcome. ⊥) result)
+          → IfSome disk (λ d. Tells (Refuses d worlds found request.sets request.targets) (λ pattern outcome. (pattern ≡ None) × IsGenerated (project_of d worlds found) request.sets request.targets outcome) result)
+      go None h = tt
+      go (Some d) h =
+          tells_map (Refuses d worlds found request.sets request.targets) (λ pattern outcome. ⊥)
+          (Refuses d worlds found request.sets request.targets) (λ pattern outcome. (pattern ≡ None) × IsGenerated (project_of d worlds found) request.sets request.targets outcome) (λ fault h. h) (λ pattern outcome h. absurd h) result h
+
+  -- the answer of a request, by what generation gave with these files and counts, and by what came of it
+  pub settled_over : ((told : Answers EvalFault) → told_in found.places worlds from.disk ≡ Some told → IsPlanned (loaded_of found roots told) is_host_fault is_out_of_memory request generated)
+      → roots ≡ worlds.now.roots → IfOk generated (λ p. Apart p.plan.steps p.plan.roots) → IfErr generated (IsKnown HoldsNoMemory)
+      → IsCounted (is_eval is_host_fault) (is_memory is_out_of_memory) from.faults mid.faults generated → mid.disk ≡ from.disk
+      → (result : Result Made Stop) → Settles found worlds request.sets request.targets generated mid to result
       → to.disk ≡ from.disk → to.children ≡ from.children → Keeps from to
-      → PlansRequest found worlds request.sets request.targets from to (planned_or_stop result)
-  planned_over told same apart known counted disk children keeps = record {
-    told = told_over found worlds host request roots from to result told same known;
-    whole = generated_whole result (generation_known (CanEndWith (held found.places worlds host from)) HoldsNoMemory (λ fault h. h.whole) result known);
-    apart = apart_over found worlds host request roots from to result result apart;
-    disk = disk;
-    children = children;
-    keeps = keeps;
-    counts = generated_counts from to result counted;
-  }
+      → PlansRequest found worlds request.sets request.targets from to result
+  settled_over told same apart known counted between result settles disk children keeps = go (is_refused generated) refl settles
+    where
+      go : (b : Bool) → is_refused generated ≡ b → SettlesBy found worlds request.sets request.targets b generated mid to result → PlansRequest found worlds request.sets request.targets from to result
+      go true is h =
+          let again = retells_after found worlds request.sets request.targets from mid to result between (same_first generated is counted) h in
+          record {
+            told = told_map result again.told;
+            whole = again.whole;
+            apart = no_apart result again.no_plan;
+            disk = disk;
+            children = children;
+            keeps = keeps;
+            counts = again.counts;
+          }
+      go false is h =
+          subst (PlansRequest found worlds request.sets request.targets from to) (sym h.0)
+          (record {
+            told = told_over told same is;
+            whole = generated_whole generated known;
+            apart = apart_over generated apart;
+            disk = disk;
+            children = children;
+            keeps = keeps;
+            counts = subst (λ (o : Outside). Counts (planned_or_stop generated) from o) (sym h.1) (generated_counts from mid generated counted);
+          })
 
 -- ---- the request
 
@@ -113,7 +178,7 @@ generated_asked l words sound pattern (Err (of_generation why)) h = (h.0, (sound
 
 module _ (words : List Text) (found : Declared) (worlds : Worlds) (from to : Outside) where
   abbrev IsTold : Result Made Stop → List (List Pair) → List Text → Option Disk → Type 0
-  IsTold result sets targets disk = IfSome disk (λ d. Tells (IsRefusedIn found.places worlds d) (λ pattern outcome. (pattern ≡ None) × IsGenerated (project_of d worlds found) sets targets outcome) result)
+  IsTold result sets targets disk = IfSome disk (λ d. Tells (Refuses d worlds found sets targets) (λ pattern outcome. (pattern ≡ None) × IsGenerated (project_of d worlds found) sets targets outcome) result)
 
   pub asks_planned : (sets : List (List Pair)) (targets : List Text) (result : Result Made Stop) → sets ≡ request_sets found.registry words → targets ≡ target_words found.registry words
       → request_fault found.registry words ≡ None → PlansRequest found worlds sets targets from to result → Asks words found worlds from to result
@@ -131,7 +196,7 @@ module _ (words : List Text) (found : Declared) (worlds : Worlds) (from to : Out
           → IfSome disk (λ d. Tells (IsRefusedFor words found worlds d) (λ pattern outcome. (pattern ≡ None) × IsAsked (project_of d worlds found) words outcome) result)
       go None h = tt
       go (Some d) h =
-          tells_map (IsRefusedIn found.places worlds d) (λ pattern outcome. (pattern ≡ None) × IsGenerated (project_of d worlds found) (request_sets found.registry words) (target_words found.registry words) outcome)
+          tells_map (Refuses d worlds found (request_sets found.registry words) (target_words found.registry words)) (λ pattern outcome. (pattern ≡ None) × IsGenerated (project_of d worlds found) (request_sets found.registry words) (target_words found.registry words) outcome)
           (IsRefusedFor words found worlds d) (λ pattern outcome. (pattern ≡ None) × IsAsked (project_of d worlds found) words outcome) (λ fault refused. (sound, refused)) (generated_asked (project_of d worlds found) words sound) result h
 
   pub asks_refused : (fault : RequestFault) → IsBy (request_fault found.registry words) fault

@@ -151,7 +151,7 @@ module _ (R : EvalFault → Type 0) where
   making_refused (making.Eval fault) none known = line_known fault (not_made (conversions.eval fault)) none known
   making_refused making.OutOfMemory none known = tt
 
-  generation_refused : (fault : GenFault EvalFault) → fault_of is_host_fault is_out_of_memory fault ≡ None → IsKnown OfPattern fault → IsKnown (OfLine R) fault
+  pub generation_refused : (fault : GenFault EvalFault) → fault_of is_host_fault is_out_of_memory fault ≡ None → IsKnown OfPattern fault → IsKnown (OfLine R) fault
   generation_refused (generating.NoTarget name) none known = tt
   generation_refused (generating.TargetCycle targets) none known = tt
   generation_refused (generating.UsageConflict target feature first second) none known = tt

@@ -3,3 +3,4 @@ pub mod Laws
 pub mod Refusals
 pub mod Preparing
 pub mod Parts
+pub mod Again

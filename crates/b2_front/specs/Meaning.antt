@@ -7,16 +7,20 @@ use Rattle.jam_eval.specs.Settings.{Setting}
 use Rattle.jam_eval.specs.States.{State}
 use Rattle.jam_natives.specs.Keeping.{Kept}
 use Rattle.jam_effects.specs.declared.fault.EvalFault.{EvalFault}
+use Rattle.b2_props.specs.Sets.{Pair}
 use Rattle.b2_props.specs.declared.request_fault.RequestFault.{RequestFault}
 use Rattle.b2_props.specs.Words.{target_words}
 use Rattle.b2_props.specs.Requests.{request_sets, request_fault}
 use Rattle.b2_metatargets.specs.declared.whole.Declared.{Declared}
 use Rattle.b2_walk.specs.Walks.{Walk, Refusal as LoadRefusal}
 use Rattle.b2_project.specs.Loads.{Ending, loaded, fails, Loads}
-use Rattle.b2_generate.specs.Faults.{Fault}
+use Rattle.b2_alternatives.specs.declared.fault.ChoiceFault.TheVariants.{Eval}
+use Rattle.b2_conversions.specs.Faults.{eval}
+use Rattle.b2_generate.specs.Faults.{Fault, not_chosen, not_made}
 use Rattle.b2_generate.specs.Loaded.{Loaded}
 use Rattle.b2_generate.specs.Planning.{Planned, Plans}
-use Rattle.b2_loaded.specs.Questions.{IsRefusedIn}
+use Rattle.b2_loaded.specs.Questions.{with_fault, IsRefused}
+use Rattle.b2_loaded.specs.declared.question.Question.{Question}
 use Rattle.b2_loaded.specs.Seen.{setting_of}
 use Rattle.b2_loaded.specs.Worlds.{answers_in}
 
@@ -38,15 +42,33 @@ load_setting disk refused = record (setting_of disk) { budget = load_turns; refu
 abbrev pub project_of : Disk → Worlds → Declared → Loaded EvalFault
 project_of disk worlds found = record { declared = found; roots = worlds.now.roots; answers = answers_in (setting_of disk) found.places worlds }
 
--- A pattern is refused in generation, although it reads as one, after these lines of ECHO: a project is loaded, the words are a request,
--- and a question of the project's own text, in the worlds that the load left, ends with this fault, which names the pattern. That
--- generation comes to this question, and with no other fault before, is not said.
+-- the same, where one question of its own text ends with this fault
+abbrev pub project_with : Disk → Worlds → Declared → Question → EvalFault → Loaded EvalFault
+project_with disk worlds found question fault =
+    record (project_of disk worlds found) { answers = with_fault question fault (answers_in (setting_of disk) found.places worlds) }
+
+-- the refusal of generation that is a fault of the project's own text
+pub data IsOfText (fault : EvalFault) : Fault EvalFault → Type 0 where
+  not_returned : IsOfText fault (not_chosen (Eval fault))
+  not_written : IsOfText fault (not_made (eval fault))
+
+-- A pattern is refused in generation, although it reads as one: a question of the project's own text ends with this fault, which names
+-- the pattern; and where it does so, and every other question is answered by evaluation in which no pattern is refused, the fault is
+-- the outcome of generation.
+pub record Refuses (disk : Disk) (worlds : Worlds) (found : Declared) (sets : List (List Pair)) (targets : List Text) (fault : EvalFault) : Type 0 where
+  pub question : Question
+  pub refused : IsRefused found.places worlds disk question fault
+  pub why : Fault EvalFault
+  pub of_text : IsOfText fault why
+  pub plans : Plans (project_with disk worlds found question fault) sets targets (Err why)
+
+-- so it is after these lines of ECHO, for words that are a request
 pub record IsRefusedInGeneration (disk : Disk) (words lines : List Text) (fault : EvalFault) : Type 0 where
   pub walk : Walk
   pub found : Declared
   pub loads : Loads (load_setting disk None) load_turns words (loaded walk found)
   pub asked : request_fault found.registry words ≡ None
-  pub refused : IsRefusedIn found.places walk.state.worlds disk fault
+  pub refuses : Refuses disk walk.state.worlds found (request_sets found.registry words) (target_words found.registry words) fault
   pub echoes : lines ≡ walk.state.kept.echoes
 
 -- The files of a disk and the free words of a command come to lines of ECHO, and to a plan or the first refusal: that of the load, to

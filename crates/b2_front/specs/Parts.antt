@@ -14,7 +14,6 @@ use Rattle.b2_props.specs.Requests.{request_sets, request_fault}
 use Rattle.b2_props.specs.declared.request.Request.{Request}
 use Rattle.b2_metatargets.specs.declared.whole.Declared.{Declared}
 use Rattle.b2_evaluation.specs.Answers.{Answers}
-use Rattle.b2_loaded.specs.Questions.{IsRefusedIn}
 use Rattle.b2_walk.specs.declared.fault.LoadFault.{LoadFault}
 use Rattle.b2_project.specs.declared.project.Project.{Project}
 use Rattle.b2_project.specs.Loading.{HasPlaces}
@@ -24,7 +23,7 @@ use Rattle.b2_generate.specs.Loaded.{Loaded}
 use Rattle.b2_generate.specs.Planning.{Planned, Plans}
 use Rattle.b2_generate.specs.Plans.{IsPlanOf}
 use Rattle.b2_front.specs.declared.refusal.Stop.{Stop}
-use Rattle.b2_front.specs.Meaning.{Refusal, of_load, of_request, of_generation, project_of}
+use Rattle.b2_front.specs.Meaning.{Refusal, of_load, of_request, of_generation, project_of, Refuses}
 use Rattle.b2_front.specs.Refusals.{stop_of_load, stop_of_generation}
 use Rattle.b2_front.specs.Preparing.{Tells, IsWhole, Counts}
 
@@ -72,11 +71,12 @@ pub record Does (Rest : Disk → EvalFault → Type 0) (Told : Disk → Result P
   pub counts : Counts result from to
 
 abbrev pub PlansRequest : Declared → Worlds → List (List Pair) → List Text → Outside → Outside → Result Made Stop → Type 0
-PlansRequest found worlds sets targets = Does (IsRefusedIn found.places worlds) (λ disk. IsGenerated (project_of disk worlds found) sets targets)
+PlansRequest found worlds sets targets = Does (λ disk. Refuses disk worlds found sets targets) (λ disk. IsGenerated (project_of disk worlds found) sets targets)
 
 -- a pattern is refused in generation, for words that are a request
 abbrev pub IsRefusedFor : List Text → Declared → Worlds → Disk → EvalFault → Type 0
-IsRefusedFor words found worlds disk fault = (request_fault found.registry words ≡ None) × IsRefusedIn found.places worlds disk fault
+IsRefusedFor words found worlds disk fault =
+    (request_fault found.registry words ≡ None) × Refuses disk worlds found (request_sets found.registry words) (target_words found.registry words) fault
 
 abbrev pub Asks : List Text → Declared → Worlds → Outside → Outside → Result Made Stop → Type 0
 Asks words found worlds = Does (IsRefusedFor words found worlds) (λ disk. IsAsked (project_of disk worlds found) words)

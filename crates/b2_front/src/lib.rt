@@ -2,6 +2,8 @@
 //! declare, and what it asks for is planned.
 #![tactic(auto)]
 
+mod again;
 pub mod laws;
+mod planning;
 pub mod prepare;
 pub mod refusal;

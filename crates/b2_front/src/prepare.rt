@@ -1,22 +1,19 @@
 //! From words to a plan.
-ghost use Rattle.std.specs.Prelude.{◌≡◌, IfOk, IfErr, is_some, false, codes};
-ghost use Rattle.std.specs.List.{Contains};
+ghost use Rattle.std.specs.Prelude.{◌≡◌, IfOk, IfErr, is_some, false};
 ghost use Rattle.std.specs.Option.{IfSome};
 ghost use Rattle.b2_host.specs.OutsideLaws.{Keeps};
 ghost use Rattle.b2_plan.specs.Plans.{Apart};
 ghost use Rattle.b2_alternatives.specs.Picking.{IsNumbered};
-ghost use Rattle.b2_generate.specs.Told.{Leaves};
 ghost use Rattle.b2_front.specs.Preparing.{IsPrepared, IsWhole, Counts};
-ghost use Rattle.b2_front.specs.Parts.{planned_or_stop, IsPlanIn, PlansRequest, Asks, IsReady, GoesOn};
+ghost use Rattle.b2_front.specs.Parts.{PlansRequest, Asks, IsReady, GoesOn};
 
-use crate::refusal::{Stop, not_asked, not_loaded, not_planned};
-use b2_base::fault::OutOfMemory;
-use b2_base::path_list::{PathList, copy_paths};
+use crate::again::{Ended, settled};
+use crate::planning::plan_in;
+use crate::refusal::{Stop, not_asked, not_loaded};
+use b2_base::path_list::copy_paths;
 use b2_base::text::Text;
 use b2_base::text_list::TextList;
-use b2_evaluation::evaluate::Evaluate;
-use b2_generate::fault::GenFault;
-use b2_generate::plan::{Answered, plan};
+use b2_generate::plan::Answered;
 use b2_generate::planned::Planned;
 use b2_host::files::Files;
 use b2_loaded::entry::Entry;
@@ -25,7 +22,6 @@ use b2_metatargets::whole::Declared;
 use b2_project::load::{LoadFault, Loaded, load};
 use b2_project::project::Project;
 use b2_props::request::{Request, read_request};
-use jam_effects::fault::EvalFault;
 use jam_effects::turns::Turns;
 use jam_scope::world::World;
 use std::alloc::Global;
@@ -39,38 +35,6 @@ const LOAD_TURNS: u32 = 1_000_000;
 pub struct Prepared {
     pub echoes: TextList,
     pub result: Result<Planned, Stop>,
-}
-
-fn planned_or_stop(generated: Result<Planned, GenFault<EvalFault>>) -> Result<Planned, Stop>
-    ensures { result ≡ planned_or_stop generated }
-{
-    match generated {
-        Ok(planned) => Ok(planned),
-        Err(fault) => Err(not_planned(fault)),
-    }
-}
-
-/// Plans a request, where there was memory for the output roots.
-fn plan_in<E: Evaluate + Drop>(
-    alloc: Global,
-    declared: &Declared,
-    roots: Result<PathList, OutOfMemory>,
-    request: &Request,
-    evaluator: E,
-) -> Answered<E>
-    requires numbered { IsNumbered declared.now }
-    requires bin { IfOk roots (λ rs. Contains rs (codes "bin")) }
-    ensures told { IsPlanIn E.answers E.is_host_fault E.is_out_of_memory declared.now roots request.now evaluator result.result }
-    ensures apart { IfOk result.result (λ p. Apart p.plan.steps p.plan.roots) }
-    ensures leaves { Leaves E.answers E.kept E.faults E.is_host_fault E.is_out_of_memory E.CanFault evaluator result.evaluator result.result }
-{
-    match roots {
-        Ok(roots) => plan(alloc, declared, roots.as_slice(), request, evaluator),
-        Err(_) => Answered {
-            evaluator,
-            result: Err(GenFault::OutOfMemory),
-        },
-    }
 }
 
 /// The plan of a request over a loaded project. The host is what `S` says.
@@ -89,8 +53,9 @@ fn plan_over<F: Files, S: Entry>(
     let roots = copy_paths(alloc, world.roots());
     let own = OwnText::<F, S>::new(alloc, declared.places.as_slice(), world, files);
     let Answered { evaluator, result } = plan_in(alloc, declared, roots, request, own);
-    let _files = evaluator.into_files();
-    planned_or_stop(result)
+    let Ended { own, result } = settled(alloc, declared, request, evaluator, result);
+    let _files = own.into_files();
+    result
 }
 
 /// The plan of a request over a loaded project.
@@ -154,10 +119,9 @@ fn go_on<F: Files>(
 /// Loads the projects that the words of a command name, by the target words among them and with 1,000,000 turns; reads the words as
 /// a request, by the features that were declared; and plans what they ask for. The words are those that are no options, in order:
 /// words of properties, which name no directory, and target words. The first refusal is the answer: that of the load, of the
-/// request, or of generation. Where a pattern is refused in generation though it reads as one, `told` says of which question of the
-/// project's own text this is the fault, by the turns left in the call that has the pattern, and after which lines of ECHO; it does
-/// not say that generation comes to this question, and with no other fault before. A fault of the host comes only where one of its
-/// calls failed, and no file is changed.
+/// request, or of generation. Where a pattern is refused in generation though it reads as one, the question of the project's own text
+/// that has it is asked again, and generation is carried out again with its fault; so the refusal is the one to which generation
+/// comes with this input. A fault of the host comes only where one of its calls failed, and no file is changed.
 pub fn prepare<F: Files>(alloc: Global, words: &[Text], files: &mut F) -> Prepared
     ensures told { IfSome (F.outside files.old).disk (λ disk. IsPrepared disk words.now result.echoes result.result) }
     ensures whole { IfErr result.result IsWhole }

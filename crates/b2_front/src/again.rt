@@ -1,0 +1,197 @@
+//! Generation once more, after a pattern was refused in it although it reads as one.
+ghost use Rattle.std.specs.Prelude.{◌≡◌};
+ghost use Rattle.b2_alternatives.specs.Picking.{IsNumbered};
+ghost use Rattle.b2_loaded.specs.Held.{held, EndsQuestion};
+ghost use Rattle.b2_front.specs.Parts.{planned_or_stop};
+ghost use Rattle.b2_front.specs.Again.{is_refusal, is_refused, stop_of_text, host_or_memory, refusal_or_stop, Retells, Settles};
+
+use crate::planning::plan_in;
+use crate::refusal::{Stop, not_planned};
+use b2_alternatives::fault::ChoiceFault;
+use b2_base::path_list::copy_paths;
+use b2_conversions::fault::MakingFault;
+use b2_generate::fault::GenFault;
+use b2_generate::plan::Answered;
+use b2_generate::planned::Planned;
+use b2_host::files::Files;
+use b2_loaded::entry::Entry;
+use b2_loaded::own_text::OwnText;
+use b2_loaded::refused::is_refused;
+use b2_loaded::refusing::Refusing;
+use b2_metatargets::whole::Declared;
+use b2_props::request::Request;
+use jam_effects::fault::EvalFault;
+use std::alloc::Global;
+
+/// The own text of a loaded project after a request was planned by it, and the plan or why there is none.
+#[derive(Drop)]
+pub(crate) struct Ended<'a, F: Files, S: Entry> {
+    pub(crate) own: OwnText<'a, F, S>,
+    pub(crate) result: Result<Planned, Stop>,
+}
+
+fn planned_or_stop(generated: Result<Planned, GenFault<EvalFault>>) -> Result<Planned, Stop>
+    ensures { result ≡ planned_or_stop generated }
+{
+    match generated {
+        Ok(planned) => Ok(planned),
+        Err(fault) => Err(not_planned(fault)),
+    }
+}
+
+/// Whether a fault of generation is a pattern that was refused although it reads as one; takes no memory.
+pub(crate) fn is_refusal(fault: &GenFault<EvalFault>) -> bool
+    ensures { result ≡ is_refusal fault.now }
+{
+    match fault {
+        GenFault::NotChosen(ChoiceFault::Eval(fault)) => is_refused(fault),
+        GenFault::NotMade(MakingFault::Eval(fault)) => is_refused(fault),
+        _ => false,
+    }
+}
+
+/// Whether generation ended with such a fault; takes no memory.
+fn is_refused_answer(generated: &Result<Planned, GenFault<EvalFault>>) -> bool
+    ensures { result ≡ is_refused generated.now }
+{
+    match generated {
+        Ok(_) => false,
+        Err(fault) => is_refusal(fault),
+    }
+}
+
+/// A fault of the host stands for itself. Where the project's own text has any other answer than before, memory ran out.
+fn stop_of_text(fault: &EvalFault) -> Stop
+    ensures { result ≡ stop_of_text fault.now }
+{
+    match fault {
+        EvalFault::Host => Stop::Host,
+        _ => Stop::OutOfMemory,
+    }
+}
+
+/// A fault of the host stands for itself, and any other fault of generation for out of memory.
+fn host_or_memory(fault: &GenFault<EvalFault>) -> Stop
+    ensures { result ≡ host_or_memory fault.now }
+{
+    match fault {
+        GenFault::NotChosen(ChoiceFault::Eval(fault)) => stop_of_text(fault),
+        GenFault::NotMade(MakingFault::Eval(fault)) => stop_of_text(fault),
+        _ => Stop::OutOfMemory,
+    }
+}
+
+/// Why there is no plan, where generation was carried out once more with a question that is refused: this refusal. The engine of
+/// patterns refuses one that reads as a pattern for its size; where it does not do so again, memory ran out.
+fn refusal_or_stop(generated: Result<Planned, GenFault<EvalFault>>) -> Stop
+    ensures { result ≡ refusal_or_stop generated }
+{
+    match generated {
+        Ok(planned) => {
+            drop(planned);
+            Stop::OutOfMemory
+        }
+        Err(fault) => {
+            if is_refusal(&fault) {
+                return not_planned(fault);
+            }
+            let stop = host_or_memory(&fault);
+            drop(fault);
+            stop
+        }
+    }
+}
+
+/// Plans a request where a question of the project's own text is refused.
+fn plan_refusing<'a, F: Files, S: Entry>(
+    alloc: Global,
+    declared: &Declared,
+    request: &Request,
+    refusing: Refusing<'a, F, S>,
+) -> Ended<'a, F, S>
+    requires numbered { IsNumbered declared.now }
+    requires places { refusing.own.projects.now ≡ declared.now.places }
+    requires ends { EndsQuestion (held refusing.own.projects.now refusing.own.loaded.world refusing.own.host.files.ghost_name (F.outside refusing.own.host.files.now)) refusing.question refusing.fault }
+    ensures retells { Retells declared.now refusing.entry.own.loaded.world request.now.sets request.now.targets (F.outside refusing.entry.own.host.files.now) (F.outside result.own.host.files.now) result.result }
+    ensures same_reference { result.own.host.files.ghost_name ≡ refusing.entry.own.host.files.ghost_name }
+{
+    let roots = copy_paths(alloc, refusing.own.loaded.world.roots());
+    let Answered { evaluator, result } = plan_in(alloc, declared, roots, request, refusing);
+    let Refusing {
+        own,
+        question: _question,
+        fault,
+    } = evaluator;
+    drop(fault);
+    Ended {
+        own,
+        result: Err(refusal_or_stop(result)),
+    }
+}
+
+/// Plans a request once more, after a pattern was refused in a question. This question is asked again by itself; with the fault that
+/// it ends with, generation is carried out again.
+pub(crate) fn plan_again<'a, F: Files, S: Entry>(
+    alloc: Global,
+    declared: &Declared,
+    request: &Request,
+    first: OwnText<'a, F, S>,
+) -> Ended<'a, F, S>
+    requires numbered { IsNumbered declared.now }
+    requires places { first.projects.now ≡ declared.now.places }
+    ensures retells { Retells declared.now first.entry.loaded.world request.now.sets request.now.targets (F.outside first.entry.host.files.now) (F.outside result.own.host.files.now) result.result }
+    ensures same_reference { result.own.host.files.ghost_name ≡ first.entry.host.files.ghost_name }
+{
+    let mut own = first;
+    let Some(question) = own.take_refused() else {
+        return Ended {
+            own,
+            result: Err(Stop::OutOfMemory),
+        };
+    };
+    match own.ask(&question) {
+        Ok(()) => Ended {
+            own,
+            result: Err(Stop::OutOfMemory),
+        },
+        Err(fault) => {
+            if is_refused(&fault) {
+                let refusing = Refusing {
+                    own,
+                    question,
+                    fault,
+                };
+                return plan_refusing(alloc, declared, request, refusing);
+            }
+            let stop = stop_of_text(&fault);
+            drop(fault);
+            Ended {
+                own,
+                result: Err(stop),
+            }
+        }
+    }
+}
+
+/// The answer of generation, or where a pattern was refused in it although it reads as one, that of generation once more.
+pub(crate) fn settled<'a, F: Files, S: Entry>(
+    alloc: Global,
+    declared: &Declared,
+    request: &Request,
+    own: OwnText<'a, F, S>,
+    generated: Result<Planned, GenFault<EvalFault>>,
+) -> Ended<'a, F, S>
+    requires numbered { IsNumbered declared.now }
+    requires places { own.projects.now ≡ declared.now.places }
+    ensures settles { Settles declared.now own.entry.loaded.world request.now.sets request.now.targets generated (F.outside own.entry.host.files.now) (F.outside result.own.host.files.now) result.result }
+    ensures same_reference { result.own.host.files.ghost_name ≡ own.entry.host.files.ghost_name }
+{
+    if is_refused_answer(&generated) {
+        plan_again(alloc, declared, request, own)
+    } else {
+        Ended {
+            own,
+            result: planned_or_stop(generated),
+        }
+    }
+}

@@ -1,0 +1,39 @@
+//! The plan of a request, where there was memory for the output roots.
+ghost use Rattle.std.specs.Prelude.{IfOk, codes};
+ghost use Rattle.std.specs.List.{Contains};
+ghost use Rattle.b2_plan.specs.Plans.{Apart};
+ghost use Rattle.b2_alternatives.specs.Picking.{IsNumbered};
+ghost use Rattle.b2_generate.specs.Told.{Leaves};
+ghost use Rattle.b2_front.specs.Parts.{IsPlanIn};
+
+use b2_base::fault::OutOfMemory;
+use b2_base::path_list::PathList;
+use b2_evaluation::evaluate::Evaluate;
+use b2_generate::fault::GenFault;
+use b2_generate::plan::{Answered, plan};
+use b2_metatargets::whole::Declared;
+use b2_props::request::Request;
+use std::alloc::Global;
+
+/// Plans a request, where there was memory for the output roots.
+pub(crate) fn plan_in<E: Evaluate + Drop>(
+    alloc: Global,
+    declared: &Declared,
+    roots: Result<PathList, OutOfMemory>,
+    request: &Request,
+    evaluator: E,
+) -> Answered<E>
+    requires numbered { IsNumbered declared.now }
+    requires bin { IfOk roots (λ rs. Contains rs (codes "bin")) }
+    ensures told { IsPlanIn E.answers E.is_host_fault E.is_out_of_memory declared.now roots request.now evaluator result.result }
+    ensures apart { IfOk result.result (λ p. Apart p.plan.steps p.plan.roots) }
+    ensures leaves { Leaves E.answers E.kept E.faults E.is_host_fault E.is_out_of_memory E.CanFault evaluator result.evaluator result.result }
+{
+    match roots {
+        Ok(roots) => plan(alloc, declared, roots.as_slice(), request, evaluator),
+        Err(_) => Answered {
+            evaluator,
+            result: Err(GenFault::OutOfMemory),
+        },
+    }
+}
