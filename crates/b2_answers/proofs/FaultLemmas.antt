@@ -30,7 +30,8 @@ use Rattle.b2_front.specs.declared.refusal.Refusal.{Refusal}
 use Rattle.b2_front.specs.declared.refusal.Refusal.TheVariants as refusals
 use Rattle.b2_front.specs.declared.refusal.Stop.TheVariants as stops
 use Rattle.b2_refusals.specs.Wholes.{IsEvalRefusal, IsLoadRefusal, IsChoiceRefusal, IsMakingRefusal, IsGenRefusal, IsWhole}
-use Rattle.b2_answers.specs.Causes.{fault_of, pattern_of_choice, pattern_of_making, pattern_of_generation, IsOfPattern}
+use Rattle.b2_answers.specs.declared.answer.Answer.TheVariants as answers
+use Rattle.b2_answers.specs.Causes.{fault_of, pattern_of_choice, pattern_of_making, pattern_of_generation, IsPatternRefused}
 
 none_some : {A : Type 0} (x : A) → None ≡ Some x → ⊥
 none_some x e = cc
@@ -174,7 +175,7 @@ module _ (law : OneMeaning) (disk : Disk) (words echoes others : List Text) (pla
   by_generation (generating.NotMade fault) h told = by_making fault h told
   by_generation generating.OutOfMemory h told = absurd h
 
-  pub pattern_refused : (why : Refusal) → IsWholeRefusal why → IsPrepared disk words others (Err (stops.Refused why)) → IsOfPattern (fault_of why)
-  pattern_refused (refusals.Load fault) h told = by_load fault (load_found fault h) told
+  pub pattern_refused : (why : Refusal) → IsWholeRefusal why → IsPrepared disk words others (Err (stops.Refused why)) → IsPatternRefused disk words (answers.Refused (fault_of why))
+  pattern_refused (refusals.Load fault) h told = (by_load fault (load_found fault h) told, (others, told))
   pattern_refused (refusals.Request fault) h told = absurd (by_request fault h told)
-  pattern_refused (refusals.Generation fault) h told = by_generation fault h told
+  pattern_refused (refusals.Generation fault) h told = (by_generation fault h told, (others, told))

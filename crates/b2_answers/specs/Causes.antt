@@ -26,8 +26,8 @@ fault_of (refusals.Load fault) = faults.Load fault
 fault_of (refusals.Request fault) = faults.Request fault
 fault_of (refusals.Generation fault) = faults.Gen fault
 
--- The fault is what the files of a disk and the free words come to, after these lines of ECHO; or that of a pattern that is refused in
--- generation, of which it is told in which question of the project's own text, and in which of its calls.
+-- The fault is what the files of a disk and the free words come to, after these lines of ECHO; that a pattern is refused though it
+-- reads as one is an input of it.
 abbrev pub HasCause : Disk → List Text → List Text → Fault → Type 0
 HasCause disk words echoes (faults.NotYet path line) = ⊥
 HasCause disk words echoes (faults.Load fault) = IsPrepared disk words echoes (Err (stops.Refused (refusals.Load fault)))
@@ -59,12 +59,12 @@ pattern_of _ = None
 abbrev pub IsOfPattern : Fault → Type 0
 IsOfPattern fault = (pattern : Text) × (pattern_of fault ≡ Some pattern)
 
--- the answer is a refusal of a pattern that reads as one
-abbrev pub IsPatternRefused : Answer → Type 0
-IsPatternRefused answers.Ok = ⊥
-IsPatternRefused (answers.Failed lists) = ⊥
-IsPatternRefused (answers.Refused fault) = IsOfPattern fault
-IsPatternRefused answers.Usage = ⊥
-IsPatternRefused answers.HostFault = ⊥
-IsPatternRefused answers.OutOfMemory = ⊥
-IsPatternRefused answers.SinkFault = ⊥
+-- the answer is a refusal of a pattern that reads as one, and this is what the files of a disk and the free words come to
+abbrev pub IsPatternRefused : Disk → List Text → Answer → Type 0
+IsPatternRefused disk words answers.Ok = ⊥
+IsPatternRefused disk words (answers.Failed lists) = ⊥
+IsPatternRefused disk words (answers.Refused fault) = IsOfPattern fault × ((echoes : List Text) × HasCause disk words echoes fault)
+IsPatternRefused disk words answers.Usage = ⊥
+IsPatternRefused disk words answers.HostFault = ⊥
+IsPatternRefused disk words answers.OutOfMemory = ⊥
+IsPatternRefused disk words answers.SinkFault = ⊥

@@ -24,27 +24,6 @@ pub struct Refusing<'a, F: Files, S: Entry> {
     ghost refused: { is_some (refused_by fault) ≡ true },
 }
 
-impl<'a, F: Files, S: Entry> Refusing<'a, F, S> {
-    ghost use Rattle.b2_host.specs.OutsideLaws.{Keeps};
-
-    /// Gives the host back. Its files and child processes are as they were at first, and no count of its failures fell.
-    pub fn into_files(self) -> &'a mut F
-        ensures same_reference { result.ghost_name ≡ self.entry.own.host.files.ghost_name }
-        ensures files { result.now ≡ self.entry.own.host.files.now }
-        ensures disk { (F.outside result.now).disk ≡ S.outside.disk }
-        ensures children { (F.outside result.now).children ≡ S.outside.children }
-        ensures keeps { Keeps S.outside (F.outside result.now) }
-    {
-        let Refusing {
-            own,
-            question: _question,
-            fault,
-        } = self;
-        drop(fault);
-        own.into_files()
-    }
-}
-
 impl<'a, F: Files, S: Entry> Evaluate for Refusing<'a, F, S> {
     ghost use Rattle.std.specs.Option.{option_map};
     ghost use Rattle.b2_loaded.specs.Faults.{is_host, is_memory};

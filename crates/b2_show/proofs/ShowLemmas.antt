@@ -21,7 +21,7 @@ use Rattle.b2_runs.specs.Reports.{IsFrontOf}
 use Rattle.b2_refusals.specs.Lines.{usage_line}
 use Rattle.b2_answers.specs.declared.answer.Answer.{Answer}
 use Rattle.b2_answers.specs.declared.answer.Answer.TheVariants as answers
-use Rattle.b2_answers.specs.Causes.{fault_of}
+use Rattle.b2_answers.specs.Causes.{fault_of, IsPatternRefused}
 use Rattle.b2_answers.specs.Reports.{refusal_report, fault_report}
 use Rattle.b2_answers.specs.Writing.{FailsIn, StopsIn, Says, SaysFault}
 use Rattle.b2_answers.specs.Writing.Says.{said, failed, stopped}
@@ -183,7 +183,8 @@ module _ (law : OneMeaning) (words : List Word) (look : Look) (asked : look_of w
       whole = whole_of why input;
       not_failed = is_of_planning why;
       complete = if_map h0.disk (λ disk h plan.
-          inr (pattern_refused law disk look.words plan.echoes echoes plan.planned (subst (λ (l : Look). Means disk None l.words plan.echoes (Ok plan.planned)) (same_look disk plan) plan.means) why input h)) told;
+          inr (subst (λ (l : Look). IsPatternRefused disk l.words (answers.Refused (fault_of why))) (sym (same_look disk plan))
+          (pattern_refused law disk look.words plan.echoes echoes plan.planned (subst (λ (l : Look). Means disk None l.words plan.echoes (Ok plan.planned)) (same_look disk plan) plan.means) why input h))) told;
     })
     answered_refusal result (failed is f) =
         subst Promised (sym is) (ended_sink words (moment h0 o0) (moment h1 o1) whole_refusal f (λ none. not_none none) same

@@ -116,9 +116,11 @@ IsOfLook answers.HostFault = ⊤
 IsOfLook answers.OutOfMemory = ⊤
 IsOfLook answers.SinkFault = ⊤
 
--- where there is a plan, the answer is Ok, or the call was cut short, or a pattern was refused though it reads as one
+-- Where there is a plan, the answer is Ok, or the call was cut short; or the files and the words come to a pattern that is refused
+-- though it reads as one.
 abbrev pub CompleteTold : List Word → Outside → Answer → Type 0
-CompleteTold words before result = IfSome before.disk (λ disk. HasPlan words disk → IsOrCutShort result answers.Ok ⊎ IsPatternRefused result)
+CompleteTold words before result =
+    IfSome before.disk (λ disk. (plan : HasPlan words disk) → IsOrCutShort result answers.Ok ⊎ IsPatternRefused disk plan.look.words result)
 
 -- All that a call of the look command with these words promises.
 pub record IsAnswered (words : List Word) (before after : Moment) (result : Answer) : Type 0 where

@@ -2,10 +2,11 @@
 use Rattle.std.proofs.Common.{◌≡◌, ℕ, List, ◌++◌, Some, None, IfSome, Result, Ok, Err, inl, inr, refl, sym, ap, ◌∙◌, subst}
 use Rattle.b2_answers.proofs.FaultLemmas.{whole_of, pattern_refused}
 use Rattle.b2_answers.proofs.ToldLemmas.{if_map}
-use Rattle.b2_answers.specs.Causes.{fault_of}
+use Rattle.b2_answers.specs.Causes.{fault_of, IsPatternRefused}
 use Rattle.b2_answers.specs.Reports.{echo_lines}
 use Rattle.b2_answers.specs.Writing.{Writes, unwritten, AnswersStop}
 use Rattle.b2_answers.specs.declared.answer.Answer.{Answer}
+use Rattle.b2_answers.specs.declared.answer.Answer.TheVariants as answers
 use Rattle.b2_front.specs.Laws.{OneMeaning}
 use Rattle.b2_front.specs.Meaning.{Refusal as Why, Means}
 use Rattle.b2_front.specs.Preparing.{IsPrepared, IsWhole as IsWholeStop, CountsStop}
@@ -68,11 +69,11 @@ module _ (law : OneMeaning) (left : NothingIsLeft) (missed : NothingIsMissed) (m
   Prepared result = IfSome h0.disk (λ disk. IsPrepared disk free echoes result)
 
   -- the plan's words are these
+  same_free : (disk : Disk) (plan : HasPlan words disk) → plan.free ≡ free
+  same_free disk plan = let same : Some plan.free ≡ Some free = sym plan.asked ∙ asked in cc
+
   plan_means : (disk : Disk) (plan : HasPlan words disk) → Means disk None free plan.echoes (Ok plan.planned)
-  plan_means disk plan =
-      let same : Some plan.free ≡ Some free = sym plan.asked ∙ asked in
-      let free_same : plan.free ≡ free = cc in
-      subst (λ f. Means disk None f plan.echoes (Ok plan.planned)) free_same plan.means
+  plan_means disk plan = subst (λ f. Means disk None f plan.echoes (Ok plan.planned)) (same_free disk plan) plan.means
 
   -- ---- there is no plan
 
@@ -88,7 +89,8 @@ module _ (law : OneMeaning) (left : NothingIsLeft) (missed : NothingIsMissed) (m
   stopped o1 (stops.Refused why) result told whole counts says =
       still_refused made words h0 h1 o0 o1 still (fault_of why) echoes result (is_early why) (whole_of why whole) (λ none. not_none none) (λ name is. not_some name is) counts
       (if_map h0.disk (cause_of why) told)
-      (if_map h0.disk (λ disk h plan. pattern_refused law disk free plan.echoes echoes plan.planned (plan_means disk plan) why whole h) told) says
+      (if_map h0.disk (λ disk h plan. subst (λ f. IsPatternRefused disk f (answers.Refused (fault_of why))) (sym (same_free disk plan))
+      (pattern_refused law disk free plan.echoes echoes plan.planned (plan_means disk plan) why whole h)) told) says
   stopped o1 stops.Host result told whole counts says = still_fault made words h0 h1 o0 o1 still free asked can echoes counts result says
   stopped o1 stops.OutOfMemory result told whole counts says = subst (Stopped o1) (sym says.0) (still_short made words h0 h1 o0 o1 still says.1)
 

@@ -4,7 +4,7 @@ use Rattle.std.specs.List.{Contains}
 use Rattle.std.specs.Option.{option_map}
 use Rattle.b2_answers.proofs.ToldLemmas.{if_map, if_all, written_told, text_of, faults_of}
 use Rattle.b2_answers.proofs.WritingLemmas.{written_none}
-use Rattle.b2_answers.specs.Causes.{IsOfPattern}
+use Rattle.b2_answers.specs.Causes.{IsPatternRefused}
 use Rattle.b2_answers.specs.Reports.{echo_lines, refusal_report, fault_report}
 use Rattle.b2_answers.specs.Told.{WrittenTold}
 use Rattle.b2_answers.specs.Writing.{FailsIn, StopsIn, Says, SaysFault}
@@ -240,7 +240,7 @@ module _ (made : Made) (words : List Word) (h0 h1 : Outside) (o0 o1 : Output) (s
 
   pub still_refused : (fault : Fault) (echoes : List Word) (result : Answer) → IsEarly fault → IsWhole fault → (free_words words ≡ None → ⊥)
       → ((name : Word) → unbuilt_option words ≡ Some name → fault ≡ faults.NotYet name 0) → h1.faults ≡ h0.faults
-      → IfSome h0.disk (λ disk. HasCause words disk echoes fault) → IfSome h0.disk (λ disk. HasPlan words disk → IsOfPattern fault)
+      → IfSome h0.disk (λ disk. HasCause words disk echoes fault) → IfSome h0.disk (λ disk. (plan : HasPlan words disk) → IsPatternRefused disk plan.free (answers.Refused fault))
       → Says (answers.Refused fault) (refusal_report echoes [] fault) o0 o1 result → Promised result
   still_refused fault echoes result early input some named same cause no_plan (said is p) = subst Promised (sym is) (record {
     clean = λ e. absurd cc;

@@ -88,10 +88,12 @@ pub record ShouldEndWell (made : Made) (words : List Word) (old new : Family) (d
   pub defined : CleanIsDefined (update_at made plan.planned disk) events
   pub all_well : (i : ℕ) → Contains events (Done i false) → ⊥
 
--- what should end well does, or the call was cut short, or a pattern was refused though it reads as one
+-- What should end well does, or the call was cut short; or the files and the words come to a pattern that is refused though it reads
+-- as one.
 abbrev pub CompleteTold : Made → List Word → Outside → Outside → Answer → Type 0
 CompleteTold made words before after result =
-    BothTold (λ disk later. ShouldEndWell made words before.children after.children disk → IsOrCutShort result answers.Ok ⊎ IsPatternRefused result) before.disk after.disk
+    BothTold (λ disk later. (should : ShouldEndWell made words before.children after.children disk)
+    → IsOrCutShort result answers.Ok ⊎ IsPatternRefused disk should.plan.free result) before.disk after.disk
 
 -- what was written is the report
 abbrev pub ReportTold : Made → List Word → Moment → Moment → Answer → Type 0
