@@ -38,9 +38,9 @@ pub record AreSupplied (d : Declared) (c : Chosen) (s : Standing) (made : Suppli
 
 -- the project of a main target, as its steps take it
 pub record IsHome (d : Declared) (project : ℕ) (home : Home) : Type 0 where
-  pub dir : home.dir ≡ dir_of d project
-  pub owner : home.owner ≡ option_map_or (λ p. p.«module») (slice_get d.places project) []
-  pub file : home.file ≡ option_map_or (λ p. p.file) (slice_get d.places project) (codes ".")
+  pub dir : home.dir.now ≡ dir_of d project
+  pub owner : home.owner.now ≡ option_map_or (λ p. p.«module») (slice_get d.places project) []
+  pub file : home.file.now ≡ option_map_or (λ p. p.file) (slice_get d.places project) (codes ".")
 
 -- what an open main target gives, by what the code made
 abbrev pub given_of : Chosen → Standing → Made → Generated

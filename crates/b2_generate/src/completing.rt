@@ -14,6 +14,7 @@ use crate::name_table::NameTable;
 use crate::node::Node;
 use b2_base::fault::OutOfMemory;
 use b2_base::list::List;
+use b2_props::props::Props;
 use b2_references::name::TargetName;
 use std::alloc::Global;
 
@@ -30,16 +31,6 @@ pub(crate) struct Nodes {
 struct Noted {
     latest: usize,
     previous: Option<usize>,
-}
-
-fn copied(alloc: Global, places: &[usize]) -> Result<List<usize>, OutOfMemory>
-    ensures { IfOk result (λ made. made ≡ places.now) }
-{
-    let mut made = List::new(alloc);
-    for place in places {
-        made.push(*place)?;
-    }
-    Ok(made)
 }
 
 fn larger(a: usize, b: usize) -> usize
@@ -90,6 +81,30 @@ pub(crate) fn note_first(
     }
 }
 
+/// What a node copies of an open main target.
+#[derive(Drop)]
+struct CopiedParts {
+    name: TargetName,
+    asked: Props,
+    children: List<usize>,
+}
+
+/// Copies what a node has of an open main target, before any of the node is moved: no fault then lets go of it.
+fn copied(alloc: Global, frame: &Frame<'_>) -> Result<CopiedParts, OutOfMemory>
+    ensures name { IfOk result (λ made. made.name ≡ frame.now.name) }
+    ensures asked { IfOk result (λ made. made.asked ≡ frame.now.asked) }
+    ensures children { IfOk result (λ made. made.children ≡ frame.now.done) }
+{
+    let name = frame.name.copy()?;
+    let asked = frame.asked.copy(alloc)?;
+    let children = Vec::from_slice(alloc, frame.done.as_slice())?;
+    Ok(CopiedParts {
+        name,
+        asked,
+        children: List::from_vec(children),
+    })
+}
+
 /// The node that an open main target becomes.
 fn node_of(
     alloc: Global,
@@ -100,17 +115,15 @@ fn node_of(
 ) -> Result<Node, OutOfMemory>
     ensures { IfOk result (IsNodeOf frame.now made latest) }
 {
-    let name = frame.name.copy()?;
-    let asked = frame.asked.copy(alloc)?;
-    let children = copied(alloc, frame.done.as_slice())?;
+    let own = copied(alloc, frame)?;
     Ok(Node {
-        name,
-        asked,
+        name: own.name,
+        asked: own.asked,
         number: frame.chosen.number,
         set: made.set,
         supply: made.supply,
         usage: made.usage,
-        children,
+        children: own.children,
         latest,
         previous,
     })

@@ -7,7 +7,6 @@ use b2_props::props::Props;
 use b2_references::name::TargetName;
 
 /// A main target that is open.
-#[derive(Drop)]
 pub(crate) struct Frame<'a> {
     pub(crate) name: TargetName,
     /// The set that it was asked for with.
@@ -21,4 +20,25 @@ pub(crate) struct Frame<'a> {
     pub(crate) places: NameTable<usize>,
     /// Neither it nor an open target below it was generated before this place.
     pub(crate) earliest: usize,
+}
+
+/// By hand, so that an open main target is let go by one call.
+impl Drop for Frame<'_> {
+    fn drop(self) {
+        let Frame {
+            name,
+            asked,
+            chosen,
+            needs,
+            done,
+            places,
+            earliest: _,
+        } = self;
+        drop(name);
+        drop(asked);
+        drop(chosen);
+        drop(needs);
+        drop(done);
+        drop(places);
+    }
 }

@@ -1,8 +1,8 @@
 //! What an open main target gives, once nothing more is due.
-ghost use Rattle.std.specs.Prelude.{◌≡◌, ◌++◌, map, reverse, IfOk};
+ghost use Rattle.std.specs.Prelude.{◌≡◌, ◌++◌, [], map, reverse, IfOk, OnOk};
 ghost use Rattle.b2_props.specs.Sets.{IsSet};
 ghost use Rattle.b2_props.specs.Refinement.{refined};
-ghost use Rattle.b2_references.specs.Names.{features};
+ghost use Rattle.b2_references.specs.Names.{dir_of, features};
 ghost use Rattle.b2_alternatives.specs.Usage.{own_usage, passed_usage};
 ghost use Rattle.b2_conversions.specs.Answers.{Grows};
 ghost use Rattle.b2_supplies.specs.Supplies.{entries_of, header_directories};
@@ -27,6 +27,7 @@ use b2_conversions::setting::Setting;
 use b2_conversions::site::Site;
 use b2_evaluation::evaluate::Evaluate;
 use b2_generators::types::Types;
+use b2_metatargets::whole::Declared;
 use b2_props::pair_list::PairList;
 use b2_props::props::Props;
 use b2_props::refinement::refine;
@@ -55,39 +56,47 @@ pub(crate) struct Made {
 
 /// The project of a main target, as its steps take it: its directory, its module and its file.
 #[derive(Drop)]
-struct Home {
-    dir: Path,
-    owner: Text,
-    file: Path,
+struct Home<'a> {
+    dir: &'a Path,
+    owner: &'a Text,
+    file: &'a Path,
 }
 
-fn home_of(alloc: Global, index: &Index<'_>, project: usize) -> Result<Home, OutOfMemory>
-    ensures { IfOk result (IsHome index.now project) }
+/// The project of a main target with its directory. One that is not there has no module, and its directory stands for its file.
+fn home_of<'a>(declared: &'a Declared, project: usize, dir: &'a Path, empty: &'a Text) -> Home<'a>
+    requires dir { dir.now ≡ dir_of declared.now project }
+    requires empty { empty.now ≡ [] }
+    ensures { IsHome declared.now project result }
 {
-    let dir = index.dir_of(project)?;
-    match index.declared().places.as_slice().get(project) {
-        Some(place) => Ok(Home {
+    match declared.places.as_slice().get(project) {
+        Some(place) => Home {
             dir,
-            owner: place.module.copy()?,
-            file: place.file.copy()?,
-        }),
-        None => Ok(Home {
-            file: dir.copy()?,
+            owner: &place.module,
+            file: &place.file,
+        },
+        None => Home {
             dir,
-            owner: Text::new(alloc, "")?,
-        }),
+            owner: empty,
+            file: dir,
+        },
     }
 }
 
-/// The paths of what is to be there before each step.
-fn paths_of(alloc: Global, entries: &[Entry]) -> Result<PathList, OutOfMemory>
-    ensures { IfOk result (λ made. made ≡ map (λ e. e.path) entries.now) }
+/// Takes no memory.
+fn empty_text(alloc: Global) -> Text
+    ensures { result ≡ [] }
 {
-    let mut made = PathList::new(alloc);
+    Text::from_string(String::new(alloc))
+}
+
+/// Adds the paths of some files.
+pub(crate) fn push_paths(paths: &mut PathList, entries: &[Entry]) -> Result<(), OutOfMemory>
+    ensures { OnOk result (paths.new ≡ paths.old ++ map (λ e. e.path) entries.now) }
+{
     for entry in entries {
-        made.push(entry.path.copy()?)?;
+        paths.push(entry.path.copy()?)?;
     }
-    Ok(made)
+    Ok(())
 }
 
 /// The set of a main target with the directories of the headers that were made for it.
@@ -123,7 +132,9 @@ fn order_of(
 {
     let order = supplied(alloc, types, nodes, frame, Wanted::Order)?;
     let entries = entries_of(alloc, order.as_slice())?;
-    paths_of(alloc, entries.as_slice())
+    let mut paths = PathList::new(alloc);
+    push_paths(&mut paths, entries.as_slice())?;
+    Ok(paths)
 }
 
 /// What the needs of an open main target supply to it.
@@ -184,7 +195,9 @@ fn steps_of<E: Evaluate>(
 {
     let declared = index.declared();
     let target = frame.chosen.target;
-    let home = home_of(alloc, index, target.project)?;
+    let dir = index.dir_of(target.project)?;
+    let empty = empty_text(alloc);
+    let home = home_of(declared, target.project, &dir, &empty);
     let setting = Setting {
         alloc,
         registry: &declared.registry,
@@ -196,9 +209,9 @@ fn steps_of<E: Evaluate>(
         name: &target.name,
         rule: &target.rule,
         line: target.line,
-        dir: &home.dir,
-        owner: &home.owner,
-        file: &home.file,
+        dir: home.dir,
+        owner: home.owner,
+        file: home.file,
         set: &supplied.set,
         sources: supplied.sources.as_slice(),
         parts: supplied.parts.as_slice(),

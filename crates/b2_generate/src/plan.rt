@@ -11,6 +11,7 @@ ghost use Rattle.b2_generate.specs.Told.{Leaves};
 use crate::completing::Nodes;
 use crate::fault::GenFault;
 use crate::generation::Generation;
+use crate::making::push_paths;
 use crate::node::Node;
 use crate::pieces::give_all;
 use crate::planned::Planned;
@@ -29,7 +30,6 @@ use b2_references::asked::AskedList;
 use b2_references::index::Index;
 use b2_references::name::TargetName;
 use b2_references::requests::asked;
-use b2_supplies::entry::Entry;
 use b2_virtual::builder::Builder;
 use std::alloc::Global;
 
@@ -38,15 +38,6 @@ use std::alloc::Global;
 pub struct Answered<E: Evaluate + Drop> {
     pub evaluator: E,
     pub result: Result<Planned, GenFault<E::Fault>>,
-}
-
-fn push_paths(wanted: &mut PathList, entries: &[Entry]) -> Result<(), OutOfMemory>
-    ensures { OnOk result (wanted.new ≡ wanted.old ++ map (λ e. e.path) entries.now) }
-{
-    for entry in entries {
-        wanted.push(entry.path.copy()?)?;
-    }
-    Ok(())
 }
 
 /// Adds the paths of the files that the node at a place gives.

@@ -21,7 +21,12 @@ pub(crate) struct Stack<'a> {
 fn has_name(frames: &[Frame<'_>], name: &TargetName) -> bool
     ensures { result ≡ list_any (λ f. is_same name.now f.name) frames.now }
 {
-    frames.iter().any(|frame| name.equals(&frame.name))
+    for frame in frames {
+        if name.equals(&frame.name) {
+            return true;
+        }
+    }
+    false
 }
 
 impl<'a> Stack<'a> {
@@ -52,7 +57,6 @@ impl<'a> Stack<'a> {
         ensures newest { OnOk result (self.new.newest ≡ frame.entry) }
         ensures below { OnOk result (self.new.below.items ≡ self.old.below.items ++ self.old.newest ∷ []) }
     {
-        self.below.reserve(1)?;
         let waiting = mem::replace(&mut self.newest, frame);
         self.below.push(waiting)?;
         Ok(())

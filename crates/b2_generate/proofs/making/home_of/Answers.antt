@@ -4,12 +4,12 @@ use Rattle.std.proofs.lemmas.Option.{slice_get_past}
 use Rattle.b2_generate.proofs.MakingLemmas.{no_dir}
 use Rattle.b2_generate.proofs.making.home_of.Goals as goal
 
-pub returns-in_ok-new-in-None : goal.returns-in_ok-new-in-None
-returns-in_ok-new-in-None c =
-    let none : slice_get c.args.index.now.places c.args.project ≡ None =
-    sym (ap (λ xs. slice_get xs c.args.project) (c.as_slice.ensures ∙ ap (λ d. d.places) c.declared.ensures)) ∙ slice_get_past c.as_slice.result.now c.args.project c.in-None.ensures.lookup.3 in
+pub returns-in-None : goal.returns-in-None
+returns-in-None c =
+    let none : slice_get c.args.declared.now.places c.args.project ≡ None =
+    sym (ap (λ xs. slice_get xs c.args.project) c.as_slice.ensures) ∙ slice_get_past c.as_slice.result.now c.args.project c.in-None.ensures.lookup.3 in
     record {
-      dir = c.dir.view_is ∙ c.in_ok-dir.ensures;
-      owner = c.in_ok-new-in-None.ensures ∙ sym (ap (λ o. option_map_or (λ p. p.«module») o []) none);
-      file = c.in_ok-copy-in-None.ensures ∙ c.in_ok-dir.ensures ∙ no_dir c.args.index.now c.args.project none ∙ sym (ap (λ o. option_map_or (λ p. p.file) o (codes ".")) none);
+      dir = c.requires.dir;
+      owner = c.requires.empty ∙ sym (ap (λ o. option_map_or (λ p. p.«module») o []) none);
+      file = c.requires.dir ∙ no_dir c.args.declared.now c.args.project none ∙ sym (ap (λ o. option_map_or (λ p. p.file) o (codes ".")) none);
     }

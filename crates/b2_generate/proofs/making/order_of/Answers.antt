@@ -1,8 +1,8 @@
-use Rattle.std.proofs.Common.{map, ap, ◌∙◌}
-use Rattle.std.proofs.lemmas.Result.{IfOk-weaker}
+use Rattle.std.proofs.Common.{◌++◌, map, ap, ap₂, ◌∙◌}
 use Rattle.b2_supplies.specs.Supplies.{entries_of}
 use Rattle.b2_generate.proofs.making.order_of.Goals as goal
 
 pub returns : goal.returns
 returns c =
-    IfOk-weaker c.paths_of.result _ _ (λ made p. p ∙ ap (map (λ e. e.path)) (c.as_slice-2.ensures ∙ c.in_ok-entries.ensures ∙ ap entries_of (c.as_slice.ensures ∙ c.in_ok-order.ensures))) c.paths_of.ensures
+    c.in_ok-push_paths.ensures
+    ∙ ap₂ (λ xs es. xs ++ map (λ e. e.path) es) c.new-paths.ensures (c.as_slice-2.ensures ∙ c.in_ok-entries.ensures ∙ ap entries_of (c.as_slice.ensures ∙ c.in_ok-order.ensures))

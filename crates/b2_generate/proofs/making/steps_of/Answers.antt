@@ -1,27 +1,35 @@
-use Rattle.std.proofs.Common.{reverse, Ok, refl, sym, subst}
+use Rattle.std.proofs.Common.{reverse, Ok, refl, sym, ap, subst, ◌∙◌}
 use Rattle.b2_conversions.specs.Answers.{IsRefused}
 use Rattle.b2_props.specs.Sets.{IsSet}
 use Rattle.b2_alternatives.specs.Picking.{seen}
+use Rattle.b2_references.specs.Names.{dir_of}
 use Rattle.b2_generate.specs.Machine.{standing_of}
+use Rattle.b2_generate.specs.Making.{IsHome}
 use Rattle.b2_generate.specs.Told.{loaded_of}
 use Rattle.b2_generate.proofs.ExitLemmas.{exit_is, none_made, is_refused, out_left}
 use Rattle.b2_generate.proofs.MadeLemmas.{grows_none, acts_are, refusal}
 use Rattle.b2_generate.proofs.making.steps_of.Goals as goal
 
-pub returns-in_err-home-clause-made : goal.returns-in_err-home-clause-made
-returns-in_err-home-clause-made g c = λ told is. none_made c.from_residual.result _ _ (exit_is c.from_residual.result _ c.from_residual.ensures.1)
+pub returns-in_err-dir-clause-made : goal.returns-in_err-dir-clause-made
+returns-in_err-dir-clause-made g c = λ told is. none_made c.from_residual.result _ _ (exit_is c.from_residual.result _ c.from_residual.ensures.1)
 
-pub returns-in_err-home-clause-refused : goal.returns-in_err-home-clause-refused
-returns-in_err-home-clause-refused g c = λ told is.
+pub returns-in_err-dir-clause-refused : goal.returns-in_err-dir-clause-refused
+returns-in_err-dir-clause-refused g c = λ told is.
     is_refused g.E.Evaluate.is_host_fault g.E.Evaluate.is_out_of_memory _ c.from_residual.result _ (exit_is c.from_residual.result _ c.from_residual.ensures.1) (record {})
 
-pub returns-in_err-home-clause-grows : goal.returns-in_err-home-clause-grows
-returns-in_err-home-clause-grows g c = grows_none c.args.roots.now c.args.builder.now
+pub returns-in_err-dir-clause-grows : goal.returns-in_err-dir-clause-grows
+returns-in_err-dir-clause-grows g c = grows_none c.args.roots.now c.args.builder.now
 
-pub returns-in_err-home-clause-leaves : goal.returns-in_err-home-clause-leaves
-returns-in_err-home-clause-leaves g c =
+pub returns-in_err-dir-clause-leaves : goal.returns-in_err-dir-clause-leaves
+returns-in_err-dir-clause-leaves g c =
     out_left g.E.Evaluate.answers g.E.Evaluate.kept g.E.Evaluate.faults g.E.Evaluate.is_host_fault g.E.Evaluate.is_out_of_memory g.E.Evaluate.CanFault c.args.evaluator.now c.args.evaluator.now
     c.from_residual.result (exit_is c.from_residual.result _ c.from_residual.ensures.1) refl refl
+
+pub home_of-home-requires-clause-dir : goal.home_of-home-requires-clause-dir
+home_of-home-requires-clause-dir g c = c.in_ok-dir.ensures ∙ ap (λ d. dir_of d c.args.frame.now.chosen.target.now.project) (sym c.declared-declared.ensures)
+
+pub home_of-home-requires-clause-empty : goal.home_of-home-requires-clause-empty
+home_of-home-requires-clause-empty g c = c.empty_text-empty.ensures
 
 pub make-requires : goal.make-requires
 make-requires g c = subst (λ d. IsSet d.registry c.args.supplied.now.set) (sym c.declared-declared.ensures) c.requires.is_set
@@ -29,8 +37,8 @@ make-requires g c = subst (λ d. IsSet d.registry c.args.supplied.now.set) (sym 
 pub returns-in-Ok-clause-made : goal.returns-in-Ok-clause-made
 returns-in-Ok-clause-made g c = λ told is.
     subst (λ act. act c.args.builder.now (Ok (c.in-Ok.supply, c.make.new.builder)))
-    (acts_are c.declared-declared.result.now c.args.index.now c.args.roots.now told (seen c.args.frame.now.name c.args.frame.now.chosen) (standing_of (reverse c.args.nodes.now) c.args.frame.now) c.in_ok-home.home
-    c.args.supplied.now c.as_slice.result.now c.as_slice-2.result.now c.as_slice-3.result.now c.declared-declared.ensures c.in_ok-home.ensures c.requires c.as_slice.ensures c.as_slice-2.ensures c.as_slice-3.ensures)
+    (acts_are c.declared-declared.result.now c.args.index.now c.args.roots.now told (seen c.args.frame.now.name c.args.frame.now.chosen) (standing_of (reverse c.args.nodes.now) c.args.frame.now) c.home_of-home.result
+    c.args.supplied.now c.as_slice.result.now c.as_slice-2.result.now c.as_slice-3.result.now c.declared-declared.ensures (subst (λ d. IsHome d c.args.frame.now.chosen.target.now.project c.home_of-home.result) c.declared-declared.ensures c.home_of-home.ensures) c.requires c.as_slice.ensures c.as_slice-2.ensures c.as_slice-3.ensures)
     (c.in-Ok.ensures.made told is)
 
 pub returns-in-Ok-clause-grows : goal.returns-in-Ok-clause-grows
@@ -44,8 +52,8 @@ returns-clause-refused g c = λ told is.
     refusal g.E.Evaluate.is_host_fault g.E.Evaluate.is_out_of_memory (loaded_of c.args.index.now c.args.roots.now told) (seen c.args.frame.now.name c.args.frame.now.chosen)
     (standing_of (reverse c.args.nodes.now) c.args.frame.now) c.args.builder.now c.in-Err.fault
     (subst (λ act. IsRefused g.E.Evaluate.is_host_fault g.E.Evaluate.is_out_of_memory act c.args.builder.now c.in-Err.fault)
-    (acts_are c.declared-declared.result.now c.args.index.now c.args.roots.now told (seen c.args.frame.now.name c.args.frame.now.chosen) (standing_of (reverse c.args.nodes.now) c.args.frame.now) c.in_ok-home.home
-    c.args.supplied.now c.as_slice.result.now c.as_slice-2.result.now c.as_slice-3.result.now c.declared-declared.ensures c.in_ok-home.ensures c.requires c.as_slice.ensures c.as_slice-2.ensures c.as_slice-3.ensures)
+    (acts_are c.declared-declared.result.now c.args.index.now c.args.roots.now told (seen c.args.frame.now.name c.args.frame.now.chosen) (standing_of (reverse c.args.nodes.now) c.args.frame.now) c.home_of-home.result
+    c.args.supplied.now c.as_slice.result.now c.as_slice-2.result.now c.as_slice-3.result.now c.declared-declared.ensures (subst (λ d. IsHome d c.args.frame.now.chosen.target.now.project c.home_of-home.result) c.declared-declared.ensures c.home_of-home.ensures) c.requires c.as_slice.ensures c.as_slice-2.ensures c.as_slice-3.ensures)
     (c.in-Err.ensures.refused told is))
 
 pub returns-clause-grows : goal.returns-clause-grows
