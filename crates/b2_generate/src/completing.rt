@@ -89,7 +89,7 @@ struct CopiedParts {
     children: List<usize>,
 }
 
-/// Copies what a node has of an open main target, before any of the node is moved: no fault then lets go of it.
+/// What the node of an open main target copies of it. Being copied first, it leaves `node_of` one exit that drops what was made.
 fn copied(alloc: Global, frame: &Frame<'_>) -> Result<CopiedParts, OutOfMemory>
     ensures name { IfOk result (λ made. made.name ≡ frame.now.name) }
     ensures asked { IfOk result (λ made. made.asked ≡ frame.now.asked) }

@@ -82,7 +82,7 @@ fn home_of<'a>(declared: &'a Declared, project: usize, dir: &'a Path, empty: &'a
     }
 }
 
-/// Takes no memory.
+/// The empty text; takes no memory.
 fn empty_text(alloc: Global) -> Text
     ensures { result ≡ [] }
 {

@@ -5,6 +5,9 @@ ghost use Rattle.std.specs.FinMap as finite;
 ghost use Rattle.b2_plan.specs.Plans.{Apart};
 ghost use Rattle.b2_virtual.specs.Clashes.{AreInRoots};
 ghost use Rattle.b2_alternatives.specs.Picking.{IsNumbered};
+ghost use Rattle.b2_generate.specs.Nodes.{entry_in};
+ghost use Rattle.b2_generate.specs.Planning.{first_rows, line};
+ghost use Rattle.b2_generate.specs.TableRows.{lines_of};
 ghost use Rattle.b2_generate.specs.Plans.{seen, planned_at, wanted_at, IsPlanOf, IsResultOf, AnswersPieces, AnswersEach, AnswersRequest, IsWhole};
 ghost use Rattle.b2_generate.specs.Told.{Leaves};
 
@@ -14,7 +17,7 @@ use crate::generation::Generation;
 use crate::making::push_paths;
 use crate::node::Node;
 use crate::pieces::give_all;
-use crate::planned::Planned;
+use crate::planned::{Built, Planned};
 use crate::table::table_of;
 use b2_alternatives::asker::Asker;
 use b2_base::fault::OutOfMemory;
@@ -61,6 +64,36 @@ fn wanted_of(alloc: Global, nodes: &[Node], places: &[usize]) -> Result<PathList
     Ok(wanted)
 }
 
+/// What a plan has beside its steps, and its table.
+#[derive(Drop)]
+struct Parts {
+    wanted: PathList,
+    table: List<Built>,
+    roots: PathList,
+}
+
+/// What the plan of what was generated at some places has beside its steps, and its table.
+fn parts_of(
+    alloc: Global,
+    index: &Index<'_>,
+    roots: &[Path],
+    nodes: &[Node],
+    places: &[usize],
+) -> Result<Parts, OutOfMemory>
+    ensures wanted { IfOk result (λ made. made.wanted ≡ flat_map (wanted_at (reverse nodes.now)) places.now) }
+    ensures table { IfOk result (λ made. lines_of made.table ≡ map (line index.now) (first_rows (flat_map (λ place. (entry_in (reverse nodes.now) place).1.rows) places.now))) }
+    ensures roots { IfOk result (λ made. made.roots ≡ roots.now) }
+{
+    let wanted = wanted_of(alloc, nodes, places)?;
+    let table = table_of(alloc, index, nodes, places)?;
+    let roots = copy_paths(alloc, roots)?;
+    Ok(Parts {
+        wanted,
+        table,
+        roots,
+    })
+}
+
 /// The plan of what was generated at some places, with its table.
 fn planned(
     alloc: Global,
@@ -74,9 +107,12 @@ fn planned(
     ensures seen { IfOk result (λ p. seen p ≡ planned_at index.now roots.now (reverse nodes.now) places.now builder) }
     ensures apart { IfOk result (λ p. Apart p.plan.steps p.plan.roots) }
 {
-    let wanted = wanted_of(alloc, nodes, places)?;
-    let table = table_of(alloc, index, nodes, places)?;
-    let roots = copy_paths(alloc, roots)?;
+    let made = parts_of(alloc, index, roots, nodes, places)?;
+    let Parts {
+        wanted,
+        table,
+        roots,
+    } = made;
     let plan = Plan::new(alloc, builder.into_steps(), wanted, roots)?;
     Ok(Planned { plan, table })
 }
