@@ -11,10 +11,18 @@ use std::alloc::Global;
 use std::mem;
 
 /// The open main targets: the newest, and those that wait below it, the oldest first.
-#[derive(Drop)]
 pub(crate) struct Stack<'a> {
     pub(crate) newest: Frame<'a>,
     pub(crate) below: Vec<Frame<'a>>,
+}
+
+/// By hand, so that the stack is let go by one call.
+impl Drop for Stack<'_> {
+    fn drop(self) {
+        let Stack { newest, below } = self;
+        drop(newest);
+        drop(below);
+    }
 }
 
 /// Whether one of some open main targets has a name; takes no memory.
