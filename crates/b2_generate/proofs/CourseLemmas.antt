@@ -1,6 +1,5 @@
 -- What an open main target that takes a node, and one that is generated, say of the oldest one.
 use Rattle.std.proofs.Common.{◌≡◌, ◌<◌, inl, inr, ◌⊎◌, ℕ, Bool, List, [], ◌∷◌, Option, Some, None, Result, Ok, Err, map, refl, sym, ap, subst, ◌∙◌}
-use Rattle.std.specs.Option.{option_map_or}
 use Rattle.b2_plan.specs.declared.step.Step.{Step}
 use Rattle.b2_props.specs.Sets.{Pair}
 use Rattle.b2_metatargets.specs.declared.whole.Declared.{Declared}
@@ -8,13 +7,13 @@ use Rattle.b2_evaluation.specs.Answers.{Answers}
 use Rattle.b2_references.specs.Names.{Name, target_text}
 use Rattle.b2_alternatives.specs.declared.conflict.Conflict.{Conflict}
 use Rattle.b2_conversions.specs.Answers.{Grows}
+use Rattle.b2_generate.specs.Clear.{IsClear}
 use Rattle.b2_generate.specs.Faults.{usage_conflict}
 use Rattle.b2_generate.specs.Generation.{Generates}
-use Rattle.b2_generate.specs.Laws.{AreClosed}
 use Rattle.b2_generate.specs.Loaded.{Loaded}
-use Rattle.b2_generate.specs.Machine.{frame_of, standing_of, names_of, AreKept}
-use Rattle.b2_generate.specs.Nodes.{entry_in, latest_in}
-use Rattle.b2_generate.specs.Opening.{AreReady, IsConflict}
+use Rattle.b2_generate.specs.Machine.{frame_of, standing_of, names_of}
+use Rattle.b2_generate.specs.Nodes.{entry_in}
+use Rattle.b2_generate.specs.Opening.{IsConflict}
 use Rattle.b2_generate.specs.Remembered.{IsAskedAt, AreMade}
 use Rattle.b2_generate.specs.Stack as stacks
 use Rattle.b2_generate.specs.Stack.{IsUnderWay, Waits, opened}
@@ -30,8 +29,7 @@ use Rattle.b2_generate.specs.declared.node.Node.{Node}
 use Rattle.b2_generate.proofs.AgainLemmas.{given_again}
 use Rattle.b2_generate.proofs.LawLemmas.{lawful}
 use Rattle.b2_generate.proofs.MachineLemmas.{names_are}
-use Rattle.b2_generate.proofs.NameFacts.{same}
-use Rattle.b2_generate.proofs.NodeLemmas.{entry_is, dated_at, closed_by_dates}
+use Rattle.b2_generate.proofs.NodeLemmas.{entry_is}
 use Rattle.b2_generate.proofs.StackLemmas.{takes, clashes}
 use Rattle.b2_generate.proofs.StepLemmas.{stopped, ran_out}
 
@@ -60,22 +58,16 @@ module _ {S E K : Type 0} {answers : S → Option (Answers E)} {kept : S → K} 
 
 -- ---- a node that is remembered
 
-module _ (d : Declared) (nodes : List Node) (firsts : Table ℕ) (f : Frame) (below : List Frame) (ready : AreReady d nodes firsts) (kept : AreKept nodes d (f ∷ below))
-    (place : ℕ) (needed : Name) (asked : List Pair) (at : IsAskedAt nodes place needed asked) (less : latest_in nodes place < f.earliest) where
-  closed_rows : AreClosed (opened (map (frame_of nodes) (f ∷ below))) (entry_in nodes place).1.rows
-  closed_rows =
-      subst (λ (names : List Name). AreClosed names (entry_in nodes place).1.rows) (sym (names_are nodes (f ∷ below)))
-      (closed_by_dates same nodes at.node.latest f.earliest (entry_in nodes place).1.rows (names_of (f ∷ below))
-      (subst (λ (latest : ℕ). latest < f.earliest) (ap (λ (o : Option Node). option_map_or (λ n. n.latest) o 0) at.there) less)
-      (dated_at nodes place at.node ready.dated at.there) kept.1)
-
+module _ (nodes : List Node) (f : Frame) (below : List Frame)
+    (place : ℕ) (needed : Name) (asked : List Pair) (at : IsAskedAt nodes place needed asked) (clear : IsClear (names_of (f ∷ below)) nodes place) where
   pub entry_named : (entry_in nodes place).0 ≡ needed
   entry_named = (entry_is nodes place at.node at.there).name ∙ at.named
 
   module _ {E : Type 0} (l : Loaded E) (name : Name) (set : List Pair) (start : List Step) (steps : List Step)
       (way : IsUnderWay l name set start (map (frame_of nodes) (f ∷ below)) steps) (made : AreMade l nodes steps) (waits : Waits l.declared (frame_of nodes f) needed asked) where
     again : Generates l (opened (map (frame_of nodes) (f ∷ below))) needed asked steps (Ok ((entry_in nodes place).1, steps))
-    again = given_again l (lawful l) nodes place needed asked steps (opened (map (frame_of nodes) (f ∷ below))) made at closed_rows
+    again = given_again l (lawful l) nodes place needed asked steps (opened (map (frame_of nodes) (f ∷ below))) made at
+    (subst (λ (names : List Name). IsClear names nodes place) (sym (names_are nodes (f ∷ below))) clear)
 
     pub taken_leads : (g : Frame) → IsTaken l.declared nodes place f g → IsUnderWay l name set start (map (frame_of nodes) (g ∷ below)) steps
     taken_leads g took =

@@ -33,3 +33,4 @@ mod RowKeys
 mod RowLemmas
 mod WalkLemmas
 mod WalkSteps
+mod ClearLemmas

@@ -25,7 +25,7 @@ closed_back : (above : List Name) (xs ys : List Row) → AreClosed above (xs ++ 
 closed_back above [] ys closed = closed
 closed_back above (x ∷ xs) ys (first, closed) = closed_back above xs ys closed
 
-closed_both : (above : List Name) (xs ys : List Row) → AreClosed above xs → AreClosed above ys → AreClosed above (xs ++ ys)
+pub closed_both : (above : List Name) (xs ys : List Row) → AreClosed above xs → AreClosed above ys → AreClosed above (xs ++ ys)
 closed_both above [] ys one two = two
 closed_both above (x ∷ xs) ys (first, one) two = (first, closed_both above xs ys one two)
 

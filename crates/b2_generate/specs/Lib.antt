@@ -22,3 +22,4 @@ pub mod Generating
 pub mod Pieces
 pub mod Plans
 pub mod TableRows
+pub mod Clear

@@ -1,11 +1,15 @@
 //! Generation of one main target after another.
-ghost use Rattle.std.specs.Prelude.{◌≡◌, ◌<◌, ◌≤◌, IfOk, IfSome, reverse};
+ghost use Rattle.std.specs.Prelude.{◌≡◌, ◌≤◌, IfOk, IfSome, reverse};
 ghost use Rattle.std.specs.FinMap as finite;
 ghost use Rattle.b2_alternatives.specs.declared.need.Next.TheVariants.{Complete, Due};
 ghost use Rattle.b2_generate.specs.Generating.{IsReady, IsKeptFor, NewestWaits, next_of, Turns, Gives};
-ghost use Rattle.b2_generate.specs.Nodes.{IsFrom, latest_in};
+ghost use Rattle.b2_generate.specs.Clear.{IsClear};
+ghost use Rattle.b2_generate.specs.Machine.{names_of};
+ghost use Rattle.b2_generate.specs.Nodes.{AreDated, AreLate, IsFrom};
+ghost use Rattle.b2_generate.specs.Opening.{frames};
 ghost use Rattle.b2_generate.specs.Remembered.{IsAskedAt};
 
+use crate::clear::is_clear;
 use crate::completing::Nodes;
 use crate::fault::GenFault;
 use crate::frame::Frame;
@@ -48,20 +52,26 @@ fn earliest_for(nodes: &Nodes, below: usize, name: &TargetName) -> Result<usize,
 /// The node that may stand for a main target again: it was asked for with the same set, and none of the main targets that were
 /// opened for it is open.
 fn remembered(
+    alloc: Global,
     nodes: &Nodes,
-    earliest: usize,
+    stack: &Stack<'_>,
     name: &TargetName,
     asked: &Props,
 ) -> Result<Option<usize>, OutOfMemory>
+    requires dated { AreDated (reverse nodes.now.list.items) }
+    requires late { AreLate (reverse nodes.now.list.items) stack.now.newest.earliest (names_of (frames stack.now)) }
     ensures asked { IfOk result (λ found. IfSome found (λ place. IsAskedAt (reverse nodes.now.list.items) place name.now asked.now)) }
-    ensures early { IfOk result (λ found. IfSome found (λ place. latest_in (reverse nodes.now.list.items) place < earliest)) }
+    ensures clear { IfOk result (λ found. IfSome found (IsClear (names_of (frames stack.now)) (reverse nodes.now.list.items))) }
 {
     match find(nodes.list.as_slice(), &nodes.newest, name, asked)? {
-        Some(place) => match nodes.list.get(place) {
-            Some(node) if node.latest < earliest => Ok(Some(place)),
-            _ => Ok(None),
-        },
         None => Ok(None),
+        Some(place) => {
+            if is_clear(alloc, nodes.list.as_slice(), stack, place)? {
+                Ok(Some(place))
+            } else {
+                Ok(None)
+            }
+        }
     }
 }
 
@@ -110,7 +120,7 @@ impl<'a, E: Evaluate + Drop> Generation<'a, E> {
         let alloc = self.asker.alloc;
         let index = self.asker.index;
         let asked = propagated(alloc, &index.declared().registry, stack.newest.needs.set())?;
-        match remembered(&self.nodes, stack.newest.earliest, &name, &asked)? {
+        match remembered(alloc, &self.nodes, stack, &name, &asked)? {
             None => self.open(stack, name, asked),
             Some(place) => {
                 take(index, self.nodes.list.as_slice(), &mut stack.newest, place)?;

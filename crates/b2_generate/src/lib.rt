@@ -1,6 +1,7 @@
 //! Generation: what main targets give with sets of properties, the steps that make it, and the plan of a request.
 #![tactic(auto)]
 
+mod clear;
 mod completing;
 pub mod fault;
 mod frame;

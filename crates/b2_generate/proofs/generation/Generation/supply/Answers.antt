@@ -4,9 +4,10 @@ use Rattle.b2_props.specs.Sets.{IsSet, Pair}
 use Rattle.b2_metatargets.specs.declared.whole.Declared.{Declared}
 use Rattle.b2_props.specs.Elements.{propagated}
 use Rattle.b2_alternatives.specs.Picking.{seen}
-use Rattle.b2_generate.specs.Machine.{standing_of, IsKept}
-use Rattle.b2_generate.specs.Nodes.{entry_in, latest_in}
-use Rattle.b2_generate.specs.Opening.{IsConflict}
+use Rattle.b2_generate.specs.Clear.{IsClear}
+use Rattle.b2_generate.specs.Machine.{names_of, standing_of, IsKept}
+use Rattle.b2_generate.specs.Nodes.{entry_in}
+use Rattle.b2_generate.specs.Opening.{frames, IsConflict}
 use Rattle.b2_generate.specs.Remembered.{IsAskedAt}
 use Rattle.b2_generate.specs.Standing.{conflict}
 use Rattle.b2_generate.specs.Taking.{IsTaken}
@@ -28,6 +29,12 @@ propagated-requires g c =
 
 pub returns-in_err-asked-clause-turn : goal.returns-in_err-asked-clause-turn
 returns-in_err-asked-clause-turn g c = ran_out c.from_residual.result (exit_is c.from_residual.result _ c.from_residual.ensures.1) (grows_none _ _) refl refl
+
+pub remembered-requires-clause-dated : goal.remembered-requires-clause-dated
+remembered-requires-clause-dated g c = c.requires.ready.dated
+
+pub remembered-requires-clause-late : goal.remembered-requires-clause-late
+remembered-requires-clause-late g c = c.requires.kept.1
 
 pub returns-in_err-remembered-clause-turn : goal.returns-in_err-remembered-clause-turn
 returns-in_err-remembered-clause-turn g c = ran_out c.from_residual-in_err-remembered.result (exit_is c.from_residual-in_err-remembered.result _ c.from_residual-in_err-remembered.ensures.1) (grows_none _ _) refl refl
@@ -66,7 +73,7 @@ returns-in_err-take-in-Some-clause-turn g c =
     clashed c.from_residual-in_err-take-in-Some.result c.in_err-take-in-Some.field-0.0 f.name _ (exit_is c.from_residual-in_err-take-in-Some.result _ c.from_residual-in_err-take-in-Some.ensures.1)
     (subst (λ (xs : List Node). IsConflict c.args.self.now.asker.index.now f.name (conflict c.args.self.now.asker.index.now (standing_of (reverse xs) f) (entry_in (reverse xs) c.in-Some.place).1) c.in_err-take-in-Some.field-0.0) c.as_slice.ensures.value c.in_err-take-in-Some.ensures.clash) (grows_none _ _)
     (λ found same answered is name set start way made.
-    taken_clashes c.args.self.now.asker.index.now nodes c.args.self.now.nodes.firsts f below c.requires.ready c.requires.kept c.in-Some.place c.args.name c.in_ok-asked.asked (subst (λ (o : Option ℕ). IfSome o (λ p. IsAskedAt (reverse c.args.self.now.nodes.list.items) p c.args.name c.in_ok-asked.asked)) c.in-Some.is c.in_ok-remembered.ensures.asked) (subst (λ (o : Option ℕ). IfSome o (λ p. latest_in (reverse c.args.self.now.nodes.list.items) p < c.args.stack.now.newest.earliest)) c.in-Some.is c.in_ok-remembered.ensures.early)
+    taken_clashes nodes f below c.in-Some.place c.args.name c.in_ok-asked.asked (subst (λ (o : Option ℕ). IfSome o (λ p. IsAskedAt (reverse c.args.self.now.nodes.list.items) p c.args.name c.in_ok-asked.asked)) c.in-Some.is c.in_ok-remembered.ensures.asked) (subst (λ (o : Option ℕ). IfSome o (IsClear (names_of (frames c.args.stack.now)) (reverse c.args.self.now.nodes.list.items))) c.in-Some.is c.in_ok-remembered.ensures.clear)
     (loaded_of c.args.self.now.asker.index.now c.args.self.now.roots.now answered) name set start c.args.self.now.builder way made (record { due = c.requires.due; handed = c.in_ok-asked.ensures.value ∙ ap₂ (λ (k : Declared) (xs : List Pair). propagated k.registry xs) c.declared.ensures c.set.ensures }) found same)
     refl refl refl
 
@@ -81,9 +88,9 @@ returns-in_ok-take-in-Some-clause-turn g c =
     goes
     (taken_goes d nodes c.args.self.now.nodes.firsts f below c.requires.ready c.requires.kept c.args.name
     (due_named d (seen f.name f.chosen) (standing_of nodes f) c.args.name c.requires.due) (due_is_new d (seen f.name f.chosen) (standing_of nodes f) c.args.name c.requires.due)
-    c.in-Some.place after took (ap (λ k. k.name) took.stands) (entry_named d nodes c.args.self.now.nodes.firsts f below c.requires.ready c.requires.kept c.in-Some.place c.args.name c.in_ok-asked.asked (subst (λ (o : Option ℕ). IfSome o (λ p. IsAskedAt (reverse c.args.self.now.nodes.list.items) p c.args.name c.in_ok-asked.asked)) c.in-Some.is c.in_ok-remembered.ensures.asked) (subst (λ (o : Option ℕ). IfSome o (λ p. latest_in (reverse c.args.self.now.nodes.list.items) p < c.args.stack.now.newest.earliest)) c.in-Some.is c.in_ok-remembered.ensures.early)))
+    c.in-Some.place after took (ap (λ k. k.name) took.stands) (entry_named nodes f below c.in-Some.place c.args.name c.in_ok-asked.asked (subst (λ (o : Option ℕ). IfSome o (λ p. IsAskedAt (reverse c.args.self.now.nodes.list.items) p c.args.name c.in_ok-asked.asked)) c.in-Some.is c.in_ok-remembered.ensures.asked) (subst (λ (o : Option ℕ). IfSome o (IsClear (names_of (frames c.args.stack.now)) (reverse c.args.self.now.nodes.list.items))) c.in-Some.is c.in_ok-remembered.ensures.clear)))
     (λ answered is name set start way made. (
-      taken_leads d nodes c.args.self.now.nodes.firsts f below c.requires.ready c.requires.kept c.in-Some.place c.args.name c.in_ok-asked.asked (subst (λ (o : Option ℕ). IfSome o (λ p. IsAskedAt (reverse c.args.self.now.nodes.list.items) p c.args.name c.in_ok-asked.asked)) c.in-Some.is c.in_ok-remembered.ensures.asked) (subst (λ (o : Option ℕ). IfSome o (λ p. latest_in (reverse c.args.self.now.nodes.list.items) p < c.args.stack.now.newest.earliest)) c.in-Some.is c.in_ok-remembered.ensures.early)
+      taken_leads nodes f below c.in-Some.place c.args.name c.in_ok-asked.asked (subst (λ (o : Option ℕ). IfSome o (λ p. IsAskedAt (reverse c.args.self.now.nodes.list.items) p c.args.name c.in_ok-asked.asked)) c.in-Some.is c.in_ok-remembered.ensures.asked) (subst (λ (o : Option ℕ). IfSome o (IsClear (names_of (frames c.args.stack.now)) (reverse c.args.self.now.nodes.list.items))) c.in-Some.is c.in_ok-remembered.ensures.clear)
           (loaded_of d c.args.self.now.roots.now answered) name set start c.args.self.now.builder way made (record { due = c.requires.due; handed = c.in_ok-asked.ensures.value ∙ ap₂ (λ (k : Declared) (xs : List Pair). propagated k.registry xs) c.declared.ensures c.set.ensures }) after took,
       made,
     ))
