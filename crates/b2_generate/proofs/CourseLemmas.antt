@@ -66,8 +66,9 @@ module _ (nodes : List Node) (f : Frame) (below : List Frame)
   module _ {E : Type 0} (l : Loaded E) (name : Name) (set : List Pair) (start : List Step) (steps : List Step)
       (way : IsUnderWay l name set start (map (frame_of nodes) (f ∷ below)) steps) (made : AreMade l nodes steps) (waits : Waits l.declared (frame_of nodes f) needed asked) where
     again : Generates l (opened (map (frame_of nodes) (f ∷ below))) needed asked steps (Ok ((entry_in nodes place).1, steps))
-    again = given_again l (lawful l) nodes place needed asked steps (opened (map (frame_of nodes) (f ∷ below))) made at
-    (subst (λ (names : List Name). IsClear names nodes place) (sym (names_are nodes (f ∷ below))) clear)
+    again =
+        given_again l (lawful l) nodes place needed asked steps (opened (map (frame_of nodes) (f ∷ below))) made at
+        (subst (λ (names : List Name). IsClear names nodes place) (sym (names_are nodes (f ∷ below))) clear)
 
     pub taken_leads : (g : Frame) → IsTaken l.declared nodes place f g → IsUnderWay l name set start (map (frame_of nodes) (g ∷ below)) steps
     taken_leads g took =
