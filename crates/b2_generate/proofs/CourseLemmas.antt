@@ -1,5 +1,5 @@
 -- What an open main target that takes a node, and one that is generated, say of the oldest one.
-use Rattle.std.proofs.Common.{◌≡◌, ◌<◌, inl, inr, ◌⊎◌, ℕ, Bool, List, [], ◌∷◌, Option, Some, None, Result, Ok, Err, map, refl, sym, ap, subst, ◌∙◌}
+use Rattle.std.proofs.Common.{◌≡◌, inl, inr, ◌⊎◌, ℕ, Bool, List, [], ◌∷◌, Option, Some, None, Result, Ok, Err, map, refl, sym, ap, subst, ◌∙◌}
 use Rattle.b2_plan.specs.declared.step.Step.{Step}
 use Rattle.b2_props.specs.Sets.{Pair}
 use Rattle.b2_metatargets.specs.declared.whole.Declared.{Declared}
