@@ -5,9 +5,8 @@ ghost use Rattle.std.specs.FinMap as finite;
 ghost use Rattle.b2_plan.specs.Plans.{Apart};
 ghost use Rattle.b2_virtual.specs.Clashes.{AreInRoots};
 ghost use Rattle.b2_alternatives.specs.Picking.{IsNumbered};
-ghost use Rattle.b2_generate.specs.Nodes.{entry_in};
 ghost use Rattle.b2_generate.specs.Planning.{first_rows, line};
-ghost use Rattle.b2_generate.specs.TableRows.{lines_of};
+ghost use Rattle.b2_generate.specs.TableRows.{lines_of, rows_at};
 ghost use Rattle.b2_generate.specs.Plans.{seen, planned_at, wanted_at, IsPlanOf, IsResultOf, AnswersPieces, AnswersEach, AnswersRequest, IsWhole};
 ghost use Rattle.b2_generate.specs.Told.{Leaves};
 
@@ -81,7 +80,7 @@ fn parts_of(
     places: &[usize],
 ) -> Result<Parts, OutOfMemory>
     ensures wanted { IfOk result (λ made. made.wanted ≡ flat_map (wanted_at (reverse nodes.now)) places.now) }
-    ensures table { IfOk result (λ made. lines_of made.table ≡ map (line index.now) (first_rows (flat_map (λ place. (entry_in (reverse nodes.now) place).1.rows) places.now))) }
+    ensures table { IfOk result (λ made. lines_of made.table ≡ map (line index.now) (first_rows (flat_map (rows_at (reverse nodes.now)) places.now))) }
     ensures roots { IfOk result (λ made. made.roots ≡ roots.now) }
 {
     let wanted = wanted_of(alloc, nodes, places)?;
