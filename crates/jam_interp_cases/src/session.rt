@@ -36,6 +36,11 @@ fn named_part(words: &[Word]) -> Result<Part, CaseFault> {
     }
 }
 
+fn turn_to(alloc: Global, at_hand: &mut Part, words: &[Word]) -> Result<Answer, CaseFault> {
+    *at_hand = named_part(words)?;
+    Ok(Answer::new(alloc))
+}
+
 impl Cases {
     /// Each part as it is at first; the world is at hand.
     pub fn new(alloc: Global) -> Result<Cases, OutOfMemory> {
@@ -47,17 +52,12 @@ impl Cases {
             at_hand: Part::World,
         })
     }
-
-    fn turn_to(&mut self, alloc: Global, words: &[Word]) -> Result<Answer, CaseFault> {
-        self.at_hand = named_part(words)?;
-        Ok(Answer::new(alloc))
-    }
 }
 
 impl Session for Cases {
     fn carry_out(&mut self, alloc: Global, command: &Command) -> Result<Answer, CaseFault> {
         if command.name() == "part" {
-            return self.turn_to(alloc, command.words());
+            return turn_to(alloc, &mut self.at_hand, command.words());
         }
         match self.at_hand {
             Part::World => self.scene.carry_out(alloc, command),

@@ -1,7 +1,7 @@
 //! Calls that leave the world as it is.
 use crate::evaluation::faults::fault_answer;
 use crate::evaluation::machine::Machine;
-use b2_base::text::has_no_zero;
+use b2_base::text::Text;
 use b2_base::text_list::TextList;
 use jam_interp::fault::EvalFault;
 use jam_interp::rolled::{CallAnswer, call_rolled};
@@ -10,28 +10,7 @@ use std::alloc::Global;
 use transcript::answer::Answer;
 use transcript::case_fault::CaseFault;
 use transcript::command::Word;
-use transcript::words::{first, lists};
-
-fn call(
-    alloc: Global,
-    machine: &mut Machine,
-    rule: &str,
-    lists: &[TextList],
-    turns: &mut Turns,
-) -> Result<CallAnswer, EvalFault> {
-    if !has_no_zero(rule) {
-        return Err(EvalFault::OutOfMemory);
-    }
-    call_rolled(
-        alloc,
-        &mut machine.world,
-        rule,
-        lists,
-        turns,
-        &mut *machine.natives,
-        &mut *machine.host,
-    )
-}
+use transcript::words::{first, lists, text};
 
 fn called(alloc: Global, ended: &Result<CallAnswer, EvalFault>) -> Result<Answer, CaseFault> {
     match ended {
@@ -44,11 +23,19 @@ fn called(alloc: Global, ended: &Result<CallAnswer, EvalFault>) -> Result<Answer
 fn call_shown(
     alloc: Global,
     machine: &mut Machine,
-    rule: &str,
+    rule: &Text,
     lists: &[TextList],
     turns: &mut Turns,
 ) -> Result<Answer, CaseFault> {
-    let ended = call(alloc, machine, rule, lists, turns);
+    let ended = call_rolled(
+        alloc,
+        &mut machine.world,
+        rule.as_str(),
+        lists,
+        turns,
+        &mut *machine.natives,
+        &mut *machine.host,
+    );
     let answer = called(alloc, &ended);
     drop(ended);
     answer
@@ -59,7 +46,7 @@ fn call_there(
     alloc: Global,
     machine: &mut Machine,
     module: &str,
-    rule: &str,
+    rule: &Text,
     lists: &[TextList],
     turns: &mut Turns,
 ) -> Result<Answer, CaseFault> {
@@ -80,6 +67,7 @@ pub fn call_rule(
     turns: &mut Turns,
 ) -> Result<Answer, CaseFault> {
     let (rule, others) = first(words)?;
+    let rule = text(alloc, rule)?;
     let lists = lists(alloc, others)?;
-    call_there(alloc, machine, module, rule, lists.as_slice(), turns)
+    call_there(alloc, machine, module, &rule, lists.as_slice(), turns)
 }

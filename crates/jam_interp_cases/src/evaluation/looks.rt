@@ -4,6 +4,8 @@ use b2_base::look::Look;
 use b2_base::text::Text;
 use b2_base::text_list::TextList;
 use jam_natives::decl::Decl;
+use jam_natives::natives::JamNatives;
+use jam_scope::world::World;
 use std::alloc::Global;
 use transcript::answer::Answer;
 use transcript::case_fault::CaseFault;
@@ -12,13 +14,32 @@ use transcript::words::first;
 
 /// A text, and then others, each after a space.
 fn line_of(alloc: Global, head: &str, texts: &[Text]) -> Result<String, CaseFault> {
-    let mut line = String::new(alloc);
-    line.push_str(head)?;
+    let mut line = String::from_str(alloc, head)?;
     for text in texts {
-        line.push(' ')?;
+        line.push_str(" ")?;
         line.push_str(text.as_str())?;
     }
     Ok(line)
+}
+
+/// Shows a name and what it holds.
+fn push_value(
+    alloc: Global,
+    answer: &mut Answer,
+    name: &str,
+    value: &[Text],
+) -> Result<(), CaseFault> {
+    answer.push_line(line_of(alloc, name, value)?.as_str())
+}
+
+/// What variables hold in the present module.
+fn values_here(alloc: Global, world: &World, words: &[Word]) -> Result<Answer, CaseFault> {
+    let mut answer = Answer::new(alloc);
+    for word in words {
+        let name = word.as_str()?;
+        push_value(alloc, &mut answer, name, world.look(name))?;
+    }
+    Ok(answer)
 }
 
 /// What variables hold in a module.
@@ -29,37 +50,41 @@ pub fn values(
     words: &[Word],
 ) -> Result<Answer, CaseFault> {
     machine.world.enter(module)?;
-    let mut answer = Answer::new(alloc);
-    for word in words {
-        let name = word.as_str()?;
-        answer.push_line(line_of(alloc, name, machine.world.look(name))?.as_str())?;
-    }
+    let answer = values_here(alloc, &machine.world, words);
     if machine.world.may_leave() {
         machine.world.leave();
     }
-    Ok(answer)
+    answer
+}
+
+/// Shows what a variable holds on a target, where it holds something.
+fn push_own(
+    alloc: Global,
+    answer: &mut Answer,
+    world: &World,
+    target: &str,
+    name: &str,
+) -> Result<(), CaseFault> {
+    match world.on_target(target, name) {
+        Some(value) => push_value(alloc, answer, name, value),
+        None => Ok(()),
+    }
 }
 
 /// What variables hold on a target.
-pub fn own_values(alloc: Global, machine: &Machine, words: &[Word]) -> Result<Answer, CaseFault> {
+pub fn own_values(alloc: Global, world: &World, words: &[Word]) -> Result<Answer, CaseFault> {
     let (target, names) = first(words)?;
     let mut answer = Answer::new(alloc);
     for word in names {
-        let name = word.as_str()?;
-        match machine.world.on_target(target, name) {
-            Some(value) => answer.push_line(line_of(alloc, name, value)?.as_str())?,
-            None => {}
-        }
+        push_own(alloc, &mut answer, world, target, word.as_str()?)?;
     }
     Ok(answer)
 }
 
 fn lists_line(alloc: Global, head: &str, lists: &[TextList]) -> Result<String, CaseFault> {
-    let mut line = String::new(alloc);
-    line.push_str(head)?;
+    let mut line = String::from_str(alloc, head)?;
     for list in lists {
-        line.push_str(" :")?;
-        line.push_str(line_of(alloc, "", list.as_slice())?.as_str())?;
+        line.push_str(line_of(alloc, " :", list.as_slice())?.as_str())?;
     }
     Ok(line)
 }
@@ -71,9 +96,9 @@ fn decl_line(alloc: Global, decl: &Decl) -> Result<String, CaseFault> {
 }
 
 /// The recorded calls of declaring rules.
-pub fn decls(alloc: Global, machine: &Machine) -> Result<Answer, CaseFault> {
+pub fn decls(alloc: Global, natives: &JamNatives) -> Result<Answer, CaseFault> {
     let mut answer = Answer::new(alloc);
-    for decl in machine.natives.decls() {
+    for decl in natives.decls() {
         answer.push_line(decl_line(alloc, decl)?.as_str())?;
     }
     Ok(answer)

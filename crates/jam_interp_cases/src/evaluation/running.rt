@@ -7,6 +7,7 @@ use jam_interp::fault::EvalFault;
 use jam_interp::run::run;
 use jam_interp::turns::Turns;
 use jam_lexer::lex;
+use jam_natives::natives::JamNatives;
 use jam_parser::parse::parse;
 use std::alloc::Global;
 use transcript::answer::Answer;
@@ -27,12 +28,16 @@ fn statements(alloc: Global, text: &str) -> Result<Tree, CaseFault> {
 }
 
 /// Shows the lines of ECHO that were not shown yet.
-fn push_echoes(machine: &mut Machine, answer: &mut Answer) -> Result<(), CaseFault> {
-    let echoes = machine.natives.echoes();
-    for line in echoes.iter().skip(machine.shown) {
+fn push_echoes(
+    answer: &mut Answer,
+    natives: &JamNatives,
+    shown: &mut usize,
+) -> Result<(), CaseFault> {
+    let echoes = natives.echoes();
+    for line in echoes.iter().skip(*shown) {
         answer.push_line(line.as_str())?;
     }
-    machine.shown = echoes.len();
+    *shown = echoes.len();
     Ok(())
 }
 
@@ -68,7 +73,7 @@ fn shown(
     ended: &Result<(), EvalFault>,
 ) -> Result<Answer, CaseFault> {
     let mut answer = Answer::new(alloc);
-    push_echoes(machine, &mut answer)?;
+    push_echoes(&mut answer, &machine.natives, &mut machine.shown)?;
     if let Err(fault) = ended {
         push_fault(alloc, &mut answer, fault)?;
     }

@@ -24,6 +24,16 @@ pub struct Evaluation {
     left: u32,
 }
 
+fn set_turns(alloc: Global, budget: &mut u32, words: &[Word]) -> Result<Answer, CaseFault> {
+    *budget = number(only(words)?)?;
+    Ok(Answer::new(alloc))
+}
+
+fn set_module(alloc: Global, module: &mut Text, words: &[Word]) -> Result<Answer, CaseFault> {
+    *module = text(alloc, only(words)?)?;
+    Ok(Answer::new(alloc))
+}
+
 impl Evaluation {
     /// An empty world without files.
     pub fn new(alloc: Global) -> Result<Evaluation, OutOfMemory> {
@@ -72,16 +82,6 @@ impl Evaluation {
         *self = Evaluation::new(alloc)?;
         Ok(Answer::new(alloc))
     }
-
-    fn turns(&mut self, alloc: Global, words: &[Word]) -> Result<Answer, CaseFault> {
-        self.budget = number(only(words)?)?;
-        Ok(Answer::new(alloc))
-    }
-
-    fn module(&mut self, alloc: Global, words: &[Word]) -> Result<Answer, CaseFault> {
-        self.module = text(alloc, only(words)?)?;
-        Ok(Answer::new(alloc))
-    }
 }
 
 impl Session for Evaluation {
@@ -89,16 +89,16 @@ impl Session for Evaluation {
         let words = command.words();
         match command.name() {
             "new" => self.renew(alloc),
-            "turns" => self.turns(alloc, words),
-            "module" => self.module(alloc, words),
+            "turns" => set_turns(alloc, &mut self.budget, words),
+            "module" => set_module(alloc, &mut self.module, words),
             "file" => put_files(alloc, &mut self.machine.host, command),
             "run" => self.run(alloc, command),
             "call_rolled" => self.call(alloc, words),
             "step_text" => self.step(alloc, words),
             "value" => values(alloc, &mut self.machine, self.module.as_str(), words),
-            "on" => own_values(alloc, &self.machine, words),
+            "on" => own_values(alloc, &self.machine.world, words),
             "left" => Answer::number(alloc, self.left as u64),
-            "decls" => decls(alloc, &self.machine),
+            "decls" => decls(alloc, &self.machine.natives),
             _ => Err(CaseFault::UnknownCommand),
         }
     }

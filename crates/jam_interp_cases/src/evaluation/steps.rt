@@ -7,7 +7,7 @@ use jam_eval::step::{StepJob, StepText};
 use jam_interp::fault::EvalFault;
 use jam_interp::step::step_text;
 use jam_interp::turns::Turns;
-use jam_values::lists::list_at;
+use jam_natives::list::list_at;
 use std::alloc::Global;
 use transcript::answer::Answer;
 use transcript::case_fault::CaseFault;

@@ -107,14 +107,18 @@ fn call(alloc: Global, scene: &mut Scene, words: &[Word]) -> Result<Answer, Case
     call_shown(alloc, scene, name, given.as_slice(), line)
 }
 
+fn push_list(alloc: Global, answer: &mut Answer, list: &TextList) -> Result<(), CaseFault> {
+    let list = line_of(alloc, list.as_slice())?;
+    let list = list.as_str();
+    answer.push_line(format!(in alloc; ": {list}")?.as_str())
+}
+
 fn push_decl(alloc: Global, answer: &mut Answer, decl: &Decl) -> Result<(), CaseFault> {
     let (rule, module) = (decl.rule.as_str(), decl.module.as_str());
     let (dir, line) = (decl.dir.as_str(), decl.line);
     answer.push_line(format!(in alloc; "{rule} in [{module}] of {dir}, line {line}")?.as_str())?;
     for list in decl.lists.as_slice() {
-        let list = line_of(alloc, list.as_slice())?;
-        let list = list.as_str();
-        answer.push_line(format!(in alloc; ": {list}")?.as_str())?;
+        push_list(alloc, answer, list)?;
     }
     if decl.refused {
         answer.push_line("refused")?;

@@ -16,9 +16,9 @@ use transcript::words::{lists, number, only, path};
 /// The output roots of a new world.
 fn first_roots(alloc: Global) -> Result<PathList, CaseFault> {
     let mut roots = PathList::new(alloc);
-    roots.push(path(alloc, "bin")?)?;
-    roots.push(path(alloc, "stage")?)?;
-    roots.push(path(alloc, "dist")?)?;
+    for root in &["bin", "stage", "dist"] {
+        roots.push(path(alloc, root)?)?;
+    }
     Ok(roots)
 }
 
