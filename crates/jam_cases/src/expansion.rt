@@ -8,11 +8,10 @@
 //! - `expand_body_size BODY`: how many bytes that text has.
 ghost use Rattle.std.specs.Prelude.{◌≡◌};
 
-use crate::words::{one_word, two_words};
 use b2_base::expand_fault::ExpandFault;
 use b2_base::look::Look;
-use b2_base::text::{Text, has_no_zero};
-use b2_base::text_list::TextList;
+use b2_base::text::Text;
+use b2_base::text_list::{TextList, copy_texts};
 use jam_expand::body::expand_body;
 use jam_expand::expand::expand;
 use std::alloc::Global;
@@ -20,6 +19,7 @@ use std::collections::BTreeMap;
 use transcript::answer::Answer;
 use transcript::case_fault::CaseFault;
 use transcript::command::{Command, Word};
+use transcript::words::{both, only, text, texts};
 
 /// The variables that were set, each with its texts; every other one has none.
 #[derive(Drop)]
@@ -42,8 +42,7 @@ impl Variables {
 
     /// Adds texts to those of a variable.
     fn add(&mut self, alloc: Global, name: &str, texts: &[Text]) -> Result<(), CaseFault> {
-        let mut longer = TextList::new(alloc);
-        push_copies(&mut longer, self.look(name))?;
+        let mut longer = copy_texts(alloc, self.look(name))?;
         push_copies(&mut longer, texts)?;
         self.set(alloc, name, longer)
     }
@@ -71,14 +70,6 @@ fn push_copies(texts: &mut TextList, more: &[Text]) -> Result<(), CaseFault> {
     Ok(())
 }
 
-fn texts_of_words(alloc: Global, words: &[Word]) -> Result<TextList, CaseFault> {
-    let mut texts = TextList::new(alloc);
-    for word in words {
-        texts.push(word.as_text(alloc)?)?;
-    }
-    Ok(texts)
-}
-
 fn answer_set(
     alloc: Global,
     variables: &mut Variables,
@@ -90,25 +81,25 @@ fn answer_set(
     if colon.as_str()? != ":" {
         return Err(CaseFault::WrongWords);
     }
-    variables.set(alloc, name.as_str()?, texts_of_words(alloc, elements)?)?;
+    variables.set(alloc, name.as_str()?, texts(alloc, elements)?)?;
     Ok(Answer::new(alloc))
 }
 
 /// The text of a fault.
 fn fault_text(alloc: Global, fault: &ExpandFault) -> Result<String, CaseFault> {
     match fault {
-        ExpandFault::BadIndex { text } => labelled(alloc, "bad index ", text),
-        ExpandFault::BadModifier { text } => labelled(alloc, "bad modifier ", text),
+        ExpandFault::BadIndex { text } => {
+            let text = text.as_str();
+            Ok(format!(in alloc; "bad index {text}")?)
+        }
+        ExpandFault::BadModifier { text } => {
+            let text = text.as_str();
+            Ok(format!(in alloc; "bad modifier {text}")?)
+        }
         ExpandFault::TooDeep => Ok(String::from_str(alloc, "expansion too deep")?),
         ExpandFault::TooLarge { bytes } => Ok(format!(in alloc; "expansion of {bytes} bytes")?),
         ExpandFault::OutOfMemory => Err(CaseFault::OutOfMemory),
     }
-}
-
-fn labelled(alloc: Global, label: &str, text: &Text) -> Result<String, CaseFault> {
-    let mut line = String::from_str(alloc, label)?;
-    line.push_str(text.as_str())?;
-    Ok(line)
 }
 
 fn fault_answer(alloc: Global, fault: &ExpandFault) -> Result<Answer, CaseFault> {
@@ -120,23 +111,15 @@ fn answer_add_expansion(
     variables: &mut Variables,
     words: &[Word],
 ) -> Result<Answer, CaseFault> {
-    let (name, word) = two_words(words)?;
-    let word = word.as_text(alloc)?;
+    let (name, word) = both(words)?;
+    let word = text(alloc, word)?;
     match expand(alloc, word.as_str(), variables) {
         Ok(elements) => {
-            variables.add(alloc, name.as_str()?, elements.as_slice())?;
+            variables.add(alloc, name, elements.as_slice())?;
             Ok(Answer::new(alloc))
         }
         Err(fault) => fault_answer(alloc, &fault),
     }
-}
-
-fn elements_answer(alloc: Global, elements: &TextList) -> Result<Answer, CaseFault> {
-    let mut answer = Answer::new(alloc);
-    for element in elements.as_slice() {
-        answer.push_line(element.as_str())?;
-    }
-    Ok(answer)
 }
 
 fn answer_expand(
@@ -144,9 +127,9 @@ fn answer_expand(
     variables: &Variables,
     words: &[Word],
 ) -> Result<Answer, CaseFault> {
-    let word = one_word(words)?.as_text(alloc)?;
+    let word = text(alloc, only(words)?)?;
     match expand(alloc, word.as_str(), variables) {
-        Ok(elements) => elements_answer(alloc, &elements),
+        Ok(elements) => Answer::texts(alloc, elements.as_slice()),
         Err(fault) => fault_answer(alloc, &fault),
     }
 }
@@ -166,7 +149,7 @@ fn answer_expand_size(
     variables: &Variables,
     words: &[Word],
 ) -> Result<Answer, CaseFault> {
-    let word = one_word(words)?.as_text(alloc)?;
+    let word = text(alloc, only(words)?)?;
     match expand(alloc, word.as_str(), variables) {
         Ok(elements) => size_answer(alloc, elements.as_slice()),
         Err(fault) => fault_answer(alloc, &fault),
@@ -176,18 +159,8 @@ fn answer_expand_size(
 /// The body that a command has: its one word, or its text.
 fn body_of(alloc: Global, command: &Command) -> Result<Text, CaseFault> {
     match command.words() {
-        [] => text_of(alloc, command.text()),
-        [word] => word.as_text(alloc),
-        _ => Err(CaseFault::WrongWords),
-    }
-}
-
-/// A text with no zero byte; others are no words of a case.
-fn text_of(alloc: Global, text: &str) -> Result<Text, CaseFault> {
-    if has_no_zero(text) {
-        Ok(Text::new(alloc, text)?)
-    } else {
-        Err(CaseFault::WrongWords)
+        [] => text(alloc, command.text()),
+        words => text(alloc, only(words)?),
     }
 }
 

@@ -25,7 +25,6 @@ mod shown;
 mod stmts;
 mod tokens;
 mod trees;
-mod words;
 
 use crate::expansion::{Variables, answer_expansion};
 use crate::lexemes::answer_lexemes;

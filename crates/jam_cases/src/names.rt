@@ -3,7 +3,6 @@
 //! - `parts NAME`: the five parts of the name, each with its label.
 //! - `join GRIST DIR BASE SUFFIX MEMBER`: the name that these parts make.
 //! - `glob_match PATTERN TEXT`: whether the pattern matches the text.
-use crate::words::{one_word, two_words};
 use b2_base::text::Text;
 use jam_path::glob::glob_match;
 use jam_path::name::{join, parts};
@@ -12,6 +11,7 @@ use std::alloc::Global;
 use transcript::answer::Answer;
 use transcript::case_fault::CaseFault;
 use transcript::command::{Command, Word};
+use transcript::words::{both, only, text};
 
 /// Adds a label and the part, which may be empty.
 fn push_part(
@@ -39,7 +39,7 @@ fn parts_answer(alloc: Global, name: &NameParts) -> Result<Answer, CaseFault> {
 }
 
 fn answer_parts(alloc: Global, words: &[Word]) -> Result<Answer, CaseFault> {
-    let name = one_word(words)?.as_text(alloc)?;
+    let name = text(alloc, only(words)?)?;
     parts_answer(alloc, &parts(alloc, name.as_str())?)
 }
 
@@ -62,8 +62,8 @@ fn answer_join(alloc: Global, words: &[Word]) -> Result<Answer, CaseFault> {
 }
 
 fn answer_glob_match(alloc: Global, words: &[Word]) -> Result<Answer, CaseFault> {
-    let (pattern, text) = two_words(words)?;
-    let is_match = glob_match(pattern.as_str()?, text.as_str()?);
+    let (pattern, text) = both(words)?;
+    let is_match = glob_match(pattern, text);
     Answer::line(alloc, if is_match { "true" } else { "false" })
 }
 

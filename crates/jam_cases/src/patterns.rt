@@ -3,7 +3,6 @@
 //! - `groups PATTERN TEXT`: the groups of the first match, each on a line below `match`.
 //! - `group_lengths PATTERN NAME`: the lengths of the groups of the first match in the first text of a variable.
 use crate::expansion::Variables;
-use crate::words::two_words;
 use b2_base::look::Look;
 use b2_base::text::Text;
 use b2_base::text_list::TextList;
@@ -13,27 +12,18 @@ use std::alloc::Global;
 use transcript::answer::Answer;
 use transcript::case_fault::CaseFault;
 use transcript::command::{Command, Word};
+use transcript::words::{both, text};
 
-/// What a search of groups came to.
-enum Found {
-    Groups(TextList),
-    NoMatch,
-    Refused(Refusal),
-}
-
-fn found_in(alloc: Global, pattern: &Text, text: &Text) -> Result<Found, CaseFault> {
-    match groups(alloc, pattern.as_str(), text.as_str()) {
-        Ok(Some(found)) => Ok(Found::Groups(found)),
-        Ok(None) => Ok(Found::NoMatch),
-        Err(PatternFault::Refused(refusal)) => Ok(Found::Refused(refusal)),
-        Err(PatternFault::OutOfMemory) => Err(CaseFault::OutOfMemory),
-    }
+/// What is shown of the groups of a match.
+#[derive(Clone, Copy)]
+enum Shown {
+    Texts,
+    Lengths,
 }
 
 fn refusal_answer(alloc: Global, refusal: &Refusal) -> Result<Answer, CaseFault> {
-    let mut line = String::from_str(alloc, "bad pattern ")?;
-    line.push_str(refusal.text())?;
-    let mut answer = Answer::line(alloc, line.as_str())?;
+    let text = refusal.text();
+    let mut answer = Answer::line(alloc, format!(in alloc; "bad pattern {text}")?.as_str())?;
     answer.push_line(if refusal.syntax() {
         "syntax true"
     } else {
@@ -42,30 +32,59 @@ fn refusal_answer(alloc: Global, refusal: &Refusal) -> Result<Answer, CaseFault>
     Ok(answer)
 }
 
-fn groups_answer(alloc: Global, found: &TextList) -> Result<Answer, CaseFault> {
+fn push_group(
+    alloc: Global,
+    answer: &mut Answer,
+    group: &str,
+    shown: Shown,
+) -> Result<(), CaseFault> {
+    match shown {
+        Shown::Texts => answer.push_line(group),
+        Shown::Lengths => {
+            let len = group.len();
+            answer.push_line(format!(in alloc; "{len}")?.as_str())
+        }
+    }
+}
+
+fn groups_answer(alloc: Global, found: &TextList, shown: Shown) -> Result<Answer, CaseFault> {
     let mut answer = Answer::line(alloc, "match")?;
     for group in found.as_slice() {
-        answer.push_line(group.as_str())?;
+        push_group(alloc, &mut answer, group.as_str(), shown)?;
     }
     Ok(answer)
 }
 
-fn lengths_answer(alloc: Global, found: &TextList) -> Result<Answer, CaseFault> {
-    let mut answer = Answer::line(alloc, "match")?;
-    for group in found.as_slice() {
-        let len = group.as_str().len();
-        answer.push_line(format!(in alloc; "{len}")?.as_str())?;
+fn found_answer(
+    alloc: Global,
+    found: &Result<Option<TextList>, PatternFault>,
+    shown: Shown,
+) -> Result<Answer, CaseFault> {
+    match found {
+        Ok(Some(found)) => groups_answer(alloc, found, shown),
+        Ok(None) => Answer::line(alloc, "no match"),
+        Err(PatternFault::Refused(refusal)) => refusal_answer(alloc, refusal),
+        Err(PatternFault::OutOfMemory) => Err(CaseFault::OutOfMemory),
     }
-    Ok(answer)
+}
+
+/// The first match of a pattern in a text.
+fn match_answer(
+    alloc: Global,
+    pattern: &str,
+    within: &Text,
+    shown: Shown,
+) -> Result<Answer, CaseFault> {
+    let pattern = text(alloc, pattern)?;
+    let found = groups(alloc, pattern.as_str(), within.as_str());
+    let answer = found_answer(alloc, &found, shown);
+    drop(found);
+    answer
 }
 
 fn answer_groups(alloc: Global, words: &[Word]) -> Result<Answer, CaseFault> {
-    let (pattern, text) = two_words(words)?;
-    match found_in(alloc, &pattern.as_text(alloc)?, &text.as_text(alloc)?)? {
-        Found::Groups(found) => groups_answer(alloc, &found),
-        Found::NoMatch => Answer::line(alloc, "no match"),
-        Found::Refused(refusal) => refusal_answer(alloc, &refusal),
-    }
+    let (pattern, within) = both(words)?;
+    match_answer(alloc, pattern, &text(alloc, within)?, Shown::Texts)
 }
 
 fn answer_group_lengths(
@@ -73,14 +92,10 @@ fn answer_group_lengths(
     words: &[Word],
     variables: &Variables,
 ) -> Result<Answer, CaseFault> {
-    let (pattern, name) = two_words(words)?;
-    let Some(text) = variables.look(name.as_str()?).first() else {
-        return Err(CaseFault::WrongWords);
-    };
-    match found_in(alloc, &pattern.as_text(alloc)?, text)? {
-        Found::Groups(found) => lengths_answer(alloc, &found),
-        Found::NoMatch => Answer::line(alloc, "no match"),
-        Found::Refused(refusal) => refusal_answer(alloc, &refusal),
+    let (pattern, name) = both(words)?;
+    match variables.look(name).first() {
+        Some(within) => match_answer(alloc, pattern, within, Shown::Lengths),
+        None => Err(CaseFault::WrongWords),
     }
 }
 
