@@ -9,17 +9,20 @@ use jam_patterns::native_fault::NativeFault;
 use std::alloc::Global;
 use transcript::case_fault::CaseFault;
 
+fn owned(alloc: Global, text: &str) -> Result<String, CaseFault> {
+    Ok(String::from_str(alloc, text)?)
+}
+
+/// Words, and what they speak of after a space.
+pub fn said(alloc: Global, words: &str, text: &str) -> Result<String, CaseFault> {
+    Ok(format!(in alloc; "{words} {text}")?)
+}
+
 fn expand_text(alloc: Global, fault: &ExpandFault) -> Result<String, CaseFault> {
     match fault {
-        ExpandFault::BadIndex { text } => {
-            let text = text.as_str();
-            Ok(format!(in alloc; "bad index {text}")?)
-        }
-        ExpandFault::BadModifier { text } => {
-            let text = text.as_str();
-            Ok(format!(in alloc; "bad modifier {text}")?)
-        }
-        ExpandFault::TooDeep => Ok(format!(in alloc; "expansion too deep")?),
+        ExpandFault::BadIndex { text } => said(alloc, "bad index", text.as_str()),
+        ExpandFault::BadModifier { text } => said(alloc, "bad modifier", text.as_str()),
+        ExpandFault::TooDeep => owned(alloc, "expansion too deep"),
         ExpandFault::TooLarge { bytes } => Ok(format!(in alloc; "expansion of {bytes} bytes")?),
         ExpandFault::OutOfMemory => Err(CaseFault::OutOfMemory),
     }
@@ -27,10 +30,7 @@ fn expand_text(alloc: Global, fault: &ExpandFault) -> Result<String, CaseFault> 
 
 fn native_text(alloc: Global, fault: &NativeFault) -> Result<String, CaseFault> {
     match fault {
-        NativeFault::PatternRefused { refusal } => {
-            let text = refusal.text();
-            Ok(format!(in alloc; "bad pattern {text}")?)
-        }
+        NativeFault::PatternRefused { refusal } => said(alloc, "bad pattern", refusal.text()),
         NativeFault::NoSuchRule { module, name } => {
             let (module, name) = (module.as_str(), name.as_str());
             Ok(format!(in alloc; "no rule {name} in module {module}")?)
@@ -51,7 +51,7 @@ fn syntax_text(alloc: Global, path: &str, line: u32, found: &str) -> Result<Stri
     if found.is_empty() {
         return at_line(alloc, path, line, "syntax error at end of file");
     }
-    let text = format!(in alloc; "syntax error at {found}")?;
+    let text = said(alloc, "syntax error at", found)?;
     at_line(alloc, path, line, text.as_str())
 }
 
@@ -72,25 +72,13 @@ fn size_text(alloc: Global, path: &str, size: u64) -> Result<String, CaseFault> 
 /// What a cause says that stands at a line of a file.
 fn cause_text(alloc: Global, cause: &EvalCause) -> Result<String, CaseFault> {
     match cause {
-        EvalCause::UnknownRule { name } => {
-            let name = name.as_str();
-            Ok(format!(in alloc; "unknown rule {name}")?)
-        }
-        EvalCause::Arity { rule } => {
-            let rule = rule.as_str();
-            Ok(format!(in alloc; "wrong arguments for {rule}")?)
-        }
+        EvalCause::UnknownRule { name } => said(alloc, "unknown rule", name.as_str()),
+        EvalCause::Arity { rule } => said(alloc, "wrong arguments for", rule.as_str()),
         EvalCause::Turns { budget } => Ok(format!(in alloc; "more than {budget} turns")?),
-        EvalCause::Depth => Ok(format!(in alloc; "more than 256 levels")?),
+        EvalCause::Depth => owned(alloc, "more than 256 levels"),
         EvalCause::Expand(fault) => expand_text(alloc, fault),
-        EvalCause::Exit { text } => {
-            let text = text.as_str();
-            Ok(format!(in alloc; "{text}")?)
-        }
-        EvalCause::Include { path } => {
-            let path = path.as_str();
-            Ok(format!(in alloc; "no file {path}")?)
-        }
+        EvalCause::Exit { text } => owned(alloc, text.as_str()),
+        EvalCause::Include { path } => said(alloc, "no file", path.as_str()),
         EvalCause::Native(fault) => native_text(alloc, fault),
         EvalCause::Lex(_) | EvalCause::Syntax { .. } | EvalCause::TooBig { .. } => {
             Err(CaseFault::WrongWords)
@@ -113,7 +101,7 @@ fn caused(alloc: Global, path: &str, line: u32, cause: &EvalCause) -> Result<Str
 
 fn eval_text(alloc: Global, fault: &EvalFault) -> Result<String, CaseFault> {
     match fault {
-        EvalFault::Host => Ok(format!(in alloc; "host fault")?),
+        EvalFault::Host => owned(alloc, "host fault"),
         EvalFault::OutOfMemory => Err(CaseFault::OutOfMemory),
         EvalFault::At { path, line, cause } => caused(alloc, path.as_str(), *line, cause),
     }
@@ -121,22 +109,10 @@ fn eval_text(alloc: Global, fault: &EvalFault) -> Result<String, CaseFault> {
 
 fn feature_text(alloc: Global, fault: &FeatureFault) -> Result<String, CaseFault> {
     match fault {
-        FeatureFault::Twice { word } => {
-            let word = word.as_str();
-            Ok(format!(in alloc; "{word} is there twice")?)
-        }
-        FeatureFault::Unknown { word } => {
-            let word = word.as_str();
-            Ok(format!(in alloc; "unknown {word}")?)
-        }
-        FeatureFault::BadValue { word } => {
-            let word = word.as_str();
-            Ok(format!(in alloc; "bad value {word}")?)
-        }
-        FeatureFault::ComposeConflict { word } => {
-            let word = word.as_str();
-            Ok(format!(in alloc; "conflict in {word}")?)
-        }
+        FeatureFault::Twice { word } => said(alloc, word.as_str(), "is there twice"),
+        FeatureFault::Unknown { word } => said(alloc, "unknown", word.as_str()),
+        FeatureFault::BadValue { word } => said(alloc, "bad value", word.as_str()),
+        FeatureFault::ComposeConflict { word } => said(alloc, "conflict in", word.as_str()),
         FeatureFault::OutOfMemory => Err(CaseFault::OutOfMemory),
     }
 }
@@ -152,18 +128,15 @@ fn declaring_text(
 }
 
 fn bad_rule(alloc: Global, path: &str, rule: &str, line: u32) -> Result<String, CaseFault> {
-    let text = format!(in alloc; "bad {rule}")?;
+    let text = said(alloc, "bad", rule)?;
     at_line(alloc, path, line, text.as_str())
 }
 
 /// Why there is no project file, or no tree of one.
 fn file_text(alloc: Global, fault: &LoadFault) -> Result<String, CaseFault> {
     match fault {
-        LoadFault::NoJamroot => Ok(format!(in alloc; "no Jamroot")?),
-        LoadFault::NoJamfile { dir } => {
-            let dir = dir.as_str();
-            Ok(format!(in alloc; "no Jamfile in {dir}")?)
-        }
+        LoadFault::NoJamroot => owned(alloc, "no Jamroot"),
+        LoadFault::NoJamfile { dir } => said(alloc, "no Jamfile in", dir.as_str()),
         LoadFault::TooBig { path, size } => size_text(alloc, path.as_str(), *size),
         LoadFault::Lex { path, fault } => lex_text(alloc, path.as_str(), fault),
         LoadFault::Syntax {
@@ -190,7 +163,7 @@ pub fn refusal_text(alloc: Global, fault: &LoadFault) -> Result<String, CaseFaul
             *line,
             fault,
         ),
-        LoadFault::Host => Ok(format!(in alloc; "host fault")?),
+        LoadFault::Host => owned(alloc, "host fault"),
         _ => file_text(alloc, fault),
     }
 }

@@ -1,5 +1,5 @@
 //! Loading.
-use crate::faults::refusal_text;
+use crate::faults::{refusal_text, said};
 use b2_base::text::Text;
 use b2_memory::memory::MemoryHost;
 use b2_project::load::{LoadFault, Loaded, load as load_projects};
@@ -16,8 +16,7 @@ pub type Kept = ManuallyDrop<Project>;
 
 fn refusal_line(alloc: Global, fault: &LoadFault) -> Result<String, CaseFault> {
     let text = refusal_text(alloc, fault)?;
-    let text = text.as_str();
-    Ok(format!(in alloc; "b2: {text}")?)
+    said(alloc, "b2:", text.as_str())
 }
 
 fn keep(

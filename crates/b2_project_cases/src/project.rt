@@ -1,5 +1,7 @@
 //! Projects and main targets.
-use crate::shown::{push_list, push_pair_list, push_requirements, push_word, push_words};
+use crate::shown::{
+    push_list, push_pair_list, push_requirements, push_word, push_words, shown_word,
+};
 use b2_base::text_list::TextList;
 use b2_declarations::declaration::Kind;
 use b2_metatargets::place::{IndirectRule, Place, Target};
@@ -8,26 +10,23 @@ use jam_natives::decl::Decl;
 use std::alloc::Global;
 use transcript::answer::Answer;
 use transcript::case_fault::CaseFault;
-use transcript::command::Word;
 
 fn place_line(alloc: Global, number: usize, place: &Place) -> Result<String, CaseFault> {
-    let mut line = format!(in alloc; "{number}")?;
-    push_word(&mut line, place.dir.as_str())?;
-    push_word(&mut line, place.file.as_str())?;
-    push_word(&mut line, place.module.as_str())?;
-    if let Some(parent) = place.parent {
-        line.push_str(format!(in alloc; " in {parent}")?.as_str())?;
+    let (dir, file) = (place.dir.as_str(), place.file.as_str());
+    let module = shown_word(place.module.as_str());
+    match place.parent {
+        Some(parent) => Ok(format!(in alloc; "{number} {dir} {file} {module} in {parent}")?),
+        None => Ok(format!(in alloc; "{number} {dir} {file} {module}")?),
     }
-    Ok(line)
 }
 
 fn push_builds(alloc: Global, answer: &mut Answer, place: &Place) -> Result<(), CaseFault> {
+    if place.builds.as_slice().is_empty() {
+        return Ok(());
+    }
     let mut line = String::from_str(alloc, "build-project")?;
     for dir in place.builds.as_slice() {
         push_word(&mut line, dir.as_str())?;
-    }
-    if place.builds.as_slice().is_empty() {
-        return Ok(());
     }
     answer.push_line(line.as_str())
 }
@@ -68,22 +67,18 @@ fn kind_word(kind: Kind) -> &'static str {
 }
 
 fn target_line(alloc: Global, target: &Target) -> Result<String, CaseFault> {
-    let project = target.project;
-    let mut line = format!(in alloc; "{project}")?;
-    push_word(&mut line, kind_word(target.kind))?;
-    push_word(&mut line, target.name.as_str())?;
-    let number = target.line;
-    line.push_str(format!(in alloc; " line {number}")?.as_str())?;
-    Ok(line)
+    let (project, line) = (target.project, target.line);
+    let kind = kind_word(target.kind);
+    let name = shown_word(target.name.as_str());
+    Ok(format!(in alloc; "{project} {kind} {name} line {line}")?)
 }
 
 fn push_rule(alloc: Global, answer: &mut Answer, target: &Target) -> Result<(), CaseFault> {
-    if target.rule.as_str().is_empty() {
+    let rule = target.rule.as_str();
+    if rule.is_empty() {
         return Ok(());
     }
-    let mut line = String::from_str(alloc, "rule")?;
-    push_word(&mut line, target.rule.as_str())?;
-    answer.push_line(line.as_str())
+    answer.push_line(format!(in alloc; "rule {rule}")?.as_str())
 }
 
 fn push_target(alloc: Global, answer: &mut Answer, target: &Target) -> Result<(), CaseFault> {
@@ -124,16 +119,12 @@ pub fn indirect(alloc: Global, project: &Project) -> Result<Answer, CaseFault> {
     Ok(answer)
 }
 
-/// The directories of ids.
-pub fn dir_of(alloc: Global, project: &Project, words: &[Word]) -> Result<Answer, CaseFault> {
-    let mut answer = Answer::new(alloc);
-    for word in words {
-        match project.declared.ids.dir_of(word.as_str()?) {
-            Some(dir) => answer.push_line(dir.as_str())?,
-            None => answer.push_line("none")?,
-        }
+/// Adds the directory of an id.
+pub fn push_dir(answer: &mut Answer, project: &Project, id: &str) -> Result<(), CaseFault> {
+    match project.declared.ids.dir_of(id) {
+        Some(dir) => answer.push_line(dir.as_str()),
+        None => answer.push_line("none"),
     }
-    Ok(answer)
 }
 
 /// The output roots.

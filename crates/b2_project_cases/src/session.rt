@@ -1,7 +1,7 @@
 //! The session of a transcript.
 use crate::loading::{Kept, load};
-use crate::project::{decls, dir_of, indirect, projects, roots, targets};
-use crate::tables::{count, find, generator, parts_of, suffix_of, type_of};
+use crate::project::{decls, indirect, projects, roots, targets};
+use crate::tables::{count, look_up, parts_of};
 use crate::words::kind_of;
 use b2_base::fault::OutOfMemory;
 use b2_memory::memory::{CallKind, MemoryHost};
@@ -40,15 +40,13 @@ fn shown(
         "projects" => projects(alloc, project),
         "targets" => targets(alloc, project),
         "indirect" => indirect(alloc, project),
-        "dir_of" => dir_of(alloc, project, words),
         "roots" => roots(alloc, project),
         "decls" => decls(alloc, project),
         "count" => count(alloc, project),
-        "find" => find(alloc, project, words),
         "parts_of" => parts_of(alloc, project, words),
-        "type_of" => type_of(alloc, project, words),
-        "suffix_of" => suffix_of(alloc, project, words),
-        "generator" => generator(alloc, project, words),
+        "dir_of" | "find" | "type_of" | "suffix_of" | "generator" => {
+            look_up(alloc, project, command, words)
+        }
         _ => Err(CaseFault::UnknownCommand),
     }
 }

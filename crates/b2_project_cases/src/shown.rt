@@ -5,14 +5,15 @@ use std::alloc::Global;
 use transcript::answer::Answer;
 use transcript::case_fault::CaseFault;
 
+/// A word as it is shown: the empty word as `""`.
+pub fn shown_word(word: &str) -> &str {
+    if word.is_empty() { "\"\"" } else { word }
+}
+
 /// Adds a word after a space; the empty word as `""`.
 pub fn push_word(line: &mut String, word: &str) -> Result<(), CaseFault> {
     line.push(' ')?;
-    if word.is_empty() {
-        line.push_str("\"\"")?;
-    } else {
-        line.push_str(word)?;
-    }
+    line.push_str(shown_word(word))?;
     Ok(())
 }
 

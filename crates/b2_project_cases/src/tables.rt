@@ -1,4 +1,5 @@
 //! The tables of features, types and generators.
+use crate::project::push_dir;
 use crate::shown::{push_pair_list, push_pairs, push_words};
 use b2_features::feature::Feature;
 use b2_generators::generator::Generator;
@@ -22,16 +23,16 @@ fn feature_line(alloc: Global, feature: &Feature) -> Result<String, CaseFault> {
     Ok(line)
 }
 
-/// Features by their names.
-pub fn find(alloc: Global, project: &Project, words: &[Word]) -> Result<Answer, CaseFault> {
-    let mut answer = Answer::new(alloc);
-    for word in words {
-        match project.declared.registry.find(word.as_str()?) {
-            Some(feature) => answer.push_line(feature_line(alloc, feature)?.as_str())?,
-            None => answer.push_line("none")?,
-        }
+fn push_feature(
+    alloc: Global,
+    answer: &mut Answer,
+    project: &Project,
+    name: &str,
+) -> Result<(), CaseFault> {
+    match project.declared.registry.find(name) {
+        Some(feature) => answer.push_line(feature_line(alloc, feature)?.as_str()),
+        None => answer.push_line("none"),
     }
-    Ok(answer)
 }
 
 fn parts_line(
@@ -57,29 +58,24 @@ pub fn parts_of(alloc: Global, project: &Project, words: &[Word]) -> Result<Answ
     Answer::line(alloc, line.as_str())
 }
 
-/// The types of files.
-pub fn type_of(alloc: Global, project: &Project, words: &[Word]) -> Result<Answer, CaseFault> {
-    let mut answer = Answer::new(alloc);
-    for word in words {
-        let path = path(alloc, word.as_str()?)?;
-        answer.push_line(project.declared.types.type_of(&path))?;
-    }
-    Ok(answer)
+fn push_type(
+    alloc: Global,
+    answer: &mut Answer,
+    project: &Project,
+    file: &str,
+) -> Result<(), CaseFault> {
+    let path = path(alloc, file)?;
+    answer.push_line(project.declared.types.type_of(&path))
 }
 
-/// The first suffixes of types.
-pub fn suffix_of(alloc: Global, project: &Project, words: &[Word]) -> Result<Answer, CaseFault> {
-    let mut answer = Answer::new(alloc);
-    for word in words {
-        match project.declared.types.suffix_of(word.as_str()?) {
-            Some(suffix) => answer.push_line(suffix)?,
-            None => answer.push_line("none")?,
-        }
+fn push_suffix(answer: &mut Answer, project: &Project, name: &str) -> Result<(), CaseFault> {
+    match project.declared.types.suffix_of(name) {
+        Some(suffix) => answer.push_line(suffix),
+        None => answer.push_line("none"),
     }
-    Ok(answer)
 }
 
-fn push_generator(
+fn push_generator_lines(
     alloc: Global,
     answer: &mut Answer,
     generator: &Generator,
@@ -92,14 +88,45 @@ fn push_generator(
     push_pair_list(alloc, answer, "requirements", generator.required.as_slice())
 }
 
-/// Generators by their ids.
-pub fn generator(alloc: Global, project: &Project, words: &[Word]) -> Result<Answer, CaseFault> {
+fn push_generator(
+    alloc: Global,
+    answer: &mut Answer,
+    project: &Project,
+    id: &str,
+) -> Result<(), CaseFault> {
+    match project.declared.types.generator(id) {
+        Some(generator) => push_generator_lines(alloc, answer, generator),
+        None => answer.push_line("none"),
+    }
+}
+
+/// Adds what the command of this name shows of one word.
+fn push_looked_up(
+    alloc: Global,
+    answer: &mut Answer,
+    project: &Project,
+    command: &str,
+    word: &str,
+) -> Result<(), CaseFault> {
+    match command {
+        "dir_of" => push_dir(answer, project, word),
+        "find" => push_feature(alloc, answer, project, word),
+        "type_of" => push_type(alloc, answer, project, word),
+        "suffix_of" => push_suffix(answer, project, word),
+        _ => push_generator(alloc, answer, project, word),
+    }
+}
+
+/// The directories of ids, the features or generators of names, the types of files, or the first suffixes of types.
+pub fn look_up(
+    alloc: Global,
+    project: &Project,
+    command: &str,
+    words: &[Word],
+) -> Result<Answer, CaseFault> {
     let mut answer = Answer::new(alloc);
     for word in words {
-        match project.declared.types.generator(word.as_str()?) {
-            Some(generator) => push_generator(alloc, &mut answer, generator)?,
-            None => answer.push_line("none")?,
-        }
+        push_looked_up(alloc, &mut answer, project, command, word.as_str()?)?;
     }
     Ok(answer)
 }
