@@ -1,11 +1,12 @@
 -- What comes of a question that is asked.
 use Rattle.std.specs.Borrow.{MutBor}
-use Rattle.std.specs.Prelude.{◌≡◌, ℕ, List, Result, IfErr}
+use Rattle.std.specs.Prelude.{◌≡◌, ℕ, List, Option, Some, None, Result, Ok, Err, IfErr}
 use Rattle.b2_host.specs.Outside.{Outside}
-use Rattle.b2_evaluation.specs.Answers.{Answers, IsTold, IsCounted}
+use Rattle.b2_evaluation.specs.Answers.{Answers, IsTellable, IsTold, IsCounted}
 use Rattle.b2_metatargets.specs.declared.place.Place.{Place}
 use Rattle.jam_journal.specs.Tables.{Text}
 use Rattle.jam_scope.specs.Worlds.{Worlds}
+use Rattle.jam_eval.specs.Rolled.{StepAnswer}
 use Rattle.jam_eval.specs.StepJobs.{job_of, step_answer}
 use Rattle.jam_eval.specs.declared.step.StepJob.{StepJob}
 use Rattle.jam_eval.specs.declared.step.StepText.{StepText}
@@ -15,6 +16,7 @@ use Rattle.b2_loaded.specs.declared.question.Question.TheVariants.{OfRule, OfSte
 use Rattle.b2_loaded.specs.Doing.{texts}
 use Rattle.b2_loaded.specs.Faults.{is_host_fault, is_out_of_memory}
 use Rattle.b2_loaded.specs.Held.{held, EndsQuestion}
+use Rattle.b2_loaded.specs.Questions.{EndsWith}
 use Rattle.b2_loaded.specs.Worlds.{told_in}
 
 -- A question is asked of these projects in these worlds: its answer is the one that is told, a fault is one that it ends with, the files
@@ -42,3 +44,14 @@ AsksStep outside job projects worlds files later =
 -- a question ends with a fault
 abbrev pub EndsOn : {F : Type 0} → (F → Outside) → Question → List Place → Worlds → MutBor F → EvalFault → Type 0
 EndsOn outside question projects worlds files fault = EndsQuestion (held projects worlds files.ghost_name (outside files.now)) question fault
+
+-- the question has an answer
+abbrev pub HasAnswer : Answers EvalFault → Question → Type 0
+HasAnswer answers (OfRule project rule line properties) = (texts : List Text) × (answers.returned project rule line properties ≡ Ok texts)
+HasAnswer answers (OfStep job) = (step : StepAnswer) × (answers.step_text (job_of job) ≡ Ok step)
+
+-- where answers are told, a question has one, or ends with the fault that is told, unless that is the host, memory or a refused pattern
+abbrev pub IsAsked : {A : Type 0} → Option (Answers EvalFault) → Question → Result A EvalFault → Type 0
+IsAsked None question result = Unit {0}
+IsAsked (Some told) question (Ok done) = HasAnswer told question
+IsAsked (Some told) question (Err fault) = IsTellable is_host_fault is_out_of_memory fault → EndsWith told question fault

@@ -48,8 +48,9 @@ impl<'a, F: Files, S: Entry> OwnText<'a, F, S> {
     ghost use Rattle.std.specs.Prelude.{◌≡◌, is_some, false, IfErr};
     ghost use Rattle.b2_host.specs.OutsideLaws.{Keeps};
     ghost use Rattle.b2_evaluation.specs.Answers.{IsCounted};
-    ghost use Rattle.b2_loaded.specs.Asking.{AsksRule, AsksStep, EndsOn};
+    ghost use Rattle.b2_loaded.specs.Asking.{AsksRule, AsksStep, EndsOn, IsAsked};
     ghost use Rattle.b2_loaded.specs.Faults.{is_host_fault, is_out_of_memory};
+    ghost use Rattle.b2_loaded.specs.Worlds.{told_in};
 
     /// The own text of these projects, whose files left a world in which no step is open. The host is what `S` says.
     pub fn new(
@@ -127,9 +128,10 @@ impl<'a, F: Files, S: Entry> OwnText<'a, F, S> {
         self.refused.take()
     }
 
-    /// Asks a question by itself, and tells the fault that it ends with. Its answer is let go, and where a pattern is refused, the
-    /// question is not kept.
+    /// Asks a question by itself, and tells whether it has an answer, or the fault that it ends with. The answer is let go, and where
+    /// a pattern is refused, the question is not kept.
     pub fn ask(&mut self, question: &Question) -> Result<(), EvalFault>
+        ensures told { IsAsked (told_in self.old.projects.now self.old.loaded.world (F.outside self.old.host.files.now).disk) question.now result }
         ensures refused { IfErr result (EndsOn F.outside question.now self.old.projects.now self.old.loaded.world self.old.host.files) }
         ensures counted { IsCounted is_host_fault is_out_of_memory (F.outside self.old.host.files.now).faults (F.outside self.new.host.files.now).faults result }
         ensures disk { (F.outside self.new.host.files.now).disk ≡ (F.outside self.old.host.files.now).disk }
