@@ -37,7 +37,7 @@ use Rattle.b2_front.specs.Meaning.{Refusal, of_load, of_request, of_generation, 
 use Rattle.b2_front.specs.Refusals.{stop_of_request}
 use Rattle.b2_front.specs.Preparing.{Tells, IsWhole, Counts}
 use Rattle.b2_front.specs.Parts.{planned_or_stop, IsGenerated, IsAsked, IsRefusedFor, Does, PlansRequest, Asks}
-use Rattle.b2_front.specs.Again.{is_refusal, is_refused, Settles, SettlesBy}
+use Rattle.b2_front.specs.Again.{is_refusal, is_refused_answer, Settles, SettlesBy}
 use Rattle.b2_front.proofs.TellLemmas.{tells_map}
 use Rattle.b2_front.proofs.AgainLemmas.{not_so, first_same, retells_after}
 use Rattle.b2_front.proofs.StopLemmas.{OfPattern, generated_told, generated_whole, generated_counts, asked_told, asked_whole, asked_counts}
@@ -85,7 +85,7 @@ module _ (R : EvalFault → Type 0) where
   no_making (making.Eval fault) e = λ is. not_so (sym e ∙ is)
   no_making making.OutOfMemory e = tt
 
-  no_refusal : (generated : Result Made (GenFault EvalFault)) → is_refused generated ≡ false → IfErr generated (IsKnown (OfPattern R))
+  no_refusal : (generated : Result Made (GenFault EvalFault)) → is_refused_answer generated ≡ false → IfErr generated (IsKnown (OfPattern R))
   no_refusal (Ok made) e = tt
   no_refusal (Err (generating.NoTarget name)) e = tt
   no_refusal (Err (generating.TargetCycle targets)) e = tt
@@ -96,7 +96,7 @@ module _ (R : EvalFault → Type 0) where
 
 module _ (found : Declared) (worlds : Worlds) (request : Request) (roots : List (List ℕ)) (from mid to : Outside) (generated : Result Made (GenFault EvalFault)) where
   told_over : ((told : Answers EvalFault) → told_in found.places worlds from.disk ≡ Some told → IsPlanned (loaded_of found roots told) is_host_fault is_out_of_memory request generated)
-      → roots ≡ worlds.now.roots → is_refused generated ≡ false
+      → roots ≡ worlds.now.roots → is_refused_answer generated ≡ false
       → IfSome from.disk (λ disk. Tells (Refuses disk worlds found request.sets request.targets) (λ pattern outcome. (pattern ≡ None) × IsGenerated (project_of disk worlds found) request.sets request.targets outcome) (planned_or_stop generated))
   told_over told same not_refused = go from.disk refl
     where
@@ -118,7 +118,7 @@ module _ (found : Declared) (worlds : Worlds) (request : Request) (roots : List 
   no_apart (Err stop) h = tt
 
   -- the count stays where a pattern was refused
-  same_first : (given : Result Made (GenFault EvalFault)) → is_refused given ≡ true → IsCounted (is_eval is_host_fault) (is_memory is_out_of_memory) from.faults mid.faults given → mid.faults ≡ from.faults
+  same_first : (given : Result Made (GenFault EvalFault)) → is_refused_answer given ≡ true → IsCounted (is_eval is_host_fault) (is_memory is_out_of_memory) from.faults mid.faults given → mid.faults ≡ from.faults
   same_first (Ok made) e h = h
   same_first (Err fault) e h = first_same from mid fault e h
 
@@ -140,9 +140,9 @@ module _ (found : Declared) (worlds : Worlds) (request : Request) (roots : List 
       → (result : Result Made Stop) → Settles found worlds request.sets request.targets generated mid to result
       → to.disk ≡ from.disk → to.children ≡ from.children → Keeps from to
       → PlansRequest found worlds request.sets request.targets from to result
-  settled_over told same apart known counted between result settles disk children keeps = go (is_refused generated) refl settles
+  settled_over told same apart known counted between result settles disk children keeps = go (is_refused_answer generated) refl settles
     where
-      go : (b : Bool) → is_refused generated ≡ b → SettlesBy found worlds request.sets request.targets b generated mid to result → PlansRequest found worlds request.sets request.targets from to result
+      go : (b : Bool) → is_refused_answer generated ≡ b → SettlesBy found worlds request.sets request.targets b generated mid to result → PlansRequest found worlds request.sets request.targets from to result
       go true is h =
           let again = retells_after found worlds request.sets request.targets from mid to result between (same_first generated is counted) h in
           record {

@@ -1,4 +1,5 @@
 -- Generation once more, after a pattern was refused in it although it reads as one.
+use Rattle.std.specs.Borrow.{MutBor}
 use Rattle.std.specs.Prelude.{◌≡◌, Bool, true, false, is_some, List, Result, Ok, Err, IfOk, IfErr, if◌then◌else◌}
 use Rattle.std.specs.Option.{IfSome}
 use Rattle.b2_host.specs.Outside.{Outside}
@@ -8,6 +9,7 @@ use Rattle.jam_effects.specs.Causes.{refused_by}
 use Rattle.jam_effects.specs.declared.fault.EvalFault.{EvalFault}
 use Rattle.jam_effects.specs.declared.fault.EvalFault.TheVariants as evaluating
 use Rattle.b2_props.specs.Sets.{Pair}
+use Rattle.b2_props.specs.declared.request.Request.{Request}
 use Rattle.b2_metatargets.specs.declared.whole.Declared.{Declared}
 use Rattle.b2_alternatives.specs.declared.fault.ChoiceFault.{ChoiceFault}
 use Rattle.b2_alternatives.specs.declared.fault.ChoiceFault.TheVariants as choosing
@@ -38,9 +40,9 @@ is_refusal (generating.NotChosen fault) = is_choice_refusal fault
 is_refusal (generating.NotMade fault) = is_making_refusal fault
 is_refusal fault = false
 
-abbrev pub is_refused : Result Made (GenFault EvalFault) → Bool
-is_refused (Ok made) = false
-is_refused (Err fault) = is_refusal fault
+abbrev pub is_refused_answer : Result Made (GenFault EvalFault) → Bool
+is_refused_answer (Ok made) = false
+is_refused_answer (Err fault) = is_refusal fault
 
 -- ---- its answer
 
@@ -83,4 +85,14 @@ module _ (found : Declared) (worlds : Worlds) (sets : List (List Pair)) (targets
   SettlesBy false generated from to result = (result ≡ planned_or_stop generated) × (to ≡ from)
 
   abbrev pub Settles : Result Made (GenFault EvalFault) → Outside → Outside → Result Made Stop → Type 0
-  Settles generated = SettlesBy (is_refused generated) generated
+  Settles generated = SettlesBy (is_refused_answer generated) generated
+
+-- ---- the same for a request, by what the files say of themselves
+
+abbrev pub RetellsOn : {F : Type 0} → (F → Outside) → Declared → Worlds → Request → MutBor F → MutBor F → Result Made Stop → Type 0
+RetellsOn outside found worlds request files later = Retells found worlds request.sets request.targets (outside files.now) (outside later.now)
+
+abbrev pub SettlesOn : {F : Type 0} → (F → Outside) → Declared → Worlds → Request → Result Made (GenFault EvalFault) → MutBor F → MutBor F
+    → Result Made Stop → Type 0
+SettlesOn outside found worlds request generated files later =
+    Settles found worlds request.sets request.targets generated (outside files.now) (outside later.now)

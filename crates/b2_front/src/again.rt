@@ -1,9 +1,9 @@
 //! Generation once more, after a pattern was refused in it although it reads as one.
 ghost use Rattle.std.specs.Prelude.{◌≡◌};
 ghost use Rattle.b2_alternatives.specs.Picking.{IsNumbered};
-ghost use Rattle.b2_loaded.specs.Held.{held, EndsQuestion};
+ghost use Rattle.b2_loaded.specs.Asking.{EndsOn};
 ghost use Rattle.b2_front.specs.Parts.{planned_or_stop};
-ghost use Rattle.b2_front.specs.Again.{is_refusal, is_refused, stop_of_text, host_or_memory, refusal_or_stop, Retells, Settles};
+ghost use Rattle.b2_front.specs.Again.{is_refusal, is_refused_answer, stop_of_text, host_or_memory, refusal_or_stop, RetellsOn, SettlesOn};
 
 use crate::planning::plan_in;
 use crate::refusal::{Stop, not_planned};
@@ -52,7 +52,7 @@ pub(crate) fn is_refusal(fault: &GenFault<EvalFault>) -> bool
 
 /// Whether generation ended with such a fault; takes no memory.
 fn is_refused_answer(generated: &Result<Planned, GenFault<EvalFault>>) -> bool
-    ensures { result ≡ is_refused generated.now }
+    ensures { result ≡ is_refused_answer generated.now }
 {
     match generated {
         Ok(_) => false,
@@ -60,7 +60,7 @@ fn is_refused_answer(generated: &Result<Planned, GenFault<EvalFault>>) -> bool
     }
 }
 
-/// A fault of the host stands for itself. Where the project's own text has any other answer than before, memory ran out.
+/// A fault of the host stands for itself. Where the question has any other answer than before, that is answered as out of memory.
 fn stop_of_text(fault: &EvalFault) -> Stop
     ensures { result ≡ stop_of_text fault.now }
 {
@@ -81,8 +81,9 @@ fn host_or_memory(fault: &GenFault<EvalFault>) -> Stop
     }
 }
 
-/// Why there is no plan, where generation was carried out once more with a question that is refused: this refusal. The engine of
-/// patterns refuses one that reads as a pattern for its size; where it does not do so again, memory ran out.
+/// Why there is no plan, where generation was carried out once more with a question that is refused: this refusal. Where it does not
+/// come to one, the engine of patterns judges otherwise than before, or a file that the project's own text looks at was changed
+/// meanwhile: that is answered as out of memory.
 fn refusal_or_stop(generated: Result<Planned, GenFault<EvalFault>>) -> Stop
     ensures { result ≡ refusal_or_stop generated }
 {
@@ -111,8 +112,8 @@ fn plan_refusing<'a, F: Files, S: Entry>(
 ) -> Ended<'a, F, S>
     requires numbered { IsNumbered declared.now }
     requires places { refusing.own.projects.now ≡ declared.now.places }
-    requires ends { EndsQuestion (held refusing.own.projects.now refusing.own.loaded.world refusing.own.host.files.ghost_name (F.outside refusing.own.host.files.now)) refusing.question refusing.fault }
-    ensures retells { Retells declared.now refusing.entry.own.loaded.world request.now.sets request.now.targets (F.outside refusing.entry.own.host.files.now) (F.outside result.own.host.files.now) result.result }
+    requires ends { EndsOn F.outside refusing.question refusing.own.projects.now refusing.own.loaded.world refusing.own.host.files refusing.fault }
+    ensures retells { RetellsOn F.outside declared.now refusing.entry.own.loaded.world request.now refusing.entry.own.host.files result.own.host.files result.result }
     ensures same_reference { result.own.host.files.ghost_name ≡ refusing.entry.own.host.files.ghost_name }
 {
     let roots = copy_paths(alloc, refusing.own.loaded.world.roots());
@@ -139,7 +140,7 @@ pub(crate) fn plan_again<'a, F: Files, S: Entry>(
 ) -> Ended<'a, F, S>
     requires numbered { IsNumbered declared.now }
     requires places { first.projects.now ≡ declared.now.places }
-    ensures retells { Retells declared.now first.entry.loaded.world request.now.sets request.now.targets (F.outside first.entry.host.files.now) (F.outside result.own.host.files.now) result.result }
+    ensures retells { RetellsOn F.outside declared.now first.entry.loaded.world request.now first.entry.host.files result.own.host.files result.result }
     ensures same_reference { result.own.host.files.ghost_name ≡ first.entry.host.files.ghost_name }
 {
     let mut own = first;
@@ -183,7 +184,7 @@ pub(crate) fn settled<'a, F: Files, S: Entry>(
 ) -> Ended<'a, F, S>
     requires numbered { IsNumbered declared.now }
     requires places { own.projects.now ≡ declared.now.places }
-    ensures settles { Settles declared.now own.entry.loaded.world request.now.sets request.now.targets generated (F.outside own.entry.host.files.now) (F.outside result.own.host.files.now) result.result }
+    ensures settles { SettlesOn F.outside declared.now own.entry.loaded.world request.now generated own.entry.host.files result.own.host.files result.result }
     ensures same_reference { result.own.host.files.ghost_name ≡ own.entry.host.files.ghost_name }
 {
     if is_refused_answer(&generated) {
