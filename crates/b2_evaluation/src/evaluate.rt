@@ -25,11 +25,12 @@ pub trait Evaluate {
     /// How often a call of the host failed. It never falls, and stops at the largest number of 64 bits.
     ghost faults: { Self → ℕ };
 
-    /// Whether a fault is one of the host, or of the engine of patterns.
+    /// Whether a fault counts as one of the host: a call of the host failed, unless the fault counts as out of memory too.
     ghost is_host_fault: { Self.Fault → Bool };
 
-    /// Whether a fault is out of memory. A fault that is one of the host too is neither: a pattern was refused though it reads as
-    /// one, which no answer foretells, and no call of the host failed.
+    /// Whether a fault counts as out of memory. One that counts as both is a fault that no answer foretells, such as a pattern that
+    /// was refused though it reads as one, and no call of the host failed. An evaluator need not have faults that count as both:
+    /// `Refusing` of b2_loaded has none.
     ghost is_out_of_memory: { Self.Fault → Bool };
 
     /// What is known of each fault, by what is kept.
