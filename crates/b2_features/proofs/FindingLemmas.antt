@@ -5,8 +5,8 @@ use Rattle.std.specs.Map.{lookup}
 use Rattle.std.specs.Str.{bytes_eq}
 use Rattle.std.specs.Cmp.Lexicographic.{nat_list_eq_equiv}
 use Rattle.std.proofs.lemmas.Slice.Eq.{bytes_eq-Decides}
-use Rattle.b2_features.specs.Table.{Declared, is_named, feature_of, place_of, parts_of, with_parts, composed}
-use Rattle.b2_features.specs.Faults.{is_declared, is_composed, unknown_in, unknown_word, bad_part, conflict_word, feature_fault, compose_fault, twice_word, bad_word}
+use Rattle.b2_features.specs.Table.{Declared, is_named, feature_of, place_of, implicit_of, is_implicit_in, parts_of, with_parts, composed}
+use Rattle.b2_features.specs.Faults.{is_declared, is_taken, is_composed, unknown_in, unknown_word, bad_part, conflict_word, feature_fault, compose_fault, twice_word, bad_word}
 use Rattle.b2_features.specs.declared.fault.FeatureFault.TheVariants.{Twice, Unknown, BadValue, ComposeConflict}
 use Rattle.b2_features.specs.Finding.{FindsOneMore, FindsParts}
 use Rattle.b2_features.proofs.Lookups.{position-push, position-none}
@@ -28,12 +28,29 @@ or_none : {X : Type 0} (o : Option X) → option_or o None ≡ o
 or_none None = refl
 or_none (Some x) = refl
 
-pub finds_push : (table : List Declared) (f : Declared) → feature_of table f.name ≡ None → FindsOneMore table (table ++ f ∷ []) f
-finds_push table f absent = record {
+none_of : {X : Type 0} (o : Option X) → is_some o ≡ false → o ≡ None
+none_of None e = refl
+none_of (Some x) e = cc
+
+-- what an implicit value leads to, by the new feature
+implicit-push : (table : List Declared) (f : Declared) (value : List ℕ) → implicit_of (table ++ f ∷ []) value ≡ option_or (implicit_of table value) (cond (is_implicit_in value f) (Some f.name) None)
+implicit-push table f value = ap (option_map (λ g. g.name)) (find-push (is_implicit_in value) table f) ∙ go (find (is_implicit_in value) table) (is_implicit_in value f)
+  where
+    go : (o : Option Declared) (b : Bool) → option_map (λ g. g.name) (option_or o (cond b (Some f) None)) ≡ option_or (option_map (λ g. g.name) o) (cond b (Some f.name) None)
+    go None true = refl
+    go None false = refl
+    go (Some g) b = refl
+
+pub finds_push : (table : List Declared) (f : Declared) → feature_of table f.name ≡ None → ((value : List ℕ) → is_implicit_in value f ≡ true → is_taken table value ≡ false) → FindsOneMore table (table ++ f ∷ []) f
+finds_push table f absent untaken = record {
   by_name = find-push (is_named f.name) table f ∙ ap (λ o. option_or o (cond (bytes_eq f.name f.name) (Some f) None)) absent ∙ ap (λ b. cond b (Some f) None) (text_itself f.name);
   place = position-push (is_named f.name) table f ∙ ap (λ o. option_or o (cond (bytes_eq f.name f.name) (Some (length table)) None)) (position-none (is_named f.name) table absent) ∙ ap (λ b. cond b (Some (length table)) None) (text_itself f.name);
   others = λ name apart. find-push (is_named name) table f ∙ ap (λ b. option_or (feature_of table name) (cond b (Some f) None)) apart ∙ or_none (feature_of table name);
   other_places = λ name apart. position-push (is_named name) table f ∙ ap (λ b. option_or (place_of table name) (cond b (Some (length table)) None)) apart ∙ or_none (place_of table name);
+  by_implicit = λ value here.
+      implicit-push table f value ∙ ap (λ b. option_or (implicit_of table value) (cond b (Some f.name) None)) here
+      ∙ ap (λ o. option_or o (Some f.name)) (none_of (implicit_of table value) (untaken value here));
+  other_values = λ value apart. implicit-push table f value ∙ ap (λ b. option_or (implicit_of table value) (cond b (Some f.name) None)) apart ∙ or_none (implicit_of table value);
 }
 
 first_none : {X Y : Type 0} (f : X → Y) (o : Option X) (p : Option Y) → option_or (option_map f o) p ≡ None → o ≡ None
@@ -43,10 +60,6 @@ first_none f (Some x) p e = cc
 second_none : {Y : Type 0} (o p : Option Y) → option_or o p ≡ None → p ≡ None
 second_none None p e = e
 second_none (Some x) p e = cc
-
-none_of : {X : Type 0} (o : Option X) → is_some o ≡ false → o ≡ None
-none_of None e = refl
-none_of (Some x) e = cc
 
 -- where a declaration has no fault, its name is new
 pub undeclared : (table : List Declared) (name : List ℕ) (values attributes : List (List ℕ)) → feature_fault table name values attributes ≡ None → feature_of table name ≡ None

@@ -1,15 +1,17 @@
-use Rattle.std.specs.Prelude.{◌≡◌, ℕ, false, List, Option, Some, length}
+use Rattle.std.specs.Prelude.{◌≡◌, ℕ, true, false, List, Option, Some, length}
 use Rattle.std.specs.Option.{option_and_then}
 use Rattle.std.specs.Str.{bytes_eq}
-use Rattle.b2_features.specs.Table.{Declared, feature_of, place_of, parts_of}
+use Rattle.b2_features.specs.Table.{Declared, feature_of, place_of, parts_of, is_implicit_in, implicit_of}
 
--- A table has one feature more, which is found by its name, at the place after all others. Every other name leads where it
--- led before.
+-- A table has one feature more, which is found by its name, at the place after all others, and by each of its implicit
+-- values. Every other name and every other value leads where it led before.
 pub record FindsOneMore (old new : List Declared) (f : Declared) : Type 0 where
   pub by_name : feature_of new f.name ≡ Some f
   pub place : place_of new f.name ≡ Some (length old)
   pub others : (name : List ℕ) → bytes_eq name f.name ≡ false → feature_of new name ≡ feature_of old name
   pub other_places : (name : List ℕ) → bytes_eq name f.name ≡ false → place_of new name ≡ place_of old name
+  pub by_implicit : (value : List ℕ) → is_implicit_in value f ≡ true → implicit_of new value ≡ Some f.name
+  pub other_values : (value : List ℕ) → is_implicit_in value f ≡ false → implicit_of new value ≡ implicit_of old value
 
 -- the components of a value of the feature of a name
 abbrev pub parts_at : List Declared → List ℕ → List ℕ → Option (List (List ℕ × List ℕ))

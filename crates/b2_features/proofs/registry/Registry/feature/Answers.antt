@@ -18,5 +18,6 @@ returns-clause-found c =
     let made = declared c.in_ok-name.name c.args.values.now c.args.attributes.now in
     let pushed : c.put.new.self ≡ table ++ made ∷ [] = c.in_ok-put.ensures.ok ∙ ap (λ f. table ++ f ∷ []) c.in_ok-feature.ensures in
     let new_name = undeclared table c.in_ok-name.name c.args.values.now c.args.attributes.now c.in_ok-check_feature.ensures.ok in
+    let new_values = untaken table c.in_ok-name.name c.args.values.now c.args.attributes.now c.in_ok-check_feature.ensures.ok in
     subst (λ name. FindsOneMore table c.put.new.self (declared name c.args.values.now c.args.attributes.now)) c.in_ok-name.ensures
-    (subst (λ new. FindsOneMore table new made) (sym pushed) (finds_push table made new_name))
+    (subst (λ new. FindsOneMore table new made) (sym pushed) (finds_push table made new_name new_values))
