@@ -12,55 +12,77 @@ use Rattle.jam_expand.specs.Modifiers.{no_modifiers, modified_after, edited}
 use Rattle.jam_expand.specs.References.{reference_of}
 use Rattle.jam_expand.specs.Values.{values_of, joined_after, values_of_all}
 use Rattle.jam_expand.specs.Words.{part, inside_len, literal_of, before_pieces, pieces_of, any_part, too_deep, deeper}
-use Rattle.jam_expand.specs.WordCuts.{IsBalanced, no_bytes, one_byte, at_end, at_part}
+use Rattle.jam_expand.specs.WordCuts.{IsBalanced, HasNoPart, HasNoSigns, no_bytes, one_byte, at_end, at_part}
 use Rattle.jam_expand.specs.Products.{product}
 use Rattle.jam_expand.specs.Expansions.{lists_of, product_of, elements_at, expansion}
 use Rattle.jam_expand.specs.PlainNames.{IsNameByte, IsPlainName}
 use Rattle.jam_expand.proofs.WordLemmas.{after_literal}
-use Rattle.jam_expand.proofs.WordCutLemmas.{cut_is_one}
+use Rattle.jam_expand.proofs.WordCutLemmas.{no_len, cut_is_one}
 use Rattle.jam_expand.proofs.ProductLemmas.{cross_right}
 use Rattle.jam_expand.proofs.ExpandLemmas.{deep_more, elements_zero, elements_more}
 
--- ---- a word without `$` is itself
-
-no_dollar_here : (byte : ℕ) (bytes : List ℕ) → byte ≢ 36 → inside_len (byte ∷ bytes) ≡ None
-no_dollar_here byte [] h = refl
-no_dollar_here byte (next ∷ bytes) h = rw (ne_eqb byte 36 h) refl
+-- ---- a word that is one literal piece is itself
 
 before_literal : (byte : ℕ) (bytes : List ℕ) → before_pieces byte (literal_of bytes) ≡ literal_of (byte ∷ bytes)
 before_literal byte [] = refl
 before_literal byte (next ∷ bytes) = refl
 
-plain_pieces : (word : List ℕ) → AllByRecursion (λ byte. byte ≢ 36) word → pieces_of word ≡ literal_of word
-plain_pieces [] h = refl
-plain_pieces (byte ∷ bytes) h = after_literal byte bytes (no_dollar_here byte bytes h.0) ∙ ap (before_pieces byte) (plain_pieces bytes h.1) ∙ before_literal byte bytes
-
 literal_flat : (test : List ℕ → Bool) (word : List ℕ) → any_part test (literal_of word) ≡ false
 literal_flat test [] = refl
 literal_flat test (byte ∷ bytes) = refl
 
-literal_product : (values : List ℕ → Answer) (word : List ℕ) → and_then (lists_of values (literal_of word)) (λ lists. within (product lists)) ≡ within (word ∷ [])
-literal_product values [] = refl
-literal_product values (byte ∷ bytes) = ap (λ s. within (s ∷ [])) (append-nil (byte ∷ bytes))
+literal_lists : (values : List ℕ → Answer) (word : List ℕ) → and_then (lists_of values (literal_of word)) (λ lists. within (product lists)) ≡ within (word ∷ [])
+literal_lists values [] = refl
+literal_lists values (byte ∷ bytes) = ap (λ s. within (s ∷ [])) (append-nil (byte ∷ bytes))
 
-plain_product : (values : List ℕ → Answer) (word : List ℕ) → AllByRecursion (λ byte. byte ≢ 36) word → product_of values word ≡ within (word ∷ [])
-plain_product values word h = ap (λ pieces. and_then (lists_of values pieces) (λ lists. within (product lists))) (plain_pieces word h) ∙ literal_product values word
+literal_product : (values : List ℕ → Answer) (word : List ℕ) → pieces_of word ≡ literal_of word → product_of values word ≡ within (word ∷ [])
+literal_product values word h = ap (λ pieces. and_then (lists_of values pieces) (λ lists. within (product lists))) h ∙ literal_lists values word
 
-plain_elements : (levels : ℕ) (names : List ℕ → List (List ℕ)) (word : List ℕ) → AllByRecursion (λ byte. byte ≢ 36) word → elements_at levels names word ≡ within (word ∷ [])
-plain_elements zero names word h = elements_zero 0 names word refl
-plain_elements (suc levels) names word h = elements_more (suc levels) names word (λ e. omega (arith, e)) ∙ plain_product (λ inside. and_then (elements_at (suc levels - 1) names inside) (values_of_all names)) word h
+literal_elements : (levels : ℕ) (names : List ℕ → List (List ℕ)) (word : List ℕ) → pieces_of word ≡ literal_of word → elements_at levels names word ≡ within (word ∷ [])
+literal_elements zero names word h = elements_zero 0 names word refl
+literal_elements (suc levels) names word h = elements_more (suc levels) names word (λ e. omega (arith, e)) ∙ literal_product (λ inside. and_then (elements_at (suc levels - 1) names inside) (values_of_all names)) word h
 
-plain_depth : (levels : ℕ) (word : List ℕ) → AllByRecursion (λ byte. byte ≢ 36) word → deeper levels word ≡ false
-plain_depth levels word h = ap (any_part (too_deep levels)) (plain_pieces word h) ∙ literal_flat (too_deep levels) word
+literal_depth : (levels : ℕ) (word : List ℕ) → pieces_of word ≡ literal_of word → deeper levels word ≡ false
+literal_depth levels word h = ap (any_part (too_deep levels)) h ∙ literal_flat (too_deep levels) word
 
 unless_deep : (deep : Bool) (answer : Answer) → deep ≡ false → cond deep (Err faults.TooDeep) answer ≡ answer
 unless_deep deep answer e = ap (λ b. cond b (Err faults.TooDeep) answer) e
 
+literal_expansion : (names : List ℕ → List (List ℕ)) (word : List ℕ) → pieces_of word ≡ literal_of word → expansion names word ≡ within (word ∷ [])
+literal_expansion names word h = unless_deep (deeper 16 word) (elements_at 16 names word) (literal_depth 16 word h) ∙ literal_elements 16 names word h
+
+-- ---- a word without `$`
+
+no_dollar_here : (byte : ℕ) (bytes : List ℕ) → byte ≢ 36 → inside_len (byte ∷ bytes) ≡ None
+no_dollar_here byte [] h = refl
+no_dollar_here byte (next ∷ bytes) h = rw (ne_eqb byte 36 h) refl
+
+plain_pieces : (word : List ℕ) → AllByRecursion (λ byte. byte ≢ 36) word → pieces_of word ≡ literal_of word
+plain_pieces [] h = refl
+plain_pieces (byte ∷ bytes) h = after_literal byte bytes (no_dollar_here byte bytes h.0) ∙ ap (before_pieces byte) (plain_pieces bytes h.1) ∙ before_literal byte bytes
+
 pub plain_expansion : (names : List ℕ → List (List ℕ)) (word : List ℕ) → AllByRecursion (λ byte. byte ≢ 36) word → expansion names word ≡ within (word ∷ [])
-plain_expansion names word h = unless_deep (deeper 16 word) (elements_at 16 names word) (plain_depth 16 word h) ∙ plain_elements 16 names word h
+plain_expansion names word h = literal_expansion names word (plain_pieces word h)
 
 pub word_is_itself : (names : List ℕ → List (List ℕ)) (word : List ℕ) → All (λ byte. byte ≢ 36) word → expansion names word ≡ within (word ∷ [])
 word_is_itself names word all = plain_expansion names word (recursion_from_All (λ byte. byte ≢ 36) word all)
+
+-- ---- a word in which no part begins
+
+partless_pieces : (word : List ℕ) → HasNoPart word → pieces_of word ≡ literal_of word
+partless_pieces [] h = refl
+partless_pieces (byte ∷ bytes) h =
+    let later : HasNoPart bytes = λ before rest e. h (byte ∷ before) rest (ap (λ s. byte ∷ s) e) in
+    after_literal byte bytes (no_len (byte ∷ bytes) (h [] (byte ∷ bytes) refl)) ∙ ap (before_pieces byte) (partless_pieces bytes later) ∙ before_literal byte bytes
+
+pub no_part_is_itself : (names : List ℕ → List (List ℕ)) (word : List ℕ) → HasNoPart word → expansion names word ≡ within (word ∷ [])
+no_part_is_itself names word h = literal_expansion names word (partless_pieces word h)
+
+no_signs_no_part : (word : List ℕ) → HasNoSigns word → HasNoPart word
+no_signs_no_part word h before rest e inside more balanced f = h before (inside ++ 41 ∷ more) (e ∙ ap (λ s. before ++ s) f)
+
+pub no_signs_is_itself : (names : List ℕ → List (List ℕ)) (word : List ℕ) → HasNoSigns word → expansion names word ≡ within (word ∷ [])
+no_signs_is_itself names word h = no_part_is_itself names word (no_signs_no_part word h)
 
 -- ---- a part that is a bare name
 
@@ -109,7 +131,7 @@ small_name name h = let small : ltb limit (0 + (length name + 1)) ≡ false = le
 
 name_list : (levels : ℕ) (names : List ℕ → List (List ℕ)) (name : List ℕ) → AllByRecursion IsNameByte name → length name < limit → and_then (elements_at levels names name) (values_of_all names) ≡ within (names name)
 name_list levels names name h small =
-    ap (λ r. and_then r (values_of_all names)) (plain_elements levels names name (no_dollars name h) ∙ small_name name small)
+    ap (λ r. and_then r (values_of_all names)) (literal_elements levels names name (plain_pieces name (no_dollars name h)) ∙ small_name name small)
     ∙ joined_one names name (names name) (name_values names name h)
 
 one_list : (list : List (List ℕ)) → and_then (and_then (within list) (λ first. Ok (first ∷ []))) (λ lists. within (product lists)) ≡ within list
@@ -131,7 +153,7 @@ or_false b e = ap (λ c. c || false) e
 name_depth : (name : List ℕ) → AllByRecursion IsNameByte name → deeper 16 (36 ∷ 40 ∷ (name ++ 41 ∷ [])) ≡ false
 name_depth name h =
     ap (any_part (too_deep 16)) (name_pieces name h)
-    ∙ or_false (too_deep 16 name) (deep_more 16 name (λ e. omega (arith, e)) ∙ plain_depth (16 - 1) name (no_dollars name h))
+    ∙ or_false (too_deep 16 name) (deep_more 16 name (λ e. omega (arith, e)) ∙ literal_depth (16 - 1) name (plain_pieces name (no_dollars name h)))
 
 pub name_is_its_list : (names : List ℕ → List (List ℕ)) (name : List ℕ) → IsPlainName name → length name < limit → expansion names (36 ∷ 40 ∷ (name ++ 41 ∷ [])) ≡ within (names name)
 name_is_its_list names name all small =

@@ -147,7 +147,7 @@ part_here (dollar ∷ next ∷ bytes) len h = go (eqb dollar 36) refl (eqb next 
 no_part : (bytes : List ℕ) → inside_len bytes ≡ None → BeginsNoPart bytes
 no_part bytes none inside rest h e = let some : inside_len bytes ≡ Some (length inside) = ap inside_len e ∙ part_found inside rest h in cc
 
-no_len : (bytes : List ℕ) → BeginsNoPart bytes → inside_len bytes ≡ None
+pub no_len : (bytes : List ℕ) → BeginsNoPart bytes → inside_len bytes ≡ None
 no_len bytes h = go (inside_len bytes) refl
   where
     go : (len : Option ℕ) → inside_len bytes ≡ len → len ≡ None

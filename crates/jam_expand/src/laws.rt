@@ -8,7 +8,7 @@ ghost use Rattle.jam_expand.specs.Limits.{limit, within};
 ghost use Rattle.jam_expand.specs.PlainNames.{IsPlainName};
 ghost use Rattle.jam_expand.specs.Products.{product};
 ghost use Rattle.jam_expand.specs.Sizes.{size_of, IsStretchOf};
-ghost use Rattle.jam_expand.specs.WordCuts.{written, IsCutInto};
+ghost use Rattle.jam_expand.specs.WordCuts.{written, HasNoPart, HasNoSigns, IsCutInto};
 ghost use Rattle.jam_expand.specs.Words.{Piece, pieces_of};
 ghost use Rattle.jam_expand.specs.declared.index.Index.{Index};
 
@@ -38,6 +38,12 @@ pub fn product_is_ordered()
 /// What an index selects stands side by side in the list.
 pub fn selection_is_stretch()
     ensures { (index : Option Index) (texts : List (List ℕ)) → IsStretchOf (selected index texts) texts }
+{}
+
+/// A word in which no part begins stands for itself, also with a `$` in it.
+pub fn word_without_parts_is_itself()
+    ensures no_part { (names : List ℕ → List (List ℕ)) (word : List ℕ) → HasNoPart word → expansion names word ≡ within (word ∷ []) }
+    ensures no_signs { (names : List ℕ → List (List ℕ)) (word : List ℕ) → HasNoSigns word → expansion names word ≡ within (word ∷ []) }
 {}
 
 /// A part that is a bare name stands for what the name stands for.
