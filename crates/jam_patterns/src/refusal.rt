@@ -9,7 +9,7 @@ use regex::Error;
 use std::alloc::Global;
 use std::marker::Model;
 
-/// A pattern that was refused, seen as the pattern's text. `groups` alone makes one.
+/// A pattern that was refused, seen as the pattern's text. `groups` alone makes one, and `copy` the same again.
 #[derive(Drop)]
 pub struct Refusal {
     pattern: Text,
