@@ -1,5 +1,6 @@
 //! A list of texts.
 ghost use Rattle.std.specs.Prelude.{◌≡◌, IfOk};
+ghost use Rattle.b2_base.specs.Lists.{list_at};
 
 use crate::fault::OutOfMemory;
 use crate::list::List;
@@ -8,6 +9,16 @@ use std::alloc::Global;
 
 /// Texts in order, seen as the list of their bytes.
 pub type TextList = List<Text>;
+
+/// The list at a place of a call's lists, counted from 0; one that is not given is empty. Takes no memory.
+pub fn list_at(lists: &[TextList], place: usize) -> &[Text]
+    ensures { result.now ≡ list_at place lists.now }
+{
+    match lists.get(place) {
+        None => &[],
+        Some(list) => list.as_slice(),
+    }
+}
 
 /// The same texts, in order.
 pub fn copy_texts(alloc: Global, texts: &[Text]) -> Result<TextList, OutOfMemory>

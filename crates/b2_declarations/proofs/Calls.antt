@@ -12,6 +12,7 @@ use Rattle.b2_base.specs.Simpler.{Simpler, blank, dot, back, leading, Reaches, h
 use Rattle.b2_base.proofs.Shapes.{is_normal_normal}
 use Rattle.b2_base.proofs.Ends.{normal_root, normal_reached}
 use Rattle.b2_base.proofs.Under.{under_here}
+use Rattle.b2_base.specs.Lists.{list_at}
 use Rattle.b2_texts.specs.Cuts.{cut_at}
 use Rattle.b2_declarations.specs.declared.declaration.Attributes.{Attributes}
 use Rattle.b2_declarations.specs.declared.declaration.Declaration.{Declaration}
@@ -21,7 +22,7 @@ use Rattle.b2_declarations.specs.declared.declaration.Kind.TheVariants.{Exe, Lib
 use Rattle.b2_declarations.specs.declared.declaration.MainTarget.{MainTarget}
 use Rattle.b2_declarations.specs.declared.rule.Rule.{Rule}
 use Rattle.b2_declarations.specs.declared.rule.Rule.TheVariants as rules
-use Rattle.b2_declarations.specs.Lists.{Texts, list_at, text_at}
+use Rattle.b2_declarations.specs.Lists.{Texts, text_at}
 use Rattle.b2_declarations.specs.Rules.{rules as table, rule_in, rule_of}
 use Rattle.b2_declarations.specs.Attributes.{id_of, attributes}
 use Rattle.b2_declarations.specs.Targets.{target}

@@ -5,6 +5,7 @@ use Rattle.std.specs.List.{filter_map}
 use Rattle.std.specs.Str.{bytes_eq}
 use Rattle.std.specs.Option.{option_map, option_and_then}
 use Rattle.std.proofs.lemmas.List.Elements.{filter_map-append}
+use Rattle.b2_base.specs.Lists.{list_at}
 use Rattle.b2_texts.specs.Cuts.{named_pair}
 use Rattle.b2_declarations.specs.declared.declaration.Attributes.{Attributes}
 use Rattle.b2_declarations.specs.declared.declaration.PropertyList.{PropertyList}
@@ -16,7 +17,7 @@ use Rattle.b2_declarations.specs.declared.rule.Rule.{Rule}
 use Rattle.b2_declarations.specs.declared.rule.Rule.TheVariants as rules
 use Rattle.b2_base.specs.declared.shape.Count.{Count}
 use Rattle.b2_base.specs.declared.shape.Count.TheVariants.{Nothing, One, AtMostOne, Any, AtLeastOne}
-use Rattle.b2_declarations.specs.Lists.{Texts, list_at, text_at}
+use Rattle.b2_declarations.specs.Lists.{Texts, text_at}
 use Rattle.b2_base.specs.Shapes.{is_counted, are_empty, has_shape}
 use Rattle.b2_declarations.specs.Rules.{rule_of}
 use Rattle.b2_declarations.specs.Attributes.{id_of, is_attribute, are_attributes, property_list, attributes}

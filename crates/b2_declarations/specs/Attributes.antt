@@ -3,11 +3,12 @@ use Rattle.std.specs.Prelude.{ℕ, Bool, true, false, ◌&&◌, ◌||◌, List, 
 use Rattle.std.specs.List.{filter_map}
 use Rattle.std.specs.Str.{bytes_eq}
 use Rattle.b2_base.specs.Segments.{is_rooted}
+use Rattle.b2_base.specs.Lists.{list_at}
 use Rattle.b2_declarations.specs.declared.declaration.Attributes.{Attributes}
 use Rattle.b2_declarations.specs.declared.declaration.ListName.{ListName}
 use Rattle.b2_declarations.specs.declared.declaration.ListName.TheVariants.{Requirements, DefaultBuild, Usage}
 use Rattle.b2_declarations.specs.declared.declaration.PropertyList.{PropertyList}
-use Rattle.b2_declarations.specs.Lists.{Texts, list_at, listed}
+use Rattle.b2_declarations.specs.Lists.{Texts, listed}
 use Rattle.b2_base.specs.Shapes.{are_empty}
 
 -- an id begins with a slash

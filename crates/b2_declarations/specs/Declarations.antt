@@ -3,13 +3,14 @@ use Rattle.std.specs.Prelude.{ℕ, Bool, true, false, ◌&&◌, List, [], ◌∷
 use Rattle.std.specs.Option.{option_and_then}
 use Rattle.std.specs.Str.{bytes_eq}
 use Rattle.b2_base.specs.Segments.{normal_of}
+use Rattle.b2_base.specs.Lists.{list_at}
 use Rattle.b2_texts.specs.Cuts.{named_pair}
 use Rattle.b2_declarations.specs.declared.declaration.Declaration.{Declaration}
 use Rattle.b2_declarations.specs.declared.declaration.Declaration.TheVariants.{Project, Main, Explicit, BuildProject, UseProject, Using, Feature, Compose, FileType, Generator, Import}
 use Rattle.b2_declarations.specs.declared.rule.Rule.{Rule}
 use Rattle.b2_declarations.specs.declared.rule.Rule.TheVariants as rules
 use Rattle.b2_base.specs.declared.shape.Count.TheVariants.{Nothing, One, AtMostOne, Any, AtLeastOne}
-use Rattle.b2_declarations.specs.Lists.{Texts, list_at, text_at}
+use Rattle.b2_declarations.specs.Lists.{Texts, text_at}
 use Rattle.b2_base.specs.Shapes.{is_counted, has_shape}
 use Rattle.b2_declarations.specs.Rules.{rule_of}
 use Rattle.b2_declarations.specs.Attributes.{id_of, attribute_lists, are_attributes, attributes}

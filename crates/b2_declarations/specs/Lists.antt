@@ -1,14 +1,11 @@
 -- The lists of a call.
 use Rattle.std.specs.Prelude.{ℕ, List, [], slice_get, unwrap_or}
+use Rattle.b2_base.specs.Lists.{list_at}
 use Rattle.b2_declarations.specs.declared.declaration.ListName.{ListName}
 use Rattle.b2_declarations.specs.declared.declaration.PropertyList.{PropertyList}
 
 abbrev pub Texts : Type 0
 Texts = List (List ℕ)
-
--- the list at a place, counted from 0; one that is not given is empty
-abbrev pub list_at : ℕ → List Texts → Texts
-list_at place lists = unwrap_or (slice_get lists place) []
 
 -- the first text of the list at a place; of an empty one the empty text
 abbrev pub text_at : ℕ → List Texts → List ℕ

@@ -3,6 +3,7 @@ use Rattle.std.specs.Prelude.{ℕ, ◌==◌, Bool, ◌||◌, List, [], ◌∷◌
 use Rattle.std.specs.List.{list_any}
 use Rattle.std.specs.Str.{bytes_eq}
 use Rattle.b2_base.specs.Segments.{segments, is_rooted, is_up, normal_of}
+use Rattle.b2_base.specs.Lists.{list_at}
 use Rattle.b2_texts.specs.Cuts.{cut_at}
 use Rattle.b2_declarations.specs.declared.declaration.Kind.{Kind}
 use Rattle.b2_declarations.specs.declared.declaration.Kind.TheVariants.{Make, Install}
@@ -11,7 +12,7 @@ use Rattle.b2_declarations.specs.declared.declaration.MainTarget.{MainTarget}
 use Rattle.b2_declarations.specs.declared.declaration.PropertyList.{PropertyList}
 use Rattle.b2_base.specs.declared.shape.Count.{Count}
 use Rattle.b2_base.specs.declared.shape.Count.TheVariants.{One, Any}
-use Rattle.b2_declarations.specs.Lists.{Texts, list_at, text_at, listed}
+use Rattle.b2_declarations.specs.Lists.{Texts, text_at, listed}
 
 -- no main target has such a name: it is empty, absolute, has `//` or a segment `..`, or its normal form is `.`
 abbrev pub is_refused_name : List ℕ → Bool

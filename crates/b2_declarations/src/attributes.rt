@@ -2,17 +2,17 @@
 ghost use Rattle.std.specs.Prelude.{◌≡◌, [], ◌∷◌, ◌++◌, drop, IfOk, OnOk, option_map, slice_get};
 ghost use Rattle.std.specs.List.{filter_map};
 ghost use Rattle.b2_base.specs.Bytes.{HasNoZero};
-ghost use Rattle.b2_declarations.specs.Lists.{list_at};
+ghost use Rattle.b2_base.specs.Lists.{list_at};
 ghost use Rattle.b2_declarations.specs.Attributes.{id_of, has_name, list_name, is_attribute, are_attributes, attribute_lists, property_list, attributes};
 
 use crate::declaration::{Attributes, ListName, PropertyList};
-use crate::lists::{list_at, push_list};
+use crate::lists::push_list;
 use b2_base::fault::OutOfMemory;
 use b2_base::list::List;
 use b2_base::rooted::is_rooted;
 use b2_base::shape::are_empty;
 use b2_base::text::Text;
-use b2_base::text_list::TextList;
+use b2_base::text_list::{TextList, list_at};
 use std::alloc::Global;
 
 /// The id of a text, which begins with a slash.

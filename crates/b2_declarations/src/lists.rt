@@ -1,24 +1,14 @@
 //! The lists of a call.
 ghost use Rattle.std.specs.Prelude.{◌≡◌, [], ◌∷◌, ◌++◌, IfOk, OnOk, slice_get};
 ghost use Rattle.b2_base.specs.Bytes.{HasNoZero};
-ghost use Rattle.b2_declarations.specs.Lists.{list_at, text_at, listed};
+ghost use Rattle.b2_declarations.specs.Lists.{text_at, listed};
 
 use crate::declaration::{ListName, PropertyList};
 use b2_base::fault::OutOfMemory;
 use b2_base::list::List;
 use b2_base::text::Text;
-use b2_base::text_list::TextList;
+use b2_base::text_list::{TextList, list_at};
 use std::alloc::Global;
-
-/// The list at a place, counted from 0; one that is not given is empty. Takes no memory.
-pub(crate) fn list_at(lists: &[TextList], place: usize) -> &[Text]
-    ensures { result.now ≡ list_at place lists.now }
-{
-    match lists.get(place) {
-        None => &[],
-        Some(list) => list.as_slice(),
-    }
-}
 
 /// The first text of the list at a place; of an empty one the empty text. Takes no memory.
 pub(crate) fn text_at(lists: &[TextList], place: usize) -> &str

@@ -1,18 +1,19 @@
 //! The declaration of a call.
 ghost use Rattle.std.specs.Prelude.{◌≡◌, IfOk};
-ghost use Rattle.b2_declarations.specs.Lists.{list_at, text_at};
+ghost use Rattle.b2_base.specs.Lists.{list_at};
+ghost use Rattle.b2_declarations.specs.Lists.{text_at};
 ghost use Rattle.b2_declarations.specs.Declarations.{is_shaped, declared, shape_of, is_refused};
 
 use crate::attributes::{are_attributes, attribute_lists, attributes, id_of};
 use crate::declaration::Declaration;
-use crate::lists::{copies, first_of, list_at, text_at};
+use crate::lists::{copies, first_of, text_at};
 use crate::rule::{Rule, rule_of};
 use crate::target::{counts_of, is_refused_name, target};
 use b2_base::fault::OutOfMemory;
 use b2_base::path::path_of;
 use b2_base::shape::{Count, has_shape};
 use b2_base::text::Text;
-use b2_base::text_list::TextList;
+use b2_base::text_list::{TextList, list_at};
 use b2_texts::cuts::named_pair;
 use std::alloc::Global;
 

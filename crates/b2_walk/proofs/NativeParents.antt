@@ -1,6 +1,7 @@
 -- The native rules put no module below another one.
 use Rattle.std.proofs.Common.{◌≡◌, ℕ, Bool, true, false, not, ◌&&◌, ◌==◌, List, [], ◌∷◌, ◌++◌, length, Option, Some, None, Result, Ok, Err, refl, ap, ◌∙◌}
 use Rattle.std.specs.Prelude.{if◌then◌else◌}
+use Rattle.b2_base.specs.Lists.{list_at}
 use Rattle.jam_journal.specs.Tables.{Text, Table}
 use Rattle.jam_journal.specs.Scopes.{Value}
 use Rattle.jam_scope.specs.Worlds.{World, Worlds}
@@ -10,7 +11,6 @@ use Rattle.jam_eval.specs.declared.native_answer.NativeStep.TheVariants as steps
 use Rattle.jam_eval.specs.Refused.{refused_here}
 use Rattle.jam_eval.specs.Settings.{Told, answers, refuses, of_arity, Sight, Setting}
 use Rattle.jam_eval.specs.States.{State}
-use Rattle.jam_eval.specs.Params.{list_at}
 use Rattle.jam_eval.specs.Calls.{native_answer, acted_answer}
 use Rattle.jam_eval.specs.Kept.{EndsTold}
 use Rattle.jam_eval.specs.Laws.{SameParents, KeepParents}

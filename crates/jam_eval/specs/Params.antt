@@ -1,16 +1,11 @@
 -- How the parameters of a rule take the arguments of a call.
 use Rattle.std.specs.Prelude.{ℕ, zero, suc, ◌==◌, List, [], ◌∷◌, ◌++◌, Option, Some, None, if◌then◌else◌}
 use Rattle.std.specs.Option.{option_map}
+use Rattle.b2_base.specs.Lists.{list_at}
 use Rattle.jam_grammar.specs.declared.tree.Param.{Param}
 use Rattle.jam_grammar.specs.Spelling.{takes_all}
 use Rattle.jam_journal.specs.Tables.{Text}
 use Rattle.jam_journal.specs.Scopes.{Value, Binding}
-
--- the list at a place, counted from 0; the empty one where there are fewer
-abbrev pub list_at : ℕ → List Value → Value
-list_at n [] = []
-list_at zero (list ∷ lists) = list
-list_at (suc n) (list ∷ lists) = list_at n lists
 
 abbrev pub rest_of : List Value → List Value
 rest_of [] = []

@@ -1,4 +1,3 @@
-pub mod ListLemmas
 pub mod LoopSteps
 pub mod TextLemmas
 pub mod SortLemmas

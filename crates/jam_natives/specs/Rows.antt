@@ -4,6 +4,7 @@ use Rattle.std.specs.FinMap as map
 use Rattle.std.specs.List.{find}
 use Rattle.std.specs.Str.{bytes_eq}
 use Rattle.b2_base.specs.Segments.{normal_of}
+use Rattle.b2_base.specs.Lists.{list_at}
 use Rattle.jam_patterns.specs.declared.native_fault.NativeFault.{NativeFault}
 use Rattle.jam_patterns.specs.declared.native_fault.NativeFault.TheVariants as faults
 use Rattle.jam_journal.specs.Tables.{Text, Table}
@@ -13,7 +14,6 @@ use Rattle.jam_scope.specs.Rules.{Rule}
 use Rattle.jam_scope.specs.Worlds.{World, Worlds}
 use Rattle.jam_scope.specs.Changes.{changed, module_in, import_rule, add_roots, freeze_roots, add_depends, set_always, set_notfile}
 use Rattle.jam_scope.specs.Names.{is_text, names_in}
-use Rattle.jam_eval.specs.Params.{list_at}
 use Rattle.jam_eval.specs.declared.native_answer.NativeStep.{NativeStep}
 use Rattle.jam_eval.specs.declared.native_answer.NativeStep.TheVariants as steps
 use Rattle.jam_eval.specs.Settings.{Told, answers, refuses, of_native, of_arity, Meaning, Sight}

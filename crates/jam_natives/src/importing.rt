@@ -7,10 +7,10 @@ ghost use Rattle.jam_scope.specs.Changes.{changed};
 ghost use Rattle.jam_natives.specs.Rows.{missing_rule, import_each, imported, import_call, export_call};
 ghost use Rattle.jam_natives.specs.Calls.{IsPut};
 
-use crate::list::{list_at, text_of};
+use crate::list::text_of;
 use b2_base::fault::OutOfMemory;
 use b2_base::text::Text;
-use b2_base::text_list::TextList;
+use b2_base::text_list::{TextList, list_at};
 use jam_eval::natives::{NativeError, NativeStep};
 use jam_patterns::native_fault::NativeFault;
 use jam_scope::rule_ref::RuleRef;

@@ -1,22 +1,9 @@
 //! The lists of a call.
 ghost use Rattle.std.specs.Prelude.{◌≡◌};
 ghost use Rattle.b2_base.specs.Bytes.{HasNoZero};
-ghost use Rattle.jam_eval.specs.Params.{list_at};
 ghost use Rattle.jam_natives.specs.Lists.{text_of};
 
 use b2_base::text::Text;
-use b2_base::text_list::TextList;
-
-/// The list at a place, counted from 0; one that is not given is empty. Takes no memory.
-pub fn list_at(lists: &[TextList], place: usize) -> &[Text]
-    ensures { result.now ≡ list_at place lists.now }
-{
-    if place < lists.len() {
-        lists[place].as_slice()
-    } else {
-        &[]
-    }
-}
 
 /// The first text of a list, else the empty text, which names the global module. Takes no memory.
 pub fn text_of(list: &[Text]) -> &str

@@ -7,13 +7,13 @@ ghost use Rattle.jam_natives.specs.Named.{paths_in};
 ghost use Rattle.jam_natives.specs.Rows.{named_by, add_each, noted, foreign_in, name_of, note};
 ghost use Rattle.jam_natives.specs.Calls.{IsPut};
 
-use crate::list::{list_at, text_of};
+use crate::list::text_of;
 use crate::native::Noting;
 use crate::target::{Named, first_foreign};
 use b2_base::fault::OutOfMemory;
 use b2_base::path::path_of;
 use b2_base::text::Text;
-use b2_base::text_list::TextList;
+use b2_base::text_list::{TextList, list_at};
 use jam_eval::natives::{NativeError, NativeStep};
 use jam_patterns::native_fault::NativeFault;
 use jam_scope::notes::StepNotes;

@@ -1,19 +1,19 @@
 //! Native rules that look at their lists and the world alone.
 ghost use Rattle.std.specs.Prelude.{◌≡◌, IfOk, IsTrue};
 ghost use Rattle.b2_base.specs.Bytes.{HasNoZero};
+ghost use Rattle.b2_base.specs.Lists.{list_at};
 ghost use Rattle.jam_scope.specs.Names.{is_text};
-ghost use Rattle.jam_eval.specs.Params.{list_at};
 ghost use Rattle.jam_natives.specs.Matches.{matches_of};
 ghost use Rattle.jam_natives.specs.Rows.{module_list, matched, read};
 ghost use Rattle.jam_natives.specs.Calls.{IsRead};
 
-use crate::list::{list_at, text_of};
+use crate::list::text_of;
 use crate::native::Reading;
 use crate::pattern_match::match_all;
 use crate::texts::{after_start, line_of, sorted};
 use b2_base::fault::OutOfMemory;
 use b2_base::text::Text;
-use b2_base::text_list::{TextList, copy_texts};
+use b2_base::text_list::{TextList, copy_texts, list_at};
 use jam_eval::natives::{NativeError, NativeStep};
 use jam_patterns::native_fault::NativeFault;
 use jam_patterns::refusal::PatternFault;

@@ -1,13 +1,13 @@
 //! What a call binds in the frame of its rule.
 ghost use Rattle.std.specs.Prelude.{◌≡◌, ◌<◌, ◌+◌, [], ◌∷◌, ◌++◌, IfOk, OnOk, option_map};
-ghost use Rattle.jam_eval.specs.Params.{list_at, numbered, special, call_binds};
+ghost use Rattle.b2_base.specs.Lists.{list_at};
+ghost use Rattle.jam_eval.specs.Params.{numbered, special, call_binds};
 ghost use Rattle.jam_values.specs.Bindings.{bindings_of, lists_of};
 
-use crate::lists::list_at;
 use crate::params::take_params;
 use b2_base::fault::OutOfMemory;
 use b2_base::text::Text;
-use b2_base::text_list::{TextList, copy_texts};
+use b2_base::text_list::{TextList, copy_texts, list_at};
 use jam_grammar::tree::Param;
 use jam_journal::name::Name;
 use std::alloc::Global;

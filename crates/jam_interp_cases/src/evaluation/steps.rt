@@ -2,12 +2,11 @@
 use crate::evaluation::faults::fault_answer;
 use crate::evaluation::machine::Machine;
 use b2_base::text::Text;
-use b2_base::text_list::{TextList, copy_texts};
+use b2_base::text_list::{TextList, copy_texts, list_at};
 use jam_eval::step::{StepJob, StepText};
 use jam_interp::fault::EvalFault;
 use jam_interp::step::step_text;
 use jam_interp::turns::Turns;
-use jam_natives::list::list_at;
 use std::alloc::Global;
 use transcript::answer::Answer;
 use transcript::case_fault::CaseFault;

@@ -2,11 +2,11 @@
 use crate::host_files::put_files;
 use crate::world::texts::text_command;
 use b2_base::path_list::PathList;
-use b2_base::text_list::TextList;
+use b2_base::text_list::{TextList, list_at};
 use b2_host::fault::IoFault;
 use b2_memory::memory::{CallKind, MemoryHost};
 use jam_natives::glob::{glob, project_glob};
-use jam_natives::list::{list_at, text_of};
+use jam_natives::list::text_of;
 use std::alloc::Global;
 use transcript::answer::Answer;
 use transcript::case_fault::CaseFault;

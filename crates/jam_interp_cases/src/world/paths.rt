@@ -1,6 +1,5 @@
 //! Commands on the paths of a step, and on output roots that a call names.
-use b2_base::text_list::TextList;
-use jam_natives::list::list_at;
+use b2_base::text_list::{TextList, list_at};
 use jam_natives::output_dirs::{names_output_dirs, root_paths};
 use jam_natives::target::{Named, first_foreign};
 use std::alloc::Global;

@@ -1,8 +1,8 @@
 //! Commands on texts.
 use crate::world::paths::path_command;
 use b2_base::shape::has_shape;
-use b2_base::text_list::TextList;
-use jam_natives::list::{list_at, text_of};
+use b2_base::text_list::{TextList, list_at};
+use jam_natives::list::text_of;
 use jam_natives::native::{is_declaring, native_of, shape_of};
 use jam_natives::pattern_match::match_all;
 use jam_natives::texts::{after_start, line_of, sorted, without_repeats};
