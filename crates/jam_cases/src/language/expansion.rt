@@ -8,6 +8,7 @@
 //! - `expand_body_size BODY`: how many bytes that text has.
 ghost use Rattle.std.specs.Prelude.{◌≡◌};
 
+use crate::expand_faults::expand_text;
 use b2_base::expand_fault::ExpandFault;
 use b2_base::look::Look;
 use b2_base::text::Text;
@@ -85,25 +86,8 @@ fn answer_set(
     Ok(Answer::new(alloc))
 }
 
-/// The text of a fault.
-fn fault_text(alloc: Global, fault: &ExpandFault) -> Result<String, CaseFault> {
-    match fault {
-        ExpandFault::BadIndex { text } => {
-            let text = text.as_str();
-            Ok(format!(in alloc; "bad index {text}")?)
-        }
-        ExpandFault::BadModifier { text } => {
-            let text = text.as_str();
-            Ok(format!(in alloc; "bad modifier {text}")?)
-        }
-        ExpandFault::TooDeep => Ok(String::from_str(alloc, "expansion too deep")?),
-        ExpandFault::TooLarge { bytes } => Ok(format!(in alloc; "expansion of {bytes} bytes")?),
-        ExpandFault::OutOfMemory => Err(CaseFault::OutOfMemory),
-    }
-}
-
 fn fault_answer(alloc: Global, fault: &ExpandFault) -> Result<Answer, CaseFault> {
-    Answer::line(alloc, fault_text(alloc, fault)?.as_str())
+    Answer::line(alloc, expand_text(alloc, fault)?.as_str())
 }
 
 fn answer_add_expansion(
@@ -191,21 +175,20 @@ fn answer_expand_body_size(
     }
 }
 
-/// The answer to a command on expansion; none where it is another command.
-pub fn answer_expansion(
+/// Carries out a command on expansion.
+pub fn expansion_command(
     alloc: Global,
     command: &Command,
     variables: &mut Variables,
-) -> Result<Option<Answer>, CaseFault> {
+) -> Result<Answer, CaseFault> {
     let words = command.words();
-    let answer = match command.name() {
-        "set" => answer_set(alloc, variables, words)?,
-        "add_expansion" => answer_add_expansion(alloc, variables, words)?,
-        "expand" => answer_expand(alloc, variables, words)?,
-        "expand_size" => answer_expand_size(alloc, variables, words)?,
-        "expand_body" => answer_expand_body(alloc, variables, command)?,
-        "expand_body_size" => answer_expand_body_size(alloc, variables, command)?,
-        _ => return Ok(None),
-    };
-    Ok(Some(answer))
+    match command.name() {
+        "set" => answer_set(alloc, variables, words),
+        "add_expansion" => answer_add_expansion(alloc, variables, words),
+        "expand" => answer_expand(alloc, variables, words),
+        "expand_size" => answer_expand_size(alloc, variables, words),
+        "expand_body" => answer_expand_body(alloc, variables, command),
+        "expand_body_size" => answer_expand_body_size(alloc, variables, command),
+        _ => Err(CaseFault::UnknownCommand),
+    }
 }

@@ -2,7 +2,7 @@
 //!
 //! - `groups PATTERN TEXT`: the groups of the first match, each on a line below `match`.
 //! - `group_lengths PATTERN NAME`: the lengths of the groups of the first match in the first text of a variable.
-use crate::expansion::Variables;
+use crate::language::expansion::{Variables, expansion_command};
 use b2_base::look::Look;
 use b2_base::text::Text;
 use b2_base::text_list::TextList;
@@ -99,15 +99,15 @@ fn answer_group_lengths(
     }
 }
 
-/// The answer to a command on patterns with groups; none where it is another command.
-pub fn answer_patterns(
+/// Carries out a command on patterns with groups, or another one.
+pub fn pattern_command(
     alloc: Global,
     command: &Command,
-    variables: &Variables,
-) -> Result<Option<Answer>, CaseFault> {
+    variables: &mut Variables,
+) -> Result<Answer, CaseFault> {
     match command.name() {
-        "groups" => Ok(Some(answer_groups(alloc, command.words())?)),
-        "group_lengths" => Ok(Some(answer_group_lengths(alloc, command.words(), variables)?)),
-        _ => Ok(None),
+        "groups" => answer_groups(alloc, command.words()),
+        "group_lengths" => answer_group_lengths(alloc, command.words(), variables),
+        _ => expansion_command(alloc, command, variables),
     }
 }

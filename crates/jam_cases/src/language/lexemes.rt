@@ -1,5 +1,7 @@
 //! The command `spelled`.
-use crate::shown::{kind_named, push_quoted};
+use crate::language::expansion::Variables;
+use crate::language::marks::mark_command;
+use crate::language::shown::{kind_named, push_quoted};
 use jam_spelling::lexeme::Lexeme;
 use jam_spelling::spelled;
 use std::alloc::Global;
@@ -36,10 +38,14 @@ fn spelled_answer(alloc: Global, words: &[Word]) -> Result<Answer, CaseFault> {
     Answer::line(alloc, line.as_str())
 }
 
-/// Answers `spelled`; nothing where it is another command.
-pub fn answer_lexemes(alloc: Global, command: &Command) -> Result<Option<Answer>, CaseFault> {
+/// Carries out `spelled`, or another command.
+pub fn lexeme_command(
+    alloc: Global,
+    command: &Command,
+    variables: &mut Variables,
+) -> Result<Answer, CaseFault> {
     match command.name() {
-        "spelled" => Ok(Some(spelled_answer(alloc, command.words())?)),
-        _ => Ok(None),
+        "spelled" => spelled_answer(alloc, command.words()),
+        _ => mark_command(alloc, command, variables),
     }
 }

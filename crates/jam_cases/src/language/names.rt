@@ -3,6 +3,8 @@
 //! - `parts NAME`: the five parts of the name, each with its label.
 //! - `join GRIST DIR BASE SUFFIX MEMBER`: the name that these parts make.
 //! - `glob_match PATTERN TEXT`: whether the pattern matches the text.
+use crate::language::expansion::Variables;
+use crate::language::patterns::pattern_command;
 use b2_base::text::Text;
 use jam_path::glob::glob_match;
 use jam_path::name::{join, parts};
@@ -67,14 +69,17 @@ fn answer_glob_match(alloc: Global, words: &[Word]) -> Result<Answer, CaseFault>
     Answer::line(alloc, if is_match { "true" } else { "false" })
 }
 
-/// The answer to a command on file names; none where it is another command.
-pub fn answer_names(alloc: Global, command: &Command) -> Result<Option<Answer>, CaseFault> {
+/// Carries out a command on file names, or another one.
+pub fn name_command(
+    alloc: Global,
+    command: &Command,
+    variables: &mut Variables,
+) -> Result<Answer, CaseFault> {
     let words = command.words();
-    let answer = match command.name() {
-        "parts" => answer_parts(alloc, words)?,
-        "join" => answer_join(alloc, words)?,
-        "glob_match" => answer_glob_match(alloc, words)?,
-        _ => return Ok(None),
-    };
-    Ok(Some(answer))
+    match command.name() {
+        "parts" => answer_parts(alloc, words),
+        "join" => answer_join(alloc, words),
+        "glob_match" => answer_glob_match(alloc, words),
+        _ => pattern_command(alloc, command, variables),
+    }
 }

@@ -1,5 +1,7 @@
 //! The command `mark_of`.
-use crate::shown::kind_named;
+use crate::language::expansion::Variables;
+use crate::language::names::name_command;
+use crate::language::shown::kind_named;
 use b2_base::token::{Token, TokenKind};
 use jam_grammar::mark::{Mark, mark_of};
 use std::alloc::Global;
@@ -80,10 +82,14 @@ fn marks_answer(alloc: Global, words: &[Word]) -> Result<Answer, CaseFault> {
     Answer::line(alloc, line.as_str().trim_end())
 }
 
-/// Answers `mark_of`; nothing where it is another command.
-pub fn answer_marks(alloc: Global, command: &Command) -> Result<Option<Answer>, CaseFault> {
+/// Carries out `mark_of`, or another command.
+pub fn mark_command(
+    alloc: Global,
+    command: &Command,
+    variables: &mut Variables,
+) -> Result<Answer, CaseFault> {
     match command.name() {
-        "mark_of" => Ok(Some(marks_answer(alloc, command.words())?)),
-        _ => Ok(None),
+        "mark_of" => marks_answer(alloc, command.words()),
+        _ => name_command(alloc, command, variables),
     }
 }

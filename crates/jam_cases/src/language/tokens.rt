@@ -1,6 +1,8 @@
 //! The command `lex`.
 use crate::given::given;
-use crate::shown::{kind_name, push_quoted};
+use crate::language::expansion::Variables;
+use crate::language::shown::{kind_name, push_quoted};
+use crate::language::trees::tree_command;
 use b2_base::token::Token;
 use jam_lexer::fault::LexFault;
 use jam_lexer::lex;
@@ -44,10 +46,14 @@ fn lex_answer(alloc: Global, command: &Command) -> Result<Answer, CaseFault> {
     }
 }
 
-/// Answers `lex`; nothing where it is another command.
-pub fn answer_tokens(alloc: Global, command: &Command) -> Result<Option<Answer>, CaseFault> {
+/// Carries out `lex`, or another command.
+pub fn token_command(
+    alloc: Global,
+    command: &Command,
+    variables: &mut Variables,
+) -> Result<Answer, CaseFault> {
     match command.name() {
-        "lex" => Ok(Some(lex_answer(alloc, command)?)),
-        _ => Ok(None),
+        "lex" => lex_answer(alloc, command),
+        _ => tree_command(alloc, command, variables),
     }
 }

@@ -1,7 +1,9 @@
 //! The commands `parse`, `fault` and `print`.
-use crate::given::{MAX_LEN, given};
-use crate::stmts::push_stmts;
-use crate::tokens::fault_answer;
+use crate::given::{given, tree_of};
+use crate::language::expansion::Variables;
+use crate::language::lexemes::lexeme_command;
+use crate::language::stmts::push_stmts;
+use crate::language::tokens::fault_answer;
 use b2_base::token::Token;
 use jam_grammar::tree::Tree;
 use jam_lexer::lex;
@@ -42,13 +44,7 @@ fn tree_answer(alloc: Global, tree: &Tree) -> Result<Answer, CaseFault> {
 
 /// The text of the printed tree of a text, and nothing where it has no tree.
 fn printed_again(alloc: Global, bytes: &[u8]) -> Result<Option<Vec<u8>>, CaseFault> {
-    if bytes.len() > MAX_LEN {
-        return Ok(None);
-    }
-    let Ok(tokens) = lex(alloc, bytes) else {
-        return Ok(None);
-    };
-    match parse(alloc, tokens.as_slice()) {
+    match tree_of(alloc, bytes) {
         Ok(tree) => Ok(Some(print(alloc, &tree)?)),
         Err(_fault) => Ok(None),
     }
@@ -97,12 +93,16 @@ fn text_answer(alloc: Global, command: &Command, question: Question) -> Result<A
     }
 }
 
-/// Answers `parse`, `fault` and `print`; nothing where it is another command.
-pub fn answer_trees(alloc: Global, command: &Command) -> Result<Option<Answer>, CaseFault> {
+/// Carries out `parse`, `fault` or `print`, or another command.
+pub fn tree_command(
+    alloc: Global,
+    command: &Command,
+    variables: &mut Variables,
+) -> Result<Answer, CaseFault> {
     match command.name() {
-        "parse" => Ok(Some(text_answer(alloc, command, Question::Tree)?)),
-        "fault" => Ok(Some(text_answer(alloc, command, Question::Fault)?)),
-        "print" => Ok(Some(text_answer(alloc, command, Question::Printed)?)),
-        _ => Ok(None),
+        "parse" => text_answer(alloc, command, Question::Tree),
+        "fault" => text_answer(alloc, command, Question::Fault),
+        "print" => text_answer(alloc, command, Question::Printed),
+        _ => lexeme_command(alloc, command, variables),
     }
 }
