@@ -42,7 +42,7 @@ impl Latest {
         self.scans.get(path).copied()
     }
 
-    /// The place for a subject.
+    /// The place of the last line about a subject, from 0; None where there is no such line. Takes no memory.
     pub fn of(&self, subject: &Subject) -> Option<usize>
         ensures { result ≡ place_in self.now subject.now }
     {

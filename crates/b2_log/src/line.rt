@@ -23,7 +23,7 @@ pub struct Digests {
 /// What a step read and wrote.
 #[derive(Drop)]
 pub struct Record {
-    /// The step's text.
+    /// The text of the step's command.
     pub text: Text,
     /// The outputs in the step's order, each with the stamp that it had then.
     pub outs: StampedPaths,
@@ -36,11 +36,11 @@ pub struct Record {
 /// What was found in a file that was scanned.
 #[derive(Drop)]
 pub struct ScanLine {
-    /// The file.
+    /// Where the file stood.
     pub path: Path,
     /// The stamp that it had then.
     pub stamp: u64,
-    /// Its includes in order.
+    /// In the order of the file.
     pub includes: IncludeList,
 }
 

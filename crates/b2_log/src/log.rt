@@ -40,14 +40,12 @@ impl Model for Log {
     ghost invariant = { λ l. IsIndexed l.lines.items (place_in l.latest) };
 }
 
-/// Whether a line is a drop.
 fn is_drop(line: &LogLine) -> bool
     ensures { result ≡ is_drop line.now }
 {
     matches!(line, LogLine::Drop(_))
 }
 
-/// Whether a place is this one.
 fn is_place(found: Option<usize>, place: usize) -> bool
     ensures { result ≡ option_is found place }
 {

@@ -41,7 +41,6 @@ pub fn is_digest(text: &str) -> bool
     text.len() == 64 && text.as_bytes().iter().all(|byte| is_hex(*byte))
 }
 
-/// Whether each text is a digest.
 fn all_digests(digests: &[Text]) -> bool
     ensures { IsTrue result ↔ AllByRecursion IsDigest digests.now }
 {
@@ -73,7 +72,7 @@ fn has_digests(record: &Record) -> bool
     }
 }
 
-/// Whether a record is proper.
+/// Whether a record has an output, inputs in byte order without repeats, and digests for all of them or none.
 fn is_proper_record(record: &Record) -> bool
     ensures { IsTrue result ↔ IsProperRecord record.now }
 {

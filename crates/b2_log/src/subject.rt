@@ -28,7 +28,7 @@ fn paths_of(alloc: Global, files: &[(Path, u64)]) -> Result<PathList, OutOfMemor
     Ok(paths)
 }
 
-/// The subject of a line.
+/// What a line is about: the outputs of a record or a drop, the path of a scan.
 pub fn subject_of(alloc: Global, line: &LogLine) -> Result<Subject, OutOfMemory>
     ensures { IfOk result (λ subject. subject ≡ subject_of line.now) }
 {

@@ -141,14 +141,14 @@ fn push_paths(alloc: Global, line: &mut Vec<u8>, paths: &[Path]) -> Result<(), O
     Ok(())
 }
 
-/// How an include is marked.
+/// `q` for an include in quotes, `a` for one in angle brackets.
 fn mark(quoted: bool) -> &'static [u8]
     ensures { result.now ≡ mark quoted }
 {
     if quoted { b"q" } else { b"a" }
 }
 
-/// Appends an include.
+/// Appends an include as two fields: its mark and its name.
 fn push_include(line: &mut Vec<u8>, include: &(Text, bool)) -> Result<(), OutOfMemory>
     ensures pushes { OnOk result (line.new.items ≡ line.old.items ++ included include.now) }
     ensures held { OnOk result (IsIncluded include.now) }
@@ -193,14 +193,14 @@ fn push_files(alloc: Global, line: &mut Vec<u8>, rec: &Record) -> Result<(), Out
     }
 }
 
-/// Appends the tag of a line.
+/// Appends a tag as the first field of a line.
 fn push_tag(line: &mut Vec<u8>, tag: Tag) -> Result<(), OutOfMemory>
     ensures { OnOk result (line.new.items ≡ line.old.items ++ field (tag_text tag)) }
 {
     push_field(line, tag_text(tag))
 }
 
-/// Appends the end of a line.
+/// Appends the field that ends a line, and the line feed after it.
 fn push_end(line: &mut Vec<u8>) -> Result<(), OutOfMemory>
     ensures { OnOk result (line.new.items ≡ line.old.items ++ line_end) }
 {
@@ -250,7 +250,7 @@ fn push_scan(alloc: Global, line: &mut Vec<u8>, scan: &ScanLine) -> Result<(), O
     push_end(line)
 }
 
-/// Appends a line.
+/// Appends the fields of a line in the order of its kind, and its end.
 pub(crate) fn push_line(
     alloc: Global,
     bytes: &mut Vec<u8>,

@@ -83,7 +83,7 @@ fn bad_writes(alloc: Global, outs: &[Path]) -> Result<Vec<Entry>, OutOfMemory>
 impl Job {
     ghost use Rattle.b2_memory.specs.Jobs.{given_of, IsLeft};
 
-    /// What a start gives.
+    /// The job of a step, with the bytes that its inputs have now; an input that is missing is left out.
     pub fn new(
         alloc: Global,
         step: u32,

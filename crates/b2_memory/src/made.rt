@@ -96,7 +96,7 @@ fn add_inputs(alloc: Global, bytes: &mut Vec<u8>, inputs: &[&Entry]) -> Result<(
     Ok(())
 }
 
-/// What is digested.
+/// What is digested: the output's path and the text, each as a line, and the inputs in byte order of their paths.
 fn whole(alloc: Global, text: &str, held: &[Entry], out: &Path) -> Result<Vec<u8>, OutOfMemory>
     ensures { IfOk result (λ bytes. bytes.items ≡ whole_text text.now (map write_of held.now) out.now) }
 {

@@ -7,7 +7,7 @@ use b2_host::fault::IoFault;
 use b2_host::sink::Sink;
 use std::alloc::Global;
 
-/// Takes bytes in memory.
+/// A sink that keeps all that is written to it, in order.
 #[derive(Drop)]
 pub struct MemorySink {
     bytes: Vec<u8>,

@@ -20,7 +20,7 @@ pub enum CallKind {
 }
 
 impl CallKind {
-    /// The number of the kind.
+    /// Two kinds are compared by these numbers.
     fn number(self) -> u8
         ensures { result ≡ number_of self }
     {
@@ -204,7 +204,7 @@ impl Script {
         self.starts.iter().any(|start| *start == 1)
     }
 
-    /// A child was started.
+    /// A child was started: each listed start comes one nearer.
     pub fn count_start(&mut self)
         ensures listed { listed_of self.new ≡ record (listed_of self.old) { starts = starts_after (listed_of self.old).starts } }
         ensures faults { self.new.faults ≡ self.old.faults }

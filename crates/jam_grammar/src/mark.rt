@@ -92,7 +92,7 @@ pub fn mark_of(token: &Token) -> Mark
     }
 }
 
-/// The mark of a word.
+/// The three words that mark parameters differ from all others.
 #[tactic(auto, unfolding(crate::specs::Marks::mark_of_word))]
 fn mark_of_word(text: &str) -> Mark
     ensures { result ≡ mark_of_word text.now }
@@ -108,7 +108,7 @@ fn mark_of_word(text: &str) -> Mark
     }
 }
 
-/// The keys of the language with their marks.
+/// The keys of the language with their marks: signs, then reserved words in byte order.
 static KEYS: [(&str, Mark); 29] = [
     (";", Mark::Semicolon),
     (":", Mark::Colon),
@@ -157,7 +157,7 @@ fn mark_in(rows: &[(&str, Mark)], text: &str) -> Mark
     }
 }
 
-/// The mark of a key.
+/// A text that is not among the keys is `Unknown`.
 #[tactic(auto, unfolding(crate::specs::Marks::mark_of_key))]
 fn mark_of_key(text: &str) -> Mark
     ensures { result ≡ mark_of_key text.now }

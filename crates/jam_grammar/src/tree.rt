@@ -5,7 +5,7 @@ use std::rc::Rc;
 /// A whole file.
 #[derive(Drop)]
 pub struct Tree {
-    /// Its statements.
+    /// Its statements, in the order of the text.
     pub block: Block,
 }
 
@@ -13,7 +13,7 @@ pub struct Tree {
 #[cycle(statements)]
 #[derive(Drop)]
 pub struct Block {
-    /// The statements.
+    /// In the order of the text; none for empty braces.
     pub stmts: Vec<Stmt>,
 }
 
@@ -35,9 +35,9 @@ pub enum Form {
     Braces(Block),
     /// `local names ;` or `local names = value ;`
     Local {
-        /// The names.
+        /// A list whose elements are the names.
         names: Vec<Arg>,
-        /// Their value, if `=` stood there.
+        /// The list that each of them is given, if `=` stood there.
         value: Option<Vec<Arg>>,
     },
     /// `target = value ;`, or with one of the other signs.
@@ -46,7 +46,7 @@ pub enum Form {
         target: Arg,
         /// How they are set.
         sign: Sign,
-        /// The value.
+        /// The list that the sign sets or adds.
         value: Vec<Arg>,
     },
     /// `target on targets = value ;`, or with one of the other signs.
@@ -57,7 +57,7 @@ pub enum Form {
         on: Vec<Arg>,
         /// How they are set.
         sign: Sign,
-        /// The value.
+        /// The list that the sign sets or adds.
         value: Vec<Arg>,
     },
     /// `include names ;`
@@ -66,7 +66,7 @@ pub enum Form {
     Return(Vec<Arg>),
     /// `if test { .. }`, and what follows on `else`.
     If {
-        /// The condition.
+        /// Which of the two is done.
         test: Expr,
         /// What is done where it holds.
         then: Block,
@@ -77,7 +77,7 @@ pub enum Form {
     For {
         /// Whether the variable is one of the loop alone.
         local: bool,
-        /// The variable.
+        /// The variable that each round sets.
         name: Text,
         /// Its values, one for each round.
         items: Vec<Arg>,
@@ -86,28 +86,28 @@ pub enum Form {
     },
     /// `while test { .. }`
     While {
-        /// The condition.
+        /// Evaluated before each round.
         test: Expr,
         /// What is done as long as it holds.
         block: Block,
     },
     /// `switch value { case pattern : .. }`
     Switch {
-        /// The value.
+        /// The list of which the first element, or else the empty text, is held against the patterns.
         value: Vec<Arg>,
-        /// The cases in order.
+        /// In the order of the text: the first that matches is taken.
         cases: Vec<Case>,
     },
     /// `module name { .. }`
     Module {
-        /// The name.
+        /// The list of which the first element names the module; the empty list stands for the global one.
         name: Vec<Arg>,
         /// What is done in it.
         block: Block,
     },
     /// `rule name { .. }`, or with parameters in parentheses before the braces.
     Rule {
-        /// The name.
+        /// As it is written: nothing in it is expanded.
         name: Text,
         /// The lists of its parameters: none without parentheses, and one that is empty for empty parentheses.
         params: Vec<Vec<Param>>,
@@ -116,16 +116,16 @@ pub enum Form {
     },
     /// `actions name {body}`
     Actions {
-        /// The name.
+        /// As it is written: nothing in it is expanded.
         name: Text,
         /// The text between the braces, as it stands.
         body: Text,
     },
     /// `on target stmt`
     On {
-        /// The target.
+        /// A list of which the first element is the target.
         target: Arg,
-        /// What is done with its values.
+        /// What is done with the target's own values as bindings.
         stmt: Box<Stmt>,
     },
     /// `head lists ;`
@@ -173,7 +173,7 @@ pub struct Case {
 /// A parameter of a rule. The name `*` without a mark stands alone in the last list, and takes all further arguments.
 #[derive(Drop)]
 pub struct Param {
-    /// The name.
+    /// The name that is bound to what the parameter takes.
     pub name: Text,
     /// `?`, `*` or `+`, if one of these stood after it.
     pub mark: Option<char>,
@@ -202,16 +202,16 @@ pub enum Inner {
     },
     /// `on target inner`
     On {
-        /// The target.
+        /// A list of which the first element is the target.
         target: Arg,
-        /// What is called with its values.
+        /// What is called with the target's own values as bindings.
         inner: Box<Inner>,
     },
     /// `on target return value`
     OnReturn {
-        /// The target.
+        /// A list of which the first element is the target.
         target: Arg,
-        /// What is evaluated with its values.
+        /// What is evaluated with the target's own values as bindings.
         value: Vec<Arg>,
     },
 }
