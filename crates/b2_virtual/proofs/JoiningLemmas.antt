@@ -65,7 +65,7 @@ same_is_equal a b = (same_step a b, λ e. subst (λ (s : Step). is_same a s ≡ 
 
 -- ---- numbers
 
--- a step stands one place later behind a further first step
+-- a step stands one place later after a further first step
 pub later : (first : Step) (more : List Step) (n : ℕ) (step : Step) → step_at more n ≡ Some step → step_at (first ∷ more) (suc n) ≡ Some step
 later first more zero step e = let bad : None ≡ Some step = e in cc
 later first more (suc n) step e = e

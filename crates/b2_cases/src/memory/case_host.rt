@@ -24,7 +24,7 @@ pub struct Calls {
     pub wait: u64,
 }
 
-/// The host in memory behind a count of its calls. Its files are not visible, so that a child process that leaves no
+/// The host in memory, with a count of its calls. Its files are not visible, so that a child process that leaves no
 /// output breaks no law.
 #[derive(Drop)]
 pub struct CaseHost {
