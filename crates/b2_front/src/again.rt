@@ -40,7 +40,7 @@ fn planned_or_stop(generated: Result<Planned, GenFault<EvalFault>>) -> Result<Pl
 }
 
 /// Whether a fault of generation is a pattern that was refused although it reads as one; takes no memory.
-pub(crate) fn is_refusal(fault: &GenFault<EvalFault>) -> bool
+fn is_refusal(fault: &GenFault<EvalFault>) -> bool
     ensures { result ≡ is_refusal fault.now }
 {
     match fault {
