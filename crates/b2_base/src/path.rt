@@ -3,6 +3,7 @@ ghost use Rattle.std.specs.Prelude.{◌≡◌, ◌≢◌, ◌↔◌, ◌++◌, �
 ghost use Rattle.b2_base.specs.Bytes.{HasNoZero};
 ghost use Rattle.b2_base.specs.Segments.{normal_of, is_rooted, segments};
 ghost use Rattle.b2_base.specs.Normal.{IsNormal, IsUnder, parts};
+ghost use Rattle.b2_base.specs.Below.{is_below};
 ghost use Rattle.b2_base.specs.Simpler.{Reaches, IsSimplest};
 
 use crate::fault::OutOfMemory;
@@ -159,7 +160,8 @@ impl Path {
     /// prefix of the path's. Below `.`, which has no segment, lies each relative path but `.` itself and those that begin
     /// with `..`. Only the texts are compared, and no disk is asked. Takes no memory.
     pub fn under(&self, dir: &Path) -> bool
-        ensures { IsTrue result ↔ IsUnder self.now dir.now }
+        ensures exact { result ≡ is_below self.now dir.now }
+        ensures under { IsTrue result ↔ IsUnder self.now dir.now }
     {
         is_below(self.text.as_str(), dir.text.as_str())
     }

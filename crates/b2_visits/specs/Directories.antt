@@ -4,11 +4,12 @@ use Rattle.std.specs.Option.{option_or, option_map}
 use Rattle.std.specs.List.{join_with_byte}
 use Rattle.std.specs.Str.{bytes_eq}
 use Rattle.b2_base.specs.Segments.{segments, normal_of}
+use Rattle.b2_base.specs.Below.{is_below}
 use Rattle.b2_metatargets.specs.declared.visit.Visit.{Visit}
 use Rattle.jam_journal.specs.Tables.{Text}
 use Rattle.jam_scope.specs.Worlds.{World}
 use Rattle.jam_eval.specs.Settings.{Reading, is_missing}
-use Rattle.jam_eval.specs.Includes.{path_from, is_below, is_in_roots}
+use Rattle.jam_eval.specs.Includes.{path_from, is_in_roots}
 
 -- the folder itself, the directory of Jamroot
 abbrev pub here : Text

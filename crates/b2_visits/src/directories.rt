@@ -4,7 +4,7 @@ ghost use Rattle.std.specs.List.{join_with_byte};
 ghost use Rattle.std.specs.Str.{bytes_eq};
 ghost use Rattle.b2_base.specs.Bytes.{HasNoZero};
 ghost use Rattle.b2_base.specs.Segments.{segments, texts};
-ghost use Rattle.jam_eval.specs.Includes.{path_from, is_below};
+ghost use Rattle.jam_eval.specs.Includes.{path_from};
 ghost use Rattle.b2_visits.specs.Directories.{here, beginnings, path_of, way_to, module_name, file_names};
 
 use b2_base::fault::OutOfMemory;
@@ -56,20 +56,13 @@ fn cut(alloc: Global, text: &str) -> Result<Vec<&str>, OutOfMemory>
     Ok(cuts)
 }
 
-/// Whether a directory lies below another one. Takes no memory.
-fn is_below(dir: &Path, top: &Path) -> bool
-    ensures { result ≡ is_below dir.now top.now }
-{
-    dir.under(top)
-}
-
 /// The directories on the way to a directory, from the top down, and itself as the last; none where it does not lie below the
 /// folder.
 pub fn way_to(alloc: Global, dir: &Path) -> Result<PathList, OutOfMemory>
     ensures { IfOk result (λ dirs. dirs ≡ way_to dir.now) }
 {
     let folder = folder(alloc)?;
-    if !is_below(dir, &folder) {
+    if !dir.under(&folder) {
         return Ok(PathList::new(alloc));
     }
     let segments = cut(alloc, dir.as_str())?;

@@ -3,6 +3,7 @@ use Rattle.std.proofs.Common.{◌≡◌, inl, inr, Bool, true, false, List, [], 
 use Rattle.std.specs.Prelude.{if◌then◌else◌, map as each}
 use Rattle.std.specs.List.{list_any}
 use Rattle.std.specs.Option.{IfSome}
+use Rattle.b2_base.specs.Below.{is_below}
 use Rattle.b2_host.specs.declared.fault.IoFault.{IoFault}
 use Rattle.b2_host.specs.declared.fault.IoFault.TheVariants as io
 use Rattle.b2_host.specs.Disks.{Disk}
@@ -11,7 +12,7 @@ use Rattle.b2_host.specs.Outside.{Outside}
 use Rattle.b2_host.specs.OutsideLaws.{keeps_same, keeps_then, keeps_fails, keeps_reads, then_rose}
 use Rattle.jam_journal.specs.Tables.{Text}
 use Rattle.jam_scope.specs.Worlds.{World}
-use Rattle.jam_eval.specs.Includes.{path_from, is_below, is_in_roots}
+use Rattle.jam_eval.specs.Includes.{path_from, is_in_roots}
 use Rattle.jam_eval.specs.Settings.{Reading, is_missing, is_too_big, has_no_tokens, has_no_tree, is_file, IsReading}
 use Rattle.jam_values.specs.declared.files.FileReading.{FileReading}
 use Rattle.jam_values.specs.FileReadings.{reading_of, ReadsOnce}

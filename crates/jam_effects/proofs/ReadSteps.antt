@@ -2,6 +2,7 @@
 use Rattle.std.proofs.Common.{◌≡◌, Bool, true, false, List, Option, Some, None, Result, Err, sym, ap, ◌∙◌, subst}
 use Rattle.std.specs.List.{list_any}
 use Rattle.std.specs.Option.{IfSome}
+use Rattle.b2_base.specs.Below.{is_below}
 use Rattle.b2_host.specs.Disks.{Disk}
 use Rattle.jam_grammar.specs.Trees.{StmtTrees}
 use Rattle.jam_journal.specs.Tables.{Text}
@@ -9,7 +10,7 @@ use Rattle.jam_scope.specs.Worlds.{Worlds}
 use Rattle.jam_scope.specs.Changes.{changed, freeze_roots}
 use Rattle.jam_eval.specs.Faults.{Spot, Cause, include}
 use Rattle.jam_eval.specs.Settings.{Reading, IsReading}
-use Rattle.jam_eval.specs.Includes.{is_below, is_in_roots}
+use Rattle.jam_eval.specs.Includes.{is_in_roots}
 use Rattle.jam_values.proofs.ReadingLemmas.{one_reading}
 use Rattle.jam_effects.specs.declared.fault.EvalFault.{EvalFault}
 use Rattle.jam_effects.specs.declared.fault.EvalFault.TheVariants as fault

@@ -1,9 +1,8 @@
 -- What an included file does.
-use Rattle.std.specs.Prelude.{Bool, true, false, not, ◌&&◌, List, [], ◌∷◌, ◌++◌, codes, if◌then◌else◌}
+use Rattle.std.specs.Prelude.{Bool, List, [], ◌∷◌, ◌++◌, if◌then◌else◌}
 use Rattle.std.specs.List.{list_any}
-use Rattle.std.specs.Str.{bytes_eq}
-use Rattle.b2_base.specs.Normal.{parts}
-use Rattle.b2_base.specs.Segments.{is_rooted, is_up, normal_of}
+use Rattle.b2_base.specs.Segments.{is_rooted, normal_of}
+use Rattle.b2_base.specs.Below.{is_below}
 use Rattle.jam_journal.specs.Tables.{Text}
 use Rattle.jam_journal.specs.Scopes.{Value}
 use Rattle.jam_eval.specs.Faults.{Spot, include, lex, syntax_at, too_big}
@@ -17,25 +16,6 @@ use Rattle.jam_eval.specs.Levels.{Levels}
 -- the path of a file, relative to a directory (47 is the slash)
 abbrev pub path_from : Text → Text → Text
 path_from dir name = normal_of (if is_rooted name then name else dir ++ 47 ∷ name)
-
-abbrev pub bool_eq : Bool → Bool → Bool
-bool_eq true b = b
-bool_eq false b = not b
-
--- what stands in a list of segments after those of another one, where they begin it
-abbrev pub after_parts : List Text → List Text → List Text
-after_parts [] path = path
-after_parts (first ∷ dir) [] = []
-after_parts (first ∷ dir) (next ∷ path) = if bytes_eq first next then after_parts dir path else []
-
--- a segment stands there, which is not `..` where the directory is `.`
-abbrev pub goes_below : Bool → List Text → Bool
-goes_below here [] = false
-goes_below here (next ∷ more) = not (here && is_up next)
-
--- a path lies below a directory
-abbrev pub is_below : Text → Text → Bool
-is_below path dir = bool_eq (is_rooted path) (is_rooted dir) && goes_below (bytes_eq dir (codes ".")) (after_parts (parts dir) (parts path))
 
 abbrev pub in_file : Text → Spot → Spot
 in_file path spot = record spot { path = path }

@@ -3,6 +3,7 @@ use Rattle.std.proofs.Common.{◌≡◌, ◌↔◌, ℕ, ◌+◌, ◌<◌, ◌�
 use Rattle.std.specs.List.{flat_map}
 use Rattle.std.specs.Str.{chars}
 use Rattle.std.proofs.lemmas.Bool.{cond-true, cond-false}
+use Rattle.std.proofs.lemmas.Bool.Decides.{same_from_decides}
 use Rattle.std.proofs.lemmas.List.{map-append, at_drop_all, take_all}
 use Rattle.std.proofs.lemmas.List.Concat.{flat_map-append}
 use Rattle.b2_base.specs.Segments.{normal_of}
@@ -18,14 +19,13 @@ use Rattle.jam_natives.specs.Searches.{picks, finds}
 use Rattle.jam_natives.specs.declared.glob.Search.{Search}
 use Rattle.jam_natives.proofs.LoopSteps.{next_dropped, appended}
 use Rattle.jam_natives.proofs.TextLemmas.{filter-append}
-use Rattle.jam_natives.proofs.BelowLemmas.{same_bools}
 use Rattle.jam_natives.proofs.ListingLemmas.{one_listing}
 
 -- ---- patterns
 
 pub test_is : (matching : List ℕ → List ℕ → Bool) → IsMatching matching → (r : Bool) (pattern text : List ℕ) → (IsTrue r ↔ Match (chars pattern) (chars text)) → r ≡ matching pattern text
 test_is matching is r pattern text told =
-    same_bools r (matching pattern text) (λ t. (is pattern text).1 (told.0 t)) (λ t. told.1 ((is pattern text).0 t))
+    same_from_decides r (matching pattern text) (told.0, told.1) ((is pattern text).0, (is pattern text).1)
 
 module _ (matching : List ℕ → List ℕ → Bool) (text : List ℕ) (patterns : List (List ℕ)) (i : ℕ) (p : List ℕ) (low : i < length patterns) (is : p ≡ get_or patterns i p) (so_far : is_matched matching (drop i patterns) text ≡ is_matched matching patterns text) where
   ahead : is_matched matching patterns text ≡ (matching p text || is_matched matching (drop (i + 1) patterns) text)

@@ -5,7 +5,6 @@ pub mod SeenLemmas
 pub mod MatchLemmas
 pub mod TargetLemmas
 pub mod DirLemmas
-pub mod BelowLemmas
 pub mod GlobLemmas
 pub mod ListingLemmas
 pub mod OutputLemmas

@@ -1,5 +1,7 @@
 -- Files in output directories.
 use Rattle.std.proofs.Common.{◌≡◌, ◌≢◌, ◌⊎◌, ℕ, ◌+◌, Bool, true, false, cond, not, ◌&&◌, ◌||◌, List, [], ◌∷◌, ◌++◌, codes, length, All, refl, sym, ap, ap₂, ◌∙◌, inl, inr, ⊎_elim, append_assoc, append-nil, arith}
+use Rattle.std.specs.Bool.{beq}
+use Rattle.std.specs.Cmp.{booleans_Decides}
 use Rattle.std.specs.List.{list_any}
 use Rattle.std.specs.Str.{bytes_eq}
 use Rattle.std.proofs.lemmas.Bool.{false≢true, cond-true, cond-false, cases_Bool}
@@ -8,12 +10,12 @@ use Rattle.std.proofs.lemmas.List.Elements.{All-head, All-tail}
 use Rattle.std.proofs.lemmas.Slice.Eq.{bytes_eq-Decides}
 use Rattle.b2_base.specs.Segments.{is_rooted, is_up}
 use Rattle.b2_base.specs.Normal.{parts, IsNormal}
+use Rattle.b2_base.specs.Below.{after_parts, goes_below, is_below}
 use Rattle.b2_base.proofs.Under.{one_text}
+use Rattle.b2_base.proofs.Below.{after_itself}
 use Rattle.b2_host.specs.Disks.{Folder}
 use Rattle.b2_host.specs.Listings.{IsDirectlyIn}
-use Rattle.jam_eval.specs.Includes.{bool_eq, after_parts, goes_below, is_below}
 use Rattle.jam_natives.specs.Globs.{is_output_dir}
-use Rattle.jam_natives.proofs.BelowLemmas.{same_bool, bool_eq_itself, after_itself}
 
 abbrev Texts : Type 0
 Texts = List (List ℕ)
@@ -70,11 +72,11 @@ module _ (path dir root name : List ℕ) (rooted : is_rooted path ≡ is_rooted 
   here = bytes_eq root (codes ".")
 
   abbrev alike : Bool
-  alike = bool_eq (is_rooted dir) (is_rooted root)
+  alike = beq (is_rooted dir) (is_rooted root)
 
   file_below : is_below path root ≡ (alike && goes_below here (after_parts (parts root) (parts dir ++ name ∷ [])))
   file_below =
-      ap (λ b. bool_eq b (is_rooted root) && goes_below here (after_parts (parts root) (parts path))) rooted
+      ap (λ b. beq b (is_rooted root) && goes_below here (after_parts (parts root) (parts path))) rooted
       ∙ ap (λ (segments : Texts). alike && goes_below here (after_parts (parts root) segments)) goes_on
 
   -- no segment of the directory after those of the root
@@ -83,7 +85,7 @@ module _ (path dir root name : List ℕ) (rooted : is_rooted path ≡ is_rooted 
       file_below ∙ ap (λ (l : Texts). alike && goes_below here l) (ap (λ (d : Texts). after_parts (parts root) (d ++ name ∷ [])) e ∙ after_itself (parts root) (name ∷ []))
       ∙ elim (cases_Bool alike) [
         | inl same ↦
-            let dir_is : dir ≡ root = one_text dir root normal_dir normal_root (same_bool (is_rooted dir) (is_rooted root) same) e in
+            let dir_is : dir ≡ root = one_text dir root normal_dir normal_root ((booleans_Decides (is_rooted dir) (is_rooted root)).0 same) e in
             let one : bytes_eq dir root ≡ true = (bytes_eq-Decides dir root).1 dir_is in
             ap (λ b. b && not (here && is_up name)) same
             ∙ elim (cases_Bool here) [
@@ -93,7 +95,7 @@ module _ (path dir root name : List ℕ) (rooted : is_rooted path ≡ is_rooted 
             ∙ sym (ap (λ b. b || is_below dir root) one)
         | inr differ ↦
             let apart : bytes_eq dir root ≡ false =
-            not_same dir root (λ same. false≢true (sym differ ∙ bool_eq_itself (is_rooted dir) (is_rooted root) (ap is_rooted same)))
+            not_same dir root (λ same. false≢true (sym differ ∙ (booleans_Decides (is_rooted dir) (is_rooted root)).1 (ap is_rooted same)))
             in
             ap (λ b. b && not (here && is_up name)) differ
             ∙ sym (ap (λ b. b || is_below dir root) apart ∙ ap (λ b. b && goes_below here (after_parts (parts root) (parts dir))) differ)

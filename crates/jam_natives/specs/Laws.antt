@@ -2,9 +2,9 @@
 use Rattle.std.specs.Prelude.{◌≡◌, ℕ, List, All}
 use Rattle.std.specs.List.{list_any}
 use Rattle.b2_base.specs.Normal.{IsNormal}
+use Rattle.b2_base.specs.Below.{is_below}
 use Rattle.b2_host.specs.Disks.{Folder}
 use Rattle.b2_host.specs.Listings.{IsDirectlyIn}
-use Rattle.jam_eval.specs.Includes.{is_below}
 use Rattle.jam_natives.specs.Globs.{is_output_dir}
 
 -- a file directly in a directory lies below an output root exactly where the directory is an output root, or lies below one

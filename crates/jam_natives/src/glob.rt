@@ -3,7 +3,7 @@ ghost use Rattle.std.specs.Prelude.{◌≡◌, ◌++◌, ◌∷◌, [], IfOk, On
 ghost use Rattle.b2_base.specs.Bytes.{HasNoZero};
 ghost use Rattle.b2_host.specs.Outside.{IoLooks};
 ghost use Rattle.jam_path.specs.Names.{or_root, dir_of, file_of};
-ghost use Rattle.jam_eval.specs.Includes.{path_from, is_below};
+ghost use Rattle.jam_eval.specs.Includes.{path_from};
 ghost use Rattle.jam_natives.specs.Sights.{ForMatching, WhereSeen};
 ghost use Rattle.jam_natives.specs.Searches.{picks, finds};
 ghost use Rattle.jam_natives.specs.Globs.{path_in, is_output_dir, is_matched, globbed, found_by, project_globbed};
@@ -100,17 +100,11 @@ fn pick_all(
     Ok(())
 }
 
-fn is_below(path: &Path, dir: &Path) -> bool
-    ensures { result ≡ is_below path.now dir.now }
-{
-    path.under(dir)
-}
-
 /// Whether a directory is an output root, or lies below one.
 fn is_output_dir(roots: &[Path], dir: &Path) -> bool
     ensures { result ≡ is_output_dir roots.now dir.now }
 {
-    roots.iter().any(|root| dir == root || is_below(dir, root))
+    roots.iter().any(|root| dir == root || dir.under(root))
 }
 
 /// Adds the files of a directory that are looked for, as paths in a directory that stands for it.

@@ -1,5 +1,4 @@
 pub mod ListLemmas
 pub mod SetLemmas
 pub mod TakingLemmas
-pub mod BelowLemmas
 pub mod ReadingLemmas

@@ -1,7 +1,8 @@
 //! Paths of included files.
 ghost use Rattle.std.specs.Prelude.{◌≡◌, IfOk};
 ghost use Rattle.std.specs.List.{list_any};
-ghost use Rattle.jam_eval.specs.Includes.{path_from, is_below};
+ghost use Rattle.b2_base.specs.Below.{is_below};
+ghost use Rattle.jam_eval.specs.Includes.{path_from};
 
 use b2_base::fault::OutOfMemory;
 use b2_base::path::{Path, joined_path, path_of};
@@ -19,15 +20,9 @@ pub fn path_from(alloc: Global, dir: &Path, name: &Text) -> Result<Path, OutOfMe
     joined_path(alloc, dir.as_str(), name.as_str())
 }
 
-fn is_below(path: &Path, dir: &Path) -> bool
-    ensures { result ≡ is_below path.now dir.now }
-{
-    path.under(dir)
-}
-
 /// Whether a path lies below one of some directories. Takes no memory.
 pub fn is_below_any(path: &Path, dirs: &[Path]) -> bool
     ensures { result ≡ list_any (λ dir. is_below path.now dir) dirs.now }
 {
-    dirs.iter().any(|dir| is_below(path, dir))
+    dirs.iter().any(|dir| path.under(dir))
 }
