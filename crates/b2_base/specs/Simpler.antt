@@ -25,6 +25,10 @@ pub data Reaches (rooted : Bool) : List (List ℕ) → List (List ℕ) → Type 
 abbrev pub IsSimplest : Bool → List (List ℕ) → Type 0
 IsSimplest rooted segments = (next : List (List ℕ)) → ¬ Simpler rooted segments next
 
+-- A run of steps that starts at the first list, and comes to one from which no step leads on, comes to the second list.
+abbrev pub IsOnlyEnd : Bool → List (List ℕ) → List (List ℕ) → Type 0
+IsOnlyEnd rooted segments end = (found : List (List ℕ)) → Reaches rooted segments found → IsSimplest rooted found → found ≡ end
+
 -- The text is its root and its segments written again, and no step leads on from these segments.
 pub record IsSimplestText (text : List ℕ) : Type 0 where
   pub text_is : text ≡ written (is_rooted text) (parts text)

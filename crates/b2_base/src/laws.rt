@@ -2,7 +2,7 @@
 ghost use Rattle.std.specs.Prelude.{◌≡◌, ◌↔◌, ◌<◌, ℕ, Bool, List, length};
 ghost use Rattle.b2_base.specs.Segments.{normal_of, is_rooted, segments};
 ghost use Rattle.b2_base.specs.Normal.{IsNormal, parts};
-ghost use Rattle.b2_base.specs.Simpler.{Simpler, Reaches, IsSimplest, IsSimplestText};
+ghost use Rattle.b2_base.specs.Simpler.{Simpler, Reaches, IsSimplest, IsOnlyEnd, IsSimplestText};
 
 /// A normal form is its own normal form.
 pub fn normal_stays()
@@ -33,5 +33,5 @@ pub fn normal_is_the_end()
     ensures root { (text : List ℕ) → is_rooted (normal_of text) ≡ is_rooted text }
     ensures reached { (text : List ℕ) → Reaches (is_rooted text) (segments text) (parts (normal_of text)) }
     ensures simplest { (text : List ℕ) → IsSimplest (is_rooted text) (parts (normal_of text)) }
-    ensures only { (text : List ℕ) (found : List (List ℕ)) → Reaches (is_rooted text) (segments text) found → IsSimplest (is_rooted text) found → found ≡ parts (normal_of text) }
+    ensures only { (text : List ℕ) → IsOnlyEnd (is_rooted text) (segments text) (parts (normal_of text)) }
 {}

@@ -1,10 +1,10 @@
 //! Paths in normal form.
-ghost use Rattle.std.specs.Prelude.{◌≡◌, ◌≢◌, ◌↔◌, ◌++◌, ℕ, List, [], codes, IfOk, IsErrOf, IsTrue, string_bytes};
+ghost use Rattle.std.specs.Prelude.{◌≡◌, ◌≢◌, ◌↔◌, ◌++◌, [], codes, IfOk, IsErrOf, IsTrue, string_bytes};
 ghost use Rattle.b2_base.specs.Bytes.{HasNoZero};
 ghost use Rattle.b2_base.specs.Segments.{normal_of, is_rooted, segments};
 ghost use Rattle.b2_base.specs.Normal.{IsNormal, IsUnder, parts};
 ghost use Rattle.b2_base.specs.Below.{is_below};
-ghost use Rattle.b2_base.specs.Simpler.{Reaches, IsSimplest};
+ghost use Rattle.b2_base.specs.Simpler.{Reaches, IsSimplest, IsOnlyEnd};
 
 use crate::fault::OutOfMemory;
 use crate::rooted::is_rooted;
@@ -116,7 +116,7 @@ impl Path {
         ensures root { IfOk result (λ path. is_rooted path ≡ is_rooted text.now) }
         ensures reached { IfOk result (λ path. Reaches (is_rooted text.now) (segments text.now) (parts path)) }
         ensures simplest { IfOk result (λ path. IsSimplest (is_rooted path) (parts path)) }
-        ensures only { IfOk result (λ path. (found : List (List ℕ)) → Reaches (is_rooted text.now) (segments text.now) found → IsSimplest (is_rooted text.now) found → found ≡ parts path) }
+        ensures only { IfOk result (λ path. IsOnlyEnd (is_rooted text.now) (segments text.now) (parts path)) }
         ensures empty { IsErrOf result PathFault.Empty ↔ (text.now ≡ []) }
         ensures nul { IsErrOf result PathFault.Nul ↔ ¬ HasNoZero text.now }
         ensures no_zero { IfOk result (λ _. HasNoZero text.now) }
