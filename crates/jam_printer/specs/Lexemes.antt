@@ -1,10 +1,16 @@
 -- The lexemes that a tree is written with.
-use Rattle.std.specs.Prelude.{ℕ, Bool, List, [], ◌∷◌, ◌++◌, flat_map}
+use Rattle.std.specs.Prelude.{ℕ, Bool, List, [], ◌∷◌, ◌++◌, Option, map, flat_map}
+use Rattle.std.specs.declared.vec.Vec.{Vec}
+use Rattle.std.specs.declared.alloc.Global.{Global}
 use Rattle.jam_grammar.specs.declared.mark.Mark.TheVariants as marks
 use Rattle.jam_grammar.specs.declared.tree.Arg.{Arg}
 use Rattle.jam_grammar.specs.declared.tree.Block.{Block}
+use Rattle.jam_grammar.specs.declared.tree.Expr.{Expr}
+use Rattle.jam_grammar.specs.declared.tree.Param.{Param}
+use Rattle.jam_grammar.specs.declared.tree.Sign.{Sign}
 use Rattle.jam_grammar.specs.declared.tree.Tree.{Tree}
-use Rattle.jam_grammar.specs.Spelling.{Sym, Key, Says, Named, Raw, From, Never, local_syms, args_syms, block_syms, braced, tree_syms}
+use Rattle.jam_grammar.specs.Trees.{value_tree}
+use Rattle.jam_grammar.specs.Spelling.{Sym, Key, Says, Named, Raw, From, Never, Anywhere, arg_syms, args_syms, expr_syms, value_syms, set_syms, sign_mark, local_syms, params_syms, block_syms, braced, tree_syms}
 use Rattle.jam_grammar.specs.Alike.{Said, mark_said, word_said, body_said}
 use Rattle.jam_spelling.specs.declared.lexeme.Lexeme.{Lexeme}
 
@@ -24,6 +30,26 @@ lexemes_of_sym Never = []
 -- symbols are written one after the other
 abbrev pub written_as : List Sym → List Lexeme
 written_as symbols = flat_map lexemes_of_sym symbols
+
+-- the symbols of a `local`
+abbrev pub locals_syms : List Arg → Option (Vec Arg Global) → List Sym
+locals_syms names value = Key marks.Local ∷ (args_syms names ++ value_syms (value_tree value))
+
+-- the symbols of an assignment on targets
+abbrev pub assign_on_syms : Arg → List Arg → Sign → List Arg → List Sym
+assign_on_syms target on sign value = arg_syms target ++ (Key marks.On ∷ (args_syms on ++ set_syms (sign_mark sign) (args_syms value)))
+
+-- the symbols of an `if` up to the end of its block
+abbrev pub if_syms : Expr → Block → List Sym
+if_syms test block = Key marks.If ∷ (expr_syms Anywhere test ++ braced (block_syms block))
+
+-- the symbols of a `while`
+abbrev pub while_syms : Expr → Block → List Sym
+while_syms test block = Key marks.While ∷ (expr_syms Anywhere test ++ braced (block_syms block))
+
+-- the symbols of a `rule`
+abbrev pub rule_syms : List ℕ → List (Vec Param Global) → Block → List Sym
+rule_syms name params block = Key marks.Rule ∷ Says name ∷ (params_syms (map (λ list. list.items) params) ++ braced (block_syms block))
 
 -- the symbols of a `for`
 abbrev pub for_syms : Bool → List ℕ → List Arg → Block → List Sym

@@ -1,9 +1,8 @@
 //! The lexemes of statements that hold no others.
 ghost use Rattle.std.specs.Prelude.{◌≡◌, ◌++◌, ◌∷◌, [], IfOk, option_copied};
 ghost use Rattle.jam_grammar.specs.declared.mark.Mark.TheVariants as marks;
-ghost use Rattle.jam_grammar.specs.Trees.{value_tree};
-ghost use Rattle.jam_grammar.specs.Spelling.{Key, Says, Raw, arg_syms, args_syms, lists_syms, set_syms, value_syms, sign_mark, braced};
-ghost use Rattle.jam_printer.specs.Lexemes.{written_as};
+ghost use Rattle.jam_grammar.specs.Spelling.{Key, Says, Raw, arg_syms, args_syms, lists_syms, set_syms, sign_mark, braced};
+ghost use Rattle.jam_printer.specs.Lexemes.{written_as, locals_syms, assign_on_syms};
 
 use crate::args::{push_arg, push_args, push_lists};
 use crate::lexemes::{push_body, push_key, push_word};
@@ -39,7 +38,7 @@ pub fn push_local(
     names: &[Arg],
     value: Option<&Vec<Arg>>,
 ) -> Result<(), OutOfMemory>
-    ensures { IfOk result (λ _. lexemes.new.items ≡ lexemes.old.items ++ written_as (Key marks.Local ∷ (args_syms names.now ++ value_syms (value_tree (option_copied value.entry))))) }
+    ensures { IfOk result (λ _. lexemes.new.items ≡ lexemes.old.items ++ written_as (locals_syms names.now (option_copied value.entry))) }
 {
     push_key(lexemes, Mark::Local)?;
     push_args(lexemes, names)?;
@@ -70,7 +69,7 @@ pub fn push_assign_on(
     sign: Sign,
     value: &[Arg],
 ) -> Result<(), OutOfMemory>
-    ensures { IfOk result (λ _. lexemes.new.items ≡ lexemes.old.items ++ written_as (arg_syms target.now ++ (Key marks.On ∷ (args_syms on.now ++ set_syms (sign_mark sign) (args_syms value.now))))) }
+    ensures { IfOk result (λ _. lexemes.new.items ≡ lexemes.old.items ++ written_as (assign_on_syms target.now on.now sign value.now)) }
 {
     push_arg(lexemes, target)?;
     push_key(lexemes, Mark::On)?;

@@ -1,9 +1,9 @@
 //! The lexemes of statements.
-ghost use Rattle.std.specs.Prelude.{◌≡◌, ◌++◌, ◌∷◌, [], IfOk, map};
+ghost use Rattle.std.specs.Prelude.{◌≡◌, ◌++◌, ◌∷◌, IfOk};
 ghost use Rattle.jam_grammar.specs.declared.mark.Mark.TheVariants as marks;
-ghost use Rattle.jam_grammar.specs.Spelling.{Key, Says, Anywhere, arg_syms, args_syms, expr_syms, braced, block_syms, form_syms, other_syms, only, is_if, case_syms, cases_syms, local_syms, params_syms};
+ghost use Rattle.jam_grammar.specs.Spelling.{Key, arg_syms, args_syms, braced, block_syms, form_syms, other_syms, only, is_if, case_syms, cases_syms};
 ghost use Rattle.jam_grammar.specs.Trees.{form_tree};
-ghost use Rattle.jam_printer.specs.Lexemes.{written_as, for_syms};
+ghost use Rattle.jam_printer.specs.Lexemes.{written_as, if_syms, for_syms, while_syms, rule_syms};
 
 use crate::args::{push_arg, push_args};
 use crate::exprs::push_expr;
@@ -85,7 +85,7 @@ fn push_stmt(lexemes: &mut Vec<Lexeme>, stmt: &Stmt) -> Result<(), OutOfMemory>
 /// Appends an `if` up to the end of its block.
 #[cycle(stmts)]
 fn push_if(lexemes: &mut Vec<Lexeme>, test: &Expr, block: &Block) -> Result<(), OutOfMemory>
-    ensures { IfOk result (λ _. lexemes.new.items ≡ lexemes.old.items ++ written_as (Key marks.If ∷ (expr_syms Anywhere test.now ++ braced (block_syms block.now)))) }
+    ensures { IfOk result (λ _. lexemes.new.items ≡ lexemes.old.items ++ written_as (if_syms test.now block.now)) }
 {
     push_key(lexemes, Mark::If)?;
     push_expr(lexemes, test)?;
@@ -145,7 +145,7 @@ fn push_for(
 /// Appends a `while`.
 #[cycle(stmts)]
 fn push_while(lexemes: &mut Vec<Lexeme>, test: &Expr, block: &Block) -> Result<(), OutOfMemory>
-    ensures { IfOk result (λ _. lexemes.new.items ≡ lexemes.old.items ++ written_as (Key marks.While ∷ (expr_syms Anywhere test.now ++ braced (block_syms block.now)))) }
+    ensures { IfOk result (λ _. lexemes.new.items ≡ lexemes.old.items ++ written_as (while_syms test.now block.now)) }
 {
     push_key(lexemes, Mark::While)?;
     push_expr(lexemes, test)?;
@@ -204,7 +204,7 @@ fn push_rule(
     params: &[Vec<Param>],
     block: &Block,
 ) -> Result<(), OutOfMemory>
-    ensures { IfOk result (λ _. lexemes.new.items ≡ lexemes.old.items ++ written_as (Key marks.Rule ∷ Says name.now ∷ (params_syms (map (λ list. list.items) params.now) ++ braced (block_syms block.now)))) }
+    ensures { IfOk result (λ _. lexemes.new.items ≡ lexemes.old.items ++ written_as (rule_syms name.now params.now block.now)) }
 {
     push_key(lexemes, Mark::Rule)?;
     push_word(lexemes, name)?;
