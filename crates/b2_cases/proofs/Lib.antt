@@ -1,1 +1,2 @@
+pub mod MayStart
 pub mod UntoldLemmas

@@ -1,9 +1,10 @@
 //! The commands over the system.
-use crate::real::answers::io_answer;
+use crate::host_calls::write;
 use crate::real::child_commands::child_command;
 use crate::real::program_commands::{build, look};
 use crate::real::system::System;
-use b2_host::sink::Sink;
+use b2_host::fault::Failed;
+use b2_host::files::Files;
 use b2_realhost::real_host::RealHost;
 use b2_realhost::real_sink::RealSink;
 use std::alloc::Global;
@@ -12,7 +13,7 @@ use transcript::answer::Answer;
 use transcript::case_fault::CaseFault;
 use transcript::command::{Command, Word};
 use transcript::session::Session;
-use transcript::words::texts;
+use transcript::words::{only, path, texts};
 
 /// The real host, which is never taken apart, and the real sink.
 #[derive(Drop)]
@@ -21,12 +22,13 @@ pub struct OnSystem<R: System> {
     sink: RealSink<R>,
 }
 
-/// `write BYTES`: writes to the standard output, before the answer.
-fn write<S: Sink>(alloc: Global, sink: &mut S, words: &[Word]) -> Result<Answer, CaseFault> {
-    let [piece] = words else {
-        return Err(CaseFault::WrongWords);
-    };
-    io_answer(alloc, sink.write(piece.bytes()))
+/// `stat PATH`: whether a file stands there.
+fn stat<H: Files>(alloc: Global, host: &mut H, words: &[Word]) -> Result<Answer, CaseFault> {
+    match host.stat(&path(alloc, only(words)?)?) {
+        Ok(None) => Answer::line(alloc, "None"),
+        Ok(Some(_stamp)) => Answer::line(alloc, "Some"),
+        Err(Failed) => Answer::line(alloc, "Failed"),
+    }
 }
 
 impl<R: System> OnSystem<R> {
@@ -55,6 +57,7 @@ impl<R: System> Session for OnSystem<R> {
                 &mut *self.host,
                 &mut self.sink,
             ),
+            "stat" => stat(alloc, &mut *self.host, words),
             "write" => write(alloc, &mut self.sink, words),
             _ => child_command(alloc, &mut *self.host, command),
         }

@@ -10,7 +10,7 @@ use Rattle.b2_host.specs.ChildProcesses.{Child, AreApart, MayStart}
 use Rattle.b2_memory.specs.Families.{child_with}
 use Rattle.b2_memory.specs.Jobs.{given_of}
 use Rattle.b2_memory.specs.Hosts.{running_children}
-use Rattle.b2_host_cases.specs.Apart.{are_apart, is_beside}
+use Rattle.b2_cases.specs.Apart.{are_apart, is_beside}
 
 both : (a b : Bool) → (a && b) ≡ true → (a ≡ true) × (b ≡ true)
 both true b h = (refl, h)

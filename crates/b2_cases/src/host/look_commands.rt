@@ -1,6 +1,6 @@
 //! Commands that look at the host in memory.
-use crate::host::InMemory;
-use crate::host::sink_commands::sink_command;
+use crate::answers::push_paths;
+use crate::host_calls::file_command;
 use b2_base::path::Path;
 use b2_host::children::ChildEvent;
 use b2_memory::job::Job;
@@ -75,14 +75,6 @@ fn past(alloc: Global, host: &MemoryHost) -> Result<Answer, CaseFault> {
     Ok(answer)
 }
 
-fn push_paths(line: &mut String, paths: &[Path]) -> Result<(), CaseFault> {
-    for path in paths {
-        line.push(' ')?;
-        line.push_str(path.as_str())?;
-    }
-    Ok(())
-}
-
 /// What a start gave, as the words of a `start`.
 fn job_line(alloc: Global, job: &Job) -> Result<String, CaseFault> {
     let step = job.step;
@@ -134,20 +126,20 @@ fn faults(alloc: Global, host: &MemoryHost) -> Result<Answer, CaseFault> {
     Answer::line(alloc, format!(in alloc; "{calls}, waits {waits}")?.as_str())
 }
 
-/// Carries out a command that looks at the host, or another one. `reads` shows the paths of the reads that were answered.
+/// Carries out a command that looks at the host, or one on files. `reads` shows the paths of the reads that were answered.
 pub fn look_command(
     alloc: Global,
-    state: &mut InMemory,
+    host: &mut MemoryHost,
     command: &Command,
 ) -> Result<Answer, CaseFault> {
     match command.name() {
-        "events" => events(alloc, &state.host),
-        "files" => files(alloc, &state.host),
-        "past" => past(alloc, &state.host),
-        "running" => running(alloc, &state.host),
-        "given" => given(alloc, &state.host),
-        "reads" => Answer::paths(alloc, state.host.reads()),
-        "faults" => faults(alloc, &state.host),
-        _ => sink_command(alloc, &mut state.sink, command),
+        "events" => events(alloc, host),
+        "files" => files(alloc, host),
+        "past" => past(alloc, host),
+        "running" => running(alloc, host),
+        "given" => given(alloc, host),
+        "reads" => Answer::paths(alloc, host.reads()),
+        "faults" => faults(alloc, host),
+        _ => file_command(alloc, host, command),
     }
 }

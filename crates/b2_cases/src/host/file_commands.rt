@@ -1,16 +1,14 @@
-//! Commands on the files of the host in memory.
-use crate::host::InMemory;
-use crate::host::answers::fault_answer;
-use crate::host::write_commands::write_command;
+//! Commands on the files of the host in memory that it alone has, and one that shows a stamp.
+use crate::host::child_commands::child_command;
 use b2_base::path::Path;
 use b2_host::fault::Failed;
-use b2_host::files::{Files, ReadAnswer};
+use b2_host::files::Files;
 use b2_memory::memory::MemoryHost;
 use std::alloc::Global;
-use transcript::answer::{Answer, shown};
+use transcript::answer::Answer;
 use transcript::case_fault::CaseFault;
 use transcript::command::{Command, Word};
-use transcript::words::{both, number, only, path};
+use transcript::words::{only, path};
 
 fn edit_file(
     alloc: Global,
@@ -55,49 +53,17 @@ fn stat(alloc: Global, host: &mut MemoryHost, words: &[Word]) -> Result<Answer, 
     }
 }
 
-fn read_answer(alloc: Global, answer: &ReadAnswer) -> Result<Answer, CaseFault> {
-    match answer {
-        ReadAnswer::Bytes(bytes) => {
-            Answer::line(alloc, shown(alloc, bytes.as_slice())?.as_str())
-        }
-        ReadAnswer::Missing => Answer::line(alloc, "Missing"),
-        ReadAnswer::TooBig { size } => {
-            Answer::line(alloc, format!(in alloc; "TooBig {size}")?.as_str())
-        }
-    }
-}
-
-/// `read PATH MOST`: the bytes of the file there, where it has no more than so many.
-fn read(alloc: Global, host: &mut MemoryHost, words: &[Word]) -> Result<Answer, CaseFault> {
-    let (name, most) = both(words)?;
-    let most = number(most)? as u64;
-    match host.read(&path(alloc, name)?, most) {
-        Ok(answer) => read_answer(alloc, &answer),
-        Err(fault) => fault_answer(alloc, fault),
-    }
-}
-
-/// `remove PATH`: leaves no file there.
-fn remove(alloc: Global, host: &mut MemoryHost, words: &[Word]) -> Result<Answer, CaseFault> {
-    match host.remove(&path(alloc, only(words)?)?) {
-        Ok(()) => Answer::line(alloc, "Ok"),
-        Err(Failed) => Answer::line(alloc, "Failed"),
-    }
-}
-
-/// Carries out a command on files, or another one.
+/// Carries out a command on the files in memory, or another one.
 pub fn file_command(
     alloc: Global,
-    state: &mut InMemory,
+    host: &mut MemoryHost,
     command: &Command,
 ) -> Result<Answer, CaseFault> {
     let words = command.words();
     match command.name() {
-        "edit" => edit(alloc, &mut state.host, command),
-        "delete" => delete(alloc, &mut state.host, words),
-        "stat" => stat(alloc, &mut state.host, words),
-        "read" => read(alloc, &mut state.host, words),
-        "remove" => remove(alloc, &mut state.host, words),
-        _ => write_command(alloc, state, command),
+        "edit" => edit(alloc, host, command),
+        "delete" => delete(alloc, host, words),
+        "stat" => stat(alloc, host, words),
+        _ => child_command(alloc, host, command),
     }
 }

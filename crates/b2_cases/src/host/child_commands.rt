@@ -1,12 +1,10 @@
 //! Commands on the child processes of the host in memory.
-use crate::host::InMemory;
-use crate::host::answers::io_answer;
+use crate::answers::{ended_answer, io_answer};
 use crate::host::free::may_start;
 use crate::host::script_commands::script_command;
 use b2_base::path::Path;
 use b2_base::path_list::PathList;
 use b2_host::children::Children;
-use b2_host::fault::Failed;
 use b2_memory::memory::MemoryHost;
 use std::alloc::Global;
 use transcript::answer::Answer;
@@ -60,23 +58,19 @@ fn wait_one(alloc: Global, host: &mut MemoryHost, words: &[Word]) -> Result<Answ
     if host.running().is_empty() {
         return Answer::line(alloc, "no child runs");
     }
-    match host.wait_one() {
-        Ok((step, true)) => Answer::line(alloc, format!(in alloc; "{step} well")?.as_str()),
-        Ok((step, false)) => Answer::line(alloc, format!(in alloc; "{step} badly")?.as_str()),
-        Err(Failed) => Answer::line(alloc, "Failed"),
-    }
+    ended_answer(alloc, host.wait_one())
 }
 
 /// Carries out a command on children, or another one.
 pub fn child_command(
     alloc: Global,
-    state: &mut InMemory,
+    host: &mut MemoryHost,
     command: &Command,
 ) -> Result<Answer, CaseFault> {
     let words = command.words();
     match command.name() {
-        "start" => start(alloc, &mut state.host, words),
-        "wait_one" => wait_one(alloc, &mut state.host, words),
-        _ => script_command(alloc, state, command),
+        "start" => start(alloc, host, words),
+        "wait_one" => wait_one(alloc, host, words),
+        _ => script_command(alloc, host, command),
     }
 }

@@ -5,7 +5,7 @@ ghost use Rattle.b2_host.specs.ChildProcesses.{MayStart};
 ghost use Rattle.b2_memory.specs.Families.{child_with};
 ghost use Rattle.b2_memory.specs.Jobs.{given_of};
 ghost use Rattle.b2_memory.specs.Hosts.{running_children};
-ghost use Rattle.b2_host_cases.specs.Apart.{are_apart, is_beside};
+ghost use Rattle.b2_cases.specs.Apart.{are_apart, is_beside};
 
 use b2_base::path::Path;
 use b2_memory::running::Running;

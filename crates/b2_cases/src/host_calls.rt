@@ -1,21 +1,13 @@
-//! Commands on the files of a host.
-use crate::real::answers::{fault_answer, io_answer};
+//! Commands that make one call of any host or sink.
+use crate::answers::{fault_answer, io_answer};
 use b2_host::fault::Failed;
 use b2_host::files::{Files, ReadAnswer};
+use b2_host::sink::Sink;
 use std::alloc::Global;
 use transcript::answer::{Answer, shown};
 use transcript::case_fault::CaseFault;
 use transcript::command::{Command, Word};
 use transcript::words::{both, number, only, path};
-
-/// `stat PATH`: whether a file stands there.
-fn stat<H: Files>(alloc: Global, host: &mut H, words: &[Word]) -> Result<Answer, CaseFault> {
-    match host.stat(&path(alloc, only(words)?)?) {
-        Ok(None) => Answer::line(alloc, "None"),
-        Ok(Some(_stamp)) => Answer::line(alloc, "Some"),
-        Err(Failed) => Answer::line(alloc, "Failed"),
-    }
-}
 
 fn read_answer(alloc: Global, answer: &ReadAnswer) -> Result<Answer, CaseFault> {
     match answer {
@@ -73,7 +65,7 @@ fn remove<H: Files>(alloc: Global, host: &mut H, words: &[Word]) -> Result<Answe
     }
 }
 
-/// Carries out a command on files. It asks no more of the host than files.
+/// Carries out a command on files.
 pub fn file_command<H: Files>(
     alloc: Global,
     host: &mut H,
@@ -81,7 +73,6 @@ pub fn file_command<H: Files>(
 ) -> Result<Answer, CaseFault> {
     let words = command.words();
     match command.name() {
-        "stat" => stat(alloc, host, words),
         "read" => read(alloc, host, words),
         "list" => list(alloc, host, words),
         "append" => append(alloc, host, words),
@@ -89,4 +80,12 @@ pub fn file_command<H: Files>(
         "remove" => remove(alloc, host, words),
         _ => Err(CaseFault::UnknownCommand),
     }
+}
+
+/// `write BYTES`: writes a piece.
+pub fn write<S: Sink>(alloc: Global, sink: &mut S, words: &[Word]) -> Result<Answer, CaseFault> {
+    let [piece] = words else {
+        return Err(CaseFault::WrongWords);
+    };
+    io_answer(alloc, sink.write(piece.bytes()))
 }

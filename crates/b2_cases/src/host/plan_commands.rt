@@ -1,9 +1,9 @@
 //! Commands on plans.
-use crate::host::InMemory;
 use crate::host::file_commands::file_command;
 use b2_base::path::Path;
 use b2_base::path_list::PathList;
 use b2_base::text::Text;
+use b2_memory::memory::MemoryHost;
 use b2_plan::plan::Plan;
 use b2_plan::step::{Step, StepList};
 use std::alloc::Global;
@@ -62,11 +62,11 @@ fn maker(alloc: Global, words: &[Word]) -> Result<Answer, CaseFault> {
 /// Carries out a command on plans, or another one.
 pub fn plan_command(
     alloc: Global,
-    state: &mut InMemory,
+    host: &mut MemoryHost,
     command: &Command,
 ) -> Result<Answer, CaseFault> {
     match command.name() {
         "maker" => maker(alloc, command.words()),
-        _ => file_command(alloc, state, command),
+        _ => file_command(alloc, host, command),
     }
 }

@@ -1,9 +1,9 @@
 //! Commands on paths.
-use crate::host::InMemory;
-use crate::host::answers::truth;
+use crate::answers::truth;
 use crate::host::plan_commands::plan_command;
 use b2_base::path::{Path, PathFault};
 use b2_base::path_list::{PathList, copy_paths};
+use b2_memory::memory::MemoryHost;
 use std::alloc::Global;
 use std::cmp::Ordering;
 use transcript::answer::Answer;
@@ -50,7 +50,7 @@ fn path_list(alloc: Global, words: &[Word]) -> Result<Answer, CaseFault> {
 /// Carries out a command on paths, or another one.
 pub fn path_command(
     alloc: Global,
-    state: &mut InMemory,
+    host: &mut MemoryHost,
     command: &Command,
 ) -> Result<Answer, CaseFault> {
     let words = command.words();
@@ -59,6 +59,6 @@ pub fn path_command(
         "under" => under(alloc, words),
         "cmp" => cmp(alloc, words),
         "paths" => path_list(alloc, words),
-        _ => plan_command(alloc, state, command),
+        _ => plan_command(alloc, host, command),
     }
 }

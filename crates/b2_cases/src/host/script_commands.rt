@@ -1,5 +1,4 @@
 //! Commands that tell the host in memory which calls fail and how its child processes end.
-use crate::host::InMemory;
 use crate::host::look_commands::look_command;
 use b2_memory::memory::{CallKind, MemoryHost};
 use std::alloc::Global;
@@ -70,17 +69,17 @@ fn reopen(alloc: Global, host: &mut MemoryHost, words: &[Word]) -> Result<Answer
 /// Carries out a command that tells the host what is to come, or another one.
 pub fn script_command(
     alloc: Global,
-    state: &mut InMemory,
+    host: &mut MemoryHost,
     command: &Command,
 ) -> Result<Answer, CaseFault> {
     let words = command.words();
     match command.name() {
-        "fail_calls" => fail_calls(alloc, &mut state.host, words),
-        "child_fails" => child_fails(alloc, &mut state.host, words),
-        "order" => order(alloc, &mut state.host, words),
-        "tear" => tear(alloc, &mut state.host, words),
-        "fuse" => fuse(alloc, &mut state.host, words),
-        "reopen" => reopen(alloc, &mut state.host, words),
-        _ => look_command(alloc, state, command),
+        "fail_calls" => fail_calls(alloc, host, words),
+        "child_fails" => child_fails(alloc, host, words),
+        "order" => order(alloc, host, words),
+        "tear" => tear(alloc, host, words),
+        "fuse" => fuse(alloc, host, words),
+        "reopen" => reopen(alloc, host, words),
+        _ => look_command(alloc, host, command),
     }
 }

@@ -1,0 +1,87 @@
+//! The map, the host and the sink at hand.
+use crate::host::text_commands::text_command;
+use crate::host_calls::write;
+use b2_base::fault::OutOfMemory;
+use b2_base::text::Text;
+use b2_base::text_map::TextMap;
+use b2_memory::memory::MemoryHost;
+use b2_memory::memory_sink::MemorySink;
+use std::alloc::Global;
+use std::mem::ManuallyDrop;
+use transcript::answer::{Answer, shown};
+use transcript::case_fault::CaseFault;
+use transcript::command::{Command, Word};
+use transcript::session::Session;
+use transcript::words::{both, no_words, number, only, text};
+
+/// A map, a host and a sink, each as it was made. A map or a host that another one takes the place of stays until the process
+/// ends, so that none is taken apart.
+#[derive(Drop)]
+pub struct HostAtHand {
+    map: ManuallyDrop<TextMap<Text>>,
+    host: ManuallyDrop<MemoryHost>,
+    sink: MemorySink,
+}
+
+/// `insert TEXT VALUE`: gives a text a value in the map, and answers the one before.
+fn insert(alloc: Global, map: &mut TextMap<Text>, words: &[Word]) -> Result<Answer, CaseFault> {
+    let (name, value) = both(words)?;
+    match map.insert(text(alloc, name)?, text(alloc, value)?)? {
+        None => Answer::line(alloc, "none"),
+        Some(before) => Answer::line(alloc, before.as_str()),
+    }
+}
+
+/// `get TEXT`: the value of a text in the map.
+fn get(alloc: Global, map: &TextMap<Text>, words: &[Word]) -> Result<Answer, CaseFault> {
+    match map.get(&text(alloc, only(words)?)?) {
+        None => Answer::line(alloc, "none"),
+        Some(value) => Answer::line(alloc, value.as_str()),
+    }
+}
+
+/// `fail_at WRITE`: lets one write fail.
+fn fail_at(alloc: Global, sink: &mut MemorySink, words: &[Word]) -> Result<Answer, CaseFault> {
+    sink.fail_at(number(only(words)?)?);
+    Ok(Answer::new(alloc))
+}
+
+impl HostAtHand {
+    /// An empty map, a host without files or children, and a sink without bytes.
+    pub fn new(alloc: Global) -> Result<HostAtHand, OutOfMemory> {
+        Ok(HostAtHand {
+            map: ManuallyDrop::new(TextMap::new(alloc)),
+            host: ManuallyDrop::new(MemoryHost::new(alloc)?),
+            sink: MemorySink::new(alloc),
+        })
+    }
+
+    fn renew(&mut self, alloc: Global, words: &[Word]) -> Result<Answer, CaseFault> {
+        no_words(words)?;
+        *self = HostAtHand::new(alloc)?;
+        Ok(Answer::new(alloc))
+    }
+
+    /// Carries out a command on the sink, or another one that asks for no more than a host. `bytes` shows what was written,
+    /// and `sink_faults` how often a write failed.
+    fn on_sink(&mut self, alloc: Global, command: &Command) -> Result<Answer, CaseFault> {
+        match command.name() {
+            "write" => write(alloc, &mut self.sink, command.words()),
+            "fail_at" => fail_at(alloc, &mut self.sink, command.words()),
+            "bytes" => Answer::line(alloc, shown(alloc, self.sink.bytes())?.as_str()),
+            "sink_faults" => Answer::number(alloc, self.sink.fault_count()),
+            _ => text_command(alloc, &mut *self.host, command),
+        }
+    }
+}
+
+impl Session for HostAtHand {
+    fn carry_out(&mut self, alloc: Global, command: &Command) -> Result<Answer, CaseFault> {
+        match command.name() {
+            "new" => self.renew(alloc, command.words()),
+            "insert" => insert(alloc, &mut *self.map, command.words()),
+            "get" => get(alloc, &*self.map, command.words()),
+            _ => self.on_sink(alloc, command),
+        }
+    }
+}
