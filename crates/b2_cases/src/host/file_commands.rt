@@ -1,4 +1,4 @@
-//! Commands on the files of the host in memory that it alone has, and one that shows a stamp.
+//! Edits of the host in memory, and the stamps of its files.
 use crate::host::child_commands::child_command;
 use b2_base::path::Path;
 use b2_host::fault::Failed;
@@ -53,7 +53,7 @@ fn stat(alloc: Global, host: &mut MemoryHost, words: &[Word]) -> Result<Answer, 
     }
 }
 
-/// Carries out a command on the files in memory, or another one.
+/// Carries out an edit, or a look at a stamp, or another command.
 pub fn file_command(
     alloc: Global,
     host: &mut MemoryHost,
