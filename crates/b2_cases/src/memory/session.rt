@@ -86,17 +86,26 @@ fn change(
     }
 }
 
+/// Writes a text to a path of the host, so many times.
+fn change_by_many(
+    alloc: Global,
+    host: &mut CaseHost,
+    name: &Word,
+    text: &Word,
+    times: &Word,
+) -> Result<Answer, CaseFault> {
+    let (name, times) = (name.as_str()?, number(times.as_str()?)?);
+    let text = repeated(alloc, text.as_str()?, times)?;
+    change(alloc, host, name, Some(text.as_bytes()))
+}
+
 /// `edit PATH`: the text of the command becomes the file. `edit PATH BYTES`: those bytes do.
 /// `edit PATH TEXT TIMES`: the text does, so many times.
 fn edit(alloc: Global, host: &mut CaseHost, command: &Command) -> Result<Answer, CaseFault> {
     match command.words() {
         [name] => change(alloc, host, name.as_str()?, Some(command.text().as_bytes())),
         [name, bytes] => change(alloc, host, name.as_str()?, Some(bytes.bytes())),
-        [name, text, times] => {
-            let (name, times) = (name.as_str()?, number(times.as_str()?)?);
-            let text = repeated(alloc, text.as_str()?, times)?;
-            change(alloc, host, name, Some(text.as_bytes()))
-        }
+        [name, text, times] => change_by_many(alloc, host, name, text, times),
         _ => Err(CaseFault::WrongWords),
     }
 }

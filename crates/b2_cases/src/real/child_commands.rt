@@ -1,5 +1,5 @@
 //! Commands on the child processes of the system.
-use crate::answers::{ended_answer, io_answer};
+use crate::answers::{ended_answer, fault_answer, io_answer};
 use crate::host_calls::file_command;
 use crate::real::system::System;
 use b2_base::path::Path;
@@ -82,17 +82,35 @@ fn wait_for_all<R: System>(host: &mut RealHost<R>, ended: &mut Ended) -> Result<
     Ok(())
 }
 
+/// Starts a child for a line, once fewer run than so many.
+fn start_line<R: System>(
+    host: &mut RealHost<R>,
+    jobs: usize,
+    line: &str,
+    ended: &mut Ended,
+) -> Result<(), IoFault> {
+    if host.running_count() >= jobs {
+        wait_and_count(host, ended)?;
+    }
+    host.start(0, line, &[], &[])
+}
+
 /// Runs each line of a text, so many at a time.
 fn run_lines<R: System>(host: &mut RealHost<R>, jobs: usize, text: &str) -> Result<Ended, IoFault> {
     let mut ended = Ended { well: 0, badly: 0 };
     for line in text.lines() {
-        if host.running_count() >= jobs {
-            wait_and_count(host, &mut ended)?;
-        }
-        host.start(0, line, &[], &[])?;
+        start_line(host, jobs, line, &mut ended)?;
     }
     wait_for_all(host, &mut ended)?;
     Ok(ended)
+}
+
+fn count_shown(alloc: Global, ended: Ended) -> Result<Answer, CaseFault> {
+    let Ended { well, badly } = ended;
+    Answer::line(
+        alloc,
+        format!(in alloc; "{well} well, {badly} badly")?.as_str(),
+    )
 }
 
 /// `run JOBS` with texts below it, one a line: starts a child for each, so many at a time, and waits for all.
@@ -103,15 +121,8 @@ fn run_all<R: System>(
 ) -> Result<Answer, CaseFault> {
     let jobs = number(only(command.words())?)? as usize;
     match run_lines(host, jobs, command.text()) {
-        Ok(ended) => {
-            let Ended { well, badly } = ended;
-            Answer::line(
-                alloc,
-                format!(in alloc; "{well} well, {badly} badly")?.as_str(),
-            )
-        }
-        Err(IoFault::Failed) => Answer::line(alloc, "Failed"),
-        Err(IoFault::OutOfMemory) => Err(CaseFault::OutOfMemory),
+        Ok(ended) => count_shown(alloc, ended),
+        Err(fault) => fault_answer(alloc, fault),
     }
 }
 
