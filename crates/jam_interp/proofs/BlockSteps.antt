@@ -111,6 +111,17 @@ module _ {R : Type 0} where
   own_valued what targets names sign list at a b c v leads h =
       leads_then what (own_for targets names sign list at) (sets_own targets names sign v at) a b c leads (ok_then value (args_at list at) (λ setting u s. sets_own targets names sign u at setting s) b c v h)
 
+  -- what an own value is set to and on, after the names
+  pub own_placed : (target : Arg) (on : List Arg) (sign : Sign) (list : List Arg) (at : At) (a b c : Machine R) (names targets : Value) → Does value (arg_at target at) a b (Ok names) → Does value (args_at on at) b c (Ok targets)
+      → Leads (assign_on_at target on sign list at) (own_for targets names sign list at) a c
+  own_placed target on sign list at a b c names targets one two =
+      own_targeted (assign_on_at target on sign list at) names on sign list at a b c targets (own_named target on sign list at a b names one) two
+
+  pub own_made : (target : Arg) (on : List Arg) (sign : Sign) (list : List Arg) (at : At) (a b c d : Machine R) (names targets v : Value) → Does value (arg_at target at) a b (Ok names) → Does value (args_at on at) b c (Ok targets)
+      → Does value (args_at list at) c d (Ok v) → Leads (assign_on_at target on sign list at) (sets_own targets names sign v at) a d
+  own_made target on sign list at a b c d names targets v one two three =
+      own_valued (assign_on_at target on sign list at) targets names sign list at a c d v (own_placed target on sign list at a b c names targets one two) three
+
   pub own_refused : (what : What R Flow) (targets names : Value) (sign : Sign) (v : Value) (at : At) (a c : Machine R) (ws : Worlds) (e : EvalFault) → Leads what (sets_own targets names sign v at) a c → SameFrames c.worlds ws
       → IsRefused (set_all_own_in targets names sign v c.worlds) (spot_of at) e ws → Does flow_of what a (record c { worlds = ws }) (Err e)
   own_refused what targets names sign v at a c ws e leads same h =

@@ -9,6 +9,9 @@ use Rattle.jam_eval.specs.Settings.{Setting}
 use Rattle.jam_eval.specs.Outcomes.{fault_at}
 use Rattle.jam_eval.specs.Eval.{levels, one_level}
 
+pub some_left : (n : ℕ) → (n ≡ 0 → ⊥) → 0 < n
+some_left n some = omega (arith, some)
+
 module _ {R : Type 0} (setting : Setting R) where
   -- where levels are left, one less is within
   pub one_less : (n : ℕ) → 0 < n → levels setting n ≡ one_level setting (levels setting (n - 1))

@@ -13,3 +13,5 @@ pub mod StepSteps
 pub mod RuleSteps
 pub mod LoopSteps
 pub mod TreeSteps
+pub mod SetForms
+pub mod HandedOn

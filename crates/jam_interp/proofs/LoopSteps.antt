@@ -121,3 +121,10 @@ module _ {R : Type 0} where
   -- a further round is counted where fewer turns are left
   pub while_more : (what : What R Flow) (most left : ℕ) (test : Expr) (b : Block) (at : At) (a c : Machine R) → left < most → Leads what (while_rest most test b at) a c → Leads what (while_rest (suc (most - 1)) test b at) a c
   while_more what most left test b at a c h leads = subst (λ n. Leads what (while_rest n test b at) a c) (one_more most left h) leads
+
+  -- a round begins: the condition held, and a turn was taken
+  pub round_begins : (what : What R Flow) (most left : ℕ) (test : Expr) (b : Block) (at : At) (a c : Machine R) (ws : Worlds) (before after : Turns) (kept : R) (meaning : Option (Meaning R)) (outside : Outside) (holds : Bool)
+      → left < most → Leads what (while_rest most test b at) a c → holds ≡ true → Does truth (expr_at test at) c (machine ws before kept meaning outside) (Ok holds) → before.left ≡ after.left + 1 → after.budget ≡ before.budget
+      → Leads what (round_then (most - 1) test b at) a (machine ws after kept meaning outside)
+  round_begins what most left test b at a c ws before after kept meaning outside holds h leads yes_ does turn budget =
+      while_begins what (most - 1) test b at a c ws before after kept meaning outside holds yes_ (while_more what most left test b at a c h leads) does turn budget

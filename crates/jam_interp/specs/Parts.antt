@@ -1,5 +1,5 @@
 -- What each function of evaluation does, by the definitions, at a spot where so many levels more may be opened.
-use Rattle.std.specs.Prelude.{ℕ, Bool, List, [], ◌∷◌, ◌++◌, Option, Some, None}
+use Rattle.std.specs.Prelude.{ℕ, Bool, true, false, List, [], ◌∷◌, ◌++◌, Option, Some, None}
 use Rattle.std.specs.declared.vec.Vec.{Vec}
 use Rattle.std.specs.declared.alloc.Global.{Global}
 use Rattle.jam_grammar.specs.declared.tree.Sign.{Sign}
@@ -34,6 +34,13 @@ use Rattle.jam_effects.specs.declared.at.At.{At}
 use Rattle.jam_effects.specs.Views.{What}
 use Rattle.jam_interp.specs.declared.rolled.CallAnswer.{CallAnswer}
 use Rattle.jam_effects.specs.Spots.{spot_of}
+
+-- whether a form binds or sets variables
+abbrev pub sets_variables : tree.FormTree → Bool
+sets_variables (tree.Local names list) = true
+sets_variables (tree.Assign target sign list) = true
+sets_variables (tree.AssignOn target on sign list) = true
+sets_variables _ = false
 
 -- how the result of a call from outside any statement is seen
 abbrev pub call_value : CallAnswer → Value

@@ -1,8 +1,9 @@
 //! Statements.
-ghost use Rattle.std.specs.Prelude.{◌≢◌, []};
+ghost use Rattle.std.specs.Prelude.{◌≡◌, ◌≢◌, [], true};
+ghost use Rattle.jam_grammar.specs.Trees.{form_tree};
 ghost use Rattle.jam_effects.specs.Does.{DoesOn};
 ghost use Rattle.jam_effects.specs.Views.{value, flow_of};
-ghost use Rattle.jam_interp.specs.Parts.{stmts_at, started_at, form_at, block_at, deeper_at, local_at, local_value_at, assign_at, assign_on_at};
+ghost use Rattle.jam_interp.specs.Parts.{stmts_at, started_at, form_at, sets_variables, block_at, deeper_at, local_at, local_value_at, assign_at, assign_on_at};
 ghost use Rattle.jam_interp.specs.Parts.{include_at, included_at, returned_at, if_at, other_at, for_at, rounds_at, while_at, switch_at, module_at, on_at, called_at};
 
 use crate::arguments::{arg, args};
@@ -88,24 +89,9 @@ fn form<N: Natives, F: Files>(
 {
     match form {
         Form::Braces(inner) => block(alloc, world, turns, natives, files, inner, at),
-        Form::Local { names, value } => local(
-            alloc, world, turns, natives, files, names, value, at,
-        ),
-        Form::Assign {
-            target,
-            sign,
-            value,
-        } => assign(
-            alloc, world, turns, natives, files, target, *sign, value, at,
-        ),
-        Form::AssignOn {
-            target,
-            on,
-            sign,
-            value,
-        } => assign_on(
-            alloc, world, turns, natives, files, target, on, *sign, value, at,
-        ),
+        Form::Local { .. } | Form::Assign { .. } | Form::AssignOn { .. } => {
+            set_form(alloc, world, turns, natives, files, form, at)
+        }
         Form::Include(names) => include(alloc, world, turns, natives, files, names, at),
         Form::Return(value) => returned(alloc, world, turns, natives, files, value, at),
         Form::If { test, then, other } => if_form(
@@ -136,6 +122,44 @@ fn form<N: Natives, F: Files>(
         Form::Actions { name, body } => define_actions(world, name, body),
         Form::On { target, stmt } => on_form(alloc, world, turns, natives, files, target, stmt, at),
         Form::Call { head, lists } => called(alloc, world, turns, natives, files, head, lists, at),
+    }
+}
+
+/// Binds or sets variables.
+#[cycle(evaluation)]
+fn set_form<N: Natives, F: Files>(
+    alloc: Global,
+    world: &mut World,
+    turns: &mut Turns,
+    natives: &mut N,
+    files: &mut F,
+    form: &Form,
+    at: &At<'_>,
+) -> Result<Flow, EvalFault>
+    requires frames { world.old.now.scopes.frames ≢ [] }
+    requires sets { sets_variables (form_tree form.now) ≡ true }
+    ensures { DoesOn N.kept N.meaning F.outside flow_of (form_at form.now at.now) world.old turns.old natives.old files.old world.new turns.new natives.new files.new result }
+{
+    match form {
+        Form::Local { names, value } => local(
+            alloc, world, turns, natives, files, names, value, at,
+        ),
+        Form::Assign {
+            target,
+            sign,
+            value,
+        } => assign(
+            alloc, world, turns, natives, files, target, *sign, value, at,
+        ),
+        Form::AssignOn {
+            target,
+            on,
+            sign,
+            value,
+        } => assign_on(
+            alloc, world, turns, natives, files, target, on, *sign, value, at,
+        ),
+        _ => unreachable!(),
     }
 }
 

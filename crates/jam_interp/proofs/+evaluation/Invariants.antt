@@ -84,6 +84,9 @@ decreases-statements::started g l = 5000 * (l.turns.now.left + l.levels) + (0)
 abbrev pub decreases-statements::form : goal.decreases-statements::form
 decreases-statements::form g l = 5000 * (l.turns.now.left + l.at.now.levels) + (4200)
 
+abbrev pub decreases-statements::set_form : goal.decreases-statements::set_form
+decreases-statements::set_form g l = 5000 * (l.turns.now.left + l.at.now.levels) + (4150)
+
 abbrev pub decreases-statements::block : goal.decreases-statements::block
 decreases-statements::block g l = 5000 * (l.turns.now.left + l.at.now.levels) + (1)
 
