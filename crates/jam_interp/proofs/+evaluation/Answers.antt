@@ -1,4 +1,4 @@
-use Rattle.std.proofs.Common.{◌≡◌, ◌-◌, ◌<◌, length, suc, refl, sym, ap, ◌∙◌, arith, ◌∷◌, [], Ok, Err}
+use Rattle.std.proofs.Common.{rules, ◌≡◌, ◌-◌, ◌<◌, length, suc, refl, sym, ap, ◌∙◌, arith, ◌∷◌, [], Ok, Err}
 use Rattle.std.proofs.lemmas.List.{drop_all, nil_from_length}
 use Rattle.std.specs.Option.{option_map}
 use Rattle.std.specs.declared.vec.Vec.{Vec}
@@ -177,7 +177,7 @@ pub statements::form-returns-in-Braces : goal.statements::form-returns-in-Braces
 statements::form-returns-in-Braces g t c = form_does c.args.form.now _ c.args.at.now _ _ c.block.result (ap form_tree c.in-Braces.is) c.block.ensures
 
 pub statements::form-set_form-requires : goal.statements::form-set_form-requires
-statements::form-set_form-requires g t c = (omega (arith, c.decreases), c.requires, these_set c.args.form.now c.in-Local.is)
+statements::form-set_form-requires g t c κs within = (search rules, (search rules, (search rules, (search rules, these_set c.args.form.now c.in-Local.is))))
 
 pub statements::form-returns-in-Local : goal.statements::form-returns-in-Local
 statements::form-returns-in-Local g t c = c.set_form.ensures
