@@ -1,4 +1,4 @@
-use Rattle.std.proofs.Common.{rules, ◌≡◌, ◌-◌, ◌<◌, length, suc, refl, sym, ap, ◌∙◌, arith, ◌∷◌, [], Ok, Err}
+use Rattle.std.proofs.Common.{rules, ◌-◌, length, suc, refl, sym, ap, ◌∙◌, arith, ◌∷◌, [], Ok, Err}
 use Rattle.std.proofs.lemmas.List.{drop_all, nil_from_length}
 use Rattle.std.specs.Option.{option_map}
 use Rattle.std.specs.declared.vec.Vec.{Vec}
@@ -322,15 +322,12 @@ pub statements::include-returns-in_err-names : goal.statements::include-returns-
 statements::include-returns-in_err-names g t c = handed_on c.from_residual.ensures.1 (include_fails c.args.names.now c.args.at.now _ _ c.in_err-names.field-0.0 c.in_err-names.ensures)
 
 pub statements::include-returns-in-empty : goal.statements::include-returns-in-empty
-statements::include-returns-in-empty g t c =
-    let none : length c.as_slice.result.now ≡ 0 = omega (arith, c.in-empty.len_below) in
-    include_none c.args.names.now c.args.at.now _ _ c.in_ok-names.names (sym c.as_slice.ensures ∙ nil_from_length c.as_slice.result.now none) c.in_ok-names.ensures
+statements::include-returns-in-empty g t c = include_none c.args.names.now c.args.at.now _ _ c.in_ok-names.names
+    (sym c.as_slice.ensures ∙ nil_from_length c.as_slice.result.now (omega (arith, c.in-empty.len_below))) c.in_ok-names.ensures
 
 pub statements::include-returns : goal.statements::include-returns
-statements::include-returns g t c =
-    let some : 0 < length c.as_slice.result.now = omega (arith, c.in-len1-up.len_at_least) in
-    include_first c.args.names.now c.args.at.now _ _ _ c.in_ok-names.names c.name-item.result _ c.included.result
-    (sym c.as_slice.ensures ∙ next_item c.as_slice.result.now 0 c.name-item.result some c.name-item.is) c.in_ok-names.ensures c.included.ensures
+statements::include-returns g t c = include_first c.args.names.now c.args.at.now _ _ _ c.in_ok-names.names c.name-item.result _ c.included.result
+    (sym c.as_slice.ensures ∙ next_item c.as_slice.result.now 0 c.name-item.result (omega (arith, c.in-len1-up.len_at_least)) c.name-item.is) c.in_ok-names.ensures c.included.ensures
 
 pub statements::included-returns-in_err-file : goal.statements::included-returns-in_err-file
 statements::included-returns-in_err-file g t c = handed_on c.from_residual.ensures.1
@@ -447,14 +444,13 @@ statements::while_form-returns-in-Returns g t c = round_returns _ (c.round.invar
     c.round.invariant.1 c.round.invariant.2 c.if-branch.true c.in_ok-expr.ensures c.in_ok-take_turn.ensures.ok c.in_ok-take_turn.ensures.budget) (rw c.in-Returns.is at c.in_ok-block.ensures)
 
 pub statements::while_form-round-preserved : goal.statements::while_form-round-preserved
-statements::while_form-round-preserved g t c =
-    let fell : c.block.new.turns.left < c.round.invariant.0 - 1 = omega (arith, c.round.invariant.1, c.in_ok-expr.ensures.stays.turns, c.in_ok-take_turn.ensures.ok, c.in_ok-block.ensures.stays.turns) in (
-      c.round.invariant.0 - 1,
-      fell,
-      round_goes _ (c.round.invariant.0 - 1) c.args.test.now c.args.inner.now c.args.at.now _ _ _
-          (round_begins _ c.round.invariant.0 c.round.turns.left c.args.test.now c.args.inner.now c.args.at.now _ _ c.expr.new.world c.expr.new.turns c.take_turn.new.turns _ _ _ c.in_ok-expr.field-0
-          c.round.invariant.1 c.round.invariant.2 c.if-branch.true c.in_ok-expr.ensures c.in_ok-take_turn.ensures.ok c.in_ok-take_turn.ensures.budget) (rw c.in-GoesOn.is at c.in_ok-block.ensures),
-    )
+statements::while_form-round-preserved g t c = (
+  c.round.invariant.0 - 1,
+  omega (arith, c.round.invariant.1, c.in_ok-expr.ensures.stays.turns, c.in_ok-take_turn.ensures.ok, c.in_ok-block.ensures.stays.turns),
+  round_goes _ (c.round.invariant.0 - 1) c.args.test.now c.args.inner.now c.args.at.now _ _ _
+      (round_begins _ c.round.invariant.0 c.round.turns.left c.args.test.now c.args.inner.now c.args.at.now _ _ c.expr.new.world c.expr.new.turns c.take_turn.new.turns _ _ _ c.in_ok-expr.field-0
+      c.round.invariant.1 c.round.invariant.2 c.if-branch.true c.in_ok-expr.ensures c.in_ok-take_turn.ensures.ok c.in_ok-take_turn.ensures.budget) (rw c.in-GoesOn.is at c.in_ok-block.ensures),
+)
 
 pub statements::while_form-round-smaller : goal.statements::while_form-round-smaller
 statements::while_form-round-smaller g t c = omega (arith, c.round.invariant.1, c.in_ok-expr.ensures.stays.turns, c.in_ok-take_turn.ensures.ok, c.in_ok-block.ensures.stays.turns)
