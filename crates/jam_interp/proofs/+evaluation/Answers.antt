@@ -1,4 +1,4 @@
-use Rattle.std.proofs.Common.{rules, ◌-◌, length, suc, refl, sym, ap, ◌∙◌, arith, ◌∷◌, [], Ok, Err}
+use Rattle.std.proofs.Common.{rules, ◌-◌, suc, refl, sym, ap, ◌∙◌, arith, ◌∷◌, [], Ok, Err}
 use Rattle.std.proofs.lemmas.List.{drop_all, nil_from_length}
 use Rattle.std.specs.Option.{option_map}
 use Rattle.std.specs.declared.vec.Vec.{Vec}
