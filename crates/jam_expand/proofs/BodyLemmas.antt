@@ -14,7 +14,7 @@ use Rattle.b2_base.specs.declared.expand_fault.ExpandFault.{ExpandFault}
 use Rattle.b2_base.specs.declared.expand_fault.ExpandFault.TheVariants as faults
 use Rattle.jam_expand.specs.Limits.{Answer, and_then, within}
 use Rattle.jam_expand.specs.Expansions.{expansion}
-use Rattle.jam_expand.specs.Bodies.{is_white, trimmed, words, spaces, woven, body_texts, body_expansion}
+use Rattle.jam_expand.specs.Bodies.{is_white, trimmed, words, spaces, interleaved, body_texts, body_expansion}
 use Rattle.jam_expand.specs.BodyCuts.{IsCut}
 use Rattle.jam_expand.proofs.LimitLemmas.{and_then_more}
 
@@ -207,30 +207,30 @@ expansion_fault names texts word fault (inr e) = inr (ap (λ found. and_then fou
 -- ---- texts and white space
 
 -- one more text, and the white space after it
-pub woven_more : (whole made with_text with_white : List ℕ) (texts : List (List ℕ)) (place : ℕ) (d text rest word : List ℕ) (white : ℕ) (more : List ℕ) → place < length texts → text ≡ get_or texts place d → IsCut rest word white more
-    → with_text ≡ made ++ text → with_white ≡ with_text ++ white ∷ [] → made ++ woven (drop place texts) (spaces rest) ≡ whole → with_white ++ woven (drop (place + 1) texts) (spaces more) ≡ whole
-woven_more whole made with_text with_white texts place d text rest word white more inside here c a b so_far =
-    ap (λ s. s ++ woven (drop (place + 1) texts) (spaces more)) (b ∙ ap (λ s. s ++ white ∷ []) a)
-    ∙ append_assoc (made ++ text) (white ∷ []) (woven (drop (place + 1) texts) (spaces more))
-    ∙ append_assoc made text (white ∷ woven (drop (place + 1) texts) (spaces more))
-    ∙ sym (ap (λ s. made ++ woven s (spaces rest)) (drop_more texts place d inside ∙ ap (λ s. s ∷ drop (place + 1) texts) (sym here)) ∙ ap (λ s. made ++ woven (text ∷ drop (place + 1) texts) s) (spaces_cut rest word white more c))
+pub interleaved_more : (whole made with_text with_white : List ℕ) (texts : List (List ℕ)) (place : ℕ) (d text rest word : List ℕ) (white : ℕ) (more : List ℕ) → place < length texts → text ≡ get_or texts place d → IsCut rest word white more
+    → with_text ≡ made ++ text → with_white ≡ with_text ++ white ∷ [] → made ++ interleaved (drop place texts) (spaces rest) ≡ whole → with_white ++ interleaved (drop (place + 1) texts) (spaces more) ≡ whole
+interleaved_more whole made with_text with_white texts place d text rest word white more inside here c a b so_far =
+    ap (λ s. s ++ interleaved (drop (place + 1) texts) (spaces more)) (b ∙ ap (λ s. s ++ white ∷ []) a)
+    ∙ append_assoc (made ++ text) (white ∷ []) (interleaved (drop (place + 1) texts) (spaces more))
+    ∙ append_assoc made text (white ∷ interleaved (drop (place + 1) texts) (spaces more))
+    ∙ sym (ap (λ s. made ++ interleaved s (spaces rest)) (drop_more texts place d inside ∙ ap (λ s. s ∷ drop (place + 1) texts) (sym here)) ∙ ap (λ s. made ++ interleaved (text ∷ drop (place + 1) texts) s) (spaces_cut rest word white more c))
     ∙ so_far
 
 -- the last text
-pub woven_last : (whole made with_text : List ℕ) (texts : List (List ℕ)) (place : ℕ) (d text rest : List ℕ) → place < length texts → text ≡ get_or texts place d → All (λ byte. is_white byte ≡ false) rest
-    → with_text ≡ made ++ text → made ++ woven (drop place texts) (spaces rest) ≡ whole → with_text ≡ whole
-woven_last whole made with_text texts place d text rest inside here none a so_far =
-    a ∙ sym (ap (λ s. made ++ woven s (spaces rest)) (drop_more texts place d inside ∙ ap (λ s. s ∷ drop (place + 1) texts) (sym here)) ∙ ap (λ s. made ++ woven (text ∷ drop (place + 1) texts) s) (no_spaces rest none)) ∙ so_far
+pub interleaved_last : (whole made with_text : List ℕ) (texts : List (List ℕ)) (place : ℕ) (d text rest : List ℕ) → place < length texts → text ≡ get_or texts place d → All (λ byte. is_white byte ≡ false) rest
+    → with_text ≡ made ++ text → made ++ interleaved (drop place texts) (spaces rest) ≡ whole → with_text ≡ whole
+interleaved_last whole made with_text texts place d text rest inside here none a so_far =
+    a ∙ sym (ap (λ s. made ++ interleaved s (spaces rest)) (drop_more texts place d inside ∙ ap (λ s. s ∷ drop (place + 1) texts) (sym here)) ∙ ap (λ s. made ++ interleaved (text ∷ drop (place + 1) texts) s) (no_spaces rest none)) ∙ so_far
 
 -- no text is left
-pub woven_end : (whole made : List ℕ) (texts : List (List ℕ)) (place : ℕ) (rest : List ℕ) → length texts ≤ place → made ++ woven (drop place texts) (spaces rest) ≡ whole → made ≡ whole
-woven_end whole made texts place rest end so_far = sym (append-nil made) ∙ sym (ap (λ s. made ++ woven s (spaces rest)) (drop_of_length-le texts end)) ∙ so_far
+pub interleaved_end : (whole made : List ℕ) (texts : List (List ℕ)) (place : ℕ) (rest : List ℕ) → length texts ≤ place → made ++ interleaved (drop place texts) (spaces rest) ≡ whole → made ≡ whole
+interleaved_end whole made texts place rest end so_far = sym (append-nil made) ∙ sym (ap (λ s. made ++ interleaved s (spaces rest)) (drop_of_length-le texts end)) ∙ so_far
 
 -- ---- what a body stands for
 
 pub body_fault : (names : List ℕ → List (List ℕ)) (body : List ℕ) (fault : ExpandFault) → (fault ≡ faults.OutOfMemory) ⊎ (body_texts names [] (words body) ≡ Err fault) → (fault ≡ faults.OutOfMemory) ⊎ (body_expansion names body ≡ Err fault)
 body_fault names body fault (inl e) = inl e
-body_fault names body fault (inr e) = inr (ap (λ found. and_then found (λ texts. Ok (trimmed (woven texts (spaces body))))) e)
+body_fault names body fault (inr e) = inr (ap (λ found. and_then found (λ texts. Ok (trimmed (interleaved texts (spaces body))))) e)
 
-pub body_ok : (names : List ℕ → List (List ℕ)) (body : List ℕ) (texts : List (List ℕ)) (made whole : List ℕ) → body_texts names [] (words body) ≡ Ok texts → whole ≡ woven texts (spaces body) → made ≡ trimmed whole → body_expansion names body ≡ Ok made
-body_ok names body texts made whole e w m = ap (λ found. and_then found (λ texts. Ok (trimmed (woven texts (spaces body))))) e ∙ ap (λ s. Ok s) (sym (m ∙ ap trimmed w))
+pub body_ok : (names : List ℕ → List (List ℕ)) (body : List ℕ) (texts : List (List ℕ)) (made whole : List ℕ) → body_texts names [] (words body) ≡ Ok texts → whole ≡ interleaved texts (spaces body) → made ≡ trimmed whole → body_expansion names body ≡ Ok made
+body_ok names body texts made whole e w m = ap (λ found. and_then found (λ texts. Ok (trimmed (interleaved texts (spaces body))))) e ∙ ap (λ s. Ok s) (sym (m ∙ ap trimmed w))

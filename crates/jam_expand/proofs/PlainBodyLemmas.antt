@@ -7,28 +7,28 @@ use Rattle.std.proofs.lemmas.List.Splits.{length-slice_split}
 use Rattle.std.proofs.lemmas.Bool.{ltb-false, le-ltb}
 use Rattle.jam_expand.specs.Limits.{and_then, limit, first_above, unless_above, within, total}
 use Rattle.jam_expand.specs.Expansions.{expansion}
-use Rattle.jam_expand.specs.Bodies.{is_white, words, spaces, woven, trimmed, body_texts, body_expansion}
+use Rattle.jam_expand.specs.Bodies.{is_white, words, spaces, interleaved, trimmed, body_texts, body_expansion}
 use Rattle.jam_expand.proofs.LimitLemmas.{above_after, above_stays}
 use Rattle.jam_expand.proofs.BodyLemmas.{opened}
 use Rattle.jam_expand.proofs.PlainWordLemmas.{plain_expansion}
 
--- ---- the words and the white space of a body, woven, are the body
+-- ---- the words and the white space of a body, interleaved, are the body
 
-woven_first : (byte : ℕ) (texts : List (List ℕ)) (white : List ℕ) → 0 < length texts → woven (onto_first byte texts) white ≡ byte ∷ woven texts white
-woven_first byte [] white h = absurd (omega (arith, h))
-woven_first byte (text ∷ more) [] h = refl
-woven_first byte (text ∷ more) (space ∷ white) h = refl
+interleaved_first : (byte : ℕ) (texts : List (List ℕ)) (white : List ℕ) → 0 < length texts → interleaved (onto_first byte texts) white ≡ byte ∷ interleaved texts white
+interleaved_first byte [] white h = absurd (omega (arith, h))
+interleaved_first byte (text ∷ more) [] h = refl
+interleaved_first byte (text ∷ more) (space ∷ white) h = refl
 
 some_words : (body : List ℕ) → 0 < length (words body)
 some_words body = omega (arith, length-slice_split is_white body)
 
-pub words_woven : (body : List ℕ) → woven (words body) (spaces body) ≡ body
-words_woven [] = refl
-words_woven (byte ∷ body) = go (is_white byte) (words_woven body)
+pub words_interleaved : (body : List ℕ) → interleaved (words body) (spaces body) ≡ body
+words_interleaved [] = refl
+words_interleaved (byte ∷ body) = go (is_white byte) (words_interleaved body)
   where
-    go : (t : Bool) → woven (words body) (spaces body) ≡ body → woven (cond t ([] ∷ words body) (onto_first byte (words body))) (cond t (byte ∷ spaces body) (spaces body)) ≡ byte ∷ body
+    go : (t : Bool) → interleaved (words body) (spaces body) ≡ body → interleaved (cond t ([] ∷ words body) (onto_first byte (words body))) (cond t (byte ∷ spaces body) (spaces body)) ≡ byte ∷ body
     go true h = ap (λ s. byte ∷ s) h
-    go false h = woven_first byte (words body) (spaces body) (some_words body) ∙ ap (λ s. byte ∷ s) h
+    go false h = interleaved_first byte (words body) (spaces body) (some_words body) ∙ ap (λ s. byte ∷ s) h
 
 -- ---- what holds of the bytes of a body holds of those of its words
 
@@ -97,5 +97,5 @@ plain_texts names texts (word ∷ more) plain h =
 pub body_is_itself : (names : List ℕ → List (List ℕ)) (body : List ℕ) → All (λ byte. byte ≢ 36) body → within (words body) ≡ Ok (words body) → body_expansion names body ≡ Ok (trimmed body)
 body_is_itself names body all h =
     let plain : AllByRecursion (AllByRecursion (λ byte. byte ≢ 36)) (words body) = words_all (λ byte. byte ≢ 36) body (recursion_from_All (λ byte. byte ≢ 36) body all) in
-    ap (λ found. and_then found (λ texts. Ok (trimmed (woven texts (spaces body))))) (plain_texts names [] (words body) plain h)
-    ∙ ap (λ s. Ok (trimmed s)) (words_woven body)
+    ap (λ found. and_then found (λ texts. Ok (trimmed (interleaved texts (spaces body))))) (plain_texts names [] (words body) plain h)
+    ∙ ap (λ s. Ok (trimmed s)) (words_interleaved body)

@@ -19,10 +19,10 @@ abbrev pub spaces : List ℕ → List ℕ
 spaces = filter is_white
 
 -- texts with white space between them
-abbrev pub woven : List (List ℕ) → List ℕ → List ℕ
-woven [] spaces = []
-woven (text ∷ more) [] = text
-woven (text ∷ more) (space ∷ spaces) = text ++ space ∷ woven more spaces
+abbrev pub interleaved : List (List ℕ) → List ℕ → List ℕ
+interleaved [] spaces = []
+interleaved (text ∷ more) [] = text
+interleaved (text ∷ more) (space ∷ spaces) = text ++ space ∷ interleaved more spaces
 
 -- a text without the white space at its end
 abbrev pub without_end : List ℕ → List ℕ
@@ -40,4 +40,4 @@ body_texts names texts (word ∷ more) = and_then (expansion names word) (λ ele
 
 -- what a body stands for: its white space stays, but for both ends of the result
 abbrev pub body_expansion : (List ℕ → List (List ℕ)) → List ℕ → Result (List ℕ) ExpandFault
-body_expansion names body = and_then (body_texts names [] (words body)) (λ texts. Ok (trimmed (woven texts (spaces body))))
+body_expansion names body = and_then (body_texts names [] (words body)) (λ texts. Ok (trimmed (interleaved texts (spaces body))))

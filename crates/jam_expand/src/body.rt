@@ -2,7 +2,7 @@
 ghost use Rattle.std.specs.Prelude.{◌≡◌, ◌≢◌, ◌-◌, true, false, [], ◌∷◌, ◌++◌, MatchOption, IfSome, OnOk, All, Ok, IfOk, length, string_bytes};
 ghost use Rattle.std.specs.List.{join_with_byte, position_or_len, prefix_len, suffix_len};
 ghost use Rattle.b2_base.specs.Bytes.{HasNoZero};
-ghost use Rattle.jam_expand.specs.Bodies.{is_white, words, spaces, woven, trimmed, body_texts, body_expansion};
+ghost use Rattle.jam_expand.specs.Bodies.{is_white, words, spaces, interleaved, trimmed, body_texts, body_expansion};
 ghost use Rattle.jam_expand.specs.BodyCuts.{IsCut};
 ghost use Rattle.jam_expand.specs.Expansions.{expansion};
 ghost use Rattle.jam_expand.specs.Limits.{and_then, within, IsGivenBy, IsLeftBy};
@@ -115,8 +115,8 @@ fn body_texts<L: Look>(alloc: Global, body: &str, look: &L) -> Result<TextList, 
 }
 
 /// The texts with the white space of a body between them.
-fn weave(alloc: Global, texts: &[Text], body: &str) -> Result<String, OutOfMemory>
-    ensures value { IfOk result (λ made. string_bytes made ≡ woven texts.now (spaces body.now)) }
+fn interleave(alloc: Global, texts: &[Text], body: &str) -> Result<String, OutOfMemory>
+    ensures value { IfOk result (λ made. string_bytes made ≡ interleaved texts.now (spaces body.now)) }
     ensures no_zero { IfOk result (λ made. HasNoZero (string_bytes made)) }
 {
     let mut made = String::new(alloc);
@@ -169,7 +169,7 @@ fn expanded<L: Look>(alloc: Global, body: &str, look: &L) -> Result<Text, Expand
     ensures { IsGivenBy result (body_expansion (L.answer look.now) body.now) }
 {
     let texts = body_texts(alloc, body, look)?;
-    let made = weave(alloc, texts.as_slice(), body)?;
+    let made = interleave(alloc, texts.as_slice(), body)?;
     Ok(Text::new(alloc, trim(made.as_str()))?)
 }
 

@@ -1,7 +1,7 @@
 //! Laws of expansion: what its definitions come to, in other words.
 ghost use Rattle.std.specs.Prelude.{◌≡◌, ◌↔◌, ◌+◌, ◌*◌, ◌<◌, ℕ, List, [], ◌∷◌, ◌++◌, length, Option, Some, slice_get};
 ghost use Rattle.std.specs.List.{flat_map};
-ghost use Rattle.jam_expand.specs.Bodies.{words, spaces, woven};
+ghost use Rattle.jam_expand.specs.Bodies.{words, spaces, interleaved};
 ghost use Rattle.jam_expand.specs.Expansions.{expansion};
 ghost use Rattle.jam_expand.specs.Indexes.{selected};
 ghost use Rattle.jam_expand.specs.Limits.{limit, within};
@@ -54,5 +54,5 @@ pub fn name_is_its_list()
 
 /// The words of a body and its white space, written one after the other, are the body.
 pub fn words_spell_body()
-    ensures { (body : List ℕ) → woven (words body) (spaces body) ≡ body }
+    ensures { (body : List ℕ) → interleaved (words body) (spaces body) ≡ body }
 {}

@@ -9,7 +9,7 @@ use Rattle.jam_grammar.specs.Grammar as g
 use Rattle.jam_grammar.specs.Machine.{Outcome, Whole, Bad, ended, go_on, run, feed, may_end}
 use Rattle.jam_grammar.specs.Readings.{marks, Stops, line_at, text_at, IsFirstFaultAt, IsFirstFault}
 use Rattle.jam_grammar.specs.Laws.{FileOrFault, NeverBoth, OneFault, WholeIsFile, FileIsWhole, BadIsFault, FaultIsBad}
-use Rattle.jam_grammar.proofs.OpenParts.{Roomy, keeps}
+use Rattle.jam_grammar.proofs.OpenParts.{HasRoom, keeps}
 use Rattle.jam_grammar.proofs.GrammarOfMachine.{step, finish}
 use Rattle.jam_grammar.proofs.MachineReadsGrammar.{and_then, accepts, IsClear, complete}
 
@@ -22,12 +22,12 @@ record Found (tokens at : List Token) (parts : List Part) : Type 0 where
   prefix : List Token
   split : tokens ≡ prefix ++ at
   left : List Part
-  room : Roomy left
+  room : HasRoom left
   back : (ms : List Mark) → Derives left ms → Derives parts (marks prefix ++ ms)
   forth : (ms : List Mark) → accepts (marks prefix ++ ms) parts ≡ accepts ms left
   stuck : Stuck left at
 
-found : (tokens at : List Token) (parts : List Part) → Roomy parts → run tokens parts ≡ Bad at → Found tokens at parts
+found : (tokens at : List Token) (parts : List Part) → HasRoom parts → run tokens parts ≡ Bad at → Found tokens at parts
 found [] at parts r h = by (may_end parts) refl h
   where
     by : (b : Bool) → may_end parts ≡ b → ended b ≡ Bad at → Found [] at parts
@@ -37,7 +37,7 @@ found [] at parts r h = by (may_end parts) refl h
         record { prefix = []; split = nil; left = parts; room = r; back = λ ms d. d; forth = λ ms. refl; stuck = subst (Stuck parts) nil e }
 found (t ∷ tokens) at parts r h = by (feed parts (mark_of_token t)) refl h (λ next room h. found tokens at next room h)
   where
-    by : (o : Option (List Part)) → feed parts (mark_of_token t) ≡ o → go_on o (run tokens) (t ∷ tokens) ≡ Bad at → ((next : List Part) → Roomy next → run tokens next ≡ Bad at → Found tokens at next) → Found (t ∷ tokens) at parts
+    by : (o : Option (List Part)) → feed parts (mark_of_token t) ≡ o → go_on o (run tokens) (t ∷ tokens) ≡ Bad at → ((next : List Part) → HasRoom next → run tokens next ≡ Bad at → Found tokens at next) → Found (t ∷ tokens) at parts
     by None e h again =
         let here : t ∷ tokens ≡ at = cc in
         record { prefix = []; split = here; left = parts; room = r; back = λ ms d. d; forth = λ ms. refl; stuck = subst (Stuck parts) here e }
@@ -56,8 +56,8 @@ found (t ∷ tokens) at parts r h = by (feed parts (mark_of_token t)) refl h (λ
 clear : IsClear (Stmts ∷ [])
 clear = (λ mark h. refl, tt)
 
-roomy : Roomy (Stmts ∷ [])
-roomy = (omega arith, tt)
+has_room : HasRoom (Stmts ∷ [])
+has_room = (omega arith, tt)
 
 stops : (at : List Token) (tokens : List Token) (f : Found tokens at (Stmts ∷ [])) → Stops f.prefix at
 stops [] tokens f = λ d.
@@ -72,12 +72,12 @@ stops (t ∷ at) tokens f = λ d.
 
 pub first_fault : BadIsFault
 first_fault tokens at h =
-    let f = found tokens at (Stmts ∷ []) roomy h in
+    let f = found tokens at (Stmts ∷ []) has_room h in
     let end = finish f.left f.room in
     record { prefix = f.prefix; split = f.split; begins = (end.0, f.back end.0 end.1); stops = stops at tokens f }
 
 -- all was read
-ends_whole : (parts : List Part) → Roomy parts → may_end parts ≡ true → Derives parts []
+ends_whole : (parts : List Part) → HasRoom parts → may_end parts ≡ true → Derives parts []
 ends_whole [] r h = g.nothing
 ends_whole (g.Shut ∷ k) r h = g.shut r.0 (ends_whole k r.1 h)
 ends_whole (g.Stmts ∷ k) r h = g.by_line g.no_stmt (ends_whole k r.1 h)
@@ -94,7 +94,7 @@ ends_whole (g.AndTail ∷ k) r h = g.by_line g.no_and (ends_whole k r.1 h)
 ends_whole (g.Compared ∷ k) r h = g.by_line g.bare (ends_whole k r.1 h)
 ends_whole (_ ∷ k) r h = cc
 
-run_derives : (tokens : List Token) (parts : List Part) → Roomy parts → run tokens parts ≡ Whole → Derives parts (marks tokens)
+run_derives : (tokens : List Token) (parts : List Part) → HasRoom parts → run tokens parts ≡ Whole → Derives parts (marks tokens)
 run_derives [] parts r h = by (may_end parts) refl h
   where
     by : (b : Bool) → may_end parts ≡ b → ended b ≡ Whole → Derives parts []
@@ -102,12 +102,12 @@ run_derives [] parts r h = by (may_end parts) refl h
     by false e h = cc
 run_derives (t ∷ tokens) parts r h = by (feed parts (mark_of_token t)) refl h (run_derives tokens)
   where
-    by : (o : Option (List Part)) → feed parts (mark_of_token t) ≡ o → go_on o (run tokens) (t ∷ tokens) ≡ Whole → ((next : List Part) → Roomy next → run tokens next ≡ Whole → Derives next (marks tokens)) → Derives parts (mark_of_token t ∷ marks tokens)
+    by : (o : Option (List Part)) → feed parts (mark_of_token t) ≡ o → go_on o (run tokens) (t ∷ tokens) ≡ Whole → ((next : List Part) → HasRoom next → run tokens next ≡ Whole → Derives next (marks tokens)) → Derives parts (mark_of_token t ∷ marks tokens)
     by None e h again = cc
     by (Some next) e h again = step parts (mark_of_token t) next (marks tokens) e r (again next (keeps parts (mark_of_token t) next e r) h)
 
 pub whole_is_file : WholeIsFile
-whole_is_file tokens h = run_derives tokens (Stmts ∷ []) roomy h
+whole_is_file tokens h = run_derives tokens (Stmts ∷ []) has_room h
 
 -- a fault as it is told
 pub told_fault : (tokens at : List Token) → IsFirstFaultAt tokens at → IsFirstFault tokens (line_at tokens at) (text_at at)

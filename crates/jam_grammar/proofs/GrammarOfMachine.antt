@@ -7,14 +7,14 @@ use Rattle.jam_grammar.specs.Grammar.{Part, Key, OneWord, Shut, Stmts, OneStmt, 
 use Rattle.jam_grammar.specs.Grammar as g
 use Rattle.jam_grammar.specs.Machine.{Move, Take, Room, Skip, Refuse, move, before, or_skip, move_key, move_word, move_arg, move_inner, move_inner_tail, move_colon, move_block, move_stmt, move_assigned, move_tail, move_for_tail, move_else_tail, move_rule_tail, move_name_tail, move_single, by_move, feed}
 use Rattle.jam_grammar.proofs.MarkNumbers.{same_mark_true}
-use Rattle.jam_grammar.proofs.OpenParts.{needs, Roomy, rooms, roomy_opens}
+use Rattle.jam_grammar.proofs.OpenParts.{needs, HasRoom, rooms, room_opens}
 
 -- a key that closes nothing, and a word
 pub read_key : {parts : List Part} {marks : List Mark} (mark : Mark) → closes (Key mark) ≡ 0 → Derives parts marks → Derives (Key mark ∷ parts) (mark ∷ marks)
-read_key {parts} mark h d = g.key (omega (arith, h, roomy_opens parts (rooms d))) d
+read_key {parts} mark h d = g.key (omega (arith, h, room_opens parts (rooms d))) d
 
 pub read_word : {parts : List Part} {marks : List Mark} (mark : Mark) → IsTrue (is_word mark) → Derives parts marks → Derives (OneWord ∷ parts) (mark ∷ marks)
-read_word {parts} mark h d = g.word h (roomy_opens parts (rooms d)) d
+read_word {parts} mark h d = g.word h (room_opens parts (rooms d)) d
 
 -- what closes something needs it to be open
 abbrev pub Allowed : Part → List Part → Type 0
@@ -295,7 +295,7 @@ sound AndTail mark = sound_and_tail mark
 sound Compared mark = sound_compared mark
 
 -- one mark of what is derived
-pub step : (parts : List Part) (mark : Mark) (next : List Part) (marks : List Mark) → feed parts mark ≡ Some next → Roomy parts → Derives next marks → Derives parts (mark ∷ marks)
+pub step : (parts : List Part) (mark : Mark) (next : List Part) (marks : List Mark) → feed parts mark ≡ Some next → HasRoom parts → Derives next marks → Derives parts (mark ∷ marks)
 step [] mark next marks h r d = cc
 step (part ∷ more) mark next marks h r d = by (move part mark) (sound part mark) h (λ again. step more mark next marks again r.1 d)
   where
@@ -331,7 +331,7 @@ single_then d = g.by_line g.of_arg (word_then (g.by_line g.bare d))
 both_then : {more : List Part} {marks : List Mark} → Derives more marks → Derives (Both ∷ more) (m.Plain ∷ marks)
 both_then d = g.by_line g.an_and (single_then (g.by_line g.no_and d))
 
-pub finish : (parts : List Part) → Roomy parts → (marks : List Mark) × Derives parts marks
+pub finish : (parts : List Part) → HasRoom parts → (marks : List Mark) × Derives parts marks
 finish [] r = ([], g.nothing)
 finish (Key mark ∷ k) r = let f = finish k r.1 in (mark ∷ f.0, g.key r.0 f.1)
 finish (OneWord ∷ k) r = let f = finish k r.1 in (m.Plain ∷ f.0, read_word m.Plain refl f.1)

@@ -8,7 +8,7 @@ use Rattle.jam_grammar.specs.Grammar as g
 use Rattle.jam_grammar.specs.Machine.{Move, Take, Room, Skip, Refuse, move, move_key, move_word, is_read, by_move, feed, may_end, may_be_empty}
 use Rattle.jam_grammar.proofs.Moves.{followed, lead, feed_lead}
 use Rattle.jam_grammar.proofs.MarkNumbers.{every_mark, at_each, both, first_true, second_true, same_mark_refl, same_mark_true}
-use Rattle.jam_grammar.proofs.OpenParts.{need, Roomy, rooms, need_append, keeps}
+use Rattle.jam_grammar.proofs.OpenParts.{need, HasRoom, rooms, need_append, keeps}
 
 -- whether marks are read, whole
 abbrev pub and_then : Option (List Part) → (List Part → Bool) → Bool
@@ -527,7 +527,7 @@ agrees g.differ mark = key_agrees Compared m.NotEquals (OneArg ∷ []) refl mark
 agrees g.within mark = key_agrees Compared m.In (Args ∷ []) refl mark
 
 -- what is read by a line of a part is read as the part
-line_read : (part : Part) (by more : List Part) (marks : List Mark) → Line part by → Clash part more → Roomy (by ++ more) → accepts marks (by ++ more) ≡ true → accepts marks (part ∷ more) ≡ true
+line_read : (part : Part) (by more : List Part) (marks : List Mark) → Line part by → Clash part more → HasRoom (by ++ more) → accepts marks (by ++ more) ≡ true → accepts marks (part ∷ more) ≡ true
 line_read part by more [] line clash room h = empty (may_be_empty part) (ends by h) (line_empty line)
   where
     ends : (parts : List Part) → may_end (parts ++ more) ≡ true → both (all_empty parts) (may_end more) ≡ true
@@ -551,8 +551,8 @@ line_read part by more (mark ∷ marks) line clash room h = compare (lead by mar
     compare Skip Refuse a f h = let bad : false ≡ true = ap (λ x. and_then x (accepts marks)) (sym (clash mark a)) ∙ h in cc
     compare (Take by) (Take own) a f h = ap (λ x. accepts marks (x ++ more)) (sym a) ∙ h
     compare (Take own) (Room n other) a f h =
-        let roomy = keeps (by ++ more) mark (own ++ more) (sym f) room in
-        let fits : need own + opens more ≤ 64 = need_append own more roomy in
+        let has_room = keeps (by ++ more) mark (own ++ more) (sym f) room in
+        let fits : need own + opens more ≤ 64 = need_append own more has_room in
         let less : n ≤ need own = let e = a.1 in grind (arith, e) in
         let within : n + opens more ≤ 64 = omega (arith, fits, less) in
         let is_open : nat_le (n + opens more) 64 ≡ true = grind (arith, within) in

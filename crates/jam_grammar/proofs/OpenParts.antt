@@ -30,9 +30,9 @@ need [] = 0
 need (part ∷ parts) = greater (needs part + opens parts) (need parts)
 
 -- each part has the room that it needs
-abbrev pub Roomy : List Part → Type 0
-Roomy [] = Unit {0}
-Roomy (part ∷ parts) = (needs part + opens parts ≤ 64) × Roomy parts
+abbrev pub HasRoom : List Part → Type 0
+HasRoom [] = Unit {0}
+HasRoom (part ∷ parts) = (needs part + opens parts ≤ 64) × HasRoom parts
 
 left_greater : (a b : ℕ) → a ≤ greater a b
 left_greater a b = grind arith
@@ -48,27 +48,27 @@ closes_needs (Key mark) = omega arith
 closes_needs Shut = omega arith
 closes_needs _ = omega arith
 
-pub roomy_opens : (parts : List Part) → Roomy parts → opens parts ≤ 64
-roomy_opens [] r = omega arith
-roomy_opens (part ∷ parts) r = omega (arith, r.0, closes_needs part)
+pub room_opens : (parts : List Part) → HasRoom parts → opens parts ≤ 64
+room_opens [] r = omega arith
+room_opens (part ∷ parts) r = omega (arith, r.0, closes_needs part)
 
-pub roomy_after : (parts more : List Part) → Roomy (parts ++ more) → Roomy more
-roomy_after [] more r = r
-roomy_after (part ∷ parts) more r = roomy_after parts more r.1
+pub room_after : (parts more : List Part) → HasRoom (parts ++ more) → HasRoom more
+room_after [] more r = r
+room_after (part ∷ parts) more r = room_after parts more r.1
 
 -- the room of parts before others
-pub roomy_append : (parts more : List Part) → need parts + opens more ≤ 64 → Roomy more → Roomy (parts ++ more)
-roomy_append [] more h r = r
-roomy_append (part ∷ parts) more h r =
-    (omega (arith, h, left_greater (needs part + opens parts) (need parts), opens_append parts more), roomy_append parts more (omega (arith, h, right_greater (needs part + opens parts) (need parts))) r)
+pub room_append : (parts more : List Part) → need parts + opens more ≤ 64 → HasRoom more → HasRoom (parts ++ more)
+room_append [] more h r = r
+room_append (part ∷ parts) more h r =
+    (omega (arith, h, left_greater (needs part + opens parts) (need parts), opens_append parts more), room_append parts more (omega (arith, h, right_greater (needs part + opens parts) (need parts))) r)
 
-pub need_append : (parts more : List Part) → Roomy (parts ++ more) → need parts + opens more ≤ 64
-need_append [] more r = omega (arith, roomy_opens more r)
+pub need_append : (parts more : List Part) → HasRoom (parts ++ more) → need parts + opens more ≤ 64
+need_append [] more r = omega (arith, room_opens more r)
 need_append (part ∷ parts) more r =
     let here : needs part + opens parts ≤ 64 - opens more = omega (arith, r.0, opens_append parts more) in
     let rest : need parts ≤ 64 - opens more = omega (arith, need_append parts more r.1) in
     let all = greater_within (needs part + opens parts) (need parts) (64 - opens more) here rest in
-    omega (arith, all, roomy_opens more (roomy_after (part ∷ parts) more r))
+    omega (arith, all, room_opens more (room_after (part ∷ parts) more r))
 
 -- a line gives its part what it needs
 abbrev Gives : Part → List Part → Type 0
@@ -226,14 +226,14 @@ line_closes grammar.differ = refl
 line_closes grammar.within = refl
 
 -- what is derived has room
-pub rooms : {parts : List Part} {marks : List Mark} → Derives parts marks → Roomy parts
+pub rooms : {parts : List Part} {marks : List Mark} → Derives parts marks → HasRoom parts
 rooms grammar.nothing = tt
 rooms (grammar.key room d) = (room, rooms d)
 rooms (grammar.word is room d) = (omega (arith, room), rooms d)
 rooms (grammar.shut room d) = (room, rooms d)
 rooms (grammar.by_line {part} {by} {parts} l d) =
     let r = rooms d in
-    (omega (arith, need_append by parts r, line_needs l), roomy_after by parts r)
+    (omega (arith, need_append by parts r, line_needs l), room_after by parts r)
 
 -- what a mark puts in a part's place needs no more than there is room for
 abbrev fits_by : Move → Part → Bool
@@ -282,23 +282,23 @@ fits AndTail mark = at_each (λ x. fits_by (move AndTail x) AndTail) refl mark
 fits Compared mark = at_each (λ x. fits_by (move Compared x) Compared) refl mark
 
 -- a mark that is read leaves room
-pub keeps : (parts : List Part) (mark : Mark) (next : List Part) → feed parts mark ≡ Some next → Roomy parts → Roomy next
+pub keeps : (parts : List Part) (mark : Mark) (next : List Part) → feed parts mark ≡ Some next → HasRoom parts → HasRoom next
 keeps [] mark next h r = cc
 keeps (part ∷ more) mark next h r = by (move part mark) (fits part mark) h (λ again. keeps more mark next again r.1)
   where
-    by : (v : Move) → fits_by v part ≡ true → by_move v more (feed more) mark ≡ Some next → (feed more mark ≡ Some next → Roomy next) → Roomy next
+    by : (v : Move) → fits_by v part ≡ true → by_move v more (feed more) mark ≡ Some next → (feed more mark ≡ Some next → HasRoom next) → HasRoom next
     by (Take own) f h again =
         let is : own ++ more ≡ next = cc in
         let less : need own ≤ needs part = grind (arith, f) in
-        subst Roomy is (roomy_append own more (omega (arith, less, r.0)) r.1)
+        subst HasRoom is (room_append own more (omega (arith, less, r.0)) r.1)
     by (Room n own) f h again = in_room (nat_le (n + opens more) 64) refl h
       where
-        in_room : (b : Bool) → nat_le (n + opens more) 64 ≡ b → (if b then Some (own ++ more) else None) ≡ Some next → Roomy next
+        in_room : (b : Bool) → nat_le (n + opens more) 64 ≡ b → (if b then Some (own ++ more) else None) ≡ Some next → HasRoom next
         in_room true e h =
             let is : own ++ more ≡ next = cc in
             let less : need own ≤ n = grind (arith, f) in
             let within : n + opens more ≤ 64 = grind (arith, e) in
-            subst Roomy is (roomy_append own more (omega (arith, less, within)) r.1)
+            subst HasRoom is (room_append own more (omega (arith, less, within)) r.1)
         in_room false e h = cc
     by Skip f h again = again h
     by Refuse f h again = cc

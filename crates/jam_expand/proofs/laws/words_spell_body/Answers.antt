@@ -1,5 +1,5 @@
-use Rattle.jam_expand.proofs.PlainBodyLemmas.{words_woven}
+use Rattle.jam_expand.proofs.PlainBodyLemmas.{words_interleaved}
 use Rattle.jam_expand.proofs.laws.words_spell_body.Goals as goal
 
 pub returns : goal.returns
-returns c = words_woven
+returns c = words_interleaved
