@@ -4,7 +4,7 @@ use b2_base::fault::OutOfMemory;
 use b2_base::text::Text;
 
 /// Why tokens have no tree.
-#[derive(Debug, Drop)]
+#[derive(Drop)]
 pub enum SyntaxFault {
     /// The tokens up to this one begin no tree, and those before it do. Where all tokens begin a tree and are none,
     /// `found` is empty.
