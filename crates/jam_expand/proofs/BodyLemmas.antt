@@ -1,11 +1,10 @@
 -- Bodies: their words, their white space, and the texts that are made of them.
 use Rattle.std.proofs.Common.{◌≡◌, ℕ, ◌+◌, ◌-◌, ◌<◌, ◌≤◌, true, false, cond, List, [], ◌∷◌, ◌++◌, length, take, drop, get_or, reverse, slice_range, refl, ap, ap₂, sym, ◌∙◌, subst, append_assoc, arith, Ok, Err, ◌⊎◌, inl, inr}
 use Rattle.std.specs.List.{All, AllByRecursion, position_or_len, prefix_len, suffix_len, join_with_byte}
-use Rattle.std.proofs.lemmas.List.{take_more, drop_more, length-append, length-take, get_or-take, drop_at, get_or_at, get_or-reverse, append-nil}
-use Rattle.std.proofs.lemmas.List.Elements.{All-tail, All-take, All-drop, recursion_from_All, All-from_recursion, filter-append}
+use Rattle.std.proofs.lemmas.List.{take_more, drop_more, length-append, length-take, get_or-take, drop_at, get_or_at, get_or-reverse}
+use Rattle.std.proofs.lemmas.List.Elements.{All-tail, recursion_from_All, All-from_recursion, filter-append}
 use Rattle.std.proofs.lemmas.List.Splits.{slice_split_at, slice_split_none}
 use Rattle.std.proofs.lemmas.List.Sums.{split_at_first, fails_before_first, passes_at_first, prefix_len-le-length, prefix_len_passes, suffix_len-le-length}
-use Rattle.std.proofs.Math.ListN.{drop_of_length-le}
 use Rattle.std.specs.Str.{IsUtf8, IsCharBoundary}
 use Rattle.std.proofs.lemmas.Str.{IsUtf8-drop, IsCharBoundary-after_ascii, IsCharBoundary-before_ascii}
 use Rattle.std.proofs.lemmas.Bool.Decides.{nat_tests}
@@ -14,7 +13,7 @@ use Rattle.b2_base.specs.declared.expand_fault.ExpandFault.{ExpandFault}
 use Rattle.b2_base.specs.declared.expand_fault.ExpandFault.TheVariants as faults
 use Rattle.jam_expand.specs.Limits.{Answer, and_then, within}
 use Rattle.jam_expand.specs.Expansions.{expansion}
-use Rattle.jam_expand.specs.Bodies.{is_white, trimmed, words, spaces, interleaved, body_texts, body_expansion}
+use Rattle.jam_expand.specs.Bodies.{is_white, words, spaces, interleaved, body_texts}
 use Rattle.jam_expand.specs.BodyCuts.{IsCut}
 use Rattle.jam_expand.proofs.LimitLemmas.{and_then_more}
 
@@ -83,16 +82,10 @@ spaces_cut text word white rest c =
     ap spaces c.text_is ∙ filter-append is_white word (white ∷ rest) ∙ ap (λ s. s ++ spaces (white ∷ rest)) (no_spaces word c.no_space)
     ∙ ap (λ t. cond t (white ∷ spaces rest) (spaces rest)) c.is_space
 
-pub cut_shorter : (text word : List ℕ) (white : ℕ) (rest : List ℕ) → IsCut text word white rest → length rest < length text
-cut_shorter text word white rest c = let n : length text ≡ length word + length (white ∷ rest) = ap length c.text_is ∙ length-append word (white ∷ rest) in omega (arith, n)
-
 -- ---- white space is of ASCII, and no zero
 
 pub white_small : (b : ℕ) → is_white b ≡ true → b < 128
 white_small b h = grind (arith, nat_tests)
-
-pub white_some : (b : ℕ) → is_white b ≡ true → 0 < b
-white_some b h = grind (arith, nat_tests)
 
 -- the rest of a text is a text
 pub rest_utf8 : (text word : List ℕ) (white : ℕ) (rest : List ℕ) → IsCut text word white rest → IsUtf8 text → IsUtf8 rest
@@ -162,9 +155,6 @@ cut_no_zero text word white rest c h =
     let both : All P word × All P (white ∷ rest) = all_parts P word (white ∷ rest) (subst HasNoZero c.text_is h) in
     (both.0, All-tail P white rest both.1)
 
-pub trimmed_no_zero : (text : List ℕ) → HasNoZero text → HasNoZero (trimmed text)
-trimmed_no_zero text h = let P : ℕ → Type 0 = λ b. 0 < b in All-take P _ _ (All-drop P (prefix_len is_white text) text h)
-
 -- ---- the texts of the words
 
 -- the texts with that of one more word
@@ -199,11 +189,6 @@ pub last_fault : (names : List ℕ → List (List ℕ)) (texts : List (List ℕ)
 last_fault names texts text fault answer none so_far (inl e) = inl e
 last_fault names texts text fault answer none so_far (inr e) = inr (sym so_far ∙ last_word names texts text none ∙ ap (λ found. and_then found (λ more. body_texts names more [])) e)
 
--- a word's fault is that of its text
-pub expansion_fault : (names : List ℕ → List (List ℕ)) (texts : List (List ℕ)) (word : List ℕ) (fault : ExpandFault) → (fault ≡ faults.OutOfMemory) ⊎ (expansion names word ≡ Err fault) → (fault ≡ faults.OutOfMemory) ⊎ (with_word names texts word ≡ Err fault)
-expansion_fault names texts word fault (inl e) = inl e
-expansion_fault names texts word fault (inr e) = inr (ap (λ found. and_then found (λ elements. within (texts ++ join_with_byte 32 elements ∷ []))) e)
-
 -- ---- texts and white space
 
 -- one more text, and the white space after it
@@ -221,16 +206,3 @@ pub interleaved_last : (whole made with_text : List ℕ) (texts : List (List ℕ
     → with_text ≡ made ++ text → made ++ interleaved (drop place texts) (spaces rest) ≡ whole → with_text ≡ whole
 interleaved_last whole made with_text texts place d text rest inside here none a so_far =
     a ∙ sym (ap (λ s. made ++ interleaved s (spaces rest)) (drop_more texts place d inside ∙ ap (λ s. s ∷ drop (place + 1) texts) (sym here)) ∙ ap (λ s. made ++ interleaved (text ∷ drop (place + 1) texts) s) (no_spaces rest none)) ∙ so_far
-
--- no text is left
-pub interleaved_end : (whole made : List ℕ) (texts : List (List ℕ)) (place : ℕ) (rest : List ℕ) → length texts ≤ place → made ++ interleaved (drop place texts) (spaces rest) ≡ whole → made ≡ whole
-interleaved_end whole made texts place rest end so_far = sym (append-nil made) ∙ sym (ap (λ s. made ++ interleaved s (spaces rest)) (drop_of_length-le texts end)) ∙ so_far
-
--- ---- what a body stands for
-
-pub body_fault : (names : List ℕ → List (List ℕ)) (body : List ℕ) (fault : ExpandFault) → (fault ≡ faults.OutOfMemory) ⊎ (body_texts names [] (words body) ≡ Err fault) → (fault ≡ faults.OutOfMemory) ⊎ (body_expansion names body ≡ Err fault)
-body_fault names body fault (inl e) = inl e
-body_fault names body fault (inr e) = inr (ap (λ found. and_then found (λ texts. Ok (trimmed (interleaved texts (spaces body))))) e)
-
-pub body_ok : (names : List ℕ → List (List ℕ)) (body : List ℕ) (texts : List (List ℕ)) (made whole : List ℕ) → body_texts names [] (words body) ≡ Ok texts → whole ≡ interleaved texts (spaces body) → made ≡ trimmed whole → body_expansion names body ≡ Ok made
-body_ok names body texts made whole e w m = ap (λ found. and_then found (λ texts. Ok (trimmed (interleaved texts (spaces body))))) e ∙ ap (λ s. Ok s) (sym (m ∙ ap trimmed w))

@@ -1,9 +1,8 @@
 -- Where a text is cut.
-use Rattle.std.proofs.Common.{◌≡◌, ℕ, ◌<◌, ◌≤◌, ◌+◌, Bool, true, false, ◌||◌, eqb, ltb, suc, List, [], ◌∷◌, length, take, drop, get_or, refl, ap, sym, ◌∙◌, arith, subst, cond}
+use Rattle.std.proofs.Common.{◌≡◌, ℕ, ◌<◌, ◌≤◌, Bool, true, false, ◌||◌, eqb, ltb, suc, List, [], ◌∷◌, length, take, drop, get_or, refl, ap, sym, arith, subst, cond}
 use Rattle.std.specs.List.{list_all}
 use Rattle.std.specs.Str.{IsUtf8, IsCharBoundary}
 use Rattle.std.proofs.lemmas.Str.{IsCharBoundary-after_ascii}
-use Rattle.std.proofs.lemmas.List.{drop_more}
 use Rattle.std.proofs.lemmas.Bool.{and_parts, true≢false, eqb-true}
 use Rattle.std.proofs.lemmas.Bool.{ltb-true}
 use Rattle.std.proofs.lemmas.List.Elements.{All-take, All-drop}
@@ -11,20 +10,6 @@ use Rattle.std.proofs.lemmas.Bool.{ne_eqb}
 use Rattle.b2_base.specs.Bytes.{HasNoZero}
 use Rattle.jam_path.specs.Names.{begins_with}
 use Rattle.jam_expand.specs.Cuts.{is_among, up_to, from_on, BeginsWithout}
-
--- one more byte that is none of the signs
-pub up_to_more : (signs bytes : List ℕ) (place : ℕ) → place < length bytes → is_among signs (get_or bytes place 0) ≡ false → length (up_to signs bytes) ≡ place + length (up_to signs (drop place bytes)) → length (up_to signs bytes) ≡ (place + 1) + length (up_to signs (drop (place + 1) bytes))
-up_to_more signs bytes place inside other so_far = so_far ∙ ap (λ n. place + n) step ∙ omega arith
-  where
-    step : length (up_to signs (drop place bytes)) ≡ 1 + length (up_to signs (drop (place + 1) bytes))
-    step = ap (λ s. length (up_to signs s)) (drop_more bytes place 0 inside) ∙ rw other (omega arith)
-
--- a byte that is one of the signs
-pub up_to_here : (signs bytes : List ℕ) (place : ℕ) → place < length bytes → is_among signs (get_or bytes place 0) ≡ true → length (up_to signs bytes) ≡ place + length (up_to signs (drop place bytes)) → place ≡ length (up_to signs bytes)
-up_to_here signs bytes place inside found so_far = sym (so_far ∙ ap (λ n. place + n) step ∙ omega arith)
-  where
-    step : length (up_to signs (drop place bytes)) ≡ 0
-    step = ap (λ s. length (up_to signs s)) (drop_more bytes place 0 inside) ∙ rw found refl
 
 pub up_to_within : (signs bytes : List ℕ) → length (up_to signs bytes) ≤ length bytes
 up_to_within signs [] = omega arith

@@ -58,12 +58,6 @@ found_all values found word place end so_far =
     ap (λ r. and_then r (λ lists. within (product lists)))
     (sym so_far ∙ ap (λ s. after_lists found (lists_of values s)) (drop_of_length-le (pieces_of word) end) ∙ ap (λ s. Ok s) (append-nil found))
 
--- what a part's elements give
-pub part_fault : (names : List ℕ → List (List ℕ)) (levels : ℕ) (inside : List ℕ) (fault : ExpandFault) → (fault ≡ faults.OutOfMemory) ⊎ (elements_at levels names inside ≡ Err fault)
-    → (fault ≡ faults.OutOfMemory) ⊎ (and_then (elements_at levels names inside) (values_of_all names) ≡ Err fault)
-part_fault names levels inside fault (inl e) = inl e
-part_fault names levels inside fault (inr e) = inr (ap (λ r. and_then r (values_of_all names)) e)
-
 -- the bytes of the pieces of a word are among those of the word
 no_zero_cons : (byte : ℕ) (bytes : List ℕ) → 0 < byte → HasNoZero bytes → HasNoZero (byte ∷ bytes)
 no_zero_cons byte bytes h all = All-cons (λ other. 0 < other) byte bytes h all

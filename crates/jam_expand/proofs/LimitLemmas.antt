@@ -3,7 +3,7 @@ use Rattle.std.proofs.Common.{◌≡◌, ℕ, ◌<◌, ◌≤◌, ◌+◌, Bool,
 use Rattle.std.proofs.lemmas.Bool.{ltb-false, lt-ltb}
 use Rattle.b2_base.specs.declared.expand_fault.ExpandFault.{ExpandFault}
 use Rattle.b2_base.specs.declared.expand_fault.ExpandFault.TheVariants as faults
-use Rattle.jam_expand.specs.Limits.{limit, Answer, and_then, first_above, unless_above, within, total, IsWithin, IsLeftBy}
+use Rattle.jam_expand.specs.Limits.{limit, Answer, and_then, first_above, unless_above, within, total, IsWithin}
 
 -- two steps after an answer
 pub and_then_more : (first : Answer) (second third : List (List ℕ) → Answer) → and_then first (λ value. and_then (second value) third) ≡ and_then (and_then first second) third
@@ -77,10 +77,6 @@ longer_above texts text sum fault h e = go (ltb limit (sum + (length text + 1)))
         let last : first_above sum (text ∷ []) ≡ Some (sum + (length text + 1)) = rw b refl in
         ap (unless_above (texts ++ text ∷ [])) (above_after 0 texts (text ∷ []) h.small ∙ ap (λ n. first_above n (text ∷ [])) h.sum_is ∙ last) ∙ faulty (faults.TooLarge (sum + (length text + 1))) fault e
     go false b e = cc
-
--- a fault that a call hands on
-pub given_left : {U : Type 0} (result : Result U ExpandFault) (fault : ExpandFault) (value : List (List ℕ)) (answer : Result (List (List ℕ)) ExpandFault) → result ≡ Err fault → (fault ≡ faults.OutOfMemory) ⊎ (answer ≡ Err fault) → IsLeftBy result value answer
-given_left result fault value answer e h = rw e h
 
 pub longer_given : (texts : List (List ℕ)) (text : List ℕ) (sum : ℕ) (fault : ExpandFault) → IsWithin texts sum → (fault ≡ faults.OutOfMemory) ⊎ (cond {A = Result ℕ ExpandFault} (ltb limit (sum + (length text + 1))) (Err (faults.TooLarge (sum + (length text + 1)))) (Ok (sum + (length text + 1))) ≡ Err fault) → (fault ≡ faults.OutOfMemory) ⊎ (within (texts ++ text ∷ []) ≡ Err fault)
 longer_given texts text sum fault h (inl e) = inl e

@@ -216,20 +216,10 @@ value_first : (a : Option ArgTrees) (ts u : List Token) → Spells ts (value_sym
 value_first None ts u s = ap (at_first begins_arg) (key_first m.Semicolon [] ts u s)
 value_first (Some x) ts u s = ap (at_first begins_arg) (set_first m.Equals _ ts u s)
 
-no_sign_arg : (sign : Sign) → begins_list (sign_mark sign) ≡ false
-no_sign_arg signs.Set = refl
-no_sign_arg signs.Add = refl
-no_sign_arg signs.Fill = refl
-
 no_sign_on : (sign : Sign) → sign_mark sign ≡ m.On → ⊥
 no_sign_on signs.Set h = cc
 no_sign_on signs.Add h = cc
 no_sign_on signs.Fill h = cc
-
-no_sign_semicolon : (sign : Sign) → sign_mark sign ≡ m.Semicolon → ⊥
-no_sign_semicolon signs.Set h = cc
-no_sign_semicolon signs.Add h = cc
-no_sign_semicolon signs.Fill h = cc
 
 sign_no_arg : (sign : Sign) → begins_arg (sign_mark sign) ≡ false
 sign_no_arg signs.Set = refl

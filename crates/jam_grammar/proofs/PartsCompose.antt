@@ -1,23 +1,12 @@
 -- How parts that are read one after another make a whole.
-use Rattle.std.proofs.Common.{◌≡◌, ℕ, ◌+◌, ◌≤◌, ◌<◌, List, [], ◌∷◌, ◌++◌, true, false, Some, None, nat_le, if◌then◌else◌, refl, sym, ap, ◌∙◌, subst, arith, append_assoc}
+use Rattle.std.proofs.Common.{◌≡◌, ℕ, ◌+◌, List, [], ◌∷◌, ◌++◌, refl, sym, ap, ◌∙◌, subst, arith, append_assoc}
 use Rattle.b2_base.specs.declared.token.Token.{Token}
-use Rattle.jam_grammar.specs.declared.mark.Mark.{Mark}
 use Rattle.jam_grammar.specs.Marks.{mark_of_token}
 use Rattle.jam_grammar.specs.Grammar.{Part, opens}
-use Rattle.jam_grammar.specs.Machine.{Take, Room, Skip, Refuse, Bad, ended, go_on, run, feed, by_move, move, may_end, may_be_empty}
+use Rattle.jam_grammar.specs.Machine.{go_on, run, feed, by_move, move}
 use Rattle.jam_grammar.specs.Spelling.{Sym, Key, Says, Named, Raw, From, Never, Spells}
 use Rattle.jam_grammar.specs.Gives.{Leads, Ends, ReadsPart}
 use Rattle.jam_grammar.proofs.Moves.{opens_append, lead, feed_lead}
-
--- a part is read, and then the others are left
-pub then_part : (parts part others : List Part) (tokens mid after : List Token) (depth deeper : ℕ) → Leads parts tokens depth (part ++ others) mid → Leads part mid deeper [] after → opens others + depth ≡ deeper → Leads parts tokens depth others after
-then_part parts part others tokens mid after depth deeper l n e more h =
-    l more h ∙ ap (run mid) (append_assoc part others more) ∙ n (others ++ more) (omega (arith, opens_append others more))
-
--- a part is gone on with as others
-pub then_leads : (parts part next others : List Part) (tokens mid after : List Token) (depth deeper : ℕ) → Leads parts tokens depth (part ++ others) mid → Leads part mid deeper next after → opens others + depth ≡ deeper → Leads parts tokens depth (next ++ others) after
-then_leads parts part next others tokens mid after depth deeper l n e more h =
-    l more h ∙ ap (run mid) (append_assoc part others more) ∙ n (others ++ more) (omega (arith, opens_append others more)) ∙ ap (run after) (sym (append_assoc next others more))
 
 -- a part isn't read, and so the whole isn't
 pub then_ends : (parts part others : List Part) (tokens mid at : List Token) (depth deeper : ℕ) → Leads parts tokens depth (part ++ others) mid → Ends part mid deeper at → opens others + depth ≡ deeper → Ends parts tokens depth at
@@ -61,54 +50,6 @@ both_read first second tokens mid after depth syms more a b =
       moves = λ k h. ap (run tokens) (append_assoc first second k) ∙ a.moves (second ++ k) (omega (arith, opens_append second k)) ∙ b.moves k h;
       spells = spells_append tokens mid after syms more a.spells b.spells;
     }
-
--- a first token is read
-pub token_taken : (part : Part) (by : List Part) (mark : Mark) (token : Token) (tokens after : List Token) (depth : ℕ) → tokens ≡ token ∷ after → mark_of_token token ≡ mark → move part mark ≡ Take by → Leads (part ∷ []) tokens depth by after
-token_taken part by mark token tokens after depth e h t more o =
-    ap (λ x. run x (part ∷ more)) e
-    ∙ ap (λ n. go_on (by_move (move part n) more (feed more) n) (run after) (token ∷ after)) h
-    ∙ ap (λ v. go_on (by_move v more (feed more) mark) (run after) (token ∷ after)) t
-
--- a first token is read, and there is room for what it opens
-pub token_opens : (part : Part) (n : ℕ) (by : List Part) (mark : Mark) (token : Token) (tokens after : List Token) (depth : ℕ) → tokens ≡ token ∷ after → mark_of_token token ≡ mark → move part mark ≡ Room n by → n + depth ≤ 64 → Leads (part ∷ []) tokens depth by after
-token_opens part n by mark token tokens after depth e h t room more o =
-    ap (λ x. run x (part ∷ more)) e
-    ∙ ap (λ n. go_on (by_move (move part n) more (feed more) n) (run after) (token ∷ after)) h
-    ∙ ap (λ v. go_on (by_move v more (feed more) mark) (run after) (token ∷ after)) t
-    ∙ ap (λ b. go_on (if b then Some (by ++ more) else None) (run after) (token ∷ after)) yes
-  where
-    yes : nat_le (n + opens more) 64 ≡ true
-    yes = let fits : n + opens more ≤ 64 = omega (arith, room, o) in grind (arith, fits)
-
--- a first token would open more than there is room for
-pub token_too_deep : (part : Part) (n : ℕ) (by : List Part) (mark : Mark) (token : Token) (tokens after : List Token) (depth : ℕ) → tokens ≡ token ∷ after → mark_of_token token ≡ mark → move part mark ≡ Room n by → 64 < n + depth → Ends (part ∷ []) tokens depth tokens
-token_too_deep part n by mark token tokens after depth e h t room more o =
-    ap (λ x. run x (part ∷ more)) e
-    ∙ ap (λ n. go_on (by_move (move part n) more (feed more) n) (run after) (token ∷ after)) h
-    ∙ ap (λ v. go_on (by_move v more (feed more) mark) (run after) (token ∷ after)) t
-    ∙ ap (λ b. go_on (if b then Some (by ++ more) else None) (run after) (token ∷ after)) no
-    ∙ ap Bad (sym e)
-  where
-    no : nat_le (n + opens more) 64 ≡ false
-    no = let over : 64 < n + opens more = omega (arith, room, o) in grind (arith, over)
-
--- the tokens are for what comes after the part
-abbrev pub SkipsHere : Part → List Token → Type 0
-SkipsHere part [] = may_be_empty part ≡ true
-SkipsHere part (token ∷ tokens) = move part (mark_of_token token) ≡ Skip
-
-pub part_skipped : (part : Part) (tokens : List Token) (depth : ℕ) → SkipsHere part tokens → Leads (part ∷ []) tokens depth [] tokens
-part_skipped part [] depth h more o = ap (λ b. ended (if b then may_end more else false)) h
-part_skipped part (token ∷ tokens) depth h more o = ap (λ v. go_on (by_move v more (feed more) (mark_of_token token)) (run tokens) (token ∷ tokens)) h
-
--- the part cannot go on with these tokens
-abbrev pub RefusesHere : Part → List Token → Type 0
-RefusesHere part [] = may_be_empty part ≡ false
-RefusesHere part (token ∷ tokens) = move part (mark_of_token token) ≡ Refuse
-
-pub part_refused : (part : Part) (tokens : List Token) (depth : ℕ) → RefusesHere part tokens → Ends (part ∷ []) tokens depth tokens
-part_refused part [] depth h more o = ap (λ b. ended (if b then may_end more else false)) h
-part_refused part (token ∷ tokens) depth h more o = ap (λ v. go_on (by_move v more (feed more) (mark_of_token token)) (run tokens) (token ∷ tokens)) h
 
 -- the first token is read as the first of others that may stand for the part
 pub read_as : (part : Part) (by : List Part) (token : Token) (tokens : List Token) (depth : ℕ) → move part (mark_of_token token) ≡ lead by (mark_of_token token) → Leads (part ∷ []) (token ∷ tokens) depth by (token ∷ tokens)

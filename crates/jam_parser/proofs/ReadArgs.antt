@@ -18,11 +18,6 @@ use Rattle.jam_parser.specs.Parts.{ComesTo, IsRead}
 use Rattle.jam_parser.specs.Starts.{begins_arg, starts_arg, starts_word, starts_with, StandsAfter}
 use Rattle.jam_parser.proofs.Sequences.{turned, takes_past}
 
--- parts that do the same with each mark
-same_moves : (p q : List Part) (a : List Token) (k : List Part) → (run [] (p ++ k) ≡ run [] (q ++ k)) → ((m : Mark) → feed (p ++ k) m ≡ feed (q ++ k) m) → run a (p ++ k) ≡ run a (q ++ k)
-same_moves p q [] k e h = e
-same_moves p q (t ∷ ts) k e h = ap (λ o. go_on o (run ts) (t ∷ ts)) (h (mark_of_token t))
-
 zero_more : (n : ℕ) → n ≡ 0 + n
 zero_more n = omega arith
 
@@ -40,22 +35,6 @@ arg_comes left d h = turned (Args ∷ []) (OneArg ∷ Args ∷ []) left d (omega
 
     comes : (left : List Token) → starts_arg left ≡ true → Leads (Args ∷ []) left d (OneArg ∷ Args ∷ []) left
     comes [] h k o = cc
-    comes (t ∷ ts) h k o = ap (λ x. go_on x (run ts) (t ∷ ts)) (same k (mark_of_token t) h)
-
--- where none begins, none comes
-pub no_arg_comes : (left : List Token) (d : ℕ) → starts_arg left ≡ false → ComesTo (Args ∷ []) [] left d [] left
-no_arg_comes left d h = turned (Args ∷ []) [] left d (omega arith) (comes left h)
-  where
-    same : (k : List Part) (m : Mark) → begins_arg m ≡ false → feed (Args ∷ k) m ≡ feed k m
-    same k Plain h = cc
-    same k Query h = cc
-    same k Star h = cc
-    same k Plus h = cc
-    same k SquareOpen h = cc
-    same k _ h = refl
-
-    comes : (left : List Token) → starts_arg left ≡ false → Leads (Args ∷ []) left d [] left
-    comes [] h k o = refl
     comes (t ∷ ts) h k o = ap (λ x. go_on x (run ts) (t ∷ ts)) (same k (mark_of_token t) h)
 
 args_snoc : (xs : List Arg) (x : Arg) → args_syms (xs ++ x ∷ []) ≡ args_syms xs ++ arg_syms x
@@ -113,18 +92,6 @@ no_colon_comes a left d h = turned (More left ∷ []) [] a d (omega arith) (ends
 
 pub lists_stop : (a : List Token) (n d : ℕ) → (n < 9 → starts_with Colon a ≡ false) → ComesTo (More (9 - n) ∷ []) [] a d [] a
 lists_stop a n d h = elim (cases_lt n 9) [ inl y ↦ no_colon_comes a (9 - n) d (h y) | inr y ↦ lists_end a (9 - n) d (omega arith) ]
-
--- an argument that is no bracket is a word
-pub word_comes : (a : List Token) (d : ℕ) → starts_with SquareOpen a ≡ false → ComesTo (OneArg ∷ []) (OneWord ∷ []) a d [] a
-word_comes a d h = turned (OneArg ∷ []) (OneWord ∷ []) a d (omega arith) (comes a h)
-  where
-    same : (k : List Part) (m : Mark) → same_mark SquareOpen m ≡ false → feed (OneArg ∷ k) m ≡ feed (OneWord ∷ k) m
-    same k SquareOpen h = cc
-    same k _ h = refl
-
-    comes : (a : List Token) → starts_with SquareOpen a ≡ false → Leads (OneArg ∷ []) a d (OneWord ∷ []) a
-    comes [] h k o = refl
-    comes (t ∷ ts) h k o = ap (λ x. go_on x (run ts) (t ∷ ts)) (same k (mark_of_token t) h)
 
 -- what stands in brackets without `on` is a call
 pub call_comes : (a : List Token) (d : ℕ) → starts_with On a ≡ false → ComesTo (OneInner ∷ []) (OneArg ∷ Args ∷ More 8 ∷ []) a d [] a

@@ -7,10 +7,10 @@ use Rattle.jam_grammar.specs.declared.mark.Mark.{Mark}
 use Rattle.jam_grammar.specs.declared.mark.Mark.TheVariants as m
 use Rattle.jam_grammar.specs.Marks.{mark_of_token, same_mark}
 use Rattle.jam_grammar.specs.Grammar as part
-use Rattle.jam_grammar.specs.Grammar.{Part, Both, Single, OneExpr, OrTail, AndTail, OneArg, Compared, opens}
+use Rattle.jam_grammar.specs.Grammar.{Part, Both, Single, OneExpr, OrTail, AndTail, Compared, opens}
 use Rattle.jam_grammar.specs.Machine.{feed, go_on, run}
 use Rattle.jam_grammar.specs.Trees as trees
-use Rattle.jam_grammar.specs.Trees.{ExprTree, exprs_tree}
+use Rattle.jam_grammar.specs.Trees.{ExprTree}
 use Rattle.jam_grammar.specs.Spelling.{Key, Spells, Level, Anywhere, WithinOr, WithinAnd, spell_expr, expr_syms, pair_syms, joined_syms}
 use Rattle.jam_grammar.specs.Gives.{Leads}
 use Rattle.jam_parser.specs.Parts.{ComesTo}
@@ -53,10 +53,6 @@ more_members level mark (y ∷ z ∷ xs) ys x h e =
     ∙ ap (λ s. expr_syms level y ++ (Key mark ∷ (expr_syms level z ++ s))) (joined_snoc level mark xs x)
     ∙ ap (λ s. expr_syms level y ++ (Key mark ∷ s)) (sym (append_assoc (expr_syms level z) (joined_syms level mark xs) (Key mark ∷ expr_syms level x)))
     ∙ sym (append_assoc (expr_syms level y) (Key mark ∷ (expr_syms level z ++ joined_syms level mark xs)) (Key mark ∷ expr_syms level x))
-
--- two members, one after the other
-pub two_pushed : {none one two : List Expr} (y z : Expr) → none ≡ [] → one ≡ none ++ y ∷ [] → two ≡ one ++ z ∷ [] → two ≡ y ∷ z ∷ []
-two_pushed y z e f g = g ∙ ap (λ xs. xs ++ z ∷ []) (f ∙ ap (λ xs. xs ++ y ∷ []) e)
 
 -- two members
 pub two_members : (level : Level) (mark : Mark) (ys : List Expr) (y z : Expr) → ys ≡ y ∷ z ∷ [] → pair_syms level mark ys ≡ (expr_syms level y ++ Key mark ∷ []) ++ expr_syms level z

@@ -1,11 +1,11 @@
 -- How parts that are read one after another make a whole.
-use Rattle.std.proofs.Common.{◌≡◌, ℕ, ◌+◌, ◌<◌, ◌≤◌, List, [], ◌∷◌, ◌++◌, true, false, Some, None, nat_le, if◌then◌else◌, refl, sym, ap, ◌∙◌, subst, arith, append_assoc}
+use Rattle.std.proofs.Common.{◌≡◌, ℕ, ◌+◌, ◌≤◌, List, [], ◌∷◌, ◌++◌, true, Some, None, nat_le, if◌then◌else◌, refl, sym, ap, ◌∙◌, subst, arith, append_assoc}
 use Rattle.std.proofs.lemmas.List.{append-nil}
 use Rattle.b2_base.specs.declared.token.Token.{Token}
 use Rattle.jam_grammar.specs.declared.mark.Mark.{Mark}
 use Rattle.jam_grammar.specs.Marks.{mark_of_token}
 use Rattle.jam_grammar.specs.Grammar as part
-use Rattle.jam_grammar.specs.Grammar.{Part, closes, opens}
+use Rattle.jam_grammar.specs.Grammar.{Part, opens}
 use Rattle.jam_grammar.specs.Machine.{Take, Room, Refuse, move, by_move, feed, go_on, run}
 use Rattle.jam_grammar.specs.Spelling.{Sym, Key, Says, Named, Raw, From, Never, Spells}
 use Rattle.jam_grammar.specs.Gives.{Leads, Ends}
@@ -134,16 +134,6 @@ takes_past p q m a b d h e = takes p q m h.first a b d h.split h.is_it e
 
 pub opens_past : (p : Part) (q : List Part) (m : Mark) (a b : List Token) (n d : ℕ) → n + d ≤ 64 → StandsAfter m a b → move p m ≡ Room n q → ComesTo (p ∷ []) q a d (Key m ∷ []) b
 opens_past p q m a b n d room h e = opening p q m h.first a b n d room h.split h.is_it e
-
--- where there is none, it is a fault
-pub no_room : (p : Part) (q : List Part) (m : Mark) (t : Token) (a b : List Token) (n d : ℕ) → 64 < n + d → a ≡ t ∷ b → mark_of_token t ≡ m → move p m ≡ Room n q → Ends (p ∷ []) a d a
-no_room p q m t a b n d room h is e = subst (λ z. Ends (p ∷ []) z d z) (sym h) (λ k o. ap (λ x. go_on (feed (p ∷ k) x) (run b) (t ∷ b)) is ∙ ap (λ x. go_on (by_move x k (feed k) m) (run b) (t ∷ b)) e ∙ ap (λ x. go_on (if x then Some (q ++ k) else None) (run b) (t ∷ b)) (full k o))
-  where
-    full : (k : List Part) → opens k ≡ d → nat_le (n + opens k) 64 ≡ false
-    full k o = grind arith
-
-pub no_room_past : (p : Part) (q : List Part) (m : Mark) (a b : List Token) (n d : ℕ) → 64 < n + d → StandsAfter m a b → move p m ≡ Room n q → Ends (p ∷ []) a d a
-no_room_past p q m a b n d room h e = no_room p q m h.first a b n d room h.split h.is_it e
 
 -- a mark that cannot come is a fault
 pub refuses : (p : Part) (t : Token) (a b : List Token) (d : ℕ) → a ≡ t ∷ b → move p (mark_of_token t) ≡ Refuse → Ends (p ∷ []) a d a

@@ -2,7 +2,7 @@ use Rattle.std.proofs.Common.{◌≡◌, ◌≢◌, ℕ, ◌<◌, ◌≤◌, ◌
 use Rattle.std.specs.Str.{chars, IsUtf8, encode_utf8_all}
 use Rattle.std.specs.Char.{encode_utf8}
 use Rattle.std.proofs.lemmas.Bool.{ne_eqb, lt-leb, and_right}
-use Rattle.std.proofs.lemmas.List.{length-append, length-drop, nil_from_length, get_or_at, get_or-drop, take_at, drop_at, drop-drop}
+use Rattle.std.proofs.lemmas.List.{length-append, nil_from_length, get_or_at, take_at, drop_at, drop-drop}
 use Rattle.std.proofs.lemmas.Str.{encode_ascii, chars-nil, encodes-chars, chars-append, chars_past_char, IsUtf8-take, IsUtf8-drop, IsCharBoundary-before_ascii, IsCharBoundary-after_ascii}
 use Rattle.jam_path.specs.Patterns.{Lacks, is_member}
 use Rattle.jam_path.specs.Steps.{IsUnclosed, after_dash, after_exact, after_class, after_bracket}
@@ -86,12 +86,6 @@ after_cut bytes m b e = (length m + 1, sym (ap (drop (length m + 1)) (e ∙ sym 
 
 pub none_closed : (count : ℕ) (bytes : List ℕ) → IsUnclosed count bytes → length bytes ≤ count → Lacks 93 bytes
 none_closed count bytes h l = lacks_from_places 93 bytes (λ i m. h i (omega (arith, l)) m)
-
-pub unclosed_drop : (count k : ℕ) (bytes : List ℕ) → IsUnclosed count bytes → IsUnclosed count (drop k bytes)
-unclosed_drop count k bytes h i l m = rw (get_or-drop k bytes i 0) (h (k + i) (omega (arith, l, length-drop k bytes)) (omega (arith, m, length-drop k bytes)))
-
-pub unclosed_rest : (count : ℕ) (bytes rest : List ℕ) → IsUnclosed count bytes → (k : ℕ) × (rest ≡ drop k bytes) → IsUnclosed count rest
-unclosed_rest count bytes rest h e = subst (IsUnclosed count) (sym e.1) (unclosed_drop count e.0 bytes h)
 
 pub drop_twice : (a b c : List ℕ) → (k : ℕ) × (b ≡ drop k a) → (k : ℕ) × (c ≡ drop k b) → (k : ℕ) × (c ≡ drop k a)
 drop_twice a b c h k = (h.0 + k.0, k.1 ∙ ap (drop k.0) h.1 ∙ drop-drop k.0 h.0 a)

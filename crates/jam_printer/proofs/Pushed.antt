@@ -16,8 +16,8 @@ use Rattle.jam_grammar.specs.declared.tree.Param.{Param}
 use Rattle.jam_grammar.specs.declared.tree.Stmt.{Stmt}
 use Rattle.jam_grammar.specs.declared.tree.Block.{Block, out-Block, roll-out-Block}
 use Rattle.jam_grammar.specs.declared.tree.Case.{Case, Case'}
-use Rattle.jam_grammar.specs.Trees.{ExprTrees, NoExprs, ExprAnd, CaseTrees, case_before, cases_tree, exprs_tree, block_tree}
-use Rattle.jam_grammar.specs.Spelling.{Sym, Key, Says, Named, Level, spell_second, spell_joined, spell_cases, spell_stmts, arg_syms, args_syms, further_syms, expr_syms, joined_syms, pair_syms, block_syms, param_syms, plist_syms, takes_all, no_mark, further_params, params_syms, mark_syms, stmt_syms, stmts_syms, case_syms, cases_syms}
+use Rattle.jam_grammar.specs.Trees.{ExprTrees, NoExprs, ExprAnd, CaseTrees, case_before, cases_tree, block_tree}
+use Rattle.jam_grammar.specs.Spelling.{Sym, Key, Says, Named, Level, spell_second, spell_joined, spell_cases, spell_stmts, arg_syms, args_syms, further_syms, expr_syms, joined_syms, block_syms, param_syms, plist_syms, takes_all, no_mark, further_params, params_syms, mark_syms, stmt_syms, stmts_syms, case_syms, cases_syms}
 use Rattle.jam_grammar.specs.Alike.{mark_said, word_said}
 use Rattle.jam_grammar.proofs.RowTrees.{block_is}
 use Rattle.jam_spelling.specs.declared.lexeme.Lexeme.{Lexeme}
@@ -57,10 +57,6 @@ two a b c d e f =
 second_is : (level : Level) (mark : Mark) (es : ExprTrees) → written_as (spell_second level mark es) ≡ written_as (spell_joined level mark es)
 second_is level mark NoExprs = refl
 second_is level mark (ExprAnd e es) = refl
-
--- members with a mark between them: the first, and the others, each after a mark
-pub pair_is : (level : Level) (mark : Mark) (e : Expr) (es : List Expr) → written_as (pair_syms level mark (e ∷ es)) ≡ written_as (expr_syms level e) ++ written_as (joined_syms level mark es)
-pair_is level mark e es = written_append (expr_syms level e) (spell_second level mark (exprs_tree es)) ∙ ap (λ l. written_as (expr_syms level e) ++ l) (second_is level mark (exprs_tree es))
 
 -- a member with a mark before it
 abbrev pub after_mark : Joint → Expr → List Sym

@@ -4,13 +4,13 @@ use Rattle.std.specs.List.{list_any, before_first, after_first}
 use Rattle.std.proofs.lemmas.Bool.Decides.{Decides-eqb}
 use Rattle.std.proofs.lemmas.Str.Pattern.{IsSplitOnceResult, split_once_first, split_parts}
 use Rattle.std.specs.Ordering.{eq_by_cmp}
-use Rattle.std.specs.Option.{option_copied, option_or, unwrap_or, is_none}
+use Rattle.std.specs.Option.{option_copied, option_or, unwrap_or}
 use Rattle.std.specs.Str.{bytes_eq}
 use Rattle.std.specs.FinMap as map
 use Rattle.std.specs.FinMap.{get, insert, remove}
 use Rattle.std.proofs.lemmas.Slice.Eq.{bytes_eq-Decides}
 use Rattle.jam_journal.specs.Tables.{Text, Key, Table, key_cmp, put}
-use Rattle.jam_journal.proofs.TableLemmas.{elsewhere, there, by_both, key_itself, key_order}
+use Rattle.jam_journal.proofs.TableLemmas.{elsewhere, there, by_both, key_order}
 use Rattle.jam_scope.specs.Lines.{upward, line_by, line, AreAbove, AreLines, may_be_above, in_each, first_at, is_dot}
 use Rattle.jam_scope.specs.Heights.{HasLine, AreLined, height, AllLined}
 
@@ -188,9 +188,6 @@ lined_with t m p lined may x = line_with t m p (lined p) may (lined x).line x (l
 pub record Goes {X : Type 0} (table : Table X) (t : Table Text) (name first now : Text) : Type 0 where
   pub goes : (above : List Text) → AreAbove t first above → (rest : List Text) × (AreAbove t now rest) × (first_at table (in_each name (first ∷ above)) ≡ first_at table (in_each name (now ∷ rest)))
 
-pub goes_first : {X : Type 0} (table : Table X) (t : Table Text) (name first : Text) → Goes table t name first first
-goes_first table t name first = record { goes = λ above h. (above, h, refl) }
-
 module _ {X : Type 0} (table : Table X) (t : Table Text) (name first now : Text) (g : Goes table t name first now) (missing : get table (now, name) ≡ None) where
   next_by : (next : Text) → get t (now, []) ≡ Some next → (start : Option Key) (rest : List Text) → AreAbove t now rest → start ≡ first_at table (in_each name (now ∷ rest)) → (more : List Text) × (AreAbove t next more) × (start ≡ first_at table (in_each name (next ∷ more)))
   next_by next e start [] h f = absurd (not_some next (sym h ∙ e))
@@ -216,11 +213,6 @@ module _ {X : Type 0} (table : Table X) (t : Table Text) (name first now : Text)
   goes_end e above h =
       let r = g.goes above h in
       sym (end_by e (first_at table (in_each name (first ∷ above))) r.0 r.1 r.2)
-
-pub goes_found : {X : Type 0} (table : Table X) (t : Table Text) (name first now : Text) → Goes table t name first now → is_some (get table (now, name)) ≡ true → (above : List Text) → AreAbove t first above → Some (now, name) ≡ first_at table (in_each name (first ∷ above))
-goes_found table t name first now g found above h =
-    let r = g.goes above h in
-    sym (r.2 ∙ ap (λ b. cond b (Some (now, name)) (first_at table (in_each name r.0))) found)
 
 or_by : (t : Bool) (k : Key) (x y : Option Key) → cond t (Some k) (option_or x y) ≡ option_or (cond t (Some k) x) y
 or_by true k x y = refl

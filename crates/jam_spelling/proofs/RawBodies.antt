@@ -1,9 +1,8 @@
 -- A body whose braces a count finds in balance can stand.
-use Rattle.std.proofs.Common.{◌≡◌, ℕ, zero, suc, ◌+◌, ◌-◌, ◌≤◌, Bool, true, false, not, cond, ◌&&◌, ◌==◌, List, [], ◌∷◌, get_or, take, refl, sym, ◌∙◌, ap, arith}
+use Rattle.std.proofs.Common.{◌≡◌, ℕ, zero, suc, ◌+◌, ◌-◌, ◌≤◌, Bool, true, false, not, cond, ◌&&◌, ◌==◌, List, [], ◌∷◌, take, refl, sym, ◌∙◌, ap, arith}
 use Rattle.std.proofs.lemmas.Bool.{and_parts, not-true, eqb-true, eqb-false}
-use Rattle.jam_lexer.specs.Signs.{is_white}
 use Rattle.jam_lexer.proofs.Bodies.{count_by-append}
-use Rattle.jam_spelling.specs.Standing.{count, IsRaw}
+use Rattle.jam_spelling.specs.Standing.{count}
 
 -- so many braces are open, and the text closes them and its own
 abbrev pub closes : ℕ → List ℕ → Bool
@@ -48,8 +47,3 @@ closing depth (b ∷ text) e = go (b == 123) (b == 125) refl refl e (closing (de
         let one : cond {A = ℕ} (b == 125) 1 0 ≡ 0 = ap (λ t. cond {A = ℕ} t 1 0) right in
         let none : cond {A = ℕ} (b == 123) 1 0 ≡ 0 = ap (λ t. cond {A = ℕ} t 1 0) left in
         closing_more b text depth depth (same e) (omega (arith, one, none))
-
-pub raw_from_closes : (text : List ℕ) → is_white (get_or text 0 0) ≡ true → closes 0 text ≡ true → IsRaw text
-raw_from_closes text white e =
-    let c : IsClosing 0 text = closing 0 text e in
-    record { white_first = white; matched = λ k. omega (arith, c.matched k); all_closed = omega (arith, c.closed) }
