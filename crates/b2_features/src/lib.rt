@@ -7,3 +7,4 @@ pub mod fault;
 pub mod feature;
 mod implicit;
 pub mod registry;
+pub mod text_places;

@@ -14,7 +14,8 @@ use crate::attribute::Attribute;
 use crate::checks::{bad_word, contradicted};
 use crate::fault::FeatureFault;
 use crate::feature::{Feature, copy_pairs};
-use crate::implicit::{ImplicitValues, implicit_values};
+use crate::implicit::implicit_values;
+use crate::text_places::TextPlaces;
 use b2_base::fault::OutOfMemory;
 use b2_base::text::Text;
 use b2_base::text_map::TextMap;
@@ -28,7 +29,7 @@ use std::marker::Model;
 pub struct Registry {
     alloc: Global,
     features: IndexMap<String, Feature>,
-    implicit: ImplicitValues,
+    implicit: TextPlaces,
 }
 
 impl Model for Registry {
@@ -51,7 +52,7 @@ impl Registry {
         Registry {
             alloc,
             features: IndexMap::new(alloc),
-            implicit: ImplicitValues::new(alloc),
+            implicit: TextPlaces::new(alloc),
         }
     }
 

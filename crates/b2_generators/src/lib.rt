@@ -10,7 +10,6 @@ pub mod laws;
 mod layers;
 mod paths;
 mod places;
-mod suffixes;
 mod type_table;
 pub mod types;
 mod walk;

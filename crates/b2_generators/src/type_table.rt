@@ -5,11 +5,11 @@ ghost use Rattle.std.specs.Option.{option_copied};
 ghost use Rattle.std.specs.Str.{bytes_eq};
 ghost use Rattle.b2_generators.specs.Table.{FileType, has_text, has_repeat, type_named, is_type, type_with, is_type_taken, first_suffix};
 
-use crate::suffixes::{Suffixes, copy_strings};
 use b2_base::fault::OutOfMemory;
 use b2_base::text::Text;
 use b2_base::text_list::{TextList, copy_texts};
 use b2_base::text_map::TextMap;
+use b2_features::text_places::{TextPlaces, copy_strings};
 use indexmap::IndexMap;
 use std::alloc::Global;
 use std::marker::Model;
@@ -19,7 +19,7 @@ use std::marker::Model;
 pub(crate) struct TypeTable {
     alloc: Global,
     types: IndexMap<String, TextList>,
-    suffixes: Suffixes,
+    suffixes: TextPlaces,
 }
 
 impl Model for TypeTable {
@@ -42,7 +42,7 @@ impl TypeTable {
         TypeTable {
             alloc,
             types: IndexMap::new(alloc),
-            suffixes: Suffixes::new(alloc),
+            suffixes: TextPlaces::new(alloc),
         }
     }
 

@@ -1,4 +1,4 @@
-//! The types of suffixes.
+//! The places of texts.
 ghost use Rattle.std.specs.Prelude.{◌≡◌, ℕ, List, [], map, string_bytes, Some, IfOk, OnOk, OnErr, if◌then◌else◌};
 ghost use Rattle.std.specs.List.{list_any};
 ghost use Rattle.std.specs.Map.{lookup};
@@ -10,13 +10,13 @@ use indexmap::IndexMap;
 use std::alloc::Global;
 use std::marker::Model;
 
-/// The place of the type of each suffix, seen as the list of both.
+/// A place for each of some texts, seen as the list of both.
 #[derive(Drop)]
-pub(crate) struct Suffixes {
+pub struct TextPlaces {
     places: IndexMap<String, usize>,
 }
 
-impl Model for Suffixes {
+impl Model for TextPlaces {
     ghost use Rattle.std.specs.Prelude.{ℕ, List, map, string_bytes};
 
     ghost Value = { List (List ℕ × ℕ) };
@@ -24,38 +24,38 @@ impl Model for Suffixes {
     ghost view = { λ v. map (λ e. (string_bytes e.0, e.1)) v.places.entries };
 }
 
-impl Suffixes {
-    /// No suffixes.
-    pub(crate) fn new(alloc: Global) -> Suffixes
+impl TextPlaces {
+    /// No texts.
+    pub fn new(alloc: Global) -> TextPlaces
         ensures { result ≡ [] }
     {
-        Suffixes {
+        TextPlaces {
             places: IndexMap::new(alloc),
         }
     }
 
-    /// The place of a suffix's type; takes no memory.
-    pub(crate) fn get(&self, suffix: &str) -> Option<usize>
-        ensures { result ≡ lookup (bytes_eq suffix.now) self.now }
+    /// The place of a text; takes no memory.
+    pub fn get(&self, text: &str) -> Option<usize>
+        ensures { result ≡ lookup (bytes_eq text.now) self.now }
     {
-        self.places.get(suffix).copied()
+        self.places.get(text).copied()
     }
 
-    /// Gives each of some suffixes this place. After an error nothing has changed.
-    pub(crate) fn add(&mut self, suffixes: Vec<String>, place: usize) -> Result<(), OutOfMemory>
-        ensures ok { OnOk result ((q : List ℕ) → lookup (bytes_eq q) self.new ≡ (if list_any (λ suffix. bytes_eq q (string_bytes suffix)) suffixes.items then Some place else lookup (bytes_eq q) self.old)) }
+    /// Gives each of some texts this place. After an error nothing has changed.
+    pub fn add(&mut self, texts: Vec<String>, place: usize) -> Result<(), OutOfMemory>
+        ensures ok { OnOk result ((q : List ℕ) → lookup (bytes_eq q) self.new ≡ (if list_any (λ text. bytes_eq q (string_bytes text)) texts.items then Some place else lookup (bytes_eq q) self.old)) }
         ensures err { OnErr result (self.new ≡ self.old) }
     {
-        self.places.reserve(suffixes.len())?;
-        for suffix in suffixes {
-            let _before = self.places.insert(suffix, place).unwrap();
+        self.places.reserve(texts.len())?;
+        for text in texts {
+            let _before = self.places.insert(text, place).unwrap();
         }
         Ok(())
     }
 }
 
 /// The same texts as strings, in order.
-pub(crate) fn copy_strings(alloc: Global, texts: &[Text]) -> Result<Vec<String>, OutOfMemory>
+pub fn copy_strings(alloc: Global, texts: &[Text]) -> Result<Vec<String>, OutOfMemory>
     ensures { IfOk result (λ made. map string_bytes made.items ≡ texts.now) }
 {
     let mut made = Vec::new(alloc);

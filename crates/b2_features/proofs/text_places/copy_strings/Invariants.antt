@@ -1,5 +1,5 @@
 use Rattle.std.proofs.Common.{◌≡◌, map, take, string_bytes}
-use Rattle.b2_features.proofs.implicit.copy_strings.Given as goal
+use Rattle.b2_features.proofs.text_places.copy_strings.Given as goal
 
 -- the texts copied so far
 abbrev pub invariant-loop-text : goal.invariant-loop-text
