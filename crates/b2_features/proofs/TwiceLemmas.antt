@@ -1,4 +1,4 @@
-use Rattle.std.proofs.Common.{◌≡◌, ℕ, ◌+◌, ◌<◌, ◌≤◌, Bool, true, false, cond, ◌||◌, List, [], ◌∷◌, ◌++◌, Option, Some, None, is_some, take, drop, get_or, length, refl, sym, ◌∙◌, ap, ap₂, add-one}
+use Rattle.std.proofs.Common.{◌≡◌, ℕ, ◌+◌, ◌<◌, Bool, true, false, cond, ◌||◌, List, [], ◌∷◌, ◌++◌, Option, Some, None, is_some, take, drop, get_or, length, refl, sym, ◌∙◌, ap, ap₂, add-one}
 use Rattle.std.specs.Ordering.{nat_cmp}
 use Rattle.std.specs.Cmp.Lexicographic.{slice_cmp}
 use Rattle.std.specs.List.{list_any}
@@ -7,7 +7,6 @@ use Rattle.std.specs.FinMap.{FinMap, get, insert, get-insert}
 use Rattle.std.proofs.lemmas.Cmp.{nat_list_cmp_total}
 use Rattle.std.proofs.lemmas.Map.Text.{is_eq-slice_cmp}
 use Rattle.std.proofs.lemmas.List.{take_more}
-use Rattle.std.proofs.Math.ListN.{drop_of_length-le}
 use Rattle.std.proofs.lemmas.List.Folds.{list_any-append}
 use Rattle.std.proofs.Math.Seq.{drop-cons}
 use Rattle.b2_features.specs.Table.{Declared}
@@ -45,10 +44,6 @@ decided table values i x known b within is apart e =
     ap (λ t. cond t (Some x) (twice_value table (take i values ++ x ∷ []) (drop (i + 1) values))) (e ∙ ap (λ k. is_taken table x || k) (apart.earlier x))
     ∙ sym (ap (twice_value table (take i values)) (next_rest table values i x within is)) ∙ apart.rest
 
--- a value that is there is the first one
-pub found_twice : (table : List Declared) (values : List (List ℕ)) (i : ℕ) (x : List ℕ) (known : List ℕ → Bool) → i < length values → x ≡ get_or values i x → AreApart table values i known → true ≡ (is_taken table x || known x) → twice_value table [] values ≡ Some x
-found_twice table values i x known within is apart e = sym (decided table values i x known true within is apart e)
-
 -- one more value that is not there
 pub apart_next : (table : List Declared) (values : List (List ℕ)) (i : ℕ) (x : List ℕ) (known new : List ℕ → Bool) → i < length values → x ≡ get_or values i x → AreApart table values i known → false ≡ (is_taken table x || known x) → ((q : List ℕ) → new q ≡ (known q || bytes_eq q x))
     → AreApart table values (i + 1) new
@@ -67,7 +62,3 @@ apart_none table values known none = record {
   rest = refl;
   earlier = none;
 }
-
--- where all values are apart none is there twice
-pub none_twice : (table : List Declared) (values : List (List ℕ)) (i : ℕ) (known : List ℕ → Bool) → AreApart table values i known → length values ≤ i → twice_value table [] values ≡ None
-none_twice table values i known apart end = sym apart.rest ∙ ap (twice_value table (take i values)) (drop_of_length-le values end)
