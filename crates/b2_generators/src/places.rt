@@ -1,26 +1,12 @@
 //! What the generators at some places take and give.
 ghost use Rattle.std.specs.Prelude.{◌≡◌};
-ghost use Rattle.b2_props.specs.Membership.{has, has_all};
 ghost use Rattle.b2_generators.specs.Table.{has_text};
 ghost use Rattle.b2_generators.specs.Places.{is_usable_at, sources_at, targets_at, takes_any_at, is_taken_by};
 
 use crate::generator_table::GeneratorTable;
 use b2_base::text::Text;
+use b2_props::membership::has_all;
 use b2_props::props::Props;
-
-fn has(pairs: &[(Text, Text)], pair: &(Text, Text)) -> bool
-    ensures { result ≡ has pairs.now pair.now }
-{
-    pairs
-        .iter()
-        .any(|other| other.0 == pair.0 && other.1 == pair.1)
-}
-
-fn has_all(pairs: &[(Text, Text)], others: &[(Text, Text)]) -> bool
-    ensures { result ≡ has_all pairs.now others.now }
-{
-    others.iter().all(|pair| has(pairs, pair))
-}
 
 /// Whether the set has what the generator requires; takes no memory.
 pub(crate) fn is_usable(generators: &GeneratorTable, set: &Props, place: usize) -> bool

@@ -7,6 +7,7 @@ mod draft;
 pub mod elements;
 pub mod laws;
 pub mod lookups;
+pub mod membership;
 mod numbered;
 pub mod pair_index;
 pub mod pair_list;

@@ -1,10 +1,10 @@
 //! The choice among alternatives.
 ghost use Rattle.std.specs.Prelude.{◌≡◌, ◌<◌, ◌&&◌, ℕ, false, true, length, IfSome, IfNone};
-ghost use Rattle.b2_props.specs.Membership.{has, has_all};
 ghost use Rattle.b2_refine.specs.Choices.{is_viable, is_better, is_strict_subset, clashes, IsFirstClash, IsChoiceOf, IsChoice};
 ghost use Rattle.b2_refine.specs.Choosing.{improves, is_rival, IsFavourite, ClashesFirst};
 
 use b2_base::text::Text;
+use b2_props::membership::has_all;
 use b2_props::pair_list::PairList;
 use b2_props::props::Props;
 
@@ -20,20 +20,6 @@ pub enum Choice {
     None,
     /// Both are viable, and neither is better.
     Ambiguous { i: usize, k: usize },
-}
-
-fn has(pairs: &[(Text, Text)], pair: &(Text, Text)) -> bool
-    ensures { result ≡ has pairs.now pair.now }
-{
-    pairs
-        .iter()
-        .any(|other| other.0 == pair.0 && other.1 == pair.1)
-}
-
-fn has_all(pairs: &[(Text, Text)], others: &[(Text, Text)]) -> bool
-    ensures { result ≡ has_all pairs.now others.now }
-{
-    others.iter().all(|pair| has(pairs, pair))
 }
 
 fn is_strict_subset(smaller: &[(Text, Text)], larger: &[(Text, Text)]) -> bool
