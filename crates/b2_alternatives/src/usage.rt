@@ -19,9 +19,9 @@ use b2_props::lookups::is_with;
 use b2_props::pair_index::PairIndex;
 use b2_props::pair_list::PairList;
 use b2_props::props::Props;
+use b2_props::refinement::take_all;
 use b2_props::requirement::Requirement;
 use b2_references::index::Index;
-use b2_texts::missing::take_all;
 use std::alloc::Global;
 
 /// Adds the property of a usage requirement, where all its conditions are indexed.

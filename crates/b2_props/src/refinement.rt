@@ -63,7 +63,7 @@ pub fn expand(alloc: Global, registry: &Registry, set: &Props) -> Result<Props, 
 }
 
 /// Puts the features of some pairs among those that are taken.
-fn take_all(taken: &mut TextMap<()>, pairs: &[(Text, Text)]) -> Result<(), OutOfMemory>
+pub fn take_all(taken: &mut TextMap<()>, pairs: &[(Text, Text)]) -> Result<(), OutOfMemory>
     ensures { OnOk result ((feature : List ℕ) → is_some (map.get taken.new feature) ≡ (is_some (map.get taken.old feature) || names pairs.now feature)) }
 {
     for pair in pairs {

@@ -1,5 +1,5 @@
 //! The pairs of a list whose features another list does not name.
-ghost use Rattle.std.specs.Prelude.{◌≡◌, ◌++◌, ◌||◌, ℕ, List, not, filter, is_some, IfOk, OnOk};
+ghost use Rattle.std.specs.Prelude.{◌≡◌, ◌++◌, ℕ, List, not, filter, is_some, IfOk};
 ghost use Rattle.std.specs.FinMap as map;
 ghost use Rattle.b2_props.specs.Refinement.{names};
 ghost use Rattle.b2_texts.specs.Missing.{missing};
@@ -8,17 +8,8 @@ use b2_base::fault::OutOfMemory;
 use b2_base::text::Text;
 use b2_base::text_map::TextMap;
 use b2_props::pair_list::PairList;
+use b2_props::refinement::take_all;
 use std::alloc::Global;
-
-/// Puts the features of some pairs among those that are taken.
-pub fn take_all(taken: &mut TextMap<()>, pairs: &[(Text, Text)]) -> Result<(), OutOfMemory>
-    ensures { OnOk result ((feature : List ℕ) → is_some (map.get taken.new feature) ≡ (is_some (map.get taken.old feature) || names pairs.now feature)) }
-{
-    for pair in pairs {
-        let _before = taken.insert(pair.0.copy()?, ())?;
-    }
-    Ok(())
-}
 
 /// The features of some pairs as a set.
 pub fn features_of(alloc: Global, pairs: &[(Text, Text)]) -> Result<TextMap<()>, OutOfMemory>
