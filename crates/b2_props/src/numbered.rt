@@ -5,7 +5,7 @@ ghost use Rattle.b2_props.specs.Numbers.{with_byte, with_text, number_of};
 use b2_base::text::Text;
 
 /// Pairs, which never change, beside the number of their list, by which lists that differ are mostly told apart.
-#[derive(Debug, Drop)]
+#[derive(Drop)]
 pub(crate) struct Numbered {
     pub(crate) pairs: Vec<(Text, Text)>,
     pub(crate) number: u64,

@@ -14,7 +14,6 @@ use std::rc::Rc;
 /// A set of properties, seen as the list of its pairs of a feature and a value: first the features that are not free, in
 /// the order of their registry and each once at most, then the free pairs in order, each once. The copies of a set share its
 /// pairs, and the empty set takes no memory.
-#[derive(Debug)]
 pub struct Props {
     shared: Option<Rc<Numbered>>,
 }
