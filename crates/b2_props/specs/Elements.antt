@@ -12,11 +12,11 @@ use Rattle.b2_props.specs.Refinement.{components}
 abbrev pub propagated : List Declared → List Pair → List Pair
 propagated table set = filter (λ p. is_with Propagated table p.0) set
 
--- the value of a feature that goes without saying in a set: the one that its composites give, else the default
+-- the usual value of a feature in a set: the one that its composites give, else the default
 abbrev pub usual : List Declared → List Pair → List ℕ → Option (List ℕ)
 usual table set feature = option_or (value_of (components table set) feature) (default_of table feature)
 
--- whether a pair shows in a path where some value goes without saying: a free or incidental one never does, a symmetric
+-- whether a pair shows in a path beside the usual value of its feature: a free or incidental one never does, a symmetric
 -- one always, any other where it has another value
 abbrev pub shows_beside : List Declared → Option (List ℕ) → Pair → Bool
 shows_beside table common pair =

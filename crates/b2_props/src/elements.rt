@@ -32,7 +32,7 @@ pub fn propagated(alloc: Global, registry: &Registry, set: &Props) -> Result<Pro
     Props::from_vec(alloc, pairs)
 }
 
-/// The value of a feature that goes without saying: the one that is given, else the default.
+/// The usual value of a feature: the one that is given, else the default.
 fn usual<'a>(registry: &'a Registry, given: &'a Draft, feature: &Text) -> Option<&'a str>
     ensures { option_copied result ≡ option_or (map.get given.now.values feature.now) (default_of registry.now feature.now) }
 {
