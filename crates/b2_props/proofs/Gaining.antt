@@ -137,15 +137,6 @@ take_value table p old new not_free set = record {
 
 -- ---- one list after another
 
-pub gains_none : (table : List Declared) (d : Draft) → Gains table [] d d
-gains_none table d = record {
-  holding = λ had pairs holds. record {
-    values = λ q here. holds.values q here ∙ sym (option_or-none (had q));
-    free = holds.free ∙ sym (ap (λ ps. firsts (free_of table ps)) (append-nil pairs));
-    known = λ q. holds.known q ∙ sym (ap (λ ps. list_any (same q) (free_of table ps)) (append-nil pairs));
-  };
-}
-
 pub gains_more : (table : List Declared) (a b : List Pair) (d e f : Draft) → Gains table a d e → Gains table b e f → Gains table (a ++ b) d f
 gains_more table a b d e f first second = record {
   holding = λ had pairs holds.
@@ -155,15 +146,6 @@ gains_more table a b d e f first second = record {
         free = after.free ∙ ap (λ ps. firsts (free_of table ps)) (append_assoc pairs a b);
         known = λ q. after.known q ∙ ap (λ ps. list_any (same q) (free_of table ps)) (append_assoc pairs a b);
       };
-}
-
-pub takes_none : (table : List Declared) (d : Draft) → Takes table [] d d
-takes_none table d = record {
-  holding = λ had pairs holds. record {
-    values = holds.values;
-    free = holds.free ∙ sym (ap (λ ps. firsts (free_of table ps)) (append-nil pairs));
-    known = λ q. holds.known q ∙ sym (ap (λ ps. list_any (same q) (free_of table ps)) (append-nil pairs));
-  };
 }
 
 pub takes_more : (table : List Declared) (a b : List Pair) (d e f : Draft) → Takes table a d e → Takes table b e f → Takes table (a ++ b) d f

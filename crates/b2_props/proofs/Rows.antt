@@ -1,4 +1,4 @@
-use Rattle.std.proofs.Common.{◌≡◌, ℕ, ◌+◌, ◌<◌, Bool, true, false, cond, not, List, [], ◌∷◌, ◌++◌, Option, Some, None, map, take, is_some, get_or, length, refl, sym, ◌∙◌, ap, ap₂, subst}
+use Rattle.std.proofs.Common.{◌≡◌, ℕ, ◌+◌, ◌<◌, Bool, true, false, cond, not, List, [], ◌∷◌, ◌++◌, Option, Some, None, map, take, get_or, length, refl, sym, ◌∙◌, ap, ap₂, subst}
 use Rattle.std.specs.List.{find, flat_map}
 use Rattle.std.specs.Option.{option_map, option_or}
 use Rattle.std.specs.FinMap.{FinMap, get, insert}
@@ -8,13 +8,10 @@ use Rattle.std.specs.Str.{bytes_eq}
 use Rattle.std.proofs.lemmas.List.{append-nil, map-append}
 use Rattle.std.proofs.lemmas.List.Concat.{flat_map-append, flat_map_single}
 use Rattle.std.proofs.lemmas.List.Elements.{filter-append}
-use Rattle.b2_features.specs.Table.{Declared}
 use Rattle.b2_features.specs.Attributes.{has}
-use Rattle.b2_features.specs.declared.attribute.Attribute.TheVariants.{Free}
 use Rattle.b2_props.specs.declared.choice.Choice.{Choice}
 use Rattle.b2_props.specs.declared.clashes.Clashes.{Clashes}
-use Rattle.b2_props.specs.Requests.{product, choices_at, differing, meeting, feature_clash, choices_of, brought}
-use Rattle.b2_props.specs.Refinement.{parts_in}
+use Rattle.b2_props.specs.Requests.{product, choices_at, differing}
 use Rattle.b2_props.specs.Meeting.{first_value, other_word, Meets, HasChoice}
 use Rattle.b2_props.proofs.Pairs.{text_is, option_or-none}
 use Rattle.b2_props.proofs.Gaining.{next_take, get_put}
@@ -92,31 +89,6 @@ meets_more choices c old new meets has = record {
 pub meets_next : (choices : List Choice) (i : ℕ) (c : Choice) (old new : Clashes) → i < length choices → c ≡ get_or choices i c → Meets (take i choices) old → HasChoice c old new → Meets (take (i + 1) choices) new
 meets_next choices i c old new l is meets has = subst (λ cs. Meets cs new) (sym (next_take choices i c l is)) (meets_more (take i choices) c old new meets has)
 
--- ---- values that meet
-
-meeting_is : (xs ys : List Choice) → meeting xs ys ≡ cond (is_some (first_value xs)) (differing xs) (differing ys)
-meeting_is [] ys = refl
-meeting_is (x ∷ xs) ys = refl
-
--- a feature of which a value is given
-pub clash_given : (row more : List Choice) (explicit parts : Clashes) (f : Declared) → Meets row explicit → Meets more parts → has Free f.attributes ≡ false → is_some (get explicit.values f.name) ≡ true → get explicit.words f.name ≡ feature_clash row more f
-clash_given row more explicit parts f first second not_free given =
-    first.words f.name
-    ∙ sym (ap (λ b. cond b None (meeting (choices_at row f.name) (choices_at more f.name))) not_free ∙ meeting_is (choices_at row f.name) (choices_at more f.name) ∙ ap (λ b. cond b (differing (choices_at row f.name)) (differing (choices_at more f.name))) (ap is_some (sym (first.values f.name)) ∙ given))
-
--- a feature of which none is
-pub clash_brought : (row more : List Choice) (explicit parts : Clashes) (f : Declared) → Meets row explicit → Meets more parts → has Free f.attributes ≡ false → is_some (get explicit.values f.name) ≡ false → get parts.words f.name ≡ feature_clash row more f
-clash_brought row more explicit parts f first second not_free given =
-    second.words f.name
-    ∙ sym (ap (λ b. cond b None (meeting (choices_at row f.name) (choices_at more f.name))) not_free ∙ meeting_is (choices_at row f.name) (choices_at more f.name) ∙ ap (λ b. cond b (differing (choices_at row f.name)) (differing (choices_at more f.name))) (ap is_some (sym (first.values f.name)) ∙ given))
-
--- ---- components
-
-pub brought_next : (table : List Declared) (row : List Choice) (i : ℕ) (c : Choice) → i < length row → c ≡ get_or row i c → brought table (take (i + 1) row) ≡ brought table (take i row) ++ choices_of c.word (parts_in table c.pair)
-brought_next table row i c l is =
-    ap (brought table) (next_take row i c l is) ∙ flat_map-append (λ d. choices_of d.word (parts_in table d.pair)) (take i row) (c ∷ [])
-    ∙ ap (λ cs. brought table (take i row) ++ cs) (append-nil (choices_of c.word (parts_in table c.pair)))
-
 -- ---- one choice more
 
 mapped : (t : List ℕ → Bool) (o : Option (List ℕ)) (b : Bool) → option_map t o ≡ Some b → (v : List ℕ) × (o ≡ Some v) × (t v ≡ b)
@@ -154,31 +126,3 @@ has_mark c old new differs none same put =
           ∙ put_there old.words c.pair.0 c.word (option_or (get old.words c.pair.0) (other_word c (get old.values c.pair.0)))
           (ap₂ (λ (o : Option ℕ) (p : Option (List ℕ)). option_or o (other_word c p)) none there ∙ ap (λ b. cond b (Some c.word) None) other) q;
     }
-
--- a later word that differs
-pub has_marked : (c : Choice) (old : Clashes) → option_map (λ v. not (bytes_eq c.pair.1 v)) (get old.values c.pair.0) ≡ Some true → is_some (get old.words c.pair.0) ≡ true → HasChoice c old old
-has_marked c old differs some =
-    let (v, there, other) = mapped (λ v. not (bytes_eq c.pair.1 v)) (get old.values c.pair.0) true differs in
-    record {
-      values = λ q. same_there old.values c.pair.0 (option_or (get old.values c.pair.0) (Some c.pair.1)) (ap (λ o. option_or o (Some c.pair.1)) there ∙ sym there) q;
-      words = λ q. same_there old.words c.pair.0 (option_or (get old.words c.pair.0) (other_word c (get old.values c.pair.0))) (kept (get old.words c.pair.0) some (other_word c (get old.values c.pair.0))) q;
-    }
-  where
-    kept : (o : Option ℕ) → is_some o ≡ true → (p : Option ℕ) → option_or o p ≡ o
-    kept None e p = cc
-    kept (Some n) e p = refl
-
--- the same value again
-pub has_same : (c : Choice) (old : Clashes) → option_map (λ v. not (bytes_eq c.pair.1 v)) (get old.values c.pair.0) ≡ Some false → HasChoice c old old
-has_same c old differs =
-    let (v, there, other) = mapped (λ v. not (bytes_eq c.pair.1 v)) (get old.values c.pair.0) false differs in
-    record {
-      values = λ q. same_there old.values c.pair.0 (option_or (get old.values c.pair.0) (Some c.pair.1)) (ap (λ o. option_or o (Some c.pair.1)) there ∙ sym there) q;
-      words = λ q.
-          same_there old.words c.pair.0 (option_or (get old.words c.pair.0) (other_word c (get old.values c.pair.0)))
-          (ap (λ p. option_or (get old.words c.pair.0) (other_word c p)) there ∙ ap (λ b. option_or (get old.words c.pair.0) (cond b (Some c.word) None)) other ∙ option_or-none (get old.words c.pair.0)) q;
-    }
-
--- nothing is there at first
-pub meets_none : (made : Clashes) → ((q : List ℕ) → get made.values q ≡ None) → ((q : List ℕ) → get made.words q ≡ None) → Meets [] made
-meets_none made values words = record { values = values; words = words }
