@@ -1,4 +1,4 @@
-use Rattle.std.proofs.Common.{◌≡◌, ℕ, suc, ◌+◌, ◌<◌, ◌≤◌, List, [], ◌∷◌, ◌++◌, length, take, get_or, Option, Some, None, MatchOption, slice_get, refl, sym, ◌∙◌, ap, subst, true, arith}
+use Rattle.std.proofs.Common.{◌≡◌, ℕ, ◌+◌, ◌<◌, List, [], ◌∷◌, ◌++◌, length, take, get_or, Option, Some, None, MatchOption, slice_get, refl, sym, ◌∙◌, ap, subst}
 use Rattle.std.specs.Prelude.{Result, Ok, Err, IfErr, IfNone, IfSome}
 use Rattle.std.specs.List.{filter_map}
 use Rattle.std.specs.Option.{option_map}
@@ -12,8 +12,8 @@ use Rattle.b2_generators.specs.Faults.{IsBetween, IsNoChainBy, IsTwoChainsBy, Te
 use Rattle.b2_props.specs.Sets.{Pair}
 use Rattle.b2_generators.specs.Chains.{ids_of, IsOnlyShortest, AreFirstTwo}
 use Rattle.b2_generators.specs.Layers.{AreLayers, IsApart}
-use Rattle.b2_generators.specs.Places.{has_place, targets_at, layer_at}
-use Rattle.b2_generators.specs.Descents.{Descends, CanGoOn, IsConnected, IsFirst, IsOnly, AreFirst, IsBranch, IsWalk, IsOnlyDown, AreFirstDown, AreFound, IsSecond}
+use Rattle.b2_generators.specs.Places.{targets_at}
+use Rattle.b2_generators.specs.Descents.{Descends, IsFirst, IsOnly, AreFirst, IsBranch, IsWalk, IsOnlyDown, AreFirstDown, AreFound, IsSecond}
 use Rattle.b2_generators.proofs.Meeting.{only_shortest, first_two}
 
 -- ---- ids
@@ -55,15 +55,6 @@ second_named generators layers one branch types rest start middle end found ids 
 -- what the walk knows of its branch
 pub branch_of : (generators : List Generator) (layers : List (List ℕ)) (count : ℕ) (types : List (List ℕ)) (one : List ℕ) (found : Option Branch) (branch : Branch) → IsWalk generators layers count types one found → found ≡ Some branch → IsBranch generators layers count types one branch
 branch_of generators layers count types one found branch walk e = subst (λ (o : Option Branch). MatchOption o (IsOnly (Descends generators layers types) count one) (IsBranch generators layers count types one)) e walk.rest
-
-pub branch_goes_on : (generators : List Generator) (layers : List (List ℕ)) (count : ℕ) (types : List (List ℕ)) (one : List ℕ) (branch : Branch) → IsConnected generators layers → count ≤ length layers → IsBranch generators layers count types one branch → (depth : ℕ) → branch.after ≡ suc depth → CanGoOn generators layers depth (targets_at generators branch.place)
-branch_goes_on generators layers count types one branch connected within is depth e = connected depth branch.place (inside is.within) (subst (λ n. Here n) e is.there)
-  where
-    Here : ℕ → Type 0
-    Here n = has_place (layer_at layers n) branch.place ≡ true
-
-    inside : branch.after < count → suc depth < length layers
-    inside less = omega arith
 
 -- ---- what was found
 

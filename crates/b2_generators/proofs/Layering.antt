@@ -67,19 +67,6 @@ moved_none taken givers places none = record {
   only = λ place here. inl here;
 }
 
--- the same types, told by another test
-pub moved_as : (taken other : List ℕ → Bool) (old new : Givers) (before after : List ℕ) → ((type : List ℕ) → other type ≡ taken type) → Moves taken old new before after → Moves other old new before after
-moved_as taken other old new before after same moved = record {
-  stocks = λ type. moved.stocks type ∙ ap (λ b. cond b [] (stock old type)) (sym (same type));
-  stays = moved.stays;
-  comes = λ type place t here. moved.comes type place (sym (same type) ∙ t) here;
-  only = λ place here. go place (moved.only place here);
-}
-  where
-    go : (place : ℕ) → (has_place before place ≡ true) ⊎ ((type : List ℕ) × (taken type ≡ true) × (has_place (stock old type) place ≡ true)) → (has_place before place ≡ true) ⊎ ((type : List ℕ) × (other type ≡ true) × (has_place (stock old type) place ≡ true))
-    go place (inl here) = inl here
-    go place (inr w) = inr (w.0, same w.0 ∙ w.1, w.2)
-
 -- ---- the layers
 
 module _ (generators : List Generator) (set : List Pair) (end : List ℕ) where

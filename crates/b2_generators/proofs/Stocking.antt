@@ -1,19 +1,16 @@
-use Rattle.std.proofs.Common.{◌≡◌, ◌==◌, ℕ, ◌+◌, ◌<◌, ◌≤◌, Bool, true, false, cond, ◌||◌, ◌&&◌, List, [], ◌∷◌, ◌++◌, length, take, get_or, is_some, Option, Some, None, slice_get, refl, sym, ◌∙◌, ap, ap₂, ◌⊎◌, inl, inr, arith}
+use Rattle.std.proofs.Common.{◌≡◌, ◌==◌, ℕ, ◌+◌, ◌<◌, Bool, true, false, cond, ◌||◌, ◌&&◌, List, [], ◌∷◌, ◌++◌, length, take, get_or, is_some, Some, refl, sym, ◌∙◌, ap, ap₂, ◌⊎◌, inl, inr, arith}
 use Rattle.std.specs.Prelude.{nat_lt, unwrap_or}
-use Rattle.std.specs.Option.{option_map_or}
 use Rattle.std.specs.Str.{bytes_eq}
 use Rattle.std.specs.FinMap.{get, insert, from_entries, get-from_entries}
 use Rattle.std.proofs.lemmas.Cmp.{nat_list_cmp_total}
-use Rattle.std.proofs.lemmas.Bool.{or_cases, or_left, or_right, cases_order, cases_lt, lt-ltb, le-ltb, eq-eqb, ne_eqb}
+use Rattle.std.proofs.lemmas.Bool.{or_cases, or_left, or_right, cases_order, lt-ltb, le-ltb, eq-eqb, ne_eqb}
 use Rattle.std.proofs.lemmas.List.Folds.{list_any-append, list_any_more}
-use Rattle.std.proofs.lemmas.Option.{slice_get_past}
 use Rattle.b2_props.specs.Sets.{Pair}
-use Rattle.b2_props.specs.Membership.{has_all}
 use Rattle.b2_props.proofs.Pairs.{text_is, text_itself}
 use Rattle.b2_props.proofs.Gaining.{get_put, next_take}
 use Rattle.b2_generators.specs.declared.generator.Generator.{Generator}
 use Rattle.b2_generators.specs.Table.{has_text}
-use Rattle.b2_generators.specs.Places.{has_place, targets_at, gives_at, sources_at, is_taken_by}
+use Rattle.b2_generators.specs.Places.{has_place, gives_at, sources_at, is_taken_by}
 use Rattle.b2_generators.specs.Layers.{Givers, stock, Moves}
 use Rattle.b2_generators.proofs.Tables.{has_text-push}
 use Rattle.b2_generators.proofs.Layering.{moved_both, moved_none}
@@ -104,20 +101,6 @@ place_next generators set n p type = go (cases_order p n)
     go (inr (inr more)) =
         ap₂ (λ a b. (a && gives_at generators set p type) || (b && gives_at generators set n type)) (le-ltb p n (omega arith)) (ne_eqb n p (λ e. omega arith))
         ∙ ap (λ a. a && gives_at generators set p type) (sym (le-ltb p (n + 1) (omega arith)))
-
--- no generator stands past the end
-pub place_all : (generators : List Generator) (set : List Pair) (n p : ℕ) (type : List ℕ) → length generators ≤ n → (nat_lt p n && gives_at generators set p type) ≡ gives_at generators set p type
-place_all generators set n p type end = go (cases_lt p n)
-  where
-    none : (o : Option Generator) → o ≡ None → option_map_or (λ (g : Generator). has_all set g.required) o false ≡ false
-    none None e = refl
-    none (Some g) e = cc
-
-    go : (p < n) ⊎ (n ≤ p) → (nat_lt p n && gives_at generators set p type) ≡ gives_at generators set p type
-    go (inl less) = ap (λ a. a && gives_at generators set p type) (lt-ltb p n less)
-    go (inr past) =
-        ap (λ a. a && gives_at generators set p type) (le-ltb p n past)
-        ∙ sym (ap (λ a. a && has_text (targets_at generators p) type) (none (slice_get generators p) (slice_get_past generators p (omega arith))))
 
 -- ---- what is moved
 
