@@ -1,13 +1,12 @@
 use Rattle.std.proofs.Common.{◌≡◌, ◌≢◌, ℕ, suc, ◌<◌, Bool, true, false, cond, not, ◌&&◌, ◌||◌, List, [], ◌∷◌, ◌++◌, Option, Some, None, get_or, length, eqb, refl, sym, ◌∙◌, ap, ap₂, subst, arith, lit<}
 use Rattle.std.specs.List.{list_any, before_first, after_first}
-use Rattle.std.specs.Option.{option_map, IfSome}
+use Rattle.std.specs.Option.{option_map}
 use Rattle.std.specs.Borrow.{Bor}
 use Rattle.std.proofs.lemmas.Bool.Decides.{Decides-eqb}
 use Rattle.std.proofs.lemmas.Str.Pattern.{IsSplitOnceResult, split_once_first, split_parts}
 use Rattle.b2_base.specs.Bytes.{HasNoZero}
-use Rattle.b2_texts.specs.Cuts.{is_greater, named_pair, AreClean}
+use Rattle.b2_texts.specs.Cuts.{is_greater, named_pair}
 use Rattle.b2_texts.specs.Readings.{rule_name}
-use Rattle.b2_texts.proofs.Cutting.{ends_clean}
 
 no_greater : (xs : List ℕ) → ((i : ℕ) → i < length xs → get_or xs i 0 ≢ 62) → list_any is_greater xs ≡ false
 no_greater [] h = refl
@@ -43,14 +42,6 @@ named_of text rest (Some x) begins h =
     let parts = split_parts 62 rest (Some x) h (lit< tt) in
     ap₂ (λ (a b : List ℕ). let o : Option (List ℕ × List ℕ) = Some (a, b) in o) cuts.1 cuts.2
     ∙ sym (ap named_pair begins ∙ ap (λ b. cond {A = Option (List ℕ × List ℕ)} b (Some (before_first is_greater rest, after_first is_greater rest)) None) (ap (list_any is_greater) parts.0 ∙ with_greater x.0.now x.1.now))
-
-pub named_clean : (text rest : List ℕ) (r : Option (Bor (List ℕ) × Bor (List ℕ))) → text ≡ 60 ∷ rest → HasNoZero text → IsSplitOnceResult 62 rest r → IfSome r (λ parts. AreClean (parts.0.now, parts.1.now))
-named_clean text rest None begins clean h = tt
-named_clean text rest (Some x) begins clean h =
-    let parts = split_parts 62 rest (Some x) h (lit< tt) in
-    let whole : text ≡ (60 ∷ x.0.now) ++ ((62 ∷ []) ++ x.1.now) = begins ∙ ap (λ (ys : List ℕ). 60 ∷ ys) parts.0 in
-    let ends = ends_clean (60 ∷ x.0.now) (62 ∷ []) x.1.now (subst HasNoZero whole clean) in
-    record { before = λ k d within. ends.before (suc k) d (omega (arith, within)); after = ends.after }
 
 -- what is left of a text without a zero byte has none
 pub rest_clean : (text rest : List ℕ) (b : ℕ) → text ≡ b ∷ rest → HasNoZero text → HasNoZero rest
