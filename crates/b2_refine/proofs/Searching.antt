@@ -1,8 +1,8 @@
-use Rattle.std.proofs.Common.{◌≡◌, ◌≢◌, ℕ, suc, ◌<◌, ◌≤◌, ◌+◌, ◌==◌, Bool, true, false, not, ◌&&◌, List, [], ◌∷◌, Option, Some, None, length, refl, sym, ◌∙◌, ap, subst, ◌⊎◌, inl, inr, arith, below_more}
-use Rattle.std.proofs.lemmas.Bool.{and_parts, and_from, and_cases, both_ways, not-true, not-false, not_from_false, not_from_true, false_from_ne_true, cases_lt, cases_eq, eqb-true, eqb-false, cases_order, ne_eqb, cases_Bool}
+use Rattle.std.proofs.Common.{◌≡◌, ◌≢◌, ℕ, ◌<◌, ◌+◌, ◌==◌, true, false, not, ◌&&◌, List, [], ◌∷◌, Option, Some, None, length, refl, sym, ◌∙◌, subst, ◌⊎◌, inl, inr, arith, below_more}
+use Rattle.std.proofs.lemmas.Bool.{and_parts, and_cases, both_ways, not-true, false_from_ne_true, cases_eq, eqb-false}
 use Rattle.b2_props.specs.Sets.{Pair}
 use Rattle.b2_refine.specs.Choices.{counted, is_viable, is_better, clashes, IsChosen, IsFirstClash, IsChoiceOf, IsChoice}
-use Rattle.b2_refine.specs.Choosing.{improves, is_rival, IsFavourite, ClashesFirst}
+use Rattle.b2_refine.specs.Choosing.{improves, is_rival, IsFavourite}
 use Rattle.b2_refine.specs.declared.choice.Choice.{Choice}
 use Rattle.b2_refine.specs.declared.choice.Choice.TheVariants as choices
 use Rattle.b2_refine.proofs.Subsets.{better_trans, better_not_back, viable_within}
@@ -40,54 +40,7 @@ module _ (full : List Pair) (conditions : List (List Pair)) where
       let first = and_parts (is_viable full conditions i) (is_viable full conditions k) next.0 in
       (first.0, first.1, not-true _ next.1, not-true _ last.1)
 
-  clash_from : (i k : ℕ) → is_viable full conditions i ≡ true → is_viable full conditions k ≡ true → is_better conditions i k ≡ false → is_better conditions k i ≡ false → clashes full conditions i k ≡ true
-  clash_from i k a b c d = and_from _ _ (and_from _ _ (and_from _ _ a b) (not_from_false _ c)) (not_from_false _ d)
-
-  -- a clash has its second alternative within the list
-  clash_within : (i k : ℕ) → clashes full conditions i k ≡ true → k < length conditions
-  clash_within i k e = viable_within full conditions k (clash_parts i k e).1
-
-  -- nothing clashes with the alternatives before this one, and this is the first one of it
-  pub first_clash_found : (place other : ℕ) → ((i k : ℕ) → i < place → i < k → clashes full conditions i k ≡ false) → ClashesFirst full conditions place other → IsFirstClash full conditions place other
-  first_clash_found place other none found = record {
-    order = found.after;
-    clash = found.clash;
-    least_first = λ m n below e. go m n below e (cases_lt m place);
-    least_second = λ n after e. next n after e (cases_lt n other);
-  }
-    where
-      go : (m n : ℕ) → m < n → clashes full conditions m n ≡ true → (m < place) ⊎ (place ≤ m) → place ≤ m
-      go m n below e (inl before) = absurd (both_ways _ (none m n before below) e)
-      go m n below e (inr here) = here
-
-      next : (n : ℕ) → place < n → clashes full conditions place n ≡ true → (n < other) ⊎ (other ≤ n) → other ≤ n
-      next n after e (inl before) = absurd (both_ways _ (found.least n after before) e)
-      next n after e (inr here) = here
-
-  -- nothing within the list clashes with an alternative, and so nothing does
-  pub no_clash_past : (place : ℕ) → ((k : ℕ) → place < k → k < length conditions → clashes full conditions place k ≡ false) → (k : ℕ) → place < k → clashes full conditions place k ≡ false
-  no_clash_past place none k after = false_from_ne_true _ (λ e. both_ways _ (none k after (clash_within place k e)) e)
-
-  -- the same of all alternatives
-  pub no_clash_at_all : ((i k : ℕ) → i < length conditions → i < k → clashes full conditions i k ≡ false) → (i k : ℕ) → i < k → clashes full conditions i k ≡ false
-  no_clash_at_all none i k below = false_from_ne_true _ (λ e. both_ways _ (none i k (viable_within full conditions i (clash_parts i k e).0) below) e)
-
   -- ---- the choice
-
-  -- none is viable
-  pub none_viable : IsFavourite full conditions (length conditions) None → IsChoiceOf full conditions choices.None
-  none_viable none = λ place. false_from_ne_true _ (λ viable. both_ways _ (none place (viable_within full conditions place viable)) viable)
-
-  -- a favourite without a rival is chosen
-  pub favourite_chosen : (place : ℕ) → IsFavourite full conditions (length conditions) (Some place) → ((other : ℕ) → other < length conditions → is_rival full conditions place other ≡ false) → IsChosen full conditions place
-  favourite_chosen place favourite no_rival = record {
-    viable = favourite.0;
-    best = λ other viable differs. go other viable differs (cases_Bool (is_better conditions place other));
-  }
-    where
-      go : (other : ℕ) → is_viable full conditions other ≡ true → other ≢ place → ((is_better conditions place other ≡ true) ⊎ (is_better conditions place other ≡ false)) → is_better conditions place other ≡ true
-      go other viable differs (inl e) = e
-      go other viable differs (inr e) = absurd (both_ways _ (no_rival other (viable_within full conditions other viable)) (and_from _ _ (and_from _ _ (not_from_false _ (ne_eqb other place differs)) viable) (not_from_false _ e)))
 
   rival_parts : (place other : ℕ) → is_rival full conditions place other ≡ true → (other ≢ place) × (is_viable full conditions other ≡ true) × (is_better conditions place other ≡ false)
   rival_parts place other e =
@@ -105,21 +58,6 @@ module _ (full : List Pair) (conditions : List (List Pair)) where
       go : (k ≡ place) ⊎ (k ≡ place → ⊥) → ⊥
       go (inl e) = both_ways _ parts.2 (subst (λ n. is_better conditions n other ≡ true) e (chosen.best other parts.1 (λ f. parts.0 (f ∙ e))))
       go (inr differs) = both_ways _ (favourite.1 k (viable_within full conditions k chosen.viable) chosen.viable) (chosen.best place favourite.0 (λ f. differs (sym f)))
-
-  -- where the favourite has a rival, some two clash
-  pub rival_clashes : (place other : ℕ) → IsFavourite full conditions (length conditions) (Some place) → is_rival full conditions place other ≡ true → ((i k : ℕ) → i < k → clashes full conditions i k ≡ false) → ⊥
-  rival_clashes place other favourite rival none = go (cases_order place other)
-    where
-      parts : (other ≢ place) × (is_viable full conditions other ≡ true) × (is_better conditions place other ≡ false)
-      parts = rival_parts place other rival
-
-      back : is_better conditions other place ≡ false
-      back = favourite.1 other (viable_within full conditions other parts.1) parts.1
-
-      go : (place ≡ other) ⊎ ((place < other) ⊎ (other < place)) → ⊥
-      go (inl e) = parts.0 (sym e)
-      go (inr (inl before)) = both_ways _ (none place other before) (clash_from place other favourite.0 parts.1 parts.2 back)
-      go (inr (inr after)) = both_ways _ (none other place after) (clash_from other place parts.1 favourite.0 back parts.2)
 
 -- a sole alternative, which counts as one without a condition, is chosen
 pub sole_chosen : (full : List Pair) → IsChosen full ([] ∷ []) 0
@@ -146,9 +84,6 @@ counted_others (c ∷ d ∷ more) e = refl
 pub clash_choice : (full : List Pair) (conditions : List (List Pair)) (place other i k : ℕ) → IsFavourite full conditions (length conditions) (Some place) → is_rival full conditions place other ≡ true → IsFirstClash full conditions i k → IsChoiceOf full conditions (choices.Ambiguous (i + 1) (k + 1))
 clash_choice full conditions place other i k favourite rival first =
     (rival_none_chosen full conditions place other favourite rival, (i, (k, omega arith, omega arith, first)))
-
-pub chosen_choice : (full : List Pair) (conditions : List (List Pair)) (place : ℕ) → IsFavourite full conditions (length conditions) (Some place) → ((other : ℕ) → other < length conditions → is_rival full conditions place other ≡ false) → IsChoiceOf full conditions (choices.One (place + 1))
-chosen_choice full conditions place favourite no_rival = (place, omega arith, favourite_chosen full conditions place favourite no_rival)
 
 -- the choice of a list that is none of one condition, and that of a sole one
 pub choice_of_others : (full : List Pair) (conditions : List (List Pair)) (choice : Choice) → (length conditions ≡ 1 → ⊥) → IsChoiceOf full conditions choice → IsChoice full conditions choice
