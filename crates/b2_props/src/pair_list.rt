@@ -14,7 +14,7 @@ pub(crate) fn pair_with(feature: &Text, value: &Text) -> Result<(Text, Text), Ou
 }
 
 /// The same pair again.
-pub(crate) fn copy_pair(pair: &(Text, Text)) -> Result<(Text, Text), OutOfMemory>
+pub fn copy_pair(pair: &(Text, Text)) -> Result<(Text, Text), OutOfMemory>
     ensures { IfOk result (λ made. made ≡ pair.now) }
 {
     pair_with(&pair.0, &pair.1)

@@ -8,7 +8,7 @@ ghost use Rattle.b2_features.specs.Table.{HasDistinctNames};
 ghost use Rattle.b2_props.specs.Sets.{firsts, set_of, IsSet};
 ghost use Rattle.b2_references.specs.Requests.{choosable, open_values, sets_for};
 
-use crate::groups::{PairLists, by_feature, copy_pair, push_copy};
+use crate::groups::{PairLists, by_feature, push_copy};
 use crate::index::Index;
 use crate::name::TargetName;
 use crate::products::rows_after;
@@ -18,7 +18,7 @@ use b2_base::text_map::TextMap;
 use b2_features::attribute::Attribute;
 use b2_features::registry::Registry;
 use b2_props::lookups::is_with;
-use b2_props::pair_list::PairList;
+use b2_props::pair_list::{PairList, copy_pair};
 use b2_props::props::Props;
 use b2_props::refinement::set_of;
 use b2_props::request::PropsList;

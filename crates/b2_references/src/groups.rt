@@ -9,7 +9,7 @@ use b2_base::fault::OutOfMemory;
 use b2_base::list::List;
 use b2_base::text::Text;
 use b2_base::text_map::TextMap;
-use b2_props::pair_list::PairList;
+use b2_props::pair_list::{PairList, copy_pair};
 use std::alloc::Global;
 
 /// Lists of pairs in order.
@@ -20,14 +20,6 @@ pub(crate) type PairLists = List<PairList>;
 pub(crate) struct Groups {
     lists: Vec<PairList>,
     places: TextMap<usize>,
-}
-
-/// The same pair.
-pub(crate) fn copy_pair(pair: &(Text, Text)) -> Result<(Text, Text), OutOfMemory>
-    ensures { IfOk result (λ made. made ≡ pair.now) }
-{
-    let feature = pair.0.copy()?;
-    Ok((feature, pair.1.copy()?))
 }
 
 /// Adds a pair at the end.
