@@ -4,11 +4,11 @@ ghost use Rattle.std.specs.Option.{option_copied, option_and_then};
 ghost use Rattle.b2_references.specs.Names.{alternatives, lineage, default_build, dir_of, target_text, first_list};
 
 use crate::index::Index;
-use crate::written::reference_to;
 use b2_base::fault::OutOfMemory;
 use b2_base::path::{Path, path_of};
 use b2_base::text::Text;
 use b2_metatargets::place::{Place, Target};
+use b2_texts::completion::reference_to;
 use std::alloc::Global;
 
 /// The folder.

@@ -24,7 +24,7 @@ fn shown_dir(dir: &Path) -> &str
 }
 
 /// A directory and a name as a reference.
-fn reference_to(alloc: Global, dir: &Path, name: &str) -> Result<Text, OutOfMemory>
+pub fn reference_to(alloc: Global, dir: &Path, name: &str) -> Result<Text, OutOfMemory>
     requires { HasNoZero name.now }
     ensures { IfOk result (λ made. made ≡ reference_to dir.now name.now) }
 {

@@ -2,7 +2,7 @@
 #![tactic(auto)]
 
 pub mod clashes;
-mod completion;
+pub mod completion;
 pub mod cuts;
 pub mod lists;
 pub mod missing;
