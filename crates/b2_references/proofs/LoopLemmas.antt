@@ -16,12 +16,12 @@ use Rattle.b2_features.specs.declared.attribute.Attribute.TheVariants.{Free}
 use Rattle.b2_features.specs.Table.{Declared}
 use Rattle.b2_features.specs.Faults.{is_with}
 use Rattle.b2_features.proofs.Lookups.{position-push}
-use Rattle.b2_props.specs.Sets.{Pair, same, value_of, firsts}
+use Rattle.b2_props.specs.Sets.{Pair, same, firsts}
 use Rattle.b2_props.specs.Membership.{has}
 use Rattle.b2_props.specs.Refinement.{names}
 use Rattle.b2_props.specs.Requests.{product}
 use Rattle.b2_props.proofs.Gaining.{next_take, next_at, get_put, options_next as options_at}
-use Rattle.b2_props.proofs.Pairs.{text_is, text_sym, option_or-none, value_of-append, firsts_push, same_sym}
+use Rattle.b2_props.proofs.Pairs.{text_is, text_sym, option_or-none, firsts_push, same_sym}
 use Rattle.b2_props.proofs.Rows.{product-push}
 use Rattle.b2_references.specs.Names.{first_list, lineage_in}
 use Rattle.b2_references.specs.Requests.{choosable}
@@ -33,9 +33,6 @@ use Rattle.b2_references.proofs.NameLemmas.{number_is}
 module _ {X : Type 0} (xs : List X) (i : ℕ) (x : X) (within : i < length xs) (is : x ≡ get_or xs i x) where
   pub flat_next : {Y : Type 0} (f : X → List Y) → flat_map f (take (i + 1) xs) ≡ flat_map f (take i xs) ++ f x
   flat_next f = ap (flat_map f) (next_take xs i x within is) ∙ flat_map-append f (take i xs) (x ∷ []) ∙ ap (λ ys. flat_map f (take i xs) ++ ys) (append-nil (f x))
-
-  pub filter_next : (t : X → Bool) → filter t (take (i + 1) xs) ≡ filter t (take i xs) ++ cond (t x) (x ∷ []) []
-  filter_next t = ap (filter t) (next_take xs i x within is) ∙ filter-append t (take i xs) (x ∷ [])
 
   pub options_next : {Y : Type 0} (f : X → Option Y) → filter_map f (take (i + 1) xs) ≡ filter_map f (take i xs) ++ option_to_list (f x)
   options_next f = options_at f xs i x (slice_get_read xs (length xs) i x refl within is)

@@ -4,7 +4,7 @@ use Rattle.std.specs.Str.{bytes_eq}
 use Rattle.std.proofs.lemmas.Bool.Decides.{Decides-eqb}
 use Rattle.std.proofs.lemmas.List.{append-nil}
 use Rattle.std.proofs.lemmas.List.Elements.{filter-append}
-use Rattle.b2_props.proofs.Pairs.{text_is, text_sym, text_itself}
+use Rattle.b2_props.proofs.Pairs.{text_is, text_sym}
 use Rattle.b2_references.specs.Names.{Name, is_same, is_among, first_names}
 
 -- ---- numbers
@@ -31,9 +31,6 @@ number_sym a b = go (eqb a b) (eqb b a) refl refl
 
 pub name_sym : (a b : Name) → is_same a b ≡ is_same b a
 name_sym a b = ap₂ ◌&&◌ (number_sym a.0 b.0) (text_sym a.1 b.1)
-
-pub name_itself : (a : Name) → is_same a a ≡ true
-name_itself a = ap₂ ◌&&◌ (number_itself a.0) (text_itself a.1)
 
 pub name_is : (a b : Name) → is_same a b ≡ true → a ≡ b
 name_is a b e = go (eqb a.0 b.0) (bytes_eq a.1 b.1) refl refl e

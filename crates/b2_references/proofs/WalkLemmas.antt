@@ -158,13 +158,6 @@ walk_goes_on d end project found next found_then next_then w s = go w.turns w.en
       leads = sym (ap (λ xs. walked d (suc t) found xs) (reverse-append next (project ∷ [])) ∙ one t) ∙ leads;
     }
 
-pub walk_ends : (d : Declared) (end found : List ℕ) → LeadsTo d end found [] → found ≡ end
-walk_ends d end found w = sym (go w.turns) ∙ w.leads
-  where
-    go : (t : ℕ) → walked d t found [] ≡ found
-    go zero = refl
-    go (suc t) = refl
-
 pub walk_begins_at : (d : Declared) (project : ℕ) (found next : List ℕ) → found ≡ [] → next ≡ project ∷ [] → LeadsTo d (projects_under d project) found next
 unfolding projects_under
 walk_begins_at d project found next none one = subst (λ xs. LeadsTo d (projects_under d project) xs next) (sym none) (subst (λ xs. LeadsTo d (projects_under d project) [] xs) (sym one) (walk_begins d project))
