@@ -8,7 +8,7 @@ use Rattle.b2_props.proofs.Pairs.{value_of-append, option_or-none}
 use Rattle.b2_props.proofs.Gaining.{next_take}
 use Rattle.b2_alternatives.specs.Needs.{other_value, conflict_after}
 use Rattle.b2_alternatives.specs.Standing.{AreValues}
-use Rattle.b2_alternatives.specs.Conflicting.{HasFirst, Meets}
+use Rattle.b2_alternatives.specs.Conflicting.{HasFirst}
 use Rattle.b2_alternatives.specs.declared.conflict.Conflict.{Conflict}
 use Rattle.b2_alternatives.specs.declared.conflict.Values.{Values}
 
@@ -50,13 +50,3 @@ module _ (table : List Declared) (before pairs : List Pair) (i : ℕ) (x : Pair)
     where
       kept_at : AreValues (now ++ x ∷ []) new → AreValues (before ++ take (i + 1) pairs) new
       kept_at v = record { first = λ q. v.first q ∙ sym (ap (λ ps. value_of ps q) next) }
-
-  -- the first pair that does not
-  pub met_stop : (old : Values) (v : List ℕ) (found : Conflict) → IsMet table before pairs i old → other_value table now x ≡ Some v → found ≡ record { feature = x.0; first = v; second = x.1 } → Meets table before pairs old (Some found)
-  met_stop old v found met other same = record {
-    exact =
-        ap (λ (c : Conflict). Some c) same
-        ∙ sym (ap (λ o. option_or (option_map (λ value. let f : Conflict = record { feature = x.0; first = value; second = x.1 } in f) o) (conflict_after table (now ++ x ∷ []) (drop (i + 1) pairs))) other)
-        ∙ sym cut ∙ met.exact;
-    kept = tt;
-  }

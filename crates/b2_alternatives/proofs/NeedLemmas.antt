@@ -3,8 +3,7 @@ use Rattle.std.specs.List.{find, list_all}
 use Rattle.std.specs.Option.{option_map_or}
 use Rattle.std.proofs.lemmas.Bool.{and_parts, not-true, false≢true}
 use Rattle.std.proofs.lemmas.List.{at_drop_more, at_drop_all}
-use Rattle.std.proofs.lemmas.List.Folds.{list_any-append, list_all-append}
-use Rattle.b2_props.proofs.Gaining.{next_take}
+use Rattle.std.proofs.lemmas.List.Folds.{list_any-append}
 use Rattle.b2_references.specs.Names.{Name, is_same, is_among}
 use Rattle.b2_references.specs.declared.meaning.Meaning.{Meaning}
 use Rattle.b2_references.specs.declared.meaning.Meaning.TheVariants.{File, Targets, Nothing}
@@ -41,15 +40,6 @@ next_unmet done text (Targets names) after e = go (first_due done names) e
     go None e = absurd (false≢true (sym e))
     go (Some n) e = refl
 next_unmet done text Nothing after e = refl
-
-met_of_complete : (done : List Name) (text : List ℕ) (m : Meaning) → is_complete (next_by done text m Complete) ≡ true → is_met_by done m ≡ true
-met_of_complete done text (File path) e = refl
-met_of_complete done text (Targets names) e = go (first_due done names) e
-  where
-    go : (o : Option Name) → is_complete (option_map_or Due o Complete) ≡ true → not (is_some o) ≡ true
-    go None e = refl
-    go (Some n) e = absurd (false≢true e)
-met_of_complete done text Nothing e = absurd (false≢true e)
 
 -- ---- one more name is generated
 
@@ -95,15 +85,6 @@ from_place : (done : List Name) (needs : List Need) (place : ℕ) → AreMet don
 from_place done needs place are = ap (next_among done) (sym (take-append-drop place needs)) ∙ skips done (take place needs) (drop place needs) are.met
 
 module _ (done : List Name) (needs : List Need) (i : ℕ) (x : Need) (within : i < length needs) (is : x ≡ get_or needs i x) where
-  -- one more need that is met
-  pub met_more : (next : Next) → AreMet done needs i → next ≡ next_by done x.text x.meaning Complete → is_complete next ≡ true → AreMet done needs (i + 1)
-  met_more next are e complete = record {
-    within = omega arith;
-    met =
-        ap (list_all (is_met done)) (next_take needs i x within is) ∙ list_all-append (is_met done) (take i needs) (x ∷ [])
-        ∙ ap₂ (λ (a b : Bool). a && (b && true)) are.met (met_of_complete done x.text x.meaning (ap is_complete (sym e) ∙ complete));
-  }
-
   -- the first need that is not
   pub finds_here : (next : Next) → AreMet done needs i → next ≡ next_by done x.text x.meaning Complete → is_complete next ≡ false → Finds done needs i next
   finds_here next are e open_need = record {
