@@ -1,15 +1,8 @@
-use Rattle.std.proofs.Common.{◌≡◌, ℕ, suc, ◌+◌, ◌<◌, List, [], ◌∷◌, ◌++◌, Option, Some, None, Ok, Err, is_some, take, drop, get_or, length, refl, ◌∙◌, ap, lit<}
-use Rattle.std.specs.Prelude.{codes}
+use Rattle.std.proofs.Common.{◌≡◌, ℕ, suc, ◌+◌, ◌<◌, List, [], ◌∷◌, ◌++◌, Option, Some, None, is_some, take, drop, get_or, length, refl, ◌∙◌, ap}
 use Rattle.std.specs.Option.{option_map, option_map_or}
-use Rattle.std.proofs.lemmas.List.Elements.{All-append, All-from_recursion}
-use Rattle.b2_base.specs.Bytes.{HasNoZero}
-use Rattle.b2_features.specs.declared.fault.FeatureFault.{FeatureFault}
-use Rattle.b2_features.specs.declared.fault.FeatureFault.TheVariants.{Twice, Unknown, BadValue, ComposeConflict, OutOfMemory}
 use Rattle.b2_props.specs.Sets.{Pair}
 use Rattle.b2_props.proofs.Gaining.{next_take}
-use Rattle.b2_texts.specs.Readings.{property_of, property_reading, IsFaultOf}
 use Rattle.b2_texts.proofs.Listing.{around}
-use Rattle.b2_texts.proofs.Pieces.{clean_pieces}
 use Rattle.b2_features.specs.Table.{Declared as Feature}
 use Rattle.b2_metatargets.specs.declared.whole.Declared.{Declared}
 use Rattle.b2_alternatives.specs.declared.reading.Reading.{Reading}
@@ -22,26 +15,7 @@ some_mapped f (Some x) = refl
 
 -- ---- one text
 
-read_ok : (o : Option Pair) (fault : FeatureFault) (p : Pair) → option_map_or Ok o (Err fault) ≡ Ok p → o ≡ Some p
-read_ok None fault p e = cc
-read_ok (Some q) fault p e = cc
-
-read_none : (o : Option Pair) (fault other : FeatureFault) → option_map_or Ok o (Err fault) ≡ Err other → o ≡ None
-read_none None fault other e = refl
-read_none (Some q) fault other e = cc
-
 module _ (table : List Feature) (dir text : List ℕ) where
-  -- a text that reads as a property
-  pub property_read : (p : Pair) → property_reading table dir text ≡ Ok p → property_of table dir text ≡ Some p
-  property_read p e = read_ok (property_of table dir text) _ p e
-
-  -- a text that does not
-  pub property_none : (fault : FeatureFault) → IsFaultOf (property_reading table dir text) fault → (fault ≡ OutOfMemory → ⊥) → property_of table dir text ≡ None
-  property_none (Twice word) is other = read_none (property_of table dir text) _ (Twice word) is
-  property_none (Unknown word) is other = read_none (property_of table dir text) _ (Unknown word) is
-  property_none (BadValue word) is other = read_none (property_of table dir text) _ (BadValue word) is
-  property_none (ComposeConflict word) is other = read_none (property_of table dir text) _ (ComposeConflict word) is
-  property_none OutOfMemory is other = absurd (other refl)
 
 -- ---- several texts
 
@@ -83,8 +57,3 @@ module _ (d : Declared) (dir : List ℕ) where
     answered_stop e =
         ap (answered d dir) (around texts i text within is) ∙ answered-append (take i texts) (text ∷ drop (suc i) texts) pairs so_far
         ∙ ap (λ o. after_pairs pairs (option_map_or (λ q. read_before q (answered d dir (drop (suc i) texts))) o (Bad text))) e
-
--- ---- a property as a text
-
-pub clean_text : (feature value : List ℕ) → HasNoZero feature → HasNoZero value → HasNoZero (codes "<" ++ (feature ++ (codes ">" ++ value)))
-clean_text feature value f v = All-append (λ byte. 0 < byte) (codes "<") (feature ++ (codes ">" ++ value)) (All-from_recursion (λ byte. 0 < byte) (codes "<") (lit< tt, tt)) (clean_pieces feature (codes ">") value f (All-from_recursion (λ byte. 0 < byte) (codes ">") (lit< tt, tt)) v)

@@ -7,6 +7,7 @@ use Rattle.b2_features.specs.Table.{Declared as Feature}
 use Rattle.b2_features.specs.Faults.{is_with}
 use Rattle.b2_props.specs.Sets.{Pair, set_of}
 use Rattle.b2_props.specs.Refinement.{expanded}
+pub use Rattle.b2_props.specs.Texts.{property_text}
 use Rattle.b2_props.specs.declared.requirement.Requirement.{Requirement}
 use Rattle.b2_refine.specs.Answers.{Answer}
 use Rattle.b2_refine.specs.Conditions.{unconditional, IsSettled, IsUnstable, IsAsked}
@@ -28,10 +29,6 @@ use Rattle.b2_alternatives.specs.declared.fault.ChoiceFault.TheVariants.{NoAlter
 -- why it returns nothing.
 abbrev pub Returned : Type 0 → Type 0
 Returned E = (project : ℕ) (rule : List ℕ) (line : ℕ) (properties : List (List ℕ)) → Result (List (List ℕ)) E
-
--- a property as a text, `<feature>value`
-abbrev pub property_text : Pair → List ℕ
-property_text p = codes "<" ++ p.0 ++ codes ">" ++ p.1
 
 -- what is settled on: a main target, the number of its alternative, the alternative, and the set of its properties
 pub record Chosen : Type 0 where

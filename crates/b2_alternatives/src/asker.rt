@@ -6,12 +6,13 @@ ghost use Rattle.b2_alternatives.specs.Asking.{is_eval, is_memory, IsKnown, told
 ghost use Rattle.b2_alternatives.specs.declared.fault.ChoiceFault.TheVariants as faults;
 
 use crate::fault::ChoiceFault;
-use crate::reading::{Reading, answered, property_texts};
+use crate::reading::{Reading, answered};
 use b2_base::fault::OutOfMemory;
 use b2_base::text::Text;
 use b2_evaluation::evaluate::Evaluate;
 use b2_metatargets::place::IndirectRule;
 use b2_props::pair_list::PairList;
+use b2_props::property_texts::property_texts;
 use b2_props::props::Props;
 use b2_references::index::Index;
 use b2_references::name::TargetName;

@@ -1,13 +1,11 @@
 //! The texts that the rule of an indirect requirement returned.
-ghost use Rattle.std.specs.Prelude.{◌≡◌, ◌∷◌, is_some, map, codes, IfOk, option_map};
+ghost use Rattle.std.specs.Prelude.{◌≡◌, ◌∷◌, is_some, codes, IfOk, option_map};
 ghost use Rattle.b2_texts.specs.Cuts.{cut_at};
-ghost use Rattle.b2_alternatives.specs.Choosing.{property_text, answered_pair, answered};
+ghost use Rattle.b2_alternatives.specs.Choosing.{answered_pair, answered};
 
 use b2_base::fault::OutOfMemory;
-use b2_base::list::List;
 use b2_base::path::Path;
 use b2_base::text::Text;
-use b2_base::text_list::TextList;
 use b2_features::fault::FeatureFault;
 use b2_features::registry::Registry;
 use b2_metatargets::whole::Declared;
@@ -20,29 +18,6 @@ use std::alloc::Global;
 pub enum Reading {
     Properties(PairList),
     Bad(Text),
-}
-
-/// A property as a text, `<feature>value`.
-fn property_text(alloc: Global, property: &(Text, Text)) -> Result<Text, OutOfMemory>
-    ensures { IfOk result (λ text. text ≡ property_text property.now) }
-{
-    let feature = property.0.as_str();
-    let value = property.1.as_str();
-    Ok(Text::from_string(format!(in alloc; "<{feature}>{value}")?))
-}
-
-/// Properties as texts, in order.
-pub(crate) fn property_texts(
-    alloc: Global,
-    properties: &[(Text, Text)],
-) -> Result<TextList, OutOfMemory>
-    ensures { IfOk result (λ texts. texts ≡ map property_text properties.now) }
-{
-    let mut texts = List::new(alloc);
-    for property in properties {
-        texts.push(property_text(alloc, property)?)?;
-    }
-    Ok(texts)
 }
 
 /// Whether a text has conditions.

@@ -16,11 +16,6 @@ use Rattle.b2_conversions.specs.Steps.{location_of, include_dirs, values_of}
 
 -- ---- no zero byte
 
-pub clean_property : (feature value : List ℕ) → HasNoZero feature → HasNoZero value → HasNoZero (codes "<" ++ (feature ++ (codes ">" ++ value)))
-clean_property feature value f v =
-    clean_both (codes "<") (feature ++ (codes ">" ++ value)) (All-from_recursion (λ byte. 0 < byte) (codes "<") (lit< tt, tt))
-    (clean_both feature (codes ">" ++ value) f (clean_both (codes ">") value (All-from_recursion (λ byte. 0 < byte) (codes ">") (lit< tt, tt)) v))
-
 quote_clean : HasNoZero (codes "\"")
 quote_clean = All-from_recursion (λ byte. 0 < byte) (codes "\"") (lit< tt, tt)
 

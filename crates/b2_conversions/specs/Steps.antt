@@ -4,6 +4,7 @@ use Rattle.std.specs.Str.{bytes_eq}
 use Rattle.b2_base.specs.Segments.{normal_of}
 use Rattle.b2_props.specs.Sets.{Pair, value_of}
 use Rattle.b2_props.specs.Elements.{dir_text}
+use Rattle.b2_props.specs.Texts.{property_text}
 use Rattle.b2_plan.specs.declared.step.Step.{Step}
 use Rattle.b2_plan.specs.Sources.{IsInRoots}
 use Rattle.b2_virtual.specs.Paths.{name_of as file_name, output_path, located, IsPlaced}
@@ -20,10 +21,6 @@ paths_of entries = map (λ e. e.path) entries
 -- the values of a feature in a set, in order
 abbrev pub values_of : List Pair → List ℕ → List (List ℕ)
 values_of set feature = map (λ p. p.1) (filter (λ p. bytes_eq feature p.0) set)
-
--- a property as a text, `<feature>value`
-abbrev pub property_text : Pair → List ℕ
-property_text p = codes "<" ++ p.0 ++ codes ">" ++ p.1
 
 -- the last `<location>` of a set
 abbrev pub location_of : List Pair → Option (List ℕ)

@@ -3,8 +3,9 @@ ghost use Rattle.std.specs.Prelude.{◌≡◌, ◌++◌, ◌∷◌, [], codes, m
 ghost use Rattle.std.specs.Option.{option_copied};
 ghost use Rattle.b2_base.specs.Bytes.{HasNoZero};
 ghost use Rattle.jam_eval.specs.StepJobs.{job_of, step_answer};
+ghost use Rattle.b2_props.specs.Texts.{property_text};
 ghost use Rattle.b2_conversions.specs.Contexts.{site_of};
-ghost use Rattle.b2_conversions.specs.Steps.{paths_of, property_text, location_of, include_dirs, job, step_of};
+ghost use Rattle.b2_conversions.specs.Steps.{paths_of, location_of, include_dirs, job, step_of};
 ghost use Rattle.b2_conversions.specs.Conversions.{copy_step};
 
 use crate::site::Site;
@@ -14,6 +15,7 @@ use b2_base::path_list::PathList;
 use b2_base::text::Text;
 use b2_base::text_list::TextList;
 use b2_plan::step::Step;
+use b2_props::property_texts::property_texts;
 use b2_props::props::Props;
 use b2_supplies::entry::Entry;
 use jam_eval::step::{StepJob, StepText};
@@ -28,25 +30,6 @@ fn paths_of(alloc: Global, entries: &[Entry]) -> Result<PathList, OutOfMemory>
         paths.push(entry.path.copy()?)?;
     }
     Ok(paths)
-}
-
-fn property_text(alloc: Global, pair: &(Text, Text)) -> Result<Text, OutOfMemory>
-    ensures { IfOk result (λ text. text ≡ property_text pair.now) }
-{
-    let feature = pair.0.as_str();
-    let value = pair.1.as_str();
-    Ok(Text::from_string(format!(in alloc; "<{feature}>{value}")?))
-}
-
-/// The properties of a set as texts, in order.
-fn property_texts(alloc: Global, set: &Props) -> Result<TextList, OutOfMemory>
-    ensures { IfOk result (λ texts. texts ≡ map property_text set.now) }
-{
-    let mut texts = TextList::new(alloc);
-    for pair in set.pairs() {
-        texts.push(property_text(alloc, pair)?)?;
-    }
-    Ok(texts)
 }
 
 /// The value of the last `<location>` of a set; takes no memory.
@@ -132,7 +115,7 @@ fn job_lists(
 {
     let outs = paths_of(alloc, outs)?;
     let ins = paths_of(alloc, ins)?;
-    let props = property_texts(alloc, site.set)?;
+    let props = property_texts(alloc, site.set.pairs())?;
     Ok(JobLists { outs, ins, props })
 }
 

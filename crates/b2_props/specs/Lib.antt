@@ -10,3 +10,4 @@ pub mod Words
 pub mod Requests
 pub mod Ways
 pub mod Meeting
+pub mod Texts

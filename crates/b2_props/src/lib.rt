@@ -12,6 +12,7 @@ mod numbered;
 pub mod pair_index;
 pub mod pair_list;
 mod product;
+pub mod property_texts;
 pub mod props;
 pub mod refinement;
 pub mod request;

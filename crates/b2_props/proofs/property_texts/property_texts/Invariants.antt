@@ -1,6 +1,6 @@
 use Rattle.std.proofs.Common.{◌≡◌, map, take}
-use Rattle.b2_alternatives.specs.Choosing.{property_text}
-use Rattle.b2_alternatives.proofs.reading.property_texts.Given as goal
+use Rattle.b2_props.specs.Texts.{property_text}
+use Rattle.b2_props.proofs.property_texts.property_texts.Given as goal
 
 -- the texts so far
 abbrev pub invariant-loop-property : goal.invariant-loop-property
