@@ -89,12 +89,6 @@ field_none (x ∷ s) (y ∷ t) u v e none =
     let p = next_free (Some x) (Some y) (flat_map escaped s ++ u) (field t ++ v) (sym (append_assoc (escaped x) (flat_map escaped s) u) ∙ e ∙ field_cons y t v) in
     field_none s t u v p.1 none
 
--- the bytes so far, and one more
-pub escaped_more : (bytes s rest after : List ℕ) (b : ℕ) → bytes ≡ flat_map escaped s ++ rest → rest ≡ next_bytes (Some b) ++ after → bytes ≡ flat_map escaped (s ++ b ∷ []) ++ after
-escaped_more bytes [] rest after b e f = e ∙ f ∙ simp append_assoc
-escaped_more bytes (x ∷ s) rest after b e f =
-    e ∙ append_assoc (escaped x) (flat_map escaped s) rest ∙ ap (λ (w : List ℕ). escaped x ++ w) (escaped_more (flat_map escaped s ++ rest) s rest after b refl f) ∙ sym (append_assoc (escaped x) (flat_map escaped (s ++ b ∷ [])) after)
-
 -- the field ends
 pub field_ends : (bytes s rest after : List ℕ) → bytes ≡ flat_map escaped s ++ rest → rest ≡ next_bytes None ++ after → bytes ≡ field s ++ after
 unfolding field

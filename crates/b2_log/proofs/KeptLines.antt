@@ -9,13 +9,11 @@ use Rattle.b2_log.specs.declared.line.LogLine.{LogLine}
 use Rattle.b2_log.specs.declared.subject.Subject.{Subject}
 use Rattle.b2_log.specs.Lines.{spelling, log_bytes}
 use Rattle.b2_log.specs.Good.{IsGood}
-use Rattle.b2_log.specs.Readings.{IsReading}
 use Rattle.b2_log.specs.Finding.{subject_of, is_about, is_drop, last_line, told_by, told, is_kept, kept}
 use Rattle.b2_log.specs.Laws.{KeptIsTold, KeptAgain}
 use Rattle.b2_log.specs.Places.{IsIndexed, kept_at}
 use Rattle.b2_log.proofs.LastLines.{false_true, subject_is, subject_self, or_first, last_cons, told_is_there}
 use Rattle.b2_log.proofs.Places.{kept_by_place}
-use Rattle.b2_log.proofs.ReadLogs.{reading_whole}
 
 -- ---- why a line is kept or not
 
@@ -211,11 +209,3 @@ past_end (x ∷ xs) (suc k) le = past_end xs k (omega arith)
 
 all_written : (log : List LogLine) (bytes : List ℕ) (k : ℕ) → length log ≤ k → (so : KeptSo log bytes k) → so.written ≡ kept log
 all_written log bytes k le so = sym (append-nil so.written) ∙ ap (λ (ls : List LogLine). so.written ++ kept ls) (sym (past_end log k le)) ∙ so.whole
-
-pub kept_bytes : (log : List LogLine) (bytes : List ℕ) (k : ℕ) → length log ≤ k → KeptSo log bytes k → bytes ≡ log_bytes (kept log)
-kept_bytes log bytes k le so = so.spelled ∙ ap log_bytes (all_written log bytes k le so)
-
-pub kept_reading : (log : List LogLine) (bytes : List ℕ) (k : ℕ) → length log ≤ k → KeptSo log bytes k → IsReading bytes (kept log) (length bytes)
-kept_reading log bytes k le so =
-    subst (λ (w : List ℕ). IsReading w (kept log) (length w)) (sym (kept_bytes log bytes k le so))
-    (reading_whole (kept log) (subst (AllByRecursion IsGood) (all_written log bytes k le so) so.each))

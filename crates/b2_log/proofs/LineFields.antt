@@ -36,9 +36,6 @@ lists_free spell IsSo free =
 step_free : {X : Type 0} (spell : X → List ℕ) (IsSo : X → Type 0) → IsFree spell IsSo → IsFree (step spell) (IsStep IsSo)
 step_free spell IsSo free = both_is_free field IsText (lists spell) (AreLists IsSo) (field_is_free IsText) (lists_free spell IsSo free)
 
-step_textless : {X : Type 0} (spell : X → List ℕ) (IsSo : X → Type 0) (bytes : List ℕ) → BeginsNone field IsText bytes → BeginsNone (step spell) (IsStep IsSo) bytes
-step_textless spell IsSo bytes none = both_firstless field IsText (lists spell) (AreLists IsSo) bytes none
-
 step_outless : {X : Type 0} (spell : X → List ℕ) (IsSo : X → Type 0) (bytes text middle : List ℕ) → Begins field IsText bytes text middle → BeginsNone (counted spell) (IsCounted IsSo) middle → BeginsNone (step spell) (IsStep IsSo) bytes
 step_outless spell IsSo bytes text middle p none =
     both_secondless field IsText (lists spell) (AreLists IsSo) (field_is_free IsText) bytes text middle p
@@ -78,9 +75,6 @@ plain_made (lines.Scan s) p = let e : tags.Scan ≡ tags.Record = p.tagged in ab
 abbrev plain_none : (bytes : List ℕ) → BeginsNone (step stamped) (IsStep IsStamped) bytes → BeginsNone fields_of (IsReadAs tags.Record) bytes
 plain_none = made_none (step stamped) (IsStep IsStamped) fields_of (IsReadAs tags.Record) plain_record plain_made
 
-pub record_textless : (bytes : List ℕ) → BeginsNone field IsText bytes → BeginsNone fields_of (IsReadAs tags.Record) bytes
-record_textless bytes none = plain_none bytes (step_textless stamped IsStamped bytes none)
-
 pub record_outless : (bytes text middle : List ℕ) → Begins field IsText bytes text middle → BeginsNone (counted stamped) (IsCounted IsStamped) middle → BeginsNone fields_of (IsReadAs tags.Record) bytes
 record_outless bytes text middle p none = plain_none bytes (step_outless stamped IsStamped bytes text middle p none)
 
@@ -88,19 +82,7 @@ pub record_inless : (bytes text middle : List ℕ) (outs : List (List ℕ × ℕ
     → BeginsNone (counted stamped) (IsCounted IsStamped) last → BeginsNone fields_of (IsReadAs tags.Record) bytes
 record_inless bytes text middle outs last p q none = plain_none bytes (step_inless stamped IsStamped stamped_is_free bytes text middle outs last p q none)
 
-pub record_found : (bytes text middle : List ℕ) (outs : List (List ℕ × ℕ)) (last : List ℕ) (ins : List (List ℕ × ℕ)) (rest : List ℕ) → Begins field IsText bytes text middle → Begins (counted stamped) (IsCounted IsStamped) middle outs last
-    → Begins (counted stamped) (IsCounted IsStamped) last ins rest → Begins fields_of (IsReadAs tags.Record) bytes (lines.Record (record { text = text; outs = outs; ins = ins; digests = None })) rest
-record_found bytes text middle outs last ins rest p q r =
-    let found = step_found stamped IsStamped bytes text middle outs last ins rest p q r in
-    record { so = record { fields = record { text = p.so; outs = q.so; ins = r.so; digests = tt }; tagged = refl }; split = found.split }
-
 -- ---- records with digests
-
-abbrev first_of_pair : (List ℕ × ℕ) × List ℕ → List ℕ × ℕ
-first_of_pair p = p.0
-
-abbrev second_of_pair : (List ℕ × ℕ) × List ℕ → List ℕ
-second_of_pair p = p.1
 
 abbrev digested_record : List ℕ × (List ((List ℕ × ℕ) × List ℕ) × List ((List ℕ × ℕ) × List ℕ)) → LogLine
 digested_record s = lines.Record (record {
@@ -127,9 +109,6 @@ digested_made (lines.Scan s) p = let e : tags.Scan ≡ tags.Digested = p.tagged 
 
 abbrev digested_none : (bytes : List ℕ) → BeginsNone (step digested) (IsStep IsDigested) bytes → BeginsNone fields_of (IsReadAs tags.Digested) bytes
 digested_none = made_none (step digested) (IsStep IsDigested) fields_of (IsReadAs tags.Digested) digested_record digested_made
-
-pub digested_textless : (bytes : List ℕ) → BeginsNone field IsText bytes → BeginsNone fields_of (IsReadAs tags.Digested) bytes
-digested_textless bytes none = digested_none bytes (step_textless digested IsDigested bytes none)
 
 pub digested_outless : (bytes text middle : List ℕ) → Begins field IsText bytes text middle → BeginsNone (counted digested) (IsCounted IsDigested) middle → BeginsNone fields_of (IsReadAs tags.Digested) bytes
 digested_outless bytes text middle p none = digested_none bytes (step_outless digested IsDigested bytes text middle p none)
@@ -167,9 +146,6 @@ drop_made (lines.Record r) p = not_drop r.digests p.tagged
 drop_made (lines.Drop outs) p = record { from = outs; so = p.fields; is = refl; spelled = refl }
 drop_made (lines.Scan s) p = let e : tags.Scan ≡ tags.Drop = p.tagged in absurd cc
 
-pub drop_none : (bytes : List ℕ) → BeginsNone (counted field) (IsCounted IsPath) bytes → BeginsNone fields_of (IsReadAs tags.Drop) bytes
-drop_none = made_none (counted field) (IsCounted IsPath) fields_of (IsReadAs tags.Drop) lines.Drop drop_made
-
 -- ---- scans
 
 abbrev scan_parts : (List ℕ × ℕ) × List (List ℕ × Bool) → List ℕ
@@ -199,9 +175,6 @@ list_free = counted_is_free included IsIncluded included_is_free
 file_free : IsFree (both field number) (AreBoth IsPath IsNumber)
 file_free = both_is_free field IsPath number IsNumber (field_is_free IsPath) number_is_free
 
-pub scan_pathless : (bytes : List ℕ) → BeginsNone field IsPath bytes → BeginsNone fields_of (IsReadAs tags.Scan) bytes
-scan_pathless bytes none = scan_none bytes (both_firstless (both field number) (AreBoth IsPath IsNumber) (counted included) (IsCounted IsIncluded) bytes (both_firstless field IsPath number IsNumber bytes none))
-
 pub scan_stampless : (bytes path middle : List ℕ) → Begins field IsPath bytes path middle → BeginsNone number IsNumber middle → BeginsNone fields_of (IsReadAs tags.Scan) bytes
 scan_stampless bytes path middle p none =
     scan_none bytes (both_firstless (both field number) (AreBoth IsPath IsNumber) (counted included) (IsCounted IsIncluded) bytes (both_secondless field IsPath number IsNumber (field_is_free IsPath) bytes path middle p none))
@@ -209,12 +182,6 @@ scan_stampless bytes path middle p none =
 pub scan_includeless : (bytes path middle : List ℕ) (stamp : ℕ) (last : List ℕ) → Begins field IsPath bytes path middle → Begins number IsNumber middle stamp last → BeginsNone (counted included) (IsCounted IsIncluded) last → BeginsNone fields_of (IsReadAs tags.Scan) bytes
 scan_includeless bytes path middle stamp last p q none =
     scan_none bytes (both_secondless (both field number) (AreBoth IsPath IsNumber) (counted included) (IsCounted IsIncluded) file_free bytes (path, stamp) last (both_found field IsPath number IsNumber bytes path middle stamp last p q) none)
-
-pub scan_found : (bytes path middle : List ℕ) (stamp : ℕ) (last : List ℕ) (includes : List (List ℕ × Bool)) (rest : List ℕ) → Begins field IsPath bytes path middle → Begins number IsNumber middle stamp last
-    → Begins (counted included) (IsCounted IsIncluded) last includes rest → Begins fields_of (IsReadAs tags.Scan) bytes (lines.Scan (record { path = path; stamp = stamp; includes = includes })) rest
-scan_found bytes path middle stamp last includes rest p q r =
-    let found = both_found (both field number) (AreBoth IsPath IsNumber) (counted included) (IsCounted IsIncluded) bytes (path, stamp) last includes rest (both_found field IsPath number IsNumber bytes path middle stamp last p q) r in
-    record { so = record { fields = record { path = p.so; stamp = q.so; includes = r.so }; tagged = refl }; split = found.split }
 
 -- ---- the fields of any line
 

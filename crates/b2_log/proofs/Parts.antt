@@ -89,9 +89,6 @@ stamped_made file p = record { from = file; so = (p.path, p.stamp); is = refl; s
 pub stamped_is_free : IsFree stamped IsStamped
 stamped_is_free = made_free stamped_parts (AreBoth IsPath IsNumber) stamped IsStamped (λ x. x) stamped_made (both_is_free field IsPath number IsNumber (field_is_free IsPath) number_is_free)
 
-pub file_pathless : (bytes : List ℕ) → BeginsNone field IsPath bytes → BeginsNone stamped IsStamped bytes
-file_pathless bytes none = made_none stamped_parts (AreBoth IsPath IsNumber) stamped IsStamped (λ x. x) stamped_made bytes (both_firstless field IsPath number IsNumber bytes none)
-
 pub file_stampless : (bytes path middle : List ℕ) → Begins field IsPath bytes path middle → BeginsNone number IsNumber middle → BeginsNone stamped IsStamped bytes
 file_stampless bytes path middle p none = made_none stamped_parts (AreBoth IsPath IsNumber) stamped IsStamped (λ x. x) stamped_made bytes (both_secondless field IsPath number IsNumber (field_is_free IsPath) bytes path middle p none)
 
@@ -103,9 +100,6 @@ digested_made file p = record { from = file; so = (p.named, p.digest); is = refl
 
 pub digested_is_free : IsFree digested IsDigested
 digested_is_free = made_free digested_parts (AreBoth IsStamped IsDigest) digested IsDigested (λ x. x) digested_made (both_is_free stamped IsStamped field IsDigest stamped_is_free (field_is_free IsDigest))
-
-pub digested_fileless : (bytes : List ℕ) → BeginsNone stamped IsStamped bytes → BeginsNone digested IsDigested bytes
-digested_fileless bytes none = made_none digested_parts (AreBoth IsStamped IsDigest) digested IsDigested (λ x. x) digested_made bytes (both_firstless stamped IsStamped field IsDigest bytes none)
 
 pub digested_digestless : (bytes : List ℕ) (file : List ℕ × ℕ) (middle : List ℕ) → Begins stamped IsStamped bytes file middle → BeginsNone field IsDigest middle → BeginsNone digested IsDigested bytes
 digested_digestless bytes file middle p none = made_none digested_parts (AreBoth IsStamped IsDigest) digested IsDigested (λ x. x) digested_made bytes (both_secondless stamped IsStamped field IsDigest stamped_is_free bytes file middle p none)

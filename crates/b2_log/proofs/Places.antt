@@ -80,28 +80,6 @@ scans_put subject path old new w is stay h other = scans_changed path old new w 
 reverse_push : {X : Type 0} (xs : List X) (x : X) → reverse (xs ++ x ∷ []) ≡ x ∷ reverse xs
 reverse_push xs x = reverse-append xs (x ∷ [])
 
-pub indexed_none : (places : Subject → Option ℕ) → ((subject : Subject) → places subject ≡ None) → IsIndexed [] places
-indexed_none places none = record { place = none; proper = tt }
-
-pub indexed_same : (log : List LogLine) (places others : Subject → Option ℕ) → IsIndexed log places → ((other : Subject) → others other ≡ places other) → IsIndexed log others
-indexed_same log places others indexed same = record { place = λ subject. same subject ∙ indexed.place subject; proper = indexed.proper }
-
-more_proper : (log : List LogLine) (line : LogLine) → AllByRecursion IsProper log → IsProper line → AllByRecursion IsProper (log ++ line ∷ [])
-more_proper [] line each proper = (proper, tt)
-more_proper (x ∷ xs) line each proper = (each.0, more_proper xs line each.1 proper)
-
-pub indexed_more : (log : List LogLine) (line : LogLine) (places more : Subject → Option ℕ) (subject : Subject) (place : ℕ) → IsIndexed log places → IsProper line → subject ≡ subject_of line → place ≡ length log
-    → ((other : Subject) → more other ≡ cond (subject_eq subject other) (Some place) (places other)) → IsIndexed (log ++ line ∷ []) more
-indexed_more log line places more subject place indexed proper e at changed = record {
-  place = λ other.
-      changed other
-      ∙ ap (λ (s : Subject). cond (subject_eq s other) (Some place) (places other)) e
-      ∙ ap (λ (p : Option ℕ). cond (is_about other line) (Some place) p) (indexed.place other)
-      ∙ ap (λ (p : ℕ). cond (is_about other line) (Some p) (place_of other (reverse log))) (at ∙ sym (length-reverse log))
-      ∙ ap (place_of other) (sym (reverse_push log line));
-  proper = more_proper log line indexed.proper proper;
-}
-
 -- ---- the line at a place
 
 pub record IsAt (log : List LogLine) (k : ℕ) (line : LogLine) : Type 0 where
