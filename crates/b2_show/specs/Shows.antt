@@ -25,7 +25,7 @@ use Rattle.b2_show.specs.Looks.{look_of, look_report}
 -- ---- the counts of faults
 
 -- How the counts stand to an answer: Ok, Refused and Usage come only where they are as at entry, and a fault only where its count
--- rose. The first fault decides: with SinkFault the host's count is as at entry; with HostFault the sink may have failed after it.
+-- rose. With SinkFault the host's count is as at entry; with HostFault the sink's count may have risen too.
 abbrev pub CountsTold : Moment → Moment → Answer → Type 0
 CountsTold before after answers.Ok = CountsStay before after
 CountsTold before after (answers.Failed lists) = CountsStay before after

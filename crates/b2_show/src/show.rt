@@ -62,7 +62,7 @@ pub fn show_b2<H: Files, S: Sink>(
     ensures children { (H.outside host.new).children ≡ (H.outside host.old).children }
     // No count falls, and visible files stay visible.
     ensures keeps { Keeps (H.outside host.old) (H.outside host.new) }
-    // Ok, Refused and Usage come only where nothing failed; a fault comes only where its count rose, and the first one decides.
+    // Ok, Refused and Usage come only where nothing failed; a fault comes only where its count rose.
     ensures counts { CountsTold (moment (H.outside host.old) (S.output out.old)) (moment (H.outside host.new) (S.output out.new)) result }
     // Words that are no look ask for the usage line, and the host is not called; nothing else does.
     ensures usage { look_of words.now ≡ None → IsUsageOrCutShort result }

@@ -41,8 +41,8 @@ abbrev pub StaysOrWaits : Outside → Outside → Type 0
 StaysOrWaits before after = (after.faults ≡ before.faults) ⊎ WaitFailed before after
 
 -- How the counts of faults stand to an answer: Ok, Failed, Refused and Usage come only where they are as at entry, and a fault only where
--- its count rose. The first fault decides: with SinkFault the host's count is as at entry, unless a wait for the child that ran failed
--- after it; with HostFault the sink may have failed at its line.
+-- its count rose. With SinkFault the host's count is as at entry, unless a wait for the child that ran failed; with HostFault the
+-- sink's count may have risen too.
 abbrev pub CountsTold : Moment → Moment → Answer → Type 0
 CountsTold before after answers.Ok = CountsStay before after
 CountsTold before after (answers.Failed lists) = CountsStay before after

@@ -74,7 +74,7 @@ pub fn run_b2<H: Children, S: Sink>(
     ensures clean { result ≡ Answer.Ok → CleanTold H.made words.now (H.outside host.old) (H.outside host.new) }
     // What happened, by the answer: an update that has ended with it, nothing, or the beginning of an update.
     ensures happened { HappenedTold H.made words.now (H.outside host.old) (H.outside host.new) result }
-    // Ok, Failed, Refused and Usage come only where nothing failed; a fault comes only where its count rose, and the first one decides.
+    // Ok, Failed, Refused and Usage come only where nothing failed; a fault comes only where its count rose.
     ensures counts { CountsTold (moment (H.outside host.old) (S.output out.old)) (moment (H.outside host.new) (S.output out.new)) result }
     // Words that are no build ask for the usage line, and the host is not called; nothing else does.
     ensures usage { free_words words.now ≡ None → IsUsageOrCutShort result }
