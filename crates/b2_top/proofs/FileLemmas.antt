@@ -1,5 +1,5 @@
 -- The first path that is scanned, of a list and of the steps.
-use Rattle.std.proofs.Common.{◌≡◌, ℕ, ◌+◌, ◌<◌, ◌≤◌, Bool, true, false, cond, List, ◌∷◌, ◌++◌, length, drop, get_or, Option, Some, None, sym, ap, ◌∙◌}
+use Rattle.std.proofs.Common.{◌≡◌, ℕ, ◌+◌, ◌<◌, ◌≤◌, List, ◌∷◌, ◌++◌, length, drop, get_or, Option, Some, None, sym, ap, ◌∙◌}
 use Rattle.std.proofs.lemmas.List.{at_drop_more, at_drop_all}
 use Rattle.std.proofs.lemmas.List.Concat.{flat_map-cons}
 use Rattle.std.proofs.lemmas.List.Folds.{find-append}
@@ -10,22 +10,6 @@ use Rattle.b2_words.specs.Words.{Word}
 use Rattle.b2_top.specs.Unbuilt.{is_scanned, first_scanned, paths_of, unbuilt_file}
 
 -- ---- paths
-
-abbrev path_by : List Word → ℕ → Word → Bool → Option Word
-path_by paths i path scanned = cond scanned (Some path) (first_scanned (drop (i + 1) paths))
-
-module _ (paths : List Word) (i : ℕ) (path : Word) (lt : i < length paths) (is : path ≡ get_or paths i path) (so_far : first_scanned (drop i paths) ≡ first_scanned paths) where
-  path_at : path_by paths i path (is_scanned path) ≡ first_scanned paths
-  path_at = ap (λ (p : Word). path_by paths i p (is_scanned p)) is ∙ sym (at_drop_more first_scanned paths i path lt) ∙ so_far
-
-  pub path_found : is_scanned path ≡ true → Some path ≡ first_scanned paths
-  path_found e = sym (ap (path_by paths i path) e) ∙ path_at
-
-  pub path_passed : is_scanned path ≡ false → first_scanned (drop (i + 1) paths) ≡ first_scanned paths
-  path_passed e = sym (ap (path_by paths i path) e) ∙ path_at
-
-pub no_path : (paths : List Word) (i : ℕ) → length paths ≤ i → first_scanned (drop i paths) ≡ first_scanned paths → None ≡ first_scanned paths
-no_path paths i le so_far = sym (at_drop_all first_scanned paths i le) ∙ so_far
 
 -- the first of two lists
 pub of_both : (xs ys : List Word) (o : Option Word) → o ≡ first_scanned xs → first_scanned (xs ++ ys) ≡ option_or o (first_scanned ys)
