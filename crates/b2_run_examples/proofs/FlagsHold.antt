@@ -13,7 +13,7 @@ use Rattle.b2_runs.specs.Staleness.{Update, NoneDone, Agrees.by_stamps, IsFresh,
 use Rattle.b2_runs.specs.Events.{IsOpen}
 use Rattle.b2_runs.specs.Runs.{Settled.source, Settled.done_well, on_settled, Needed.wanted, CanStart, IsRun}
 use Rattle.b2_runs.specs.Outcomes.{AllWent}
-use Rattle.b2_runs.specs.Afterwards.{Restless.always as is_always}
+use Rattle.b2_runs.specs.Afterwards.{IsMadeEachTime.always as is_always}
 use Rattle.b2_runs.specs.LogCourses.{IsLogAfter.begins, IsLogAfter.starts, IsLogAfter.owes_none}
 use Rattle.b2_run_examples.specs.Examples.{in_path, out_path, copy_step, at_entry, disk_after, copy_record, log_after, copied, in_members}
 use Rattle.b2_run_examples.specs.Flags.{flagged_step, flagged, flagged_update, FlagsHold}
@@ -163,7 +163,7 @@ flags_hold = record {
   apart = λ always notfile folder. are_apart always notfile;
   always_runs = runs true false disk_after.now log_after refl always_stale;
   always_not_idle = λ r. r.none_left 1 (can true false disk_after.now log_after refl always_stale);
-  always_restless = is_always 1 (flagged_step true false) out_path (makes true false) refl;
+  always_made_each_time = is_always 1 (flagged_step true false) out_path (makes true false) refl;
   notfile_runs = runs false true at_entry [] refl (notfile_stale at_entry);
   notfile_again = runs false true disk_after.now [] refl (notfile_stale disk_after.now);
   notfile_log = owes_none (Start 1 ∷ []) [] 1 (flagged_step false true) (starts [] [] 1 begins) refl refl;

@@ -7,7 +7,7 @@ use Rattle.b2_log.specs.declared.line.LogLine.{LogLine}
 use Rattle.b2_runs.specs.Staleness.{Update}
 use Rattle.b2_runs.specs.Runs.{IsRun}
 use Rattle.b2_runs.specs.Outcomes.{AllWent, IsCleanBuild}
-use Rattle.b2_runs.specs.Afterwards.{Restless}
+use Rattle.b2_runs.specs.Afterwards.{IsMadeEachTime}
 use Rattle.b2_runs.specs.LogCourses.{IsLogAfter}
 use Rattle.b2_run_examples.specs.Examples.{in_path, out_path, plan_from, copy_step, at_entry, disk_after, log_after, copied}
 
@@ -29,7 +29,7 @@ pub record FlagsHold : Type 0 where
   pub apart : (always notfile : Bool) (folder : Folder) → Apart (flagged always notfile folder).steps (flagged always notfile folder).roots
   pub always_runs : IsRun (flagged_update true false disk_after.now log_after) copied
   pub always_not_idle : ¬ IsRun (flagged_update true false disk_after.now log_after) []
-  pub always_restless : Restless (flagged true false disk_after.now) out_path
+  pub always_made_each_time : IsMadeEachTime (flagged true false disk_after.now) out_path
   pub notfile_runs : IsRun (flagged_update false true at_entry []) copied
   pub notfile_again : IsRun (flagged_update false true disk_after.now []) copied
   pub notfile_log : IsLogAfter (flagged_update false true at_entry []) at_entry [] copied []

@@ -15,7 +15,7 @@ use Rattle.b2_runs.specs.Staleness.{Update, Agrees, Agrees.by_stamps, Agrees.by_
 use Rattle.b2_runs.specs.Runs.{Settled, Settled.source, Settled.done_well, Settled.fresh, on_settled, Needed, Needed.wanted, Needed.member, RunFrom, IsRunSoFar, CanStart}
 use Rattle.b2_runs.specs.Outcomes.{AllWent, IsSettledStep}
 use Rattle.b2_runs.specs.Soundness.{IsSound}
-use Rattle.b2_runs.specs.Afterwards.{at_present, next_update, Restless, Restless.always, Restless.notfile, Restless.through, IsNotedStep, IsMigrated, IsNoted}
+use Rattle.b2_runs.specs.Afterwards.{at_present, next_update, IsMadeEachTime, IsMadeEachTime.always, IsMadeEachTime.notfile, IsMadeEachTime.through, IsNotedStep, IsMigrated, IsNoted}
 use Rattle.b2_runs.specs.AfterLaws.{SettledAfterwards, FreshAfterwards, NoneCanStartAfterwards, NothingStartsAfterwards}
 use Rattle.b2_runs.proofs.ElementLemmas.{one_step, some_element, Contains_nil}
 use Rattle.b2_runs.proofs.ClosureLaws.{known_stays, close_has, close_is_one}
@@ -66,7 +66,7 @@ recorded_next u now log quit jobs step members n = record {
 
 -- a step that was done well is fresh by its record
 judge_done : (u : Update) (events : List ChildEvent) (disk : Disk) (log : List LogLine) (quit : Bool) (jobs : ℕ) → Apart u.build.steps u.build.roots → IsRunSoFar u events → IsNoted u events disk.now log
-    → (i : ℕ) (step : Step) (path : List ℕ) → Makes u.build.steps i step path → Contains events (Done i true) → (Restless u.build path → ⊥) → Judged u events (next_update u disk.now log quit jobs) step
+    → (i : ℕ) (step : Step) (path : List ℕ) → Makes u.build.steps i step path → Contains events (Done i true) → (IsMadeEachTime u.build path → ⊥) → Judged u events (next_update u disk.now log quit jobs) step
 judge_done u events disk log quit jobs apart run noted i step path makes done calm =
     let (members, on) = started_has_closure u events i step apart run (done_was_started u events i true run done) makes.at in
     let (close, inside) = (close_on_settled u events step members apart).0 on in
@@ -138,7 +138,7 @@ judge_fresh u events disk log quit jobs apart sound noted i step path members ma
 
 -- a step whose outputs were settled is fresh next time
 pub judge_next : (u : Update) (events : List ChildEvent) (disk : Disk) (log : List LogLine) (quit : Bool) (jobs : ℕ) → Apart u.build.steps u.build.roots → IsRunSoFar u events → IsSound u events disk → IsNoted u events disk.now log
-    → (i : ℕ) (step : Step) (path : List ℕ) → Makes u.build.steps i step path → Settled u events path → (Restless u.build path → ⊥) → Judged u events (next_update u disk.now log quit jobs) step
+    → (i : ℕ) (step : Step) (path : List ℕ) → Makes u.build.steps i step path → Settled u events path → (IsMadeEachTime u.build path → ⊥) → Judged u events (next_update u disk.now log quit jobs) step
 judge_next u events disk log quit jobs apart run sound noted i step path makes (source p bytes s) calm = absurd (source_not_made u.build apart p bytes s i step makes)
 judge_next u events disk log quit jobs apart run sound noted i step path makes (done_well k s p makes_k done) calm =
     subst (Judged u events (next_update u disk.now log quit jobs)) (maker_is_one u.build apart k i s step p makes_k makes) (judge_done u events disk log quit jobs apart run noted k s p makes_k done calm)
@@ -153,7 +153,7 @@ settle_step u events disk log quit jobs same i step path makes j inside =
 
 -- what was settled is settled next time, by the rounds of its value
 settle_next : (u : Update) (events : List ChildEvent) (disk : Disk) (log : List LogLine) (quit : Bool) (jobs : ℕ) → Apart u.build.steps u.build.roots → IsRunSoFar u events → IsSound u events disk → IsNoted u events disk.now log
-    → (n : ℕ) (path : List ℕ) (x : Value) → Val u.build n path x → Settled u events path → (Restless u.build path → ⊥) → Settled (next_update u disk.now log quit jobs) [] path
+    → (n : ℕ) (path : List ℕ) (x : Value) → Val u.build n path x → Settled u events path → (IsMadeEachTime u.build path → ⊥) → Settled (next_update u disk.now log quit jobs) [] path
 settle_next u events disk log quit jobs apart run sound noted n path x v (source p bytes s) calm = source p bytes (source_to u.build disk.now (same_sources u events disk apart sound) p bytes s)
 settle_next u events disk log quit jobs apart run sound noted zero path x v (done_well i step p makes done) calm = absurd (source_not_made u.build apart p v.0 v.1 i step makes)
 settle_next u events disk log quit jobs apart run sound noted zero path x v (fresh i step p members makes not_started close inside f) calm = absurd (source_not_made u.build apart p v.0 v.1 i step makes)
@@ -223,25 +223,25 @@ needed_later u events later disk log quit jobs apart run sound went i (member k 
 
 -- no step was started whose outputs are none that an always-step or a notfile step reaches
 abbrev NoneCalm : Build → List ChildEvent → Type 0
-NoneCalm b later = (i : ℕ) (step : Step) (path : List ℕ) → Makes b.steps i step path → (Restless b path → ⊥) → Contains later (Start i) → ⊥
+NoneCalm b later = (i : ℕ) (step : Step) (path : List ℕ) → Makes b.steps i step path → (IsMadeEachTime b path → ⊥) → Contains later (Start i) → ⊥
 
 -- each step that is done was started
 abbrev Begun : List ChildEvent → Type 0
 Begun later = (i : ℕ) (well : Bool) → Contains later (Done i well) → Contains later (Start i)
 
 -- a step that is fresh before any event is fresh while no other such step was started
-fresh_later : (next : Update) (b : Build) (later : List ChildEvent) (i : ℕ) (step : Step) (path : List ℕ) (members : List (List ℕ × Value)) → Begun later → ((k : ℕ) (other : Step) (out : List ℕ) → Makes next.build.steps k other out → (Restless b out → ⊥) → Contains later (Start k) → ⊥)
-    → ((member : List ℕ) (value : Value) → Contains members (member, value) → Restless b member → ⊥) → IsFresh next [] step members → IsFresh next later step members
+fresh_later : (next : Update) (b : Build) (later : List ChildEvent) (i : ℕ) (step : Step) (path : List ℕ) (members : List (List ℕ × Value)) → Begun later → ((k : ℕ) (other : Step) (out : List ℕ) → Makes next.build.steps k other out → (IsMadeEachTime b out → ⊥) → Contains later (Start k) → ⊥)
+    → ((member : List ℕ) (value : Value) → Contains members (member, value) → IsMadeEachTime b member → ⊥) → IsFresh next [] step members → IsFresh next later step members
 fresh_later next b later i step path members begun none calm f = fresh_events next [] later step members (λ was m y k other well c makes d. none k other m makes (calm m y c) (begun k well d)) f
 
 -- where none was started so far, none can start
 calm_waits : (u : Update) (events later : List ChildEvent) (disk : Disk) (log : List LogLine) (quit : Bool) (jobs : ℕ) (i : ℕ) (step : Step) (path : List ℕ) → Apart u.build.steps u.build.roots → IsRunSoFar u events → IsSound u events disk → IsNoted u events disk.now log → AllWent u events
-    → Begun later → NoneCalm u.build later → Makes u.build.steps i step path → (Restless u.build path → ⊥) → CanStart (next_update u disk.now log quit jobs) later i → ⊥
+    → Begun later → NoneCalm u.build later → Makes u.build.steps i step path → (IsMadeEachTime u.build path → ⊥) → CanStart (next_update u disk.now log quit jobs) later i → ⊥
 calm_waits u events later disk log quit jobs i step path apart run sound noted went begun none makes calm can =
     let next = next_update u disk.now log quit jobs in
     let settled = needed_settled u events went i (needed_later u events later disk log quit jobs apart run sound went i can.needed) step path makes in
     let j = judge_next u events disk log quit jobs apart run sound noted i step path makes settled calm in
-    let calm_members : (m : List ℕ) (y : Value) → Contains j.members (m, y) → Restless u.build m → ⊥ = λ m y c r. calm (through i step path j.members m y makes j.close c r) in
+    let calm_members : (m : List ℕ) (y : Value) → Contains j.members (m, y) → IsMadeEachTime u.build m → ⊥ = λ m y c r. calm (through i step path j.members m y makes j.close c r) in
     let f : IsFresh next later step j.members = fresh_later next u.build later i step path j.members begun none calm_members j.is_fresh in
     let same : step ≡ can.step = one_step u.build.steps i step can.step makes.at can.at in
     let close = clean_close_to u.build disk.now (same_sources u events disk apart sound) step j.members j.close in

@@ -11,7 +11,7 @@ use Rattle.b2_runs.specs.Staleness.{Update, IsFresh}
 use Rattle.b2_runs.specs.Events.{IsOpen}
 use Rattle.b2_runs.specs.Runs.{Settled, Settled.done_well, RunFrom, IsRunSoFar, OpenEnds, IsBegun, CanStart}
 use Rattle.b2_runs.specs.Soundness.{IsSound, IsLoose, Drifts}
-use Rattle.b2_runs.specs.Afterwards.{next_update, Restless, Restless.through, IsNoted}
+use Rattle.b2_runs.specs.Afterwards.{next_update, IsMadeEachTime, IsMadeEachTime.through, IsNoted}
 use Rattle.b2_runs.specs.StopLaws.{RunIsBegun, BegunGoesOn, BegunUpToStart, SoundBeforeEnds, NotedThroughEnds, NotedThoughTorn, FinishedIsRecorded, FreshThoughStopped, NotStartedAgain, NoWorkIsLost, BegunHoldsEarlier}
 use Rattle.b2_runs.proofs.ElementLemmas.{one_step, Contains_here, Contains_cases, Contains_nil}
 use Rattle.b2_runs.proofs.EventLaws.{start_in_start, done_in_start, start_in_done, done_in_done}
@@ -117,7 +117,7 @@ fresh_though_stopped u events disk log quit jobs i step path b apart s n makes s
 
 -- no step was started whose outputs were settled, but for those that an always-step or a notfile step reaches
 abbrev NoneRepeated : Update → List ChildEvent → List ChildEvent → Type 0
-NoneRepeated u events later = (i : ℕ) (step : Step) (path : List ℕ) → Makes u.build.steps i step path → Settled u events path → (Restless u.build path → ⊥) → Contains later (Start i) → ⊥
+NoneRepeated u events later = (i : ℕ) (step : Step) (path : List ℕ) → Makes u.build.steps i step path → Settled u events path → (IsMadeEachTime u.build path → ⊥) → Contains later (Start i) → ⊥
 
 -- each step that is done was started
 abbrev Begun : List ChildEvent → Type 0
@@ -125,7 +125,7 @@ Begun later = (i : ℕ) (well : Bool) → Contains later (Done i well) → Conta
 
 -- where none was started so far, none can start
 rests : (u : Update) (events later : List ChildEvent) (disk : Disk) (log : List LogLine) (quit : Bool) (jobs : ℕ) (i : ℕ) (step : Step) (path : List ℕ) → Apart u.build.steps u.build.roots → IsRunSoFar u events → IsSound u events disk → IsNoted u events disk.now log
-    → Begun later → NoneRepeated u events later → Makes u.build.steps i step path → Settled u events path → (Restless u.build path → ⊥) → CanStart (next_update u disk.now log quit jobs) later i → ⊥
+    → Begun later → NoneRepeated u events later → Makes u.build.steps i step path → Settled u events path → (IsMadeEachTime u.build path → ⊥) → CanStart (next_update u disk.now log quit jobs) later i → ⊥
 rests u events later disk log quit jobs i step path apart run sound noted begun none makes settled calm can =
     let next = next_update u disk.now log quit jobs in
     let j = judge_next u events disk log quit jobs apart run sound noted i step path makes settled calm in

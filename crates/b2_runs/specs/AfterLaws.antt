@@ -14,7 +14,7 @@ use Rattle.b2_runs.specs.Staleness.{Update, IsFresh}
 use Rattle.b2_runs.specs.Runs.{Settled, on_settled, IsRunSoFar, CanStart}
 use Rattle.b2_runs.specs.Outcomes.{AllWent}
 use Rattle.b2_runs.specs.Soundness.{IsSound}
-use Rattle.b2_runs.specs.Afterwards.{at_present, next_update, Restless, IsNoted, IsFreshStep}
+use Rattle.b2_runs.specs.Afterwards.{at_present, next_update, IsMadeEachTime, IsNoted, IsFreshStep}
 
 -- the clean build depends on files outside the roots alone
 abbrev pub CleanBySources : Type 0
@@ -53,20 +53,20 @@ KnownByPresent = (u : Update) (events : List ChildEvent) (disk : Disk) (step : S
 -- what was settled is settled to the next update before any event, but for what an always-step or a notfile step reaches
 abbrev pub SettledAfterwards : Type 0
 SettledAfterwards = (u : Update) (events : List ChildEvent) (disk : Disk) (log : List LogLine) (quit : Bool) (jobs : ℕ) (path : List ℕ) → Apart u.build.steps u.build.roots → IsRunSoFar u events → IsSound u events disk → IsNoted u events disk.now log
-    → Settled u events path → (Restless u.build path → ⊥) → Settled (next_update u disk.now log quit jobs) [] path
+    → Settled u events path → (IsMadeEachTime u.build path → ⊥) → Settled (next_update u disk.now log quit jobs) [] path
 
 -- a step whose outputs were settled is fresh to the next update before any event, but for those that an always-step or a
 -- notfile step reaches
 abbrev pub FreshAfterwards : Type 0
 FreshAfterwards = (u : Update) (events : List ChildEvent) (disk : Disk) (log : List LogLine) (quit : Bool) (jobs : ℕ) (i : ℕ) (step : Step) (path : List ℕ) → Apart u.build.steps u.build.roots → IsRunSoFar u events → IsSound u events disk → IsNoted u events disk.now log
-    → Makes u.build.steps i step path → Settled u events path → (Restless u.build path → ⊥) → IsFreshStep (next_update u disk.now log quit jobs) [] step
+    → Makes u.build.steps i step path → Settled u events path → (IsMadeEachTime u.build path → ⊥) → IsFreshStep (next_update u disk.now log quit jobs) [] step
 
 -- where all went well, the next update can at no moment of its run start any other step
 abbrev pub NoneCanStartAfterwards : Type 0
 NoneCanStartAfterwards = (u : Update) (events later : List ChildEvent) (disk : Disk) (log : List LogLine) (quit : Bool) (jobs : ℕ) (i : ℕ) (step : Step) (path : List ℕ) → Apart u.build.steps u.build.roots → IsRunSoFar u events → IsSound u events disk → IsNoted u events disk.now log → AllWent u events
-    → IsRunSoFar (next_update u disk.now log quit jobs) later → Makes u.build.steps i step path → (Restless u.build path → ⊥) → CanStart (next_update u disk.now log quit jobs) later i → ⊥
+    → IsRunSoFar (next_update u disk.now log quit jobs) later → Makes u.build.steps i step path → (IsMadeEachTime u.build path → ⊥) → CanStart (next_update u disk.now log quit jobs) later i → ⊥
 
 -- so its run, however far it has gone, holds the start of no other step
 abbrev pub NothingStartsAfterwards : Type 0
 NothingStartsAfterwards = (u : Update) (events later : List ChildEvent) (disk : Disk) (log : List LogLine) (quit : Bool) (jobs : ℕ) (i : ℕ) (step : Step) (path : List ℕ) → Apart u.build.steps u.build.roots → IsRunSoFar u events → IsSound u events disk → IsNoted u events disk.now log → AllWent u events
-    → IsRunSoFar (next_update u disk.now log quit jobs) later → Makes u.build.steps i step path → (Restless u.build path → ⊥) → Contains later (Start i) → ⊥
+    → IsRunSoFar (next_update u disk.now log quit jobs) later → Makes u.build.steps i step path → (IsMadeEachTime u.build path → ⊥) → Contains later (Start i) → ⊥

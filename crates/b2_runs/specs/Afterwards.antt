@@ -25,10 +25,10 @@ abbrev pub next_update : Update → Folder → List LogLine → Bool → ℕ →
 next_update u now log quit jobs = record (at_present u now log) { all = false; quit = quit; jobs = jobs }
 
 -- The least set of paths that are made by an always-step or a notfile step, or by a step whose closure has one of this set.
-pub data Restless (b : Build) : List ℕ → Type 0 where
-  always : (i : ℕ) (step : Step) (path : List ℕ) → Makes b.steps i step path → step.always ≡ true → Restless b path
-  notfile : (i : ℕ) (step : Step) (path : List ℕ) → Makes b.steps i step path → step.notfile ≡ true → Restless b path
-  through : (i : ℕ) (step : Step) (path : List ℕ) (members : List (List ℕ × Value)) (member : List ℕ) (value : Value) → Makes b.steps i step path → IsClose b (Clean b) step members → Contains members (member, value) → Restless b member → Restless b path
+pub data IsMadeEachTime (b : Build) : List ℕ → Type 0 where
+  always : (i : ℕ) (step : Step) (path : List ℕ) → Makes b.steps i step path → step.always ≡ true → IsMadeEachTime b path
+  notfile : (i : ℕ) (step : Step) (path : List ℕ) → Makes b.steps i step path → step.notfile ≡ true → IsMadeEachTime b path
+  through : (i : ℕ) (step : Step) (path : List ℕ) (members : List (List ℕ × Value)) (member : List ℕ) (value : Value) → Makes b.steps i step path → IsClose b (Clean b) step members → Contains members (member, value) → IsMadeEachTime b member → IsMadeEachTime b path
 
 -- The log's last line for the step's outputs is the record of the step with this closure and of the files as they stand.
 pub record IsNotedStep (u : Update) (now : List ℕ → Option File) (log : List LogLine) (step : Step) (members : List (List ℕ × Value)) : Type 0 where

@@ -18,7 +18,7 @@ use Rattle.b2_runs.specs.Outcomes.{IsSettledStep, IsFailed}
 use Rattle.b2_runs.specs.Cycles.{IsStepCycle}
 use Rattle.b2_runs.specs.FileReads.{IsLogThen}
 use Rattle.b2_runs.specs.Soundness.{IsSound}
-use Rattle.b2_runs.specs.Afterwards.{next_update, Restless}
+use Rattle.b2_runs.specs.Afterwards.{next_update, IsMadeEachTime}
 use Rattle.b2_runs.specs.LogCourses.{held_bytes, log_file}
 use Rattle.b2_runs.specs.Reports.{Lists, AreLists, StopsAtEnd}
 use Rattle.b2_runs.specs.Moments.{Moment}
@@ -50,7 +50,7 @@ ListsAreOne = (u : Update) (events : List ChildEvent) (lists others : Lists) →
 -- always-step or a notfile step reaches
 abbrev pub AllWentStartsNothing : Type 0
 AllWentStartsNothing = (u : Update) (events later : List ChildEvent) (disk : Disk) (quit : Bool) (jobs : ℕ) (i : ℕ) (step : Step) (path : List ℕ) → Apart u.build.steps u.build.roots → IsSound u events disk → (told : AnswerTold u events disk.now all_went)
-    → length (held_bytes (log_file disk.now)) ≤ log_limit → IsRunSoFar (next_update u disk.now told.0.log quit jobs) later → Makes u.build.steps i step path → (Restless u.build path → ⊥) → Contains later (Start i) → ⊥
+    → length (held_bytes (log_file disk.now)) ≤ log_limit → IsRunSoFar (next_update u disk.now told.0.log quit jobs) later → Makes u.build.steps i step path → (IsMadeEachTime u.build path → ⊥) → Contains later (Start i) → ⊥
 
 -- where there is a step cycle, the end of a report is not written, nor a part of it
 abbrev pub CycleEndsNoReport : Type 0

@@ -24,7 +24,7 @@ use Rattle.b2_runs.specs.Runs.{IsRunSoFar, IsBegun}
 use Rattle.b2_runs.specs.Outcomes.{IsFailed}
 use Rattle.b2_runs.specs.Soundness.{IsSound, Drifts}
 use Rattle.b2_runs.specs.FileReads.{IsToScan}
-use Rattle.b2_runs.specs.Afterwards.{next_update, Restless, NoneDoneOlder, IsNotedStep, IsNoted}
+use Rattle.b2_runs.specs.Afterwards.{next_update, IsMadeEachTime, NoneDoneOlder, IsNotedStep, IsNoted}
 use Rattle.b2_runs.specs.LogCourses.{IsLong, FirstLines, HasDigestsAlready, IsLogAfter, held_bytes, log_file, IsLogWhole, IsLogCut}
 
 -- ---- what an update begins with
@@ -146,4 +146,4 @@ FinishedIsKept = (u : Update) (events before after : List ChildEvent) (now : Fol
 abbrev pub FinishedIsNotStarted : Type 0
 FinishedIsNotStarted = (u : Update) (events before after later : List ChildEvent) (disk : Disk) (log : List LogLine) (quit : Bool) (jobs k i : ℕ) (step : Step) (path : List ℕ) → Apart u.build.steps u.build.roots → AppendsGood u disk.now → IsSound u events disk
     → ((front rest : List ChildEvent) → events ≡ front ++ rest → IsRunSoFar u front → NoneDoneOlder u front disk.now) → IsLogIn u.build.folder u.log → IsLogCut u events disk.now → length (held_bytes (log_file disk.now)) ≤ log_limit → IsLogIn disk.now log
-    → events ≡ before ++ Start k ∷ after → Contains before (Done i true) → Makes u.build.steps i step path → (Restless u.build path → ⊥) → IsRunSoFar (next_update u disk.now log quit jobs) later → Contains later (Start i) → ⊥
+    → events ≡ before ++ Start k ∷ after → Contains before (Done i true) → Makes u.build.steps i step path → (IsMadeEachTime u.build path → ⊥) → IsRunSoFar (next_update u disk.now log quit jobs) later → Contains later (Start i) → ⊥

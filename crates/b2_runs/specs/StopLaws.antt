@@ -12,7 +12,7 @@ use Rattle.b2_runs.specs.Staleness.{Update, IsRecorded}
 use Rattle.b2_runs.specs.Events.{IsOpen}
 use Rattle.b2_runs.specs.Runs.{Settled, IsRunSoFar, IsBegun}
 use Rattle.b2_runs.specs.Soundness.{IsSound, Drifts}
-use Rattle.b2_runs.specs.Afterwards.{next_update, Restless, IsNoted, IsFreshStep}
+use Rattle.b2_runs.specs.Afterwards.{next_update, IsMadeEachTime, IsNoted, IsFreshStep}
 
 -- Of an update that stops anywhere, the events are a run so far, with each start in it, followed by ends of steps that it
 -- left open. What was done in the run so far is kept: the log's last lines are on it, whatever the children do that end
@@ -51,17 +51,17 @@ FinishedIsRecorded = (u : Update) (events : List ChildEvent) (now : Folder) (log
 -- an always-step or a notfile step reaches
 abbrev pub FreshThoughStopped : Type 0
 FreshThoughStopped = (u : Update) (events : List ChildEvent) (disk : Disk) (log : List LogLine) (quit : Bool) (jobs : ℕ) (i : ℕ) (step : Step) (path : List ℕ) (b : IsBegun u events) → Apart u.build.steps u.build.roots → IsSound u events disk → IsNoted u b.front disk.now log
-    → Makes u.build.steps i step path → Settled u b.front path → (Restless u.build path → ⊥) → IsFreshStep (next_update u disk.now log quit jobs) [] step
+    → Makes u.build.steps i step path → Settled u b.front path → (IsMadeEachTime u.build path → ⊥) → IsFreshStep (next_update u disk.now log quit jobs) [] step
 
 -- the run of the next update, however far it has gone, holds no start of such a step
 abbrev pub NotStartedAgain : Type 0
 NotStartedAgain = (u : Update) (events later : List ChildEvent) (disk : Disk) (log : List LogLine) (quit : Bool) (jobs : ℕ) (i : ℕ) (step : Step) (path : List ℕ) (b : IsBegun u events) → Apart u.build.steps u.build.roots → IsSound u events disk → IsNoted u b.front disk.now log
-    → IsRunSoFar (next_update u disk.now log quit jobs) later → Makes u.build.steps i step path → Settled u b.front path → (Restless u.build path → ⊥) → Contains later (Start i) → ⊥
+    → IsRunSoFar (next_update u disk.now log quit jobs) later → Makes u.build.steps i step path → Settled u b.front path → (IsMadeEachTime u.build path → ⊥) → Contains later (Start i) → ⊥
 
 -- so no work that was done by then is done again
 abbrev pub NoWorkIsLost : Type 0
 NoWorkIsLost = (u : Update) (events later : List ChildEvent) (disk : Disk) (log : List LogLine) (quit : Bool) (jobs : ℕ) (i : ℕ) (step : Step) (path : List ℕ) (b : IsBegun u events) → Apart u.build.steps u.build.roots → IsSound u events disk → IsNoted u b.front disk.now log
-    → IsRunSoFar (next_update u disk.now log quit jobs) later → Makes u.build.steps i step path → Contains b.front (Done i true) → (Restless u.build path → ⊥) → Contains later (Start i) → ⊥
+    → IsRunSoFar (next_update u disk.now log quit jobs) later → Makes u.build.steps i step path → Contains b.front (Done i true) → (IsMadeEachTime u.build path → ⊥) → Contains later (Start i) → ⊥
 
 -- what came before a start of an update that stopped is in the run so far
 abbrev pub BegunHoldsEarlier : Type 0
