@@ -18,7 +18,7 @@ use Rattle.b2_runs.specs.Records.{IsRecordOf}
 use Rattle.b2_runs.specs.Events.{IsOpen}
 use Rattle.b2_runs.specs.Runs.{Settled, Settled.source, Settled.done_well, on_settled, Needed.wanted, CanStart, MayCome, IsRun}
 use Rattle.b2_runs.specs.Outcomes.{AllWent, IsSettledStep, Skipped, Skipped.missing, Skipped.failed, Skipped.skipped, Skipped.quits}
-use Rattle.b2_runs.specs.Soundness.{Holds, Distinguishes, IsSound, Drifts, IsAtWork, AreAtWork}
+use Rattle.b2_runs.specs.Soundness.{Holds, Distinguishes, IsSound, IsAllowedChange, IsAtWork, AreAtWork}
 use Rattle.b2_runs.specs.Afterwards.{IsNoted}
 use Rattle.b2_runs.specs.CompleteLaws.{CleanIsDefined}
 use Rattle.b2_run_examples.specs.Examples.{in_path, out_path, in_file, at_entry, copying, copied, out_file, in_past, out_past, disk_before, disk_after, copy_record, log_after, copy_given, copy_child, copy_step, family_before, family_after, CopyingHolds}
@@ -27,8 +27,8 @@ use Rattle.b2_runs.proofs.LogLaws.{empty_is_true, true_with_line}
 use Rattle.b2_runs.proofs.CleanLaws.{clean_is_made}
 use Rattle.b2_runs.proofs.SettledLaws.{source_clean}
 use Rattle.b2_runs.proofs.RunLaws.{close_on_settled}
-use Rattle.b2_runs.proofs.SoundLaws.{sound_at_entry, sound_after_start, sound_after_drift, sound_done, record_is_true}
-use Rattle.b2_runs.proofs.NotedLaws.{noted_at_entry, noted_after_start, noted_after_drift, noted_after_record}
+use Rattle.b2_runs.proofs.SoundLaws.{sound_at_entry, sound_after_start, sound_after_change, sound_done, record_is_true}
+use Rattle.b2_runs.proofs.NotedLaws.{noted_at_entry, noted_after_start, noted_after_change, noted_after_record}
 use Rattle.b2_run_examples.proofs.OneStepPlan.{only_number, only_out, one_of, makes_out, in_outside, is_apart}
 
 pub apart : Apart copying.build.steps copying.build.roots
@@ -191,8 +191,8 @@ others_after path differ = go (bytes_eq out_path path) refl
     go true f = absurd (differ ((bytes_eq-Decides out_path path).0 f))
     go false f = refl
 
-drifts : Drifts copying (Start 1 ∷ []) disk_before disk_after
-drifts = record {
+change : IsAllowedChange copying (Start 1 ∷ []) disk_before disk_after
+change = record {
   keeps = keeps_after;
   others = λ path not_log none. others_after path (λ e. none 1 copy_step (subst (Makes copying.build.steps 1 copy_step) e (makes_out (in_path ∷ []))) (opened.0, λ d. opened.1 true d));
   grows = λ old c. subst (Contains (in_past ∷ out_past ∷ [])) (one_of in_past old c) (Contains_here in_past (out_past ∷ []));
@@ -212,8 +212,8 @@ sound : IsSound copying copied disk_after
 sound =
     let entry = sound_at_entry copying disk_before keeps_before (λ off r c. absurd (Contains_nil (lines.Record r) c)) (λ path. refl) (by_stamps_alone disk_before.past) in
     let begun = sound_after_start copying [] disk_before 1 entry in
-    let drifted = sound_after_drift copying (Start 1 ∷ []) disk_before disk_after apart begun drifts (by_stamps_alone disk_after.past) in
-    sound_done copying (Start 1 ∷ []) disk_after 1 true drifted (λ good. out_clean)
+    let changed = sound_after_change copying (Start 1 ∷ []) disk_before disk_after apart begun change (by_stamps_alone disk_after.past) in
+    sound_done copying (Start 1 ∷ []) disk_after 1 true changed (λ good. out_clean)
 
 -- the record is that of the step
 copy_is : IsRecordOf copying disk_after.now copy_step members_in copy_record
@@ -239,8 +239,8 @@ none_older out member value written read c_out c_member at_out at_member =
 noted : IsNoted copying copied disk_after.now log_after
 noted =
     let begun = noted_after_start copying [] disk_before.now [] 1 apart can (noted_at_entry copying disk_before.now [] (λ outs. refl)) in
-    let drifted = noted_after_drift copying (Start 1 ∷ []) disk_before disk_after [] apart (may_start, tt) drifts begun in
-    noted_after_record copying (Start 1 ∷ []) disk_after.now [] 1 copy_step members_in copy_record apart drifted opened refl close copy_is none_older
+    let changed = noted_after_change copying (Start 1 ∷ []) disk_before disk_after [] apart (may_start, tt) change begun in
+    noted_after_record copying (Start 1 ∷ []) disk_after.now [] 1 copy_step members_in copy_record apart changed opened refl close copy_is none_older
 
 defined : CleanIsDefined copying copied
 defined = record {
@@ -284,4 +284,4 @@ ends = record {
 
 -- the example holds
 pub copying_holds : CopyingHolds
-copying_holds = record { apart = apart; run = run; went = went; defined = defined; ends = ends; at_work = at_work; drifts = drifts; sound = sound; log_true = log_true; noted = noted }
+copying_holds = record { apart = apart; run = run; went = went; defined = defined; ends = ends; at_work = at_work; change = change; sound = sound; log_true = log_true; noted = noted }

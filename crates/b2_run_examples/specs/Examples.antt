@@ -22,7 +22,7 @@ use Rattle.b2_runs.specs.Outcomes.{AllWent, IsListOf, IsStuck}
 use Rattle.b2_runs.specs.Cycles.{IsStepCycle}
 use Rattle.b2_run_examples.specs.Overlap.{copy_from, a_path, b_path, c_path}
 use Rattle.b2_runs.specs.CompleteLaws.{CleanIsDefined}
-use Rattle.b2_runs.specs.Soundness.{IsSound, Drifts, AreAtWork}
+use Rattle.b2_runs.specs.Soundness.{IsSound, IsAllowedChange, AreAtWork}
 use Rattle.b2_runs.specs.Afterwards.{next_update, IsNoted}
 
 -- a path that a step reads, and one that it writes
@@ -112,7 +112,7 @@ pub record CopyingHolds : Type 0 where
   pub defined : CleanIsDefined copying copied
   pub ends : Ends copying.build.made family_before (Some disk_before) 1 true family_after (Some disk_after)
   pub at_work : AreAtWork copying (Start 1 ∷ []) (copy_child ∷ [])
-  pub drifts : Drifts copying (Start 1 ∷ []) disk_before disk_after
+  pub change : IsAllowedChange copying (Start 1 ∷ []) disk_before disk_after
   pub sound : IsSound copying copied disk_after
   pub log_true : LogTrue (making copying) disk_after.past log_after
   pub noted : IsNoted copying copied disk_after.now log_after

@@ -18,9 +18,9 @@ use Rattle.b2_log.specs.Finding.{subject_of, find_record}
 use Rattle.b2_runs.specs.Staleness.{Update, NoneOlder, paths_with_bytes}
 use Rattle.b2_runs.specs.Records.{HasDigestsOf, IsRecordOf}
 use Rattle.b2_runs.specs.Runs.{Settled, Settled.source, Settled.done_well, Settled.fresh, IsRunSoFar}
-use Rattle.b2_runs.specs.Soundness.{IsLoose, Drifts, IsAtWork}
+use Rattle.b2_runs.specs.Soundness.{IsLoose, IsAllowedChange, IsAtWork}
 use Rattle.b2_runs.specs.Afterwards.{IsNotedStep, IsMigrated, IsNoted}
-use Rattle.b2_runs.specs.NotedLaws.{NotedAtEntry, NotedAfterStart, NotedAfterDrift, NotedAfterOtherEnd, NotedAfterLine, NotedAfterRecord, NotedAfterScan, NotedAfterMigration, OutputsAreNewer, FailedIsStale, NoneOlderAtEntry, NoneOlderAfterStart, NoneOlderAfterEnd, NoneOlderAfterDrift}
+use Rattle.b2_runs.specs.NotedLaws.{NotedAtEntry, NotedAfterStart, NotedAfterChange, NotedAfterOtherEnd, NotedAfterLine, NotedAfterRecord, NotedAfterScan, NotedAfterMigration, OutputsAreNewer, FailedIsStale, NoneOlderAtEntry, NoneOlderAfterStart, NoneOlderAfterEnd, NoneOlderAfterChange}
 use Rattle.b2_runs.proofs.ElementLemmas.{one_step, some_element, Contains_nil}
 use Rattle.b2_runs.proofs.LogLaws.{outs_same, last_record, others_unsaid, scan_is_other}
 use Rattle.b2_runs.proofs.ValueRounds.{source_not_made}
@@ -68,7 +68,7 @@ settled_not_log u events apart path (done_well k s p makes done) e = out_not_log
 settled_not_log u events apart path (fresh k s p members makes not_started close inside f) e = out_not_log u.build apart k s p makes e
 
 -- so it stands as before, whatever those steps do
-pub settled_still : (u : Update) (events : List ChildEvent) (before after : Disk) → Apart u.build.steps u.build.roots → Drifts u events before after → (path : List ℕ) → Settled u events path → after.now path ≡ before.now path
+pub settled_still : (u : Update) (events : List ChildEvent) (before after : Disk) → Apart u.build.steps u.build.roots → IsAllowedChange u events before after → (path : List ℕ) → Settled u events path → after.now path ≡ before.now path
 settled_still u events before after apart d path s = d.others path (settled_not_log u events apart path s) (λ i step makes loose. loose_not_settled u events apart i loose step path makes s)
 
 -- the members of a step that is done well are settled
@@ -101,8 +101,8 @@ noted_move u old new log step members outs ins n = record {
     go (Some d) (on, d_outs, d_ins) = (on, digested_move u.digest old new step.outs d.outs outs d_outs, digested_move u.digest old new (paths_with_bytes members) d.ins ins_same d_ins)
 
 -- what was noted of a step stays, while others write
-pub noted_after_drift : NotedAfterDrift
-noted_after_drift u events before after log apart run d n = record {
+pub noted_after_change : NotedAfterChange
+noted_after_change u events before after log apart run d n = record {
   recorded = λ i step members at done file close. noted_move u before.now after.now log step members (outs i step at done) (ins i step members at done close) (n.recorded i step members at done file close);
   none_older = λ i step members at done file close. none_older_move before.now after.now step members (outs i step at done) (ins i step members at done close) (n.none_older i step members at done file close);
   not_started = λ i step at none. elim (n.not_started i step at none) [
@@ -287,8 +287,8 @@ none_older_after_end u events now k well older own i step members at done file c
   | inr (e, w) ↦ own w step members (subst (λ j. step_at u.build.steps j ≡ Some step) (sym e) at) file close
 ]
 
-pub none_older_after_drift : NoneOlderAfterDrift
-none_older_after_drift u events before after apart run d older i step members at done file close =
+pub none_older_after_change : NoneOlderAfterChange
+none_older_after_change u events before after apart run d older i step members at done file close =
     none_older_move before.now after.now step members
     (λ out c. settled_still u events before after apart d out (done_well i step out (record { at = at; among = c }) done))
     (λ m y c. settled_still u events before after apart d m (done_inside u events apart run i step members at (done_was_started u events i true run done) close m y c))

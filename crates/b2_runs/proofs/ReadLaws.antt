@@ -15,7 +15,7 @@ use Rattle.b2_runs.specs.Staleness.{Update}
 use Rattle.b2_runs.specs.Runs.{Settled, Settled.done_well, on_settled, MayCome}
 use Rattle.b2_runs.specs.Soundness.{Holds, IsSound}
 use Rattle.b2_runs.specs.FileReads.{scan_limit, digest_limit, IsInput, IsNeededOut, IsToDigest, IsToDigest.input, IsToDigest.output, IsTooBig, IsTooBig.to_scan, IsTooBig.to_digest, IsLogThen, IsCalledFor, IsCalledFor.to_scan as called_to_scan, IsCalledFor.to_digest as called_to_digest}
-use Rattle.b2_runs.specs.ReadLaws.{LargeIsTooBig, TooBigIsLarge, NothingTooBig, TooBigThroughEnd, TooBigThroughDrift, ReadsNone, ReadsMore, ReadsAlong, ReadsAsPastGrows, ScannedIsNotRead, UnscannedIsNotRead}
+use Rattle.b2_runs.specs.ReadLaws.{LargeIsTooBig, TooBigIsLarge, NothingTooBig, TooBigThroughEnd, TooBigThroughChange, ReadsNone, ReadsMore, ReadsAlong, ReadsAsPastGrows, ScannedIsNotRead, UnscannedIsNotRead}
 use Rattle.b2_runs.proofs.ElementLemmas.{Contains_nil}
 use Rattle.b2_runs.proofs.ClosureLaws.{known_grows, close_stays}
 use Rattle.b2_runs.proofs.CleanLaws.{clean_is_one}
@@ -86,9 +86,9 @@ too_big_through_end u events now path size i well apart opened big = go big
     go (to_scan bytes to size_is more) = to_scan bytes (record { scanned = to.scanned; input = input_up u events (events ++ Done i well ∷ []) path grows to.input; settled = (grows path to.settled.0, to.settled.1) }) size_is more
     go (to_digest bytes to size_is more) = to_digest bytes (digested bytes to) size_is more
 
-pub too_big_through_drift : TooBigThroughDrift
-too_big_through_drift u events before after path size apart d (to_scan bytes to size_is more) = to_scan bytes to size_is more
-too_big_through_drift u events before after path size apart d (to_digest bytes to size_is more) = to_digest bytes (go to) size_is more
+pub too_big_through_change : TooBigThroughChange
+too_big_through_change u events before after path size apart d (to_scan bytes to size_is more) = to_scan bytes to size_is more
+too_big_through_change u events before after path size apart d (to_digest bytes to size_is more) = to_digest bytes (go to) size_is more
   where
     go : IsToDigest u events before.now path bytes → IsToDigest u events after.now path bytes
     go (input on read s) = input on read s

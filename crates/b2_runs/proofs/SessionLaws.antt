@@ -21,7 +21,7 @@ use Rattle.b2_runs.specs.Sessions.{Happening, Happening.edit, Happening.update, 
 use Rattle.b2_runs.specs.SessionLaws.{TrueThroughEdit, TrueThroughStop, LeaveTrue, UpdatesLeaveTrue, TrueThroughSession, SessionEndsWith, UpdateLeavesClean, SessionEndsClean, NotedThroughReopen, UpdateCountsFault, StopCountsFault, UpdateLeavesNone, StopLeavesNone}
 use Rattle.b2_runs.proofs.LogFileLaws.{true_where_missing, true_where_still}
 use Rattle.b2_runs.proofs.SettledLaws.{log_in_roots}
-use Rattle.b2_runs.proofs.SoundLaws.{work_drifts}
+use Rattle.b2_runs.proofs.SoundLaws.{work_is_allowed}
 use Rattle.b2_runs.proofs.CleanBySources.{clean_by_sources}
 use Rattle.b2_runs.proofs.StopLaws.{noted_through_ends}
 
@@ -169,7 +169,7 @@ noted_through_reopen u answer old before now between after log apart shows h r i
     let still = work_leaves_log u.build.steps u.build.roots running now r.new apart (λ child c. let a = h.at_work.each child c in (a.fed.step, a.fed.at, a.outs ∙ a.fed.outs)) worked in
     elim (h.noted log (subst (λ o. IsLogHeld o log) still is) (subst (λ (o : Option (List ℕ)). length (held_bytes o) ≤ log_limit) still fits)) [
       | inl none ↦ inl none
-      | inr (b, n) ↦ inr (b, noted_through_ends u h.events now r.new log b apart (work_drifts u h.events running now r.new h.at_work r.keeps worked) n)
+      | inr (b, n) ↦ inr (b, noted_through_ends u h.events now r.new log b apart (work_is_allowed u h.events running now r.new h.at_work r.keeps worked) n)
     ]
 
 -- the one update or stop of a session, with its answer

@@ -18,7 +18,7 @@ use Rattle.b2_runs.specs.Logs.{InputStood, AreTrueDigests, IsTrueRecord}
 use Rattle.b2_runs.specs.Staleness.{Update, making, AreStamped, path_in}
 use Rattle.b2_runs.specs.Records.{HasDigestsOf, IsRecordOf}
 use Rattle.b2_runs.specs.Soundness.{Holds, IsSound, IsAtWork}
-use Rattle.b2_runs.specs.SoundLaws.{SoundAtEntry, SoundAfterStart, SoundAfterDrift, SoundAfterEnd, WorkDrifts, RemovalDrifts, LogDrifts, DistinguishesLess, RecordIsTrue}
+use Rattle.b2_runs.specs.SoundLaws.{SoundAtEntry, SoundAfterStart, SoundAfterChange, SoundAfterEnd, WorkIsAllowed, RemovalIsAllowed, LogIsAllowed, DistinguishesLess, RecordIsTrue}
 use Rattle.b2_runs.proofs.ElementLemmas.{one_step, Contains_here, Contains_there, Contains_nil}
 use Rattle.b2_runs.proofs.LogLaws.{record_grows}
 use Rattle.b2_runs.proofs.StampedFiles.{whole_file, holds_same, with_bytes_in, stamp_back, digested_outs, digested_inputs}
@@ -49,8 +49,8 @@ sound_after_start u events disk i s = record {
 }
 
 -- what steps that run or failed do leaves the disk sound
-pub sound_after_drift : SoundAfterDrift
-sound_after_drift u events before after apart s d distinct = record {
+pub sound_after_change : SoundAfterChange
+sound_after_change u events before after apart s d distinct = record {
   keeps = d.keeps;
   entry_stood = λ path file at. d.grows _ (s.entry_stood path file at);
   records_true = λ off r c. record_grows (making u) before.past after.past r d.grows (s.records_true off r c);
@@ -90,8 +90,8 @@ made_clean b apart now i step members path makes close holds =
     go false = holds
 
 -- children at work change outputs of their steps alone
-pub work_drifts : WorkDrifts
-work_drifts u events running before after at_work keeps worked = record {
+pub work_is_allowed : WorkIsAllowed
+work_is_allowed u events running before after at_work keeps worked = record {
   keeps = keeps;
   others = λ path not_log none. worked.others path (λ w.
       let a = at_work.each w.child w.runs in
@@ -109,17 +109,17 @@ removed_other disk path other differ = go (bytes_eq path other) refl
     go true e = absurd (differ ((bytes_eq-Decides path other).0 e))
     go false e = refl
 
--- to remove an output of a step that runs or failed is a drift
-pub removal_drifts : RemovalDrifts
-removal_drifts u events disk i step path makes loose keeps = record {
+-- to remove an output of a step that runs or failed is an allowed change
+pub removal_is_allowed : RemovalIsAllowed
+removal_is_allowed u events disk i step path makes loose keeps = record {
   keeps = keeps;
   others = λ other not_log none. removed_other disk path other (λ e. none i step (subst (Makes u.build.steps i step) e makes) loose);
   grows = λ old c. c;
 }
 
--- a change of the log is a drift
-pub log_drifts : LogDrifts
-log_drifts u events before after keeps same grows = record { keeps = keeps; others = λ path not_log none. same path not_log; grows = grows }
+-- a change of the log is allowed
+pub log_is_allowed : LogIsAllowed
+log_is_allowed u events before after keeps same grows = record { keeps = keeps; others = λ path not_log none. same path not_log; grows = grows }
 
 pub contains_at : {X : Type 0} (xs : List X) (place : ℕ) (x : X) → slice_get xs place ≡ Some x → Contains xs x
 contains_at [] place x e = absurd (let f : None ≡ Some x = e in cc)
@@ -141,8 +141,8 @@ end_clean u events apart child before after a made step path makes =
 pub sound_after_end : SoundAfterEnd
 sound_after_end u events old new before after i well apart at_work sound keeps ends distinct =
     let a : IsAtWork u events ends.child = at_work.each ends.child (contains_at old.running ends.place ends.child ends.ran) in
-    let drifted = sound_after_drift u events before after apart sound (work_drifts u events old.running before after at_work keeps ends.worked) distinct in
-    sound_done u events after i well drifted
+    let changed = sound_after_change u events before after apart sound (work_is_allowed u events old.running before after at_work keeps ends.worked) distinct in
+    sound_done u events after i well changed
     (λ good step path makes. end_clean u events apart ends.child before after a (ends.made_all good) step path (subst (λ n. Makes u.build.steps n step path) (sym ends.step_is) makes))
 
 -- digests that told apart more told apart less

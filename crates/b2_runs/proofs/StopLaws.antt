@@ -10,14 +10,14 @@ use Rattle.b2_log.specs.declared.line.LogLine.{LogLine}
 use Rattle.b2_runs.specs.Staleness.{Update, IsFresh}
 use Rattle.b2_runs.specs.Events.{IsOpen}
 use Rattle.b2_runs.specs.Runs.{Settled, Settled.done_well, RunFrom, IsRunSoFar, OpenEnds, IsBegun, CanStart}
-use Rattle.b2_runs.specs.Soundness.{IsSound, IsLoose, Drifts}
+use Rattle.b2_runs.specs.Soundness.{IsSound, IsLoose, IsAllowedChange}
 use Rattle.b2_runs.specs.Afterwards.{next_update, IsMadeEachTime, IsMadeEachTime.through, IsNoted}
 use Rattle.b2_runs.specs.StopLaws.{RunIsBegun, BegunGoesOn, BegunUpToStart, SoundBeforeEnds, NotedThroughEnds, NotedThoughTorn, FinishedIsRecorded, FreshThoughStopped, NotStartedAgain, NoWorkIsLost, BegunHoldsEarlier}
 use Rattle.b2_runs.proofs.ElementLemmas.{one_step, Contains_here, Contains_cases, Contains_nil}
 use Rattle.b2_runs.proofs.EventLaws.{start_in_start, done_in_start, start_in_done, done_in_done}
 use Rattle.b2_runs.proofs.RunLaws.{fresh_events, run_has_begun, close_on_settled, same_members}
 use Rattle.b2_runs.proofs.CleanBySources.{clean_close_to}
-use Rattle.b2_runs.proofs.NotedLaws.{noted_after_drift}
+use Rattle.b2_runs.proofs.NotedLaws.{noted_after_change}
 use Rattle.b2_runs.proofs.AfterLaws.{same_sources, recorded_next, judge_next, fresh_afterwards}
 
 -- a start is none of some ends
@@ -92,15 +92,15 @@ sound_before_ends u events disk b s = record {
 loose_before : (u : Update) (events : List ChildEvent) (b : IsBegun u events) (i : ℕ) → IsLoose events i → IsLoose b.front i
 loose_before u events b i l = (start_before u events b i l.0, λ done. l.1 (event_after u events b (Done i true) done))
 
-drifts_before : (u : Update) (events : List ChildEvent) (before after : Disk) (b : IsBegun u events) → Drifts u events before after → Drifts u b.front before after
-drifts_before u events before after b d = record {
+change_before : (u : Update) (events : List ChildEvent) (before after : Disk) (b : IsBegun u events) → IsAllowedChange u events before after → IsAllowedChange u b.front before after
+change_before u events before after b d = record {
   keeps = d.keeps;
   others = λ path not_log unmade. d.others path not_log (λ i step makes loose. unmade i step makes (loose_before u events b i loose));
   grows = d.grows;
 }
 
 pub noted_through_ends : NotedThroughEnds
-noted_through_ends u events before after log b apart d n = noted_after_drift u b.front before after log apart b.run (drifts_before u events before after b d) n
+noted_through_ends u events before after log b apart d n = noted_after_change u b.front before after log apart b.run (change_before u events before after b d) n
 
 pub noted_though_torn : NotedThoughTorn
 noted_though_torn u events now log after line (inl same) without with_line = subst (IsNoted u events now) (sym same) without

@@ -22,7 +22,7 @@ use Rattle.b2_runs.specs.Records.{IsRecordOf, IsScanOf}
 use Rattle.b2_runs.specs.Events.{AreInOrder}
 use Rattle.b2_runs.specs.Runs.{IsRunSoFar, IsBegun}
 use Rattle.b2_runs.specs.Outcomes.{IsFailed}
-use Rattle.b2_runs.specs.Soundness.{IsSound, Drifts}
+use Rattle.b2_runs.specs.Soundness.{IsSound, IsAllowedChange}
 use Rattle.b2_runs.specs.FileReads.{IsToScan}
 use Rattle.b2_runs.specs.Afterwards.{next_update, IsMadeEachTime, NoneDoneOlder, IsNotedStep, IsNoted}
 use Rattle.b2_runs.specs.LogCourses.{IsLong, FirstLines, HasDigestsAlready, IsLogAfter, held_bytes, log_file, IsLogWhole, IsLogCut}
@@ -83,7 +83,7 @@ LogIsProper = (u : Update) (now : Folder) (first log : List LogLine) (events : L
 
 -- they stay what the events call for as steps that run or failed change their outputs
 abbrev pub LogMoves : Type 0
-LogMoves = (u : Update) (events : List ChildEvent) (before after : Disk) (first log : List LogLine) → Apart u.build.steps u.build.roots → IsRunSoFar u events → Drifts u events before after → IsLogAfter u before.now first events log → IsLogAfter u after.now first events log
+LogMoves = (u : Update) (events : List ChildEvent) (before after : Disk) (first log : List LogLine) → Apart u.build.steps u.build.roots → IsRunSoFar u events → IsAllowedChange u events before after → IsLogAfter u before.now first events log → IsLogAfter u after.now first events log
 
 -- they are true where the lines were that the update began with
 abbrev pub LogStaysTrue : Type 0

@@ -19,7 +19,7 @@ use Rattle.b2_runs.specs.Records.{IsRecordOf}
 use Rattle.b2_runs.specs.Events.{IsOpen}
 use Rattle.b2_runs.specs.Runs.{Settled, CanStart, IsRunSoFar}
 use Rattle.b2_runs.specs.Outcomes.{IsFailed, LeavesNothing}
-use Rattle.b2_runs.specs.Soundness.{IsLoose, Drifts, AreAtWork}
+use Rattle.b2_runs.specs.Soundness.{IsLoose, IsAllowedChange, AreAtWork}
 use Rattle.b2_runs.specs.Afterwards.{next_update, NoneDoneOlder, IsNoted}
 
 -- before any event a log is right that says what the one at entry said
@@ -31,8 +31,8 @@ abbrev pub NotedAfterStart : Type 0
 NotedAfterStart = (u : Update) (events : List ChildEvent) (now : Folder) (log : List LogLine) (i : ℕ) → Apart u.build.steps u.build.roots → CanStart u events i → IsNoted u events now log → IsNoted u (events ++ Start i ∷ []) now log
 
 -- it stays right as steps that run or failed change their outputs
-abbrev pub NotedAfterDrift : Type 0
-NotedAfterDrift = (u : Update) (events : List ChildEvent) (before after : Disk) (log : List LogLine) → Apart u.build.steps u.build.roots → IsRunSoFar u events → Drifts u events before after → IsNoted u events before.now log → IsNoted u events after.now log
+abbrev pub NotedAfterChange : Type 0
+NotedAfterChange = (u : Update) (events : List ChildEvent) (before after : Disk) (log : List LogLine) → Apart u.build.steps u.build.roots → IsRunSoFar u events → IsAllowedChange u events before after → IsNoted u events before.now log → IsNoted u events after.now log
 
 -- it stays right as a step is done badly, or as one is done that has no record
 abbrev pub NotedAfterOtherEnd : Type 0
@@ -85,5 +85,5 @@ NoneOlderAfterEnd = (u : Update) (events : List ChildEvent) (now : Folder) (i : 
     → NoneDoneOlder u (events ++ Done i well ∷ []) now
 
 -- it stays so as steps that run or failed change their outputs
-abbrev pub NoneOlderAfterDrift : Type 0
-NoneOlderAfterDrift = (u : Update) (events : List ChildEvent) (before after : Disk) → Apart u.build.steps u.build.roots → IsRunSoFar u events → Drifts u events before after → NoneDoneOlder u events before.now → NoneDoneOlder u events after.now
+abbrev pub NoneOlderAfterChange : Type 0
+NoneOlderAfterChange = (u : Update) (events : List ChildEvent) (before after : Disk) → Apart u.build.steps u.build.roots → IsRunSoFar u events → IsAllowedChange u events before after → NoneDoneOlder u events before.now → NoneDoneOlder u events after.now

@@ -12,7 +12,7 @@ use Rattle.b2_log.specs.Finding.{find_scan}
 use Rattle.b2_runs.specs.Staleness.{Update}
 use Rattle.b2_runs.specs.Events.{IsOpen}
 use Rattle.b2_runs.specs.Runs.{on_settled, MayCome}
-use Rattle.b2_runs.specs.Soundness.{IsSound, Drifts}
+use Rattle.b2_runs.specs.Soundness.{IsSound, IsAllowedChange}
 use Rattle.b2_runs.specs.FileReads.{scan_limit, digest_limit, IsInput, IsNeededOut, IsToScan, IsTooBig, IsLogThen, IsCalledFor, ReadsOnce}
 
 -- ---- files that are too big
@@ -42,8 +42,8 @@ abbrev pub TooBigThroughEnd : Type 0
 TooBigThroughEnd = (u : Update) (events : List ChildEvent) (now : Folder) (path : List ℕ) (size i : ℕ) (well : Bool) → Apart u.build.steps u.build.roots → IsOpen events i → IsTooBig u events now path size → IsTooBig u (events ++ Done i well ∷ []) now path size
 
 -- a file that is too big stays so as steps that run or failed change their outputs: so it is what was told, wherever the update ends
-abbrev pub TooBigThroughDrift : Type 0
-TooBigThroughDrift = (u : Update) (events : List ChildEvent) (before after : Disk) (path : List ℕ) (size : ℕ) → Apart u.build.steps u.build.roots → Drifts u events before after → IsTooBig u events before.now path size → IsTooBig u events after.now path size
+abbrev pub TooBigThroughChange : Type 0
+TooBigThroughChange = (u : Update) (events : List ChildEvent) (before after : Disk) (path : List ℕ) (size : ℕ) → Apart u.build.steps u.build.roots → IsAllowedChange u events before after → IsTooBig u events before.now path size → IsTooBig u events after.now path size
 
 -- ---- reads
 

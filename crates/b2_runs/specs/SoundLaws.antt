@@ -13,7 +13,7 @@ use Rattle.b2_runs.specs.Logs.{RecordsTrue, IsTrueRecord}
 use Rattle.b2_runs.specs.Staleness.{Update, making}
 use Rattle.b2_runs.specs.Records.{IsRecordOf}
 use Rattle.b2_runs.specs.Runs.{Settled}
-use Rattle.b2_runs.specs.Soundness.{Distinguishes, IsSound, IsLoose, Drifts, AreAtWork}
+use Rattle.b2_runs.specs.Soundness.{Distinguishes, IsSound, IsLoose, IsAllowedChange, AreAtWork}
 
 -- where an update begins, the disk is sound to it
 abbrev pub SoundAtEntry : Type 0
@@ -24,8 +24,8 @@ abbrev pub SoundAfterStart : Type 0
 SoundAfterStart = (u : Update) (events : List ChildEvent) (disk : Disk) (i : ℕ) → IsSound u events disk → IsSound u (events ++ Start i ∷ []) disk
 
 -- it stays sound as steps that run or failed change their outputs, and the log changes
-abbrev pub SoundAfterDrift : Type 0
-SoundAfterDrift = (u : Update) (events : List ChildEvent) (before after : Disk) → Apart u.build.steps u.build.roots → IsSound u events before → Drifts u events before after → Distinguishes u after.past → IsSound u events after
+abbrev pub SoundAfterChange : Type 0
+SoundAfterChange = (u : Update) (events : List ChildEvent) (before after : Disk) → Apart u.build.steps u.build.roots → IsSound u events before → IsAllowedChange u events before after → Distinguishes u after.past → IsSound u events after
 
 -- it stays sound as a child ends: where it ended well, its outputs have the clean build's bytes
 abbrev pub SoundAfterEnd : Type 0
@@ -33,16 +33,16 @@ SoundAfterEnd = (u : Update) (events : List ChildEvent) (old new : Family) (befo
     → Ends u.build.made old (Some before) i well new (Some after) → Distinguishes u after.past → IsSound u (events ++ Done i well ∷ []) after
 
 -- children at work change nothing but outputs of steps that run
-abbrev pub WorkDrifts : Type 0
-WorkDrifts = (u : Update) (events : List ChildEvent) (running : List Child) (before after : Disk) → AreAtWork u events running → IsConsistent after → ChangesOnlyOutputs running before after → Drifts u events before after
+abbrev pub WorkIsAllowed : Type 0
+WorkIsAllowed = (u : Update) (events : List ChildEvent) (running : List Child) (before after : Disk) → AreAtWork u events running → IsConsistent after → ChangesOnlyOutputs running before after → IsAllowedChange u events before after
 
 -- to remove an output of a step that runs or failed changes nothing else
-abbrev pub RemovalDrifts : Type 0
-RemovalDrifts = (u : Update) (events : List ChildEvent) (disk : Disk) (i : ℕ) (step : Step) (path : List ℕ) → Makes u.build.steps i step path → IsLoose events i → IsConsistent (without path disk) → Drifts u events disk (without path disk)
+abbrev pub RemovalIsAllowed : Type 0
+RemovalIsAllowed = (u : Update) (events : List ChildEvent) (disk : Disk) (i : ℕ) (step : Step) (path : List ℕ) → Makes u.build.steps i step path → IsLoose events i → IsConsistent (without path disk) → IsAllowedChange u events disk (without path disk)
 
 -- a call that changes nothing but the log changes nothing else
-abbrev pub LogDrifts : Type 0
-LogDrifts = (u : Update) (events : List ChildEvent) (before after : Disk) → IsConsistent after → ((path : List ℕ) → (path ≡ log_path → ⊥) → after.now path ≡ before.now path) → ((old : Past) → Contains before.past old → Contains after.past old) → Drifts u events before after
+abbrev pub LogIsAllowed : Type 0
+LogIsAllowed = (u : Update) (events : List ChildEvent) (before after : Disk) → IsConsistent after → ((path : List ℕ) → (path ≡ log_path → ⊥) → after.now path ≡ before.now path) → ((old : Past) → Contains before.past old → Contains after.past old) → IsAllowedChange u events before after
 
 -- digests that tell apart what stood by now told apart what stood before
 abbrev pub DistinguishesLess : Type 0

@@ -39,7 +39,7 @@ abbrev pub IsLoose : List ChildEvent → ℕ → Type 0
 IsLoose events i = Contains events (Start i) × (Contains events (Done i true) → ⊥)
 
 -- Between two events nothing changes but the log and outputs of steps that run or failed, and what stood is not forgotten.
-pub record Drifts (u : Update) (events : List ChildEvent) (before after : Disk) : Type 0 where
+pub record IsAllowedChange (u : Update) (events : List ChildEvent) (before after : Disk) : Type 0 where
   pub keeps : IsConsistent after
   pub others : (path : List ℕ) → (path ≡ log_path → ⊥) → ((i : ℕ) (step : Step) → Makes u.build.steps i step path → IsLoose events i → ⊥) → after.now path ≡ before.now path
   pub grows : (old : Past) → Contains before.past old → Contains after.past old

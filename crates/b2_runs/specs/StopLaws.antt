@@ -11,7 +11,7 @@ use Rattle.b2_log.specs.declared.line.LogLine.{LogLine}
 use Rattle.b2_runs.specs.Staleness.{Update, IsRecorded}
 use Rattle.b2_runs.specs.Events.{IsOpen}
 use Rattle.b2_runs.specs.Runs.{Settled, IsRunSoFar, IsBegun}
-use Rattle.b2_runs.specs.Soundness.{IsSound, Drifts}
+use Rattle.b2_runs.specs.Soundness.{IsSound, IsAllowedChange}
 use Rattle.b2_runs.specs.Afterwards.{next_update, IsMadeEachTime, IsNoted, IsFreshStep}
 
 -- Of an update that stops anywhere, the events are a run so far, with each start in it, followed by ends of steps that it
@@ -36,7 +36,7 @@ SoundBeforeEnds = (u : Update) (events : List ChildEvent) (disk : Disk) (b : IsB
 
 -- of what was done in the run so far the last lines of the log stay, as steps that run or failed change their outputs
 abbrev pub NotedThroughEnds : Type 0
-NotedThroughEnds = (u : Update) (events : List ChildEvent) (before after : Disk) (log : List LogLine) (b : IsBegun u events) → Apart u.build.steps u.build.roots → Drifts u events before after → IsNoted u b.front before.now log → IsNoted u b.front after.now log
+NotedThroughEnds = (u : Update) (events : List ChildEvent) (before after : Disk) (log : List LogLine) (b : IsBegun u events) → Apart u.build.steps u.build.roots → IsAllowedChange u events before after → IsNoted u b.front before.now log → IsNoted u b.front after.now log
 
 -- so do they through an append that was torn: it has left the lines as they were, or the whole line after them
 abbrev pub NotedThoughTorn : Type 0

@@ -1,5 +1,5 @@
 //! Laws of the log along a run: its last line on each step is the right one.
-ghost use Rattle.b2_runs.specs.NotedLaws.{NotedAtEntry, NotedAfterStart, NotedAfterDrift, NotedAfterOtherEnd, NotedAfterLine, NotedAfterRecord, NotedAfterScan, NotedAfterMigration, OutputsAreNewer, FailedIsStale, NoneOlderAtEntry, NoneOlderAfterStart, NoneOlderAfterEnd, NoneOlderAfterDrift};
+ghost use Rattle.b2_runs.specs.NotedLaws.{NotedAtEntry, NotedAfterStart, NotedAfterChange, NotedAfterOtherEnd, NotedAfterLine, NotedAfterRecord, NotedAfterScan, NotedAfterMigration, OutputsAreNewer, FailedIsStale, NoneOlderAtEntry, NoneOlderAfterStart, NoneOlderAfterEnd, NoneOlderAfterChange};
 
 /// Before any event a log is right that says what the one at entry said.
 pub fn noted_at_entry()
@@ -12,8 +12,8 @@ pub fn noted_after_start()
 {}
 
 /// The log stays right as steps that run or failed change their outputs.
-pub fn noted_after_drift()
-    ensures { NotedAfterDrift }
+pub fn noted_after_change()
+    ensures { NotedAfterChange }
 {}
 
 /// The log stays right as a step is done badly, or as one is done well that has no record.
@@ -67,6 +67,6 @@ pub fn none_older_after_end()
 {}
 
 /// It stays so as steps that run or failed change their outputs.
-pub fn none_older_after_drift()
-    ensures { NoneOlderAfterDrift }
+pub fn none_older_after_change()
+    ensures { NoneOlderAfterChange }
 {}

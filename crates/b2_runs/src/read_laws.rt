@@ -1,5 +1,5 @@
 //! Laws of the files that an update reads, and of those that are too big for it.
-ghost use Rattle.b2_runs.specs.ReadLaws.{LargeIsTooBig, TooBigIsLarge, NothingTooBig, ReadsNone, ReadsMore, ReadsAlong, ReadsAsPastGrows, ScannedIsNotRead, UnscannedIsNotRead, TooBigThroughEnd, TooBigThroughDrift};
+ghost use Rattle.b2_runs.specs.ReadLaws.{LargeIsTooBig, TooBigIsLarge, NothingTooBig, ReadsNone, ReadsMore, ReadsAlong, ReadsAsPastGrows, ScannedIsNotRead, UnscannedIsNotRead, TooBigThroughEnd, TooBigThroughChange};
 
 /// A file that is to be scanned and has more bytes than are scanned is too big, and stands.
 pub fn large_is_too_big()
@@ -52,6 +52,6 @@ pub fn too_big_through_end()
 {}
 
 /// It stays so as steps that run or failed change their outputs.
-pub fn too_big_through_drift()
-    ensures { TooBigThroughDrift }
+pub fn too_big_through_change()
+    ensures { TooBigThroughChange }
 {}

@@ -1,5 +1,5 @@
 //! Laws of sound disks: what keeps a disk sound to an update, and that records which it appends are true.
-ghost use Rattle.b2_runs.specs.SoundLaws.{SoundAtEntry, SoundAfterStart, SoundAfterDrift, SoundAfterEnd, WorkDrifts, RemovalDrifts, LogDrifts, DistinguishesLess, RecordIsTrue};
+ghost use Rattle.b2_runs.specs.SoundLaws.{SoundAtEntry, SoundAfterStart, SoundAfterChange, SoundAfterEnd, WorkIsAllowed, RemovalIsAllowed, LogIsAllowed, DistinguishesLess, RecordIsTrue};
 
 /// Where an update begins, the disk is sound to it.
 pub fn sound_at_entry()
@@ -12,8 +12,8 @@ pub fn sound_after_start()
 {}
 
 /// The disk stays sound as steps that run or failed change their outputs, and as the log changes.
-pub fn sound_after_drift()
-    ensures { SoundAfterDrift }
+pub fn sound_after_change()
+    ensures { SoundAfterChange }
 {}
 
 /// The disk stays sound as a child ends; where it ended well, its outputs have the clean build's bytes.
@@ -22,18 +22,18 @@ pub fn sound_after_end()
 {}
 
 /// Children at work change nothing but outputs of steps that run.
-pub fn work_drifts()
-    ensures { WorkDrifts }
+pub fn work_is_allowed()
+    ensures { WorkIsAllowed }
 {}
 
 /// To remove an output of a step that runs or failed changes nothing else.
-pub fn removal_drifts()
-    ensures { RemovalDrifts }
+pub fn removal_is_allowed()
+    ensures { RemovalIsAllowed }
 {}
 
 /// A call that changes nothing but the log changes nothing else.
-pub fn log_drifts()
-    ensures { LogDrifts }
+pub fn log_is_allowed()
+    ensures { LogIsAllowed }
 {}
 
 /// Digests that tell apart what stood by now told apart what stood before.

@@ -8,10 +8,10 @@ use Rattle.b2_plan.specs.Plans.{log_path}
 use Rattle.b2_runs.specs.Staleness.{Update, paths_with_bytes}
 use Rattle.b2_runs.specs.Events.{is_start, is_done}
 use Rattle.b2_runs.specs.Runs.{CanStart}
-use Rattle.b2_runs.specs.Soundness.{Drifts, IsAtWork}
+use Rattle.b2_runs.specs.Soundness.{IsAllowedChange, IsAtWork}
 use Rattle.b2_runs.specs.ChildLaws.{start_gives}
 use Rattle.b2_runs.proofs.RunLaws.{run_goes_on}
-use Rattle.b2_runs.proofs.SoundLaws.{sound_after_start, sound_after_drift, sound_after_end, work_drifts}
+use Rattle.b2_runs.proofs.SoundLaws.{sound_after_start, sound_after_change, sound_after_end, work_is_allowed}
 use Rattle.b2_runs.proofs.ChildLaws.{start_is_fed, at_work_after_start, at_work_after_end, end_is_open, fed_after_start, fed_after_end}
 use Rattle.b2_update.specs.Progress.{IsWhole, IsUnderWay}
 use Rattle.b2_update.proofs.WholeLemmas.{by_stamp}
@@ -38,17 +38,17 @@ under_start u w old events fam disk i core can lowest = record {
   log = core.log;
 }
 
--- a drift leaves the log, where the steps that run or failed do not write it
-pub under_drift : (u : Update) → IsWhole u → (old : Family) (events : List ChildEvent) (fam : Family) (before after : Disk) → Drifts u events before after → after.now log_path ≡ before.now log_path
+-- an allowed change leaves the log, where the steps that run or failed do not write it
+pub under_change : (u : Update) → IsWhole u → (old : Family) (events : List ChildEvent) (fam : Family) (before after : Disk) → IsAllowedChange u events before after → after.now log_path ≡ before.now log_path
     → IsUnderWay u old events fam before → IsUnderWay u old events fam after
-under_drift u w old events fam before after drifts log core = record {
+under_change u w old events fam before after change log core = record {
   events_are = core.events_are;
   given = core.given;
   given_are = core.given_are;
   run = core.run;
   fed = core.fed;
   at_work = core.at_work;
-  sound = sound_after_drift u events before after w.apart core.sound drifts (by_stamp u w after);
+  sound = sound_after_change u events before after w.apart core.sound change (by_stamp u w after);
   log = log ∙ core.log;
 }
 
@@ -62,7 +62,7 @@ log_stays u w old events fam before after core worked = worked.others log_path (
 pub under_work : (u : Update) → IsWhole u → (old : Family) (events : List ChildEvent) (fam : Family) (before after : Disk) → IsConsistent after → IsUnderWay u old events fam before
     → ChangesOnlyOutputs fam.running before after → IsUnderWay u old events fam after
 under_work u w old events fam before after consistent core worked =
-    under_drift u w old events fam before after (work_drifts u events fam.running before after core.at_work consistent worked) (log_stays u w old events fam before after core worked) core
+    under_change u w old events fam before after (work_is_allowed u events fam.running before after core.at_work consistent worked) (log_stays u w old events fam before after core worked) core
 
 -- a child has ended
 pub under_done : (u : Update) → IsWhole u → (old : Family) (events : List ChildEvent) (fam new : Family) (before after : Disk) (i : ℕ) (well : Bool) → IsConsistent after → IsUnderWay u old events fam before

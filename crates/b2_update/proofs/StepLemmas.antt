@@ -15,7 +15,7 @@ use Rattle.b2_runs.specs.Staleness.{Update, paths_with_bytes}
 use Rattle.b2_runs.specs.Events.{is_start, is_done}
 use Rattle.b2_runs.specs.Runs.{on_settled, CanStart}
 use Rattle.b2_runs.specs.Outcomes.{LeavesNothing}
-use Rattle.b2_runs.specs.Soundness.{Drifts, IsLoose}
+use Rattle.b2_runs.specs.Soundness.{IsAllowedChange, IsLoose}
 use Rattle.b2_runs.specs.Reports.{event_line, event_lines, start_line, failed_line, said_of, line as line_of, named, first_path, AreEnds, StopsAtEvent}
 use Rattle.b2_runs.specs.Moments.{Moment}
 use Rattle.b2_runs.proofs.ElementLemmas.{one_step}
@@ -35,7 +35,7 @@ use Rattle.b2_update.specs.Progress.{IsWhole, IsUnderWay, IsDue, Stands, HasEnde
 use Rattle.b2_update.proofs.WritingLemmas.{adds_both}
 use Rattle.b2_update.proofs.WholeLemmas.{none_fresh}
 use Rattle.b2_update.proofs.ValueLemmas.{members_by, value_at, close_by, paths_read, settled_value}
-use Rattle.b2_update.proofs.EventLemmas.{under_drift, under_start, under_work, under_done}
+use Rattle.b2_update.proofs.EventLemmas.{under_change, under_start, under_work, under_done}
 
 -- the child processes when a step has started
 abbrev pub child_started : ℕ → Step → List (List ℕ) → Option Disk → Family → Family
@@ -369,12 +369,12 @@ ended_kept u entry front i step here host w at h clears keeps consistent =
     let past : BeginsPast h.now after = subst₂ (λ d e. BothTold BeginsPast d e) h.now_is after_is keeps.files in
     let loose : IsLoose events i =
     (Contains-append_left front (Done i false ∷ []) (Start i) h.started, λ good. let e : true ≡ false = done_once u events i true false h.core.run good (Contains-push front (Done i false)) in cc) in
-    let drifts : Drifts u events h.now after = record {
+    let change : IsAllowedChange u events h.now after = record {
       keeps = consistent_at host.disk after after_is consistent;
       others = λ path not_log none. others path (λ c. none i step (record { at = at; among = c }) loose);
       grows = λ old c. subst (λ l. Contains l old) (sym past.1) (Contains-append_left h.now.past past.0 old c);
     } in
-    let stays = under_drift u w entry.host.children events here.host.children h.now after drifts (others log_path (λ c. w.apart.not_log i step (record { at = at; among = c }))) h.core in
+    let stays = under_change u w entry.host.children events here.host.children h.now after change (others log_path (λ c. w.apart.not_log i step (record { at = at; among = c }))) h.core in
     record {
       now = after;
       now_is = after_is;

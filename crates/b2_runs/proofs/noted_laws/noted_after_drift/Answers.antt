@@ -1,5 +1,0 @@
-use Rattle.b2_runs.proofs.NotedLaws.{noted_after_drift}
-use Rattle.b2_runs.proofs.noted_laws.noted_after_drift.Goals as goal
-
-pub returns : goal.returns
-returns c = noted_after_drift

@@ -1,5 +1,0 @@
-use Rattle.b2_runs.proofs.ReadLaws.{too_big_through_drift}
-use Rattle.b2_runs.proofs.read_laws.too_big_through_drift.Goals as goal
-
-pub returns : goal.returns
-returns c = too_big_through_drift

@@ -1,5 +1,0 @@
-use Rattle.b2_runs.proofs.SoundLaws.{sound_after_drift}
-use Rattle.b2_runs.proofs.sound_laws.sound_after_drift.Goals as goal
-
-pub returns : goal.returns
-returns c = sound_after_drift
