@@ -1,7 +1,6 @@
 use Rattle.std.proofs.Common.{◌≡◌, ◌⊎◌, ℕ, ◌<◌, Bool, true, false, List, [], ◌∷◌, ◌++◌, length, inl, inr, refl, sym, ap, subst, ◌∙◌, arith, Some, None, codes, if◌then◌else◌}
 use Rattle.std.specs.List.{Contains, AllByRecursion}
 use Rattle.std.specs.Str.{bytes_eq}
-use Rattle.std.proofs.lemmas.Slice.Eq.{bytes_eq-Decides}
 use Rattle.std.proofs.lemmas.List.Elements.{Contains-append_right}
 use Rattle.b2_base.specs.Normal.{IsUnder, parts}
 use Rattle.b2_host.specs.declared.children.ChildEvent.TheVariants.{Done}
@@ -41,14 +40,6 @@ module _ (folder : Folder) (inc : List ℕ → List ℕ → List Include) (looks
   in_source stands = record { outside = outside in_path (short_outside in_path refl); stands = stands }
 
 -- ---- lost from the first place
-
--- only `in` includes
-includes_in : (path bytes : List ℕ) (include : Include) → Contains (in_includes path bytes) include → in_path ≡ path
-includes_in path bytes include c = go (bytes_eq path in_path) refl c
-  where
-    go : (t : Bool) → bytes_eq path in_path ≡ t → Contains {X = Include} (if t then (codes "h", true) ∷ [] else []) include → in_path ≡ path
-    go true e c = sym ((bytes_eq-Decides path in_path).0 e)
-    go false e c = absurd (Contains_nil include c)
 
 -- what is found in the two places, where the first is given, or is not
 first_found : (b : Build) (found : List ℕ) (before after : List (List ℕ)) → IsGiven b first_place → first_place ∷ second_place ∷ [] ≡ before ++ found ∷ after → AllByRecursion (IsMissing b) before → first_place ≡ found

@@ -1,10 +1,9 @@
-use Rattle.std.proofs.Common.{◌≡◌, ℕ, zero, suc, ◌<◌, ◌≤◌, Bool, List, [], ◌∷◌, length, ◌⊎◌, inl, inr, refl, sym, subst, arith, ◌∙◌, Some, None, slice_get}
+use Rattle.std.proofs.Common.{◌≡◌, ℕ, zero, suc, ◌<◌, ◌≤◌, Bool, List, [], ◌∷◌, length, inl, inr, refl, sym, subst, arith, ◌∙◌, Some, None, slice_get}
 use Rattle.std.proofs.lemmas.Option.{slice_get_within}
 use Rattle.b2_plan.specs.declared.step.Step.{Step}
 use Rattle.b2_plan.specs.Plans.{step_at}
 use Rattle.b2_runs.specs.Numbers.{NeededOf.first, NeededOf.of_needed}
 use Rattle.b2_sched.specs.declared.state.State.{State}
-use Rattle.b2_sched.specs.declared.state.State.TheVariants.{Unjudged, Stale, Running, Settled, Failed}
 use Rattle.b2_sched.specs.Schedules.{Schedule, IsStep, Needs, IsFirst, IsNeeded, AreJudged}
 use Rattle.b2_update.specs.Inputs.{ReadsStep}
 use Rattle.b2_update.specs.Boards.{IsBoardOf}
@@ -24,14 +23,6 @@ get_some (x ∷ xs) (suc place) h = get_some xs place (omega arith)
 pub number_step : (steps : List Step) (k : ℕ) → 0 < k → k ≤ length steps → (step : Step) × (step_at steps k ≡ Some step)
 number_step steps zero low high = absurd (omega arith)
 number_step steps (suc place) low high = get_some steps place (omega arith)
-
--- a state is one thing
-pub settled_or_not : (x : State) → (x ≡ Settled) ⊎ (x ≡ Settled → ⊥)
-settled_or_not Unjudged = inr (λ e. let f : Unjudged ≡ Settled = e in cc)
-settled_or_not Stale = inr (λ e. let f : Stale ≡ Settled = e in cc)
-settled_or_not Running = inr (λ e. let f : Running ≡ Settled = e in cc)
-settled_or_not Settled = inl refl
-settled_or_not Failed = inr (λ e. let f : Failed ≡ Settled = e in cc)
 
 pub not_both : (x a b : State) → x ≡ a → x ≡ b → (a ≡ b → ⊥) → ⊥
 not_both x a b e f other = other (sym e ∙ f)

@@ -22,6 +22,3 @@ named_none name path none = ap (λ n. named n path) none
 pub start_some : (name path : List ℕ) → name ≢ [] → start_text name path ≡ line (named name path)
 start_some [] path some = absurd (some refl)
 start_some (x ∷ name) path some = refl
-
-pub start_none : (name path : List ℕ) → name ≡ [] → start_text name path ≡ []
-start_none name path none = ap (λ n. start_text n path) none

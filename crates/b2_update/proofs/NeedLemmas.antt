@@ -33,10 +33,6 @@ push_not_empty : (xs : List ℕ) (y : ℕ) → is_empty (xs ++ y ∷ []) ≡ fal
 push_not_empty [] y = refl
 push_not_empty (x ∷ xs) y = refl
 
-flag_at_most : (b : Bool) → cond (itself b) 1 0 ≤ 1
-flag_at_most true = omega arith
-flag_at_most false = omega arith
-
 -- a need is told
 module _ (step on : ℕ) (t : Schedule) (in_dependents : on < length t.dependents) (in_looks : on < length t.looks) where
   abbrev told_now : Schedule

@@ -1,4 +1,4 @@
-use Rattle.std.proofs.Common.{◌≡◌, ◌≢◌, ℕ, Bool, true, false, List, [], ◌++◌, refl, sym, ap, subst, ◌∙◌, Option, Some, None, IfSome, append-nil, Result, Ok, Err, MatchResult, inl, inr}
+use Rattle.std.proofs.Common.{◌≡◌, ◌≢◌, ℕ, Bool, true, false, List, [], ◌++◌, refl, sym, ap, subst, ◌∙◌, Option, Some, None, IfSome, append-nil, Result, Ok, Err, inl, inr}
 use Rattle.b2_host.specs.declared.children.ChildEvent.{ChildEvent}
 use Rattle.b2_host.specs.Disks.{Disk, Folder, IsConsistent}
 use Rattle.b2_host.specs.ChildProcesses.{Family, Given}
@@ -85,9 +85,6 @@ no_sink stop e f = let g : stops.OutOfMemory ≡ stops.Sink = sym e ∙ f in cc
 -- what goes on is known from the result
 pub goes_err : (u : Update) (entry : Moment) (front : List ChildEvent) (number : ℕ) (r : Result Bool Stop) (here : Moment) (stop : Stop) → r ≡ Err stop → Stopped u entry stop here → GoesOn u entry front number r here
 goes_err u entry front number r here stop e s = subst (λ z. GoesOn u entry front number z here) (sym e) s
-
-pub match_err : {T E : Type 0} (r : Result T E) (P : T → Type 0) (Q : E → Type 0) (y : E) → r ≡ Err y → Q y → MatchResult r P Q
-match_err r P Q y e q = subst (λ z. MatchResult z P Q) (sym e) q
 
 -- a look at the host that stopped: what it leaves, and how the counts stand
 look_children : (before after : Outside) (stop : Stop) → StopLooks {T = Unit {0}} before after (Err stop) → after.children ≡ before.children
