@@ -1,4 +1,4 @@
-//! What a run of an update is, and the laws that its outcome follows from.
+//! What a run of an update is, and the laws that its outcome follows from; and steps by their numbers.
 #![tactic(auto)]
 
 pub mod after_laws;
@@ -21,5 +21,6 @@ pub mod session_laws;
 pub mod settled_laws;
 pub mod sound_laws;
 pub mod stale_laws;
+pub mod steps;
 pub mod stop_laws;
 pub mod stuck_laws;

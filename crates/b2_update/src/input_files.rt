@@ -2,11 +2,11 @@
 ghost use Rattle.std.specs.Prelude.{◌≡◌, ◌∷◌, ◌++◌, [], if◌then◌else◌, IfOk, OnOk};
 ghost use Rattle.b2_update.specs.Inputs.{is_file as told_file, files_of};
 
-use crate::step_of::find_step;
 use b2_base::fault::OutOfMemory;
 use b2_base::path::Path;
 use b2_base::path_list::PathList;
 use b2_plan::plan::Plan;
+use b2_runs::steps::find_step;
 use std::alloc::Global;
 
 /// Whether a file stands at the path once it is settled: outputs of notfile steps have none.

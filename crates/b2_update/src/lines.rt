@@ -7,24 +7,15 @@ use crate::failed_lists::FailedLists;
 use b2_base::fault::OutOfMemory;
 use b2_base::path::Path;
 use b2_plan::step::Step;
+use b2_runs::steps::first_path;
 use std::alloc::Global;
-
-/// The step's first output.
-fn first_output(step: &Step) -> &str
-    ensures { result.now ≡ first_path step.now.outs }
-{
-    match step.outs.as_slice().first() {
-        None => "",
-        Some(out) => out.as_str(),
-    }
-}
 
 /// A step's name and its first output, or the output alone where the name is empty.
 fn title(alloc: Global, step: &Step) -> Result<String, OutOfMemory>
     ensures { IfOk result (λ text. string_bytes text ≡ named step.now.name (first_path step.now.outs)) }
 {
     let name = step.name.as_str();
-    let out = first_output(step);
+    let out = first_path(step);
     if name.is_empty() {
         return Ok(format!(in alloc; "{out}")?);
     }
@@ -62,7 +53,7 @@ pub fn missing_text(alloc: Global, path: &Path) -> Result<String, OutOfMemory>
 pub fn skipped_text(alloc: Global, step: &Step) -> Result<String, OutOfMemory>
     ensures { IfOk result (λ text. string_bytes text ≡ skipped_line step.now) }
 {
-    let out = first_output(step);
+    let out = first_path(step);
     Ok(format!(in alloc; "...skipped {out}...\n")?)
 }
 

@@ -11,11 +11,11 @@ ghost use Rattle.b2_update.specs.Writings.{skipped_lines};
 use crate::child::write_line;
 use crate::failed_lists::FailedLists;
 use crate::lines::{missing_text, skipped_text, summary_text};
-use crate::step_of::find_step;
 use crate::stop::Stop;
 use b2_base::path::Path;
 use b2_host::sink::Sink;
 use b2_plan::step::Step;
+use b2_runs::steps::find_step;
 use std::alloc::Global;
 
 /// Writes what is missing.

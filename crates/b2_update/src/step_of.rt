@@ -1,6 +1,5 @@
 //! Steps by their numbers.
 ghost use Rattle.std.specs.Prelude.{◌≡◌, ◌<◌, ◌≤◌, Some, length};
-ghost use Rattle.std.specs.Option.{option_copied};
 ghost use Rattle.b2_plan.specs.Plans.{step_at};
 
 use b2_plan::step::Step;
@@ -12,14 +11,4 @@ pub fn step_of(steps: &[Step], number: u32) -> &Step
     ensures { step_at steps.now number ≡ Some result.now }
 {
     &steps[number as usize - 1]
-}
-
-/// The step with a number, where there is one.
-pub fn find_step(steps: &[Step], number: u32) -> Option<&Step>
-    ensures { option_copied result ≡ step_at steps.now number }
-{
-    if number == 0 {
-        return None;
-    }
-    steps.get(number as usize - 1)
 }

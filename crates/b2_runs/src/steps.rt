@@ -1,0 +1,27 @@
+//! Steps of a plan by their numbers, and what a report names them by.
+ghost use Rattle.std.specs.Prelude.{◌≡◌};
+ghost use Rattle.std.specs.Option.{option_copied};
+ghost use Rattle.b2_plan.specs.Plans.{step_at};
+ghost use Rattle.b2_runs.specs.Reports.{first_path};
+
+use b2_plan::step::Step;
+
+/// The step with a number, counted from 1, where there is one.
+pub fn find_step(steps: &[Step], number: u32) -> Option<&Step>
+    ensures { option_copied result ≡ step_at steps.now number }
+{
+    if number == 0 {
+        return None;
+    }
+    steps.get(number as usize - 1)
+}
+
+/// The step's first output, or the empty text where it has none.
+pub fn first_path(step: &Step) -> &str
+    ensures { result.now ≡ first_path step.now.outs }
+{
+    match step.outs.as_slice().first() {
+        None => "",
+        Some(out) => out.as_str(),
+    }
+}
