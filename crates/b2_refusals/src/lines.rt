@@ -6,12 +6,13 @@ ghost use Rattle.b2_runs.specs.Reports.{start_line};
 
 use crate::fault::Fault;
 use crate::generations::{gen_text, request_text};
-use crate::lists::{cycle_text, first_path, push_properties};
+use crate::lists::{cycle_text, push_properties};
 use crate::loads::load_text;
 use crate::pieces::{at_line, concat, size_text};
 use b2_base::fault::OutOfMemory;
 use b2_plan::step::Step;
 use b2_props::props::Props;
+use b2_runs::steps::first_path;
 use std::alloc::Global;
 
 /// The line of words that are no command.

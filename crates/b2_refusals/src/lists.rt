@@ -1,15 +1,15 @@
 //! Texts of lists.
-ghost use Rattle.std.specs.Prelude.{◌≡◌, ◌++◌, ◌∷◌, IfOk, OnOk, string_bytes, option_copied, codes};
+ghost use Rattle.std.specs.Prelude.{◌≡◌, ◌++◌, ◌∷◌, IfOk, OnOk, string_bytes, codes};
 ghost use Rattle.std.specs.List.{flat_map};
 ghost use Rattle.b2_alternatives.specs.Choosing.{property_text};
-ghost use Rattle.b2_plan.specs.Plans.{step_at};
 ghost use Rattle.b2_refusals.specs.Pieces.{joined, with_arrows, after_spaces, props_text};
-ghost use Rattle.b2_runs.specs.Reports.{first_path, first_out, cycle_text};
+ghost use Rattle.b2_runs.specs.Reports.{first_out, cycle_text};
 
 use b2_base::fault::OutOfMemory;
 use b2_base::text::Text;
 use b2_plan::step::Step;
 use b2_props::props::Props;
+use b2_runs::steps::{find_step, first_path};
 use std::alloc::Global;
 
 /// Adds two texts.
@@ -118,31 +118,11 @@ pub fn props_text(alloc: Global, set: &Props) -> Result<String, OutOfMemory>
 
 // Steps.
 
-/// The step with a number, where there is one.
-fn step_of(steps: &[Step], number: u32) -> Option<&Step>
-    ensures { option_copied result ≡ step_at steps.now number }
-{
-    if number == 0 {
-        return None;
-    }
-    steps.get(number as usize - 1)
-}
-
-/// The step's first output.
-pub fn first_path(step: &Step) -> &str
-    ensures { result.now ≡ first_path step.now.outs }
-{
-    match step.outs.as_slice().first() {
-        None => "",
-        Some(out) => out.as_str(),
-    }
-}
-
 /// The first output of the step with a number; of a number that is no step's the empty text.
 fn first_out(steps: &[Step], number: u32) -> &str
     ensures { result.now ≡ first_out steps.now number }
 {
-    match step_of(steps, number) {
+    match find_step(steps, number) {
         None => "",
         Some(step) => first_path(step),
     }
