@@ -20,6 +20,6 @@ pub enum Fault {
     Gen(GenFault<EvalFault>),
     /// Each of these steps, by their numbers, needs an output of the next one, and the last one of the first.
     StepCycle { list: List<u32> },
-    /// The file has this many bytes, which are too many to scan it.
+    /// The file has this many bytes, which are too many to scan it for includes. Only a build that scans answers so, and none scans yet.
     TooBig { path: Path, size: u64 },
 }
