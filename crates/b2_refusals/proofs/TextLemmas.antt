@@ -3,8 +3,7 @@ use Rattle.std.proofs.Common.{◌≡◌, ◌≢◌, ℕ, ◌+◌, ◌<◌, ◌==
 use Rattle.std.specs.List.{flat_map}
 use Rattle.std.proofs.lemmas.List.{take_more}
 use Rattle.std.proofs.lemmas.List.Concat.{flat_map-append}
-use Rattle.b2_plan.specs.declared.step.Step.{Step}
-use Rattle.b2_runs.specs.Reports.{line, start_text, first_out, cycle_text}
+use Rattle.b2_runs.specs.Reports.{line, start_text}
 
 -- ---- lists
 
@@ -40,9 +39,3 @@ pub conflict_joined : (target first second : List ℕ)
 conflict_joined target first second = simp append_assoc refl
 
 -- ---- cycles of steps
-
-pub cycle_closed : (steps : List Step) (first : ℕ) (others : List ℕ)
-    → (first_out steps first ++ flat_map (λ k. codes " -> " ++ first_out steps k) others) ++ (codes " -> " ++ first_out steps first) ≡ cycle_text steps (first ∷ others)
-cycle_closed steps first others =
-    append_assoc (first_out steps first) (flat_map (λ k. codes " -> " ++ first_out steps k) others) (codes " -> " ++ first_out steps first)
-    ∙ ap (λ l. first_out steps first ++ l) (sym (last_one (λ k. codes " -> " ++ first_out steps k) others first))
