@@ -1,4 +1,4 @@
-use Rattle.std.specs.Prelude.{◌≡◌, ◌≢◌, ℕ, ◌≤◌, true, false, List, [], ◌++◌, length, Option, Some, ◌⊎◌, ⊤, IfSome}
+use Rattle.std.specs.Prelude.{◌≡◌, ◌≢◌, ℕ, ◌≤◌, true, false, List, [], ◌∷◌, ◌++◌, length, Option, Some, ◌⊎◌, ⊤, IfSome}
 use Rattle.std.specs.List.{Contains}
 use Rattle.b2_host.specs.declared.children.ChildEvent.{ChildEvent}
 use Rattle.b2_host.specs.declared.children.ChildEvent.TheVariants.{Done}
@@ -21,7 +21,7 @@ use Rattle.b2_runs.specs.Soundness.{AreAtWork, Holds}
 use Rattle.b2_runs.specs.Afterwards.{IsNoted}
 use Rattle.b2_runs.specs.FileReads.{IsTooBig, ReadsOnce}
 use Rattle.b2_runs.specs.LogCourses.{held_bytes, log_file, IsLogWhole, IsLogCut}
-use Rattle.b2_runs.specs.Reports.{Lists, AreLists, cycle_line, too_big_line, host_fault_line}
+use Rattle.b2_runs.specs.Reports.{Lists, no_lists, AreLists, event_lines, report, cycle_line, too_big_line, host_fault_line, TellsStarts, StopsAtEvent, StopsAtEnd}
 use Rattle.b2_runs.specs.Moments.{Moment}
 
 -- How an update ends, and what its answer says.
@@ -150,6 +150,21 @@ WithLog now P sink_fault = (log : List LogLine) → IsLogIn now log → P log
 WithLog now P out_of_memory = (log : List LogLine) → IsLogIn now log → P log
 
 -- ---- the bytes
+
+-- Where a fault of the sink stops the writing it stops the log too: what the log's file holds is called for by the events up to
+-- the one at whose line the writing stopped.
+abbrev pub StopsWithLog : Update → List ChildEvent → Folder → List ℕ → Type 0
+StopsWithLog u events now written = ((stop : StopsAtEvent u.build.steps events written) × IsLogCut u (stop.front ++ stop.event ∷ []) now) ⊎ StopsAtEnd u events written
+
+-- what an answer says of the bytes that the update wrote, and of its log where these stop; the line of a refusal comes after them
+abbrev pub WrittenBy : Update → List ChildEvent → Folder → UpdateAnswer → List ℕ → Type 0
+WrittenBy u events now all_went written = written ≡ report u.build.steps events no_lists
+WrittenBy u events now (failed lists) written = written ≡ report u.build.steps events lists
+WrittenBy u events now (step_cycle list) written = written ≡ event_lines u.build.steps events
+WrittenBy u events now (too_big path size) written = TellsStarts u.build.steps events written
+WrittenBy u events now host_fault written = TellsStarts u.build.steps events written
+WrittenBy u events now sink_fault written = StopsWithLog u events now written
+WrittenBy u events now out_of_memory written = TellsStarts u.build.steps events written ⊎ StopsWithLog u events now written
 
 -- the line of a refusal, which comes last, where there is one
 abbrev pub refusal_line : List Step → UpdateAnswer → List ℕ
