@@ -1,73 +1,27 @@
-//! Loading.
-use crate::faults::{refusal_text, said};
-use b2_base::text::Text;
-use b2_memory::memory::MemoryHost;
-use b2_project::load::{LoadFault, Loaded, load as load_projects};
-use b2_project::project::Project;
-use jam_effects::turns::Turns;
-use std::alloc::Global;
-use std::mem::ManuallyDrop;
-use transcript::answer::Answer;
-use transcript::case_fault::CaseFault;
+//! Loads over files in memory. Files are at hand, none at first, and what was loaded last.
+//!
+//! - `new` begins anew: no files, nothing loaded, 1,000,000 turns for each load.
+//! - `edit PATH` makes the text lines of the command the file, `edit PATH BYTES` those bytes, `edit PATH TEXT TIMES` a text, so
+//!   many times.
+//! - `turns N` gives each load so many turns; `fail_calls KIND N ..` lets the N-th calls of a kind (`read`, `stat`, `list`)
+//!   fail from now on.
+//! - `load WORDS` loads the projects of the folder, with these target words. It shows the lines of ECHO, and then why the load
+//!   is refused, or `ok`. All other commands show what the last load that was not refused has loaded; `left` shows the turns
+//!   that the last load left.
+//! - `projects` shows each project with its number, directory, file and module, and `in` its parent's number, where it has a
+//!   parent. `targets` shows each main target with its project's number, kind and name, and its line. Below each stand its
+//!   lists that are not empty: requirements as `<feature>value` after their conditions, or as `@` and the number of a rule.
+//! - `indirect` shows the rules of indirect requirements: number, project, rule, line. `dir_of ID ..` shows the directory of
+//!   an id, `roots` the output roots.
+//! - `count` shows the number of features, `find NAME ..` features with their values and attributes, `parts_of F V` what a
+//!   value is composed of; `type_of PATH ..` the types of files, `suffix_of TYPE ..` the first suffixes of types,
+//!   `generator ID ..` generators with what they take, give and require.
+//! - `decls` shows the recorded calls with their lines.
 
-/// What was loaded. What takes its place lets it be, until the process ends: a program that takes it apart proves the drop of all
-/// that it holds, which costs more than the proof of its commands.
-pub type Kept = ManuallyDrop<Project>;
-
-fn refusal_line(alloc: Global, fault: &LoadFault) -> Result<String, CaseFault> {
-    let text = refusal_text(alloc, fault)?;
-    said(alloc, "b2:", text.as_str())
-}
-
-fn keep(
-    alloc: Global,
-    project: Project,
-    last: &mut Option<Box<Kept>>,
-) -> Result<String, CaseFault> {
-    let kept = ManuallyDrop::new(project);
-    *last = Some(Box::new(alloc, kept)?);
-    Ok(String::from_str(alloc, "ok")?)
-}
-
-fn refused(alloc: Global, fault: LoadFault) -> Result<String, CaseFault> {
-    let line = refusal_line(alloc, &fault);
-    drop(fault);
-    line
-}
-
-/// Keeps what was loaded; the last line of the answer.
-fn last_line(
-    alloc: Global,
-    ended: Result<Project, LoadFault>,
-    last: &mut Option<Box<Kept>>,
-) -> Result<String, CaseFault> {
-    match ended {
-        Ok(project) => keep(alloc, project, last),
-        Err(fault) => refused(alloc, fault),
-    }
-}
-
-fn answer_of(alloc: Global, echoes: &[Text], line: &str) -> Result<Answer, CaseFault> {
-    let mut answer = Answer::new(alloc);
-    for echo in echoes {
-        answer.push_line(echo.as_str())?;
-    }
-    answer.push_line(line)?;
-    Ok(answer)
-}
-
-/// Loads the projects of a folder, and shows what came of it.
-pub fn load(
-    alloc: Global,
-    host: &mut MemoryHost,
-    words: &[Text],
-    turns: &mut Turns,
-    last: &mut Option<Box<Kept>>,
-) -> Result<Answer, CaseFault> {
-    let Loaded {
-        echoes,
-        result: ended,
-    } = load_projects(alloc, host, words, turns);
-    let line = last_line(alloc, ended, last)?;
-    answer_of(alloc, echoes.as_slice(), line.as_str())
-}
+mod faults;
+mod host;
+mod load;
+mod projects;
+pub mod session;
+mod shown;
+mod tables;

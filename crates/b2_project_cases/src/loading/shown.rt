@@ -1,29 +1,10 @@
-//! Lines of answers.
+//! Lines below a project or a main target.
+use crate::lines::{push_pairs, push_property, push_words};
 use b2_base::text::Text;
 use b2_props::requirement::Requirement;
 use std::alloc::Global;
 use transcript::answer::Answer;
 use transcript::case_fault::CaseFault;
-
-/// A word as it is shown: the empty word as `""`.
-pub fn shown_word(word: &str) -> &str {
-    if word.is_empty() { "\"\"" } else { word }
-}
-
-/// Adds a word after a space; the empty word as `""`.
-pub fn push_word(line: &mut String, word: &str) -> Result<(), CaseFault> {
-    line.push(' ')?;
-    line.push_str(shown_word(word))?;
-    Ok(())
-}
-
-/// Adds words, each after a space.
-pub fn push_words(line: &mut String, words: &[Text]) -> Result<(), CaseFault> {
-    for word in words {
-        push_word(line, word.as_str())?;
-    }
-    Ok(())
-}
 
 /// Adds a line of a name and words, where there are some.
 pub fn push_list(
@@ -38,23 +19,6 @@ pub fn push_list(
     let mut line = String::from_str(alloc, name)?;
     push_words(&mut line, words)?;
     answer.push_line(line.as_str())
-}
-
-fn push_pair(line: &mut String, pair: &(Text, Text)) -> Result<(), CaseFault> {
-    line.push('<')?;
-    line.push_str(pair.0.as_str())?;
-    line.push('>')?;
-    line.push_str(pair.1.as_str())?;
-    Ok(())
-}
-
-/// Adds pairs as `<feature>value`, each after a space.
-pub fn push_pairs(line: &mut String, pairs: &[(Text, Text)]) -> Result<(), CaseFault> {
-    for pair in pairs {
-        line.push(' ')?;
-        push_pair(line, pair)?;
-    }
-    Ok(())
 }
 
 /// Adds a line of a name and pairs, where there are some.
@@ -76,10 +40,10 @@ pub fn push_pair_list(
 fn push_conditions(line: &mut String, conditions: &[(Text, Text)]) -> Result<(), CaseFault> {
     if let Some((last, others)) = conditions.split_last() {
         for condition in others {
-            push_pair(line, condition)?;
+            push_property(line, condition)?;
             line.push(',')?;
         }
-        push_pair(line, last)?;
+        push_property(line, last)?;
         line.push(':')?;
     }
     Ok(())
@@ -97,14 +61,14 @@ fn push_requirement(
             property,
         } => {
             push_conditions(line, conditions.as_slice())?;
-            push_pair(line, property)
+            push_property(line, property)?;
         }
         Requirement::Indirect { rule } => {
             let rule = *rule;
             line.push_str(format!(in alloc; "@{rule}")?.as_str())?;
-            Ok(())
         }
     }
+    Ok(())
 }
 
 /// Adds a line of a name and requirements, where there are some.

@@ -1,8 +1,9 @@
 //! Commands that read the property texts of project files.
+use crate::answers::{pairs_line, told};
 use crate::declaring::refused;
+use crate::lines::{push_pair, push_pairs};
 use crate::pairs::pairs;
 use crate::properties::features::feature_command;
-use crate::shown::{pairs_line, push_pair, push_pairs, told};
 use b2_base::path::Path;
 use b2_base::text::Text;
 use b2_base::text_list::TextList;

@@ -23,6 +23,7 @@ mod rules;
 mod steps;
 mod types;
 
+use crate::answers::{ok, set_line};
 use crate::declaring::{compose, declare_toolset, feature};
 use crate::pairs::pairs;
 use crate::refinement::chains::found_chain;
@@ -31,7 +32,6 @@ use crate::refinement::rules::Rules;
 use crate::refinement::steps::{
     add_row, add_rule, chosen, evaluated, fault_row, indirect, requirement, row, whole,
 };
-use crate::shown::{ok, set_line};
 use b2_features::registry::Registry;
 use b2_generators::types::Types;
 use b2_props::pair_list::PairList;

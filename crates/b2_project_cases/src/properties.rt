@@ -22,12 +22,12 @@ mod sets;
 mod shown;
 mod texts;
 
+use crate::answers::{ok, set_line, truth_word};
 use crate::declaring::{compose, declare_toolset, feature};
 use crate::pairs::given;
 use crate::properties::sets::{contains, dir_of, expanded, handed, has_all, refined, request};
 use crate::properties::shown::sets_lines;
 use crate::properties::texts::text_command;
-use crate::shown::{ok, set_line, truth_word};
 use b2_features::registry::Registry;
 use b2_props::props::Props;
 use b2_props::request::PropsList;

@@ -1,11 +1,9 @@
 //! Projects and main targets.
-use crate::shown::{
-    push_list, push_pair_list, push_requirements, push_word, push_words, shown_word,
-};
+use crate::lines::{push_word, push_words, shown_word};
+use crate::loading::shown::{push_list, push_pair_list, push_requirements};
 use b2_base::text_list::TextList;
 use b2_declarations::declaration::Kind;
 use b2_metatargets::place::{IndirectRule, Place, Target};
-use b2_project::project::Project;
 use jam_natives::decl::Decl;
 use std::alloc::Global;
 use transcript::answer::Answer;
@@ -46,9 +44,8 @@ fn push_place(
 }
 
 /// The projects in order of loading.
-pub fn projects(alloc: Global, project: &Project) -> Result<Answer, CaseFault> {
+pub fn projects(alloc: Global, places: &[Place]) -> Result<Answer, CaseFault> {
     let mut answer = Answer::new(alloc);
-    let places = project.declared.places.as_slice();
     for number in 0..places.len() {
         push_place(alloc, &mut answer, number, &places[number])?;
     }
@@ -96,9 +93,9 @@ fn push_target(alloc: Global, answer: &mut Answer, target: &Target) -> Result<()
 }
 
 /// The main targets in order of recording.
-pub fn targets(alloc: Global, project: &Project) -> Result<Answer, CaseFault> {
+pub fn targets(alloc: Global, targets: &[Target]) -> Result<Answer, CaseFault> {
     let mut answer = Answer::new(alloc);
-    for target in project.declared.targets.as_slice() {
+    for target in targets {
         push_target(alloc, &mut answer, target)?;
     }
     Ok(answer)
@@ -110,26 +107,12 @@ fn rule_line(alloc: Global, number: usize, rule: &IndirectRule) -> Result<String
 }
 
 /// The rules of indirect requirements.
-pub fn indirect(alloc: Global, project: &Project) -> Result<Answer, CaseFault> {
+pub fn indirect(alloc: Global, rules: &[IndirectRule]) -> Result<Answer, CaseFault> {
     let mut answer = Answer::new(alloc);
-    let rules = project.declared.indirect.as_slice();
     for number in 0..rules.len() {
         answer.push_line(rule_line(alloc, number, &rules[number])?.as_str())?;
     }
     Ok(answer)
-}
-
-/// Adds the directory of an id.
-pub fn push_dir(answer: &mut Answer, project: &Project, id: &str) -> Result<(), CaseFault> {
-    match project.declared.ids.dir_of(id) {
-        Some(dir) => answer.push_line(dir.as_str()),
-        None => answer.push_line("none"),
-    }
-}
-
-/// The output roots.
-pub fn roots(alloc: Global, project: &Project) -> Result<Answer, CaseFault> {
-    Answer::paths(alloc, project.world.roots())
 }
 
 fn lists_line(alloc: Global, head: &str, lists: &[TextList]) -> Result<String, CaseFault> {
@@ -148,9 +131,9 @@ fn decl_line(alloc: Global, decl: &Decl) -> Result<String, CaseFault> {
 }
 
 /// The recorded calls.
-pub fn decls(alloc: Global, project: &Project) -> Result<Answer, CaseFault> {
+pub fn decls(alloc: Global, decls: &[Decl]) -> Result<Answer, CaseFault> {
     let mut answer = Answer::new(alloc);
-    for decl in project.natives.decls() {
+    for decl in decls {
         answer.push_line(decl_line(alloc, decl)?.as_str())?;
     }
     Ok(answer)

@@ -1,6 +1,6 @@
 //! The commands that declare the gcc toolset.
+use crate::answers::told;
 use crate::refinement::types::type_command;
-use crate::shown::told;
 use b2_base::text::Text;
 use b2_gcc::text::gcc_text;
 use b2_gcc::types::{declare_generators, declare_types};

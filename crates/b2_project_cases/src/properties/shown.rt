@@ -1,5 +1,7 @@
 //! Answers of features, sets and requests.
-use crate::shown::{pairs_line, push_pairs, push_texts};
+use crate::answers::pairs_line;
+use crate::lines::push_pairs;
+use crate::tables::feature_line;
 use b2_base::text::Text;
 use b2_features::feature::Feature;
 use b2_props::props::Props;
@@ -15,13 +17,8 @@ pub fn place_or_none(alloc: Global, found: Option<usize>) -> Result<Answer, Case
     }
 }
 
-/// A feature as it was declared: `NAME VALUES : ATTRIBUTES`.
 pub fn declared(alloc: Global, feature: &Feature) -> Result<Answer, CaseFault> {
-    let mut line = String::from_str(alloc, feature.name.as_str())?;
-    push_texts(&mut line, feature.values.as_slice())?;
-    line.push_str(" :")?;
-    push_texts(&mut line, feature.attributes.as_slice())?;
-    Answer::line(alloc, line.as_str())
+    Answer::line(alloc, feature_line(alloc, feature)?.as_str())
 }
 
 pub fn declared_or_none(alloc: Global, found: Option<&Feature>) -> Result<Answer, CaseFault> {

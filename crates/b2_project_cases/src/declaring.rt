@@ -1,6 +1,6 @@
-//! Declarations of features, which both parts make, and refusals.
+//! Declarations of features, which two parts make, and refusals.
+use crate::answers::ok;
 use crate::pairs::{pair, pairs};
-use crate::shown::ok;
 use b2_base::text::Text;
 use b2_features::fault::FeatureFault;
 use b2_features::registry::Registry;

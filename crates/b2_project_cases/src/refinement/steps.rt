@@ -2,9 +2,10 @@
 ghost use Rattle.std.specs.Prelude.{◌↔◌, All, IsTrue};
 ghost use Rattle.b2_refine.specs.Answers.{AsksBelow};
 
+use crate::answers::{ok, set_line};
+use crate::lines::push_pairs;
 use crate::pairs::{given, made, pair, pairs};
 use crate::refinement::rules::{Row, Rule, RuleFault, Rules};
-use crate::shown::{ok, push_pairs, set_line};
 use b2_features::registry::Registry;
 use b2_props::pair_list::PairList;
 use b2_props::props::Props;

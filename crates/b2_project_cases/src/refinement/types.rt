@@ -1,6 +1,7 @@
 //! The commands that call types and generators.
+use crate::answers::{text_or_none, told};
 use crate::pairs::pairs;
-use crate::shown::{push_texts, text_or_none, told};
+use crate::tables::generator_line;
 use b2_generators::generator::Generator;
 use b2_generators::types::Types;
 use std::alloc::Global;
@@ -42,17 +43,9 @@ fn type_of(alloc: Global, types: &Types, words: &[Word]) -> Result<Answer, CaseF
     Answer::line(alloc, types.type_of(&path))
 }
 
-fn generator_line(alloc: Global, generator: &Generator) -> Result<Answer, CaseFault> {
-    let mut line = String::from_str(alloc, generator.id.as_str())?;
-    push_texts(&mut line, generator.sources.as_slice())?;
-    line.push_str(" :")?;
-    push_texts(&mut line, generator.targets.as_slice())?;
-    Answer::line(alloc, line.as_str())
-}
-
 fn found(alloc: Global, found: Option<&Generator>) -> Result<Answer, CaseFault> {
     match found {
-        Some(generator) => generator_line(alloc, generator),
+        Some(generator) => Answer::line(alloc, generator_line(alloc, generator)?.as_str()),
         None => Answer::line(alloc, "none"),
     }
 }

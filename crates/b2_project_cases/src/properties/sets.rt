@@ -1,8 +1,8 @@
 //! Commands to sets of properties. The set at hand is made again of its pairs, since the table may have changed.
+use crate::answers::{set_line, truth};
 use crate::declaring::refusal;
 use crate::pairs::{made, pair, pairs};
 use crate::properties::shown::{push_sets, push_targets};
-use crate::shown::{set_line, truth};
 use b2_base::text::Text;
 use b2_features::registry::Registry;
 use b2_props::elements;

@@ -1,4 +1,5 @@
-//! Answers that both parts give.
+//! Answers of more than one part.
+use crate::lines::push_pairs;
 use b2_base::fault::OutOfMemory;
 use b2_base::text::Text;
 use b2_props::props::Props;
@@ -31,34 +32,6 @@ pub fn text_or_none(alloc: Global, found: Option<&str>) -> Result<Answer, CaseFa
         Some(text) => Answer::line(alloc, text),
         None => Answer::line(alloc, "none"),
     }
-}
-
-/// Adds texts to a line, a blank before each.
-pub fn push_texts(line: &mut String, texts: &[Text]) -> Result<(), CaseFault> {
-    for text in texts {
-        line.push(' ')?;
-        line.push_str(text.as_str())?;
-    }
-    Ok(())
-}
-
-/// Adds a property to a line, after a blank where the line is not empty.
-pub fn push_pair(line: &mut String, pair: &(Text, Text)) -> Result<(), CaseFault> {
-    if !line.is_empty() {
-        line.push(' ')?;
-    }
-    line.push('<')?;
-    line.push_str(pair.0.as_str())?;
-    line.push('>')?;
-    line.push_str(pair.1.as_str())?;
-    Ok(())
-}
-
-pub fn push_pairs(line: &mut String, pairs: &[(Text, Text)]) -> Result<(), CaseFault> {
-    for pair in pairs {
-        push_pair(line, pair)?;
-    }
-    Ok(())
 }
 
 /// Properties on one line.

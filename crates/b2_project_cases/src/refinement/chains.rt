@@ -1,6 +1,6 @@
 //! The command that asks for a chain.
+use crate::lines::push_words;
 use crate::pairs::given;
-use crate::shown::push_texts;
 use b2_base::text::Text;
 use b2_features::registry::Registry;
 use b2_generators::chain::{GenChain, chain};
@@ -14,7 +14,7 @@ use transcript::words::{first, text};
 
 fn chain_line(alloc: Global, chain: &GenChain) -> Result<Answer, CaseFault> {
     let mut line = String::from_str(alloc, "chain")?;
-    push_texts(&mut line, chain.ids.as_slice())?;
+    push_words(&mut line, chain.ids.as_slice())?;
     Answer::line(alloc, line.as_str())
 }
 
@@ -37,9 +37,9 @@ fn two_chains(
     let from = from.as_str();
     let to = to.as_str();
     let mut line = format!(in alloc; "two chains from {from} to {to}:")?;
-    push_texts(&mut line, first)?;
+    push_words(&mut line, first)?;
     line.push(';')?;
-    push_texts(&mut line, second)?;
+    push_words(&mut line, second)?;
     Answer::line(alloc, line.as_str())
 }
 

@@ -1,7 +1,7 @@
 //! Commands that ask the table, its features and the attributes.
+use crate::answers::{text_or_none, truth};
 use crate::pairs::pair;
 use crate::properties::shown::{declared, declared_or_none, pairs_or_none, place_or_none};
-use crate::shown::{text_or_none, truth};
 use b2_features::attribute::{Attribute, is_attribute_word};
 use b2_features::feature::Feature;
 use b2_features::registry::Registry;
