@@ -28,7 +28,7 @@ pub trait Evaluate {
     /// Whether a fault counts as one of the host: a call of the host failed, unless the fault counts as out of memory too.
     ghost is_host_fault: { Self.Fault → Bool };
 
-    /// Whether a fault counts as out of memory. One that counts as both is a fault that no answer foretells, such as a pattern that
+    /// Whether a fault counts as out of memory. One that counts as both is a fault that no answer determines, such as a pattern that
     /// was refused though it reads as one, and no call of the host failed. An evaluator need not have faults that count as both:
     /// `Refusing` of b2_loaded has none.
     ghost is_out_of_memory: { Self.Fault → Bool };

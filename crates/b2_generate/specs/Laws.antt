@@ -20,7 +20,7 @@ abbrev pub OneOutcome : Type 0 → Type 0
 OneOutcome E = (l : Loaded E) (above : List Name) (name : Name) (set : List Pair) (before : List Step) (a b : Outcome E Generated) →
     Generates l above name set before a → Generates l above name set before b → a ≡ b
 
--- what it gives hangs on the target and the set alone: neither on what is open nor on the steps before
+-- what it gives depends on the target and the set alone: neither on what is open nor on the steps before
 abbrev pub SameAnswer : Type 0 → Type 0
 SameAnswer E = (l : Loaded E) (above others : List Name) (name : Name) (set : List Pair) (before after earlier later : List Step) (a b : Generated) →
     Generates l above name set before (Ok (a, after)) → Generates l others name set earlier (Ok (b, later)) → a ≡ b

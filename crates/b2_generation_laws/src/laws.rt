@@ -2,7 +2,7 @@
 ghost use Rattle.b2_generate.specs.Laws.{SameAnswer, OwnRowIsFirst, RowsAreOpenings};
 ghost use Rattle.b2_generation_laws.specs.Laws.{PlansAreApart};
 
-/// What a main target gives hangs on the target and the set alone: neither on what is open nor on the steps before.
+/// What a main target gives depends on the target and the set alone: neither on what is open nor on the steps before.
 pub fn same_answer<E>()
     ensures { SameAnswer E }
 {}

@@ -30,7 +30,7 @@ pub trait Ask {
     ghost is_host_fault: { Self.Fault → Bool };
 
     /// Whether a fault is out of memory. A fault that is one of the host too is neither: a pattern was refused though it reads as
-    /// one, which no answer foretells, and no call of the host failed.
+    /// one, which no answer determines, and no call of the host failed.
     ghost is_out_of_memory: { Self.Fault → Bool };
 
     /// What is known of each fault, by what is kept. An evaluation promises the same of a rule's fault that it answers.
