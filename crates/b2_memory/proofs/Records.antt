@@ -11,11 +11,11 @@ pub same_family : (r s : List Child) (e f : List ChildEvent) (g h : Option (List
 same_family r s e f g h a b c = ap (λ x. record { running = x; events = e; given = g }) a ∙ ap (λ x. record { running = s; events = x; given = g }) b ∙ ap (λ x. record { running = s; events = f; given = x }) c
 
 pub same_memory : (m : Memory) (d e : Option Disk) (c k : Family) (f g : List Bool) → d ≡ e → c ≡ k → f ≡ g
-    → ◌≡◌ {A = Memory} (record m { outside = record m.outside { disk = d; children = c }; fates = f }) (record m { outside = record m.outside { disk = e; children = k }; fates = g })
+    → ◌≡◌ {A = Memory} (record m { outside = record m.outside { disk = d; children = c }; ends_well = f }) (record m { outside = record m.outside { disk = e; children = k }; ends_well = g })
 same_memory m d e c k f g x y z =
-    ap (λ v. record m { outside = record m.outside { disk = v; children = c }; fates = f }) x
-    ∙ ap (λ v. record m { outside = record m.outside { disk = e; children = v }; fates = f }) y
-    ∙ ap (λ v. record m { outside = record m.outside { disk = e; children = k }; fates = v }) z
+    ap (λ v. record m { outside = record m.outside { disk = v; children = c }; ends_well = f }) x
+    ∙ ap (λ v. record m { outside = record m.outside { disk = e; children = v }; ends_well = f }) y
+    ∙ ap (λ v. record m { outside = record m.outside { disk = e; children = k }; ends_well = v }) z
 
 pub same_listed : (m : Memory) (f g : ℕ) (l k : Listed) → f ≡ g → l ≡ k → ◌≡◌ {A = Memory} (record m { outside = record m.outside { faults = f }; listed = l }) (record m { outside = record m.outside { faults = g }; listed = k })
 same_listed m f g l k a b = ap (λ v. record m { outside = record m.outside { faults = v }; listed = l }) a ∙ ap (λ v. record m { outside = record m.outside { faults = g }; listed = v }) b

@@ -19,8 +19,8 @@ abbrev pub running_children : List Running → List Child
 running_children running = map (λ child. child_with (given_of child.job.value)) running
 
 -- whether each child is to end well
-abbrev pub fates_of : List Running → List Bool
-fates_of running = map (λ child. child.well) running
+abbrev pub ends_well_of : List Running → List Bool
+ends_well_of running = map (λ child. child.well) running
 
 -- the children of a table
 abbrev pub family_of : ChildTable → Family
@@ -49,5 +49,5 @@ abbrev pub memory_of : MemoryHost → Memory
 memory_of host = record {
   outside = told_outside host;
   listed = listed_of host.script;
-  fates = fates_of host.child_table.running.items;
+  ends_well = ends_well_of host.child_table.running.items;
 }

@@ -22,14 +22,14 @@ use Rattle.b2_memory.specs.ChildWrites.{writes_of}
 pub record Memory : Type 0 where
   pub outside : Outside
   pub listed : Listed
-  pub fates : List Bool
+  pub ends_well : List Bool
 
 -- a host without files, children, reads and faults, which was told nothing
 abbrev pub new_memory : Memory
 new_memory = record {
   outside = record { disk = Some blank; reads = Some []; children = record { running = []; events = []; given = Some [] }; faults = 0; failed_waits = 0 };
   listed = nothing_listed;
-  fates = [];
+  ends_well = [];
 }
 
 -- the host with other files
@@ -96,7 +96,7 @@ abbrev pub with_child : Given → Bool → Memory → Memory
 with_child given well memory = record {
   outside = record memory.outside { children = admitted given memory.outside.children };
   listed = record memory.listed { starts = starts_after memory.listed.starts };
-  fates = memory.fates ++ well ∷ [];
+  ends_well = memory.ends_well ++ well ∷ [];
 }
 
 -- one more child runs, which is to end badly where its start is listed so
@@ -104,7 +104,7 @@ abbrev pub with_started : ℕ → List ℕ → List (List ℕ) → List (List �
 with_started step text ins outs memory = record {
   outside = started step text ins outs memory.outside;
   listed = record memory.listed { starts = starts_after memory.listed.starts };
-  fates = memory.fates ++ not (is_bad memory.listed.starts) ∷ [];
+  ends_well = memory.ends_well ++ not (is_bad memory.listed.starts) ∷ [];
 }
 
 -- ---- writes
@@ -143,7 +143,7 @@ with_end place given well memory = record memory {
     disk = option_map (all_written (writes_of given well)) memory.outside.disk;
     children = without_child place given well memory.outside.children;
   };
-  fates = remove memory.fates place;
+  ends_well = remove memory.ends_well place;
 }
 
 -- The child at a place has ended as it was to end, and has written just what it was to write.
@@ -151,7 +151,7 @@ pub record Ended (place : ℕ) (before : Memory) (step : ℕ) (well : Bool) (aft
   pub given : Given
   pub ran : slice_get before.outside.children.running place ≡ Some (child_with given)
   pub step_is : given.step ≡ step
-  pub fate : slice_get before.fates place ≡ Some well
+  pub ends : slice_get before.ends_well place ≡ Some well
   pub after_is : after ≡ with_end place given well before
 
 -- the host once a wait has taken its number

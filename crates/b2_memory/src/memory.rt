@@ -62,7 +62,7 @@ impl MemoryHost {
     ghost use Rattle.b2_files.specs.StoreDisks.{knows};
     ghost use Rattle.b2_memory.specs.Jobs.{IsLeft, given_of};
     ghost use Rattle.b2_memory.specs.Memories.{new_memory, with_listed, with_fuse, with_tear, with_edit, with_child, with_entry, Writes, Ended, Reopens};
-    ghost use Rattle.b2_memory.specs.Hosts.{memory_of, running_children, fates_of, write_told};
+    ghost use Rattle.b2_memory.specs.Hosts.{memory_of, running_children, ends_well_of, write_told};
 
     /// No files, no children, no reads and no faults; nothing is listed.
     pub fn new(alloc: Global) -> Result<MemoryHost, OutOfMemory>
@@ -160,7 +160,7 @@ impl MemoryHost {
     /// The children that run, in order of start, each with how it is to end.
     pub fn running(&self) -> &[Running]
         ensures children { running_children result.now ≡ (memory_of self.now).outside.children.running }
-        ensures fates { fates_of result.now ≡ (memory_of self.now).fates }
+        ensures ends_well { ends_well_of result.now ≡ (memory_of self.now).ends_well }
     {
         self.child_table.running.as_slice()
     }

@@ -93,7 +93,7 @@ fn is_spent(fuse: Option<u32>) -> bool
     }
 }
 
-fn burnt(fuse: Option<u32>) -> Option<u32>
+fn fuse_after(fuse: Option<u32>) -> Option<u32>
     ensures { result ≡ fuse_after fuse }
 {
     match fuse {
@@ -164,7 +164,7 @@ impl Script {
     {
         let fails = self.is_to_fail(kind);
         pass_all(&mut self.calls, kind);
-        self.fuse = burnt(self.fuse);
+        self.fuse = fuse_after(self.fuse);
         if fails {
             self.faults = raise(self.faults);
         }

@@ -11,7 +11,7 @@ use Rattle.b2_memory.specs.ChildWrites.{writes_of}
 use Rattle.b2_memory.specs.Families.{child_with}
 use Rattle.b2_memory.specs.Jobs.{given_of}
 use Rattle.b2_memory.specs.Memories.{without_child}
-use Rattle.b2_memory.specs.Hosts.{memory_of, family_of, running_children, fates_of}
+use Rattle.b2_memory.specs.Hosts.{memory_of, family_of, running_children, ends_well_of}
 use Rattle.b2_memory.proofs.Records.{same_family, same_memory}
 use Rattle.b2_memory.specs.PendingWrites.{promised}
 use Rattle.b2_memory.proofs.ChildEnds.{known_take, get_map, map_remove}
@@ -48,15 +48,15 @@ returns-clause-ended c =
       given = given;
       ran = get_map (λ (r : Running). child_with (given_of r.job.value)) running c.args.place ∙ ap (option_map (λ (r : Running). child_with (given_of r.job.value))) c.take-job.ensures.child;
       step_is = sym (ap (λ (j : Job). j.step) c.as_ref.ensures);
-      fate = get_map (λ (r : Running). r.well) running c.args.place ∙ ap (option_map (λ (r : Running). r.well)) c.take-job.ensures.child;
+      ends = get_map (λ (r : Running). r.well) running c.args.place ∙ ap (option_map (λ (r : Running). r.well)) c.take-job.ensures.child;
       after_is = same_memory (memory_of host)
           (Some (told c.put_all.new.self)) (Some (all_written (writes_of given child.well) (told host.store)))
           (family_of table) (without_child c.args.place given child.well (family_of host.child_table))
-          (fates_of table.running.items) (remove (fates_of running) c.args.place)
+          (ends_well_of table.running.items) (remove (ends_well_of running) c.args.place)
           (ap Some (c.put_all.ensures.disk ∙ ap (λ ws. all_written ws (told host.store)) child.settled))
           (same_family (running_children table.running.items) (remove (running_children running) c.args.place) table.events.items _ _ _
           (ap running_children c.take-job.ensures.running ∙ map_remove (λ (r : Running). child_with (given_of r.job.value)) running c.args.place)
           c.take-job.ensures.events
           (ap (λ js. Some (map (λ j. given_of j.value) js)) c.take-job.ensures.given))
-          (ap fates_of c.take-job.ensures.running ∙ map_remove (λ (r : Running). r.well) running c.args.place);
+          (ap ends_well_of c.take-job.ensures.running ∙ map_remove (λ (r : Running). r.well) running c.args.place);
     }
