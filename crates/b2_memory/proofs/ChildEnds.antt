@@ -16,7 +16,7 @@ use Rattle.b2_memory.specs.Results.{made_of}
 use Rattle.b2_memory.specs.ChildWrites.{writes_of}
 use Rattle.b2_memory.specs.Families.{child_with}
 use Rattle.b2_memory.specs.PendingWrites.{promised}
-use Rattle.b2_memory.proofs.ChildWrites.{is_in, in_contains, paths_of, other_path, contains_none, more_past, stands_at, writes_in}
+use Rattle.b2_memory.proofs.ChildWrites.{is_in, in_contains, paths_of, other_path, more_past, stands_at, writes_in}
 
 -- ---- what is promised is known
 
@@ -77,10 +77,6 @@ contains_at (y ∷ xs) (suc k) x e =
     (suc more.0, (let low : more.0 < length xs = more.1 in let h : suc more.0 < suc (length xs) = omega (arith, low) in h), more.2)
 
 -- ---- no child ends
-
-pub still_works : (running : List Child) (o : Option Disk) → BothTold (ChangesOnlyOutputs running) o o
-still_works running None = tt
-still_works running (Some disk) = record { others = λ path none. refl; more = []; past = sym (append-nil disk.past); written = λ old c. absurd (contains_none old c) }
 
 -- ---- the child at a place ends
 

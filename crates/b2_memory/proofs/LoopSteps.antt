@@ -81,8 +81,5 @@ join_here held names i d h =
     ∙ joined_cons held (get_or names i d).now (texts (drop (suc i) names))
     ∙ ap (λ k. cond (bytes_eq (get_or names i d).now (codes ">")) [] (bytes_named held (get_or names i d).now ++ joined held (texts (drop k names)))) (sym (add-one i))
 
-pub join_stops : (held : List (List ℕ × List ℕ)) (names : List (Bor (List ℕ))) (i : ℕ) (d : Bor (List ℕ)) → i < length names → bytes_eq (get_or names i d).now (codes ">") ≡ true → joined held (texts (drop i names)) ≡ []
-join_stops held names i d h e = join_here held names i d h ∙ ap (λ b. cond b [] (bytes_named held (get_or names i d).now ++ joined held (texts (drop (i + 1) names)))) e
-
 pub join_goes_on : (held : List (List ℕ × List ℕ)) (names : List (Bor (List ℕ))) (i : ℕ) (d : Bor (List ℕ)) → i < length names → bytes_eq (get_or names i d).now (codes ">") ≡ false → joined held (texts (drop i names)) ≡ bytes_named held (get_or names i d).now ++ joined held (texts (drop (i + 1) names))
 join_goes_on held names i d h e = join_here held names i d h ∙ ap (λ b. cond b [] (bytes_named held (get_or names i d).now ++ joined held (texts (drop (i + 1) names)))) e
