@@ -40,7 +40,7 @@ use Rattle.b2_front.specs.declared.refusal.Stop.TheVariants as stops
 use Rattle.b2_front.specs.Meaning.{Refusal, of_generation, IsOfText, not_returned, not_written, project_with, Refuses}
 use Rattle.b2_front.specs.Refusals.{stop_of_generation}
 use Rattle.b2_front.specs.Preparing.{IfRefusal, Tells, IsWhole, CountsStop, Counts}
-use Rattle.b2_front.specs.Again.{is_refusal, stop_of_text, host_or_memory, refusal_or_stop, Retells}
+use Rattle.b2_front.specs.Again.{is_refusal, stop_of_text, host_or_memory, refusal_or_stop, AnswersAgain}
 use Rattle.b2_front.proofs.TellLemmas.{OfLine, generation_told}
 use Rattle.b2_front.proofs.StopLemmas.{OfPattern, generation_known, generation_refused, generated_whole}
 
@@ -328,11 +328,11 @@ module _ (found : Declared) (worlds : Worlds) (request : Request) (question : Qu
         plans = subst (λ f. Plans (project_with disk worlds found question f) request.sets request.targets (Err why)) back plans;
       }
 
-  pub retells_refusing : (roots : List (List ℕ)) → roots ≡ worlds.now.roots → (result : Result Made (GenFault EvalFault))
+  pub answers_again_refusing : (roots : List (List ℕ)) → roots ≡ worlds.now.roots → (result : Result Made (GenFault EvalFault))
       → ((told : Answers EvalFault) → option_map (with_fault question fault) (told_in found.places worlds from.disk) ≡ Some told → IsPlanned (loaded_of found roots told) is_host is_memory request result)
       → IfErr result (IsKnown (CanEndWithGiven kept)) → IsCounted (is_eval is_host) (is_of_memory is_memory) from.faults to.faults result
-      → Retells found worlds request.sets request.targets from to (Err (refusal_or_stop result))
-  retells_refusing roots same result told known counted = record {
+      → AnswersAgain found worlds request.sets request.targets from to (Err (refusal_or_stop result))
+  answers_again_refusing roots same result told known counted = record {
     no_plan = tt;
     told = go from.disk refl refused;
     whole = again_whole result (generation_known (CanEndWithGiven kept) HoldsNoMemory (λ f h. h.whole) result known);
@@ -349,15 +349,15 @@ module _ (found : Declared) (worlds : Worlds) (request : Request) (question : Qu
           known
 
 -- an answer that is a fault of the host, or out of memory
-pub retells_host : (found : Declared) (worlds : Worlds) (sets : List (List Pair)) (targets : List Text) (from to : Outside) → CountsStop stops.Host from to → Retells found worlds sets targets from to (Err stops.Host)
-retells_host found worlds sets targets from to counts = record { no_plan = tt; told = go from.disk; whole = tt; counts = counts }
+pub answers_again_host : (found : Declared) (worlds : Worlds) (sets : List (List Pair)) (targets : List Text) (from to : Outside) → CountsStop stops.Host from to → AnswersAgain found worlds sets targets from to (Err stops.Host)
+answers_again_host found worlds sets targets from to counts = record { no_plan = tt; told = go from.disk; whole = tt; counts = counts }
   where
     go : (disk : Option Disk) → IfSome disk (λ d. Tells (Refuses d worlds found sets targets) (λ pattern outcome. ⊥) (Err stops.Host))
     go None = tt
     go (Some d) = tt
 
-pub retells_memory : (found : Declared) (worlds : Worlds) (sets : List (List Pair)) (targets : List Text) (from to : Outside) → Retells found worlds sets targets from to (Err stops.OutOfMemory)
-retells_memory found worlds sets targets from to = record { no_plan = tt; told = go from.disk; whole = tt; counts = tt }
+pub answers_again_memory : (found : Declared) (worlds : Worlds) (sets : List (List Pair)) (targets : List Text) (from to : Outside) → AnswersAgain found worlds sets targets from to (Err stops.OutOfMemory)
+answers_again_memory found worlds sets targets from to = record { no_plan = tt; told = go from.disk; whole = tt; counts = tt }
   where
     go : (disk : Option Disk) → IfSome disk (λ d. Tells (Refuses d worlds found sets targets) (λ pattern outcome. ⊥) (Err stops.OutOfMemory))
     go None = tt
@@ -371,9 +371,9 @@ counts_then from mid to same (Err stops.Host) h = then_rose from.faults mid.faul
 counts_then from mid to same (Err stops.OutOfMemory) h = tt
 
 -- the files and the count of faults were as before, and then it was planned once more
-pub retells_after : (found : Declared) (worlds : Worlds) (sets : List (List Pair)) (targets : List Text) (from mid to : Outside) (result : Result Made Stop)
-    → mid.disk ≡ from.disk → mid.faults ≡ from.faults → Retells found worlds sets targets mid to result → Retells found worlds sets targets from to result
-retells_after found worlds sets targets from mid to result disk faults h = record {
+pub answers_again_after : (found : Declared) (worlds : Worlds) (sets : List (List Pair)) (targets : List Text) (from mid to : Outside) (result : Result Made Stop)
+    → mid.disk ≡ from.disk → mid.faults ≡ from.faults → AnswersAgain found worlds sets targets mid to result → AnswersAgain found worlds sets targets from to result
+answers_again_after found worlds sets targets from mid to result disk faults h = record {
   no_plan = h.no_plan;
   told = subst (λ d. IfSome d (λ now. Tells (Refuses now worlds found sets targets) (λ pattern outcome. ⊥) result)) disk h.told;
   whole = h.whole;
@@ -387,8 +387,8 @@ refused_here found worlds question fault projects None same is h = tt
 refused_here found worlds question fault projects (Some d) same is h = subst (λ ps. IsRefused ps worlds d question fault) same (h is)
 
 -- a fault of the project's own text that is no refused pattern
-pub retells_text : (found : Declared) (worlds : Worlds) (sets : List (List Pair)) (targets : List Text) (from to : Outside) (fault : EvalFault) → CountsFault (is_host_fault fault) (is_out_of_memory fault) from.faults to.faults
-    → Retells found worlds sets targets from to (Err (stop_of_text fault))
-retells_text found worlds sets targets from to evaluating.Host counted = retells_host found worlds sets targets from to (record { kept = counted.kept; more = counted.more })
-retells_text found worlds sets targets from to evaluating.OutOfMemory counted = retells_memory found worlds sets targets from to
-retells_text found worlds sets targets from to (evaluating.At path line cause) counted = retells_memory found worlds sets targets from to
+pub answers_again_text : (found : Declared) (worlds : Worlds) (sets : List (List Pair)) (targets : List Text) (from to : Outside) (fault : EvalFault) → CountsFault (is_host_fault fault) (is_out_of_memory fault) from.faults to.faults
+    → AnswersAgain found worlds sets targets from to (Err (stop_of_text fault))
+answers_again_text found worlds sets targets from to evaluating.Host counted = answers_again_host found worlds sets targets from to (record { kept = counted.kept; more = counted.more })
+answers_again_text found worlds sets targets from to evaluating.OutOfMemory counted = answers_again_memory found worlds sets targets from to
+answers_again_text found worlds sets targets from to (evaluating.At path line cause) counted = answers_again_memory found worlds sets targets from to

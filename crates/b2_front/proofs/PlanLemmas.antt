@@ -39,7 +39,7 @@ use Rattle.b2_front.specs.Preparing.{Tells, IsWhole, Counts}
 use Rattle.b2_front.specs.Parts.{planned_or_stop, IsGenerated, IsAsked, IsRefusedFor, Does, PlansRequest, Asks}
 use Rattle.b2_front.specs.Again.{is_refusal, is_refused_answer, Settles, SettlesBy}
 use Rattle.b2_front.proofs.TellLemmas.{tells_map}
-use Rattle.b2_front.proofs.AgainLemmas.{not_so, first_same, retells_after}
+use Rattle.b2_front.proofs.AgainLemmas.{not_so, first_same, answers_again_after}
 use Rattle.b2_front.proofs.StopLemmas.{OfPattern, generated_told, generated_whole, generated_counts, asked_told, asked_whole, asked_counts}
 
 -- ---- what is kept
@@ -144,7 +144,7 @@ module _ (found : Declared) (worlds : Worlds) (request : Request) (roots : List 
     where
       go : (b : Bool) → is_refused_answer generated ≡ b → SettlesBy found worlds request.sets request.targets b generated mid to result → PlansRequest found worlds request.sets request.targets from to result
       go true is h =
-          let again = retells_after found worlds request.sets request.targets from mid to result between (same_first generated is counted) h in
+          let again = answers_again_after found worlds request.sets request.targets from mid to result between (same_first generated is counted) h in
           record {
             told = told_map result again.told;
             whole = again.whole;

@@ -70,7 +70,7 @@ refusal_or_stop (Err fault) = if is_refusal fault then stop_of_generation fault 
 
 -- What is promised of it: where the files are visible, the answer is a refusal to which generation comes, a fault of the host, or out
 -- of memory.
-pub record Retells (found : Declared) (worlds : Worlds) (sets : List (List Pair)) (targets : List Text) (from to : Outside) (result : Result Made Stop) : Type 0 where
+pub record AnswersAgain (found : Declared) (worlds : Worlds) (sets : List (List Pair)) (targets : List Text) (from to : Outside) (result : Result Made Stop) : Type 0 where
   pub no_plan : IfOk result (λ made. ⊥)
   pub told : IfSome from.disk (λ disk. Tells (Refuses disk worlds found sets targets) (λ pattern outcome. ⊥) result)
   pub whole : IfErr result IsWhole
@@ -81,7 +81,7 @@ pub record Retells (found : Declared) (worlds : Worlds) (sets : List (List Pair)
 module _ (found : Declared) (worlds : Worlds) (sets : List (List Pair)) (targets : List Text) where
   -- where no pattern was refused, the answer is that of generation
   abbrev pub SettlesBy : Bool → Result Made (GenFault EvalFault) → Outside → Outside → Result Made Stop → Type 0
-  SettlesBy true generated from to result = Retells found worlds sets targets from to result
+  SettlesBy true generated from to result = AnswersAgain found worlds sets targets from to result
   SettlesBy false generated from to result = (result ≡ planned_or_stop generated) × (to ≡ from)
 
   abbrev pub Settles : Result Made (GenFault EvalFault) → Outside → Outside → Result Made Stop → Type 0
@@ -89,8 +89,8 @@ module _ (found : Declared) (worlds : Worlds) (sets : List (List Pair)) (targets
 
 -- ---- the same for a request, by what the files say of themselves
 
-abbrev pub RetellsOn : {F : Type 0} → (F → Outside) → Declared → Worlds → Request → MutBor F → MutBor F → Result Made Stop → Type 0
-RetellsOn outside found worlds request files later = Retells found worlds request.sets request.targets (outside files.now) (outside later.now)
+abbrev pub AnswersAgainOn : {F : Type 0} → (F → Outside) → Declared → Worlds → Request → MutBor F → MutBor F → Result Made Stop → Type 0
+AnswersAgainOn outside found worlds request files later = AnswersAgain found worlds request.sets request.targets (outside files.now) (outside later.now)
 
 abbrev pub SettlesOn : {F : Type 0} → (F → Outside) → Declared → Worlds → Request → Result Made (GenFault EvalFault) → MutBor F → MutBor F
     → Result Made Stop → Type 0

@@ -3,7 +3,7 @@ ghost use Rattle.std.specs.Prelude.{◌≡◌};
 ghost use Rattle.b2_alternatives.specs.Picking.{IsNumbered};
 ghost use Rattle.b2_loaded.specs.Asking.{EndsOn};
 ghost use Rattle.b2_front.specs.Parts.{planned_or_stop};
-ghost use Rattle.b2_front.specs.Again.{is_refusal, is_refused_answer, stop_of_text, host_or_memory, refusal_or_stop, RetellsOn, SettlesOn};
+ghost use Rattle.b2_front.specs.Again.{is_refusal, is_refused_answer, stop_of_text, host_or_memory, refusal_or_stop, AnswersAgainOn, SettlesOn};
 
 use crate::planning::plan_in;
 use crate::refusal::{Stop, not_planned};
@@ -113,7 +113,7 @@ fn plan_refusing<'a, F: Files, S: Entry>(
     requires numbered { IsNumbered declared.now }
     requires places { refusing.own.projects.now ≡ declared.now.places }
     requires ends { EndsOn F.outside refusing.question refusing.own.projects.now refusing.own.loaded.world refusing.own.host.files refusing.fault }
-    ensures retells { RetellsOn F.outside declared.now refusing.entry.own.loaded.world request.now refusing.entry.own.host.files result.own.host.files result.result }
+    ensures answers_again { AnswersAgainOn F.outside declared.now refusing.entry.own.loaded.world request.now refusing.entry.own.host.files result.own.host.files result.result }
     ensures same_reference { result.own.host.files.ghost_name ≡ refusing.entry.own.host.files.ghost_name }
 {
     let roots = copy_paths(alloc, refusing.own.loaded.world.roots());
@@ -140,7 +140,7 @@ pub(crate) fn plan_again<'a, F: Files, S: Entry>(
 ) -> Ended<'a, F, S>
     requires numbered { IsNumbered declared.now }
     requires places { first.projects.now ≡ declared.now.places }
-    ensures retells { RetellsOn F.outside declared.now first.entry.loaded.world request.now first.entry.host.files result.own.host.files result.result }
+    ensures answers_again { AnswersAgainOn F.outside declared.now first.entry.loaded.world request.now first.entry.host.files result.own.host.files result.result }
     ensures same_reference { result.own.host.files.ghost_name ≡ first.entry.host.files.ghost_name }
 {
     let mut own = first;

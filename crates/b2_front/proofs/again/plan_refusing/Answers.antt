@@ -3,9 +3,9 @@ use Rattle.std.specs.Option.{option_map}
 use Rattle.b2_loaded.specs.Held.{Given, given, held}
 use Rattle.b2_loaded.specs.Questions.{with_fault}
 use Rattle.b2_loaded.specs.Worlds.{told_in}
-use Rattle.b2_front.specs.Again.{Retells}
+use Rattle.b2_front.specs.Again.{AnswersAgain}
 use Rattle.b2_front.proofs.OverLemmas.{bin_there}
-use Rattle.b2_front.proofs.AgainLemmas.{refused_here, retells_refusing}
+use Rattle.b2_front.proofs.AgainLemmas.{refused_here, answers_again_refusing}
 use Rattle.b2_front.proofs.again.plan_refusing.Goals as goal
 use Rattle.std.proofs.Common.{Some, ◌≡◌}
 
@@ -15,15 +15,15 @@ plan_in-evaluator-requires-clause-numbered g c = c.requires.numbered
 pub plan_in-evaluator-requires-clause-bin : goal.plan_in-evaluator-requires-clause-bin
 plan_in-evaluator-requires-clause-bin g c = bin_there c.copy_paths-roots.result c.roots.result.now c.roots.ensures.first.0 c.copy_paths-roots.ensures c.roots.ensures.first.1
 
-pub returns-clause-retells : goal.returns-clause-retells
-returns-clause-retells g c =
+pub returns-clause-answers_again : goal.returns-clause-answers_again
+returns-clause-answers_again g c =
     let outside = g.F.Files.outside in
     let r = c.args.refusing in
     let planned = c.plan_in-evaluator in
     let from = outside r.own.host.files.now in
     let to = outside planned.result.evaluator.own.host.files.now in
-    subst (λ stop. Retells c.args.declared.now r.own.loaded.world c.args.request.now.sets c.args.request.now.targets from to (Err stop)) (sym c.refusal_or_stop.ensures)
-    (retells_refusing c.args.declared.now r.own.loaded.world c.args.request.now r.question r.fault (given (held r.own.projects.now r.own.loaded.world r.own.host.files.ghost_name from) r.fault) refl from to
+    subst (λ stop. AnswersAgain c.args.declared.now r.own.loaded.world c.args.request.now.sets c.args.request.now.targets from to (Err stop)) (sym c.refusal_or_stop.ensures)
+    (answers_again_refusing c.args.declared.now r.own.loaded.world c.args.request.now r.question r.fault (given (held r.own.projects.now r.own.loaded.world r.own.host.files.ghost_name from) r.fault) refl from to
     (refused_here c.args.declared.now r.own.loaded.world r.question r.fault r.own.projects.now from.disk c.requires.places r.refused c.requires.ends.refused)
     c.roots.result.now c.roots.ensures.same planned.result.result
     (λ told is. planned.ensures.told c.roots.result.now c.copy_paths-roots.ensures told
