@@ -1,5 +1,5 @@
 use Rattle.std.proofs.Common.{◌≡◌, ◌⊎◌, inl, inr, ℕ, ◌+◌, ◌<◌, ◌≤◌, Bool, true, false, cond, List, [], ◌∷◌, ◌++◌, length, get_or, refl, sym, ap, subst, arith}
-use Rattle.std.specs.List.{Contains, AllPairs}
+use Rattle.std.specs.List.{Contains}
 use Rattle.std.proofs.lemmas.Bool.{cases_eq, cases_lt, false≢true}
 use Rattle.std.proofs.lemmas.List.{get_or_past}
 use Rattle.std.proofs.lemmas.List.Quantifiers.{all_pairs_push}
@@ -17,13 +17,6 @@ listed_same P Q xs there back is = record {
   each = λ i c. there i (is.each i c);
   whole = λ i q. is.whole i (back i q);
 }
-
--- an empty list has no pairs
-pub no_pairs : (R : ℕ → ℕ → Type 0) → AllPairs R []
-no_pairs R = λ i j d above below. absurd (no_less j below)
-  where
-    no_less : (j : ℕ) → j < 0 → ⊥
-    no_less j below = omega arith
 
 -- one more number
 pub listed_more : (P : ℕ → Type 0) (n : ℕ) (xs ys : List ℕ) (flag : Bool) → ys ≡ cond flag (xs ++ n ∷ []) xs → (flag ≡ true → P n) → (P n → flag ≡ true)
