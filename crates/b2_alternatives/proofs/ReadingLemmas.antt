@@ -3,7 +3,6 @@ use Rattle.std.specs.Option.{option_map, option_map_or}
 use Rattle.b2_props.specs.Sets.{Pair}
 use Rattle.b2_props.proofs.Gaining.{next_take}
 use Rattle.b2_texts.proofs.Listing.{around}
-use Rattle.b2_features.specs.Table.{Declared as Feature}
 use Rattle.b2_metatargets.specs.declared.whole.Declared.{Declared}
 use Rattle.b2_alternatives.specs.declared.reading.Reading.{Reading}
 use Rattle.b2_alternatives.specs.declared.reading.Reading.TheVariants.{Properties, Bad}
@@ -12,12 +11,6 @@ use Rattle.b2_alternatives.specs.Choosing.{read_before, answered_pair, answered}
 pub some_mapped : {X Y : Type 0} (f : X → Y) (o : Option X) → is_some o ≡ is_some (option_map f o)
 some_mapped f None = refl
 some_mapped f (Some x) = refl
-
--- ---- one text
-
-module _ (table : List Feature) (dir text : List ℕ) where
-
--- ---- several texts
 
 -- pairs before what others read as
 abbrev after_pairs : List Pair → Reading → Reading
