@@ -1,7 +1,7 @@
 //! The command `spelled`.
-use crate::language::expansion::Variables;
-use crate::language::marks::mark_command;
-use crate::language::shown::{kind_named, push_quoted};
+use crate::expansion::Variables;
+use crate::marks::mark_command;
+use crate::shown::{kind_named, push_quoted};
 use jam_spelling::lexeme::Lexeme;
 use jam_spelling::spelled;
 use std::alloc::Global;

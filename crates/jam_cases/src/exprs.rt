@@ -1,6 +1,6 @@
 //! How conditions are shown: an argument as itself, and every other one in parentheses after a name, as `(or A B)`,
 //! `(and A B)`, `(not A)`, `(group A)`, `(equal A B)`, `(differ A B)` and `(within A LIST)`.
-use crate::language::args::{push_arg, push_args};
+use crate::args::{push_arg, push_args};
 use jam_grammar::tree::{Arg, Expr};
 use transcript::case_fault::CaseFault;
 

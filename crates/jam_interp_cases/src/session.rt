@@ -1,6 +1,5 @@
 //! The parts of the transcript.
 use crate::evaluation::session::Evaluation;
-use crate::language::session::Language;
 use crate::world::session::Scene;
 use b2_base::fault::OutOfMemory;
 use std::alloc::Global;
@@ -13,7 +12,6 @@ use transcript::words::only;
 /// A part, which carries out commands of its own.
 #[derive(Clone, Copy)]
 enum Part {
-    Language,
     World,
     Evaluation,
 }
@@ -24,7 +22,6 @@ enum Part {
 /// them apart proves the drop of all that they hold, which costs more than the proof of its commands.
 #[derive(Drop)]
 pub struct Cases {
-    language: Language,
     scene: Scene,
     evaluation: Evaluation,
     at_hand: Part,
@@ -33,7 +30,6 @@ pub struct Cases {
 /// The part that the one word names.
 fn named_part(words: &[Word]) -> Result<Part, CaseFault> {
     match only(words)? {
-        "language" => Ok(Part::Language),
         "world" => Ok(Part::World),
         "evaluation" => Ok(Part::Evaluation),
         _ => Err(CaseFault::WrongWords),
@@ -46,15 +42,14 @@ fn turn_to(alloc: Global, at_hand: &mut Part, words: &[Word]) -> Result<Answer, 
 }
 
 impl Cases {
-    /// Each part as it is at first; the language is at hand.
+    /// Each part as it is at first; the world is at hand.
     pub fn new(alloc: Global) -> Result<Cases, OutOfMemory> {
         let scene = Scene::new(alloc)?;
         let evaluation = Evaluation::new(alloc)?;
         Ok(Cases {
-            language: Language::new(alloc),
             scene,
             evaluation,
-            at_hand: Part::Language,
+            at_hand: Part::World,
         })
     }
 }
@@ -65,7 +60,6 @@ impl Session for Cases {
             return turn_to(alloc, &mut self.at_hand, command.words());
         }
         match self.at_hand {
-            Part::Language => self.language.carry_out(alloc, command),
             Part::World => self.scene.carry_out(alloc, command),
             Part::Evaluation => self.evaluation.carry_out(alloc, command),
         }

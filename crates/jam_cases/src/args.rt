@@ -1,6 +1,6 @@
 //! How arguments are shown: a word in quotes, and a bracket value as `[call HEAD LISTS]`, `[on TARGET call HEAD LISTS]` or
 //! `[on TARGET return LIST]`. A list is shown as its arguments in parentheses, with blanks between all.
-use crate::language::shown::push_quoted;
+use crate::shown::push_quoted;
 use jam_grammar::tree::{Arg, Inner};
 use transcript::case_fault::CaseFault;
 

@@ -1,7 +1,7 @@
 //! How statements are shown: each on a line of its own, as its line in the text and its form, and what stands in its
 //! blocks below it, with two blanks more before each line.
-use crate::language::forms::push_form;
-use crate::language::shown::push_quoted;
+use crate::forms::push_form;
+use crate::shown::push_quoted;
 use jam_grammar::tree::{Block, Case, Form, Other, Stmt};
 use std::alloc::Global;
 use transcript::answer::Answer;

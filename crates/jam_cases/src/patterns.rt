@@ -2,7 +2,7 @@
 //!
 //! - `groups PATTERN TEXT`: the groups of the first match, each on a line below `match`.
 //! - `group_lengths PATTERN NAME`: the lengths of the groups of the first match in the first text of a variable.
-use crate::language::expansion::{Variables, expansion_command};
+use crate::expansion::{Variables, expansion_command};
 use b2_base::look::Look;
 use b2_base::text::Text;
 use b2_base::text_list::TextList;

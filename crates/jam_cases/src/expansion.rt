@@ -8,7 +8,6 @@
 //! - `expand_body_size BODY`: how many bytes that text has.
 ghost use Rattle.std.specs.Prelude.{◌≡◌};
 
-use crate::expand_faults::expand_text;
 use b2_base::expand_fault::ExpandFault;
 use b2_base::look::Look;
 use b2_base::text::Text;
@@ -86,8 +85,25 @@ fn answer_set(
     Ok(Answer::new(alloc))
 }
 
+/// The text of a fault.
+fn fault_text(alloc: Global, fault: &ExpandFault) -> Result<String, CaseFault> {
+    match fault {
+        ExpandFault::BadIndex { text } => {
+            let text = text.as_str();
+            Ok(format!(in alloc; "bad index {text}")?)
+        }
+        ExpandFault::BadModifier { text } => {
+            let text = text.as_str();
+            Ok(format!(in alloc; "bad modifier {text}")?)
+        }
+        ExpandFault::TooDeep => Ok(String::from_str(alloc, "expansion too deep")?),
+        ExpandFault::TooLarge { bytes } => Ok(format!(in alloc; "expansion of {bytes} bytes")?),
+        ExpandFault::OutOfMemory => Err(CaseFault::OutOfMemory),
+    }
+}
+
 fn fault_answer(alloc: Global, fault: &ExpandFault) -> Result<Answer, CaseFault> {
-    Answer::line(alloc, expand_text(alloc, fault)?.as_str())
+    Answer::line(alloc, fault_text(alloc, fault)?.as_str())
 }
 
 fn answer_add_expansion(

@@ -1,7 +1,7 @@
 //! How the first line of a statement is shown: its name, and what it has before its blocks.
-use crate::language::args::{push_arg, push_args, push_lists};
-use crate::language::exprs::push_expr;
-use crate::language::shown::push_quoted;
+use crate::args::{push_arg, push_args, push_lists};
+use crate::exprs::push_expr;
+use crate::shown::push_quoted;
 use b2_base::text::Text;
 use jam_grammar::tree::{Arg, Form, Param, Sign};
 use transcript::case_fault::CaseFault;

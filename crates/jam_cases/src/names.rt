@@ -3,8 +3,8 @@
 //! - `parts NAME`: the five parts of the name, each with its label.
 //! - `join GRIST DIR BASE SUFFIX MEMBER`: the name that these parts make.
 //! - `glob_match PATTERN TEXT`: whether the pattern matches the text.
-use crate::language::expansion::Variables;
-use crate::language::patterns::pattern_command;
+use crate::expansion::Variables;
+use crate::patterns::pattern_command;
 use b2_base::text::Text;
 use jam_path::glob::glob_match;
 use jam_path::name::{join, parts};

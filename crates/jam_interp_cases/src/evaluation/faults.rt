@@ -1,11 +1,27 @@
 //! The texts of faults.
-use crate::expand_faults::expand_text;
+use b2_base::expand_fault::ExpandFault;
 use jam_interp::fault::{EvalCause, EvalFault};
 use jam_lexer::fault::LexFault;
 use jam_patterns::native_fault::NativeFault;
 use std::alloc::Global;
 use transcript::answer::Answer;
 use transcript::case_fault::CaseFault;
+
+fn expand_text(alloc: Global, fault: &ExpandFault) -> Result<String, CaseFault> {
+    match fault {
+        ExpandFault::BadIndex { text } => {
+            let text = text.as_str();
+            Ok(format!(in alloc; "bad index {text}")?)
+        }
+        ExpandFault::BadModifier { text } => {
+            let text = text.as_str();
+            Ok(format!(in alloc; "bad modifier {text}")?)
+        }
+        ExpandFault::TooDeep => Ok(format!(in alloc; "expansion too deep")?),
+        ExpandFault::TooLarge { bytes } => Ok(format!(in alloc; "expansion of {bytes} bytes")?),
+        ExpandFault::OutOfMemory => Err(CaseFault::OutOfMemory),
+    }
+}
 
 fn native_text(alloc: Global, fault: &NativeFault) -> Result<String, CaseFault> {
     match fault {

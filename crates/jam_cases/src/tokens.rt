@@ -1,8 +1,8 @@
 //! The command `lex`.
+use crate::expansion::Variables;
 use crate::given::given;
-use crate::language::expansion::Variables;
-use crate::language::shown::{kind_name, push_quoted};
-use crate::language::trees::tree_command;
+use crate::shown::{kind_name, push_quoted};
+use crate::trees::tree_command;
 use b2_base::token::Token;
 use jam_lexer::fault::LexFault;
 use jam_lexer::lex;

@@ -1,16 +1,31 @@
 //! Running files.
 use crate::evaluation::faults::push_fault;
 use crate::evaluation::machine::Machine;
-use crate::given::tree_of;
 use b2_base::path::Path;
 use jam_grammar::tree::Tree;
 use jam_interp::fault::EvalFault;
 use jam_interp::run::run;
 use jam_interp::turns::Turns;
+use jam_lexer::lex;
 use jam_natives::natives::JamNatives;
+use jam_parser::parse::parse;
 use std::alloc::Global;
 use transcript::answer::Answer;
 use transcript::case_fault::CaseFault;
+
+/// The statements of a text; `WrongWords` where it is none.
+fn statements(alloc: Global, text: &str) -> Result<Tree, CaseFault> {
+    if text.len() > 1_048_576 {
+        return Err(CaseFault::WrongWords);
+    }
+    let Ok(tokens) = lex(alloc, text.as_bytes()) else {
+        return Err(CaseFault::WrongWords);
+    };
+    match parse(alloc, &tokens) {
+        Ok(tree) => Ok(tree),
+        Err(_fault) => Err(CaseFault::WrongWords),
+    }
+}
 
 /// Shows the lines of ECHO that were not shown yet.
 fn push_echoes(
@@ -74,7 +89,7 @@ pub fn run_text(
     text: &str,
     turns: &mut Turns,
 ) -> Result<Answer, CaseFault> {
-    let tree = tree_of(alloc, text.as_bytes())?;
+    let tree = statements(alloc, text)?;
     let ended = run_there(alloc, machine, module, path, &tree, turns);
     let answer = shown(alloc, machine, &ended);
     drop(ended);

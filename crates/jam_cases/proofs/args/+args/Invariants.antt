@@ -1,5 +1,5 @@
 use Rattle.std.proofs.Common.{◌+◌, ◌*◌}
-use Rattle.jam_cases.proofs.language.args.+args.Given as goal
+use Rattle.jam_cases.proofs.args.+args.Given as goal
 
 -- a list of arguments goes to each of them, and lists to each list
 abbrev pub decreases-push_arg : goal.decreases-push_arg

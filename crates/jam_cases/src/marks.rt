@@ -1,7 +1,7 @@
 //! The command `mark_of`.
-use crate::language::expansion::Variables;
-use crate::language::names::name_command;
-use crate::language::shown::kind_named;
+use crate::expansion::Variables;
+use crate::names::name_command;
+use crate::shown::kind_named;
 use b2_base::token::{Token, TokenKind};
 use jam_grammar::mark::{Mark, mark_of};
 use std::alloc::Global;

@@ -1,9 +1,9 @@
 //! The commands `parse`, `fault` and `print`.
-use crate::given::{given, tree_of};
-use crate::language::expansion::Variables;
-use crate::language::lexemes::lexeme_command;
-use crate::language::stmts::push_stmts;
-use crate::language::tokens::fault_answer;
+use crate::expansion::Variables;
+use crate::given::{MAX_LEN, given};
+use crate::lexemes::lexeme_command;
+use crate::stmts::push_stmts;
+use crate::tokens::fault_answer;
 use b2_base::token::Token;
 use jam_grammar::tree::Tree;
 use jam_lexer::lex;
@@ -44,7 +44,13 @@ fn tree_answer(alloc: Global, tree: &Tree) -> Result<Answer, CaseFault> {
 
 /// The text of the printed tree of a text, and nothing where it has no tree.
 fn printed_again(alloc: Global, bytes: &[u8]) -> Result<Option<Vec<u8>>, CaseFault> {
-    match tree_of(alloc, bytes) {
+    if bytes.len() > MAX_LEN {
+        return Ok(None);
+    }
+    let Ok(tokens) = lex(alloc, bytes) else {
+        return Ok(None);
+    };
+    match parse(alloc, tokens.as_slice()) {
         Ok(tree) => Ok(Some(print(alloc, &tree)?)),
         Err(_fault) => Ok(None),
     }
