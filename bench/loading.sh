@@ -24,20 +24,20 @@ lines() {
 }
 
 for count in 5000 10000 20000; do
-    { echo 'part loading'; echo 'new'; echo 'turns 4000000'; echo 'edit Jamroot'; echo '| actions r { cp }'
+    { echo 'new'; echo 'turns 4000000'; echo 'edit Jamroot'; echo '| actions r { cp }'
         lines '| make t%d : s%d : @r ;' "$count"; } > commands
     part "$count calls of make"
 done
 
 for count in 500 1000; do
-    { echo 'part loading'; echo 'new'; echo 'turns 4000000'; echo 'edit Jamroot'; lines '| build-project d%d ;' "$count"
+    { echo 'new'; echo 'turns 4000000'; echo 'edit Jamroot'; lines '| build-project d%d ;' "$count"
         awk -v n="$count" 'BEGIN { for (i = 1; i <= n; i++) { printf "edit d%d/Jamfile\n", i
             for (k = 1; k <= 10; k++) printf "| exe t%d : s%d.cpp ;\n", k, k } }'; } > commands
     part "$count files of 10 main targets"
 done
 
 for count in 5000 10000; do
-    { echo 'part loading'; echo 'new'; echo 'edit Jamroot'; echo '| NAMES = [ glob f/*.c ] ;'; echo '| ECHO $(NAMES[1]) $(NAMES[-1]) ;'
+    { echo 'new'; echo 'edit Jamroot'; echo '| NAMES = [ glob f/*.c ] ;'; echo '| ECHO $(NAMES[1]) $(NAMES[-1]) ;'
         lines 'edit f/%d.c x' "$count"; } > commands
     part "glob over $count names"
 done

@@ -1,2 +1,1 @@
-pub mod MayStart
 pub mod UntoldLemmas

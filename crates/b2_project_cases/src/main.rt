@@ -1,22 +1,31 @@
-//! The cases of project files: features and sets of properties, what they decide, and how the projects of a folder are loaded.
+//! The cases of loading, over files in memory. Files are at hand, none at first, and what was loaded last.
 //!
-//! `part NAME` says which part carries out the commands that follow, and answers nothing; at first it is `properties`. Each part
-//! has commands and a state of its own, which stays as it is while another one is at hand. A property is written
-//! `<feature>value`.
-//!
-//! - [`properties`]: features, sets of properties, requests, property texts of project files.
-//! - [`refinement`]: requirements and their rounds, choices among alternatives, types, generators and chains, the gcc toolset.
-//! - [`loading`]: loads over files in memory.
+//! - `new` begins anew: no files, nothing loaded, 1,000,000 turns for each load.
+//! - `edit PATH` makes the text lines of the command the file, `edit PATH BYTES` those bytes, `edit PATH TEXT TIMES` a text, so
+//!   many times.
+//! - `turns N` gives each load so many turns; `fail_calls KIND N ..` lets the N-th calls of a kind (`read`, `stat`, `list`)
+//!   fail from now on.
+//! - `load WORDS` loads the projects of the folder, with these target words. It shows the lines of ECHO, and then why the load
+//!   is refused, or `ok`. All other commands show what the last load that was not refused has loaded; `left` shows the turns
+//!   that the last load left.
+//! - `projects` shows each project with its number, directory, file and module, and `in` its parent's number, where it has a
+//!   parent. `targets` shows each main target with its project's number, kind and name, and its line. Below each stand its
+//!   lists that are not empty: requirements as `<feature>value` after their conditions, or as `@` and the number of a rule.
+//! - `indirect` shows the rules of indirect requirements: number, project, rule, line. `dir_of ID ..` shows the directory of
+//!   an id, `roots` the output roots.
+//! - `count` shows the number of features, `find NAME ..` features with their values and attributes, `parts_of F V` what a
+//!   value is composed of; `type_of PATH ..` the types of files, `suffix_of TYPE ..` the first suffixes of types,
+//!   `generator ID ..` generators with what they take, give and require.
+//! - `decls` shows the recorded calls with their lines.
 #![tactic(auto)]
 
-mod answers;
-mod declaring;
+mod faults;
+mod host;
 mod lines;
-mod loading;
-mod pairs;
-mod properties;
-mod refinement;
+mod load;
+mod projects;
 mod session;
+mod shown;
 mod tables;
 
 use crate::session::Cases;

@@ -1,67 +1,119 @@
-//! The parts of the program, and which of them is at hand.
-use crate::loading::session::Loading;
-use crate::properties::Properties;
-use crate::refinement::Refinement;
+//! The commands by their names.
+use crate::host::{edit, fail_calls};
+use crate::load::{Kept, load};
+use crate::projects::{decls, indirect, projects, targets};
+use crate::tables::{dirs, features, look_up, parts_of};
 use b2_base::fault::OutOfMemory;
+use b2_memory::memory::MemoryHost;
+use b2_metatargets::whole::Declared;
+use b2_project::project::Project;
+use jam_effects::turns::Turns;
 use std::alloc::Global;
+use std::mem::ManuallyDrop;
 use transcript::answer::Answer;
 use transcript::case_fault::CaseFault;
-use transcript::command::Command;
+use transcript::command::{Command, Word};
 use transcript::session::Session;
-use transcript::words::only;
+use transcript::words::{number, only, texts};
 
-/// A part of the program.
-#[derive(Clone, Copy)]
-enum Part {
-    Properties,
-    Refinement,
-    Loading,
-}
-
-/// What each part holds, and the part that carries out the commands.
-///
-/// What is put in place of a table, of files or of a project lets it be, until the process ends: a program that takes it apart
-/// proves the drop of all that it holds, which costs more than the proof of its commands.
+/// The files, how many turns each load has, how many the last one left, and what was loaded last.
 #[derive(Drop)]
 pub struct Cases {
-    at_hand: Part,
-    properties: Properties,
-    refinement: Refinement,
-    loading: Loading,
+    host: ManuallyDrop<MemoryHost>,
+    budget: u32,
+    left: u32,
+    last: Option<Box<Kept>>,
 }
 
-fn part_of(name: &str) -> Result<Part, CaseFault> {
-    match name {
-        "properties" => Ok(Part::Properties),
-        "refinement" => Ok(Part::Refinement),
-        "loading" => Ok(Part::Loading),
-        _ => Err(CaseFault::WrongWords),
+/// Shows something of what is declared.
+fn shown_of_declared(
+    alloc: Global,
+    declared: &Declared,
+    command: &str,
+    words: &[Word],
+) -> Result<Answer, CaseFault> {
+    match command {
+        "projects" => projects(alloc, declared.places.as_slice()),
+        "targets" => targets(alloc, declared.targets.as_slice()),
+        "indirect" => indirect(alloc, declared.indirect.as_slice()),
+        "dir_of" => dirs(alloc, &declared.ids, words),
+        "count" => Answer::number(alloc, declared.registry.count() as u64),
+        "find" => features(alloc, &declared.registry, words),
+        "parts_of" => parts_of(alloc, &declared.registry, words),
+        "type_of" | "suffix_of" | "generator" => look_up(alloc, &declared.types, command, words),
+        _ => Err(CaseFault::UnknownCommand),
     }
 }
 
+/// Shows something of a project.
+fn shown(
+    alloc: Global,
+    project: &Project,
+    command: &str,
+    words: &[Word],
+) -> Result<Answer, CaseFault> {
+    match command {
+        "roots" => Answer::paths(alloc, project.world.roots()),
+        "decls" => decls(alloc, project.natives.decls()),
+        _ => shown_of_declared(alloc, &project.declared, command, words),
+    }
+}
+
+/// Shows something of what was loaded last.
+fn show(alloc: Global, last: &Option<Box<Kept>>, command: &Command) -> Result<Answer, CaseFault> {
+    match last {
+        Some(project) => shown(alloc, project, command.name(), command.words()),
+        None => Err(CaseFault::WrongWords),
+    }
+}
+
+fn set_turns(alloc: Global, budget: &mut u32, words: &[Word]) -> Result<Answer, CaseFault> {
+    *budget = number(only(words)?)?;
+    Ok(Answer::new(alloc))
+}
+
 impl Cases {
-    /// Each part as it is at first, and the first one at hand.
+    /// No files, and nothing loaded.
     pub fn new(alloc: Global) -> Result<Cases, OutOfMemory> {
-        let loading = Loading::new(alloc)?;
         Ok(Cases {
-            at_hand: Part::Properties,
-            properties: Properties::new(alloc),
-            refinement: Refinement::new(alloc),
-            loading,
+            host: ManuallyDrop::new(MemoryHost::new(alloc)?),
+            budget: 1_000_000,
+            left: 0,
+            last: None,
         })
+    }
+
+    fn renew(&mut self, alloc: Global) -> Result<Answer, CaseFault> {
+        *self = Cases::new(alloc)?;
+        Ok(Answer::new(alloc))
+    }
+
+    fn load(&mut self, alloc: Global, words: &[Word]) -> Result<Answer, CaseFault> {
+        let words = texts(alloc, words)?;
+        let mut turns = Turns::new(self.budget);
+        let answer = load(
+            alloc,
+            &mut self.host,
+            words.as_slice(),
+            &mut turns,
+            &mut self.last,
+        );
+        self.left = turns.left;
+        answer
     }
 }
 
 impl Session for Cases {
     fn carry_out(&mut self, alloc: Global, command: &Command) -> Result<Answer, CaseFault> {
-        if command.name() == "part" {
-            self.at_hand = part_of(only(command.words())?)?;
-            return Ok(Answer::new(alloc));
-        }
-        match self.at_hand {
-            Part::Properties => self.properties.carry_out(alloc, command),
-            Part::Refinement => self.refinement.carry_out(alloc, command),
-            Part::Loading => self.loading.carry_out(alloc, command),
+        let words = command.words();
+        match command.name() {
+            "new" => self.renew(alloc),
+            "edit" => edit(alloc, &mut self.host, command),
+            "turns" => set_turns(alloc, &mut self.budget, words),
+            "fail_calls" => fail_calls(alloc, &mut self.host, words),
+            "load" => self.load(alloc, words),
+            "left" => Answer::number(alloc, self.left as u64),
+            _ => show(alloc, &self.last, command),
         }
     }
 }

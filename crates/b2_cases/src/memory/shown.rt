@@ -1,8 +1,8 @@
 //! Answers of the program and of its host, as lines.
-use crate::answers::push_paths;
 use crate::memory::case_host::Calls;
 use b2_answers::answer::Answer as Ended;
 use b2_base::fault::OutOfMemory;
+use b2_base::path::Path;
 use b2_files::version::Version;
 use b2_host::children::ChildEvent;
 use b2_memory::job::Job;
@@ -22,12 +22,22 @@ fn numbers_shown(alloc: Global, numbers: &[u32]) -> Result<String, CaseFault> {
     Ok(shown)
 }
 
+/// Paths with blanks between them.
+fn paths_shown(alloc: Global, paths: &[Path]) -> Result<String, CaseFault> {
+    let mut shown = String::new(alloc);
+    for path in paths {
+        shown.push(' ')?;
+        shown.push_str(path.as_str())?;
+    }
+    Ok(shown)
+}
+
 /// Adds what an update that failed names.
 fn push_lists(alloc: Global, answer: &mut Answer, lists: &FailedLists) -> Result<(), CaseFault> {
     let failed = numbers_shown(alloc, lists.failed.as_slice())?;
     let skipped = numbers_shown(alloc, lists.skipped.as_slice())?;
-    let mut line = format!(in alloc; "Failed: failed{failed}, skipped{skipped}, missing")?;
-    push_paths(&mut line, lists.missing.as_slice())?;
+    let missing = paths_shown(alloc, lists.missing.as_slice())?;
+    let line = format!(in alloc; "Failed: failed{failed}, skipped{skipped}, missing{missing}")?;
     answer.push_line(line.as_str())
 }
 

@@ -1,6 +1,6 @@
 //! Commands on the child processes of the system.
-use crate::answers::{ended_answer, fault_answer, io_answer};
-use crate::host_calls::file_command;
+use crate::real::answers::{fault_answer, io_answer};
+use crate::real::file_commands::file_command;
 use crate::real::system::System;
 use b2_base::path::Path;
 use b2_host::children::Children;
@@ -51,7 +51,11 @@ fn wait_one<R: System>(
     if host.running_count() == 0 {
         return Answer::line(alloc, "no child runs");
     }
-    ended_answer(alloc, host.wait_one())
+    match host.wait_one() {
+        Ok((step, true)) => Answer::line(alloc, format!(in alloc; "{step} well")?.as_str()),
+        Ok((step, false)) => Answer::line(alloc, format!(in alloc; "{step} badly")?.as_str()),
+        Err(Failed) => Answer::line(alloc, "Failed"),
+    }
 }
 
 /// How many children ended well, and how many badly.

@@ -1,10 +1,9 @@
 //! The commands over the system.
-use crate::host_calls::write;
+use crate::real::answers::io_answer;
 use crate::real::child_commands::child_command;
 use crate::real::program_commands::{build, look};
 use crate::real::system::System;
-use b2_host::fault::Failed;
-use b2_host::files::Files;
+use b2_host::sink::Sink;
 use b2_realhost::real_host::RealHost;
 use b2_realhost::real_sink::RealSink;
 use std::alloc::Global;
@@ -13,7 +12,7 @@ use transcript::answer::Answer;
 use transcript::case_fault::CaseFault;
 use transcript::command::{Command, Word};
 use transcript::session::Session;
-use transcript::words::{only, path, texts};
+use transcript::words::texts;
 
 /// The real host, which is never taken apart, and the real sink.
 #[derive(Drop)]
@@ -22,13 +21,12 @@ pub struct OnSystem<R: System> {
     sink: RealSink<R>,
 }
 
-/// `stat PATH`: whether a file stands there.
-fn stat<H: Files>(alloc: Global, host: &mut H, words: &[Word]) -> Result<Answer, CaseFault> {
-    match host.stat(&path(alloc, only(words)?)?) {
-        Ok(None) => Answer::line(alloc, "None"),
-        Ok(Some(_stamp)) => Answer::line(alloc, "Some"),
-        Err(Failed) => Answer::line(alloc, "Failed"),
-    }
+/// `write BYTES`: writes to the standard output, before the answer.
+fn write<S: Sink>(alloc: Global, sink: &mut S, words: &[Word]) -> Result<Answer, CaseFault> {
+    let [piece] = words else {
+        return Err(CaseFault::WrongWords);
+    };
+    io_answer(alloc, sink.write(piece.bytes()))
 }
 
 impl<R: System> OnSystem<R> {
@@ -57,7 +55,6 @@ impl<R: System> Session for OnSystem<R> {
                 &mut *self.host,
                 &mut self.sink,
             ),
-            "stat" => stat(alloc, &mut *self.host, words),
             "write" => write(alloc, &mut self.sink, words),
             _ => child_command(alloc, &mut *self.host, command),
         }

@@ -1,0 +1,144 @@
+//! The cases of features, sets of properties and requests. There is a table of features at hand, at first empty, and a set
+//! of properties, at first empty too. Each command has the name of the call that it makes.
+//!
+//! - `new` puts an empty table, an empty set and an empty list of sets in place, `new_set` an empty set alone.
+//! - `feature NAME VALUES : ATTRIBUTES` and `compose PROPERTY COMPONENTS` declare; they answer `ok` or the refusal. Without
+//!   attributes the sign `:` may be left out.
+//! - `declare_features` declares the features of the gcc toolset, with the same answers.
+//! - `count`, `at PLACE`, `place_of NAME`, `find NAME`, `implicit_of VALUE`, `default_of NAME`, `is NAME ATTRIBUTE`,
+//!   `lists NAME VALUE`, `default_value NAME`, `parts_of PROPERTY`, `name ATTRIBUTE`, `stands_in ATTRIBUTE WORDS` and
+//!   `is_attribute_word WORD` ask the table, its features and the attributes.
+//! - `set_of PROPERTIES`, `expand` and `refine PROPERTIES` put a set in place and show it; the last two make it of the set
+//!   at hand. `propagated`, `dir_of` and `contains PROPERTY` ask the set at hand, `has_all PROPERTIES` its `PairIndex`.
+//! - `copy` adds a copy of the set at hand to a list of sets, which it shows; `equals` compares the set at hand with each
+//!   set of that list.
+//! - `read_request WORDS` shows the targets and the sets of a request, or its refusal.
+//! - `read_property DIR TEXT`, `read_usage DIR TEXT` and `read_requirement DIR TEXT` read a property text of the project of
+//!   a directory; `read_properties`, `read_usages` and `read_requirements` read several, the last one shows those without
+//!   conditions. `has_two_values PROPERTIES` tells whether a feature has two values.
+
+mod features;
+mod sets;
+mod shown;
+mod texts;
+
+use crate::declaring::{compose, declare_toolset, feature};
+use crate::pairs::given;
+use crate::properties::sets::{contains, dir_of, expanded, handed, has_all, refined, request};
+use crate::properties::shown::sets_lines;
+use crate::properties::texts::text_command;
+use crate::shown::{ok, set_line, truth_word};
+use b2_features::registry::Registry;
+use b2_props::props::Props;
+use b2_props::request::PropsList;
+use std::alloc::Global;
+use std::mem::ManuallyDrop;
+use transcript::answer::Answer;
+use transcript::case_fault::CaseFault;
+use transcript::command::{Command, Word};
+use transcript::words::no_words;
+
+/// The table and the set at hand, and the sets that were copied.
+///
+/// What is put in place of a table lets it be, until the process ends: a program that takes it apart proves the drop of all
+/// that it holds.
+#[derive(Drop)]
+pub struct Properties {
+    registry: ManuallyDrop<Registry>,
+    set: Props,
+    sets: PropsList,
+}
+
+impl Properties {
+    /// An empty table, an empty set, and none that was copied.
+    pub fn new(alloc: Global) -> Properties {
+        Properties {
+            registry: ManuallyDrop::new(Registry::new(alloc)),
+            set: Props::new(alloc),
+            sets: PropsList::new(alloc),
+        }
+    }
+
+    fn renew(&mut self, alloc: Global, words: &[Word]) -> Result<Answer, CaseFault> {
+        no_words(words)?;
+        *self = Properties::new(alloc);
+        ok(alloc)
+    }
+
+    fn renew_set(&mut self, alloc: Global, words: &[Word]) -> Result<Answer, CaseFault> {
+        no_words(words)?;
+        self.set = Props::new(alloc);
+        ok(alloc)
+    }
+
+    /// Puts a set in place and shows it.
+    fn put(&mut self, alloc: Global, set: Props) -> Result<Answer, CaseFault> {
+        self.set = set;
+        set_line(alloc, &self.set)
+    }
+
+    fn copy(&mut self, alloc: Global, words: &[Word]) -> Result<Answer, CaseFault> {
+        no_words(words)?;
+        let set = self.set.copy(alloc)?;
+        self.sets.push(set)?;
+        sets_lines(alloc, &self.sets)
+    }
+
+    /// Compares the set at hand with each set of the list.
+    fn equals(&self, alloc: Global, words: &[Word]) -> Result<Answer, CaseFault> {
+        no_words(words)?;
+        let mut answer = Answer::new(alloc);
+        for set in self.sets.as_slice() {
+            answer.push_line(truth_word(self.set.equals(set)))?;
+        }
+        Ok(answer)
+    }
+
+    /// Asks the set at hand or the table.
+    fn ask(&self, alloc: Global, command: &Command) -> Result<Answer, CaseFault> {
+        let words = command.words();
+        match command.name() {
+            "propagated" => handed(alloc, &self.registry, &self.set, words),
+            "dir_of" => dir_of(alloc, &self.registry, &self.set, words),
+            "contains" => contains(alloc, &self.set, words),
+            "equals" => self.equals(alloc, words),
+            "has_all" => has_all(alloc, &self.set, words),
+            "read_request" => request(alloc, &self.registry, words),
+            _ => text_command(alloc, &self.registry, command),
+        }
+    }
+
+    /// Puts a set in place, or carries out another command.
+    fn set_command(&mut self, alloc: Global, command: &Command) -> Result<Answer, CaseFault> {
+        let words = command.words();
+        match command.name() {
+            "set_of" => {
+                let set = given(alloc, &self.registry, words)?;
+                self.put(alloc, set)
+            }
+            "expand" => {
+                let set = expanded(alloc, &self.registry, &self.set, words)?;
+                self.put(alloc, set)
+            }
+            "refine" => {
+                let set = refined(alloc, &self.registry, &self.set, words)?;
+                self.put(alloc, set)
+            }
+            "new_set" => self.renew_set(alloc, words),
+            "copy" => self.copy(alloc, words),
+            _ => self.ask(alloc, command),
+        }
+    }
+
+    /// Carries out a command and answers it.
+    pub fn carry_out(&mut self, alloc: Global, command: &Command) -> Result<Answer, CaseFault> {
+        let words = command.words();
+        match command.name() {
+            "new" => self.renew(alloc, words),
+            "feature" => feature(alloc, &mut self.registry, words),
+            "compose" => compose(alloc, &mut self.registry, words),
+            "declare_features" => declare_toolset(alloc, &mut self.registry, words),
+            _ => self.set_command(alloc, command),
+        }
+    }
+}

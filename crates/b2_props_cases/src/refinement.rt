@@ -1,0 +1,164 @@
+//! The cases of requirements, of alternatives, and of types and generators. There is a table of features at hand, a request,
+//! a list of requirements, rules for the indirect ones, the conditions of alternatives, and a table of types and generators;
+//! all are empty at first. Each command that makes a call has its name.
+//!
+//! - `new` empties all, `new_requirements` the requirements and the rules, `new_alternatives` the alternatives.
+//! - `feature NAME VALUES : ATTRIBUTES` and `compose PROPERTY COMPONENTS` declare.
+//! - `request PROPERTIES` puts the set that they make in place, made whole, and shows it.
+//! - `require CONDITIONS : PROPERTY` adds a requirement; without conditions the sign `:` is left out. `require_rule NUMBER`
+//!   adds an indirect one.
+//! - `rule` adds a rule, numbered from 0. `row CONDITIONS : PROPERTIES` lets the newest rule answer with the properties too
+//!   where a set has the conditions; `fault CONDITIONS : WORD` lets it answer there with a fault.
+//! - `evaluate` shows the set, or the two sets of which neither stays, or the fault of a rule.
+//! - `alternative CONDITION` adds an alternative; `choose` shows which one is chosen for the set at hand.
+//! - `register_type NAME SUFFIXES` and `register ID SOURCES : TARGETS : REQUIRED` answer whether they registered it.
+//!   `type_of PATH`, `suffix_of NAME` and `generator ID` ask the table. `chain FROM TO PROPERTIES` shows the ids of the
+//!   chain in the set that the properties make, or why there is none.
+//! - `declare_features`, `declare_types` and `declare_generators` declare what the gcc toolset does; the last two answer
+//!   whether they registered all. `gcc_text COMMAND` shows its build text, with `g++` where no command is given.
+
+mod chains;
+mod gcc;
+mod rules;
+mod steps;
+mod types;
+
+use crate::declaring::{compose, declare_toolset, feature};
+use crate::pairs::pairs;
+use crate::refinement::chains::found_chain;
+use crate::refinement::gcc::gcc_command;
+use crate::refinement::rules::Rules;
+use crate::refinement::steps::{
+    add_row, add_rule, chosen, evaluated, fault_row, indirect, requirement, row, whole,
+};
+use crate::shown::{ok, set_line};
+use b2_features::registry::Registry;
+use b2_generators::types::Types;
+use b2_props::pair_list::PairList;
+use b2_props::props::Props;
+use b2_props::requirement::Requirement;
+use std::alloc::Global;
+use std::mem::ManuallyDrop;
+use transcript::answer::Answer;
+use transcript::case_fault::CaseFault;
+use transcript::command::{Command, Word};
+use transcript::words::no_words;
+
+/// What is at hand.
+///
+/// What is put in place of a table lets it be, until the process ends: a program that takes it apart proves the drop of all
+/// that it holds.
+#[derive(Drop)]
+pub struct Refinement {
+    registry: ManuallyDrop<Registry>,
+    request: Props,
+    required: Vec<Requirement>,
+    rules: Rules,
+    conditions: Vec<PairList>,
+    types: ManuallyDrop<Types>,
+}
+
+impl Refinement {
+    /// Empty tables, an empty request, and nothing that is required or chosen among.
+    pub fn new(alloc: Global) -> Refinement {
+        Refinement {
+            registry: ManuallyDrop::new(Registry::new(alloc)),
+            request: Props::new(alloc),
+            required: Vec::new(alloc),
+            rules: Rules::new(alloc),
+            conditions: Vec::new(alloc),
+            types: ManuallyDrop::new(Types::new(alloc)),
+        }
+    }
+
+    fn renew(&mut self, alloc: Global, words: &[Word]) -> Result<Answer, CaseFault> {
+        no_words(words)?;
+        *self = Refinement::new(alloc);
+        ok(alloc)
+    }
+
+    fn renew_requirements(&mut self, alloc: Global, words: &[Word]) -> Result<Answer, CaseFault> {
+        no_words(words)?;
+        self.required.clear();
+        self.rules.rules.clear();
+        ok(alloc)
+    }
+
+    fn renew_alternatives(&mut self, alloc: Global, words: &[Word]) -> Result<Answer, CaseFault> {
+        no_words(words)?;
+        self.conditions.clear();
+        ok(alloc)
+    }
+
+    fn put_request(&mut self, alloc: Global, words: &[Word]) -> Result<Answer, CaseFault> {
+        self.request = whole(alloc, &self.registry, words)?;
+        set_line(alloc, &self.request)
+    }
+
+    fn require(&mut self, alloc: Global, requirement: Requirement) -> Result<Answer, CaseFault> {
+        self.required.push(requirement)?;
+        ok(alloc)
+    }
+
+    fn add_alternative(&mut self, alloc: Global, words: &[Word]) -> Result<Answer, CaseFault> {
+        let condition = pairs(alloc, words)?;
+        self.conditions.push(condition)?;
+        ok(alloc)
+    }
+
+    fn evaluate(&mut self, alloc: Global, words: &[Word]) -> Result<Answer, CaseFault> {
+        no_words(words)?;
+        evaluated(
+            alloc,
+            &self.registry,
+            &self.request,
+            self.required.as_slice(),
+            &mut self.rules,
+        )
+    }
+
+    fn choose(&self, alloc: Global, words: &[Word]) -> Result<Answer, CaseFault> {
+        no_words(words)?;
+        chosen(alloc, self.conditions.as_slice(), &self.request)
+    }
+
+    /// Adds a requirement, a rule or an alternative, or carries out another command.
+    fn add(&mut self, alloc: Global, command: &Command) -> Result<Answer, CaseFault> {
+        let words = command.words();
+        match command.name() {
+            "require" => self.require(alloc, requirement(alloc, words)?),
+            "require_rule" => self.require(alloc, indirect(words)?),
+            "rule" => add_rule(alloc, &mut self.rules, words),
+            "row" => add_row(alloc, &mut self.rules, row(alloc, words)?),
+            "fault" => add_row(alloc, &mut self.rules, fault_row(alloc, words)?),
+            "alternative" => self.add_alternative(alloc, words),
+            "chain" => found_chain(alloc, &self.registry, &self.types, words),
+            _ => gcc_command(alloc, &mut self.types, command),
+        }
+    }
+
+    /// Evaluates, chooses or empties, or carries out another command.
+    fn call(&mut self, alloc: Global, command: &Command) -> Result<Answer, CaseFault> {
+        let words = command.words();
+        match command.name() {
+            "evaluate" => self.evaluate(alloc, words),
+            "choose" => self.choose(alloc, words),
+            "new_requirements" => self.renew_requirements(alloc, words),
+            "new_alternatives" => self.renew_alternatives(alloc, words),
+            _ => self.add(alloc, command),
+        }
+    }
+
+    /// Carries out a command and answers it.
+    pub fn carry_out(&mut self, alloc: Global, command: &Command) -> Result<Answer, CaseFault> {
+        let words = command.words();
+        match command.name() {
+            "new" => self.renew(alloc, words),
+            "feature" => feature(alloc, &mut self.registry, words),
+            "compose" => compose(alloc, &mut self.registry, words),
+            "declare_features" => declare_toolset(alloc, &mut self.registry, words),
+            "request" => self.put_request(alloc, words),
+            _ => self.call(alloc, command),
+        }
+    }
+}
