@@ -19,7 +19,7 @@ use transcript::session::run;
 
 fn main(rt: HostRuntime) -> io::Result<ExitCode> {
     match InMemory::new(rt.alloc()) {
-        Ok(in_memory) => run(&rt, &mut Cases::new(in_memory, OnSystem::new(rt, rt))),
+        Ok(in_memory) => run(&rt, &mut Cases::new(in_memory, OnSystem::new(rt))),
         Err(_fault) => Err(io::Error::from(io::ErrorKind::OutOfMemory)),
     }
 }

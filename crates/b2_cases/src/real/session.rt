@@ -1,7 +1,7 @@
 //! The commands over the system.
 use crate::real::answers::io_answer;
 use crate::real::child_commands::child_command;
-use crate::real::program_commands::{build, look};
+use crate::real::program_commands::program;
 use crate::real::system::System;
 use b2_host::sink::Sink;
 use b2_realhost::real_host::RealHost;
@@ -14,9 +14,11 @@ use transcript::command::{Command, Word};
 use transcript::session::Session;
 use transcript::words::texts;
 
-/// The real host, which is never taken apart, and the real sink.
+/// The runtime, over which a command of the program has a host and a sink of its own; the real host of the other commands, which
+/// is never taken apart, and their sink.
 #[derive(Drop)]
 pub struct OnSystem<R: System> {
+    rt: R,
     host: ManuallyDrop<RealHost<R>>,
     sink: RealSink<R>,
 }
@@ -30,11 +32,12 @@ fn write<S: Sink>(alloc: Global, sink: &mut S, words: &[Word]) -> Result<Answer,
 }
 
 impl<R: System> OnSystem<R> {
-    /// A host and a sink over the runtime, which each of them keeps.
-    pub fn new(host_rt: R, sink_rt: R) -> OnSystem<R> {
+    /// A host and a sink over the runtime.
+    pub fn new(rt: R) -> OnSystem<R> {
         OnSystem {
-            host: ManuallyDrop::new(RealHost::new(host_rt)),
-            sink: RealSink::new(sink_rt),
+            rt,
+            host: ManuallyDrop::new(RealHost::new(rt)),
+            sink: RealSink::new(rt),
         }
     }
 }
@@ -43,18 +46,7 @@ impl<R: System> Session for OnSystem<R> {
     fn carry_out(&mut self, alloc: Global, command: &Command) -> Result<Answer, CaseFault> {
         let words = command.words();
         match command.name() {
-            "run_b2" => build(
-                alloc,
-                texts(alloc, words)?.as_slice(),
-                &mut *self.host,
-                &mut self.sink,
-            ),
-            "show_b2" => look(
-                alloc,
-                texts(alloc, words)?.as_slice(),
-                &mut *self.host,
-                &mut self.sink,
-            ),
+            "b2" => program(alloc, self.rt, texts(alloc, words)?.as_slice()),
             "write" => write(alloc, &mut self.sink, words),
             _ => child_command(alloc, &mut *self.host, command),
         }

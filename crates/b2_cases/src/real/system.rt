@@ -7,20 +7,12 @@ use std::sync::Wait;
 pub trait System: Files
     + AllocGlobal
     + Print
-    + Clone
-    + Drop
+    + Copy
     + Processes<Started = SystemProcess>
     + Wait
     + Clock {}
 
 impl<R> System for R
 where
-    R: Files
-        + AllocGlobal
-        + Print
-        + Clone
-        + Drop
-        + Processes<Started = SystemProcess>
-        + Wait
-        + Clock,
+    R: Files + AllocGlobal + Print + Copy + Processes<Started = SystemProcess> + Wait + Clock,
 {}

@@ -1,7 +1,0 @@
-#include "inc/util.h"
-
-#include <iostream>
-
-void greet() {
-    std::cout << "hello\n";
-}

@@ -1,5 +1,0 @@
-#include <util.h>
-
-int main() {
-    greet();
-}
