@@ -26,7 +26,7 @@ use Rattle.b2_alternatives.specs.declared.fault.ChoiceFault.{ChoiceFault}
 use Rattle.b2_alternatives.specs.declared.fault.ChoiceFault.TheVariants.{NoAlternative, AmbiguousAlternative, Unstable, BadAnswer, Eval}
 
 -- What a rule of the project at a place returns for properties as texts, where it was named at a line of the project's file; or
--- why it returns nothing.
+-- the fault with which the call ended.
 abbrev pub Returned : Type 0 → Type 0
 Returned E = (project : ℕ) (rule : List ℕ) (line : ℕ) (properties : List (List ℕ)) → Result (List (List ℕ)) E
 

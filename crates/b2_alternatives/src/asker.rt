@@ -1,5 +1,5 @@
 //! The rules of indirect requirements, asked for a main target.
-ghost use Rattle.std.specs.Prelude.{◌≡◌, ℕ, length, IfOk};
+ghost use Rattle.std.specs.Prelude.{◌≡◌, length, IfOk};
 ghost use Rattle.b2_references.specs.Names.{dir_of, target_text};
 ghost use Rattle.b2_alternatives.specs.Choosing.{answered, answer_by};
 ghost use Rattle.b2_alternatives.specs.Asking.{is_eval, is_memory, IsKnown, told_answer, Setting, IsAnswer};

@@ -1,5 +1,5 @@
 //! The conditions and the requirements of alternatives.
-ghost use Rattle.std.specs.Prelude.{◌≡◌, ◌++◌, ◌∷◌, [], map, filter, OnOk, IfOk};
+ghost use Rattle.std.specs.Prelude.{◌≡◌, ◌++◌, map, filter, OnOk, IfOk};
 ghost use Rattle.std.specs.List.{flat_map};
 ghost use Rattle.b2_refine.specs.Conditions.{own_pairs, unconditional};
 ghost use Rattle.b2_alternatives.specs.Choosing.{is_base, condition, requirements};

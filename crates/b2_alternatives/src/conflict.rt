@@ -1,8 +1,8 @@
 //! Usage requirements that do not go together.
-ghost use Rattle.std.specs.Prelude.{◌≡◌, ◌++◌, [], ℕ, List, Option, IfOk, OnOk};
+ghost use Rattle.std.specs.Prelude.{◌≡◌, [], List, Option, IfOk, OnOk};
 ghost use Rattle.std.specs.Option.{option_copied};
 ghost use Rattle.b2_props.specs.Sets.{Pair};
-ghost use Rattle.b2_alternatives.specs.Needs.{other_value, conflict_after};
+ghost use Rattle.b2_alternatives.specs.Needs.{other_value};
 ghost use Rattle.b2_alternatives.specs.Standing.{AreValues};
 ghost use Rattle.b2_alternatives.specs.Conflicting.{Meets, HasFirst};
 

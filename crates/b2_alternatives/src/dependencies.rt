@@ -1,7 +1,6 @@
 //! What a main target depends on, while it is generated.
-ghost use Rattle.std.specs.Prelude.{◌≡◌, ◌++◌, IfOk, OnOk};
+ghost use Rattle.std.specs.Prelude.{◌≡◌, IfOk, OnOk};
 ghost use Rattle.b2_props.specs.Sets.{IsSet};
-ghost use Rattle.b2_props.specs.Refinement.{refined};
 ghost use Rattle.b2_metatargets.specs.declared.whole.Declared.{Declared};
 ghost use Rattle.b2_metatargets.specs.declared.place.Target.{Target as TargetValue};
 ghost use Rattle.b2_references.specs.Names.{features};

@@ -30,7 +30,7 @@ pub enum ChoiceFault<F: Drop> {
         rule: Text,
         word: Text,
     },
-    /// The rule of an indirect requirement returned nothing.
+    /// The call of the rule of an indirect requirement ended with this fault.
     Eval(F),
     OutOfMemory,
 }

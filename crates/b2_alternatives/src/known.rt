@@ -38,7 +38,7 @@ impl KnownNames {
         }
     }
 
-    /// The projects that have a main target of this name; takes no memory.
+    /// The projects under which a main target of this name was added. Takes no memory.
     fn projects_of(&self, name: &Text) -> &[usize]
         ensures { result.now ≡ projects_of self.now name.now }
     {

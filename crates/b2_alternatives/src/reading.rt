@@ -1,5 +1,5 @@
 //! The texts that the rule of an indirect requirement returned.
-ghost use Rattle.std.specs.Prelude.{◌≡◌, ◌∷◌, is_some, codes, IfOk, option_map};
+ghost use Rattle.std.specs.Prelude.{◌≡◌, is_some, codes, IfOk};
 ghost use Rattle.b2_texts.specs.Cuts.{cut_at};
 ghost use Rattle.b2_alternatives.specs.Choosing.{answered_pair, answered};
 
@@ -7,7 +7,6 @@ use b2_base::fault::OutOfMemory;
 use b2_base::path::Path;
 use b2_base::text::Text;
 use b2_features::fault::FeatureFault;
-use b2_features::registry::Registry;
 use b2_metatargets::whole::Declared;
 use b2_props::pair_list::PairList;
 use b2_texts::reading::read_property;

@@ -18,7 +18,7 @@ pub enum Answer {
     Usage,
     /// The host failed: status 4.
     HostFault,
-    /// No memory was left: status 5.
+    /// No memory was left, or generation came to something else when it was carried out again after a refused pattern: status 5.
     OutOfMemory,
     /// The sink failed: status 6.
     SinkFault,

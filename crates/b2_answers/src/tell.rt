@@ -59,7 +59,8 @@ pub fn tell_refusal<S: Sink>(
     }
 }
 
-/// Writes the report of a fault of the host, which is the answer though the sink may fail here.
+/// Writes the report of a fault of the host, which is the answer though the sink may fail here; where memory runs out, that is the
+/// answer.
 pub fn tell_host_fault<S: Sink>(alloc: Global, echoes: &[Text], out: &mut S) -> Answer
     ensures { SaysFault (fault_report echoes.now) (S.output out.old) (S.output out.new) result }
 {

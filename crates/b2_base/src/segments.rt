@@ -1,5 +1,5 @@
 //! A path's segments: cut at slashes, brought into normal form, and joined again.
-ghost use Rattle.std.specs.Prelude.{◌≡◌, ◌↔◌, ℕ, List, [], ◌∷◌, ◌++◌, codes, IfOk, IsTrue, OnOk, string_bytes};
+ghost use Rattle.std.specs.Prelude.{◌≡◌, ◌↔◌, ℕ, List, ◌∷◌, ◌++◌, codes, IfOk, IsTrue, OnOk, string_bytes};
 ghost use Rattle.b2_base.specs.Normal.{IsNormal, IsUnder, first_part};
 ghost use Rattle.b2_base.specs.Segments.{segments, is_dropped, is_up, step, kept, written, texts, stack};
 

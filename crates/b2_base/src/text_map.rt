@@ -16,7 +16,6 @@ pub struct TextMap<V: Drop> {
 }
 
 impl<V: Drop> Model for TextMap<V> {
-    ghost use Rattle.std.specs.Prelude.{ℕ, List};
     ghost use Rattle.std.specs.Ordering.{nat_cmp};
     ghost use Rattle.std.specs.Cmp.Lexicographic.{slice_cmp};
     ghost use Rattle.std.specs.Coded.{coded_ℕ, coded_list};

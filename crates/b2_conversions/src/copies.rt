@@ -2,7 +2,7 @@
 ghost use Rattle.std.specs.Prelude.{◌≡◌, true, IfOk};
 ghost use Rattle.std.specs.Option.{option_copied};
 ghost use Rattle.b2_base.specs.Bytes.{HasNoZero};
-ghost use Rattle.b2_virtual.specs.Paths.{name_of, source_tail};
+ghost use Rattle.b2_virtual.specs.Paths.{source_tail};
 ghost use Rattle.b2_conversions.specs.Acts.{for_each};
 ghost use Rattle.b2_conversions.specs.Answers.{Grows};
 ghost use Rattle.b2_conversions.specs.Doing.{Alone, IsCopiedTo};

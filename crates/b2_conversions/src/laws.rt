@@ -11,7 +11,7 @@ pub fn steps_stay<F>()
     ensures { MadeStepsStay F }
 {}
 
-/// Where the steps that were there afterwards stand in others, the same is made of them, and no step is new.
+/// Where all steps that stood after making a main target stand among others, making it over those gives the same and adds no step.
 pub fn again<F>()
     ensures { MakesAgain F }
 {}

@@ -1,10 +1,10 @@
 //! The steps of a main target.
-ghost use Rattle.std.specs.Prelude.{◌≡◌, [], ◌++◌, not, filter, Some, IfOk, IfErr, if◌then◌else◌};
+ghost use Rattle.std.specs.Prelude.{◌≡◌, [], not, filter, Some, IfOk, IfErr, if◌then◌else◌};
 ghost use Rattle.b2_props.specs.Sets.{IsSet};
 ghost use Rattle.b2_evaluation.specs.Answers.{Answers, IsCounted};
 ghost use Rattle.b2_conversions.specs.Contexts.{site_of};
 ghost use Rattle.b2_supplies.specs.Supplies.{is_header, entries_of, carried_of, libraries_of};
-ghost use Rattle.b2_conversions.specs.Conversions.{links, makes_objects, makes_program, makes_library, makes_file, passes_on, makes, to_convert};
+ghost use Rattle.b2_conversions.specs.Conversions.{links, makes_objects, makes_program, makes_library, makes_file, makes, to_convert};
 ghost use Rattle.b2_conversions.specs.Answers.{IsKnownFault, is_of_eval, Grows};
 ghost use Rattle.b2_conversions.specs.Doing.{Does, Makes, RefusesToMake};
 

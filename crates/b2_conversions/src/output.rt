@@ -1,7 +1,6 @@
 //! Outputs before they have their paths.
 ghost use Rattle.std.specs.Prelude.{◌≡◌, ◌||◌, IfOk, map};
 ghost use Rattle.std.specs.Option.{option_copied};
-ghost use Rattle.b2_base.specs.Bytes.{HasNoZero};
 ghost use Rattle.b2_conversions.specs.Steps.{is_moved};
 ghost use Rattle.b2_conversions.specs.Conversions.{converted, outputs_of, with_named, naming};
 

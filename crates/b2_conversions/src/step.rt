@@ -1,7 +1,6 @@
 //! The job of a step, and the step that it becomes.
 ghost use Rattle.std.specs.Prelude.{◌≡◌, ◌++◌, ◌∷◌, [], codes, map, IfOk, OnOk};
 ghost use Rattle.std.specs.Option.{option_copied};
-ghost use Rattle.b2_base.specs.Bytes.{HasNoZero};
 ghost use Rattle.jam_eval.specs.StepJobs.{job_of, step_answer};
 ghost use Rattle.b2_props.specs.Texts.{property_text};
 ghost use Rattle.b2_conversions.specs.Contexts.{site_of};

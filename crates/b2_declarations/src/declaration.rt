@@ -87,7 +87,7 @@ pub enum Declaration {
         property: Text,
         parts: TextList,
     },
-    /// `type.register`: a type of files with its suffixes, without dots.
+    /// `type.register`: a type of files with its suffixes, each without the dot before it.
     FileType {
         name: Text,
         suffixes: TextList,

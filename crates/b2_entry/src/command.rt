@@ -1,6 +1,5 @@
 //! One command over the system.
 
-use b2_answers::answer::Answer;
 use b2_base::text::Text;
 use b2_realhost::real_host::RealHost;
 use b2_realhost::real_sink::RealSink;

@@ -1,7 +1,6 @@
 //! Why a feature is not declared, or a value not composed.
 use b2_base::fault::OutOfMemory;
 use b2_base::text::Text;
-use std::alloc::{AllocError, AllocFailed};
 use thiserror::Error;
 
 /// Why a feature is not declared, or a value not composed. Of several causes the first in this order is answered, and of

@@ -22,7 +22,7 @@ use Rattle.b2_front.specs.declared.refusal.Stop.TheVariants.{Refused, Host, OutO
 use Rattle.b2_front.specs.Meaning.{Refusal, IsRefusedInGeneration, Means}
 use Rattle.b2_front.specs.Refusals.{refusal_of, pattern_of, IsWholeRefusal}
 
--- Something holds of a refusal as data; the rest holds where there is none.
+-- `Holds` of a refusal as data; `Rest` where there is none.
 abbrev pub IfRefusal : Type 0 → Option Refusal → (Refusal → Type 0) → Type 0
 IfRefusal Rest None Holds = Rest
 IfRefusal Rest (Some why) Holds = Holds why

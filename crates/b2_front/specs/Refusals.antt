@@ -58,11 +58,12 @@ stop_of_generation fault = stops.Refused (refusals.Generation fault)
 
 -- ---- refusals
 
--- the refusal as data; none for a pattern of the project's own text that is refused though it reads as one
+-- the refusal of a request as data; none for out of memory
 abbrev pub request_refusal : RequestFault → Option meaning.Refusal
 request_refusal asking.OutOfMemory = None
 request_refusal fault = Some (meaning.of_request fault)
 
+-- the refusal as data; none for a pattern of the project's own text that is refused though it reads as one
 abbrev pub refusal_of : Refusal → Option meaning.Refusal
 refusal_of (refusals.Load fault) = option_map meaning.of_load (load_refusal fault)
 refusal_of (refusals.Request fault) = request_refusal fault

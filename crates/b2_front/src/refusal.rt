@@ -51,7 +51,7 @@ pub(crate) fn not_asked(fault: RequestFault) -> Stop
     }
 }
 
-/// The rule of an indirect requirement returned nothing.
+/// The call of the rule of an indirect requirement ended with a fault.
 fn not_returned(fault: EvalFault) -> Stop
     ensures { result ≡ stop_of_choice (ChoiceFault.Eval fault) }
 {

@@ -1,7 +1,7 @@
 //! The types of files and the generators of the gcc toolset.
 ghost use Rattle.std.specs.Prelude.{◌≡◌, ◌≢◌, [], ◌∷◌, true, false, Ok, IfOk, OnErr, map};
 ghost use Rattle.std.specs.List.{list_all};
-ghost use Rattle.b2_generators.specs.Table.{is_type_taken, is_generator_refused};
+ghost use Rattle.b2_generators.specs.Table.{is_type_taken};
 ghost use Rattle.b2_gcc.specs.Tables.{file_types, generators};
 ghost use Rattle.b2_gcc.specs.Calls.{with_types, are_types_refused, with_generators, are_generators_refused};
 ghost use Rattle.b2_gcc.specs.Rows.{type_in, generator_in, is_clean_type, is_clean_generator};

@@ -33,7 +33,7 @@ module _ {E : Type 0} (l : Loaded E) where
   abbrev pub conflict_fault : Chosen → Conflict → Fault E
   conflict_fault c found = usage_conflict (target_text l.declared c.name) found.feature found.first found.second
 
-  -- ---- steps 4 to 6
+  -- ---- what an alternative gives, once its dependencies are generated
 
   -- the module and the file of a main target's project
   abbrev pub owner_of : Chosen → List ℕ
@@ -83,8 +83,8 @@ module _ {E : Type 0} (l : Loaded E) where
 
 mutual
   -- A main target is generated with a set while these are open, and its steps join those before. A target that is open already is
-  -- a cycle. Else steps 1 and 2 choose an alternative and its set, step 3 generates what it depends on while it is open too, and
-  -- steps 4 to 6 make of this what it gives. The first refusal is the outcome.
+  -- a cycle. Else an alternative and its set are chosen, what it depends on is generated while it is open too, and its steps are made.
+  -- The first refusal is the outcome.
   pub data Generates {E : Type 0} (l : Loaded E) : List Name → Name → List Pair → List Step → Outcome E Generated → Type 0 where
     is_open : (above : List Name) (name : Name) (set : List Pair) (before : List Step) →
         is_among above name ≡ true →
@@ -101,8 +101,9 @@ mutual
         Finishes l chosen stands between outcome →
         Generates l above name set before outcome
 
-  -- Step 3, from where it stands. Where nothing is next it is complete. A text that names nothing is refused. A main target that is
-  -- due is generated with what the set so far hands on; then its usage requirements must go with those before, and step 3 goes on.
+  -- The dependencies that are left, from where it stands. Where nothing is next it is complete. A text that names nothing is refused.
+  -- A main target that is due is generated with what the set so far hands on; then its usage requirements must go with those before,
+  -- and the next one is looked for.
   pub data Depends {E : Type 0} (l : Loaded E) : List Name → Chosen → Standing → List Step → Outcome E Standing → Type 0 where
     complete_now : (above : List Name) (chosen : Chosen) (stands : Standing) (before : List Step) →
         next l.declared chosen stands ≡ Complete →

@@ -1,5 +1,5 @@
 //! Whether none of the main targets that were opened for a node is open.
-ghost use Rattle.std.specs.Prelude.{◌≡◌, ◌<◌, length, reverse, IfOk, IsTrue};
+ghost use Rattle.std.specs.Prelude.{◌<◌, length, reverse, IfOk, IsTrue};
 ghost use Rattle.b2_generate.specs.Clear.{IsClear, AreMarked, MarksStay, Passes};
 ghost use Rattle.b2_generate.specs.Machine.{names_of};
 ghost use Rattle.b2_generate.specs.Nodes.{AreDated, AreLate};

@@ -16,7 +16,6 @@ use crate::stack::Stack;
 use b2_alternatives::asker::Asker;
 use b2_alternatives::choosing::{Chosen, choose};
 use b2_alternatives::dependencies::Dependencies;
-use b2_alternatives::fault::ChoiceFault;
 use b2_base::fault::OutOfMemory;
 use b2_base::list::List;
 use b2_base::text::Text;

@@ -4,7 +4,7 @@ use Rattle.std.specs.Option.{option_and_then}
 use Rattle.std.specs.Str.{bytes_eq}
 use Rattle.b2_generators.specs.declared.generator.Generator.{Generator}
 
--- a registered type, with its suffixes without dots
+-- a registered type, with its suffixes, each without the dot before it
 pub record FileType : Type 0 where
   pub name : List ℕ
   pub suffixes : List (List ℕ)

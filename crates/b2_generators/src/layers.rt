@@ -1,5 +1,5 @@
 //! The layers of generators between two types.
-ghost use Rattle.std.specs.Prelude.{◌≡◌, [], IfOk, IfNone, IfSome};
+ghost use Rattle.std.specs.Prelude.{[], IfOk, IfNone, IfSome};
 ghost use Rattle.std.specs.Str.{bytes_eq};
 ghost use Rattle.b2_base.specs.Bytes.{HasNoZero};
 ghost use Rattle.b2_generators.specs.Layers.{Moves, AreLayers, IsApart};

@@ -1,9 +1,8 @@
 //! The types of files.
-ghost use Rattle.std.specs.Prelude.{◌≡◌, ℕ, List, [], ◌∷◌, ◌++◌, ◌<◌, true, false, None, Some, length, slice_get, map, is_some, option_map, string_bytes, Ok, IfOk, OnOk, OnErr};
+ghost use Rattle.std.specs.Prelude.{◌≡◌, List, [], ◌∷◌, ◌++◌, ◌<◌, true, false, None, Some, length, slice_get, map, is_some, option_map, string_bytes, Ok, IfOk, OnOk, OnErr};
 ghost use Rattle.std.specs.List.{list_any};
 ghost use Rattle.std.specs.Option.{option_copied};
-ghost use Rattle.std.specs.Str.{bytes_eq};
-ghost use Rattle.b2_generators.specs.Table.{FileType, has_text, has_repeat, type_named, is_type, type_with, is_type_taken, first_suffix};
+ghost use Rattle.b2_generators.specs.Table.{FileType, has_repeat, type_named, is_type, type_with, is_type_taken};
 
 use b2_base::fault::OutOfMemory;
 use b2_base::text::Text;

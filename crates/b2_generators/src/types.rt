@@ -1,5 +1,5 @@
 //! The types of files and the generators.
-ghost use Rattle.std.specs.Prelude.{◌≡◌, ◌||◌, [], ◌∷◌, ◌++◌, true, false, not, is_some, Ok, OnErr, IfSome};
+ghost use Rattle.std.specs.Prelude.{◌≡◌, ◌||◌, [], ◌∷◌, ◌++◌, true, false, is_some, Ok, OnErr, IfSome};
 ghost use Rattle.std.specs.List.{list_all};
 ghost use Rattle.std.specs.Option.{option_copied};
 ghost use Rattle.b2_base.specs.Bytes.{HasNoZero};
@@ -45,7 +45,7 @@ impl Types {
         }
     }
 
-    /// Registers a type with its suffixes, which are written without dots. False where the name or a suffix is there, or a
+    /// Registers a type with its suffixes, each without the dot before it; one that has a dot inside is no file's. False where the name or a suffix is there, or a
     /// suffix stands twice; then, and after an error, nothing has changed.
     pub fn register_type(&mut self, name: &str, suffixes: &[Text]) -> Result<bool, OutOfMemory>
         requires { HasNoZero name.now }

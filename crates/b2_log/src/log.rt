@@ -1,5 +1,5 @@
 //! A log: its lines, and the last one about each subject.
-ghost use Rattle.std.specs.Prelude.{◌≡◌, ◌+◌, ◌∷◌, ◌++◌, [], length, IfOk, OnOk, OnErr, IfSome, IsTrue};
+ghost use Rattle.std.specs.Prelude.{◌≡◌, ◌+◌, ◌∷◌, ◌++◌, [], length, IfOk, OnOk, OnErr, IfSome};
 ghost use Rattle.std.specs.List.{AllByRecursion};
 ghost use Rattle.std.specs.Option.{option_copied};
 ghost use Rattle.b2_log.specs.declared.line.LogLine.TheVariants as lines;
@@ -19,7 +19,7 @@ use b2_base::path::Path;
 use std::alloc::Global;
 use std::marker::Model;
 
-/// The lines of a log in order, each of them proper, seen as these lines and the number of bytes that they were read from.
+/// The lines of a log in order, each of them proper, seen as these lines and how many bytes of what it was read from are good.
 #[derive(Drop)]
 pub struct Log {
     alloc: Global,
@@ -177,8 +177,8 @@ impl Log {
 }
 
 /// The longest prefix of the bytes that is made of good lines, as a log. What follows it is left out, be it a line without
-/// its end or of another form; so it never answers anything but out of memory. Takes time in proportion to the length,
-/// times its logarithm for the look-ups.
+/// its end or of another form; so its only error is out of memory. Takes time in proportion to the length, times its
+/// logarithm for the look-ups.
 pub fn read_log(alloc: Global, bytes: &[u8]) -> Result<Log, OutOfMemory>
     ensures { IfOk result (λ log. IsReading bytes.now log.lines log.good) }
 {

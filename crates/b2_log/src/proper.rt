@@ -1,9 +1,9 @@
 //! What is asked of a line that is made.
-ghost use Rattle.std.specs.Prelude.{◌≡◌, ◌+◌, ◌<◌, length, IsTrue, ◌↔◌};
+ghost use Rattle.std.specs.Prelude.{◌+◌, ◌<◌, length, IsTrue, ◌↔◌};
 ghost use Rattle.std.specs.List.{AllByRecursion};
 ghost use Rattle.b2_log.specs.Good.{IsHex, IsDigest, AreDigests, IsRising, RisesAt, HasDigests, IsProperRecord, IsProper};
 
-use crate::line::{Digests, LogLine, Record};
+use crate::line::{LogLine, Record};
 use b2_base::path::Path;
 use b2_base::text::Text;
 

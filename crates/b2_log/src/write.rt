@@ -1,6 +1,6 @@
 //! Writes lines.
 ghost use Rattle.std.specs.Prelude.{◌≡◌, ◌≤◌, ◌++◌, length, IfOk, OnOk};
-ghost use Rattle.std.specs.List.{zip, AllByRecursion};
+ghost use Rattle.std.specs.List.{zip};
 ghost use Rattle.b2_log.specs.declared.line.LogLine.TheVariants as lines;
 ghost use Rattle.b2_log.specs.Lines.{escaped, field, number, stamped, digested, mark, included, counted, file_fields, line_end, tag_text, spelling};
 ghost use Rattle.b2_log.specs.Good.{IsText, IsNumber, IsPath, IsStamped, IsIncluded, IsCounted, IsProper, IsGood};

@@ -1,5 +1,5 @@
 //! A host in memory, whose files and reads are visible, and whose calls fail where they are told to.
-ghost use Rattle.std.specs.Prelude.{◌≡◌, ◌≢◌, ◌+◌, ◌≤◌, ◌<◌, [], ◌∷◌, ◌++◌, Some, IsTrue, IfOk, OnOk, OnErr, map, option_copied, vec_len, vec_capacity};
+ghost use Rattle.std.specs.Prelude.{◌≡◌, ◌≢◌, ◌+◌, ◌≤◌, ◌<◌, [], Some, IsTrue, IfOk, OnOk, OnErr, map, option_copied, vec_len, vec_capacity};
 ghost use Rattle.std.specs.Option.{IfSome};
 ghost use Rattle.b2_host.specs.Disks.{StatTold};
 ghost use Rattle.b2_host.specs.FileCalls.{log_path};
@@ -30,7 +30,7 @@ use std::rc::Rc;
 /// Files and children in memory.
 ///
 /// Stamps count from 1. Each write takes the next one, be it an edit, an append, a replacement or an output of a child, and
-/// so does a write that fails, after which a file stands with what was left of the piece. A deletion takes none.
+/// so does a write that fails, after which the file has what was left of the piece, for an append after its old bytes. A deletion takes none.
 /// What a child writes is decided when it starts, by the bytes that its inputs have then, and stands when it ends.
 /// `stat`, `remove`, `wait_one` and `reopen` take no memory.
 #[derive(Drop)]
@@ -58,7 +58,6 @@ fn path_of_log(alloc: Global) -> Result<Path, OutOfMemory>
 }
 
 impl MemoryHost {
-    ghost use Rattle.std.specs.Prelude.{ℕ, length};
     ghost use Rattle.b2_files.specs.StoreDisks.{knows};
     ghost use Rattle.b2_memory.specs.Jobs.{IsLeft, given_of};
     ghost use Rattle.b2_memory.specs.Memories.{new_memory, with_listed, with_fuse, with_tear, with_edit, with_child, with_entry, Writes, Ended, Reopens};

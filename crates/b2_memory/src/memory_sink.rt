@@ -1,6 +1,6 @@
-//! A sink in memory, whose bytes are visible, and whose writes fail where they are listed.
-ghost use Rattle.std.specs.Prelude.{◌≡◌, [], Some};
-ghost use Rattle.b2_host.specs.Output.{Output, Prints};
+//! A sink in memory, whose bytes are visible, and of which one write can be made to fail.
+ghost use Rattle.std.specs.Prelude.{◌≡◌, Some};
+ghost use Rattle.b2_host.specs.Output.{Prints};
 
 use crate::script::raise;
 use b2_host::fault::IoFault;

@@ -7,12 +7,11 @@ use b2_base::fault::OutOfMemory;
 use b2_base::path::Path;
 use b2_base::text::Text;
 use b2_features::fault::FeatureFault;
-use std::alloc::AllocError;
 
 /// Why the declaring calls of a load are refused: the first call that is, with the file of its project and its line.
 #[derive(Drop)]
 pub enum DeclaringFault {
-    /// The call does not declare what its rule may.
+    /// The call is refused as a whole: its lists have another shape, or what it declares is there already or may not be.
     Declaration {
         path: Path,
         rule: Text,
@@ -49,7 +48,7 @@ fn refused(visit: &Visit, call: &Call) -> Result<DeclaringFault, OutOfMemory>
     })
 }
 
-/// That a call does not declare what its rule may, or that no memory was left to say so.
+/// The refusal of a call as a whole, or out of memory where none was left to say so.
 pub(crate) fn refusal(visit: &Visit, call: &Call) -> DeclaringFault
     ensures { IsRefusal (refusal visit.now call.now) result }
 {

@@ -1,10 +1,10 @@
 //! The tables of features, types and generators, filled call by call.
-ghost use Rattle.std.specs.Prelude.{◌≡◌, ◌<◌, ◌||◌, true, false, Ok, [], All, length, replicate, is_ok, IfOk, IfErr, OnOk};
+ghost use Rattle.std.specs.Prelude.{◌≡◌, ◌<◌, ◌||◌, true, false, Ok, All, length, is_ok, IfOk, IfErr, OnOk};
 ghost use Rattle.b2_declarations.specs.Declarations.{is_refused};
 ghost use Rattle.b2_gcc.specs.Tables.{file_types, generators};
 ghost use Rattle.b2_gcc.specs.Calls.{with_types, with_generators};
 ghost use Rattle.b2_metatargets.specs.Outcomes.{IsFaultOf};
-ghost use Rattle.b2_metatargets.specs.Carrying.{is_gcc_refused, with_project, with_gcc, with_feature, with_parts, with_compose, with_type, with_row, with_generator, with_declaration, with_accepted, carried_out, fresh_tables, no_tables, tables_of};
+ghost use Rattle.b2_metatargets.specs.Carrying.{is_gcc_refused, with_project, with_gcc, with_feature, with_parts, with_compose, with_type, with_row, with_generator, with_declaration, with_accepted, carried_out, fresh_tables, tables_of};
 ghost use Rattle.b2_metatargets.specs.Views.{seen};
 
 use crate::fault::{DeclaringFault, feature_refusal, refusal};

@@ -25,7 +25,7 @@ impl Plan {
     ghost use Rattle.std.specs.Prelude.{◌≡◌, ◌≤◌, IfOk, length};
     ghost use Rattle.b2_plan.specs.Plans.{maker_of};
 
-    /// The plan of these steps.
+    /// The plan of these steps, at most 65,536.
     pub fn new(
         alloc: Global,
         steps: StepList,

@@ -1,11 +1,11 @@
 //! A set of properties in the making.
-ghost use Rattle.std.specs.Prelude.{◌≡◌, ℕ, true, List, [], ◌∷◌, ◌++◌, None, Option, option_map, OnOk, IfOk};
+ghost use Rattle.std.specs.Prelude.{◌≡◌, ℕ, true, List, [], ◌∷◌, None, Option, OnOk, IfOk};
 ghost use Rattle.std.specs.Option.{option_copied, option_to_list};
 ghost use Rattle.std.specs.List.{filter_map, list_all};
 ghost use Rattle.std.specs.FinMap as map;
 ghost use Rattle.b2_features.specs.Table.{Declared, HasDistinctNames, is_whole, seen};
 ghost use Rattle.b2_features.specs.Faults.{is_with};
-ghost use Rattle.b2_props.specs.Sets.{Pair, value_of, firsts, free_of, pair_of, written};
+ghost use Rattle.b2_props.specs.Sets.{Pair, firsts, free_of, pair_of, written};
 ghost use Rattle.b2_props.specs.Refinement.{components, default_pair, defaults};
 ghost use Rattle.b2_props.specs.Holding.{Holds, Gains, Takes, HasOneMore, HasValue};
 

@@ -2,7 +2,6 @@
 //!
 //! A whole set made whole again need not be the same: a default may be a composite value, whose components come in the
 //! second time alone. So there is no such law.
-ghost use Rattle.std.specs.Prelude.{◌≡◌};
 ghost use Rattle.b2_props.specs.Laws.{NoPairsAreSet, RefiningTwice};
 
 /// A set that is refined twice by the same list is as it is after the first time.

@@ -1,11 +1,11 @@
 //! Sets made whole, and refined.
-ghost use Rattle.std.specs.Prelude.{◌≡◌, ℕ, true, List, ◌++◌, ◌||◌, not, filter, is_some, OnOk, IfOk, IsTrue};
+ghost use Rattle.std.specs.Prelude.{◌≡◌, ℕ, true, List, ◌++◌, ◌||◌, not, filter, is_some, OnOk, IfOk};
 ghost use Rattle.std.specs.List.{list_all};
 ghost use Rattle.std.specs.FinMap as map;
 ghost use Rattle.b2_features.specs.declared.attribute.Attribute.TheVariants.{Free};
 ghost use Rattle.b2_features.specs.Table.{HasDistinctNames, is_whole};
 ghost use Rattle.b2_features.specs.Faults.{is_with};
-ghost use Rattle.b2_props.specs.Sets.{Pair, set_of, IsSet};
+ghost use Rattle.b2_props.specs.Sets.{set_of, IsSet};
 ghost use Rattle.b2_props.specs.Refinement.{names, expanded, completed, refined};
 ghost use Rattle.b2_props.specs.Laws.{HasRequired, KeepsOthers, KeepsValues, HasAllValues, KeepsFree};
 

@@ -25,8 +25,8 @@ use std::alloc::Global;
 /// Sets in order.
 pub type PropsList = List<Props>;
 
-/// What a command line asks for: for each set in order each target in order. Without targets the project itself is asked
-/// for; there is always a set.
+/// What a command line asks for: for each set in order each target in order. Without targets the project of Jamroot
+/// is asked for; there is always a set.
 #[derive(Drop)]
 pub struct Request {
     pub targets: TextList,

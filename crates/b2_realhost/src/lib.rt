@@ -4,8 +4,8 @@
 //! where a call fails and nowhere else, each child that was started and has not ended runs, and a listing is in byte order
 //! without repeats. Neither tells what it holds: that files and child processes behave as the traits say is trusted.
 //!
-//! A caller of files alone needs a runtime with files and memory. One that starts children needs processes, the clock and
-//! leave to wait besides, and one that prints needs printing.
+//! A caller of files alone needs a runtime with files and memory. One that starts children also needs processes, the clock and
+//! waiting, and one that prints needs printing.
 #![tactic(auto)]
 
 mod fault_count;

@@ -94,7 +94,7 @@ impl<R: Disk + AllocGlobal + Clone + Drop> RealFiles<R> {
         }
     }
 
-    /// Writes the piece to a file beside, which then takes the path's name. After an error the old content stands.
+    /// Writes the piece to an unfinished file next to it, which is then renamed to the path. After an error the old content stands.
     pub fn replace(&mut self, path: &Path, piece: &[u8]) -> Result<(), IoFault>
         ensures { IoFaultTold self.old.faults.count self.new.faults.count result }
     {

@@ -16,7 +16,7 @@ use std::process::{Child, Command, Processes, SystemProcess};
 use std::rt::{Clock, Files as Disk};
 use std::sync::Wait;
 
-/// Where the shell stands that runs the texts of steps.
+/// The shell that runs the texts of steps.
 const SHELL: &str = "/bin/sh";
 
 /// Files and child processes of the system. Its files are not visible. A child is `sh -c TEXT`, which inherits the

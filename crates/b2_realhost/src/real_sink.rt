@@ -1,6 +1,5 @@
 //! The program's standard output.
 ghost use Rattle.std.specs.Prelude.{◌≡◌, None};
-ghost use Rattle.b2_host.specs.Output.{Output};
 
 use b2_host::fault::IoFault;
 use b2_host::sink::Sink;

@@ -1,5 +1,5 @@
 //! Waits for one of several child processes.
-ghost use Rattle.std.specs.Prelude.{◌≡◌, ◌<◌, IfOk, IfSome, vec_len, vec_capacity};
+ghost use Rattle.std.specs.Prelude.{◌≡◌, ◌<◌, IfOk, IfSome, vec_len};
 
 use std::process::Child;
 use std::rt::Clock;

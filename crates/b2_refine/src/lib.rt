@@ -7,5 +7,3 @@ pub mod evaluate;
 pub mod fault;
 mod giving;
 pub mod laws;
-
-pub use b2_props::requirement::Requirement;

@@ -10,7 +10,7 @@ use jam_effects::fault::EvalFault;
 /// Why the program refuses what it is asked for. No fault within one is of the host or out of memory.
 #[derive(Drop)]
 pub enum Fault {
-    /// What stands on this line is not built yet; line 0 is the file as a whole.
+    /// An option, by its name, or a file of the plan, by its path, that a build does not carry out yet. The line is always 0.
     NotYet { path: Text, line: u32 },
     /// The project is not loaded.
     Load(LoadFault),

@@ -23,7 +23,7 @@ ScanIsThere = (path : List ℕ) (stamp : ℕ) (log : List LogLine) (s : ScanLine
 abbrev pub LastRecord : Type 0
 LastRecord = (log : List LogLine) (r : Record) → find_record (map path_of r.outs) (log ++ lines.Record r ∷ []) ≡ Some r
 
--- so has a drop
+-- so is a drop: after it no record is found
 abbrev pub LastDrop : Type 0
 LastDrop = (log : List LogLine) (outs : List (List ℕ)) → find_record outs (log ++ lines.Drop outs ∷ []) ≡ None
 

@@ -23,7 +23,7 @@ FreshIsClean = (u : Update) (events : List ChildEvent) (disk : Disk) (i : ℕ) (
     → Makes u.build.steps i step path → (Contains events (Start i) → ⊥) → IsClose u.build (Clean u.build) step members → ((member : List ℕ) (value : Value) → Contains members (member, value) → Settled u events member)
     → IsFresh u events step members → Clean u.build path (value_of u.build step members path) × Holds disk.now path (value_of u.build step members path)
 
--- each settled output of a needed step stands with the clean build's bytes
+-- each settled output of a needed step that makes a file stands with the clean build's bytes
 abbrev pub OutputsAreClean : Type 0
 OutputsAreClean = (u : Update) (events : List ChildEvent) (disk : Disk) → Apart u.build.steps u.build.roots → IsSound u events disk → HasCleanBytes u events disk.now
 

@@ -36,11 +36,11 @@ SoundAfterEnd = (u : Update) (events : List ChildEvent) (old new : Family) (befo
 abbrev pub WorkIsAllowed : Type 0
 WorkIsAllowed = (u : Update) (events : List ChildEvent) (running : List Child) (before after : Disk) → AreAtWork u events running → IsConsistent after → ChangesOnlyOutputs running before after → IsAllowedChange u events before after
 
--- to remove an output of a step that runs or failed changes nothing else
+-- removing an output of a step that runs or failed is an allowed change
 abbrev pub RemovalIsAllowed : Type 0
 RemovalIsAllowed = (u : Update) (events : List ChildEvent) (disk : Disk) (i : ℕ) (step : Step) (path : List ℕ) → Makes u.build.steps i step path → IsLoose events i → IsConsistent (without path disk) → IsAllowedChange u events disk (without path disk)
 
--- a call that changes nothing but the log changes nothing else
+-- a change of the log alone is an allowed change
 abbrev pub LogIsAllowed : Type 0
 LogIsAllowed = (u : Update) (events : List ChildEvent) (before after : Disk) → IsConsistent after → ((path : List ℕ) → (path ≡ log_path → ⊥) → after.now path ≡ before.now path) → ((old : Past) → Contains before.past old → Contains after.past old) → IsAllowedChange u events before after
 

@@ -1,12 +1,13 @@
 //! Laws of the answers of an update: what each says, and that no two are said of one run.
 ghost use Rattle.b2_runs.specs.AnswerLaws.{ListsAreOne, MayAnswerAllWent, AllWentLacksNothing, AllWentHasNoCycle, FailedHasNoCycle, AllWentStartsNothing, CycleEndsNoReport, AllWentHasNoBadEnd, SinkFaultIsFirst, UpdateReadsOnce, DoneWellStands};
 
-/// An update may answer that all went well where each needed step is settled and none failed.
+/// An update that has ended may answer that all went well where each wanted file is a source or an output, each needed step is
+/// settled, and none failed.
 pub fn may_answer_all_went()
     ensures { MayAnswerAllWent }
 {}
 
-/// It does not answer so where something lacks.
+/// It does not answer so where a step failed or was skipped, or a file is missing.
 pub fn all_went_lacks_nothing()
     ensures { AllWentLacksNothing }
 {}
@@ -16,7 +17,7 @@ pub fn all_went_has_no_cycle()
     ensures { AllWentHasNoCycle }
 {}
 
-/// It does not answer that something lacks where there is a step cycle.
+/// It does not answer that a step failed or was skipped, or a file is missing, where there is a step cycle.
 pub fn failed_has_no_cycle()
     ensures { FailedHasNoCycle }
 {}

@@ -1,5 +1,5 @@
 //! Laws of closures and of the clean build.
-ghost use Rattle.std.specs.Prelude.{◌≡◌, ℕ, List, Option};
+ghost use Rattle.std.specs.Prelude.{ℕ, List, Option};
 ghost use Rattle.b2_runs.specs.ClosureLaws.{KnownGrows, CloseStays, CloseIsOne, KnownIsLocal, CloseIsLocal};
 ghost use Rattle.b2_runs.specs.CleanLaws.{CleanIsOne, RoundsAreEnough, CleanIsMade};
 

@@ -62,7 +62,7 @@ pub fn noted_through_reopen()
     ensures { NotedThroughReopen }
 {}
 
-/// An update of a session that answers a fault of the host has raised the host's count of faults.
+/// An update of a session that answers a fault of the host has raised the host's count of faults, unless it is at the greatest.
 pub fn update_counts_fault()
     ensures { UpdateCountsFault }
 {}

@@ -26,12 +26,12 @@ pub fn work_is_allowed()
     ensures { WorkIsAllowed }
 {}
 
-/// To remove an output of a step that runs or failed changes nothing else.
+/// Removing an output of a step that runs or failed is an allowed change.
 pub fn removal_is_allowed()
     ensures { RemovalIsAllowed }
 {}
 
-/// A call that changes nothing but the log changes nothing else.
+/// A change of the log alone is an allowed change.
 pub fn log_is_allowed()
     ensures { LogIsAllowed }
 {}

@@ -2,7 +2,6 @@
 ghost use Rattle.std.specs.Prelude.{◌≡◌, ◌+◌, ◌<◌, ℕ, List, true, [], length, slice_index_or, slice_set, IfOk, OnOk, if◌then◌else◌};
 ghost use Rattle.std.specs.List.{Contains};
 ghost use Rattle.b2_plan.specs.Plans.{maker_of};
-ghost use Rattle.b2_sched.specs.NumberSets.{Has};
 ghost use Rattle.b2_sched.specs.Keeping.{IsWoken, AreWanted, is_unjudged, asked_too, looked_too};
 
 use crate::number_set::NumberSet;

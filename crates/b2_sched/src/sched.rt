@@ -7,7 +7,6 @@ use crate::number_set::NumberSet;
 use crate::state::State;
 use b2_base::fault::OutOfMemory;
 use b2_base::list::List;
-use b2_base::path::Path;
 use b2_plan::plan::Plan;
 use std::alloc::Global;
 use std::marker::Model;
@@ -41,14 +40,14 @@ impl Model for Sched {
 }
 
 impl Sched {
-    ghost use Rattle.std.specs.Prelude.{◌≡◌, ◌↔◌, ◌+◌, ◌≤◌, ◌<◌, ℕ, true, false, length, IsTrue, IfOk, OnOk, OnErr, MatchOption, if◌then◌else◌};
+    ghost use Rattle.std.specs.Prelude.{◌≡◌, ◌↔◌, ◌+◌, ◌≤◌, ◌<◌, ℕ, true, false, length, IsTrue, IfOk, OnOk, OnErr, MatchOption};
     ghost use Rattle.b2_sched.specs.Schedules.{Schedule, IsStep, IsNeeded, IsUnjudged, IsRunning, IsSettled, CanLook};
     ghost use Rattle.b2_sched.specs.Calls.{IsNew, looked_at, with_need, with_lack, with_stale, with_start, with_failure, Settles, StartsNext, StartsNone};
     ghost use Rattle.b2_sched.specs.Keeping.{LooksNext};
     ghost use Rattle.b2_sched.specs.Sound.{IsSound};
 
-    /// A scheduler that was told nothing yet: the makers of wanted files are needed. At most `jobs` steps run at a time,
-    /// from 1 to 64.
+    /// A scheduler that was told nothing yet: the makers of wanted files are needed. At most `jobs` steps run at a time;
+    /// with 0 none starts.
     pub fn new(alloc: Global, plan: &Plan, jobs: u32) -> Result<Sched, OutOfMemory>
         requires { length plan.now.steps ≤ 65536 }
         ensures { IfOk result (IsNew plan.now.steps plan.now.wanted jobs) }

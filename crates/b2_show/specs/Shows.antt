@@ -1,5 +1,5 @@
--- What a call of the look command promises, from the moment of its start to that of its answer. Definitions of this file whose names
--- end with `Told` and take a disk speak of visible files, and of a sink that tells what was written.
+-- What a call of the look command promises, from the moment of its start to that of its answer. `ShownTold`
+-- and `ReportTold` speak of visible files and of a sink that tells what was written, `CompleteTold` of visible files.
 use Rattle.std.specs.Prelude.{◌≡◌, ℕ, List, [], Some, None, Ok, IfSome, ◌⊎◌, ⊤}
 use Rattle.b2_host.specs.Disks.{Disk}
 use Rattle.b2_host.specs.Faults.{Rose}

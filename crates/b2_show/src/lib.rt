@@ -1,4 +1,4 @@
-//! The look command: the table or the steps of a plan that is not carried out; and which command words are.
+//! The look command: the table or the steps of a plan that is not carried out; and which command the words ask for.
 #![tactic(auto)]
 
 mod lines;

@@ -1,5 +1,4 @@
 //! Lines of looks on the sink, each in one write.
-ghost use Rattle.std.specs.Prelude.{◌≡◌};
 ghost use Rattle.b2_generate.specs.Plans.{seen};
 ghost use Rattle.b2_refusals.specs.Lines.{step_lines};
 ghost use Rattle.b2_answers.specs.Writing.{Writes};

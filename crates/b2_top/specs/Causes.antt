@@ -32,7 +32,7 @@ HasCause words disk echoes (faults.Gen fault) = HasNoPlan words disk echoes (fau
 HasCause words disk echoes (faults.StepCycle list) = ⊥
 HasCause words disk echoes (faults.TooBig path size) = ⊥
 
--- a file is never refused for its size, since none is scanned
+-- no refusal says that a file is too big to be scanned, since none is scanned
 abbrev pub IsNotTooBig : Fault → Type 0
 IsNotTooBig (faults.NotYet path line) = ⊤
 IsNotTooBig (faults.Load fault) = ⊤

@@ -4,8 +4,6 @@ ghost use Rattle.b2_host.specs.OutsideLaws.{Keeps};
 ghost use Rattle.b2_plan.specs.Plans.{Apart};
 ghost use Rattle.b2_runs.specs.UpdateAnswers.{LeavesNone};
 ghost use Rattle.b2_update.specs.Moments.{moment};
-ghost use Rattle.b2_answers.specs.Reports.{refusal_report};
-ghost use Rattle.b2_answers.specs.Writing.{Says};
 ghost use Rattle.b2_top.specs.Running.{Updates, Runs, Carries, Builds, RefusesFile};
 
 use crate::unbuilt::unbuilt_file;

@@ -59,9 +59,9 @@ fn answer<H: Children, S: Sink>(alloc: Global, words: &[Text], host: &mut H, out
 }
 
 /// Builds what the words ask for in the project that its files describe: the projects are loaded, the request is read and planned, the
-/// lines of ECHO are written, and the needed steps run, one at a time, inputs before outputs. Options other than `-j1` and `-a`, and
-/// steps that read or make C and C++ files, are refused as not carried out yet. A build whose words are not of its grammar, a look and
-/// a drill are answered by the usage line.
+/// lines of ECHO are written, and the needed steps run, one at a time, inputs before outputs. Options other than `-j1` and `-a`, and a
+/// plan with a step that reads or makes a C or C++ file, told by its suffix, are refused as not carried out yet. A build whose words
+/// are not of its grammar, a look and a drill are answered by the usage line.
 pub fn run_b2<H: Children, S: Sink>(
     alloc: Global,
     words: &[Text],
@@ -85,7 +85,7 @@ pub fn run_b2<H: Children, S: Sink>(
     ensures not_yet { (free : List Word) (name : Word) → free_words words.now ≡ Some free → unbuilt_option words.now ≡ Some name → IsNotYetOrCutShort name result }
     // A call that is refused for another reason than a step cycle has started nothing and changed no file.
     ensures starts_none { StartsNone result (H.outside host.old) (H.outside host.new) }
-    // No fault of the host and no out of memory is within a refusal, and no file is too big.
+    // No fault of the host and no out of memory is within a refusal, and none says that a file is too big to be scanned.
     ensures whole { IfRefused IsWhole result }
     ensures not_too_big { IfRefused IsNotTooBig result }
     // Where there is a plan whose clean build is defined, and no child ends badly, the answer is Ok, or the call was cut short, or a
@@ -94,7 +94,7 @@ pub fn run_b2<H: Children, S: Sink>(
     // What was written is the report; each refusal has its cause.
     ensures reported { ReportTold H.made words.now (moment (H.outside host.old) (S.output out.old)) (moment (H.outside host.new) (S.output out.new)) result }
     // The events are in order, over every host: one step is open at a time, and none starts twice. Each failed step was done
-    // badly, or left an output out; with Ok none did so.
+    // badly, or counts as one that left an output out; with Ok none was done badly.
     ensures turns { TurnsTold (H.outside host.old) (H.outside host.new) result }
     // No child is left, unless a wait for it failed, and then both counts of the host rose.
     ensures none_left { LeavesNone (H.outside host.old) (H.outside host.new) }

@@ -52,7 +52,7 @@ fn has_left<H: Children>(host: &mut H, step: &Step, well: bool) -> Result<bool, 
     all_stand(host, step.outs.as_slice())
 }
 
-/// Settles a step that ended well, where each output stands; else it has failed.
+/// Settles a step that ended well and makes no file or left each output; else removes its outputs and writes its line.
 fn finish_step<H: Children, S: Sink>(
     alloc: Global,
     host: &mut H,

@@ -1,5 +1,5 @@
 -- What joining steps, one after another, makes of a list of steps.
-use Rattle.std.specs.Prelude.{◌≡◌, ℕ, suc, Bool, ◌&&◌, List, [], ◌∷◌, ◌++◌, Option, Some, None, fold, if◌then◌else◌}
+use Rattle.std.specs.Prelude.{◌≡◌, ℕ, suc, Bool, ◌&&◌, List, [], ◌∷◌, ◌++◌, Option, Some, None, if◌then◌else◌}
 use Rattle.std.specs.List.{list_any}
 use Rattle.std.specs.Bool.{beq}
 use Rattle.std.specs.Str.{bytes_eq}
@@ -26,10 +26,6 @@ number_in (first ∷ more) step = if is_same step first then 1 else suc (number_
 -- A step joins others: where an equal one is among them they stay as they are, else it stands at their end.
 abbrev pub joined : List Step → Step → List Step
 joined steps step = if stands_in steps step then steps else steps ++ step ∷ []
-
--- several steps join others, in order; so equal ones stand once, at the first place
-abbrev pub all_joined : List Step → List Step → List Step
-all_joined = fold joined
 
 -- the number of an equal step, where one stands
 abbrev pub number_of : List Step → Step → Option ℕ

@@ -1,12 +1,10 @@
 //! The tails of outputs, and their paths.
-ghost use Rattle.std.specs.Prelude.{◌≡◌, ◌↔◌, ◌++◌, codes, map, string_bytes, IfOk, IfErr, IfSome, IsTrue, ◌⊎◌, if◌then◌else◌};
-ghost use Rattle.std.specs.List.{Contains, join_with_byte};
-ghost use Rattle.std.specs.Option.{option_copied};
+ghost use Rattle.std.specs.Prelude.{◌≡◌, ◌↔◌, IfOk, IfErr, IsTrue, ◌⊎◌};
+ghost use Rattle.std.specs.List.{Contains};
 ghost use Rattle.b2_base.specs.Bytes.{HasNoZero};
-ghost use Rattle.b2_base.specs.Segments.{segments, texts};
 ghost use Rattle.b2_plan.specs.Sources.{IsInRoots};
 ghost use Rattle.b2_virtual.specs.Refusals.{IsOutsideBy};
-ghost use Rattle.b2_virtual.specs.Paths.{up_shown, source_tail, name_of, folder_of, stem_of, dotted, converted_tail, named_tail, output_path, place_of, located, IsPlaced};
+ghost use Rattle.b2_virtual.specs.Paths.{named_tail, output_path, place_of, located, IsPlaced};
 
 use crate::fault::VirtualFault;
 use b2_base::fault::OutOfMemory;

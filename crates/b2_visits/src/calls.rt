@@ -14,7 +14,7 @@ use b2_metatargets::visit::Call;
 use jam_natives::decl::Decl;
 use std::alloc::Global;
 
-/// A rule's name as a text; no rule has a zero byte in its name.
+/// A rule's name as a text. A zero byte, which no name of a rule has, is answered as out of memory.
 fn rule_name(alloc: Global, rule: &str) -> Result<Text, OutOfMemory>
     ensures { IfOk result (λ name. name ≡ rule.now) }
 {

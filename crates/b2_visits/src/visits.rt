@@ -57,7 +57,7 @@ impl Visits {
         self.visits.len()
     }
 
-    /// There are fewer than there are numbers.
+    /// There are fewer than 2^64.
     pub fn few(&self)
         ensures { length self.now < 2 ^ 64 }
     {

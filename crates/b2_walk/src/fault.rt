@@ -37,7 +37,7 @@ pub enum LoadFault {
     },
     /// The evaluation of a project file, or of the build text, did not come to its end.
     Eval(EvalFault),
-    /// A recorded call does not declare what its rule may.
+    /// A recorded call is refused as a whole: its lists have another shape, or what it declares is there already or may not be.
     Declaration {
         path: Path,
         rule: Text,

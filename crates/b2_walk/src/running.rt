@@ -1,5 +1,5 @@
 //! The file of a project, run in its module.
-ghost use Rattle.std.specs.Prelude.{◌≡◌, ◌<◌, length, OnOk, OnErr};
+ghost use Rattle.std.specs.Prelude.{◌<◌, length, OnOk, OnErr};
 ghost use Rattle.std.specs.Option.{option_copied};
 ghost use Rattle.jam_scope.specs.Changes.{frames_at_mark};
 ghost use Rattle.jam_eval.specs.NativeCalls.{KeepsFrames};

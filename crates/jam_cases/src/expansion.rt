@@ -6,7 +6,6 @@
 //! - `expand_size WORD`: how many elements the word has, and how many bytes these have together.
 //! - `expand_body BODY`: the text of the body, on one line; without a word the body is the text below the command.
 //! - `expand_body_size BODY`: how many bytes that text has.
-ghost use Rattle.std.specs.Prelude.{◌≡◌};
 
 use b2_base::expand_fault::ExpandFault;
 use b2_base::look::Look;

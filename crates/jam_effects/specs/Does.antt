@@ -46,13 +46,14 @@ abbrev pub Counts : {A : Type 0} → Result A EvalFault → Outside → Outside 
 Counts (Ok a) before after = after.faults ≡ before.faults
 Counts (Err e) before after = CountsFault e before after
 
--- The result is the outcome, with this state; nothing is said where the host failed or memory ran out.
+-- The fault is that of the outcome, with this state; nothing is said where the host failed or memory ran out.
 abbrev pub Faults : {R B : Type 0} → EvalFault → Outcome R B → State R → Type 0
 Faults fault.Host outcome s = Unit {0}
 Faults fault.OutOfMemory outcome s = Unit {0}
 Faults (fault.At path line why) outcome s =
     outcome ≡ faults (record { spot = record { path = path; line = line }; cause = cause_of why }) s
 
+-- The result is the outcome, with this state.
 abbrev pub Agrees : {R A B : Type 0} → (A → B) → Result A EvalFault → Outcome R B → State R → Type 0
 Agrees view (Ok a) outcome s = outcome ≡ gives (view a) s
 Agrees view (Err e) outcome s = Faults e outcome s

@@ -1,5 +1,5 @@
 //! Where evaluation is.
-ghost use Rattle.std.specs.Prelude.{◌≡◌, ◌<◌, ◌-◌};
+ghost use Rattle.std.specs.Prelude.{◌<◌, ◌-◌};
 ghost use Rattle.jam_effects.specs.Causes.{cause_of, IsWhole, IsFault};
 ghost use Rattle.jam_effects.specs.Spots.{spot_of};
 

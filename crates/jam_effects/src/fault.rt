@@ -13,9 +13,9 @@ pub enum EvalCause {
     UnknownRule { name: Text },
     /// The rule of this name cannot take its arguments, or some are left over.
     Arity { rule: Text },
-    /// No turn was left of these.
+    /// All turns were taken; there were this many.
     Turns { budget: u32 },
-    /// So many levels are open as may be, and one more was to be opened.
+    /// 256 levels are open, and one more was to be opened.
     Depth,
     /// A word has no expansion, or a list is too large.
     Expand(ExpandFault),

@@ -1,7 +1,7 @@
 //! Opening frames. After an error the world is as before.
-ghost use Rattle.std.specs.Prelude.{◌≡◌, ◌<◌, ◌≢◌, [], List, length, OnOk, OnErr, IfOk, string_bytes};
+ghost use Rattle.std.specs.Prelude.{◌≡◌, ◌<◌, ◌≢◌, [], List, length, OnOk, OnErr};
 ghost use Rattle.jam_journal.specs.Scopes.{Binding, enter, bind_each};
-ghost use Rattle.jam_scope.specs.Changes.{rescoped, frames_at_mark, module_in};
+ghost use Rattle.jam_scope.specs.Changes.{rescoped, frames_at_mark};
 ghost use Rattle.jam_values.specs.Bindings.{bindings_of};
 ghost use Rattle.jam_effects.specs.Framing.{entered, on_entered, loop_entered, call_entered};
 

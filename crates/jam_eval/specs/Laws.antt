@@ -83,7 +83,7 @@ RolledKeepsWorlds R = (setting : Setting R) (name : Text) (lists : List Value) (
 abbrev pub StepKeepsWorlds : Type 0 → Type 0
 StepKeepsWorlds R = (setting : Setting R) (job : Job) (s : State R) → Ends SameWorlds s (step_text setting job s)
 
--- what only natives change in a world: the parents, the project's directory, the notes of a step; and marked worlds
+-- what only natives change in a world: the parents, the project's directory, the output roots, the notes of a step; and marked worlds
 abbrev pub SameRest : {R : Type 0} → State R → State R → Type 0
 SameRest s later =
     (later.worlds.now.parents ≡ s.worlds.now.parents) × (later.worlds.now.place ≡ s.worlds.now.place) × (later.worlds.now.roots ≡ s.worlds.now.roots)

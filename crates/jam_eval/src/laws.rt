@@ -7,7 +7,8 @@ pub fn turns_fall<Kept>()
     ensures call { CallTurnsFall Kept }
 {}
 
-/// With more turns the outcome is the same, with as many more left, unless the turns ran out.
+/// Where no pattern is refused that reads as one, the outcome with more turns is the same, with as many more left, unless the turns
+/// ran out.
 pub fn turns_only_run_out<Kept>()
     ensures file { FileAsWithMore Kept }
     ensures call { CallAsWithMore Kept }

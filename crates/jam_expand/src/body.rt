@@ -1,5 +1,5 @@
 //! What the body of an action stands for.
-ghost use Rattle.std.specs.Prelude.{◌≡◌, ◌≢◌, ◌-◌, true, false, [], ◌∷◌, ◌++◌, MatchOption, IfSome, OnOk, All, Ok, IfOk, length, string_bytes};
+ghost use Rattle.std.specs.Prelude.{◌≡◌, ◌≢◌, ◌-◌, true, false, [], ◌∷◌, ◌++◌, MatchOption, OnOk, All, Ok, IfOk, length, string_bytes};
 ghost use Rattle.std.specs.List.{join_with_byte, position_or_len, prefix_len, suffix_len};
 ghost use Rattle.b2_base.specs.Bytes.{HasNoZero};
 ghost use Rattle.jam_expand.specs.Bodies.{is_white, words, spaces, interleaved, trimmed, body_texts, body_expansion};

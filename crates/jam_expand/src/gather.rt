@@ -1,6 +1,6 @@
 //! What a text within a part stands for.
-ghost use Rattle.std.specs.Prelude.{◌≡◌, ℕ, ◌++◌, ◌∷◌, ◌<◌, [], List, Ok, OnOk, length, map};
-ghost use Rattle.jam_expand.specs.Limits.{limit, within, and_then, IsGivenBy, IsLeftBy};
+ghost use Rattle.std.specs.Prelude.{◌++◌, ◌∷◌, ◌<◌, [], Ok, map};
+ghost use Rattle.jam_expand.specs.Limits.{within, and_then, IsGivenBy, IsLeftBy};
 ghost use Rattle.jam_expand.specs.Modifiers.{changed, edited, glued, glued_text};
 ghost use Rattle.jam_expand.specs.Values.{values_of, values_of_all};
 

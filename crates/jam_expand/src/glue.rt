@@ -1,5 +1,5 @@
 //! Texts with glue between them.
-ghost use Rattle.std.specs.Prelude.{◌≡◌, ℕ, List, [], ◌++◌, map, IfOk, OnOk};
+ghost use Rattle.std.specs.Prelude.{ℕ, List, [], ◌++◌, map, IfOk, OnOk};
 ghost use Rattle.jam_expand.specs.Glue.{IsGlued};
 ghost use Rattle.jam_expand.specs.Modifiers.{changed, glued_text};
 

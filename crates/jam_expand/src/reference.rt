@@ -1,6 +1,5 @@
 //! What follows a name: an index and modifiers.
-ghost use Rattle.std.specs.Prelude.{◌≡◌, ◌⊎◌, None, MatchOption, IfOk, IfSome};
-ghost use Rattle.std.specs.Str.{IsUtf8};
+ghost use Rattle.std.specs.Prelude.{◌≡◌, ◌⊎◌, None, IfOk};
 ghost use Rattle.b2_base.specs.Bytes.{HasNoZero};
 ghost use Rattle.b2_base.specs.declared.expand_fault.ExpandFault.TheVariants as faults;
 ghost use Rattle.jam_expand.specs.Indexes.{after_close, indexed};

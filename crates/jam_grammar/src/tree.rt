@@ -123,7 +123,7 @@ pub enum Form {
     },
     /// `on target stmt`
     On {
-        /// A list of which the first element is the target.
+        /// An argument, of whose value the first element is the target.
         target: Arg,
         /// What is done with the target's own values as bindings.
         stmt: Box<Stmt>,
@@ -202,14 +202,14 @@ pub enum Inner {
     },
     /// `on target inner`
     On {
-        /// A list of which the first element is the target.
+        /// An argument, of whose value the first element is the target.
         target: Arg,
         /// What is called with the target's own values as bindings.
         inner: Box<Inner>,
     },
     /// `on target return value`
     OnReturn {
-        /// A list of which the first element is the target.
+        /// An argument, of whose value the first element is the target.
         target: Arg,
         /// What is evaluated with the target's own values as bindings.
         value: Vec<Arg>,

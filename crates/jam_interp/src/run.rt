@@ -24,8 +24,8 @@ use std::alloc::Global;
 /// Runs the statements of a file in a frame of the present module. What it does is evaluation as it is defined, where the
 /// meaning of the natives and the files are told.
 ///
-/// A fault of the host comes only where its count of faults rose. The frames are then those that stood at entry, and bind the
-/// same names, after a fault too; what was assigned stays.
+/// A fault of the host comes only where its count of faults rose. When it ends, after a fault too, the frames are those that stood
+/// at entry, and bind the same names; what was assigned stays.
 pub fn run<N: Natives, F: Files>(
     alloc: Global,
     world: &mut World,

@@ -1,8 +1,8 @@
 //! A map from texts in a tree, asked by borrowed ones.
-ghost use Rattle.std.specs.Prelude.{◌≡◌, ◌↔◌, map as each, string_bytes, is_some, IfOk, IsTrue, OnOk, OnErr};
+ghost use Rattle.std.specs.Prelude.{◌≡◌, ◌↔◌, map as each, string_bytes, IfOk, IsTrue, OnOk, OnErr};
 ghost use Rattle.std.specs.Option.{option_copied};
 ghost use Rattle.std.specs.FinMap as map;
-ghost use Rattle.jam_journal.specs.Tables.{put_name, back_name};
+ghost use Rattle.jam_journal.specs.Tables.{back_name};
 
 use b2_base::fault::OutOfMemory;
 use std::alloc::Global;

@@ -1,5 +1,5 @@
 //! A table whose past can be marked.
-ghost use Rattle.std.specs.Prelude.{◌≡◌, [], ◌∷◌, ◌++◌, reverse, IfOk, OnOk, OnErr};
+ghost use Rattle.std.specs.Prelude.{◌≡◌, [], reverse, IfOk, OnOk, OnErr};
 ghost use Rattle.std.specs.Option.{option_copied};
 ghost use Rattle.std.specs.FinMap as map;
 
@@ -65,7 +65,7 @@ impl<V: Drop> Model for Past<V> {
 }
 
 impl<V: Drop> Past<V> {
-    ghost use Rattle.std.specs.Prelude.{◌≡◌, [], ◌∷◌, map as each, string_bytes, IfOk, OnOk, OnErr};
+    ghost use Rattle.std.specs.Prelude.{◌≡◌, [], map as each, string_bytes, IfOk, OnOk, OnErr};
     ghost use Rattle.std.specs.Option.{option_copied};
     ghost use Rattle.std.specs.FinMap as map;
     ghost use Rattle.jam_journal.specs.Marks.{rolled, marked};

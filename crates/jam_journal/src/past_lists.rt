@@ -73,7 +73,7 @@ impl Model for PastLists {
 }
 
 impl PastLists {
-    ghost use Rattle.std.specs.Prelude.{◌≡◌, [], ◌∷◌, ◌++◌, map as each, string_bytes, IfOk, OnOk, OnErr};
+    ghost use Rattle.std.specs.Prelude.{◌≡◌, [], map as each, string_bytes, IfOk, OnOk, OnErr};
     ghost use Rattle.std.specs.Option.{option_copied};
     ghost use Rattle.std.specs.FinMap as map;
     ghost use Rattle.jam_journal.specs.Marks.{rolled, marked};

@@ -50,7 +50,7 @@ impl<T: Drop> Saved<T> {
         &self.value
     }
 
-    /// Another value takes its place; takes no memory.
+    /// Replaces the present value. Takes no memory.
     #[tactic(auto, using(crate::proofs::SavedLemmas::saved_set))]
     pub fn set(&mut self, value: T)
         ensures { self.new ≡ changed (λ _. value) self.old }

@@ -1,5 +1,5 @@
 //! A list of texts that knows its size.
-ghost use Rattle.std.specs.Prelude.{◌≡◌, ◌+◌, [], ◌++◌, length, take, OnOk, OnErr, IfOk};
+ghost use Rattle.std.specs.Prelude.{◌≡◌, ◌+◌, [], ◌++◌, take, OnOk, OnErr, IfOk};
 ghost use Rattle.jam_journal.specs.Sizes.{size_of, capped};
 
 use b2_base::fault::OutOfMemory;
@@ -40,7 +40,7 @@ fn size_with(start: u64, texts: &[Text]) -> u64
     sum
 }
 
-/// The size of the first texts of some whose size this is. Takes no memory.
+/// The size of the first `count` texts, of which `whole` is the size of all. Takes no memory.
 fn size_before(whole: u64, texts: &[Text], count: usize) -> u64
     requires { whole ≡ capped (size_of texts.now) }
     ensures { result ≡ capped (size_of (take count texts.now)) }
@@ -98,7 +98,7 @@ impl SizedList {
         self.texts.as_slice()
     }
 
-    /// The size, or the largest number where it is larger. Takes no memory, and no time.
+    /// The size, or the largest number where it is larger. Takes no memory, and constant time.
     pub fn size(&self) -> u64
         ensures { result ≡ capped (size_of self.now) }
     {

@@ -1,5 +1,5 @@
 //! Places for the names of one byte from `1` to `>`, among which are those of argument lists.
-ghost use Rattle.std.specs.Prelude.{◌≡◌, ◌<◌, suc, length, string_bytes, IfOk, OnOk};
+ghost use Rattle.std.specs.Prelude.{◌≡◌, ◌<◌, suc, length, string_bytes, OnOk};
 ghost use Rattle.std.specs.Option.{option_copied};
 ghost use Rattle.std.specs.Ordering.{nat_cmp, is_lt};
 ghost use Rattle.std.specs.Cmp.Lexicographic.{slice_cmp};

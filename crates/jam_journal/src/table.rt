@@ -21,7 +21,7 @@ impl<V: Drop> Model for Table<V> {
     ghost use Rattle.std.specs.Prelude.{string_bytes};
     ghost use Rattle.std.specs.Coded.{coded_ℕ, coded_list, coded×};
     ghost use Rattle.std.specs.FinMap as map;
-    ghost use Rattle.jam_journal.specs.Tables.{Table as Pairs, key_cmp, table_of};
+    ghost use Rattle.jam_journal.specs.Tables.{Table as Pairs, table_of};
 
     ghost Value = { Pairs V };
 

@@ -1,5 +1,5 @@
 //! The raw bodies of actions.
-ghost use Rattle.std.specs.Prelude.{◌≡◌, ◌≤◌, length, IfSome, IfNone};
+ghost use Rattle.std.specs.Prelude.{◌≤◌, length, IfSome, IfNone};
 ghost use Rattle.jam_lexer.specs.Body.{IsMatched, IsBody};
 
 /// Where the body that begins here ends, at its unmatched `}`; nothing where there is none.

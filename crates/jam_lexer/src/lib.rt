@@ -1,7 +1,7 @@
 //! The tokens of a text in the language of build files.
 #![tactic(auto)]
 
-ghost use Rattle.std.specs.Prelude.{◌≡◌, ℕ, ◌≤◌, ◌↔◌, List, Result, Ok, length, IfOk, IsErrOf};
+ghost use Rattle.std.specs.Prelude.{ℕ, ◌≤◌, ◌↔◌, List, Result, length, IfOk, IsErrOf};
 ghost use Rattle.b2_base.specs.declared.token.Token.{Token};
 ghost use Rattle.jam_lexer.specs.declared.fault.LexFault.{LexFault};
 ghost use Rattle.jam_lexer.specs.declared.fault.LexFault.TheVariants as faults;

@@ -1,6 +1,6 @@
 //! Reads the tokens of a text, one after the other.
-ghost use Rattle.std.specs.Prelude.{◌≡◌, ℕ, ◌<◌, ◌≤◌, ◌+◌, ◌==◌, not, ◌&&◌, ◌||◌, [], length, codes, count_by, slice_range, IfOk, IfErr};
-ghost use Rattle.std.specs.Str.{IsUtf8, IsCharBoundary};
+ghost use Rattle.std.specs.Prelude.{◌≡◌, ◌<◌, ◌≤◌, ◌+◌, ◌==◌, not, ◌&&◌, ◌||◌, [], length, codes, count_by, slice_range, IfOk, IfErr};
+ghost use Rattle.std.specs.Str.{IsCharBoundary};
 ghost use Rattle.b2_base.specs.declared.token.TokenKind.TheVariants as kinds;
 ghost use Rattle.jam_lexer.specs.Signs.{line_feed, line_of};
 ghost use Rattle.jam_lexer.specs.Gap.{BeginsWord};

@@ -91,7 +91,7 @@ fn import(
     Ok(NativeStep::Value(TextList::new(alloc)))
 }
 
-/// IMPORT: a module's rules are put into a module under as many names. Calls it with lists of its shape.
+/// IMPORT: a module's rules are put into a module under as many names. The lists are those of a call that has its shape.
 pub(crate) fn import_call(
     alloc: Global,
     lists: &[TextList],
@@ -110,7 +110,7 @@ pub(crate) fn import_call(
     import(alloc, from, names, to, places, world)
 }
 
-/// EXPORT: a module's rules are put into the global module. Calls it with lists of its shape.
+/// EXPORT: a module's rules are put into the global module. The lists are those of a call that has its shape.
 pub(crate) fn export_call(
     alloc: Global,
     lists: &[TextList],

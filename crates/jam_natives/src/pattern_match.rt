@@ -1,5 +1,5 @@
 //! The rule MATCH.
-ghost use Rattle.std.specs.Prelude.{◌≡◌, ◌++◌, [], None, Ok, IfOk, IfErr, OnOk};
+ghost use Rattle.std.specs.Prelude.{◌≡◌, ◌++◌, None, Ok, IfOk, IfErr, OnOk};
 ghost use Rattle.jam_natives.specs.Matches.{with_match, with_matches, matches_of, IsRefusal};
 
 use b2_base::fault::OutOfMemory;

@@ -3,7 +3,6 @@ ghost use Rattle.std.specs.Prelude.{◌≡◌, not, IfOk};
 ghost use Rattle.std.specs.List.{find, list_any};
 ghost use Rattle.std.specs.Option.{option_copied};
 ghost use Rattle.std.specs.Str.{bytes_eq};
-ghost use Rattle.b2_base.specs.Bytes.{HasNoZero};
 ghost use Rattle.jam_natives.specs.Named.{paths_in};
 ghost use Rattle.jam_natives.specs.Targets.{is_no_path, names_one, first_foreign};
 

@@ -5,7 +5,7 @@ ghost use Rattle.jam_grammar.specs.Spelling as spelling;
 ghost use Rattle.jam_grammar.specs.Grammar.{OneArg, Args, More, OneInner, InnerTail};
 ghost use Rattle.jam_grammar.specs.declared.mark.Mark.TheVariants as marks;
 ghost use Rattle.jam_parser.specs.Starts.{starts_arg, starts_with, StandsAfter};
-ghost use Rattle.jam_parser.specs.Parts.{IsRead, Completes, EndsBy, in_brackets, ReadsOn, Reads};
+ghost use Rattle.jam_parser.specs.Parts.{IsRead, Completes, EndsBy, in_brackets, ReadsOn};
 
 use crate::reading::{Fault, key_here, next_of, past, word_here};
 use b2_base::token::Token;

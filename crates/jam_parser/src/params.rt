@@ -1,6 +1,6 @@
 //! Reading the parameters of a rule.
-ghost use Rattle.std.specs.Prelude.{◌≡◌, ℕ, ◌∷◌, [], true, false, flat_map, MatchOption, MatchResult};
-ghost use Rattle.jam_grammar.specs.Spelling.{mark_syms, param_syms, plist_syms};
+ghost use Rattle.std.specs.Prelude.{◌≡◌, ℕ, ◌∷◌, [], true, false, MatchOption, MatchResult};
+ghost use Rattle.jam_grammar.specs.Spelling.{mark_syms, plist_syms};
 ghost use Rattle.jam_grammar.specs.Grammar.{Params, Names, NameTail};
 ghost use Rattle.jam_grammar.specs.Marks.{mark_of_token};
 ghost use Rattle.jam_grammar.specs.declared.mark.Mark.TheVariants as marks;

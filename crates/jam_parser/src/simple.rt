@@ -8,7 +8,7 @@ ghost use Rattle.jam_grammar.specs.declared.mark.Mark.TheVariants as marks;
 ghost use Rattle.jam_parser.specs.Starts.{starts_sign, StandsAfter};
 ghost use Rattle.jam_parser.specs.Parts.{IsRead, ComesTo, Completes, EndsBy, Reads, ReadsOn, list_to_end};
 
-use crate::args::{MAX_OPEN, arg, args, lists};
+use crate::args::{arg, args, lists};
 use crate::reading::{Fault, body_here, key_here, next_of, past, word_here};
 use b2_base::text::Text;
 use b2_base::token::Token;

@@ -1,5 +1,5 @@
 //! What a statement begins with.
-ghost use Rattle.std.specs.Prelude.{◌≡◌, [], MatchOption};
+ghost use Rattle.std.specs.Prelude.{◌≡◌};
 ghost use Rattle.jam_parser.specs.Starts.{starts_stmt, line_first};
 ghost use Rattle.jam_parser.specs.Begins.{IsStart};
 

@@ -1,8 +1,8 @@
 //! The pieces of a pattern that take one character.
-ghost use Rattle.std.specs.Prelude.{◌≡◌, ◌≢◌, ℕ, ◌<◌, ◌≤◌, ◌+◌, [], ◌∷◌, List, ◌++◌, length, drop, slice_index, IfSome, MatchOption, IsTrue, Some, None};
+ghost use Rattle.std.specs.Prelude.{◌≡◌, ℕ, ◌<◌, [], ◌∷◌, length, drop, IfSome, MatchOption, Some, None};
 ghost use Rattle.std.specs.Str.{chars, IsUtf8};
 ghost use Rattle.jam_path.specs.Patterns.{is_member, is_taken};
-ghost use Rattle.jam_path.specs.Steps.{IsUnclosed, IsStarless, Leads, after_one, after_exact, after_escape, after_bracket, after_class, after_dash};
+ghost use Rattle.jam_path.specs.Steps.{IsUnclosed, IsStarless, Leads, after_one, after_exact, after_escape, after_bracket, after_dash};
 
 /// The first character of a text, and the text after it.
 pub fn first_char(text: &str) -> Option<(char, &str)>

@@ -1,5 +1,5 @@
 //! Arguments.
-ghost use Rattle.std.specs.Prelude.{◌≡◌, ◌++◌, ◌∷◌, [], IfOk};
+ghost use Rattle.std.specs.Prelude.{◌≡◌, ◌++◌, [], IfOk};
 ghost use Rattle.jam_grammar.specs.Spelling.{arg_syms, inner_syms, args_syms, lists_syms, further_syms};
 ghost use Rattle.jam_printer.specs.Lexemes.{written_as};
 

@@ -12,7 +12,7 @@ use std::alloc::Global;
 use std::marker::Model;
 
 /// The notes of the open step, if there is one, and what they were at marks. It keeps the present notes, and of each mark how
-/// many inputs there were. A mark copies nothing.
+/// many inputs had been added and which of the two flags were set. A mark copies no path.
 #[derive(Drop)]
 pub(crate) struct Steps {
     notes: Option<StepNotes>,

@@ -1,5 +1,5 @@
 //! How parameters take arguments.
-ghost use Rattle.std.specs.Prelude.{◌≡◌, ◌==◌, length, IfOk, is_some};
+ghost use Rattle.std.specs.Prelude.{◌≡◌, ◌==◌, IfOk, is_some};
 ghost use Rattle.jam_grammar.specs.Spelling.{takes_all};
 ghost use Rattle.jam_eval.specs.Params.{list_taken, lists_taken, nothing_left, params_bind};
 ghost use Rattle.jam_values.specs.Bindings.{bindings_of, lists_of};

@@ -1,7 +1,6 @@
 //! Answers of the program and of its host, as lines.
 use crate::memory::case_host::Calls;
 use b2_answers::answer::Answer as Ended;
-use b2_base::fault::OutOfMemory;
 use b2_base::path::Path;
 use b2_files::version::Version;
 use b2_host::children::ChildEvent;

@@ -1,6 +1,5 @@
 //! Rules that answer by a table.
-ghost use Rattle.std.specs.Prelude.{◌≡◌, ◌<◌, IfErr, length};
-ghost use Rattle.b2_refine.specs.Answers.{IsCounted};
+ghost use Rattle.std.specs.Prelude.{◌<◌, length};
 
 use b2_base::fault::OutOfMemory;
 use b2_base::text::Text;
@@ -81,8 +80,7 @@ fn answer(alloc: Global, rule: &Rule, set: &Props) -> Result<PairList, RuleFault
 }
 
 impl Ask for Rules {
-    ghost use Rattle.std.specs.Prelude.{◌≡◌, ◌<◌, None, false, length, IfErr};
-    ghost use Rattle.b2_refine.specs.Answers.{IsCounted};
+    ghost use Rattle.std.specs.Prelude.{◌<◌, None, false, length};
 
     type Fault = RuleFault;
 

@@ -1,5 +1,5 @@
 //! How an update ends: which steps failed, which are skipped, and the cycle of those that are stuck.
-ghost use Rattle.std.specs.Prelude.{◌↔◌, ◌⊎◌, false, not, [], IsTrue, IfOk, MatchOption};
+ghost use Rattle.std.specs.Prelude.{◌↔◌, ◌⊎◌, false, [], IsTrue, IfOk, MatchOption};
 ghost use Rattle.b2_runs.specs.Outcomes.{IsListOf};
 ghost use Rattle.b2_sched.specs.Schedules.{IsFailed, IsSkipped, NoneStuck, GoesOn, AreJudged};
 ghost use Rattle.b2_sched.specs.Searches.{IsSearch};

@@ -19,7 +19,7 @@ pub fn opens_frame(entries: &[Scope]) -> bool
     entries.iter().any(|entry| opens(entry))
 }
 
-/// Takes an entry back, and tells whether a frame was opened by it. Takes no memory.
+/// Takes an entry back. Takes no memory.
 fn step_back(registers: &mut Registers, entry: Scope)
     ensures { registers.new ≡ step_back entry registers.old }
 {

@@ -16,7 +16,7 @@ fn is_unset(home: &str, owner: &str, before: &Option<Cell>) -> bool
     owner == home && before.is_none()
 }
 
-/// Notes a name where it is to be noted.
+/// Adds a name to the set, if `is_noted`.
 #[tactic(auto, using(crate::proofs::UnsetLemmas::noted_none, crate::proofs::UnsetLemmas::noted_one))]
 fn note_name(
     alloc: Global,

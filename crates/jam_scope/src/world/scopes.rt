@@ -50,8 +50,8 @@ impl World {
         Ok(())
     }
 
-    /// Adds texts, after those that are there, to the value that `set` would replace. Copies nothing that is there.
-    /// After an error the world is as before.
+    /// Adds texts, after those that are there, to the value that `set` would replace. Copies that value only where the name was
+    /// neither bound, set nor added to since the newest mark. After an error the world is as before.
     pub fn append(&mut self, name: &str, value: &[Text]) -> Result<(), OutOfMemory>
         ensures ok { OnOk result (self.new ≡ rescoped (append name.now value.now) self.old) }
         ensures err { OnErr result (self.new ≡ self.old) }
