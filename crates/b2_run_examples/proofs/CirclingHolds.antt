@@ -10,8 +10,8 @@ use Rattle.b2_runs.specs.Runs.{Settled, Settled.source, Settled.done_well, Settl
 use Rattle.b2_runs.specs.Outcomes.{IsStuck, Skipped, Skipped.missing, Skipped.failed, Skipped.skipped, Skipped.quits}
 use Rattle.b2_runs.specs.Cycles.{IsStepCycle}
 use Rattle.b2_run_examples.specs.Examples.{out_path, step_from, circling, CirclingHolds}
-use Rattle.b2_runs.proofs.ElementLemmas.{Contains_here, Contains_nil}
-use Rattle.b2_runs.proofs.ValueRounds.{source_not_made}
+use Rattle.b2_runs.proofs.FirstElementOrLater.{Contains_here, Contains_nil}
+use Rattle.b2_runs.proofs.MakerIsOne.{source_not_made}
 use Rattle.b2_run_examples.proofs.OneStepPlan.{only_number, only_is, one_of, makes_out, is_apart}
 
 abbrev circle_step : Step

@@ -25,16 +25,16 @@ use Rattle.b2_runs.specs.UpdateAnswers.{UpdateAnswer.all_went, HasEnded, HasUpda
 use Rattle.b2_runs.specs.Sessions.{IsUpdate}
 use Rattle.b2_run_examples.specs.Examples.{in_path, out_path, copying, copied, at_entry, disk_before, disk_after, in_past, out_past, copy_bytes, log_after, with_log, copy_given, copy_step, in_members}
 use Rattle.b2_run_examples.specs.CopySession.{log_past, disk_logged, log_read, moment_before, moment_after, CopySessionHolds}
-use Rattle.b2_runs.proofs.ElementLemmas.{Contains_here, Contains_cases, Contains_nil}
-use Rattle.b2_runs.proofs.CleanLaws.{clean_is_made}
-use Rattle.b2_runs.proofs.LogLaws.{true_as_past_grows}
-use Rattle.b2_runs.proofs.LogFileLaws.{file_is_one_log}
-use Rattle.b2_runs.proofs.RunLaws.{same_members}
+use Rattle.b2_runs.proofs.FirstElementOrLater.{Contains_here, Contains_cases, Contains_nil}
+use Rattle.b2_runs.proofs.CleanIsOne.{clean_is_made}
+use Rattle.b2_runs.proofs.TrueWithLine.{true_as_past_grows}
+use Rattle.b2_runs.proofs.FileIsOneLog.{file_is_one_log}
+use Rattle.b2_runs.proofs.SettledStays.{same_members}
 use Rattle.b2_runs.proofs.JudgedByPresent.{none_older_move}
-use Rattle.b2_runs.proofs.LogCourseLaws.{begins_with_one}
-use Rattle.b2_runs.proofs.LogAlong.{log_is_noted}
-use Rattle.b2_runs.proofs.LogAtExit.{whole_is_cut}
-use Rattle.b2_runs.proofs.SessionLaws.{update_counts_fault, stop_counts_fault}
+use Rattle.b2_runs.proofs.FirstLinesAreOne.{begins_with_one}
+use Rattle.b2_runs.proofs.LogIsNoted.{log_is_noted}
+use Rattle.b2_runs.proofs.CutLogIsTrue.{whole_is_cut}
+use Rattle.b2_runs.proofs.StopLeavesNone.{update_counts_fault, stop_counts_fault}
 use Rattle.b2_run_examples.proofs.OneStepPlan.{one_of, only_is, only_number, only_out, makes_out}
 use Rattle.b2_run_examples.proofs.CopyingHolds.{apart, run, went, close, none_older, log_true, one_each_after, stands_after, others_after}
 use Rattle.b2_run_examples.proofs.CopyingFiled.{begins_empty, counts, course, whole}

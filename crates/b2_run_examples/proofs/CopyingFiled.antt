@@ -20,15 +20,15 @@ use Rattle.b2_runs.specs.Staleness.{making}
 use Rattle.b2_runs.specs.LogCourses.{FirstLines, FirstLines.as_it_is, IsLogAfter, IsLogAfter.begins, IsLogAfter.starts, IsLogAfter.records, left_file, IsLogWhole, IsLogCut, IsLogCut.within}
 use Rattle.b2_runs.specs.Runs.{IsRunSoFar}
 use Rattle.b2_runs.specs.Afterwards.{next_update}
-use Rattle.b2_runs.proofs.LogLaws.{found_is_there}
-use Rattle.b2_runs.proofs.EventLaws.{run_is_in_order}
-use Rattle.b2_runs.proofs.LogCourseLaws.{log_has_records}
-use Rattle.b2_runs.proofs.LogAtExit.{healthy_grows}
+use Rattle.b2_runs.proofs.LastLineIsFound.{found_is_there}
+use Rattle.b2_runs.proofs.RunIsInOrder.{run_is_in_order}
+use Rattle.b2_runs.proofs.LogHasRecords.{log_has_records}
+use Rattle.b2_runs.proofs.CutLogIsTrue.{healthy_grows}
 use Rattle.b2_runs.specs.LogFiles.{log_limit, IsLogOf, IsLogOf.is_read, IsTrueFile, FileTells}
 use Rattle.b2_run_examples.specs.Examples.{in_path, out_path, copying, disk_after, copy_record, log_after, copied, copy_step, in_members, copy_bytes, with_log, CopyingFiled}
-use Rattle.b2_runs.proofs.ElementLemmas.{Contains_here, Contains_nil}
+use Rattle.b2_runs.proofs.FirstElementOrLater.{Contains_here, Contains_nil}
 use Rattle.b2_run_examples.proofs.CopyingHolds.{apart, run, log_true, close, opened}
-use Rattle.b2_runs.proofs.LogFileLaws.{true_front}
+use Rattle.b2_runs.proofs.TrueFileTells.{true_front}
 
 -- bytes of texts that are plain
 abbrev IsPlain : ℕ → Type 0

@@ -22,13 +22,14 @@ use Rattle.b2_runs.specs.Soundness.{Holds, Distinguishes, IsSound, IsAllowedChan
 use Rattle.b2_runs.specs.Afterwards.{IsNoted}
 use Rattle.b2_runs.specs.CompleteLaws.{CleanIsDefined}
 use Rattle.b2_run_examples.specs.Examples.{in_path, out_path, in_file, at_entry, copying, copied, out_file, in_past, out_past, disk_before, disk_after, copy_record, log_after, copy_given, copy_child, copy_step, family_before, family_after, CopyingHolds}
-use Rattle.b2_runs.proofs.ElementLemmas.{Contains_here, Contains_there, Contains_cases, Contains_nil}
-use Rattle.b2_runs.proofs.LogLaws.{empty_is_true, true_with_line}
-use Rattle.b2_runs.proofs.CleanLaws.{clean_is_made}
-use Rattle.b2_runs.proofs.SettledLaws.{source_clean}
-use Rattle.b2_runs.proofs.RunLaws.{close_on_settled}
-use Rattle.b2_runs.proofs.SoundLaws.{sound_at_entry, sound_after_start, sound_after_change, sound_done, record_is_true}
-use Rattle.b2_runs.proofs.NotedLaws.{noted_at_entry, noted_after_start, noted_after_change, noted_after_record}
+use Rattle.b2_runs.proofs.FirstElementOrLater.{Contains_here, Contains_there, Contains_cases, Contains_nil}
+use Rattle.b2_runs.proofs.TrueWithLine.{empty_is_true, true_with_line}
+use Rattle.b2_runs.proofs.CleanIsOne.{clean_is_made}
+use Rattle.b2_runs.proofs.SourcesAreKept.{source_clean}
+use Rattle.b2_runs.proofs.SettledStays.{close_on_settled}
+use Rattle.b2_runs.proofs.DiskStaysSound.{sound_at_entry, sound_after_start, sound_after_change, sound_done}
+use Rattle.b2_runs.proofs.RecordIsTrue.{record_is_true}
+use Rattle.b2_runs.proofs.NotedAfterEachEvent.{noted_at_entry, noted_after_start, noted_after_change, noted_after_record}
 use Rattle.b2_run_examples.proofs.OneStepPlan.{only_number, only_out, one_of, makes_out, in_outside, is_apart}
 
 pub apart : Apart copying.build.steps copying.build.roots

@@ -8,7 +8,7 @@ use Rattle.b2_log.specs.Finding.{find_record}
 use Rattle.b2_host.specs.declared.children.ChildEvent.{ChildEvent}
 use Rattle.b2_runs.specs.Staleness.{Update, AreStamped, AgreesByStamps, Agrees, Agrees.by_stamps, Agrees.by_digests, IsFresh, IsRecorded, paths_with_bytes}
 use Rattle.b2_run_examples.specs.Examples.{in_path, out_path, out_file, new_file, disk_after, log_after, copy_record, copy_step, in_members, after_copying, CopyingJudged}
-use Rattle.b2_runs.proofs.ElementLemmas.{Contains_here, Contains_nil}
+use Rattle.b2_runs.proofs.FirstElementOrLater.{Contains_here, Contains_nil}
 use Rattle.b2_run_examples.proofs.OneStepPlan.{different, only_out, one_of}
 use Rattle.b2_run_examples.proofs.CopyingHolds.{none_older}
 

@@ -21,11 +21,12 @@ use Rattle.b2_runs.specs.Records.{HasDigestsOf}
 use Rattle.b2_runs.specs.Afterwards.{IsNotedStep}
 use Rattle.b2_run_examples.specs.Overlap.{copy_from, x_path, a_path, b_path, c_path}
 use Rattle.b2_run_examples.specs.DigestUpdates.{file_of, build_on, update_on, a_digested, b_digested, a_stamped, b_stamped, x_alone, all_stand, first_ran, both_ran, log_one, log_two, log_three, log_four, log_five, DigestsHold}
-use Rattle.b2_runs.proofs.ElementLemmas.{one_step, Contains_here, Contains_cases, Contains_nil}
-use Rattle.b2_runs.proofs.CleanLaws.{clean_is_made}
-use Rattle.b2_runs.proofs.SettledLaws.{source_clean}
-use Rattle.b2_runs.proofs.RunLaws.{close_on_settled, same_members}
-use Rattle.b2_runs.proofs.NumberLaws.{cannot_start_fresh}
+use Rattle.b2_runs.proofs.FirstElementOrLater.{Contains_here, Contains_cases, Contains_nil}
+use Rattle.b2_runs.proofs.NumberHasOneStep.{one_step}
+use Rattle.b2_runs.proofs.CleanIsOne.{clean_is_made}
+use Rattle.b2_runs.proofs.SourcesAreKept.{source_clean}
+use Rattle.b2_runs.proofs.SettledStays.{close_on_settled, same_members}
+use Rattle.b2_runs.proofs.NeededByNumbers.{cannot_start_fresh}
 use Rattle.b2_run_examples.proofs.OneStepPlan.{one_of, longer, different}
 use Rattle.b2_run_examples.proofs.ThreeCopies as copies
 

@@ -8,8 +8,8 @@ use Rattle.b2_runs.specs.Events.{IsOpen}
 use Rattle.b2_runs.specs.Runs.{Settled, Settled.source, Settled.done_well, Settled.fresh, Needed, Needed.wanted, Needed.member, CanStart, IsRun}
 use Rattle.b2_runs.specs.Outcomes.{LeavesNothing, IsSettledStep, IsFailed, IsLeft, Skipped, Skipped.missing, Skipped.failed, Skipped.skipped, Skipped.quits}
 use Rattle.b2_run_examples.specs.Overlap.{copy_from, x_path, b_path, c_path, three_copies, two_at_once, failing, FailureHolds}
-use Rattle.b2_runs.proofs.ElementLemmas.{Contains_here, Contains_cases, Contains_nil}
-use Rattle.b2_runs.proofs.ValueRounds.{source_not_made}
+use Rattle.b2_runs.proofs.FirstElementOrLater.{Contains_here, Contains_cases, Contains_nil}
+use Rattle.b2_runs.proofs.MakerIsOne.{source_not_made}
 use Rattle.b2_run_examples.proofs.OneStepPlan.{one_of}
 use Rattle.b2_run_examples.proofs.ThreeCopies.{number_of}
 use Rattle.b2_run_examples.proofs.OverlapHolds.{numbered, made_at, apart, makes_b, makes_c, skip, start_not_done, done_not_start, done_number, done_well_is, start_number, can_first, can_second, first_lowest, second_lowest, third_waits, third_needs_second, none_can, second_open, wants_c, after_two}

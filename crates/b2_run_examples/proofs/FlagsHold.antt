@@ -17,10 +17,10 @@ use Rattle.b2_runs.specs.Afterwards.{IsMadeEachTime.always as is_always}
 use Rattle.b2_runs.specs.LogCourses.{IsLogAfter.begins, IsLogAfter.starts, IsLogAfter.owes_none}
 use Rattle.b2_run_examples.specs.Examples.{in_path, out_path, copy_step, at_entry, disk_after, copy_record, log_after, copied, in_members}
 use Rattle.b2_run_examples.specs.Flags.{flagged_step, flagged, flagged_update, FlagsHold}
-use Rattle.b2_runs.proofs.ElementLemmas.{Contains_here, Contains_cases, Contains_nil}
-use Rattle.b2_runs.proofs.SettledLaws.{source_clean}
-use Rattle.b2_runs.proofs.OutcomeLaws.{all_went_by_settled}
-use Rattle.b2_runs.proofs.NumberLaws.{cannot_start_fresh}
+use Rattle.b2_runs.proofs.FirstElementOrLater.{Contains_here, Contains_cases, Contains_nil}
+use Rattle.b2_runs.proofs.SourcesAreKept.{source_clean}
+use Rattle.b2_runs.proofs.SkippedExactly.{all_went_by_settled}
+use Rattle.b2_runs.proofs.NeededByNumbers.{cannot_start_fresh}
 use Rattle.b2_run_examples.proofs.OneStepPlan.{one_of, in_outside, is_apart}
 use Rattle.b2_run_examples.proofs.CopyingJudged.{unchanged}
 use Rattle.b2_run_examples.proofs.OverlapHolds.{skip, start_not_done, start_number}

@@ -11,7 +11,7 @@ use Rattle.b2_plan.specs.Closures.{Value, Values, Known, Known.input as input_of
 use Rattle.b2_runs.specs.Staleness.{Update, NoneOlder, NoneDone, Agrees, Agrees.by_stamps, Agrees.by_digests, IsFresh, IsStale}
 use Rattle.b2_run_examples.specs.Examples.{in_path, out_path, copy_step}
 use Rattle.b2_run_examples.specs.HeaderPlaces.{including, update_with, file_with, both_record, first_place, second_place, in_includes, two_places, in_both, in_second, log_both, members_both, members_second, HeaderLostHolds, header_path, circle_includes, by_name, circle_stands, HeaderCircleHolds}
-use Rattle.b2_runs.proofs.ElementLemmas.{Contains_here, Contains_cases, Contains_nil}
+use Rattle.b2_runs.proofs.FirstElementOrLater.{Contains_here, Contains_cases, Contains_nil}
 use Rattle.b2_run_examples.proofs.OneStepPlan.{one_of, longer, different, only_is, only_out, is_apart}
 use Rattle.b2_run_examples.proofs.DigestsHold.{last_agrees}
 use Rattle.b2_run_examples.proofs.TwoSources as two

@@ -16,13 +16,13 @@ use Rattle.b2_runs.specs.Runs.{Settled, Settled.source, Settled.done_well, Settl
 use Rattle.b2_runs.specs.Outcomes.{IsListOf}
 use Rattle.b2_run_examples.specs.Overlap.{copy_from, x_path, a_path, b_path, c_path}
 use Rattle.b2_run_examples.specs.Headers.{header, with_header, header_update, b_made, header_run, HeadersHold}
-use Rattle.b2_runs.proofs.ElementLemmas.{Contains_here, Contains_there, Contains_cases, Contains_nil}
-use Rattle.b2_runs.proofs.ValueRounds.{source_not_made}
-use Rattle.b2_runs.proofs.CleanLaws.{clean_is_made}
-use Rattle.b2_runs.proofs.SettledLaws.{source_clean}
-use Rattle.b2_runs.proofs.RunLaws.{close_on_settled}
-use Rattle.b2_runs.proofs.TakenOut.{pairs_first}
-use Rattle.b2_runs.proofs.GatheredValues.{Sooner, pairs_cons}
+use Rattle.b2_runs.proofs.FirstElementOrLater.{Contains_here, Contains_there, Contains_cases, Contains_nil}
+use Rattle.b2_runs.proofs.MakerIsOne.{source_not_made}
+use Rattle.b2_runs.proofs.CleanIsOne.{clean_is_made}
+use Rattle.b2_runs.proofs.SourcesAreKept.{source_clean}
+use Rattle.b2_runs.proofs.SettledStays.{close_on_settled}
+use Rattle.b2_runs.proofs.OthersAreLeft.{pairs_first}
+use Rattle.b2_runs.proofs.ValuesCanBeGathered.{Sooner, pairs_cons}
 use Rattle.b2_run_examples.proofs.OneStepPlan.{one_of, longer, different}
 use Rattle.b2_run_examples.proofs.DigestsHold.{absent, starts_of, ends_of}
 use Rattle.b2_run_examples.proofs.ThreeCopies as copies

@@ -9,9 +9,9 @@ use Rattle.b2_runs.specs.Runs.{Settled, Settled.source, Settled.done_well, Settl
 use Rattle.b2_runs.specs.Outcomes.{IsMissed, IsLeft, Skipped, Skipped.missing}
 use Rattle.b2_run_examples.specs.Examples.{out_path, step_from}
 use Rattle.b2_run_examples.specs.Missing.{gone_path, lacking, MissingHolds}
-use Rattle.b2_runs.proofs.ElementLemmas.{Contains_here, Contains_nil}
-use Rattle.b2_runs.proofs.ValueRounds.{source_not_made}
-use Rattle.b2_runs.proofs.OutcomeLaws.{settled_given, skipped_left}
+use Rattle.b2_runs.proofs.FirstElementOrLater.{Contains_here, Contains_nil}
+use Rattle.b2_runs.proofs.MakerIsOne.{source_not_made}
+use Rattle.b2_runs.proofs.SkippedExactly.{settled_given, skipped_left}
 use Rattle.b2_run_examples.proofs.OneStepPlan.{only_number, only_is, only_out, one_of, different, makes_out, is_apart}
 
 abbrev gone_step : Step

@@ -7,7 +7,7 @@ use Rattle.b2_plan.specs.declared.step.Step.{Step}
 use Rattle.b2_plan.specs.Plans.{log_path, step_at, Makes, Apart}
 use Rattle.b2_plan.specs.Sources.{IsInRoots}
 use Rattle.b2_run_examples.specs.Examples.{in_path, out_path, step_from}
-use Rattle.b2_runs.proofs.ElementLemmas.{Contains_here, Contains_cases, Contains_nil}
+use Rattle.b2_runs.proofs.FirstElementOrLater.{Contains_here, Contains_cases, Contains_nil}
 
 -- the only step
 only_step : (ins : List (List ℕ)) (i : ℕ) (step : Step) → step_at (step_from ins ∷ []) i ≡ Some step → (i ≡ 1) × (step_from ins ≡ step)

@@ -11,11 +11,11 @@ use Rattle.b2_runs.specs.Events.{IsOpen, is_start, is_done}
 use Rattle.b2_runs.specs.Runs.{Settled, Settled.source, Settled.done_well, Settled.fresh, on_settled, Needed.wanted, CanStart, IsRun}
 use Rattle.b2_runs.specs.Outcomes.{AllWent, IsSettledStep, Skipped, Skipped.missing, Skipped.failed, Skipped.skipped, Skipped.quits}
 use Rattle.b2_run_examples.specs.Overlap.{copy_from, x_path, a_path, b_path, c_path, three_copies, two_at_once, overlapping, OverlapHolds}
-use Rattle.b2_runs.proofs.ElementLemmas.{Contains_here, Contains_cases, Contains_nil}
-use Rattle.b2_runs.proofs.ValueRounds.{source_not_made}
-use Rattle.b2_runs.proofs.CleanLaws.{clean_is_made}
-use Rattle.b2_runs.proofs.SettledLaws.{source_clean}
-use Rattle.b2_runs.proofs.RunLaws.{close_on_settled}
+use Rattle.b2_runs.proofs.FirstElementOrLater.{Contains_here, Contains_cases, Contains_nil}
+use Rattle.b2_runs.proofs.MakerIsOne.{source_not_made}
+use Rattle.b2_runs.proofs.CleanIsOne.{clean_is_made}
+use Rattle.b2_runs.proofs.SourcesAreKept.{source_clean}
+use Rattle.b2_runs.proofs.SettledStays.{close_on_settled}
 use Rattle.b2_run_examples.proofs.OneStepPlan.{one_of, longer}
 use Rattle.b2_run_examples.proofs.ThreeCopies as copies
 use Rattle.b2_run_examples.proofs.ThreeCopies.{number_of}

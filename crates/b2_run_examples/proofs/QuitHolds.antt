@@ -12,10 +12,10 @@ use Rattle.b2_runs.specs.Runs.{Settled, Settled.source, Settled.done_well, Settl
 use Rattle.b2_runs.specs.Outcomes.{IsFailed, IsMissed, IsLeft, Skipped, Skipped.missing, Skipped.failed, Skipped.skipped, Skipped.quits}
 use Rattle.b2_run_examples.specs.Overlap.{copy_from, x_path, a_path, b_path, c_path, three_copies, two_at_once}
 use Rattle.b2_run_examples.specs.Quits.{quitting, quit_run, QuitHolds}
-use Rattle.b2_runs.proofs.ElementLemmas.{Contains_here, Contains_there, Contains_cases, Contains_nil}
-use Rattle.b2_runs.proofs.ValueRounds.{source_not_made}
-use Rattle.b2_runs.proofs.SettledLaws.{source_clean}
-use Rattle.b2_runs.proofs.TakenOut.{pairs_first}
+use Rattle.b2_runs.proofs.FirstElementOrLater.{Contains_here, Contains_there, Contains_cases, Contains_nil}
+use Rattle.b2_runs.proofs.MakerIsOne.{source_not_made}
+use Rattle.b2_runs.proofs.SourcesAreKept.{source_clean}
+use Rattle.b2_runs.proofs.OthersAreLeft.{pairs_first}
 use Rattle.b2_run_examples.proofs.OneStepPlan.{one_of}
 use Rattle.b2_run_examples.proofs.DigestsHold.{absent, starts_of}
 use Rattle.b2_run_examples.proofs.OverlapHolds.{which, made_at, apart, makes_a, makes_b, makes_c, x_source, known_is, skip, start_not_done, done_number, start_number, wants_a, wants_b, wants_c}

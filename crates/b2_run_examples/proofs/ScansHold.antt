@@ -10,8 +10,8 @@ use Rattle.b2_log.specs.declared.line.LogLine.TheVariants as lines
 use Rattle.b2_log.specs.Finding.{find_scan}
 use Rattle.b2_runs.specs.FileReads.{IsToScan, IsTooBig, IsTooBig.to_scan, IsTooBig.to_digest, IsToDigest, IsToDigest.input, IsToDigest.output, IsCalledFor, IsCalledFor.to_scan as called}
 use Rattle.b2_runs.specs.LogCourses.{IsLogAfter, IsLogAfter.begins, IsLogAfter.starts, IsLogAfter.records, IsLogAfter.scans, IsScannedFile, AllScanned}
-use Rattle.b2_runs.proofs.ElementLemmas.{Contains_here}
-use Rattle.b2_runs.proofs.ReadLaws.{scanned_is_not_read, unscanned_is_not_read}
+use Rattle.b2_runs.proofs.FirstElementOrLater.{Contains_here}
+use Rattle.b2_runs.proofs.ReadsOnce.{scanned_is_not_read, unscanned_is_not_read}
 use Rattle.b2_run_examples.specs.Overlap.{copy_from, x_path, b_path, c_path}
 use Rattle.b2_run_examples.specs.Headers.{header_update, b_made, b_scan}
 use Rattle.b2_run_examples.specs.Scans.{b_stands, b_record, b_older, recorded, scanned, read_of, ScansHold}

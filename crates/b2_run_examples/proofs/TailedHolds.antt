@@ -11,8 +11,8 @@ use Rattle.b2_runs.specs.Outcomes.{IsListOf, IsStuck, Skipped, Skipped.missing, 
 use Rattle.b2_runs.specs.Cycles.{NeedsStuck, NextStuck, IsStepCycle}
 use Rattle.b2_run_examples.specs.Overlap.{copy_from, a_path, b_path, c_path}
 use Rattle.b2_run_examples.specs.Examples.{tailed_copies, tailed, TailedHolds}
-use Rattle.b2_runs.proofs.ElementLemmas.{Contains_here, Contains_cases, Contains_nil}
-use Rattle.b2_runs.proofs.ValueRounds.{source_not_made}
+use Rattle.b2_runs.proofs.FirstElementOrLater.{Contains_here, Contains_cases, Contains_nil}
+use Rattle.b2_runs.proofs.MakerIsOne.{source_not_made}
 use Rattle.b2_runs.proofs.StepCycleIsOne.{step_cycle_is_one}
 use Rattle.b2_run_examples.proofs.OneStepPlan.{one_of}
 use Rattle.b2_run_examples.proofs.ThreeCopies as copies

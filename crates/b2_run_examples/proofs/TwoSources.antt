@@ -13,10 +13,10 @@ use Rattle.b2_runs.specs.Events.{IsOpen}
 use Rattle.b2_runs.specs.Runs.{Settled.source, on_settled, Needed, Needed.wanted, CanStart, IsRun}
 use Rattle.b2_run_examples.specs.Examples.{in_path, out_path, copy_step, copied}
 use Rattle.b2_run_examples.specs.HeaderPlaces.{including, update_with}
-use Rattle.b2_runs.proofs.ElementLemmas.{Contains_here, Contains_there, Contains_cases, Contains_nil}
-use Rattle.b2_runs.proofs.SettledLaws.{source_clean}
-use Rattle.b2_runs.proofs.NumberLaws.{cannot_start_fresh}
-use Rattle.b2_runs.proofs.GatheredValues.{Sooner, pairs_cons}
+use Rattle.b2_runs.proofs.FirstElementOrLater.{Contains_here, Contains_there, Contains_cases, Contains_nil}
+use Rattle.b2_runs.proofs.SourcesAreKept.{source_clean}
+use Rattle.b2_runs.proofs.NeededByNumbers.{cannot_start_fresh}
+use Rattle.b2_runs.proofs.ValuesCanBeGathered.{Sooner, pairs_cons}
 use Rattle.b2_run_examples.proofs.OneStepPlan.{one_of, only_number, is_apart, makes_out}
 use Rattle.b2_run_examples.proofs.OverlapHolds.{skip, start_not_done, start_number}
 

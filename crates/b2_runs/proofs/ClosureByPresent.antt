@@ -10,12 +10,14 @@ use Rattle.b2_runs.specs.Staleness.{Update}
 use Rattle.b2_runs.specs.Runs.{Settled, Settled.source, Settled.done_well, Settled.fresh, on_settled, IsRunSoFar}
 use Rattle.b2_runs.specs.Soundness.{Holds, IsSound}
 use Rattle.b2_runs.specs.AfterLaws.{seen, seen_settled, SeenIsClean, ClosureByPresent, KnownByPresent}
-use Rattle.b2_runs.proofs.ValueRounds.{source_not_made, maker_is_one}
-use Rattle.b2_runs.proofs.CleanLaws.{clean_is_one, clean_is_made}
-use Rattle.b2_runs.proofs.SettledLaws.{source_clean, source_kept, settled_holds}
-use Rattle.b2_runs.proofs.RunLaws.{close_on_settled, started_has_closure, done_was_started, settled_has_value}
+use Rattle.b2_runs.proofs.MakerIsOne.{source_not_made, maker_is_one}
+use Rattle.b2_runs.proofs.CleanIsOne.{clean_is_one, clean_is_made}
+use Rattle.b2_runs.proofs.SourcesAreKept.{source_clean, source_kept}
+use Rattle.b2_runs.proofs.OutputsAreClean.{settled_holds}
+use Rattle.b2_runs.proofs.SettledStays.{close_on_settled}
+use Rattle.b2_runs.proofs.RunGoesOn.{started_has_closure, done_was_started, settled_has_value}
 use Rattle.b2_runs.proofs.CleanBySources.{known_to, close_to}
-use Rattle.b2_runs.proofs.AfterLaws.{same_sources}
+use Rattle.b2_runs.proofs.SettledAfterwards.{same_sources}
 
 -- A settled path that a step makes has the value that the step makes of its closure.
 record IsMadeOf (u : Update) (path : List ℕ) : Type 0 where

@@ -13,8 +13,9 @@ use Rattle.b2_runs.specs.Runs.{Settled, Settled.source, Settled.done_well, Settl
 use Rattle.b2_runs.specs.Soundness.{IsSound}
 use Rattle.b2_runs.specs.Afterwards.{at_present}
 use Rattle.b2_runs.specs.AfterLaws.{JudgedByPresent}
-use Rattle.b2_runs.proofs.StampedFiles.{stamped_move, digested_move, path_in_back, with_bytes_in}
-use Rattle.b2_runs.proofs.SettledLaws.{source_kept, unstarted_kept}
+use Rattle.b2_runs.proofs.SameByStamp.{stamped_move, path_in_back, with_bytes_in}
+use Rattle.b2_runs.proofs.SameByDigest.{digested_move}
+use Rattle.b2_runs.proofs.SourcesAreKept.{source_kept, unstarted_kept}
 
 pub none_older_move : (old new : Folder) (step : Step) (members : List (List ℕ × Value)) → ((out : List ℕ) → Contains step.outs out → new out ≡ old out) → ((member : List ℕ) (value : Value) → Contains members (member, value) → new member ≡ old member)
     → NoneOlder old step members → NoneOlder new step members

@@ -7,8 +7,10 @@ use Rattle.b2_plan.specs.Plans.{Apart}
 use Rattle.b2_plan.specs.Sources.{Build}
 use Rattle.b2_plan.specs.Closures.{Value, IsClose}
 use Rattle.b2_plan.specs.Cleans.{value_of, Val}
-use Rattle.b2_runs.proofs.ElementLemmas.{Contains_here, Contains_there, Contains_cases, Contains_nil, place_of}
-use Rattle.b2_runs.proofs.ValueRounds.{val_is_one, val_up, close_at}
+use Rattle.b2_runs.specs.CleanLaws.{RoundsAreEnough}
+use Rattle.b2_runs.proofs.FirstElementOrLater.{Contains_here, Contains_there, Contains_cases, Contains_nil}
+use Rattle.b2_runs.proofs.NumberHasOneStep.{place_of}
+use Rattle.b2_runs.proofs.MoreRoundsSayNoLess.{val_is_one, val_up, close_at}
 
 -- the closure of the step at a place is known by n rounds
 record At (b : Build) (n place : ℕ) : Type 0 where
@@ -136,3 +138,7 @@ rounds_enough b apart (suc n) path x s =
       | inl (r, few, v) ↦ val_up b apart r (length b.steps) (omega arith) path x v
       | inr (k, less, a) ↦ absurd (let e : false ≡ true = a.inside in cc)
     ]
+
+-- more rounds than steps add nothing
+pub rounds_are_enough : RoundsAreEnough
+rounds_are_enough b rounds path value apart h = (rounds_enough b apart rounds path value, val_up b apart (length b.steps) rounds h path value)

@@ -8,12 +8,14 @@ use Rattle.b2_runs.specs.Staleness.{Update}
 use Rattle.b2_runs.specs.Events.{is_start, is_done, started, AreOnce}
 use Rattle.b2_runs.specs.Runs.{CanStart, MayCome, IsRunSoFar, IsRun}
 use Rattle.b2_runs.specs.RunLaws.{RunIsPrefix}
-use Rattle.b2_runs.proofs.ElementLemmas.{place_of, Contains_here, Contains_there, Contains_cases, Contains_nil}
-use Rattle.b2_runs.proofs.TakenOut.{pairs_first}
-use Rattle.b2_runs.proofs.EventLaws.{count_one, count_first, run_is_in_order}
-use Rattle.b2_runs.proofs.RunLaws.{run_goes_on, run_start, each_event_once}
-use Rattle.b2_runs.proofs.OpenSteps.{opens_of}
+use Rattle.b2_runs.proofs.FirstElementOrLater.{Contains_here, Contains_there, Contains_cases, Contains_nil}
+use Rattle.b2_runs.proofs.NumberHasOneStep.{place_of}
+use Rattle.b2_runs.proofs.OneEventMore.{count_one, count_first}
+use Rattle.b2_runs.proofs.RunIsInOrder.{run_is_in_order}
+use Rattle.b2_runs.proofs.RunGoesOn.{run_goes_on, run_start, each_event_once}
+use Rattle.b2_runs.proofs.StartsAreDone.{opens_of}
 use Rattle.b2_runs.proofs.StepCycleIsThere.{few, lowest_below}
+use Rattle.b2_runs.proofs.OthersAreLeft.{pairs_first}
 
 -- the numbers of the steps that were started
 abbrev numbers : List ChildEvent → List ℕ

@@ -4,7 +4,7 @@ use Rattle.std.proofs.lemmas.List.Elements.{Contains-append_right}
 use Rattle.b2_runs.specs.Outcomes.{IsStuck}
 use Rattle.b2_runs.specs.Cycles.{IsLowest, NeedsStuck, NextStuck, LeadsOn}
 use Rattle.b2_runs.specs.StuckLaws.{StepCycleIsOne}
-use Rattle.b2_runs.proofs.ElementLemmas.{Contains_here, Contains_cases, Contains_nil, AllPairs_head, AllPairs_tail}
+use Rattle.b2_runs.proofs.FirstElementOrLater.{Contains_here, Contains_cases, Contains_nil, AllPairs_head, AllPairs_tail}
 
 -- the lowest is one
 lowest_is_one : (P : ℕ → Type 0) (i k : ℕ) → IsLowest P i → IsLowest P k → i ≡ k

@@ -15,7 +15,8 @@ use Rattle.b2_runs.specs.Runs.{Needed, Needed.wanted, Needed.member}
 use Rattle.b2_runs.specs.Outcomes.{IsStuck}
 use Rattle.b2_runs.specs.Cycles.{IsLowest, NeedsStuck, NextStuck, LeadsOn, IsStepCycle}
 use Rattle.b2_runs.specs.StuckLaws.{StepCycleIsThere, StuckIsCycle}
-use Rattle.b2_runs.proofs.ElementLemmas.{place_of, Contains_here, Contains_there, Contains_cases, Contains_nil}
+use Rattle.b2_runs.proofs.FirstElementOrLater.{Contains_here, Contains_there, Contains_cases, Contains_nil}
+use Rattle.b2_runs.proofs.NumberHasOneStep.{place_of}
 use Rattle.b2_runs.proofs.StuckNeedsStuck.{stuck_needs_stuck}
 
 abbrev pub Apart : List ℕ → Type 0

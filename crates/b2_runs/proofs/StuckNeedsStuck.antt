@@ -9,11 +9,12 @@ use Rattle.b2_runs.specs.Staleness.{Update}
 use Rattle.b2_runs.specs.Runs.{Settled, Settled.source, Settled.done_well, Settled.fresh, on_settled, Needed.member, CanStart, IsRun}
 use Rattle.b2_runs.specs.Outcomes.{IsStuck, Skipped.missing, Skipped.failed, Skipped.skipped, Skipped.quits}
 use Rattle.b2_runs.specs.StuckLaws.{StuckByStuck, StuckNeedsStuck}
-use Rattle.b2_runs.proofs.ElementLemmas.{one_step}
-use Rattle.b2_runs.proofs.SettledLaws.{source_clean}
-use Rattle.b2_runs.proofs.RunLaws.{close_on_settled, settled_has_value}
-use Rattle.b2_runs.proofs.OpenSteps.{starts_are_done}
-use Rattle.b2_runs.proofs.GatheredValues.{gather}
+use Rattle.b2_runs.proofs.NumberHasOneStep.{one_step}
+use Rattle.b2_runs.proofs.SourcesAreKept.{source_clean}
+use Rattle.b2_runs.proofs.SettledStays.{close_on_settled}
+use Rattle.b2_runs.proofs.RunGoesOn.{settled_has_value}
+use Rattle.b2_runs.proofs.StartsAreDone.{starts_are_done}
+use Rattle.b2_runs.proofs.ValuesCanBeGathered.{gather}
 
 -- what a stuck step needs is not settled only where its maker is stuck
 pub stuck_by_stuck : StuckByStuck

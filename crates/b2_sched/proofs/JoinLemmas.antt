@@ -5,7 +5,7 @@ use Rattle.b2_runs.specs.Outcomes as run
 use Rattle.b2_runs.specs.Cycles.{LeadsOn, NextStuck}
 use Rattle.b2_runs.specs.Numbers.{MakesWanted, NeedsStep, LacksSource, NeededOf, NeededOf.first, NeededOf.of_needed, SkippedOf, SkippedOf.lacks, SkippedOf.of_failed, SkippedOf.of_skipped, SkippedOf.ends}
 use Rattle.b2_runs.specs.Numbers as by_number
-use Rattle.b2_runs.proofs.NumberLaws.{needed_by_numbers, skipped_by_numbers, stuck_by_numbers}
+use Rattle.b2_runs.proofs.NeededByNumbers.{needed_by_numbers, skipped_by_numbers, stuck_by_numbers}
 use Rattle.b2_sched.specs.Schedules.{Schedule, IsFirst, IsNeeded, Needs, Lacks, IsFailed, IsLeft, IsSkipped, IsStuck}
 use Rattle.b2_sched.specs.Ends.{NextOf}
 use Rattle.b2_sched.specs.Joins.{NeededJoins, SkippedJoins, CycleJoins}

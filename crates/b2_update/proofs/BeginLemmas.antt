@@ -12,8 +12,8 @@ use Rattle.b2_plan.specs.Sources.{IsInRoots, IsGiven}
 use Rattle.b2_runs.specs.Staleness.{Update}
 use Rattle.b2_runs.specs.Events.{ShortTold}
 use Rattle.b2_runs.specs.Soundness.{IsSound}
-use Rattle.b2_runs.proofs.ElementLemmas.{Contains_nil}
-use Rattle.b2_runs.proofs.SettledLaws.{log_in_roots}
+use Rattle.b2_runs.proofs.FirstElementOrLater.{Contains_nil}
+use Rattle.b2_runs.proofs.SourcesAreKept.{log_in_roots}
 use Rattle.b2_sched.specs.declared.state.State.{State}
 use Rattle.b2_sched.specs.declared.state.State.TheVariants as states
 use Rattle.b2_sched.specs.Schedules.{Schedule, state_of, IsUnjudged, IsSettled, IsFailed, IsStep, Needs, IsFirst}

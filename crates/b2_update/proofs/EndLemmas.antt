@@ -12,10 +12,10 @@ use Rattle.b2_runs.specs.Reports.{AreLists, no_lists, event_lines, end_lines, re
 use Rattle.b2_runs.specs.Moments.{Moment}
 use Rattle.b2_runs.specs.UpdateAnswers.{UpdateAnswer as RunAnswer, SomethingLacks}
 use Rattle.b2_runs.specs.UpdateAnswers.UpdateAnswer.{step_cycle}
-use Rattle.b2_runs.proofs.ElementLemmas.{Contains_nil}
-use Rattle.b2_runs.proofs.RunLaws.{run_start}
-use Rattle.b2_runs.proofs.StopLaws.{run_is_begun}
-use Rattle.b2_runs.proofs.SettledLaws.{outputs_are_clean, wanted_is_clean}
+use Rattle.b2_runs.proofs.FirstElementOrLater.{Contains_nil}
+use Rattle.b2_runs.proofs.RunGoesOn.{run_start}
+use Rattle.b2_runs.proofs.BegunUpToStart.{run_is_begun}
+use Rattle.b2_runs.proofs.OutputsAreClean.{outputs_are_clean, wanted_is_clean}
 use Rattle.b2_sched.specs.Schedules.{IsStale, IsFailed, IsSkipped, CanLook, NoneStuck}
 use Rattle.b2_sched.specs.Ends.{IsStepCycle}
 use Rattle.b2_update.specs.declared.board.Board.{Board}

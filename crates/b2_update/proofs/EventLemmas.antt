@@ -10,9 +10,10 @@ use Rattle.b2_runs.specs.Events.{is_start, is_done}
 use Rattle.b2_runs.specs.Runs.{CanStart}
 use Rattle.b2_runs.specs.Soundness.{IsAllowedChange, IsAtWork}
 use Rattle.b2_runs.specs.ChildLaws.{start_gives}
-use Rattle.b2_runs.proofs.RunLaws.{run_goes_on}
-use Rattle.b2_runs.proofs.SoundLaws.{sound_after_start, sound_after_change, sound_after_end, work_is_allowed}
-use Rattle.b2_runs.proofs.ChildLaws.{start_is_fed, at_work_after_start, at_work_after_end, end_is_open, fed_after_start, fed_after_end}
+use Rattle.b2_runs.proofs.RunGoesOn.{run_goes_on}
+use Rattle.b2_runs.proofs.DiskStaysSound.{sound_after_start, sound_after_change, sound_after_end, work_is_allowed}
+use Rattle.b2_runs.proofs.StartMayBegin.{start_is_fed}
+use Rattle.b2_runs.proofs.ChildrenFollowEvents.{at_work_after_start, at_work_after_end, end_is_open, fed_after_start, fed_after_end}
 use Rattle.b2_update.specs.Progress.{IsWhole, IsUnderWay}
 use Rattle.b2_update.proofs.WholeLemmas.{by_stamp}
 

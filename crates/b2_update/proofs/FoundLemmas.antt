@@ -1,7 +1,7 @@
 -- What was found at the first few paths, as one more is looked at.
 use Rattle.std.proofs.Common.{◌≡◌, ◌⊎◌, inl, inr, ℕ, ◌+◌, ◌<◌, Bool, true, false, List, [], ◌∷◌, length, get_or, take, sym, subst, ◌∙◌}
 use Rattle.std.specs.List.{Contains}
-use Rattle.b2_runs.proofs.ElementLemmas.{Contains_nil, Contains_cases}
+use Rattle.b2_runs.proofs.FirstElementOrLater.{Contains_nil, Contains_cases}
 use Rattle.b2_update.specs.declared.sights.Sights.{Sights}
 use Rattle.b2_update.specs.Sightings.{IsFoundAs, WasFound, SeesMore, MissesOf}
 use Rattle.b2_update.proofs.ListLemmas.{taken_more, taken_old, taken_new}

@@ -10,10 +10,10 @@ use Rattle.b2_runs.specs.Runs.{Settled, Settled.source, Settled.done_well, Neede
 use Rattle.b2_runs.specs.Outcomes.{IsFailed as HasFailed, IsLeft as WasLeft, Skipped as WasSkipped, IsStuck as WasStuck, NoneStuck as NoneWasStuck, IsListOf}
 use Rattle.b2_runs.specs.Cycles.{NextStuck, LeadsOn, IsStepCycle as IsCycle}
 use Rattle.b2_runs.specs.Numbers.{MakesWanted, NeedsStep, LacksSource, NeededOf, NeededOf.first, NeededOf.of_needed, SkippedOf, SkippedOf.lacks, SkippedOf.of_failed, SkippedOf.of_skipped, SkippedOf.ends, QuitsNow as RunQuits}
-use Rattle.b2_runs.proofs.ElementLemmas.{one_step}
-use Rattle.b2_runs.proofs.NumberLaws.{needed_by_numbers, skipped_by_numbers, stuck_by_numbers}
-use Rattle.b2_runs.proofs.OutcomeLaws.{settled_given}
-use Rattle.b2_runs.proofs.RunLaws.{done_was_started}
+use Rattle.b2_runs.proofs.NumberHasOneStep.{one_step}
+use Rattle.b2_runs.proofs.NeededByNumbers.{needed_by_numbers, skipped_by_numbers, stuck_by_numbers}
+use Rattle.b2_runs.proofs.SkippedExactly.{settled_given}
+use Rattle.b2_runs.proofs.RunGoesOn.{done_was_started}
 use Rattle.b2_sched.specs.declared.state.State.{State}
 use Rattle.b2_sched.specs.declared.state.State.TheVariants as states
 use Rattle.b2_sched.specs.Schedules.{state_of, IsStale, IsSettled, IsFailed, IsStep, Needs, IsNeeded, Lacks, CanLook, IsLeft, IsSkipped, IsStuck, NoneStuck}

@@ -4,7 +4,7 @@ use Rattle.std.specs.List.{Contains}
 use Rattle.b2_plan.specs.declared.step.Step.{Step}
 use Rattle.b2_plan.specs.Plans.{step_at}
 use Rattle.b2_runs.specs.Staleness.{Update}
-use Rattle.b2_runs.proofs.ElementLemmas.{one_step}
+use Rattle.b2_runs.proofs.NumberHasOneStep.{one_step}
 use Rattle.b2_sched.specs.NumberSets.{Has}
 use Rattle.b2_sched.specs.Schedules.{IsNeeded}
 use Rattle.b2_update.specs.declared.board.Board.{Board}

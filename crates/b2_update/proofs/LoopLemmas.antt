@@ -6,7 +6,7 @@ use Rattle.b2_host.specs.declared.children.ChildEvent.TheVariants.{Start, Done}
 use Rattle.b2_runs.specs.Staleness.{Update}
 use Rattle.b2_runs.specs.Reports.{is_good_end}
 use Rattle.b2_runs.specs.Moments.{Moment}
-use Rattle.b2_runs.proofs.EventLaws.{count_one}
+use Rattle.b2_runs.proofs.OneEventMore.{count_one}
 use Rattle.b2_sched.specs.declared.state.State.TheVariants as states
 use Rattle.b2_sched.specs.Schedules.{Schedule, state_of, IsStale, IsNeeded}
 use Rattle.b2_sched.specs.Calls.{with_start}

@@ -5,7 +5,7 @@ use Rattle.std.proofs.lemmas.Bool.{cases_eq}
 use Rattle.std.proofs.lemmas.List.{get_or-set_same, get_or-set_other}
 use Rattle.std.proofs.lemmas.List.Sums.{sum_by-set}
 use Rattle.std.proofs.lemmas.List.Elements.{Contains-append_left, Contains-push, Contains-push_cases}
-use Rattle.b2_runs.proofs.ElementLemmas.{Contains_here, Contains_nil}
+use Rattle.b2_runs.proofs.FirstElementOrLater.{Contains_here, Contains_nil}
 use Rattle.b2_sched.specs.declared.state.State.TheVariants.{Settled}
 use Rattle.b2_sched.specs.NumberSets.{Has}
 use Rattle.b2_sched.specs.Schedules.{Schedule, dependents_of, IsSettled, IsStep, Needs, CanLook}

@@ -9,7 +9,7 @@ use Rattle.b2_plan.specs.declared.step.Step.{Step}
 use Rattle.b2_plan.specs.Plans.{step_at}
 use Rattle.b2_runs.specs.Staleness.{Update}
 use Rattle.b2_runs.specs.Moments.{Moment}
-use Rattle.b2_runs.proofs.SettledLaws.{none_is_short}
+use Rattle.b2_runs.proofs.OutputsAreClean.{none_is_short}
 use Rattle.b2_update.specs.declared.stop.Stop.{Stop}
 use Rattle.b2_update.specs.declared.stop.Stop.TheVariants as stops
 use Rattle.b2_update.specs.Moments.{moment}

@@ -12,7 +12,7 @@ use Rattle.b2_plan.specs.Sources.{Build}
 use Rattle.b2_runs.specs.Staleness.{Update}
 use Rattle.b2_runs.specs.Events.{ShortTold}
 use Rattle.b2_runs.specs.Moments.{Moment}
-use Rattle.b2_runs.proofs.ElementLemmas.{Contains_nil}
+use Rattle.b2_runs.proofs.FirstElementOrLater.{Contains_nil}
 use Rattle.b2_update.specs.declared.board.Board.{Board}
 use Rattle.b2_update.specs.declared.sights.Sights.{Sights}
 use Rattle.b2_update.specs.declared.stop.Stop.{Stop}

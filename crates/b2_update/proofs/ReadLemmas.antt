@@ -4,7 +4,7 @@ use Rattle.std.proofs.lemmas.List.{take_more}
 use Rattle.std.proofs.lemmas.List.Elements.{Contains-append_left, Contains-append_right, Contains-append_cases}
 use Rattle.b2_plan.specs.declared.step.Step.{Step}
 use Rattle.b2_plan.specs.Plans.{maker_of}
-use Rattle.b2_runs.proofs.ElementLemmas.{Contains_here, Contains_nil, Contains_cases}
+use Rattle.b2_runs.proofs.FirstElementOrLater.{Contains_here, Contains_nil, Contains_cases}
 use Rattle.b2_sched.specs.Calls.{MakesOneOf}
 use Rattle.b2_update.specs.Inputs.{one_of, is_file, files_of}
 use Rattle.b2_update.proofs.ListLemmas.{taken_more, taken_old, taken_new}

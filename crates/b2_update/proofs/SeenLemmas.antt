@@ -8,7 +8,8 @@ use Rattle.std.proofs.lemmas.List.{get_or-set_same, get_or-set_other, get_or-rep
 use Rattle.std.proofs.lemmas.List.Sums.{sum_by-set}
 use Rattle.b2_plan.specs.declared.step.Step.{Step}
 use Rattle.b2_plan.specs.Plans.{step_at}
-use Rattle.b2_runs.proofs.ElementLemmas.{one_step, Contains_nil}
+use Rattle.b2_runs.proofs.FirstElementOrLater.{Contains_nil}
+use Rattle.b2_runs.proofs.NumberHasOneStep.{one_step}
 use Rattle.b2_runs.specs.Staleness.{Update}
 use Rattle.b2_sched.specs.declared.state.State.TheVariants.{Settled}
 use Rattle.b2_sched.specs.NumberSets.{Has}

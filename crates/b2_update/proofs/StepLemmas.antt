@@ -18,11 +18,11 @@ use Rattle.b2_runs.specs.Outcomes.{LeavesNothing}
 use Rattle.b2_runs.specs.Soundness.{IsAllowedChange, IsLoose}
 use Rattle.b2_runs.specs.Reports.{event_line, event_lines, start_line, failed_line, said_of, line as line_of, named, first_path, AreEnds, StopsAtEvent}
 use Rattle.b2_runs.specs.Moments.{Moment}
-use Rattle.b2_runs.proofs.ElementLemmas.{one_step}
-use Rattle.b2_runs.proofs.EventLaws.{count_one}
-use Rattle.b2_runs.proofs.RunLaws.{done_was_started, done_once}
-use Rattle.b2_runs.proofs.OutcomeLaws.{nothing_left_after_start, nothing_left_after_good_end, nothing_left_after_bad_end, nothing_left_through_work}
-use Rattle.b2_runs.proofs.ReportLaws.{lines_follow}
+use Rattle.b2_runs.proofs.NumberHasOneStep.{one_step}
+use Rattle.b2_runs.proofs.OneEventMore.{count_one}
+use Rattle.b2_runs.proofs.RunGoesOn.{done_was_started, done_once}
+use Rattle.b2_runs.proofs.FailuresLeaveNothing.{nothing_left_after_start, nothing_left_after_good_end, nothing_left_after_bad_end, nothing_left_through_work}
+use Rattle.b2_runs.proofs.LinesFollow.{lines_follow}
 use Rattle.b2_update.specs.declared.stop.Stop.{Stop}
 use Rattle.b2_update.specs.declared.stop.Stop.TheVariants as stops
 use Rattle.b2_update.specs.Inputs.{files_of}

@@ -12,9 +12,9 @@ use Rattle.b2_runs.specs.Staleness.{Update}
 use Rattle.b2_runs.specs.Moments.{Moment}
 use Rattle.b2_runs.specs.UpdateAnswers.{CountsStay, IsQuietHost, CausedBy, LeavesNone}
 use Rattle.b2_runs.specs.Soundness.{AreAtWork}
-use Rattle.b2_runs.proofs.SoundLaws.{sound_at_entry}
-use Rattle.b2_runs.proofs.OutcomeLaws.{nothing_left_at_entry}
-use Rattle.b2_runs.proofs.ChildLaws.{at_work_at_entry}
+use Rattle.b2_runs.proofs.DiskStaysSound.{sound_at_entry}
+use Rattle.b2_runs.proofs.FailuresLeaveNothing.{nothing_left_at_entry}
+use Rattle.b2_runs.proofs.ChildrenFollowEvents.{at_work_at_entry}
 use Rattle.b2_update.specs.declared.stop.Stop.{Stop}
 use Rattle.b2_update.specs.declared.stop.Stop.TheVariants as stops
 use Rattle.b2_update.specs.declared.update_answer.UpdateAnswer.{UpdateAnswer}

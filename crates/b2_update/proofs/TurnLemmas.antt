@@ -15,8 +15,10 @@ use Rattle.b2_runs.specs.Moments.{Moment}
 use Rattle.b2_runs.specs.UpdateAnswers.{failed_of, HasHappened}
 use Rattle.b2_runs.specs.UpdateAnswers.UpdateAnswer.{all_went as went_well, failed as some_failed, step_cycle, host_fault, sink_fault, out_of_memory}
 use Rattle.b2_runs.specs.Outcomes.{IsListOf}
-use Rattle.b2_runs.proofs.ElementLemmas.{Contains_here, Contains_there, Contains_cases, Contains_nil}
-use Rattle.b2_runs.proofs.EventLaws.{start_in_start, start_in_done, done_in_start, done_in_done, order_goes_on, count_one, done_was_started, bad_by_count}
+use Rattle.b2_runs.proofs.FirstElementOrLater.{Contains_here, Contains_there, Contains_cases, Contains_nil}
+use Rattle.b2_runs.proofs.OneEventMore.{start_in_start, start_in_done, done_in_start, done_in_done, count_one}
+use Rattle.b2_runs.proofs.RunIsInOrder.{order_goes_on, done_was_started}
+use Rattle.b2_runs.proofs.CountedInOrder.{bad_by_count}
 use Rattle.b2_sched.specs.declared.state.State.{State}
 use Rattle.b2_sched.specs.declared.state.State.TheVariants as states
 use Rattle.b2_sched.specs.Schedules.{Schedule, state_of, IsSettled, IsFailed}

@@ -12,8 +12,10 @@ use Rattle.b2_plan.specs.Cleans.{Val, Clean}
 use Rattle.b2_runs.specs.Staleness.{Update, paths_with_bytes}
 use Rattle.b2_runs.specs.Runs.{Settled, Settled.source}
 use Rattle.b2_runs.specs.Soundness.{Holds, IsSound}
-use Rattle.b2_runs.proofs.ElementLemmas.{one_step, Contains_here, Contains_there, Contains_cases, Contains_nil, AllPairs_head, AllPairs_tail}
-use Rattle.b2_runs.proofs.SettledLaws.{source_clean, settled_is_clean, settled_holds, out_bytes}
+use Rattle.b2_runs.proofs.FirstElementOrLater.{Contains_here, Contains_there, Contains_cases, Contains_nil, AllPairs_head, AllPairs_tail}
+use Rattle.b2_runs.proofs.NumberHasOneStep.{one_step}
+use Rattle.b2_runs.proofs.SourcesAreKept.{source_clean}
+use Rattle.b2_runs.proofs.OutputsAreClean.{settled_is_clean, settled_holds, out_bytes}
 use Rattle.b2_update.specs.Inputs.{owes_files, is_file_by, is_file, files_of}
 use Rattle.b2_update.specs.Progress.{IsWhole}
 use Rattle.b2_update.proofs.MakerLemmas.{maker_makes}

@@ -12,7 +12,7 @@ use Rattle.b2_runs.specs.Runs.{Settled, Settled.source, Settled.done_well, Settl
 use Rattle.b2_runs.specs.Outcomes.{IsSettledStep}
 use Rattle.b2_runs.specs.Soundness.{Distinguishes}
 use Rattle.b2_runs.specs.Numbers.{MakesWanted, NeedsStep, LacksSource}
-use Rattle.b2_runs.proofs.ElementLemmas.{some_element, Contains_nil}
+use Rattle.b2_runs.proofs.FirstElementOrLater.{some_element, Contains_nil}
 use Rattle.b2_sched.specs.Calls.{MakesOneOf}
 use Rattle.b2_update.specs.Inputs.{ReadsStep, LacksInput}
 use Rattle.b2_update.specs.Progress.{IsWhole}

@@ -1,4 +1,4 @@
-use Rattle.b2_runs.proofs.AfterLaws.{none_can_start_afterwards}
+use Rattle.b2_runs.proofs.NothingStartsAfterwards.{none_can_start_afterwards}
 use Rattle.b2_runs.proofs.after_laws.none_can_start_afterwards.Goals as goal
 
 pub returns : goal.returns

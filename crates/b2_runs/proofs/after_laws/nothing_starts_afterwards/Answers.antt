@@ -1,4 +1,4 @@
-use Rattle.b2_runs.proofs.AfterLaws.{nothing_starts_afterwards}
+use Rattle.b2_runs.proofs.NothingStartsAfterwards.{nothing_starts_afterwards}
 use Rattle.b2_runs.proofs.after_laws.nothing_starts_afterwards.Goals as goal
 
 pub returns : goal.returns

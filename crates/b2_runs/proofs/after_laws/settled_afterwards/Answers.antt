@@ -1,4 +1,4 @@
-use Rattle.b2_runs.proofs.AfterLaws.{settled_afterwards}
+use Rattle.b2_runs.proofs.SettledAfterwards.{settled_afterwards}
 use Rattle.b2_runs.proofs.after_laws.settled_afterwards.Goals as goal
 
 pub returns : goal.returns

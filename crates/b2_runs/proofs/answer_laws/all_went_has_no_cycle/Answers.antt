@@ -1,4 +1,4 @@
-use Rattle.b2_runs.proofs.AnswerLaws.{all_went_has_no_cycle}
+use Rattle.b2_runs.proofs.NoTwoAnswers.{all_went_has_no_cycle}
 use Rattle.b2_runs.proofs.answer_laws.all_went_has_no_cycle.Goals as goal
 
 pub returns : goal.returns

@@ -1,4 +1,4 @@
-use Rattle.b2_runs.proofs.AnswerLaws.{cycle_ends_no_report}
+use Rattle.b2_runs.proofs.AllWentStartsNothing.{cycle_ends_no_report}
 use Rattle.b2_runs.proofs.answer_laws.cycle_ends_no_report.Goals as goal
 
 pub returns : goal.returns

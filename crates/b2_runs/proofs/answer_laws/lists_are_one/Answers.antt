@@ -1,4 +1,4 @@
-use Rattle.b2_runs.proofs.AnswerLaws.{lists_are_one}
+use Rattle.b2_runs.proofs.NoTwoAnswers.{lists_are_one}
 use Rattle.b2_runs.proofs.answer_laws.lists_are_one.Goals as goal
 
 pub returns : goal.returns

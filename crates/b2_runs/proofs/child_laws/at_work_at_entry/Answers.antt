@@ -1,4 +1,4 @@
-use Rattle.b2_runs.proofs.ChildLaws.{at_work_at_entry}
+use Rattle.b2_runs.proofs.ChildrenFollowEvents.{at_work_at_entry}
 use Rattle.b2_runs.proofs.child_laws.at_work_at_entry.Goals as goal
 
 pub returns : goal.returns

@@ -1,4 +1,4 @@
-use Rattle.b2_runs.proofs.ChildLaws.{fed_after_end}
+use Rattle.b2_runs.proofs.ChildrenFollowEvents.{fed_after_end}
 use Rattle.b2_runs.proofs.child_laws.fed_after_end.Goals as goal
 
 pub returns : goal.returns

@@ -1,4 +1,4 @@
-use Rattle.b2_runs.proofs.ClosureLaws.{close_is_local}
+use Rattle.b2_runs.proofs.ClosureStays.{close_is_local}
 use Rattle.b2_runs.proofs.closure_laws.close_is_local.Goals as goal
 
 pub returns : goal.returns

@@ -1,4 +1,4 @@
-use Rattle.b2_runs.proofs.ClosureLaws.{close_is_one}
+use Rattle.b2_runs.proofs.ClosureIsOne.{close_is_one}
 use Rattle.b2_runs.proofs.closure_laws.close_is_one.Goals as goal
 
 pub returns : goal.returns

@@ -1,4 +1,4 @@
-use Rattle.b2_runs.proofs.ClosureLaws.{close_stays}
+use Rattle.b2_runs.proofs.ClosureStays.{close_stays}
 use Rattle.b2_runs.proofs.closure_laws.close_stays.Goals as goal
 
 pub returns : goal.returns

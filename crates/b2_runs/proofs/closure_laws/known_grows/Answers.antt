@@ -1,4 +1,4 @@
-use Rattle.b2_runs.proofs.ClosureLaws.{known_grows}
+use Rattle.b2_runs.proofs.ClosureStays.{known_grows}
 use Rattle.b2_runs.proofs.closure_laws.known_grows.Goals as goal
 
 pub returns : goal.returns

@@ -1,4 +1,4 @@
-use Rattle.b2_runs.proofs.CompleteLaws.{failed_is_not_settled}
+use Rattle.b2_runs.proofs.FailedIsNotSettled.{failed_is_not_settled}
 use Rattle.b2_runs.proofs.complete_laws.failed_is_not_settled.Goals as goal
 
 pub returns : goal.returns

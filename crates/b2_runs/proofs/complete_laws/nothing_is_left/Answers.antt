@@ -1,4 +1,4 @@
-use Rattle.b2_runs.proofs.CompleteLaws.{nothing_is_left}
+use Rattle.b2_runs.proofs.NothingIsLeft.{nothing_is_left}
 use Rattle.b2_runs.proofs.complete_laws.nothing_is_left.Goals as goal
 
 pub returns : goal.returns

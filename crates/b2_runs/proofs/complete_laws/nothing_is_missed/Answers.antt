@@ -1,4 +1,4 @@
-use Rattle.b2_runs.proofs.CompleteLaws.{nothing_is_missed}
+use Rattle.b2_runs.proofs.NothingIsLeft.{nothing_is_missed}
 use Rattle.b2_runs.proofs.complete_laws.nothing_is_missed.Goals as goal
 
 pub returns : goal.returns

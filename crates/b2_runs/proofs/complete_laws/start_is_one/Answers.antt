@@ -1,4 +1,4 @@
-use Rattle.b2_runs.proofs.CompleteLaws.{start_is_one}
+use Rattle.b2_runs.proofs.StartIsOne.{start_is_one}
 use Rattle.b2_runs.proofs.complete_laws.start_is_one.Goals as goal
 
 pub returns : goal.returns

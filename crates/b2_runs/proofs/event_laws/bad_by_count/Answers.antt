@@ -1,4 +1,4 @@
-use Rattle.b2_runs.proofs.EventLaws.{bad_by_count}
+use Rattle.b2_runs.proofs.CountedInOrder.{bad_by_count}
 use Rattle.b2_runs.proofs.event_laws.bad_by_count.Goals as goal
 
 pub returns : goal.returns

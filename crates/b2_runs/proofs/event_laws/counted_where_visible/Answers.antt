@@ -1,4 +1,4 @@
-use Rattle.b2_runs.proofs.EventLaws.{counted_where_visible}
+use Rattle.b2_runs.proofs.CountedInOrder.{counted_where_visible}
 use Rattle.b2_runs.proofs.event_laws.counted_where_visible.Goals as goal
 
 pub returns : goal.returns

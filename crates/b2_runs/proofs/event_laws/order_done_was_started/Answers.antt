@@ -1,4 +1,4 @@
-use Rattle.b2_runs.proofs.EventLaws as lemmas
+use Rattle.b2_runs.proofs.RunIsInOrder as lemmas
 use Rattle.b2_runs.proofs.event_laws.order_done_was_started.Goals as goal
 
 pub returns : goal.returns

@@ -1,4 +1,4 @@
-use Rattle.b2_runs.proofs.EventLaws as lemmas
+use Rattle.b2_runs.proofs.RunIsInOrder as lemmas
 use Rattle.b2_runs.proofs.event_laws.order_each_once.Goals as goal
 
 pub returns : goal.returns

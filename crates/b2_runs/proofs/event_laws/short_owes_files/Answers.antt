@@ -1,4 +1,4 @@
-use Rattle.b2_runs.proofs.EventLaws.{short_owes_files}
+use Rattle.b2_runs.proofs.CountedInOrder.{short_owes_files}
 use Rattle.b2_runs.proofs.event_laws.short_owes_files.Goals as goal
 
 pub returns : goal.returns

@@ -1,4 +1,4 @@
-use Rattle.b2_runs.proofs.LogCourseLaws.{begin_tells_scans}
+use Rattle.b2_runs.proofs.FirstLinesAreOne.{begin_tells_scans}
 use Rattle.b2_runs.proofs.log_course_laws.begin_tells_scans.Goals as goal
 
 pub returns : goal.returns

@@ -1,4 +1,4 @@
-use Rattle.b2_runs.proofs.LogAtExit.{cut_log_is_noted}
+use Rattle.b2_runs.proofs.CutLogIsTrue.{cut_log_is_noted}
 use Rattle.b2_runs.proofs.log_course_laws.cut_log_is_noted.Goals as goal
 
 pub returns : goal.returns

@@ -1,4 +1,4 @@
-use Rattle.b2_runs.proofs.LogAtExit.{finished_is_not_started}
+use Rattle.b2_runs.proofs.CutLogIsTrue.{finished_is_not_started}
 use Rattle.b2_runs.proofs.log_course_laws.finished_is_not_started.Goals as goal
 
 pub returns : goal.returns

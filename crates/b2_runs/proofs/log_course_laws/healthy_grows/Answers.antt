@@ -1,4 +1,4 @@
-use Rattle.b2_runs.proofs.LogAtExit.{healthy_grows}
+use Rattle.b2_runs.proofs.CutLogIsTrue.{healthy_grows}
 use Rattle.b2_runs.proofs.log_course_laws.healthy_grows.Goals as goal
 
 pub returns : goal.returns

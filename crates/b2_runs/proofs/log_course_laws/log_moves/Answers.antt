@@ -1,4 +1,4 @@
-use Rattle.b2_runs.proofs.LogAlong.{log_moves}
+use Rattle.b2_runs.proofs.LogStaysTrue.{log_moves}
 use Rattle.b2_runs.proofs.log_course_laws.log_moves.Goals as goal
 
 pub returns : goal.returns

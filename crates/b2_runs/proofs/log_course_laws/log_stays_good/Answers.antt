@@ -1,4 +1,4 @@
-use Rattle.b2_runs.proofs.LogAlong.{log_stays_good}
+use Rattle.b2_runs.proofs.LogStaysGood.{log_stays_good}
 use Rattle.b2_runs.proofs.log_course_laws.log_stays_good.Goals as goal
 
 pub returns : goal.returns

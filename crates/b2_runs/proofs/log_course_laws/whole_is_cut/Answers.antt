@@ -1,4 +1,4 @@
-use Rattle.b2_runs.proofs.LogAtExit.{whole_is_cut}
+use Rattle.b2_runs.proofs.CutLogIsTrue.{whole_is_cut}
 use Rattle.b2_runs.proofs.log_course_laws.whole_is_cut.Goals as goal
 
 pub returns : goal.returns

@@ -1,4 +1,4 @@
-use Rattle.b2_runs.proofs.LogAtExit.{whole_log_counts}
+use Rattle.b2_runs.proofs.CutLogIsTrue.{whole_log_counts}
 use Rattle.b2_runs.proofs.log_course_laws.whole_log_counts.Goals as goal
 
 pub returns : goal.returns

@@ -1,4 +1,4 @@
-use Rattle.b2_runs.proofs.LogFileLaws as lemmas
+use Rattle.b2_runs.proofs.FileIsOneLog as lemmas
 use Rattle.b2_runs.proofs.log_file_laws.file_is_some_log.Goals as goal
 
 pub returns : goal.returns

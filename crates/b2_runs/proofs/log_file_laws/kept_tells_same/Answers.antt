@@ -1,4 +1,4 @@
-use Rattle.b2_runs.proofs.LogFileLaws as lemmas
+use Rattle.b2_runs.proofs.KeptTellsSame as lemmas
 use Rattle.b2_runs.proofs.log_file_laws.kept_tells_same.Goals as goal
 
 pub returns : goal.returns

@@ -1,4 +1,4 @@
-use Rattle.b2_runs.proofs.ProperLines as lemmas
+use Rattle.b2_runs.proofs.RecordIsProper as lemmas
 use Rattle.b2_runs.proofs.log_file_laws.record_is_proper.Goals as goal
 
 pub returns : goal.returns

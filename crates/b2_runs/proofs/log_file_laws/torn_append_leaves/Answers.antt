@@ -1,4 +1,4 @@
-use Rattle.b2_runs.proofs.LogFileLaws as lemmas
+use Rattle.b2_runs.proofs.TornAppendLeaves as lemmas
 use Rattle.b2_runs.proofs.log_file_laws.torn_append_leaves.Goals as goal
 
 pub returns : goal.returns

@@ -1,4 +1,4 @@
-use Rattle.b2_runs.proofs.LogFileLaws as lemmas
+use Rattle.b2_runs.proofs.TrueByFile as lemmas
 use Rattle.b2_runs.proofs.log_file_laws.true_where_missing.Goals as goal
 
 pub returns : goal.returns

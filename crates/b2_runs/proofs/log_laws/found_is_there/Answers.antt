@@ -1,4 +1,4 @@
-use Rattle.b2_runs.proofs.LogLaws.{found_is_there}
+use Rattle.b2_runs.proofs.LastLineIsFound.{found_is_there}
 use Rattle.b2_runs.proofs.log_laws.found_is_there.Goals as goal
 
 pub returns : goal.returns

@@ -1,4 +1,4 @@
-use Rattle.b2_runs.proofs.LogLaws as lemmas
+use Rattle.b2_runs.proofs.TrueWithLine as lemmas
 use Rattle.b2_runs.proofs.log_laws.line_true_as_past_grows.Goals as goal
 
 pub returns : goal.returns

@@ -1,4 +1,4 @@
-use Rattle.b2_runs.proofs.LogLaws.{others_unsaid}
+use Rattle.b2_runs.proofs.LastLineIsFound.{others_unsaid}
 use Rattle.b2_runs.proofs.log_laws.others_unsaid.Goals as goal
 
 pub returns : goal.returns

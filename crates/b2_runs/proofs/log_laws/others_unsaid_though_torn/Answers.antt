@@ -1,4 +1,4 @@
-use Rattle.b2_runs.proofs.LogLaws.{others_unsaid_though_torn}
+use Rattle.b2_runs.proofs.LastLineIsFound.{others_unsaid_though_torn}
 use Rattle.b2_runs.proofs.log_laws.others_unsaid_though_torn.Goals as goal
 
 pub returns : goal.returns

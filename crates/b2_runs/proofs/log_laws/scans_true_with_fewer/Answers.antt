@@ -1,4 +1,4 @@
-use Rattle.b2_runs.proofs.LogLaws.{scans_true_with_fewer}
+use Rattle.b2_runs.proofs.TrueWithLine.{scans_true_with_fewer}
 use Rattle.b2_runs.proofs.log_laws.scans_true_with_fewer.Goals as goal
 
 pub returns : goal.returns

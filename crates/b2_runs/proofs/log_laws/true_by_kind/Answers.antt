@@ -1,4 +1,4 @@
-use Rattle.b2_runs.proofs.LogLaws.{true_by_kind}
+use Rattle.b2_runs.proofs.TrueWithLine.{true_by_kind}
 use Rattle.b2_runs.proofs.log_laws.true_by_kind.Goals as goal
 
 pub returns : goal.returns

@@ -1,4 +1,4 @@
-use Rattle.b2_runs.proofs.LogLaws.{true_prefix}
+use Rattle.b2_runs.proofs.TrueWithLine.{true_prefix}
 use Rattle.b2_runs.proofs.log_laws.true_prefix.Goals as goal
 
 pub returns : goal.returns

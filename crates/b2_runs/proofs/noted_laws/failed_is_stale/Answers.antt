@@ -1,4 +1,4 @@
-use Rattle.b2_runs.proofs.NotedLaws.{failed_is_stale}
+use Rattle.b2_runs.proofs.OutputsAreNewer.{failed_is_stale}
 use Rattle.b2_runs.proofs.noted_laws.failed_is_stale.Goals as goal
 
 pub returns : goal.returns

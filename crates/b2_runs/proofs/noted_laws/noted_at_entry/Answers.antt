@@ -1,4 +1,4 @@
-use Rattle.b2_runs.proofs.NotedLaws.{noted_at_entry}
+use Rattle.b2_runs.proofs.NotedAfterEachEvent.{noted_at_entry}
 use Rattle.b2_runs.proofs.noted_laws.noted_at_entry.Goals as goal
 
 pub returns : goal.returns

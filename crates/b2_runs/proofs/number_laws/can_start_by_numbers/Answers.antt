@@ -1,4 +1,4 @@
-use Rattle.b2_runs.proofs.NumberLaws.{can_start_by_numbers}
+use Rattle.b2_runs.proofs.NeededByNumbers.{can_start_by_numbers}
 use Rattle.b2_runs.proofs.number_laws.can_start_by_numbers.Goals as goal
 
 pub returns : goal.returns

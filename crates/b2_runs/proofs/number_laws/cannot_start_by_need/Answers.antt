@@ -1,4 +1,4 @@
-use Rattle.b2_runs.proofs.NumberLaws.{cannot_start_by_need}
+use Rattle.b2_runs.proofs.NeededByNumbers.{cannot_start_by_need}
 use Rattle.b2_runs.proofs.number_laws.cannot_start_by_need.Goals as goal
 
 pub returns : goal.returns

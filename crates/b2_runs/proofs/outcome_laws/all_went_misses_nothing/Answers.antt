@@ -1,4 +1,4 @@
-use Rattle.b2_runs.proofs.OutcomeLaws.{all_went_misses_nothing}
+use Rattle.b2_runs.proofs.SkippedExactly.{all_went_misses_nothing}
 use Rattle.b2_runs.proofs.outcome_laws.all_went_misses_nothing.Goals as goal
 
 pub returns : goal.returns

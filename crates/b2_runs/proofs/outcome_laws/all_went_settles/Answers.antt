@@ -1,4 +1,4 @@
-use Rattle.b2_runs.proofs.OutcomeLaws.{all_went_settles}
+use Rattle.b2_runs.proofs.SkippedExactly.{all_went_settles}
 use Rattle.b2_runs.proofs.outcome_laws.all_went_settles.Goals as goal
 
 pub returns : goal.returns

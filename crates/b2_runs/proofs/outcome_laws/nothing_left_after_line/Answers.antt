@@ -1,4 +1,4 @@
-use Rattle.b2_runs.proofs.OutcomeLaws.{nothing_left_after_line}
+use Rattle.b2_runs.proofs.FailuresLeaveNothing.{nothing_left_after_line}
 use Rattle.b2_runs.proofs.outcome_laws.nothing_left_after_line.Goals as goal
 
 pub returns : goal.returns

@@ -1,4 +1,4 @@
-use Rattle.b2_runs.proofs.OutcomeLaws.{nothing_left_after_removal}
+use Rattle.b2_runs.proofs.FailuresLeaveNothing.{nothing_left_after_removal}
 use Rattle.b2_runs.proofs.outcome_laws.nothing_left_after_removal.Goals as goal
 
 pub returns : goal.returns

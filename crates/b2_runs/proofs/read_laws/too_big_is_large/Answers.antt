@@ -1,4 +1,4 @@
-use Rattle.b2_runs.proofs.ReadLaws.{too_big_is_large}
+use Rattle.b2_runs.proofs.TooBigIsLarge.{too_big_is_large}
 use Rattle.b2_runs.proofs.read_laws.too_big_is_large.Goals as goal
 
 pub returns : goal.returns

@@ -1,4 +1,4 @@
-use Rattle.b2_runs.proofs.ReportLaws.{all_is_told}
+use Rattle.b2_runs.proofs.LinesFollow.{all_is_told}
 use Rattle.b2_runs.proofs.report_laws.all_is_told.Goals as goal
 
 pub returns : goal.returns

@@ -1,4 +1,4 @@
-use Rattle.b2_runs.proofs.ReportLaws.{lines_follow}
+use Rattle.b2_runs.proofs.LinesFollow.{lines_follow}
 use Rattle.b2_runs.proofs.report_laws.lines_follow.Goals as goal
 
 pub returns : goal.returns

@@ -1,4 +1,4 @@
-use Rattle.b2_runs.proofs.ReportLaws.{unnamed_starts_silently}
+use Rattle.b2_runs.proofs.LinesFollow.{unnamed_starts_silently}
 use Rattle.b2_runs.proofs.report_laws.unnamed_starts_silently.Goals as goal
 
 pub returns : goal.returns

@@ -1,4 +1,4 @@
-use Rattle.b2_runs.proofs.RunLaws.{close_on_settled_stays}
+use Rattle.b2_runs.proofs.SettledStays.{close_on_settled_stays}
 use Rattle.b2_runs.proofs.run_laws.close_on_settled_stays.Goals as goal
 
 pub returns : goal.returns

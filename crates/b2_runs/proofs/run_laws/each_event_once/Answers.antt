@@ -1,4 +1,4 @@
-use Rattle.b2_runs.proofs.RunLaws.{each_event_once}
+use Rattle.b2_runs.proofs.RunGoesOn.{each_event_once}
 use Rattle.b2_runs.proofs.run_laws.each_event_once.Goals as goal
 
 pub returns : goal.returns

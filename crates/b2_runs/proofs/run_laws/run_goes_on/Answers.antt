@@ -1,4 +1,4 @@
-use Rattle.b2_runs.proofs.RunLaws.{run_goes_on}
+use Rattle.b2_runs.proofs.RunGoesOn.{run_goes_on}
 use Rattle.b2_runs.proofs.run_laws.run_goes_on.Goals as goal
 
 pub returns : goal.returns

@@ -1,4 +1,4 @@
-use Rattle.b2_runs.proofs.RunLaws.{started_has_closure}
+use Rattle.b2_runs.proofs.RunGoesOn.{started_has_closure}
 use Rattle.b2_runs.proofs.run_laws.started_has_closure.Goals as goal
 
 pub returns : goal.returns

@@ -1,4 +1,4 @@
-use Rattle.b2_runs.proofs.RunLaws.{verdict_stays}
+use Rattle.b2_runs.proofs.SettledStays.{verdict_stays}
 use Rattle.b2_runs.proofs.run_laws.verdict_stays.Goals as goal
 
 pub returns : goal.returns

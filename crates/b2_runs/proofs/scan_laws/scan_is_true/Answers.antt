@@ -1,4 +1,4 @@
-use Rattle.b2_runs.proofs.ScanLaws.{scan_is_true}
+use Rattle.b2_runs.proofs.ScanTells.{scan_is_true}
 use Rattle.b2_runs.proofs.scan_laws.scan_is_true.Goals as goal
 
 pub returns : goal.returns

@@ -1,4 +1,4 @@
-use Rattle.b2_runs.proofs.ScanLaws.{scan_tells}
+use Rattle.b2_runs.proofs.ScanTells.{scan_tells}
 use Rattle.b2_runs.proofs.scan_laws.scan_tells.Goals as goal
 
 pub returns : goal.returns

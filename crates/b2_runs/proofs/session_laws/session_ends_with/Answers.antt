@@ -1,4 +1,4 @@
-use Rattle.b2_runs.proofs.SessionLaws.{session_ends_with}
+use Rattle.b2_runs.proofs.SessionEndsClean.{session_ends_with}
 use Rattle.b2_runs.proofs.session_laws.session_ends_with.Goals as goal
 
 pub returns : goal.returns

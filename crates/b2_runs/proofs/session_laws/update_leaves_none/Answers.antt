@@ -1,4 +1,4 @@
-use Rattle.b2_runs.proofs.SessionLaws.{update_leaves_none}
+use Rattle.b2_runs.proofs.StopLeavesNone.{update_leaves_none}
 use Rattle.b2_runs.proofs.session_laws.update_leaves_none.Goals as goal
 
 pub returns : goal.returns

@@ -1,4 +1,4 @@
-use Rattle.b2_runs.proofs.SessionLaws.{updates_leave_true}
+use Rattle.b2_runs.proofs.TrueThroughSession.{updates_leave_true}
 use Rattle.b2_runs.proofs.session_laws.updates_leave_true.Goals as goal
 
 pub returns : goal.returns

@@ -1,4 +1,4 @@
-use Rattle.b2_runs.proofs.SettledLaws.{outputs_are_clean}
+use Rattle.b2_runs.proofs.OutputsAreClean.{outputs_are_clean}
 use Rattle.b2_runs.proofs.settled_laws.outputs_are_clean.Goals as goal
 
 pub returns : goal.returns

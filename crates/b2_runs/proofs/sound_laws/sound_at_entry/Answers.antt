@@ -1,4 +1,4 @@
-use Rattle.b2_runs.proofs.SoundLaws.{sound_at_entry}
+use Rattle.b2_runs.proofs.DiskStaysSound.{sound_at_entry}
 use Rattle.b2_runs.proofs.sound_laws.sound_at_entry.Goals as goal
 
 pub returns : goal.returns

@@ -1,4 +1,4 @@
-use Rattle.b2_runs.proofs.SoundLaws.{work_is_allowed}
+use Rattle.b2_runs.proofs.DiskStaysSound.{work_is_allowed}
 use Rattle.b2_runs.proofs.sound_laws.work_is_allowed.Goals as goal
 
 pub returns : goal.returns

@@ -1,4 +1,4 @@
-use Rattle.b2_runs.proofs.StaleLaws.{stale_by_point_alone}
+use Rattle.b2_runs.proofs.StaleByPoint.{stale_by_point_alone}
 use Rattle.b2_runs.proofs.stale_laws.stale_by_point_alone.Goals as goal
 
 pub returns : goal.returns

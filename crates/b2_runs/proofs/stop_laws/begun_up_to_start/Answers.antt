@@ -1,4 +1,4 @@
-use Rattle.b2_runs.proofs.StopLaws.{begun_up_to_start}
+use Rattle.b2_runs.proofs.BegunUpToStart.{begun_up_to_start}
 use Rattle.b2_runs.proofs.stop_laws.begun_up_to_start.Goals as goal
 
 pub returns : goal.returns

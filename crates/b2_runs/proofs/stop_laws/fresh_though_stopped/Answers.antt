@@ -1,4 +1,4 @@
-use Rattle.b2_runs.proofs.StopLaws.{fresh_though_stopped}
+use Rattle.b2_runs.proofs.NoWorkIsLost.{fresh_though_stopped}
 use Rattle.b2_runs.proofs.stop_laws.fresh_though_stopped.Goals as goal
 
 pub returns : goal.returns

@@ -1,4 +1,4 @@
-use Rattle.b2_runs.proofs.StopLaws.{not_started_again}
+use Rattle.b2_runs.proofs.NoWorkIsLost.{not_started_again}
 use Rattle.b2_runs.proofs.stop_laws.not_started_again.Goals as goal
 
 pub returns : goal.returns

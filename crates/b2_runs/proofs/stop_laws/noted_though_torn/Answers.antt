@@ -1,4 +1,4 @@
-use Rattle.b2_runs.proofs.StopLaws.{noted_though_torn}
+use Rattle.b2_runs.proofs.BegunUpToStart.{noted_though_torn}
 use Rattle.b2_runs.proofs.stop_laws.noted_though_torn.Goals as goal
 
 pub returns : goal.returns

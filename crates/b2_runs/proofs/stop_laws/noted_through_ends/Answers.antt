@@ -1,4 +1,4 @@
-use Rattle.b2_runs.proofs.StopLaws.{noted_through_ends}
+use Rattle.b2_runs.proofs.BegunUpToStart.{noted_through_ends}
 use Rattle.b2_runs.proofs.stop_laws.noted_through_ends.Goals as goal
 
 pub returns : goal.returns

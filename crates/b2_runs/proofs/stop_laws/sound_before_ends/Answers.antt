@@ -1,4 +1,4 @@
-use Rattle.b2_runs.proofs.StopLaws.{sound_before_ends}
+use Rattle.b2_runs.proofs.BegunUpToStart.{sound_before_ends}
 use Rattle.b2_runs.proofs.stop_laws.sound_before_ends.Goals as goal
 
 pub returns : goal.returns

@@ -1,0 +1,49 @@
+use Rattle.std.proofs.Common.{◌≡◌, ℕ, ◌<◌, ◌≤◌, List, [], ◌∷◌, ◌++◌, length, inl, inr, sym, ap, subst, subst₂, ◌∙◌, Option}
+use Rattle.b2_host.specs.ChildProcesses.{ChangesOnlyOutputs}
+use Rattle.b2_runs.specs.LogFiles.{log_limit, IsLogHeld}
+use Rattle.b2_runs.specs.Staleness.{Update}
+use Rattle.b2_runs.specs.LogCourses.{held_bytes}
+use Rattle.b2_runs.specs.UpdateAnswers.{UpdateAnswer, UpdateAnswer.host_fault}
+use Rattle.b2_runs.specs.Moments.{Moment}
+use Rattle.b2_runs.specs.Sessions.{Happening.update, Happening.stop, IsUpdate, IsStop, IsSession}
+use Rattle.b2_runs.specs.SessionLaws.{NotedThroughReopen, UpdateCountsFault, StopCountsFault, UpdateLeavesNone, StopLeavesNone}
+use Rattle.b2_runs.proofs.DiskStaysSound.{work_is_allowed}
+use Rattle.b2_runs.proofs.BegunUpToStart.{noted_through_ends}
+use Rattle.b2_runs.proofs.TrueThroughSession.{shown_is_one, work_leaves_log}
+
+pub noted_through_reopen : NotedThroughReopen
+noted_through_reopen u answer old before now between after log apart shows h r is fits =
+    let running = between.host.children.running in
+    let worked : ChangesOnlyOutputs running now r.new = subst (λ d. ChangesOnlyOutputs running d r.new) (sym (shown_is_one between now r.old shows r.shows)) r.worked in
+    let still = work_leaves_log u.build.steps u.build.roots running now r.new apart (λ child c. let a = h.at_work.each child c in (a.fed.step, a.fed.at, a.outs ∙ a.fed.outs)) worked in
+    elim (h.noted log (subst (λ o. IsLogHeld o log) still is) (subst (λ (o : Option (List ℕ)). length (held_bytes o) ≤ log_limit) still fits)) [
+      | inl none ↦ inl none
+      | inr (b, n) ↦ inr (b, noted_through_ends u h.events now r.new log b apart (work_is_allowed u h.events running now r.new h.at_work r.keeps worked) n)
+    ]
+
+-- the one update or stop of a session, with its answer
+only_update : (u : Update) (answer : UpdateAnswer) (first last : Moment) → IsSession IsUpdate first (update u ∷ []) (answer ∷ []) last → IsUpdate u answer first last × (last.host.children.running ≡ [])
+only_update u answer first last (next, here, later, e, (other, one, is, idle), (none, same)) =
+    let f : answer ∷ [] ≡ other ∷ [] = e ∙ (λ i. one i ++ none i) in
+    let g : answer ≡ other = cc in
+    (subst₂ (λ a w. IsUpdate u a first w) (sym g) (sym same) is, subst (λ (w : Moment). w.host.children.running ≡ []) (sym same) idle)
+
+only_stop : (u : Update) (answer : UpdateAnswer) (first last : Moment) → IsSession IsUpdate first (stop u ∷ []) (answer ∷ []) last → IsStop IsUpdate u answer first last
+only_stop u answer first last (next, here, later, e, (other, one, is), (none, same)) =
+    let f : answer ∷ [] ≡ other ∷ [] = e ∙ (λ i. one i ++ none i) in
+    let g : answer ≡ other = cc in
+    subst₂ (λ a w. IsStop IsUpdate u a first w) (sym g) (sym same) is
+
+pub update_counts_fault : UpdateCountsFault
+update_counts_fault u first last below s = (only_update u host_fault first last s).0.caused.0.more below
+
+pub stop_counts_fault : StopCountsFault
+stop_counts_fault u first last below s =
+    let is : IsStop IsUpdate u host_fault first last = only_stop u host_fault first last s in
+    subst (λ (w : Moment). first.host.faults < w.host.faults) (sym is.reopened.same) (is.updated.caused.0.more below)
+
+pub update_leaves_none : UpdateLeavesNone
+update_leaves_none u answer first last s = (only_update u answer first last s).1
+
+pub stop_leaves_none : StopLeavesNone
+stop_leaves_none u answer first last s = ap (λ (w : Moment). w.host.children.running) (only_stop u answer first last s).reopened.same
