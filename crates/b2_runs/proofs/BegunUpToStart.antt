@@ -6,7 +6,7 @@ use Rattle.b2_host.specs.declared.children.ChildEvent.TheVariants.{Start, Done}
 use Rattle.b2_host.specs.Disks.{Disk}
 use Rattle.b2_runs.specs.Staleness.{Update}
 use Rattle.b2_runs.specs.Events.{IsOpen}
-use Rattle.b2_runs.specs.Runs.{Settled.done_well, IsRunSoFar, OpenEnds, IsBegun}
+use Rattle.b2_runs.specs.Runs.{IsRunSoFar, OpenEnds, IsBegun}
 use Rattle.b2_runs.specs.Soundness.{IsLoose, IsAllowedChange}
 use Rattle.b2_runs.specs.Afterwards.{IsNoted}
 use Rattle.b2_runs.specs.StopLaws.{RunIsBegun, BegunGoesOn, BegunUpToStart, SoundBeforeEnds, NotedThroughEnds, NotedThoughTorn, BegunHoldsEarlier}

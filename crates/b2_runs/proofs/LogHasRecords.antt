@@ -6,7 +6,6 @@ use Rattle.b2_host.specs.Disks.{Folder}
 use Rattle.b2_plan.specs.declared.step.Step.{Step}
 use Rattle.b2_plan.specs.Plans.{Apart, step_at}
 use Rattle.b2_plan.specs.Closures.{Value}
-use Rattle.b2_log.specs.declared.line.Record.{Record}
 use Rattle.b2_log.specs.declared.line.LogLine.{LogLine}
 use Rattle.b2_log.specs.declared.line.LogLine.TheVariants as lines
 use Rattle.b2_log.specs.declared.subject.Subject.TheVariants as subjects

@@ -11,7 +11,7 @@ use Rattle.b2_log.specs.Finding.{find_scan}
 use Rattle.b2_log.proofs.ReadLogs.{one_reading}
 use Rattle.b2_runs.specs.Staleness.{Update}
 use Rattle.b2_runs.specs.Runs.{MayCome}
-use Rattle.b2_runs.specs.FileReads.{IsInput, IsNeededOut, IsLogThen, IsCalledFor}
+use Rattle.b2_runs.specs.FileReads.{IsInput, IsNeededOut, IsLogThen, IsCalledFor, IsCalledFor.to_scan as called_to_scan, IsCalledFor.to_digest as called_to_digest}
 use Rattle.b2_runs.specs.ReadLaws.{ReadsNone, ReadsMore, ReadsAlong, ReadsAsPastGrows, ScannedIsNotRead, UnscannedIsNotRead}
 use Rattle.b2_runs.proofs.FirstElementOrLater.{Contains_nil}
 use Rattle.b2_runs.proofs.SettledStays.{settled_grows}

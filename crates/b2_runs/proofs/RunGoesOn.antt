@@ -7,7 +7,7 @@ use Rattle.b2_plan.specs.Plans.{Apart, step_at}
 use Rattle.b2_plan.specs.Closures.{Value, IsClose}
 use Rattle.b2_plan.specs.Cleans.{Clean, value_of}
 use Rattle.b2_runs.specs.Staleness.{Update}
-use Rattle.b2_runs.specs.Runs.{Settled, Settled.source, Settled.done_well, Settled.fresh, on_settled, Needed.member, CanStart, MayCome, RunFrom}
+use Rattle.b2_runs.specs.Runs.{Settled, Settled.source, Settled.done_well, Settled.fresh, on_settled, CanStart, MayCome, RunFrom}
 use Rattle.b2_runs.specs.RunLaws.{RunGoesOn, RunHasBegun, StartedHasClosure, DoneWasStarted, DoneOnce, EachEventOnce, SettledHasValue}
 use Rattle.b2_runs.proofs.FirstElementOrLater.{Contains_cases, Contains_nil}
 use Rattle.b2_runs.proofs.NumberHasOneStep.{one_step}

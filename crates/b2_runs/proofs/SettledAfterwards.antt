@@ -11,7 +11,7 @@ use Rattle.b2_plan.specs.Cleans.{Val, Clean}
 use Rattle.b2_log.specs.declared.line.LogLine.{LogLine}
 use Rattle.b2_log.specs.Finding.{find_record}
 use Rattle.b2_runs.specs.Staleness.{Update, Agrees, Agrees.by_stamps, Agrees.by_digests, IsRecorded, IsFresh}
-use Rattle.b2_runs.specs.Runs.{Settled, Settled.source, Settled.done_well, Settled.fresh, Needed.member, IsRunSoFar}
+use Rattle.b2_runs.specs.Runs.{Settled, Settled.source, Settled.done_well, Settled.fresh, IsRunSoFar}
 use Rattle.b2_runs.specs.Soundness.{IsSound}
 use Rattle.b2_runs.specs.Afterwards.{at_present, next_update, IsMadeEachTime, IsMadeEachTime.always, IsMadeEachTime.notfile, IsMadeEachTime.through, IsNotedStep, IsMigrated, IsNoted}
 use Rattle.b2_runs.specs.AfterLaws.{SettledAfterwards, FreshAfterwards}

@@ -1,7 +1,6 @@
 use Rattle.std.proofs.Common.{◌≡◌, [], ◌∷◌, ◌++◌, subst}
 use Rattle.b2_plan.specs.Plans.{Makes}
 use Rattle.b2_runs.specs.Runs.{Settled.fresh, on_settled}
-use Rattle.b2_runs.specs.Outcomes.{Skipped.missing}
 use Rattle.b2_runs.specs.NumberLaws.{NeedsGrow, LacksGrow, StaleStepStays, FreshStepStays, FreshStepSettles}
 use Rattle.b2_runs.proofs.NumberHasOneStep.{one_step}
 use Rattle.b2_runs.proofs.ClosureStays.{known_grows}

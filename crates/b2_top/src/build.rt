@@ -18,7 +18,7 @@ use b2_host::children::Children;
 use b2_host::sink::Sink;
 use b2_plan::plan::Plan;
 use b2_refusals::fault::Fault;
-use b2_runs::complete_laws::{nothing_is_left, nothing_is_missed};
+use b2_runs::nothing_is_left::{nothing_is_left, nothing_is_missed};
 use b2_update::update::update;
 use b2_update::update_answer::UpdateAnswer;
 use std::alloc::Global;

@@ -1,5 +1,0 @@
-use Rattle.b2_runs.proofs.CleanBySources.{clean_by_sources}
-use Rattle.b2_runs.proofs.after_laws.clean_by_sources.Goals as goal
-
-pub returns : goal.returns
-returns c = clean_by_sources

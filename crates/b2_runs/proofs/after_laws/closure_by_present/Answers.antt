@@ -1,5 +1,0 @@
-use Rattle.b2_runs.proofs.ClosureByPresent.{closure_by_present}
-use Rattle.b2_runs.proofs.after_laws.closure_by_present.Goals as goal
-
-pub returns : goal.returns
-returns c = closure_by_present

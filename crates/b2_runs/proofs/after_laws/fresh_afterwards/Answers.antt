@@ -1,5 +1,0 @@
-use Rattle.b2_runs.proofs.SettledAfterwards.{fresh_afterwards}
-use Rattle.b2_runs.proofs.after_laws.fresh_afterwards.Goals as goal
-
-pub returns : goal.returns
-returns c = fresh_afterwards

@@ -1,5 +1,0 @@
-use Rattle.b2_runs.proofs.JudgedByPresent.{judged_by_present}
-use Rattle.b2_runs.proofs.after_laws.judged_by_present.Goals as goal
-
-pub returns : goal.returns
-returns c = judged_by_present

@@ -1,5 +1,0 @@
-use Rattle.b2_runs.proofs.ClosureByPresent.{known_by_present}
-use Rattle.b2_runs.proofs.after_laws.known_by_present.Goals as goal
-
-pub returns : goal.returns
-returns c = known_by_present

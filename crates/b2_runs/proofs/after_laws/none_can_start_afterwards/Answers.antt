@@ -1,5 +1,0 @@
-use Rattle.b2_runs.proofs.NothingStartsAfterwards.{none_can_start_afterwards}
-use Rattle.b2_runs.proofs.after_laws.none_can_start_afterwards.Goals as goal
-
-pub returns : goal.returns
-returns c = none_can_start_afterwards

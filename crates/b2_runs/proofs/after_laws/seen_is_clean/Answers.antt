@@ -1,5 +1,0 @@
-use Rattle.b2_runs.proofs.ClosureByPresent.{seen_is_clean}
-use Rattle.b2_runs.proofs.after_laws.seen_is_clean.Goals as goal
-
-pub returns : goal.returns
-returns c = seen_is_clean

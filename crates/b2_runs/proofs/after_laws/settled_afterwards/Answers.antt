@@ -1,5 +1,0 @@
-use Rattle.b2_runs.proofs.SettledAfterwards.{settled_afterwards}
-use Rattle.b2_runs.proofs.after_laws.settled_afterwards.Goals as goal
-
-pub returns : goal.returns
-returns c = settled_afterwards

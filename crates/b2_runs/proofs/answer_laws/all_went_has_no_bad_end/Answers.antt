@@ -1,5 +1,0 @@
-use Rattle.b2_runs.proofs.AllWentStartsNothing.{all_went_has_no_bad_end}
-use Rattle.b2_runs.proofs.answer_laws.all_went_has_no_bad_end.Goals as goal
-
-pub returns : goal.returns
-returns c = all_went_has_no_bad_end

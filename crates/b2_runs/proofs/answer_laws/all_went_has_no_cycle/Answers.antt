@@ -1,5 +1,0 @@
-use Rattle.b2_runs.proofs.NoTwoAnswers.{all_went_has_no_cycle}
-use Rattle.b2_runs.proofs.answer_laws.all_went_has_no_cycle.Goals as goal
-
-pub returns : goal.returns
-returns c = all_went_has_no_cycle

@@ -1,5 +1,0 @@
-use Rattle.b2_runs.proofs.NoTwoAnswers.{all_went_lacks_nothing}
-use Rattle.b2_runs.proofs.answer_laws.all_went_lacks_nothing.Goals as goal
-
-pub returns : goal.returns
-returns c = all_went_lacks_nothing

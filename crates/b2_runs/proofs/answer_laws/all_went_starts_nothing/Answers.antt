@@ -1,5 +1,0 @@
-use Rattle.b2_runs.proofs.AllWentStartsNothing.{all_went_starts_nothing}
-use Rattle.b2_runs.proofs.answer_laws.all_went_starts_nothing.Goals as goal
-
-pub returns : goal.returns
-returns c = all_went_starts_nothing

@@ -1,5 +1,0 @@
-use Rattle.b2_runs.proofs.AllWentStartsNothing.{cycle_ends_no_report}
-use Rattle.b2_runs.proofs.answer_laws.cycle_ends_no_report.Goals as goal
-
-pub returns : goal.returns
-returns c = cycle_ends_no_report

@@ -1,5 +1,0 @@
-use Rattle.b2_runs.proofs.NoTwoAnswers.{lists_are_one}
-use Rattle.b2_runs.proofs.answer_laws.lists_are_one.Goals as goal
-
-pub returns : goal.returns
-returns c = lists_are_one

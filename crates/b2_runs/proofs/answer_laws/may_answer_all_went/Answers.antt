@@ -1,5 +1,0 @@
-use Rattle.b2_runs.proofs.NoTwoAnswers.{may_answer_all_went}
-use Rattle.b2_runs.proofs.answer_laws.may_answer_all_went.Goals as goal
-
-pub returns : goal.returns
-returns c = may_answer_all_went

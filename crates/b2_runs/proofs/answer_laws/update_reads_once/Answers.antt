@@ -1,5 +1,0 @@
-use Rattle.b2_runs.proofs.AllWentStartsNothing.{update_reads_once}
-use Rattle.b2_runs.proofs.answer_laws.update_reads_once.Goals as goal
-
-pub returns : goal.returns
-returns c = update_reads_once

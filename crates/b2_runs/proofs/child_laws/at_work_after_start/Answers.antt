@@ -1,5 +1,0 @@
-use Rattle.b2_runs.proofs.ChildrenFollowEvents.{at_work_after_start}
-use Rattle.b2_runs.proofs.child_laws.at_work_after_start.Goals as goal
-
-pub returns : goal.returns
-returns c = at_work_after_start

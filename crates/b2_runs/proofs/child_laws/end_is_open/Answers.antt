@@ -1,5 +1,0 @@
-use Rattle.b2_runs.proofs.ChildrenFollowEvents.{end_is_open}
-use Rattle.b2_runs.proofs.child_laws.end_is_open.Goals as goal
-
-pub returns : goal.returns
-returns c = end_is_open

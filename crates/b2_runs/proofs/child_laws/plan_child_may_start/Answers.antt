@@ -1,5 +1,0 @@
-use Rattle.b2_runs.proofs.PlanChildMayStart.{plan_child_may_start}
-use Rattle.b2_runs.proofs.child_laws.plan_child_may_start.Goals as goal
-
-pub returns : goal.returns
-returns c = plan_child_may_start

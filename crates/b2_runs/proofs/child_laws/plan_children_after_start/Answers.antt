@@ -1,5 +1,0 @@
-use Rattle.b2_runs.proofs.PlanChildMayStart.{plan_children_after_start}
-use Rattle.b2_runs.proofs.child_laws.plan_children_after_start.Goals as goal
-
-pub returns : goal.returns
-returns c = plan_children_after_start

@@ -1,5 +1,0 @@
-use Rattle.b2_runs.proofs.StartMayBegin.{start_may_begin}
-use Rattle.b2_runs.proofs.child_laws.start_may_begin.Goals as goal
-
-pub returns : goal.returns
-returns c = start_may_begin

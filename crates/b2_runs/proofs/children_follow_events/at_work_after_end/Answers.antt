@@ -1,0 +1,5 @@
+use Rattle.b2_runs.proofs.ChildrenFollowEvents.{at_work_after_end}
+use Rattle.b2_runs.proofs.children_follow_events.at_work_after_end.Goals as goal
+
+pub returns : goal.returns
+returns c = at_work_after_end

@@ -1,5 +1,0 @@
-use Rattle.b2_runs.proofs.CleanIsOne.{clean_is_one}
-use Rattle.b2_runs.proofs.closure_laws.clean_is_one.Goals as goal
-
-pub returns : goal.returns
-returns c = clean_is_one

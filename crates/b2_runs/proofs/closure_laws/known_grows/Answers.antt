@@ -1,5 +1,0 @@
-use Rattle.b2_runs.proofs.ClosureStays.{known_grows}
-use Rattle.b2_runs.proofs.closure_laws.known_grows.Goals as goal
-
-pub returns : goal.returns
-returns g c = known_grows g.V.Worth.worth g.W.Worth.worth

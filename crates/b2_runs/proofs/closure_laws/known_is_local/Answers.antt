@@ -1,5 +1,0 @@
-use Rattle.b2_runs.proofs.ClosureStays.{known_is_local}
-use Rattle.b2_runs.proofs.closure_laws.known_is_local.Goals as goal
-
-pub returns : goal.returns
-returns g c = known_is_local g.V.Worth.worth g.W.Worth.worth

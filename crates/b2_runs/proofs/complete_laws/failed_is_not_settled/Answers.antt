@@ -1,5 +1,0 @@
-use Rattle.b2_runs.proofs.FailedIsNotSettled.{failed_is_not_settled}
-use Rattle.b2_runs.proofs.complete_laws.failed_is_not_settled.Goals as goal
-
-pub returns : goal.returns
-returns c = failed_is_not_settled

@@ -1,5 +1,0 @@
-use Rattle.b2_runs.proofs.NothingIsLeft.{nothing_is_missed}
-use Rattle.b2_runs.proofs.complete_laws.nothing_is_missed.Goals as goal
-
-pub returns : goal.returns
-returns c = nothing_is_missed

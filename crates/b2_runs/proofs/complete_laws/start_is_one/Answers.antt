@@ -1,5 +1,0 @@
-use Rattle.b2_runs.proofs.StartIsOne.{start_is_one}
-use Rattle.b2_runs.proofs.complete_laws.start_is_one.Goals as goal
-
-pub returns : goal.returns
-returns c = start_is_one

@@ -1,0 +1,5 @@
+use Rattle.b2_runs.proofs.DiskStaysSound.{sound_after_change}
+use Rattle.b2_runs.proofs.disk_stays_sound.sound_after_change.Goals as goal
+
+pub returns : goal.returns
+returns c = sound_after_change

@@ -1,5 +1,0 @@
-use Rattle.b2_runs.proofs.CountedInOrder.{bad_by_count}
-use Rattle.b2_runs.proofs.event_laws.bad_by_count.Goals as goal
-
-pub returns : goal.returns
-returns c = bad_by_count

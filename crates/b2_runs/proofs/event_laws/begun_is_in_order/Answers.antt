@@ -1,5 +1,0 @@
-use Rattle.b2_runs.proofs.RunIsInOrder.{begun_is_in_order}
-use Rattle.b2_runs.proofs.event_laws.begun_is_in_order.Goals as goal
-
-pub returns : goal.returns
-returns c = begun_is_in_order

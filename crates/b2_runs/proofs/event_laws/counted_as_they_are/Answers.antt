@@ -1,5 +1,0 @@
-use Rattle.b2_runs.proofs.CountedInOrder.{counted_as_they_are}
-use Rattle.b2_runs.proofs.event_laws.counted_as_they_are.Goals as goal
-
-pub returns : goal.returns
-returns c = counted_as_they_are

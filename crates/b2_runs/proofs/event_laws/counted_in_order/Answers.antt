@@ -1,5 +1,0 @@
-use Rattle.b2_runs.proofs.CountedInOrder.{counted_in_order}
-use Rattle.b2_runs.proofs.event_laws.counted_in_order.Goals as goal
-
-pub returns : goal.returns
-returns c = counted_in_order

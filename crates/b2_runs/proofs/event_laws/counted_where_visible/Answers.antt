@@ -1,5 +1,0 @@
-use Rattle.b2_runs.proofs.CountedInOrder.{counted_where_visible}
-use Rattle.b2_runs.proofs.event_laws.counted_where_visible.Goals as goal
-
-pub returns : goal.returns
-returns c = counted_where_visible

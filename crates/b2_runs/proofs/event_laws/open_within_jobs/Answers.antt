@@ -1,5 +1,0 @@
-use Rattle.b2_runs.proofs.RunIsInOrder.{open_within_jobs}
-use Rattle.b2_runs.proofs.event_laws.open_within_jobs.Goals as goal
-
-pub returns : goal.returns
-returns c = open_within_jobs

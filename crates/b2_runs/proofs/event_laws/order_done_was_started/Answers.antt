@@ -1,5 +1,0 @@
-use Rattle.b2_runs.proofs.RunIsInOrder as lemmas
-use Rattle.b2_runs.proofs.event_laws.order_done_was_started.Goals as goal
-
-pub returns : goal.returns
-returns c = lemmas.done_was_started

@@ -1,5 +1,0 @@
-use Rattle.b2_runs.proofs.RunIsInOrder as lemmas
-use Rattle.b2_runs.proofs.event_laws.order_each_once.Goals as goal
-
-pub returns : goal.returns
-returns c = lemmas.each_event_once

@@ -1,5 +1,0 @@
-use Rattle.b2_runs.proofs.RunIsInOrder.{order_goes_on}
-use Rattle.b2_runs.proofs.event_laws.order_goes_on.Goals as goal
-
-pub returns : goal.returns
-returns c = order_goes_on

@@ -1,5 +1,0 @@
-use Rattle.b2_runs.proofs.RunIsInOrder.{order_has_begun}
-use Rattle.b2_runs.proofs.event_laws.order_has_begun.Goals as goal
-
-pub returns : goal.returns
-returns c = order_has_begun

@@ -1,5 +1,0 @@
-use Rattle.b2_runs.proofs.CountedInOrder.{short_is_failed}
-use Rattle.b2_runs.proofs.event_laws.short_is_failed.Goals as goal
-
-pub returns : goal.returns
-returns c = short_is_failed

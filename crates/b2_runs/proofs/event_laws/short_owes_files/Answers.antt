@@ -1,5 +1,0 @@
-use Rattle.b2_runs.proofs.CountedInOrder.{short_owes_files}
-use Rattle.b2_runs.proofs.event_laws.short_owes_files.Goals as goal
-
-pub returns : goal.returns
-returns c = short_owes_files

@@ -1,0 +1,5 @@
+use Rattle.b2_runs.proofs.SkippedExactly.{all_went_misses_nothing}
+use Rattle.b2_runs.proofs.failures_leave_nothing.all_went_misses_nothing.Goals as goal
+
+pub returns : goal.returns
+returns c = all_went_misses_nothing

@@ -1,0 +1,5 @@
+use Rattle.b2_runs.proofs.FailuresLeaveNothing.{nothing_left_after_bad_end}
+use Rattle.b2_runs.proofs.failures_leave_nothing.nothing_left_after_bad_end.Goals as goal
+
+pub returns : goal.returns
+returns c = nothing_left_after_bad_end

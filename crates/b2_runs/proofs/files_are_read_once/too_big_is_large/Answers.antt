@@ -1,0 +1,5 @@
+use Rattle.b2_runs.proofs.TooBigIsLarge.{too_big_is_large}
+use Rattle.b2_runs.proofs.files_are_read_once.too_big_is_large.Goals as goal
+
+pub returns : goal.returns
+returns c = too_big_is_large

@@ -1,5 +1,0 @@
-use Rattle.b2_runs.proofs.FirstLinesAreOne.{begin_is_read}
-use Rattle.b2_runs.proofs.log_course_laws.begin_is_read.Goals as goal
-
-pub returns : goal.returns
-returns c = begin_is_read

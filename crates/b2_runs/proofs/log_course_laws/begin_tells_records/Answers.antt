@@ -1,5 +1,0 @@
-use Rattle.b2_runs.proofs.FirstLinesAreOne.{begin_tells_records}
-use Rattle.b2_runs.proofs.log_course_laws.begin_tells_records.Goals as goal
-
-pub returns : goal.returns
-returns c = begin_tells_records

@@ -1,5 +1,0 @@
-use Rattle.b2_runs.proofs.FirstLinesAreOne.{begins_with_one}
-use Rattle.b2_runs.proofs.log_course_laws.begins_with_one.Goals as goal
-
-pub returns : goal.returns
-returns c = begins_with_one

@@ -1,5 +1,0 @@
-use Rattle.b2_runs.proofs.CutLogIsTrue.{cut_log_is_noted}
-use Rattle.b2_runs.proofs.log_course_laws.cut_log_is_noted.Goals as goal
-
-pub returns : goal.returns
-returns c = cut_log_is_noted

@@ -1,5 +1,0 @@
-use Rattle.b2_runs.proofs.CutLogIsTrue.{healthy_grows}
-use Rattle.b2_runs.proofs.log_course_laws.healthy_grows.Goals as goal
-
-pub returns : goal.returns
-returns c = healthy_grows

@@ -1,5 +1,0 @@
-use Rattle.b2_runs.proofs.LogHasRecords.{log_drops_failed}
-use Rattle.b2_runs.proofs.log_course_laws.log_drops_failed.Goals as goal
-
-pub returns : goal.returns
-returns c = log_drops_failed

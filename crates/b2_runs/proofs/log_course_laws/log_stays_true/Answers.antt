@@ -1,5 +1,0 @@
-use Rattle.b2_runs.proofs.LogStaysTrue.{log_stays_true}
-use Rattle.b2_runs.proofs.log_course_laws.log_stays_true.Goals as goal
-
-pub returns : goal.returns
-returns c = log_stays_true

@@ -1,5 +1,0 @@
-use Rattle.b2_runs.proofs.LogTellsOthers.{scans_once}
-use Rattle.b2_runs.proofs.log_course_laws.scans_once.Goals as goal
-
-pub returns : goal.returns
-returns c = scans_once

@@ -1,5 +1,0 @@
-use Rattle.b2_runs.proofs.TornAppendLeaves as lemmas
-use Rattle.b2_runs.proofs.log_file_laws.append_adds.Goals as goal
-
-pub returns : goal.returns
-returns c = lemmas.append_adds

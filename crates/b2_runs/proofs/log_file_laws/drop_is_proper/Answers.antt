@@ -1,5 +1,0 @@
-use Rattle.b2_runs.proofs.RecordIsProper as lemmas
-use Rattle.b2_runs.proofs.log_file_laws.drop_is_proper.Goals as goal
-
-pub returns : goal.returns
-returns c = lemmas.drop_is_proper

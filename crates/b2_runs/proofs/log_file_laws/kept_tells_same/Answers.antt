@@ -1,5 +1,0 @@
-use Rattle.b2_runs.proofs.KeptTellsSame as lemmas
-use Rattle.b2_runs.proofs.log_file_laws.kept_tells_same.Goals as goal
-
-pub returns : goal.returns
-returns c = lemmas.kept_tells_same

@@ -1,5 +1,0 @@
-use Rattle.b2_runs.proofs.TornAppendLeaves as lemmas
-use Rattle.b2_runs.proofs.log_file_laws.torn_tells_others.Goals as goal
-
-pub returns : goal.returns
-returns c = lemmas.torn_tells_others

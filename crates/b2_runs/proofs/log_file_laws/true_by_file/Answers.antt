@@ -1,5 +1,0 @@
-use Rattle.b2_runs.proofs.TrueByFile as lemmas
-use Rattle.b2_runs.proofs.log_file_laws.true_by_file.Goals as goal
-
-pub returns : goal.returns
-returns c = lemmas.true_by_file

@@ -1,5 +1,0 @@
-use Rattle.b2_runs.proofs.TrueByFile as lemmas
-use Rattle.b2_runs.proofs.log_file_laws.true_through_work.Goals as goal
-
-pub returns : goal.returns
-returns c = lemmas.true_through_work

@@ -1,5 +1,0 @@
-use Rattle.b2_runs.proofs.TrueByFile as lemmas
-use Rattle.b2_runs.proofs.log_file_laws.true_where_missing.Goals as goal
-
-pub returns : goal.returns
-returns c = lemmas.true_where_missing

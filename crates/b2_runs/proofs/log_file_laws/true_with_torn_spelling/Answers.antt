@@ -1,5 +1,0 @@
-use Rattle.b2_runs.proofs.TrueFileTells as lemmas
-use Rattle.b2_runs.proofs.log_file_laws.true_with_torn_spelling.Goals as goal
-
-pub returns : goal.returns
-returns c = lemmas.true_with_torn_spelling

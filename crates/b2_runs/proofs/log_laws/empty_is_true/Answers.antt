@@ -1,5 +1,0 @@
-use Rattle.b2_runs.proofs.TrueWithLine.{empty_is_true}
-use Rattle.b2_runs.proofs.log_laws.empty_is_true.Goals as goal
-
-pub returns : goal.returns
-returns c = empty_is_true

@@ -1,5 +1,0 @@
-use Rattle.b2_runs.proofs.LastLineIsFound.{last_record}
-use Rattle.b2_runs.proofs.log_laws.last_record.Goals as goal
-
-pub returns : goal.returns
-returns c = last_record

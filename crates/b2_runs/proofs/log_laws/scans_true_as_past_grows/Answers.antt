@@ -1,5 +1,0 @@
-use Rattle.b2_runs.proofs.TrueWithLine.{scans_true_as_past_grows}
-use Rattle.b2_runs.proofs.log_laws.scans_true_as_past_grows.Goals as goal
-
-pub returns : goal.returns
-returns c = scans_true_as_past_grows

@@ -1,5 +1,0 @@
-use Rattle.b2_runs.proofs.TrueWithLine.{true_with_line}
-use Rattle.b2_runs.proofs.log_laws.true_with_line.Goals as goal
-
-pub returns : goal.returns
-returns c = true_with_line

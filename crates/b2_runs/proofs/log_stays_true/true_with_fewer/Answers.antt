@@ -1,0 +1,5 @@
+use Rattle.b2_runs.proofs.TrueWithLine.{true_with_fewer}
+use Rattle.b2_runs.proofs.log_stays_true.true_with_fewer.Goals as goal
+
+pub returns : goal.returns
+returns c = true_with_fewer

@@ -1,5 +1,0 @@
-use Rattle.b2_runs.proofs.OutputsAreNewer.{failed_is_stale}
-use Rattle.b2_runs.proofs.noted_laws.failed_is_stale.Goals as goal
-
-pub returns : goal.returns
-returns c = failed_is_stale

@@ -1,5 +1,0 @@
-use Rattle.b2_runs.proofs.NeededByNumbers.{can_start_by_numbers}
-use Rattle.b2_runs.proofs.number_laws.can_start_by_numbers.Goals as goal
-
-pub returns : goal.returns
-returns c = can_start_by_numbers

@@ -1,5 +1,0 @@
-use Rattle.b2_runs.proofs.NeededByNumbers.{cannot_start_by_need}
-use Rattle.b2_runs.proofs.number_laws.cannot_start_by_need.Goals as goal
-
-pub returns : goal.returns
-returns c = cannot_start_by_need

@@ -1,5 +1,0 @@
-use Rattle.b2_runs.proofs.NeededByNumbers.{cannot_start_without}
-use Rattle.b2_runs.proofs.number_laws.cannot_start_without.Goals as goal
-
-pub returns : goal.returns
-returns c = cannot_start_without

@@ -1,5 +1,0 @@
-use Rattle.b2_runs.proofs.NeededByNumbers.{closed_by_settled}
-use Rattle.b2_runs.proofs.number_laws.closed_by_settled.Goals as goal
-
-pub returns : goal.returns
-returns c = closed_by_settled

@@ -1,5 +1,0 @@
-use Rattle.b2_runs.proofs.StaleStepStays.{fresh_step_settles}
-use Rattle.b2_runs.proofs.number_laws.fresh_step_settles.Goals as goal
-
-pub returns : goal.returns
-returns c = fresh_step_settles

@@ -1,5 +1,0 @@
-use Rattle.b2_runs.proofs.NeededByNumbers.{needed_by_numbers}
-use Rattle.b2_runs.proofs.number_laws.needed_by_numbers.Goals as goal
-
-pub returns : goal.returns
-returns c = needed_by_numbers

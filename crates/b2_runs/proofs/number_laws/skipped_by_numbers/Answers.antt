@@ -1,5 +1,0 @@
-use Rattle.b2_runs.proofs.NeededByNumbers.{skipped_by_numbers}
-use Rattle.b2_runs.proofs.number_laws.skipped_by_numbers.Goals as goal
-
-pub returns : goal.returns
-returns c = skipped_by_numbers

@@ -1,5 +1,0 @@
-use Rattle.b2_runs.proofs.SkippedExactly.{all_went_settles}
-use Rattle.b2_runs.proofs.outcome_laws.all_went_settles.Goals as goal
-
-pub returns : goal.returns
-returns c = all_went_settles

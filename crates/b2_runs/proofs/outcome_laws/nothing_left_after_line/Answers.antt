@@ -1,5 +1,0 @@
-use Rattle.b2_runs.proofs.FailuresLeaveNothing.{nothing_left_after_line}
-use Rattle.b2_runs.proofs.outcome_laws.nothing_left_after_line.Goals as goal
-
-pub returns : goal.returns
-returns c = nothing_left_after_line

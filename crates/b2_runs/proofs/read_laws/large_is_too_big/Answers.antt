@@ -1,5 +1,0 @@
-use Rattle.b2_runs.proofs.TooBigIsLarge.{large_is_too_big}
-use Rattle.b2_runs.proofs.read_laws.large_is_too_big.Goals as goal
-
-pub returns : goal.returns
-returns c = large_is_too_big

@@ -1,5 +1,0 @@
-use Rattle.b2_runs.proofs.TooBigIsLarge.{too_big_is_large}
-use Rattle.b2_runs.proofs.read_laws.too_big_is_large.Goals as goal
-
-pub returns : goal.returns
-returns c = too_big_is_large

@@ -1,5 +1,0 @@
-use Rattle.b2_runs.proofs.TooBigIsLarge.{too_big_through_end}
-use Rattle.b2_runs.proofs.read_laws.too_big_through_end.Goals as goal
-
-pub returns : goal.returns
-returns c = too_big_through_end

@@ -1,5 +1,0 @@
-use Rattle.b2_runs.proofs.LinesFollow.{lines_follow}
-use Rattle.b2_runs.proofs.report_laws.lines_follow.Goals as goal
-
-pub returns : goal.returns
-returns c = lines_follow

@@ -1,5 +1,0 @@
-use Rattle.b2_runs.proofs.LinesFollow.{stopped_at_line}
-use Rattle.b2_runs.proofs.report_laws.stopped_at_line.Goals as goal
-
-pub returns : goal.returns
-returns c = stopped_at_line

@@ -1,5 +1,0 @@
-use Rattle.b2_runs.proofs.LinesFollow.{unnamed_starts_silently}
-use Rattle.b2_runs.proofs.report_laws.unnamed_starts_silently.Goals as goal
-
-pub returns : goal.returns
-returns c = unnamed_starts_silently

@@ -1,5 +1,0 @@
-use Rattle.b2_runs.proofs.RunGoesOn.{done_once}
-use Rattle.b2_runs.proofs.run_laws.done_once.Goals as goal
-
-pub returns : goal.returns
-returns c = done_once

@@ -1,5 +1,0 @@
-use Rattle.b2_runs.proofs.RunGoesOn.{done_was_started}
-use Rattle.b2_runs.proofs.run_laws.done_was_started.Goals as goal
-
-pub returns : goal.returns
-returns c = done_was_started

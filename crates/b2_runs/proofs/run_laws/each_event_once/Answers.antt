@@ -1,5 +1,0 @@
-use Rattle.b2_runs.proofs.RunGoesOn.{each_event_once}
-use Rattle.b2_runs.proofs.run_laws.each_event_once.Goals as goal
-
-pub returns : goal.returns
-returns c = each_event_once

@@ -1,5 +1,0 @@
-use Rattle.b2_runs.proofs.RunGoesOn.{run_goes_on}
-use Rattle.b2_runs.proofs.run_laws.run_goes_on.Goals as goal
-
-pub returns : goal.returns
-returns c = run_goes_on

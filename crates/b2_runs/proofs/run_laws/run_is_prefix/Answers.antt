@@ -1,5 +1,0 @@
-use Rattle.b2_runs.proofs.RunIsPrefix.{run_is_prefix}
-use Rattle.b2_runs.proofs.run_laws.run_is_prefix.Goals as goal
-
-pub returns : goal.returns
-returns c = run_is_prefix

@@ -1,5 +1,0 @@
-use Rattle.b2_runs.proofs.SettledStays.{settled_after_start}
-use Rattle.b2_runs.proofs.run_laws.settled_after_start.Goals as goal
-
-pub returns : goal.returns
-returns c = settled_after_start

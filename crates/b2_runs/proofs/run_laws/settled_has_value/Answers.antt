@@ -1,5 +1,0 @@
-use Rattle.b2_runs.proofs.RunGoesOn.{settled_has_value}
-use Rattle.b2_runs.proofs.run_laws.settled_has_value.Goals as goal
-
-pub returns : goal.returns
-returns c = settled_has_value

@@ -1,5 +1,0 @@
-use Rattle.b2_runs.proofs.RunGoesOn.{started_has_closure}
-use Rattle.b2_runs.proofs.run_laws.started_has_closure.Goals as goal
-
-pub returns : goal.returns
-returns c = started_has_closure

@@ -1,5 +1,0 @@
-use Rattle.b2_runs.proofs.SettledStays.{verdict_stays}
-use Rattle.b2_runs.proofs.run_laws.verdict_stays.Goals as goal
-
-pub returns : goal.returns
-returns c = verdict_stays

@@ -1,0 +1,5 @@
+use Rattle.b2_runs.proofs.SettledStays.{settled_after_start}
+use Rattle.b2_runs.proofs.runs_go_on.settled_after_start.Goals as goal
+
+pub returns : goal.returns
+returns c = settled_after_start

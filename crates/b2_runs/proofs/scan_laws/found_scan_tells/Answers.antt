@@ -1,5 +1,0 @@
-use Rattle.b2_runs.proofs.ScanTells.{found_scan_tells}
-use Rattle.b2_runs.proofs.scan_laws.found_scan_tells.Goals as goal
-
-pub returns : goal.returns
-returns c = found_scan_tells

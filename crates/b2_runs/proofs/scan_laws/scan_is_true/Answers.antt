@@ -1,5 +1,0 @@
-use Rattle.b2_runs.proofs.ScanTells.{scan_is_true}
-use Rattle.b2_runs.proofs.scan_laws.scan_is_true.Goals as goal
-
-pub returns : goal.returns
-returns c = scan_is_true

@@ -1,5 +1,0 @@
-use Rattle.b2_runs.proofs.ScanTells.{scan_tells}
-use Rattle.b2_runs.proofs.scan_laws.scan_tells.Goals as goal
-
-pub returns : goal.returns
-returns c = scan_tells

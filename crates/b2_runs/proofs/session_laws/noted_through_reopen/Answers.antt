@@ -1,5 +1,0 @@
-use Rattle.b2_runs.proofs.StopLeavesNone.{noted_through_reopen}
-use Rattle.b2_runs.proofs.session_laws.noted_through_reopen.Goals as goal
-
-pub returns : goal.returns
-returns c = noted_through_reopen

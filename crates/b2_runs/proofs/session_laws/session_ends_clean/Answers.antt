@@ -1,5 +1,0 @@
-use Rattle.b2_runs.proofs.SessionEndsClean.{session_ends_clean}
-use Rattle.b2_runs.proofs.session_laws.session_ends_clean.Goals as goal
-
-pub returns : goal.returns
-returns c = session_ends_clean

@@ -1,5 +1,0 @@
-use Rattle.b2_runs.proofs.StopLeavesNone.{stop_leaves_none}
-use Rattle.b2_runs.proofs.session_laws.stop_leaves_none.Goals as goal
-
-pub returns : goal.returns
-returns c = stop_leaves_none

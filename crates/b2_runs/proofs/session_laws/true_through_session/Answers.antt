@@ -1,5 +1,0 @@
-use Rattle.b2_runs.proofs.TrueThroughSession.{true_through_session}
-use Rattle.b2_runs.proofs.session_laws.true_through_session.Goals as goal
-
-pub returns : goal.returns
-returns g c = true_through_session g.F.Follow.follows

@@ -1,5 +1,0 @@
-use Rattle.b2_runs.proofs.SessionEndsClean.{update_leaves_clean}
-use Rattle.b2_runs.proofs.session_laws.update_leaves_clean.Goals as goal
-
-pub returns : goal.returns
-returns c = update_leaves_clean

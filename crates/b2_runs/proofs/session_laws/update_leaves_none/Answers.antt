@@ -1,5 +1,0 @@
-use Rattle.b2_runs.proofs.StopLeavesNone.{update_leaves_none}
-use Rattle.b2_runs.proofs.session_laws.update_leaves_none.Goals as goal
-
-pub returns : goal.returns
-returns c = update_leaves_none

@@ -1,0 +1,5 @@
+use Rattle.b2_runs.proofs.TrueThroughSession.{true_through_edit}
+use Rattle.b2_runs.proofs.sessions_end_clean.true_through_edit.Goals as goal
+
+pub returns : goal.returns
+returns c = true_through_edit

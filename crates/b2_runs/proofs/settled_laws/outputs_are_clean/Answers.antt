@@ -1,5 +1,0 @@
-use Rattle.b2_runs.proofs.OutputsAreClean.{outputs_are_clean}
-use Rattle.b2_runs.proofs.settled_laws.outputs_are_clean.Goals as goal
-
-pub returns : goal.returns
-returns c = outputs_are_clean

@@ -1,5 +1,0 @@
-use Rattle.b2_runs.proofs.OutputsAreClean.{wanted_is_clean}
-use Rattle.b2_runs.proofs.settled_laws.wanted_is_clean.Goals as goal
-
-pub returns : goal.returns
-returns c = wanted_is_clean

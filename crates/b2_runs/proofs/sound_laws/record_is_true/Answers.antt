@@ -1,5 +1,0 @@
-use Rattle.b2_runs.proofs.RecordIsTrue.{record_is_true}
-use Rattle.b2_runs.proofs.sound_laws.record_is_true.Goals as goal
-
-pub returns : goal.returns
-returns c = record_is_true

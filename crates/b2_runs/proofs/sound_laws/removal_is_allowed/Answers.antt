@@ -1,5 +1,0 @@
-use Rattle.b2_runs.proofs.DiskStaysSound.{removal_is_allowed}
-use Rattle.b2_runs.proofs.sound_laws.removal_is_allowed.Goals as goal
-
-pub returns : goal.returns
-returns c = removal_is_allowed

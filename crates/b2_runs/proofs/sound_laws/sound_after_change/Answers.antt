@@ -1,5 +1,0 @@
-use Rattle.b2_runs.proofs.DiskStaysSound.{sound_after_change}
-use Rattle.b2_runs.proofs.sound_laws.sound_after_change.Goals as goal
-
-pub returns : goal.returns
-returns c = sound_after_change

@@ -1,5 +1,0 @@
-use Rattle.b2_runs.proofs.DiskStaysSound.{sound_at_entry}
-use Rattle.b2_runs.proofs.sound_laws.sound_at_entry.Goals as goal
-
-pub returns : goal.returns
-returns c = sound_at_entry

@@ -1,5 +1,0 @@
-use Rattle.b2_runs.proofs.DiskStaysSound.{work_is_allowed}
-use Rattle.b2_runs.proofs.sound_laws.work_is_allowed.Goals as goal
-
-pub returns : goal.returns
-returns c = work_is_allowed

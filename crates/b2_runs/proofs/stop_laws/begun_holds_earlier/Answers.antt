@@ -1,5 +1,0 @@
-use Rattle.b2_runs.proofs.BegunUpToStart.{begun_holds_earlier}
-use Rattle.b2_runs.proofs.stop_laws.begun_holds_earlier.Goals as goal
-
-pub returns : goal.returns
-returns c = begun_holds_earlier

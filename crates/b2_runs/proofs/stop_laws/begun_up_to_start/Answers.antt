@@ -1,5 +1,0 @@
-use Rattle.b2_runs.proofs.BegunUpToStart.{begun_up_to_start}
-use Rattle.b2_runs.proofs.stop_laws.begun_up_to_start.Goals as goal
-
-pub returns : goal.returns
-returns c = begun_up_to_start

@@ -1,5 +1,0 @@
-use Rattle.b2_runs.proofs.NoWorkIsLost.{fresh_though_stopped}
-use Rattle.b2_runs.proofs.stop_laws.fresh_though_stopped.Goals as goal
-
-pub returns : goal.returns
-returns c = fresh_though_stopped

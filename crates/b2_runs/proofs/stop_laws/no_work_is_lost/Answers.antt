@@ -1,5 +1,0 @@
-use Rattle.b2_runs.proofs.NoWorkIsLost.{no_work_is_lost}
-use Rattle.b2_runs.proofs.stop_laws.no_work_is_lost.Goals as goal
-
-pub returns : goal.returns
-returns c = no_work_is_lost

@@ -1,5 +1,0 @@
-use Rattle.b2_runs.proofs.BegunUpToStart.{run_is_begun}
-use Rattle.b2_runs.proofs.stop_laws.run_is_begun.Goals as goal
-
-pub returns : goal.returns
-returns c = run_is_begun

@@ -1,5 +1,0 @@
-use Rattle.b2_runs.proofs.StartsAreDone.{starts_are_done}
-use Rattle.b2_runs.proofs.stuck_laws.starts_are_done.Goals as goal
-
-pub returns : goal.returns
-returns c = starts_are_done

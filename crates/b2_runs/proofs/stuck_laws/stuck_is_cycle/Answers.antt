@@ -1,5 +1,0 @@
-use Rattle.b2_runs.proofs.StepCycleIsThere.{stuck_is_cycle}
-use Rattle.b2_runs.proofs.stuck_laws.stuck_is_cycle.Goals as goal
-
-pub returns : goal.returns
-returns c = stuck_is_cycle

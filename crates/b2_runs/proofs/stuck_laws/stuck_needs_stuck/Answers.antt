@@ -1,5 +1,0 @@
-use Rattle.b2_runs.proofs.StuckNeedsStuck.{stuck_needs_stuck}
-use Rattle.b2_runs.proofs.stuck_laws.stuck_needs_stuck.Goals as goal
-
-pub returns : goal.returns
-returns c = stuck_needs_stuck
