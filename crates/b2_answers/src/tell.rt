@@ -29,7 +29,7 @@ pub fn unwritten(fault: IoFault) -> Answer
     }
 }
 
-/// Writes the usage line.
+/// Writes the usage line, for words that are no command.
 pub fn tell_usage<S: Sink>(out: &mut S) -> Answer
     ensures { Says Answer.Usage usage_line (S.output out.old) (S.output out.new) result }
 {

@@ -22,7 +22,6 @@ use b2_virtual::builder::Builder;
 use jam_eval::step::{StepJob, StepText};
 use std::alloc::Global;
 
-/// The text of a step.
 fn text_of<V: Evaluate>(job: &StepJob, evaluator: &mut V) -> Result<StepText, MakingFault<V::Fault>>
     ensures { Asked V.answers V.kept V.faults V.is_host_fault V.is_out_of_memory V.CanFault (job_of job.now) evaluator.old evaluator.new result }
 {

@@ -10,7 +10,7 @@ use b2_base::text_list::TextList;
 use b2_props::pair_list::PairList;
 use std::alloc::Global;
 
-/// Owns some texts.
+/// Copies of texts, in order.
 pub(crate) fn owned(alloc: Global, words: &[&str]) -> Result<TextList, OutOfMemory>
     requires { All (λ word. HasNoZero word.now) words.now }
     ensures { IfOk result (λ made. made ≡ texts words.now) }

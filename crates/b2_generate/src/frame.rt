@@ -22,7 +22,7 @@ pub(crate) struct Frame<'a> {
     pub(crate) earliest: usize,
 }
 
-/// By hand, so that an open main target is let go by one call.
+/// By hand, so that dropping an open main target is one call.
 impl Drop for Frame<'_> {
     fn drop(self) {
         let Frame {

@@ -16,7 +16,7 @@ pub(crate) struct Stack<'a> {
     pub(crate) below: Vec<Frame<'a>>,
 }
 
-/// By hand, so that the stack is let go by one call.
+/// By hand, so that dropping the stack is one call.
 impl Drop for Stack<'_> {
     fn drop(self) {
         let Stack { newest, below } = self;

@@ -11,8 +11,8 @@ pub struct LoadedWorld {
 }
 
 impl LoadedWorld {
-    /// Lets the world go.
-    pub(crate) fn let_go(self) {
+    /// One call, whoever drops it.
+    pub(crate) fn drop_world(self) {
         let LoadedWorld { world: _world } = self;
     }
 }

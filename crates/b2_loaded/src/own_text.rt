@@ -128,8 +128,8 @@ impl<'a, F: Files, S: Entry> OwnText<'a, F, S> {
         self.refused.take()
     }
 
-    /// Asks a question by itself, and tells whether it has an answer, or the fault that it ends with. The answer is let go, and where
-    /// a pattern is refused, the question is not kept.
+    /// Asks a question by itself, and tells whether it has an answer, or the fault that it ends with. The answer is dropped, and
+    /// where a pattern is refused, the question is not kept.
     pub fn ask(&mut self, question: &Question) -> Result<(), EvalFault>
         ensures told { IsAsked (told_in self.old.projects.now self.old.loaded.world (F.outside self.old.host.files.now).disk) question.now result }
         ensures refused { IfErr result (EndsOn F.outside question.now self.old.projects.now self.old.loaded.world self.old.host.files) }
@@ -171,7 +171,7 @@ impl<'a, F: Files, S: Entry> OwnText<'a, F, S> {
             host,
             refused: _refused,
         } = self;
-        loaded.let_go();
+        loaded.drop_world();
         host.into_files()
     }
 }

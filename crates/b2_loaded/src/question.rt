@@ -25,8 +25,8 @@ pub enum Question {
     OfStep(StepJob),
 }
 
-// By hand, so that whoever lets a question go has one call of this proved function: a derived drop would be taken apart at each exit,
-// with a case for each kind of question.
+// By hand, so that dropping a question is one call of this proved function: a derived drop would be taken apart at each exit, with a
+// case for each kind of question.
 impl Drop for Question {
     fn drop(self) {
         match self {

@@ -107,7 +107,6 @@ fn project_of(walk: Walk, declared: Declared) -> Project
     }
 }
 
-/// The answer of a walk.
 fn answer(walk: Walk, echoes: TextList, found: Result<Declared, LoadFault>) -> Loaded
     ensures echoes { result.echoes ≡ echoes }
     ensures result { result.result ≡ project_in walk found }

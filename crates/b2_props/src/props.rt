@@ -27,7 +27,7 @@ impl Model for Props {
     ghost view = { λ p. option_map_or (λ numbered. numbered.value.pairs.items) p.shared [] };
 }
 
-/// By hand, so that a set is let go by one call: a derived drop is two cases wherever a set that is held goes.
+/// By hand, so that dropping a set is one call: a derived drop is two cases wherever a set is dropped.
 impl Drop for Props {
     fn drop(self) {
         let Props { shared } = self;

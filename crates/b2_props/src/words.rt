@@ -15,7 +15,7 @@ use b2_features::attribute::Attribute;
 use b2_features::registry::Registry;
 use std::alloc::Global;
 
-/// Owns some texts.
+/// Copies of texts, in order.
 pub fn owned(alloc: Global, cuts: &[&str]) -> Result<Vec<Text>, OutOfMemory>
     requires { All (λ part. HasNoZero part.now) cuts.now }
     ensures { IfOk result (λ made. made.items ≡ texts cuts.now) }

@@ -32,7 +32,7 @@ fn fault_line(alloc: Global, fault: &FeatureFault) -> Result<Answer, CaseFault> 
     refusal(alloc, kind.as_str(), word_of(fault)?)
 }
 
-/// The answer to a fault, which it lets go.
+/// The answer to a fault, which it drops.
 pub fn refused(alloc: Global, fault: FeatureFault) -> Result<Answer, CaseFault> {
     let answer = fault_line(alloc, &fault);
     drop(fault);

@@ -36,7 +36,6 @@ fn step_cycle_text(alloc: Global, steps: &[Step], list: &[u32]) -> Result<String
     concat(alloc, "step cycle: ", cycle.as_str())
 }
 
-/// The text of a refusal.
 fn fault_text(alloc: Global, steps: &[Step], fault: &Fault) -> Result<String, OutOfMemory>
     requires { IsWhole fault.now }
     ensures { IfOk result (λ text. string_bytes text ≡ fault_text steps.now fault.now) }

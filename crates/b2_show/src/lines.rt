@@ -14,7 +14,6 @@ use b2_refusals::lines::{start_line, table_line, text_line};
 use b2_words::words::View;
 use std::alloc::Global;
 
-/// Writes the rows of a table.
 fn write_table<S: Sink>(alloc: Global, table: &[Built], out: &mut S) -> Result<(), IoFault>
     ensures { Writes (table_lines table.now) (S.output out.old) (S.output out.new) result }
 {
@@ -33,7 +32,6 @@ fn write_step<S: Sink>(alloc: Global, step: &Step, out: &mut S) -> Result<(), Io
     write_made(text_line(alloc, step), out)
 }
 
-/// Writes steps with their texts.
 fn write_steps<S: Sink>(alloc: Global, steps: &[Step], out: &mut S) -> Result<(), IoFault>
     ensures { Writes (steps_lines steps.now) (S.output out.old) (S.output out.new) result }
 {

@@ -69,7 +69,6 @@ fn run_plan<H: Children, S: Sink>(
     }
 }
 
-/// Refuses a file of the plan.
 fn refuse_file<S: Sink>(alloc: Global, echoes: &[Text], path: &Path, out: &mut S) -> Answer
     ensures { RefusesFile echoes.now path.now (S.output out.old) (S.output out.new) result }
 {

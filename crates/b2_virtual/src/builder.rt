@@ -142,7 +142,7 @@ impl Builder {
         }
     }
 
-    /// The number of an equal step. A step without outputs is held against all steps.
+    /// The number of an equal step. A step without outputs is compared with all steps.
     fn find(&self, step: &Step, spots: &[Text]) -> Option<u32>
         requires { spots.now ≡ map spot step.now.outs }
         ensures { result ≡ number_of self.now step.now }
@@ -230,7 +230,7 @@ impl Builder {
     /// output or lies in one, or it is the log or lies below it. It names the first such output in the step's order.
     /// `TooManySteps` comes exactly where the outputs can stand and there are 65,536 steps.
     ///
-    /// Each output takes two look-ups in an ordered map and is held against the step's own outputs.
+    /// Each output takes two look-ups in an ordered map and is compared with the step's own outputs.
     pub fn add(&mut self, step: Step) -> Result<u32, VirtualFault>
         ensures number { IfOk result (λ number. number ≡ number_in self.old step) }
         ensures joined { OnOk result (self.new ≡ joined self.old step) }
