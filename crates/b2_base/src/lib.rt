@@ -9,7 +9,7 @@ pub mod look;
 pub mod path;
 pub mod path_list;
 pub mod rooted;
-mod segments;
+pub mod segments;
 pub mod shape;
 pub mod text;
 pub mod text_list;

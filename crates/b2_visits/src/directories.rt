@@ -3,13 +3,14 @@ ghost use Rattle.std.specs.Prelude.{◌≡◌, ◌∷◌, [], All, map, IfOk, st
 ghost use Rattle.std.specs.List.{join_with_byte};
 ghost use Rattle.std.specs.Str.{bytes_eq};
 ghost use Rattle.b2_base.specs.Bytes.{HasNoZero};
-ghost use Rattle.b2_base.specs.Segments.{segments, texts};
+ghost use Rattle.b2_base.specs.Segments.{texts};
 ghost use Rattle.jam_eval.specs.Includes.{path_from};
 ghost use Rattle.b2_visits.specs.Directories.{here, beginnings, path_of, way_to, module_name, file_names};
 
 use b2_base::fault::OutOfMemory;
 use b2_base::path::{Path, path_of};
 use b2_base::path_list::PathList;
+use b2_base::segments::cut;
 use b2_base::text::Text;
 use jam_values::paths::path_from;
 use std::alloc::Global;
@@ -46,14 +47,6 @@ fn paths_of(alloc: Global, segments: &[&str]) -> Result<PathList, OutOfMemory>
         paths.push(path_of(alloc, text.as_str())?)?;
     }
     Ok(paths)
-}
-
-/// The text, cut at its slashes.
-fn cut(alloc: Global, text: &str) -> Result<Vec<&str>, OutOfMemory>
-    ensures { IfOk result (λ cuts. texts cuts.items ≡ segments text.now) }
-{
-    let cuts = text.split('/').collect(alloc)?;
-    Ok(cuts)
 }
 
 /// The directories on the way to a directory, from the top down, and itself as the last; none where it does not lie below the
