@@ -53,7 +53,11 @@ fn take_in<'a>(rooted: bool, kept: &mut Vec<&'a str>, segment: &'a str) -> Resul
 }
 
 /// The segments of the normal form.
-pub(crate) fn keep<'a>(alloc: Global, rooted: bool, cuts: &[&'a str]) -> Result<Vec<&'a str>, OutOfMemory>
+pub(crate) fn keep<'a>(
+    alloc: Global,
+    rooted: bool,
+    cuts: &[&'a str],
+) -> Result<Vec<&'a str>, OutOfMemory>
     ensures { IfOk result (λ found. texts found.items ≡ kept rooted (texts cuts.now)) }
 {
     let mut found = Vec::new(alloc);
