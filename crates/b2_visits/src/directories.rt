@@ -4,7 +4,6 @@ ghost use Rattle.std.specs.List.{join_with_byte};
 ghost use Rattle.std.specs.Str.{bytes_eq};
 ghost use Rattle.b2_base.specs.Bytes.{HasNoZero};
 ghost use Rattle.b2_base.specs.Segments.{texts};
-ghost use Rattle.jam_eval.specs.Includes.{path_from};
 ghost use Rattle.b2_visits.specs.Directories.{here, beginnings, path_of, way_to, module_name, file_names};
 
 use b2_base::fault::OutOfMemory;
@@ -12,7 +11,6 @@ use b2_base::path::{Path, path_of};
 use b2_base::path_list::PathList;
 use b2_base::segments::cut;
 use b2_base::text::Text;
-use jam_values::paths::path_from;
 use std::alloc::Global;
 
 /// The folder itself.
@@ -81,13 +79,4 @@ pub fn file_names(dir: &Path) -> (&'static str, &'static str)
     } else {
         ("Jamfile", "Jamfile.jam")
     }
-}
-
-/// The path of a file in a directory, by its name.
-pub fn file_in(alloc: Global, dir: &Path, name: &str) -> Result<Path, OutOfMemory>
-    requires { HasNoZero name.now }
-    ensures { IfOk result (λ path. path ≡ path_from dir.now name.now) }
-{
-    let name = Text::new(alloc, name)?;
-    path_from(alloc, dir, &name)
 }
