@@ -1,8 +1,6 @@
 //! Native rules that look at their lists and the world alone.
-ghost use Rattle.std.specs.Prelude.{◌≡◌, IfOk, IsTrue};
-ghost use Rattle.b2_base.specs.Bytes.{HasNoZero};
+ghost use Rattle.std.specs.Prelude.{◌≡◌, IfOk};
 ghost use Rattle.b2_base.specs.Lists.{list_at};
-ghost use Rattle.jam_scope.specs.Names.{is_text};
 ghost use Rattle.jam_natives.specs.Matches.{matches_of};
 ghost use Rattle.jam_natives.specs.Rows.{module_list, matched, read};
 ghost use Rattle.jam_natives.specs.Calls.{IsRead};
@@ -17,15 +15,8 @@ use jam_eval::natives::{NativeError, NativeStep};
 use jam_patterns::native_fault::NativeFault;
 use jam_patterns::refusal::PatternFault;
 use jam_scope::world::World;
+use jam_scope::world::listing::is_text;
 use std::alloc::Global;
-
-/// Whether a name is a text.
-fn is_text(name: &str) -> bool
-    ensures value { result ≡ is_text name.now }
-    ensures no_zero { IsTrue result → HasNoZero name.now }
-{
-    name.as_bytes().iter().all(|byte| 0 < *byte)
-}
 
 /// The name of a module as a list; the global one has none.
 fn module_list(alloc: Global, owner: &str) -> Result<TextList, OutOfMemory>
