@@ -6,3 +6,4 @@ pub mod Under
 pub mod Below
 pub mod Steps
 pub mod Ends
+pub mod Decimals

@@ -1,6 +1,7 @@
 //! Texts, paths, tokens and maps from texts, and how many texts a call's lists have, each seen by contracts as the value that it stands for.
 #![tactic(auto)]
 
+pub mod decimal;
 pub mod expand_fault;
 pub mod fault;
 pub mod laws;
@@ -9,7 +10,7 @@ pub mod look;
 pub mod path;
 pub mod path_list;
 pub mod rooted;
-mod segments;
+pub mod segments;
 pub mod shape;
 pub mod text;
 pub mod text_list;

@@ -58,6 +58,16 @@ impl<T: Drop> List<T> {
         Ok(())
     }
 
+    /// Adds values at the end. After an error the list is as before.
+    pub fn append(&mut self, more: List<T>) -> Result<(), OutOfMemory>
+        ensures ok { OnOk result (self.new ≡ self.old ++ more) }
+        ensures err { OnErr result (self.new ≡ self.old) }
+    {
+        let mut more = more.values;
+        self.values.append(&mut more)?;
+        Ok(())
+    }
+
     /// The values in order.
     pub fn as_slice(&self) -> &[T]
         ensures { result.now ≡ self.now }

@@ -1,7 +1,7 @@
 //! Paths in normal form.
 ghost use Rattle.std.specs.Prelude.{◌≡◌, ◌≢◌, ◌↔◌, ◌++◌, [], codes, IfOk, IsErrOf, IsTrue, string_bytes};
 ghost use Rattle.b2_base.specs.Bytes.{HasNoZero};
-ghost use Rattle.b2_base.specs.Segments.{normal_of, is_rooted, segments};
+ghost use Rattle.b2_base.specs.Segments.{normal_of, path_from, is_rooted, segments};
 ghost use Rattle.b2_base.specs.Normal.{IsNormal, IsUnder, parts};
 ghost use Rattle.b2_base.specs.Below.{is_below};
 ghost use Rattle.b2_base.specs.Simpler.{Reaches, IsSimplest, IsOnlyEnd};
@@ -100,6 +100,17 @@ pub fn joined_path(alloc: Global, dir: &str, text: &str) -> Result<Path, OutOfMe
 {
     let text = format!(in alloc; "{dir}/{text}")?;
     path_of(alloc, text.as_str())
+}
+
+/// The path of a text that is relative to a directory, unless it begins with a slash; that of the empty text is the directory.
+pub fn path_from(alloc: Global, dir: &Path, text: &str) -> Result<Path, OutOfMemory>
+    requires { HasNoZero text.now }
+    ensures { IfOk result (λ path. path ≡ path_from dir.now text.now) }
+{
+    if is_rooted(text) {
+        return path_of(alloc, text);
+    }
+    joined_path(alloc, dir.as_str(), text)
 }
 
 impl Path {

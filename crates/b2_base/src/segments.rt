@@ -19,7 +19,7 @@ fn is_up_segment(segment: &str) -> bool
     segment == ".."
 }
 
-/// The text, cut at its slashes.
+/// The segments of a text, which is cut at each slash, in order; the empty text has one, which is empty.
 pub fn cut(alloc: Global, text: &str) -> Result<Vec<&str>, OutOfMemory>
     ensures { IfOk result (λ cuts. texts cuts.items ≡ segments text.now) }
 {
@@ -53,7 +53,11 @@ fn take_in<'a>(rooted: bool, kept: &mut Vec<&'a str>, segment: &'a str) -> Resul
 }
 
 /// The segments of the normal form.
-pub fn keep<'a>(alloc: Global, rooted: bool, cuts: &[&'a str]) -> Result<Vec<&'a str>, OutOfMemory>
+pub(crate) fn keep<'a>(
+    alloc: Global,
+    rooted: bool,
+    cuts: &[&'a str],
+) -> Result<Vec<&'a str>, OutOfMemory>
     ensures { IfOk result (λ found. texts found.items ≡ kept rooted (texts cuts.now)) }
 {
     let mut found = Vec::new(alloc);
@@ -65,7 +69,7 @@ pub fn keep<'a>(alloc: Global, rooted: bool, cuts: &[&'a str]) -> Result<Vec<&'a
 
 /// The segments as one text.
 #[tactic(auto, using(crate::proofs::JoinedSegments::joined))]
-pub fn join(alloc: Global, rooted: bool, found: &[&str]) -> Result<String, OutOfMemory>
+pub(crate) fn join(alloc: Global, rooted: bool, found: &[&str]) -> Result<String, OutOfMemory>
     ensures { IfOk result (λ text. string_bytes text ≡ written rooted (texts found.now)) }
 {
     let names = found.join(alloc, "/")?;
@@ -78,8 +82,8 @@ pub fn join(alloc: Global, rooted: bool, found: &[&str]) -> Result<String, OutOf
     Ok(names)
 }
 
-/// Whether a text in normal form begins with the segment `..`.
-fn begins_above(path: &str) -> bool
+/// Whether a text in normal form begins with the segment `..`. Takes no memory.
+pub fn begins_above(path: &str) -> bool
     requires { IsNormal path.now }
     ensures { result ≡ is_up (first_part path.now) }
 {
@@ -113,7 +117,7 @@ fn goes_on(path: &str, dir: &str) -> bool
 }
 
 /// Whether the first text lies below the second, both in normal form.
-pub fn is_below(path: &str, dir: &str) -> bool
+pub(crate) fn is_below(path: &str, dir: &str) -> bool
     requires path { IsNormal path.now }
     requires dir { IsNormal dir.now }
     ensures { IsTrue result ↔ IsUnder path.now dir.now }

@@ -1,5 +1,7 @@
 //! Text with no zero byte.
 ghost use Rattle.std.specs.Prelude.{◌≡◌, ◌↔◌, IfOk, IsTrue, string_bytes};
+ghost use Rattle.std.specs.List.{list_any};
+ghost use Rattle.std.specs.Str.{bytes_eq};
 ghost use Rattle.b2_base.specs.Bytes.{HasNoZero};
 
 use crate::fault::OutOfMemory;
@@ -30,6 +32,16 @@ pub fn has_no_zero(text: &str) -> bool
     ensures { IsTrue result ↔ HasNoZero text.now }
 {
     text.as_bytes().iter().all(|byte| *byte > 0)
+}
+
+/// Whether a text is one of some texts. Takes no memory.
+pub fn is_among(text: &str, texts: &[&str]) -> bool
+    ensures { result ≡ list_any (λ other. bytes_eq text.now other.now) texts.now }
+{
+    match texts {
+        [] => false,
+        [first, more @ ..] => text == *first || is_among(text, more),
+    }
 }
 
 impl Text {

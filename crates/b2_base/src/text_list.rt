@@ -1,6 +1,7 @@
 //! A list of texts.
-ghost use Rattle.std.specs.Prelude.{◌≡◌, IfOk};
-ghost use Rattle.b2_base.specs.Lists.{list_at};
+ghost use Rattle.std.specs.Prelude.{◌≡◌, ◌++◌, IfOk, OnOk};
+ghost use Rattle.b2_base.specs.Bytes.{HasNoZero};
+ghost use Rattle.b2_base.specs.Lists.{list_at, rest_of, first_of};
 
 use crate::fault::OutOfMemory;
 use crate::list::List;
@@ -20,6 +21,27 @@ pub fn list_at(lists: &[TextList], place: usize) -> &[Text]
     }
 }
 
+/// The lists after the first one; takes no memory.
+pub fn rest_of(lists: &[TextList]) -> &[TextList]
+    ensures { result.now ≡ rest_of lists.now }
+{
+    match lists {
+        [] => lists,
+        [_, more @ ..] => more,
+    }
+}
+
+/// The first text, or the empty one. Takes no memory.
+pub fn first_of(texts: &[Text]) -> &str
+    ensures value { result.now ≡ first_of texts.now }
+    ensures no_zero { HasNoZero result.now }
+{
+    match texts {
+        [] => "",
+        [first, ..] => first.as_str(),
+    }
+}
+
 /// The same texts, in order.
 pub fn copy_texts(alloc: Global, texts: &[Text]) -> Result<TextList, OutOfMemory>
     ensures { IfOk result (λ made. made ≡ texts.now) }
@@ -30,4 +52,14 @@ pub fn copy_texts(alloc: Global, texts: &[Text]) -> Result<TextList, OutOfMemory
         made.push(text.copy()?)?;
     }
     Ok(TextList::from_vec(made))
+}
+
+/// Adds copies of texts at the end.
+pub fn push_copies(made: &mut TextList, texts: &[Text]) -> Result<(), OutOfMemory>
+    ensures { OnOk result (made.new ≡ made.old ++ texts.now) }
+{
+    for text in texts {
+        made.push(text.copy()?)?;
+    }
+    Ok(())
 }

@@ -2,9 +2,8 @@
 use Rattle.std.specs.Prelude.{ℕ, List, [], ◌∷◌, ◌++◌, codes, Option, Some, None, if◌then◌else◌}
 use Rattle.std.specs.List.{filter_map}
 use Rattle.std.specs.Option.{option_and_then}
-use Rattle.b2_base.specs.Segments.{is_rooted}
+use Rattle.b2_base.specs.Segments.{is_rooted, path_from}
 use Rattle.b2_texts.specs.Cuts.{cut_at}
-use Rattle.b2_texts.specs.Completion.{path_in}
 use Rattle.b2_declarations.specs.declared.declaration.Declaration.{Declaration}
 use Rattle.b2_declarations.specs.declared.declaration.Declaration.TheVariants.{Project, Main, Explicit, BuildProject, UseProject, Using, Feature, Compose, FileType, Generator, Import}
 use Rattle.b2_declarations.specs.declared.references.Reading.TheVariants.{Property}
@@ -15,7 +14,7 @@ use Rattle.b2_declarations.specs.References.{dependencies, list_dependencies}
 -- slash, names no directory.
 abbrev pub directory_before : List ℕ → List ℕ → Option (List ℕ)
 directory_before owner [] = Some (codes ".")
-directory_before owner (first ∷ rest) = if is_rooted (first ∷ rest) then None else Some (path_in owner (first ∷ rest))
+directory_before owner (first ∷ rest) = if is_rooted (first ∷ rest) then None else Some (path_from owner (first ∷ rest))
 
 -- the directory of a reference, which is a text with `//` and is cut at the first one
 abbrev pub directory_of : List ℕ → List ℕ → Option (List ℕ)
@@ -29,8 +28,8 @@ directories owner texts = filter_map (directory_of owner) texts
 abbrev pub named_directories : List ℕ → Declaration → Texts
 named_directories owner (Project a) = directories owner (list_dependencies a.lists)
 named_directories owner (Main t) = directories owner t.sources ++ directories owner (list_dependencies t.lists)
-named_directories owner (BuildProject dir) = path_in owner dir ∷ []
-named_directories owner (UseProject id dir) = path_in owner dir ∷ []
+named_directories owner (BuildProject dir) = path_from owner dir ∷ []
+named_directories owner (UseProject id dir) = path_from owner dir ∷ []
 named_directories owner (Compose property parts) = directories owner (dependencies Property parts)
 named_directories owner (Generator id sources targets requirements) = directories owner (dependencies Property requirements)
 named_directories owner (Explicit names) = []

@@ -7,7 +7,7 @@ use crate::declaration::{ListName, PropertyList};
 use b2_base::fault::OutOfMemory;
 use b2_base::list::List;
 use b2_base::text::Text;
-use b2_base::text_list::{TextList, list_at};
+use b2_base::text_list::{TextList, copy_texts, list_at};
 use std::alloc::Global;
 
 /// The first text of the list at a place; of an empty one the empty text. Takes no memory.
@@ -31,25 +31,6 @@ pub(crate) fn first_of(list: &[Text]) -> Result<Option<Text>, OutOfMemory>
     }
 }
 
-/// Adds copies of texts.
-pub(crate) fn push_copies(found: &mut TextList, texts: &[Text]) -> Result<(), OutOfMemory>
-    ensures { OnOk result (found.new ≡ found.old ++ texts.now) }
-{
-    for text in texts {
-        found.push(text.copy()?)?;
-    }
-    Ok(())
-}
-
-/// Copies of texts.
-pub(crate) fn copies(alloc: Global, texts: &[Text]) -> Result<TextList, OutOfMemory>
-    ensures { IfOk result (λ made. made ≡ texts.now) }
-{
-    let mut made = TextList::new(alloc);
-    push_copies(&mut made, texts)?;
-    Ok(made)
-}
-
 /// Adds a property list with copies of texts.
 pub(crate) fn push_list(
     alloc: Global,
@@ -59,6 +40,6 @@ pub(crate) fn push_list(
 ) -> Result<(), OutOfMemory>
     ensures { OnOk result (found.new ≡ found.old ++ listed name texts.now ∷ []) }
 {
-    let texts = copies(alloc, texts)?;
+    let texts = copy_texts(alloc, texts)?;
     found.push(PropertyList { name, texts })
 }

@@ -1,6 +1,6 @@
 //! Which directories a declaration names.
 ghost use Rattle.std.specs.Prelude.{◌≡◌, [], ◌∷◌, ◌++◌, IfOk, OnOk};
-ghost use Rattle.b2_texts.specs.Completion.{path_in};
+ghost use Rattle.b2_base.specs.Segments.{path_from};
 ghost use Rattle.b2_declarations.specs.References.{dependencies, list_dependencies};
 ghost use Rattle.b2_declarations.specs.Directories.{directories, named_directories};
 
@@ -8,11 +8,10 @@ use crate::declaration::{Declaration, MainTarget, PropertyList};
 use crate::places::directory_of;
 use crate::references::{Reading, list_dependencies, push_dependencies};
 use b2_base::fault::OutOfMemory;
-use b2_base::path::Path;
+use b2_base::path::{Path, path_from};
 use b2_base::path_list::PathList;
 use b2_base::text::Text;
 use b2_base::text_list::TextList;
-use b2_texts::places::path_in;
 use std::alloc::Global;
 
 /// Adds the directory of a text, where it is a reference by directory.
@@ -85,10 +84,10 @@ fn of_target(alloc: Global, owner: &Path, target: &MainTarget) -> Result<PathLis
 
 /// The one directory, relative to the folder.
 fn one_directory(alloc: Global, owner: &Path, dir: &Path) -> Result<PathList, OutOfMemory>
-    ensures { IfOk result (λ found. found ≡ path_in owner.now dir.now ∷ []) }
+    ensures { IfOk result (λ found. found ≡ path_from owner.now dir.now ∷ []) }
 {
     let mut found = PathList::new(alloc);
-    found.push(path_in(alloc, owner, dir.as_str())?)?;
+    found.push(path_from(alloc, owner, dir.as_str())?)?;
     Ok(found)
 }
 

@@ -4,10 +4,9 @@ ghost use Rattle.b2_base.specs.Bytes.{HasNoZero};
 ghost use Rattle.b2_declarations.specs.Directories.{directory_before, directory_of};
 
 use b2_base::fault::OutOfMemory;
-use b2_base::path::{Path, path_of};
+use b2_base::path::{Path, path_from, path_of};
 use b2_base::rooted::is_rooted;
 use b2_texts::cuts::cut_at;
-use b2_texts::places::path_in;
 use std::alloc::Global;
 
 /// The directory that stands before `//` in a reference.
@@ -21,7 +20,7 @@ fn directory_before(alloc: Global, owner: &Path, before: &str) -> Result<Option<
     if is_rooted(before) {
         return Ok(None);
     }
-    Ok(Some(path_in(alloc, owner, before)?))
+    Ok(Some(path_from(alloc, owner, before)?))
 }
 
 /// The directory of a text, where it is a reference by directory.

@@ -6,14 +6,14 @@ ghost use Rattle.b2_declarations.specs.Declarations.{is_shaped, declared, shape_
 
 use crate::attributes::{are_attributes, attribute_lists, attributes, id_of};
 use crate::declaration::Declaration;
-use crate::lists::{copies, first_of, text_at};
+use crate::lists::{first_of, text_at};
 use crate::rule::{Rule, rule_of};
 use crate::target::{counts_of, is_refused_name, target};
 use b2_base::fault::OutOfMemory;
 use b2_base::path::path_of;
 use b2_base::shape::{Count, has_shape};
 use b2_base::text::Text;
-use b2_base::text_list::{TextList, list_at};
+use b2_base::text_list::{TextList, copy_texts, list_at};
 use b2_texts::cuts::named_pair;
 use std::alloc::Global;
 
@@ -59,8 +59,8 @@ fn feature(alloc: Global, lists: &[TextList]) -> Result<Declaration, OutOfMemory
     ensures { IfOk result (λ made. made ≡ declared Rule.Feature lists.now) }
 {
     let name = Text::new(alloc, text_at(lists, 0))?;
-    let values = copies(alloc, list_at(lists, 1))?;
-    let attributes = copies(alloc, list_at(lists, 2))?;
+    let values = copy_texts(alloc, list_at(lists, 1))?;
+    let attributes = copy_texts(alloc, list_at(lists, 2))?;
     Ok(Declaration::Feature {
         name,
         values,
@@ -72,7 +72,7 @@ fn compose(alloc: Global, lists: &[TextList]) -> Result<Declaration, OutOfMemory
     ensures { IfOk result (λ made. made ≡ declared Rule.Compose lists.now) }
 {
     let property = Text::new(alloc, text_at(lists, 0))?;
-    let parts = copies(alloc, list_at(lists, 1))?;
+    let parts = copy_texts(alloc, list_at(lists, 1))?;
     Ok(Declaration::Compose { property, parts })
 }
 
@@ -80,7 +80,7 @@ fn file_type(alloc: Global, lists: &[TextList]) -> Result<Declaration, OutOfMemo
     ensures { IfOk result (λ made. made ≡ declared Rule.FileType lists.now) }
 {
     let name = Text::new(alloc, text_at(lists, 0))?;
-    let suffixes = copies(alloc, list_at(lists, 1))?;
+    let suffixes = copy_texts(alloc, list_at(lists, 1))?;
     Ok(Declaration::FileType { name, suffixes })
 }
 
@@ -88,9 +88,9 @@ fn generator(alloc: Global, lists: &[TextList]) -> Result<Declaration, OutOfMemo
     ensures { IfOk result (λ made. made ≡ declared Rule.Generator lists.now) }
 {
     let id = Text::new(alloc, text_at(lists, 0))?;
-    let sources = copies(alloc, list_at(lists, 1))?;
-    let targets = copies(alloc, list_at(lists, 2))?;
-    let requirements = copies(alloc, list_at(lists, 3))?;
+    let sources = copy_texts(alloc, list_at(lists, 1))?;
+    let targets = copy_texts(alloc, list_at(lists, 2))?;
+    let requirements = copy_texts(alloc, list_at(lists, 3))?;
     Ok(Declaration::Generator {
         id,
         sources,
@@ -106,7 +106,7 @@ fn declared(alloc: Global, rule: Rule, lists: &[TextList]) -> Result<Declaration
     match rule {
         Rule::Project => Ok(Declaration::Project(attributes(alloc, lists)?)),
         Rule::Target(kind) => Ok(Declaration::Main(target(alloc, kind, lists)?)),
-        Rule::Explicit => Ok(Declaration::Explicit(copies(alloc, list_at(lists, 0))?)),
+        Rule::Explicit => Ok(Declaration::Explicit(copy_texts(alloc, list_at(lists, 0))?)),
         Rule::BuildProject => Ok(Declaration::BuildProject(path_of(alloc, text_at(lists, 0))?)),
         Rule::UseProject => use_project(alloc, lists),
         Rule::Using => Ok(Declaration::Using {

@@ -6,14 +6,14 @@ ghost use Rattle.b2_base.specs.Segments.{segments, is_up};
 ghost use Rattle.b2_declarations.specs.Targets.{is_refused_name, counts_of, rule_name, rule_in, property_lists, bare, target};
 
 use crate::declaration::{Kind, ListName, MainTarget, PropertyList};
-use crate::lists::{push_copies, push_list, text_at};
+use crate::lists::{push_list, text_at};
 use b2_base::fault::OutOfMemory;
 use b2_base::list::List;
 use b2_base::path::path_of;
 use b2_base::rooted::is_rooted;
 use b2_base::shape::Count;
 use b2_base::text::Text;
-use b2_base::text_list::{TextList, list_at};
+use b2_base::text_list::{TextList, list_at, push_copies};
 use b2_texts::cuts::cut_at;
 use std::alloc::Global;
 

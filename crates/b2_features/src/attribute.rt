@@ -1,10 +1,8 @@
 //! The attributes of features.
 ghost use Rattle.std.specs.Prelude.{◌≡◌};
-ghost use Rattle.std.specs.List.{list_any};
-ghost use Rattle.std.specs.Str.{bytes_eq};
 ghost use Rattle.b2_features.specs.Attributes.{name_of, has, is_attribute};
 
-use b2_base::text::Text;
+use b2_base::text::{Text, is_among};
 
 /// What a feature may be declared to be.
 #[derive(Clone, Copy)]
@@ -68,15 +66,6 @@ static NAMES: [&str; 9] = [
     "path",
     "dependency",
 ];
-
-fn is_among(word: &str, names: &[&str]) -> bool
-    ensures { result ≡ list_any (λ name. bytes_eq word.now name.now) names.now }
-{
-    match names {
-        [] => false,
-        [first, more @ ..] => word == *first || is_among(word, more),
-    }
-}
 
 /// Whether a word is an attribute; takes no memory.
 pub fn is_attribute_word(word: &str) -> bool

@@ -1,5 +1,5 @@
 -- What bytes begin with.
-use Rattle.std.specs.Prelude.{◌≡◌, ◌≢◌, ℕ, ◌≤◌, ◌==◌, Bool, true, false, ◌||◌, List, [], ◌∷◌, ◌++◌, length, Option}
+use Rattle.std.specs.Prelude.{◌≡◌, ◌≢◌, ℕ, ◌≤◌, Bool, true, false, List, [], ◌∷◌, ◌++◌, length, Option}
 use Rattle.std.specs.List.{AllByRecursion}
 use Rattle.b2_log.specs.declared.line.Record.{Record}
 use Rattle.b2_log.specs.declared.line.LogLine.{LogLine}
@@ -25,12 +25,6 @@ HasNoNext bytes = (next : Option ℕ) (rest : List ℕ) → bytes ≢ next_bytes
 -- no byte is written as a backslash and this sign
 abbrev pub IsNoEscape : ℕ → Type 0
 IsNoEscape sign = (sign ≢ backslash) × (sign ≢ 116) × (sign ≢ 110)
-
--- a text that parses as a number and is not written for it: it begins with a sign, or with a zero before further digits
-abbrev pub has_lead : List ℕ → Bool
-has_lead [] = false
-has_lead (first ∷ []) = first == 43
-has_lead (first ∷ second ∷ more) = first == 43 || first == 48
 
 -- a mark with the tab after it
 abbrev pub mark_field : Bool → List ℕ

@@ -3,11 +3,12 @@ ghost use Rattle.std.specs.Prelude.{◌≡◌, ◌≢◌, ℕ, ◌^◌, ◌<◌,
 ghost use Rattle.std.specs.Fmt.{decimal};
 ghost use Rattle.b2_log.specs.Lines.{backslash, escaped, next_bytes, field, number};
 ghost use Rattle.b2_log.specs.Good.{IsText, IsPath, IsNumber, IsDigest};
-ghost use Rattle.b2_log.specs.Readings.{Begins, BeginsNone, HasNoNext, IsNoEscape, HasNoMark, mark_field, HasNoTag, tag_field, has_lead};
+ghost use Rattle.b2_log.specs.Readings.{Begins, BeginsNone, HasNoNext, IsNoEscape, HasNoMark, mark_field, HasNoTag, tag_field};
 
 use crate::proper::is_digest;
 use crate::refusal::Refusal;
 use crate::tag::Tag;
+use b2_base::decimal::has_lead;
 use b2_base::path::{Path, PathFault};
 use b2_base::text::{Text, has_no_zero};
 use std::alloc::Global;
@@ -114,13 +115,6 @@ pub fn path_at(alloc: Global, bytes: &[u8]) -> Result<(Path, &[u8]), Refusal>
     let (text, rest) = text_at(alloc, bytes)?;
     let path = path_of(alloc, text.as_str())?;
     Ok((path, rest))
-}
-
-/// Whether a sign stands first, or a zero that the number does not need.
-fn has_lead(digits: &[u8]) -> bool
-    ensures { result ≡ has_lead digits.now }
-{
-    matches!(digits, [b'+', ..] | [b'0', _, ..])
 }
 
 /// The number that a text is written for: decimal digits without a sign and without a leading zero.

@@ -3,8 +3,8 @@ use Rattle.std.specs.Prelude.{Result}
 use Rattle.std.specs.List.{cons_option}
 use Rattle.std.proofs.lemmas.List.{append-nil, map-append, length-map}
 use Rattle.std.proofs.lemmas.List.Elements.{All-nil, All-append, All-push, All-weaker, All-map}
+use Rattle.b2_base.specs.Segments.{path_from}
 use Rattle.b2_features.specs.Table.{Declared}
-use Rattle.b2_texts.specs.Completion.{path_in}
 use Rattle.b2_declarations.specs.declared.declaration.Declaration.{Declaration}
 use Rattle.b2_declarations.specs.declared.declaration.Declaration.TheVariants.{Project, Main, Explicit, BuildProject, UseProject, Using, Feature, Compose, FileType, Generator, Import}
 use Rattle.b2_declarations.specs.declared.declaration.Attributes.{Attributes}
@@ -140,8 +140,8 @@ module _ (features : List Declared) (v : Visit) (projects : ℕ) (c : Call) (g t
 
   build_advances : (dir : List ℕ) → with_build v c dir g ≡ t → Advances projects c (Some (BuildProject dir)) g t
   build_advances dir same = subst (Advances projects c (Some (BuildProject dir)) g) same (record {
-    sound = λ within sound. changed_sound projects c.project g (λ p. record p { builds = p.builds ++ path_in v.dir dir ∷ [] }) (λ p n are. are) sound;
-    places = map_changed g.places c.project (λ p. record p { builds = p.builds ++ path_in v.dir dir ∷ [] }) visited (λ p. refl);
+    sound = λ within sound. changed_sound projects c.project g (λ p. record p { builds = p.builds ++ path_from v.dir dir ∷ [] }) (λ p n are. are) sound;
+    places = map_changed g.places c.project (λ p. record p { builds = p.builds ++ path_from v.dir dir ∷ [] }) visited (λ p. refl);
     targets = sym (append-nil (named g.targets));
   })
 

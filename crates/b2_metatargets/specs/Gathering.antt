@@ -4,6 +4,7 @@ use Rattle.std.specs.List.{filter_map, list_all}
 use Rattle.std.specs.Option.{option_map_or}
 use Rattle.std.specs.Map.{lookup}
 use Rattle.std.specs.Str.{bytes_eq}
+use Rattle.b2_base.specs.Segments.{path_from}
 use Rattle.b2_features.specs.declared.fault.FeatureFault.{FeatureFault}
 use Rattle.b2_features.specs.Table.{Declared}
 use Rattle.b2_props.specs.Sets.{Pair}
@@ -12,7 +13,6 @@ use Rattle.b2_props.specs.declared.requirement.Requirement.TheVariants as requir
 use Rattle.b2_texts.specs.declared.reading.Conditional.{Conditional}
 use Rattle.b2_texts.specs.declared.reading.RequirementText.{RequirementText}
 use Rattle.b2_texts.specs.declared.reading.RequirementText.TheVariants.{Plain, Indirect}
-use Rattle.b2_texts.specs.Completion.{path_in}
 use Rattle.b2_texts.specs.Clashes.{has_two_values, unconditional_pairs}
 use Rattle.b2_texts.specs.Readings.{usage_reading, requirement_reading, all_read}
 use Rattle.b2_declarations.specs.declared.declaration.Declaration.{Declaration}
@@ -184,11 +184,11 @@ with_explicit c names g = record g { places = with_place g.places c.project (λ 
 
 -- `build-project`: a directory that a request of the project stands for
 abbrev pub with_build : Visit → Call → List ℕ → Gathered → Gathered
-with_build v c dir g = record g { places = with_place g.places c.project (λ p. record p { builds = p.builds ++ path_in v.dir dir ∷ [] }) }
+with_build v c dir g = record g { places = with_place g.places c.project (λ p. record p { builds = p.builds ++ path_from v.dir dir ∷ [] }) }
 
 -- `use-project`: an id of another directory
 abbrev pub with_use : Visit → List ℕ → List ℕ → Gathered → Gathered
-with_use v id dir g = record g { ids = with_id g.ids id (path_in v.dir dir) }
+with_use v id dir g = record g { ids = with_id g.ids id (path_from v.dir dir) }
 
 -- what a declaration adds
 abbrev pub gathered : List Declared → Visit → Call → Declaration → Gathered → Result Gathered DeclaringFault

@@ -10,14 +10,13 @@ use crate::ids::Ids;
 use crate::lists::{Lists, read_lists};
 use crate::numbers::{numbered, plain_all};
 use crate::place::{IndirectRule, Place, Target};
-use crate::texts::append;
 use crate::visit::{Call, Visit, visit_of};
 use b2_base::fault::OutOfMemory;
 use b2_base::list::List;
 use b2_base::path::Path;
 use b2_base::path_list::PathList;
 use b2_base::text::Text;
-use b2_base::text_list::{TextList, copy_texts};
+use b2_base::text_list::{TextList, copy_texts, push_copies};
 use b2_declarations::declaration::{Attributes, Declaration, MainTarget};
 use b2_features::registry::Registry;
 use b2_props::pair_list::PairList;
@@ -206,7 +205,7 @@ impl Gathered {
         ensures projects { length self.new.places.items ≡ length self.old.places.items }
     {
         let place = &mut self.places[call.project];
-        append(&mut place.explicit, names)
+        push_copies(&mut place.explicit, names)
     }
 
     fn add_build(&mut self, visit: &Visit, call: &Call, dir: &Path) -> Result<(), OutOfMemory>

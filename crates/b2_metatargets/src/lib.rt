@@ -10,6 +10,5 @@ pub mod metatargets;
 mod numbers;
 pub mod place;
 pub mod tables;
-mod texts;
 pub mod visit;
 pub mod whole;

@@ -1,5 +1,5 @@
 //! The property texts of a call, read in the directory of its project.
-ghost use Rattle.std.specs.Prelude.{◌≡◌, ◌++◌, Ok, IfOk, IfErr, OnOk};
+ghost use Rattle.std.specs.Prelude.{◌≡◌, Ok, IfOk, IfErr, OnOk};
 ghost use Rattle.b2_texts.specs.Clashes.{has_two_values, unconditional_pairs};
 ghost use Rattle.b2_texts.specs.Readings.{property_reading};
 ghost use Rattle.b2_metatargets.specs.Outcomes.{IsFaultOf};
@@ -100,16 +100,6 @@ fn read_usage_texts(
     }
 }
 
-/// Adds values at the end.
-fn append<T: Drop>(list: &mut List<T>, more: List<T>) -> Result<(), OutOfMemory>
-    ensures { OnOk result (list.new ≡ list.old ++ more) }
-{
-    for value in more.into_vec() {
-        list.push(value)?;
-    }
-    Ok(())
-}
-
 fn is_of_requirements(list: &PropertyList) -> bool
     ensures { result ≡ is_of_requirements list.now }
 {
@@ -164,7 +154,7 @@ impl Lists {
         ensures fault { IfErr result (IsFaultOf (with_texts registry.now visit.now call.now ListName.Requirements texts.now self.old)) }
     {
         let more = read_requirement_texts(alloc, registry, visit, call, texts)?;
-        append(&mut self.requirements, more)?;
+        self.requirements.append(more)?;
         Ok(())
     }
 
@@ -196,7 +186,7 @@ impl Lists {
         ensures fault { IfErr result (IsFaultOf (with_texts registry.now visit.now call.now ListName.Usage texts.now self.old)) }
     {
         let more = read_usage_texts(alloc, registry, visit, call, texts)?;
-        append(&mut self.usage, more)?;
+        self.usage.append(more)?;
         Ok(())
     }
 

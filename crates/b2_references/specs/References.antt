@@ -3,9 +3,8 @@ use Rattle.std.specs.Prelude.{ℕ, zero, suc, ◌==◌, Bool, false, not, ◌&&�
 use Rattle.std.specs.List.{list_any, flat_map, filter_map}
 use Rattle.std.specs.Option.{option_map_or, option_and_then}
 use Rattle.std.specs.Str.{bytes_eq}
-use Rattle.b2_base.specs.Segments.{is_rooted}
+use Rattle.b2_base.specs.Segments.{is_rooted, path_from}
 use Rattle.b2_texts.specs.Cuts.{cut_at}
-use Rattle.b2_texts.specs.Completion.{path_in}
 use Rattle.b2_metatargets.specs.Gathering.{dir_of as dir_of_id}
 use Rattle.b2_metatargets.specs.declared.whole.Declared.{Declared}
 use Rattle.b2_references.specs.declared.meaning.Meaning.{Meaning}
@@ -61,7 +60,7 @@ module _ (d : Declared) where
   -- the project that stands before `//`: nothing stands for Jamroot's, an id begins with a slash, all else is a directory
   abbrev pub project_before : List ℕ → List ℕ → Option ℕ
   project_before dir [] = Some root
-  project_before dir (first ∷ rest) = if is_rooted (first ∷ rest) then place_with (first ∷ rest) else place_at (path_in dir (first ∷ rest))
+  project_before dir (first ∷ rest) = if is_rooted (first ∷ rest) then place_with (first ∷ rest) else place_at (path_from dir (first ∷ rest))
 
   -- a reference, cut at its first `//`: a main target of a project
   unfoldable pub reference_meaning : List ℕ → List ℕ × List ℕ → Meaning
@@ -73,7 +72,7 @@ module _ (d : Declared) where
 
   -- a text without `//` names a main target of a project, or a file of its directory
   unfoldable pub target_or_file : ℕ → List ℕ → Meaning
-  target_or_file project text = if is_target d (project, text) then Targets ((project, text) ∷ []) else File (path_in (dir_of d project) text)
+  target_or_file project text = if is_target d (project, text) then Targets ((project, text) ∷ []) else File (path_from (dir_of d project) text)
 
   -- a source of a main target
   unfoldable pub source_meaning : ℕ → List ℕ → Meaning
@@ -93,7 +92,7 @@ module _ (d : Declared) where
   -- a directory of a loaded project; the empty word is none
   unfoldable pub directory_meaning : List ℕ → Meaning
   directory_meaning [] = Nothing
-  directory_meaning (first ∷ rest) = option_map_or project_meaning (place_at (path_in (codes ".") (first ∷ rest))) Nothing
+  directory_meaning (first ∷ rest) = option_map_or project_meaning (place_at (path_from (codes ".") (first ∷ rest))) Nothing
 
   -- a word without `//`: an id, or a main target of Jamroot, or else a directory
   unfoldable pub plain_word_meaning : List ℕ → Meaning

@@ -11,10 +11,9 @@ use crate::name::{NameList, TargetName};
 use crate::projects::project_meaning;
 use crate::written::cut_reference;
 use b2_base::fault::OutOfMemory;
-use b2_base::path::Path;
+use b2_base::path::{Path, path_from};
 use b2_base::rooted::is_rooted;
 use b2_base::text::Text;
-use b2_texts::places::path_in;
 use std::alloc::Global;
 
 /// The place of Jamroot's project.
@@ -62,7 +61,7 @@ fn project_before(
     if is_rooted(before) {
         return Ok(index.place_with(before));
     }
-    let dir = path_in(alloc, dir, before)?;
+    let dir = path_from(alloc, dir, before)?;
     Ok(index.place_at(&dir))
 }
 
@@ -110,7 +109,7 @@ fn target_or_file(
         return one_target(alloc, project, text.copy()?);
     }
     let dir = index.dir_of(project)?;
-    let path = path_in(alloc, &dir, text.as_str())?;
+    let path = path_from(alloc, &dir, text.as_str())?;
     Ok(Meaning::File { path })
 }
 
@@ -168,7 +167,7 @@ fn directory_meaning(alloc: Global, index: &Index, word: &Text) -> Result<Meanin
         return Ok(Meaning::Nothing);
     }
     let dir = folder(alloc)?;
-    let dir = path_in(alloc, &dir, word.as_str())?;
+    let dir = path_from(alloc, &dir, word.as_str())?;
     match index.place_at(&dir) {
         Some(project) => project_meaning(alloc, index, project),
         None => Ok(Meaning::Nothing),

@@ -1,17 +1,12 @@
 -- How the values of paths and dependencies are completed in the project of a directory.
 use Rattle.std.specs.Prelude.{ℕ, List, [], ◌++◌, Option, Some, None, codes, if◌then◌else◌}
 use Rattle.std.specs.Str.{bytes_eq}
-use Rattle.b2_base.specs.Segments.{is_rooted, normal_of}
+use Rattle.b2_base.specs.Segments.{is_rooted, path_from}
 use Rattle.b2_features.specs.declared.attribute.Attribute.TheVariants.{Path, Dependency}
 use Rattle.b2_features.specs.Table.{Declared}
 use Rattle.b2_features.specs.Faults.{is_with}
 use Rattle.b2_props.specs.Sets.{Pair}
 use Rattle.b2_texts.specs.Cuts.{cut_at}
-
--- A path, relative to the folder: an absolute one, which begins with a slash, stays; every other one is relative to the
--- directory, and the empty one is the directory itself.
-abbrev pub path_in : List ℕ → List ℕ → List ℕ
-path_in dir value = normal_of (if is_rooted value then value else dir ++ codes "/" ++ value)
 
 -- a directory and a name as a reference; nothing stands for the folder itself
 abbrev pub reference_to : List ℕ → List ℕ → List ℕ
@@ -21,14 +16,14 @@ reference_to dir name = (if bytes_eq dir (codes ".") then [] else dir) ++ codes 
 -- stands before `//` is a path, and without `//` all is a name of the directory.
 abbrev pub whole_reference : List ℕ → List ℕ → Option (List ℕ × List ℕ) → List ℕ
 whole_reference dir value None = reference_to dir value
-whole_reference dir value (Some parts) = reference_to (path_in dir parts.0) parts.1
+whole_reference dir value (Some parts) = reference_to (path_from dir parts.0) parts.1
 
 abbrev pub reference_in : List ℕ → List ℕ → List ℕ
 reference_in dir value = if is_rooted value then value else whole_reference dir value (cut_at (codes "//") value)
 
 -- the value of a feature, completed
 abbrev pub value_in : List Declared → List ℕ → Pair → List ℕ
-value_in table dir p = if is_with Path table p.0 then path_in dir p.1 else (if is_with Dependency table p.0 then reference_in dir p.1 else p.1)
+value_in table dir p = if is_with Path table p.0 then path_from dir p.1 else (if is_with Dependency table p.0 then reference_in dir p.1 else p.1)
 
 -- a property, completed
 abbrev pub completed : List Declared → List ℕ → Pair → Pair

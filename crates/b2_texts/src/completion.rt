@@ -5,9 +5,8 @@ ghost use Rattle.b2_base.specs.Bytes.{HasNoZero};
 ghost use Rattle.b2_texts.specs.Completion.{reference_to, reference_in, value_in};
 
 use crate::cuts::cut_at;
-use crate::places::path_in;
 use b2_base::fault::OutOfMemory;
-use b2_base::path::Path;
+use b2_base::path::{Path, path_from};
 use b2_base::rooted::is_rooted;
 use b2_base::text::Text;
 use b2_features::attribute::Attribute;
@@ -44,7 +43,7 @@ fn reference_in(alloc: Global, dir: &Path, value: &Text) -> Result<Text, OutOfMe
     match cut_at(text, "//") {
         None => reference_to(alloc, dir, text),
         Some((place, name)) => {
-            let place = path_in(alloc, dir, place)?;
+            let place = path_from(alloc, dir, place)?;
             reference_to(alloc, &place, name)
         }
     }
@@ -64,7 +63,7 @@ pub(crate) fn value_in(
         None => value.copy(),
         Some(known) => {
             if known.is(Attribute::Path) {
-                path_in(alloc, dir, value.as_str())?.as_text().copy()
+                path_from(alloc, dir, value.as_str())?.as_text().copy()
             } else if known.is(Attribute::Dependency) {
                 reference_in(alloc, dir, value)
             } else {

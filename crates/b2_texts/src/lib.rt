@@ -6,6 +6,5 @@ pub mod completion;
 pub mod cuts;
 pub mod lists;
 pub mod missing;
-pub mod places;
 pub mod properties;
 pub mod reading;

@@ -1,7 +1,7 @@
 -- The paths of outputs. A slash is the byte 47, a dot the byte 46.
 use Rattle.std.specs.Prelude.{ℕ, ◌==◌, List, [], ◌∷◌, ◌++◌, ◌⊎◌, Option, Some, None, map, codes, if◌then◌else◌}
 use Rattle.std.specs.List.{Contains, list_any, before_last, after_last, join_with_byte}
-use Rattle.b2_base.specs.Segments.{normal_of, segments, is_rooted, is_up}
+use Rattle.b2_base.specs.Segments.{normal_of, path_from, segments, is_rooted, is_up}
 use Rattle.b2_plan.specs.Sources.{IsInRoots}
 
 -- ---- tails
@@ -44,16 +44,12 @@ named_tail dir name = normal_of (dir ++ codes "/" ++ name)
 abbrev pub output_path : List ℕ → List ℕ → List ℕ
 output_path elements tail = normal_of (codes "bin/" ++ elements ++ codes "/" ++ tail)
 
--- a location is relative to a directory, unless it begins with a slash
-abbrev pub place_of : List ℕ → List ℕ → List ℕ
-place_of dir location = normal_of (if is_rooted location then location else dir ++ codes "/" ++ location)
-
--- the path of a file that is put at a location
+-- the path of a file that is put at a location, which is relative to a directory, unless it begins with a slash
 abbrev pub located : List ℕ → List ℕ → List ℕ → List ℕ
-located dir location name = normal_of (place_of dir location ++ codes "/" ++ name)
+located dir location name = normal_of (path_from dir location ++ codes "/" ++ name)
 
 -- The location is an output root or lies under one, and the file lies under one. The second says more only of a name that
 -- is no plain segment, as `..`.
 abbrev pub IsPlaced : List (List ℕ) → List ℕ → List ℕ → List ℕ → Type 0
 IsPlaced roots dir location name =
-    (Contains roots (place_of dir location) ⊎ IsInRoots roots (place_of dir location)) × IsInRoots roots (located dir location name)
+    (Contains roots (path_from dir location) ⊎ IsInRoots roots (path_from dir location)) × IsInRoots roots (located dir location name)

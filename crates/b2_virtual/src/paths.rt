@@ -4,12 +4,11 @@ ghost use Rattle.std.specs.List.{Contains};
 ghost use Rattle.b2_base.specs.Bytes.{HasNoZero};
 ghost use Rattle.b2_plan.specs.Sources.{IsInRoots};
 ghost use Rattle.b2_virtual.specs.Refusals.{IsOutsideBy};
-ghost use Rattle.b2_virtual.specs.Paths.{named_tail, output_path, place_of, located, IsPlaced};
+ghost use Rattle.b2_virtual.specs.Paths.{named_tail, output_path, located, IsPlaced};
 
 use crate::fault::VirtualFault;
 use b2_base::fault::OutOfMemory;
-use b2_base::path::{Path, joined_path, path_of};
-use b2_base::rooted::is_rooted;
+use b2_base::path::{Path, joined_path, path_from};
 use b2_plan::roots::is_in_roots;
 use std::alloc::Global;
 
@@ -42,17 +41,6 @@ fn is_root(roots: &[Path], path: &Path) -> bool
     false
 }
 
-/// Where a location lies: relative to a directory, unless it begins with a slash.
-fn place_of(alloc: Global, dir: &Path, location: &str) -> Result<Path, OutOfMemory>
-    requires { HasNoZero location.now }
-    ensures { IfOk result (λ place. place ≡ place_of dir.now location.now) }
-{
-    if is_rooted(location) {
-        return path_of(alloc, location);
-    }
-    joined_path(alloc, dir.as_str(), location)
-}
-
 /// Whether the place of a location is an output root or lies under one, and a file's path lies under one.
 fn is_placed(roots: &[Path], place: &Path, path: &Path) -> bool
     ensures { IsTrue result ↔ ((Contains roots.now place.now ⊎ IsInRoots roots.now place.now) × IsInRoots roots.now path.now) }
@@ -75,7 +63,7 @@ pub fn location_path(
     ensures placed { IfOk result (λ _. IsPlaced roots.now dir.now location.now name.now) }
     ensures outside { IfErr result (IsOutsideBy roots.now dir.now location.now name.now) }
 {
-    let place = place_of(alloc, dir, location)?;
+    let place = path_from(alloc, dir, location)?;
     let path = joined_path(alloc, place.as_str(), name)?;
     if !is_placed(roots, &place, &path) {
         return Err(VirtualFault::LocationOutside { path });

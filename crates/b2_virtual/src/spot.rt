@@ -8,17 +8,10 @@ ghost use Rattle.b2_virtual.specs.Spots.{spot};
 use b2_base::fault::OutOfMemory;
 use b2_base::path::Path;
 use b2_base::rooted::is_rooted;
+use b2_base::segments::begins_above;
 use b2_base::text::Text;
 use b2_base::text_list::TextList;
 use std::alloc::Global;
-
-/// Whether a text in normal form begins with the segment `..`.
-fn begins_above(path: &str) -> bool
-    requires { IsNormal path.now }
-    ensures { result ≡ is_up (first_part path.now) }
-{
-    path == ".." || path.starts_with("../")
-}
 
 /// Whether a path's spot begins with the path itself, and not with a `.`.
 fn is_led(path: &str) -> bool

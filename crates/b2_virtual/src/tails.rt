@@ -9,19 +9,13 @@ ghost use Rattle.b2_virtual.specs.Paths.{up_shown, source_tail, stem_of, dotted,
 use b2_base::fault::OutOfMemory;
 use b2_base::path::{Path, path_of};
 use b2_base::rooted::is_rooted;
+use b2_base::segments::cut;
 use std::alloc::Global;
 
 fn up_shown(segment: &str) -> &str
     ensures { result.now ≡ up_shown segment.now }
 {
     if segment == ".." { "up" } else { segment }
-}
-
-fn cut(alloc: Global, text: &str) -> Result<Vec<&str>, OutOfMemory>
-    ensures { IfOk result (λ cuts. texts cuts.items ≡ segments text.now) }
-{
-    let cuts = text.split('/').collect(alloc)?;
-    Ok(cuts)
 }
 
 fn ups_shown<'a>(alloc: Global, cuts: &[&'a str]) -> Result<Vec<&'a str>, OutOfMemory>

@@ -3,15 +3,14 @@ ghost use Rattle.std.specs.Prelude.{◌≡◌, ◌∷◌, [], All, map, IfOk, st
 ghost use Rattle.std.specs.List.{join_with_byte};
 ghost use Rattle.std.specs.Str.{bytes_eq};
 ghost use Rattle.b2_base.specs.Bytes.{HasNoZero};
-ghost use Rattle.b2_base.specs.Segments.{segments, texts};
-ghost use Rattle.jam_eval.specs.Includes.{path_from};
+ghost use Rattle.b2_base.specs.Segments.{texts};
 ghost use Rattle.b2_visits.specs.Directories.{here, beginnings, path_of, way_to, module_name, file_names};
 
 use b2_base::fault::OutOfMemory;
 use b2_base::path::{Path, path_of};
 use b2_base::path_list::PathList;
+use b2_base::segments::cut;
 use b2_base::text::Text;
-use jam_values::paths::path_from;
 use std::alloc::Global;
 
 /// The folder itself.
@@ -48,14 +47,6 @@ fn paths_of(alloc: Global, segments: &[&str]) -> Result<PathList, OutOfMemory>
     Ok(paths)
 }
 
-/// The text, cut at its slashes.
-fn cut(alloc: Global, text: &str) -> Result<Vec<&str>, OutOfMemory>
-    ensures { IfOk result (λ cuts. texts cuts.items ≡ segments text.now) }
-{
-    let cuts = text.split('/').collect(alloc)?;
-    Ok(cuts)
-}
-
 /// The directories on the way to a directory, from the top down, and itself as the last; none where it does not lie below the
 /// folder.
 pub fn way_to(alloc: Global, dir: &Path) -> Result<PathList, OutOfMemory>
@@ -88,13 +79,4 @@ pub fn file_names(dir: &Path) -> (&'static str, &'static str)
     } else {
         ("Jamfile", "Jamfile.jam")
     }
-}
-
-/// The path of a file in a directory, by its name.
-pub fn file_in(alloc: Global, dir: &Path, name: &str) -> Result<Path, OutOfMemory>
-    requires { HasNoZero name.now }
-    ensures { IfOk result (λ path. path ≡ path_from dir.now name.now) }
-{
-    let name = Text::new(alloc, name)?;
-    path_from(alloc, dir, &name)
 }

@@ -4,6 +4,7 @@ use Rattle.std.specs.Prelude.{if◌then◌else◌, map as each}
 use Rattle.std.specs.List.{list_any}
 use Rattle.std.specs.Option.{IfSome}
 use Rattle.b2_base.specs.Below.{is_below}
+use Rattle.b2_base.specs.Segments.{path_from}
 use Rattle.b2_host.specs.declared.fault.IoFault.{IoFault}
 use Rattle.b2_host.specs.declared.fault.IoFault.TheVariants as io
 use Rattle.b2_host.specs.Disks.{Disk}
@@ -12,7 +13,7 @@ use Rattle.b2_host.specs.Outside.{Outside}
 use Rattle.b2_host.specs.OutsideLaws.{keeps_same, keeps_then, keeps_fails, keeps_reads, then_rose}
 use Rattle.jam_journal.specs.Tables.{Text}
 use Rattle.jam_scope.specs.Worlds.{World}
-use Rattle.jam_eval.specs.Includes.{path_from, is_in_roots}
+use Rattle.jam_eval.specs.Includes.{is_in_roots}
 use Rattle.jam_eval.specs.Settings.{Reading, is_missing, is_too_big, has_no_tokens, has_no_tree, is_file, IsReading}
 use Rattle.jam_values.specs.declared.files.FileReading.{FileReading}
 use Rattle.jam_values.specs.FileReadings.{reading_of, ReadsOnce}

@@ -1,7 +1,7 @@
 -- The native rules put no module below another one.
 use Rattle.std.proofs.Common.{◌≡◌, ℕ, Bool, true, false, not, ◌&&◌, ◌==◌, List, [], ◌∷◌, ◌++◌, length, Option, Some, None, Result, Ok, Err, refl, ap, ◌∙◌}
 use Rattle.std.specs.Prelude.{if◌then◌else◌}
-use Rattle.b2_base.specs.Lists.{list_at}
+use Rattle.b2_base.specs.Lists.{list_at, first_of}
 use Rattle.jam_journal.specs.Tables.{Text, Table}
 use Rattle.jam_journal.specs.Scopes.{Value}
 use Rattle.jam_scope.specs.Worlds.{World, Worlds}
@@ -14,7 +14,6 @@ use Rattle.jam_eval.specs.States.{State}
 use Rattle.jam_eval.specs.Calls.{native_answer, acted_answer}
 use Rattle.jam_eval.specs.Kept.{EndsTold}
 use Rattle.jam_eval.specs.Laws.{SameParents, KeepParents}
-use Rattle.jam_natives.specs.Lists.{text_of}
 use Rattle.jam_patterns.specs.declared.native_fault.NativeFault.{NativeFault}
 use Rattle.jam_natives.specs.declared.native.Native.{Native}
 use Rattle.jam_natives.specs.declared.native.Native.TheVariants as natives
@@ -79,9 +78,9 @@ row_keeps (natives.Notes rule) lists sight refused ws kept =
     foreign_keeps rule (foreign_in ws.now.step rule lists) (noted rule (list_at 1 lists)) ws kept (noted_keeps rule (list_at 1 lists) ws.now)
 row_keeps natives.Import lists sight refused ws kept =
     either_keeps (length (list_at 1 lists) == length (list_at 3 lists))
-    (imported (text_of (list_at 0 lists)) (list_at 1 lists) (text_of (list_at 2 lists)) (list_at 3 lists) ws kept) (refuses of_arity ws kept) ws.now.parents
-    (imported_keeps (text_of (list_at 0 lists)) (list_at 1 lists) (text_of (list_at 2 lists)) (list_at 3 lists) ws kept) refl
-row_keeps natives.Export lists sight refused ws kept = imported_keeps (text_of (list_at 0 lists)) (list_at 1 lists) [] (list_at 1 lists) ws kept
+    (imported (first_of (list_at 0 lists)) (list_at 1 lists) (first_of (list_at 2 lists)) (list_at 3 lists) ws kept) (refuses of_arity ws kept) ws.now.parents
+    (imported_keeps (first_of (list_at 0 lists)) (list_at 1 lists) (first_of (list_at 2 lists)) (list_at 3 lists) ws kept) refl
+row_keeps natives.Export lists sight refused ws kept = imported_keeps (first_of (list_at 0 lists)) (list_at 1 lists) [] (list_at 1 lists) ws kept
 row_keeps natives.Glob lists sight refused ws kept = refl
 row_keeps natives.ProjectGlob lists sight refused ws kept = refl
 

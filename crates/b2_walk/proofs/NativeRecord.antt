@@ -2,7 +2,7 @@
 use Rattle.std.proofs.Common.{◌≡◌, ℕ, Bool, true, false, ◌==◌, List, [], ◌∷◌, ◌++◌, length, Option, Some, None, Result, Ok, Err, refl, sym, ap, ◌∙◌, subst}
 use Rattle.std.specs.Prelude.{if◌then◌else◌}
 use Rattle.std.proofs.lemmas.List.{append_assoc, append-nil}
-use Rattle.b2_base.specs.Lists.{list_at}
+use Rattle.b2_base.specs.Lists.{list_at, first_of}
 use Rattle.jam_journal.specs.Tables.{Text}
 use Rattle.jam_journal.specs.Scopes.{Value}
 use Rattle.jam_scope.specs.Worlds.{World, Worlds}
@@ -14,7 +14,6 @@ use Rattle.jam_eval.specs.States.{State}
 use Rattle.jam_eval.specs.Calls.{native_answer, acted_answer}
 use Rattle.jam_eval.specs.Kept.{EndsTold}
 use Rattle.jam_eval.proofs.IsKept.{IsKept}
-use Rattle.jam_natives.specs.Lists.{text_of}
 use Rattle.jam_patterns.specs.declared.native_fault.NativeFault.{NativeFault}
 use Rattle.jam_natives.specs.declared.decl.Decl.{Decl}
 use Rattle.jam_natives.specs.declared.native.Native.{Native}
@@ -91,11 +90,11 @@ row_holds (natives.Notes rule) lists sight refused ws kept =
     holds_as kept (kept_after (row (natives.Notes rule) lists sight refused ws kept)) (foreign_keeps rule (foreign_in ws.now.step rule lists) (noted rule (list_at 1 lists)) ws kept)
 row_holds natives.Import lists sight refused ws kept =
     either_holds (length (list_at 1 lists) == length (list_at 3 lists))
-    (imported (text_of (list_at 0 lists)) (list_at 1 lists) (text_of (list_at 2 lists)) (list_at 3 lists) ws kept) (refuses of_arity ws kept) kept
-    (holds_as kept (kept_after (imported (text_of (list_at 0 lists)) (list_at 1 lists) (text_of (list_at 2 lists)) (list_at 3 lists) ws kept))
-    (imported_keeps (text_of (list_at 0 lists)) (list_at 1 lists) (text_of (list_at 2 lists)) (list_at 3 lists) ws kept)) (holds_same kept)
+    (imported (first_of (list_at 0 lists)) (list_at 1 lists) (first_of (list_at 2 lists)) (list_at 3 lists) ws kept) (refuses of_arity ws kept) kept
+    (holds_as kept (kept_after (imported (first_of (list_at 0 lists)) (list_at 1 lists) (first_of (list_at 2 lists)) (list_at 3 lists) ws kept))
+    (imported_keeps (first_of (list_at 0 lists)) (list_at 1 lists) (first_of (list_at 2 lists)) (list_at 3 lists) ws kept)) (holds_same kept)
 row_holds natives.Export lists sight refused ws kept =
-    holds_as kept (kept_after (row natives.Export lists sight refused ws kept)) (imported_keeps (text_of (list_at 0 lists)) (list_at 1 lists) [] (list_at 1 lists) ws kept)
+    holds_as kept (kept_after (row natives.Export lists sight refused ws kept)) (imported_keeps (first_of (list_at 0 lists)) (list_at 1 lists) [] (list_at 1 lists) ws kept)
 row_holds natives.Glob lists sight refused ws kept = holds_same kept
 row_holds natives.ProjectGlob lists sight refused ws kept = holds_same kept
 

@@ -2,16 +2,16 @@
 ghost use Rattle.std.specs.Prelude.{◌≡◌, IfOk};
 ghost use Rattle.std.specs.Option.{IfSome};
 ghost use Rattle.b2_base.specs.Bytes.{HasNoZero};
+ghost use Rattle.b2_base.specs.Segments.{path_from};
 ghost use Rattle.jam_eval.specs.Settings.{IsReading};
-ghost use Rattle.jam_eval.specs.Includes.{path_from};
 ghost use Rattle.jam_values.specs.FileReadings.{reading_of};
 ghost use Rattle.b2_walk.specs.Finding.{misses, of_io, IsSeen, IsFileAt, IsFileOf, LooksFor};
 
 use crate::fault::LoadFault;
-use b2_base::path::Path;
+use b2_base::path::{Path, path_from};
 use b2_host::fault::IoFault;
 use b2_host::files::Files;
-use b2_visits::directories::{file_in, file_names};
+use b2_visits::directories::file_names;
 use jam_scope::world::World;
 use jam_values::files::{FileReading, read_file};
 use jam_values::paths::is_below_any;
@@ -80,7 +80,7 @@ fn file_named<F: Files>(
     ensures told { IfOk result (λ found. IsFileAt (F.outside files.old).disk world.now.now (path_from dir.now name.now) found) }
     ensures effect { LooksFor result (F.outside files.old) (F.outside files.new) }
 {
-    let path = file_in(alloc, dir, name)?;
+    let path = path_from(alloc, dir, name)?;
     let reading = read_seen(alloc, world, files, &path)?;
     if is_missing(&reading) {
         return Ok(None);

@@ -1,4 +1,3 @@
 pub mod Grouped
-pub mod Numbers
 pub mod Parser
 pub mod Words

@@ -2,14 +2,8 @@
 ghost use Rattle.std.specs.Prelude.{◌≡◌, ◌≢◌, ◌<◌, ◌^◌, ℕ, MatchOption};
 ghost use Rattle.std.specs.Fmt.{decimal};
 ghost use Rattle.b2_words.specs.Words.{number};
-ghost use Rattle.b2_words.specs.Numbers.{has_lead};
 
-/// Whether a sign stands first, or a zero before further digits.
-fn has_lead(digits: &[u8]) -> bool
-    ensures { result ≡ has_lead digits.now }
-{
-    matches!(digits, [b'+', ..] | [b'0', _, ..])
-}
+use b2_base::decimal::has_lead;
 
 /// The number that a text is written for: decimal digits without a sign and without a leading zero.
 fn written_number(text: &str) -> Option<u32>

@@ -1,6 +1,7 @@
 -- The file of an include.
 use Rattle.std.specs.Prelude.{◌≡◌, ◌⊎◌, Bool, true, false, Option, Result, Ok, Err, IfErr}
 use Rattle.std.specs.Option.{IfSome}
+use Rattle.b2_base.specs.Segments.{path_from}
 use Rattle.b2_host.specs.Disks.{Disk}
 use Rattle.b2_host.specs.Outside.{Outside}
 use Rattle.b2_host.specs.OutsideLaws.{Keeps}
@@ -11,7 +12,7 @@ use Rattle.jam_scope.specs.Worlds.{World, Worlds}
 use Rattle.jam_scope.specs.Changes.{changed, freeze_roots}
 use Rattle.jam_eval.specs.Faults.{Spot, Cause, include, lex, syntax_at, too_big}
 use Rattle.jam_eval.specs.Settings.{Reading, is_missing, is_too_big, has_no_tokens, has_no_tree, is_file, IsReading}
-use Rattle.jam_eval.specs.Includes.{path_from, is_in_roots, in_file}
+use Rattle.jam_eval.specs.Includes.{is_in_roots, in_file}
 use Rattle.jam_effects.specs.declared.including.Included.{Included}
 use Rattle.jam_effects.specs.declared.fault.EvalFault.{EvalFault}
 use Rattle.jam_effects.specs.declared.fault.EvalFault.TheVariants as faults

@@ -9,7 +9,7 @@ ghost use Rattle.jam_effects.specs.Spots.{spot_of};
 
 use crate::at::At;
 use crate::fault::{EvalCause, EvalFault};
-use b2_base::path::Path;
+use b2_base::path::{Path, path_from};
 use b2_base::text::Text;
 use b2_host::fault::IoFault;
 use b2_host::files::Files;
@@ -17,7 +17,7 @@ use jam_grammar::tree::Tree;
 use jam_lexer::fault::LexFault;
 use jam_scope::world::World;
 use jam_values::files::{FileReading, read_file};
-use jam_values::paths::{is_below_any, path_from};
+use jam_values::paths::is_below_any;
 use std::alloc::Global;
 
 /// A file with its statements.
@@ -104,7 +104,7 @@ pub fn read_include<F: Files>(
     ensures effect { Looked (F.outside files.old) (F.outside files.new) result }
     ensures foreseen { refused_of result ≡ None }
 {
-    let path = path_from(alloc, world.place(), name)?;
+    let path = path_from(alloc, world.place(), name.as_str())?;
     world.freeze_roots();
     if is_below_any(&path, world.roots()) {
         return Err(missing(&path, at));

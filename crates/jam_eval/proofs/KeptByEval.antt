@@ -2,6 +2,7 @@
 use Rattle.std.proofs.Common.{◌≡◌, ℕ, zero, suc, Bool, true, false, List, [], ◌∷◌, Option, Some, None, Result, Ok, Err, refl}
 use Rattle.std.specs.Option.{unwrap_or}
 use Rattle.b2_base.specs.declared.expand_fault.ExpandFault.{ExpandFault}
+use Rattle.b2_base.specs.Segments.{path_from}
 use Rattle.jam_grammar.specs.declared.tree.Sign.{Sign}
 use Rattle.jam_grammar.specs.declared.tree.Sign.TheVariants as sign
 use Rattle.jam_grammar.specs.Trees as tree
@@ -22,7 +23,7 @@ use Rattle.jam_eval.specs.Levels.{Levels}
 use Rattle.jam_eval.specs.Params.{call_binds}
 use Rattle.jam_eval.specs.Args.{arg, args_after, args, lists, call, call_with, call_head, call_of, inner}
 use Rattle.jam_eval.specs.Conds.{compared, expr, any_of, all_of}
-use Rattle.jam_eval.specs.Includes.{path_from, is_in_roots, file_ended, read_so, included_at, included}
+use Rattle.jam_eval.specs.Includes.{is_in_roots, file_ended, read_so, included_at, included}
 use Rattle.jam_eval.specs.Calls.{value_of, transformed, filtered, stepped, told, recorded, native_call, acted_at, bound_call, called, applied}
 use Rattle.jam_eval.specs.Forms.{done, is_empty, own_value, for_all, bind_names, set_name, set_own, while_rounds, for_rounds, for_loop, local_value, block, first_case, started, form, other, stmts}
 use Rattle.jam_eval.specs.Eval.{rule_body, one_level, levels, run, run_call, most_levels}

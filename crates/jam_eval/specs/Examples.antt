@@ -2,7 +2,7 @@
 use Rattle.std.specs.Prelude.{◌≡◌, ℕ, zero, suc, Bool, true, false, List, [], ◌∷◌, ◌++◌, Option, Some, None, codes}
 use Rattle.std.specs.Str.{bytes_eq}
 use Rattle.b2_base.specs.declared.expand_fault.ExpandFault.TheVariants as expansion
-use Rattle.b2_base.specs.Lists.{list_at}
+use Rattle.b2_base.specs.Lists.{list_at, first_of}
 use Rattle.jam_grammar.specs.declared.tree.Sign.TheVariants as signs
 use Rattle.jam_grammar.specs.declared.tree.Param.{Param}
 use Rattle.jam_grammar.specs.Trees as tree
@@ -19,7 +19,7 @@ use Rattle.jam_eval.specs.Settings.{Told, answers, Meaning, Setting, Reading, is
 use Rattle.jam_eval.specs.Outcomes.{Outcome, gives, faults, then_do, in_frame}
 use Rattle.jam_eval.specs.Calls.{value_of}
 use Rattle.jam_eval.specs.Params.{params_bind}
-use Rattle.jam_eval.specs.Forms.{first_of, stmts}
+use Rattle.jam_eval.specs.Forms.{stmts}
 use Rattle.jam_eval.specs.Eval.{levels, most_levels, run}
 use Rattle.jam_eval.specs.Rolled.{call_rolled}
 

@@ -2,6 +2,7 @@
 use Rattle.std.specs.Prelude.{ℕ, zero, suc, Bool, true, false, [], ◌∷◌, Option, Some, None}
 use Rattle.std.specs.Option.{unwrap_or}
 use Rattle.std.specs.FinMap as map
+use Rattle.b2_base.specs.Lists.{first_of}
 use Rattle.jam_grammar.specs.declared.tree.Sign.{Sign}
 use Rattle.jam_grammar.specs.declared.tree.Sign.TheVariants as sign
 use Rattle.jam_grammar.specs.Trees as tree
@@ -17,11 +18,6 @@ use Rattle.jam_eval.specs.Levels.{Levels}
 use Rattle.jam_eval.specs.Args.{arg, args, call_of}
 use Rattle.jam_eval.specs.Conds.{expr}
 use Rattle.jam_eval.specs.Includes.{included}
-
--- the first element, or the empty text
-abbrev pub first_of : Value → Text
-first_of [] = []
-first_of (text ∷ texts) = text
 
 abbrev pub is_empty : Value → Bool
 is_empty [] = true

@@ -1,7 +1,7 @@
 -- What an included file does.
-use Rattle.std.specs.Prelude.{Bool, List, [], ◌∷◌, ◌++◌, if◌then◌else◌}
+use Rattle.std.specs.Prelude.{Bool, [], ◌∷◌}
 use Rattle.std.specs.List.{list_any}
-use Rattle.b2_base.specs.Segments.{is_rooted, normal_of}
+use Rattle.b2_base.specs.Segments.{path_from}
 use Rattle.b2_base.specs.Below.{is_below}
 use Rattle.jam_journal.specs.Tables.{Text}
 use Rattle.jam_journal.specs.Scopes.{Value}
@@ -12,10 +12,6 @@ use Rattle.jam_eval.specs.States.{State, with_world}
 use Rattle.jam_eval.specs.Settings.{Reading, is_missing, is_too_big, has_no_tokens, has_no_tree, is_file, Setting}
 use Rattle.jam_eval.specs.Outcomes.{Outcome, gives, faults, Flow, goes_on, then_do, fault_at, either, in_frame}
 use Rattle.jam_eval.specs.Levels.{Levels}
-
--- the path of a file, relative to a directory (47 is the slash)
-abbrev pub path_from : Text → Text → Text
-path_from dir name = normal_of (if is_rooted name then name else dir ++ 47 ∷ name)
 
 abbrev pub in_file : Text → Spot → Spot
 in_file path spot = record spot { path = path }

@@ -1,15 +1,11 @@
 -- How the parameters of a rule take the arguments of a call.
 use Rattle.std.specs.Prelude.{ℕ, zero, suc, ◌==◌, List, [], ◌∷◌, ◌++◌, Option, Some, None, if◌then◌else◌}
 use Rattle.std.specs.Option.{option_map}
-use Rattle.b2_base.specs.Lists.{list_at}
+use Rattle.b2_base.specs.Lists.{list_at, rest_of}
 use Rattle.jam_grammar.specs.declared.tree.Param.{Param}
 use Rattle.jam_grammar.specs.Spelling.{takes_all}
 use Rattle.jam_journal.specs.Tables.{Text}
 use Rattle.jam_journal.specs.Scopes.{Value, Binding}
-
-abbrev pub rest_of : List Value → List Value
-rest_of [] = []
-rest_of (list ∷ more) = more
 
 -- the lists as `1` to `9` (49 to 57), and as `<` (60) and `>` (62); those that are not given are empty
 abbrev pub numbered : ℕ → ℕ → List Value → List Binding

@@ -2,6 +2,7 @@
 use Rattle.std.proofs.Common.{◌≡◌, ◌+◌, ℕ, suc, Bool, true, false, List, [], ◌∷◌, Option, Result, Ok, Err, refl, sym, ap, subst}
 use Rattle.std.specs.declared.vec.Vec.{Vec}
 use Rattle.std.specs.declared.alloc.Global.{Global}
+use Rattle.b2_base.specs.Lists.{first_of}
 use Rattle.jam_grammar.specs.declared.tree.Sign.{Sign}
 use Rattle.jam_grammar.specs.declared.tree.Arg.{Arg}
 use Rattle.jam_grammar.specs.declared.tree.Expr.{Expr}
@@ -16,7 +17,7 @@ use Rattle.jam_eval.specs.Faults.{turns}
 use Rattle.jam_eval.specs.States.{with_scopes}
 use Rattle.jam_eval.specs.Outcomes.{gives, Flow, goes_on, then_do, then_go, either, take_turn, in_module, close_frame, on_target}
 use Rattle.jam_eval.specs.Includes.{included}
-use Rattle.jam_eval.specs.Forms.{done, bind_names, local_value, for_loop, for_all, set_own, first_of}
+use Rattle.jam_eval.specs.Forms.{done, bind_names, local_value, for_loop, for_all, set_own}
 use Rattle.jam_effects.specs.declared.at.At.{At}
 use Rattle.jam_effects.specs.declared.flow.Flow.{Flow as Way}
 use Rattle.jam_effects.specs.declared.flow.Flow.TheVariants as ways

@@ -2,6 +2,7 @@
 use Rattle.std.proofs.Common.{◌≡◌, ◌<◌, ◌+◌, ◌-◌, ℕ, Bool, true, false, List, [], ◌∷◌, cond, Option, Some, None, Result, Ok, Err, refl, sym, ap, ◌∙◌, subst}
 use Rattle.std.specs.declared.vec.Vec.{Vec}
 use Rattle.std.specs.declared.alloc.Global.{Global}
+use Rattle.b2_base.specs.Lists.{first_of}
 use Rattle.jam_grammar.specs.declared.tree.Arg.{Arg}
 use Rattle.jam_grammar.specs.declared.tree.Expr.{Expr}
 use Rattle.jam_grammar.specs.declared.tree.Block.{Block}
@@ -20,7 +21,7 @@ use Rattle.jam_eval.specs.States.{State, with_scopes}
 use Rattle.jam_eval.specs.Settings.{Setting}
 use Rattle.jam_eval.specs.Outcomes.{gives, Flow, returns, then_do, then_go, either, in_module, close_frame, on_target, own_bindings}
 use Rattle.jam_eval.specs.Levels.{Levels}
-use Rattle.jam_eval.specs.Forms.{block, done, form, stmts, other, for_all, set_name, first_case, first_of}
+use Rattle.jam_eval.specs.Forms.{block, done, form, stmts, other, for_all, set_name, first_case}
 use Rattle.jam_values.specs.Choosing.{Matches, chosen}
 use Rattle.jam_eval.specs.Eval.{levels}
 use Rattle.jam_effects.specs.declared.at.At.{At}

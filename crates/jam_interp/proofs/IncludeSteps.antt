@@ -1,6 +1,7 @@
 -- What an include does, exit by exit.
 use Rattle.std.proofs.Common.{◌≡◌, inl, inr, Bool, true, false, Option, Some, None, Result, Ok, Err, refl, sym, ap, ◌∙◌, subst, arith}
 use Rattle.std.specs.Option.{IfSome}
+use Rattle.b2_base.specs.Segments.{path_from}
 use Rattle.b2_host.specs.Disks.{Folder, Disk}
 use Rattle.b2_host.specs.Outside.{Outside}
 use Rattle.jam_grammar.specs.declared.tree.Block.{Block}
@@ -14,7 +15,7 @@ use Rattle.jam_eval.specs.Refused.{TookTurn}
 use Rattle.jam_eval.specs.States.{State}
 use Rattle.jam_eval.specs.Settings.{Setting, Reading, is_missing, is_too_big, has_no_tokens, has_no_tree, is_file, IsReading}
 use Rattle.jam_eval.specs.Outcomes.{Outcome, gives, Flow, goes_on, then_do, either, fault_at, in_frame, in_module}
-use Rattle.jam_eval.specs.Includes.{path_from, is_in_roots, read_so, file_ended}
+use Rattle.jam_eval.specs.Includes.{is_in_roots, read_so, file_ended}
 use Rattle.jam_effects.specs.declared.at.At.{At}
 use Rattle.jam_effects.specs.declared.including.Included.{Included}
 use Rattle.jam_effects.specs.declared.flow.Flow.{Flow as Way}

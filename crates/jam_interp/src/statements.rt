@@ -10,7 +10,7 @@ use crate::arguments::{arg, args};
 use crate::calls::call_of;
 use crate::conditions::expr;
 use b2_base::text::Text;
-use b2_base::text_list::TextList;
+use b2_base::text_list::{TextList, first_of};
 use b2_host::files::Files;
 use jam_effects::at::{At, NESTED};
 use jam_effects::fault::{EvalCause, EvalFault};
@@ -22,7 +22,7 @@ use jam_effects::turns::{Turns, take_turn};
 use jam_eval::natives::Natives;
 use jam_grammar::tree::{Arg, Block, Case, Expr, Form, Other, Sign, Stmt};
 use jam_scope::world::World;
-use jam_values::cases::{chosen, first_of};
+use jam_values::cases::chosen;
 use std::alloc::Global;
 
 /// Runs statements of a file in order.

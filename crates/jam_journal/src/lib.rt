@@ -7,7 +7,6 @@ mod others;
 pub mod past;
 pub mod past_lists;
 mod registers;
-pub mod reserved;
 pub mod saved;
 pub mod sized_list;
 mod slots;

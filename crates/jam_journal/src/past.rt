@@ -4,7 +4,6 @@ ghost use Rattle.std.specs.Option.{option_copied};
 ghost use Rattle.std.specs.FinMap as map;
 
 use crate::name::Name;
-use crate::reserved::push_reserved;
 use crate::table::Table;
 use b2_base::fault::OutOfMemory;
 use std::alloc::Global;
@@ -123,7 +122,7 @@ impl<V: Drop> Past<V> {
     {
         self.older.reserve(1)?;
         let changes = mem::replace(&mut self.changes, Vec::new(self.alloc));
-        push_reserved(&mut self.older, changes);
+        self.older.push_reserved(changes);
         Ok(())
     }
 

@@ -1,6 +1,5 @@
 //! A table of lists whose past can be marked, and whose lists grow in place.
 use crate::name::Name;
-use crate::reserved::push_reserved;
 use crate::sized_list::SizedList;
 use crate::table::Table;
 use b2_base::fault::OutOfMemory;
@@ -151,7 +150,7 @@ impl PastLists {
     {
         self.older.reserve(1)?;
         let changes = mem::replace(&mut self.changes, Vec::new(self.alloc));
-        push_reserved(&mut self.older, changes);
+        self.older.push_reserved(changes);
         Ok(())
     }
 

@@ -2,7 +2,6 @@
 ghost use Rattle.std.specs.Prelude.{◌≡◌, [], OnOk, OnErr};
 ghost use Rattle.jam_journal.specs.Marks.{changed, marked, rolled};
 
-use crate::reserved::push_reserved;
 use b2_base::fault::OutOfMemory;
 use std::alloc::Global;
 use std::marker::Model;
@@ -67,7 +66,7 @@ impl<T: Drop> Saved<T> {
     {
         self.older.reserve(1)?;
         let before = self.before.take();
-        push_reserved(&mut self.older, before);
+        self.older.push_reserved(before);
         Ok(())
     }
 

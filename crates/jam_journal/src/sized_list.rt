@@ -4,7 +4,7 @@ ghost use Rattle.jam_journal.specs.Sizes.{size_of, capped};
 
 use b2_base::fault::OutOfMemory;
 use b2_base::text::Text;
-use b2_base::text_list::TextList;
+use b2_base::text_list::{TextList, copy_texts};
 use std::alloc::Global;
 use std::marker::Model;
 
@@ -58,11 +58,8 @@ fn size_before(whole: u64, texts: &[Text], count: usize) -> u64
 pub fn copies(alloc: Global, texts: &[Text]) -> Result<Vec<Text>, OutOfMemory>
     ensures { IfOk result (λ made. made.items ≡ texts.now) }
 {
-    let mut made = Vec::new(alloc);
-    for text in texts {
-        made.push(text.copy()?)?;
-    }
-    Ok(made)
+    let made = copy_texts(alloc, texts)?;
+    Ok(made.into_vec())
 }
 
 impl SizedList {

@@ -3,7 +3,6 @@ use crate::name::Name;
 use crate::names::Names;
 use crate::past::{Replaced, change};
 use crate::registers::{Cell, Registers, Scope, closing, growing, looking, opening, unset};
-use crate::reserved::push_reserved;
 use crate::sized_list::SizedList;
 use crate::table::Table;
 use b2_base::fault::OutOfMemory;
@@ -258,7 +257,7 @@ impl Variables {
         self.older.reserve(1)?;
         let entries = mem::replace(&mut self.entries, Vec::new(self.alloc));
         let changes = mem::replace(&mut self.changes, Vec::new(self.alloc));
-        push_reserved(&mut self.older, Layer { entries, changes });
+        self.older.push_reserved(Layer { entries, changes });
         Ok(())
     }
 

@@ -2,13 +2,12 @@
 use Rattle.std.specs.Prelude.{Bool, not, ◌||◌, [], ◌∷◌, ◌++◌, codes, filter, map as each, if◌then◌else◌}
 use Rattle.std.specs.List.{flat_map, list_any}
 use Rattle.std.specs.Str.{bytes_eq}
-use Rattle.b2_base.specs.Segments.{normal_of}
+use Rattle.b2_base.specs.Segments.{normal_of, path_from}
 use Rattle.b2_base.specs.Below.{is_below}
 use Rattle.jam_path.specs.Names.{dir_of, file_of}
 use Rattle.jam_journal.specs.Tables.{Text}
 use Rattle.jam_journal.specs.Scopes.{Value}
 use Rattle.jam_eval.specs.Settings.{Sight}
-use Rattle.jam_eval.specs.Includes.{path_from}
 use Rattle.jam_natives.specs.Texts.{without_repeats}
 
 -- a name directly in a directory, as a path; in `.` it is the name alone (47 is the slash)

@@ -3,9 +3,9 @@ use Rattle.std.specs.Prelude.{Bool, false, ◌||◌, not, ◌&&◌, List, [], �
 use Rattle.std.specs.List.{flat_map, list_any}
 use Rattle.std.specs.Str.{bytes_eq}
 use Rattle.b2_base.specs.Segments.{normal_of}
+use Rattle.b2_base.specs.Lists.{rest_of}
 use Rattle.jam_journal.specs.Tables.{Text}
 use Rattle.jam_journal.specs.Scopes.{Value}
-use Rattle.jam_eval.specs.Params.{rest_of}
 
 -- an attribute list whose first text is `output-dirs`
 abbrev pub is_output_dirs : Value → Bool

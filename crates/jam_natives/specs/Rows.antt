@@ -4,7 +4,7 @@ use Rattle.std.specs.FinMap as map
 use Rattle.std.specs.List.{find}
 use Rattle.std.specs.Str.{bytes_eq}
 use Rattle.b2_base.specs.Segments.{normal_of}
-use Rattle.b2_base.specs.Lists.{list_at}
+use Rattle.b2_base.specs.Lists.{list_at, first_of}
 use Rattle.jam_patterns.specs.declared.native_fault.NativeFault.{NativeFault}
 use Rattle.jam_patterns.specs.declared.native_fault.NativeFault.TheVariants as faults
 use Rattle.jam_journal.specs.Tables.{Text, Table}
@@ -25,7 +25,6 @@ use Rattle.jam_natives.specs.declared.native.Reading.TheVariants as reads
 use Rattle.jam_natives.specs.declared.native.Noting.{Noting}
 use Rattle.jam_natives.specs.declared.native.Noting.TheVariants as notes
 use Rattle.jam_natives.specs.Keeping.{Kept}
-use Rattle.jam_natives.specs.Lists.{text_of}
 use Rattle.jam_natives.specs.Rules.{native_of, shape_of, is_declaring}
 use Rattle.b2_base.specs.Shapes.{has_shape}
 use Rattle.jam_natives.specs.Texts.{line_of, after_start, sorted}
@@ -56,9 +55,9 @@ module_list owner = if bytes_eq owner [] then [] else (if is_text owner then own
 abbrev pub read : Reading → List Value → Option Text → World → Result NativeStep NativeFault
 read reads.Exit lists refused w = Ok (steps.Exit (line_of (list_at 0 lists)))
 read reads.Match lists refused w = matched (matches_of refused (list_at 0 lists) (list_at 1 lists))
-read reads.GetValues lists refused w = Ok (steps.Value (after_start (text_of (list_at 0 lists)) (list_at 1 lists)))
-read reads.RuleNames lists refused w = Ok (steps.Value (names_in w.rules (text_of (list_at 0 lists))))
-read reads.VarNames lists refused w = Ok (steps.Value (names_in w.scopes.variables (text_of (list_at 0 lists))))
+read reads.GetValues lists refused w = Ok (steps.Value (after_start (first_of (list_at 0 lists)) (list_at 1 lists)))
+read reads.RuleNames lists refused w = Ok (steps.Value (names_in w.rules (first_of (list_at 0 lists))))
+read reads.VarNames lists refused w = Ok (steps.Value (names_in w.scopes.variables (first_of (list_at 0 lists))))
 read reads.CallerModule lists refused w = Ok (steps.Value (module_list (caller_of w.scopes.frames)))
 read reads.Sort lists refused w = Ok (steps.Value (sorted (list_at 0 lists)))
 read reads.Transform lists refused w = Ok (steps.Each (list_at 0 lists) (list_at 1 lists) false)
@@ -89,7 +88,7 @@ noted notes.NotFile sources = set_notfile
 
 -- the text that has no place in the open step; outside a step's rule it is the first target
 abbrev pub foreign_in : Option StepNotes → Noting → List Value → Option Text
-foreign_in None rule lists = Some (text_of (list_at 0 lists))
+foreign_in None rule lists = Some (first_of (list_at 0 lists))
 foreign_in (Some step) rule lists = first_foreign (named_by rule step) (list_at 0 lists) (list_at 1 lists)
 
 abbrev pub name_of : Noting → Text
@@ -128,11 +127,11 @@ imported from names to places ws kept = unless_missing from (missing_rule ws.now
 abbrev pub import_call : List Value → Worlds → Kept → Answer
 import_call lists ws kept =
     if length (list_at 1 lists) == length (list_at 3 lists)
-    then imported (text_of (list_at 0 lists)) (list_at 1 lists) (text_of (list_at 2 lists)) (list_at 3 lists) ws kept
+    then imported (first_of (list_at 0 lists)) (list_at 1 lists) (first_of (list_at 2 lists)) (list_at 3 lists) ws kept
     else refuses of_arity ws kept
 
 abbrev pub export_call : List Value → Worlds → Kept → Answer
-export_call lists ws kept = imported (text_of (list_at 0 lists)) (list_at 1 lists) [] (list_at 1 lists) ws kept
+export_call lists ws kept = imported (first_of (list_at 0 lists)) (list_at 1 lists) [] (list_at 1 lists) ws kept
 
 -- ---- what is kept
 

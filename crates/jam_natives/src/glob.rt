@@ -2,19 +2,19 @@
 ghost use Rattle.std.specs.Prelude.{◌≡◌, ◌++◌, ◌∷◌, [], IfOk, OnOk};
 ghost use Rattle.b2_base.specs.Bytes.{HasNoZero};
 ghost use Rattle.b2_host.specs.Outside.{IoLooks};
-ghost use Rattle.jam_path.specs.Names.{or_root, dir_of, file_of};
-ghost use Rattle.jam_eval.specs.Includes.{path_from};
+ghost use Rattle.jam_path.specs.Names.{dir_of, file_of};
 ghost use Rattle.jam_natives.specs.Sights.{ForMatching, WhereSeen};
 ghost use Rattle.jam_natives.specs.Searches.{picks, finds};
 ghost use Rattle.jam_natives.specs.Globs.{path_in, is_output_dir, is_matched, globbed, found_by, project_globbed};
 
 use crate::texts::without_repeats;
 use b2_base::fault::OutOfMemory;
-use b2_base::path::{Path, joined_path, path_of};
+use b2_base::path::{Path, path_from, path_of};
 use b2_base::text::Text;
 use b2_base::text_list::TextList;
 use b2_host::fault::IoFault;
 use b2_host::files::Files;
+use jam_path::cut::cut_dir;
 use jam_path::glob::glob_match;
 use std::alloc::Global;
 
@@ -151,15 +151,6 @@ pub fn glob<F: Files>(
     Ok(found)
 }
 
-/// The root where nothing stands before the slash.
-fn or_root(before: &str) -> &str
-    requires { HasNoZero before.now }
-    ensures value { result.now ≡ or_root before.now }
-    ensures no_zero { HasNoZero result.now }
-{
-    if before.is_empty() { "/" } else { before }
-}
-
 /// The directory of a pattern, which stands before its last slash, and the pattern on names after it.
 fn cut_pattern(pattern: &Text) -> (&str, &str)
     ensures dir { result.0.now ≡ dir_of pattern.now }
@@ -167,22 +158,7 @@ fn cut_pattern(pattern: &Text) -> (&str, &str)
     ensures dir_no_zero { HasNoZero result.0.now }
     ensures file_no_zero { HasNoZero result.1.now }
 {
-    let text = pattern.as_str();
-    match text.rsplit_once('/') {
-        None => ("", text),
-        Some((before, file)) => (or_root(before), file),
-    }
-}
-
-/// A path that is relative to a directory, unless it begins with a slash.
-fn path_from(alloc: Global, place: &Path, text: &str) -> Result<Path, OutOfMemory>
-    requires { HasNoZero text.now }
-    ensures { IfOk result (λ path. path ≡ path_from place.now text.now) }
-{
-    if text.starts_with('/') {
-        return path_of(alloc, text);
-    }
-    joined_path(alloc, place.as_str(), text)
+    cut_dir(pattern.as_str())
 }
 
 /// Adds the files that one pattern of `glob` finds.

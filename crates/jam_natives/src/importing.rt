@@ -7,10 +7,9 @@ ghost use Rattle.jam_scope.specs.Changes.{changed};
 ghost use Rattle.jam_natives.specs.Rows.{missing_rule, import_each, imported, import_call, export_call};
 ghost use Rattle.jam_natives.specs.Calls.{IsPut};
 
-use crate::list::text_of;
 use b2_base::fault::OutOfMemory;
 use b2_base::text::Text;
-use b2_base::text_list::{TextList, list_at};
+use b2_base::text_list::{TextList, first_of, list_at};
 use jam_eval::natives::{NativeError, NativeStep};
 use jam_patterns::native_fault::NativeFault;
 use jam_scope::rule_ref::RuleRef;
@@ -105,8 +104,8 @@ pub(crate) fn import_call(
     if names.len() != places.len() {
         return Err(NativeError::Arity);
     }
-    let from = text_of(list_at(lists, 0));
-    let to = text_of(list_at(lists, 2));
+    let from = first_of(list_at(lists, 0));
+    let to = first_of(list_at(lists, 2));
     import(alloc, from, names, to, places, world)
 }
 
@@ -120,6 +119,6 @@ pub(crate) fn export_call(
     ensures frames { KeepsFrames world.old world.new }
 {
     let names = list_at(lists, 1);
-    let from = text_of(list_at(lists, 0));
+    let from = first_of(list_at(lists, 0));
     import(alloc, from, names, "", names, world)
 }

@@ -6,7 +6,6 @@ mod declaring;
 pub mod glob;
 mod importing;
 pub mod laws;
-pub mod list;
 pub mod native;
 pub mod natives;
 mod noting;

@@ -1,10 +1,9 @@
 //! The native rules by their names.
 ghost use Rattle.std.specs.Prelude.{◌≡◌, map};
-ghost use Rattle.std.specs.List.{list_any};
-ghost use Rattle.std.specs.Str.{bytes_eq};
 ghost use Rattle.jam_natives.specs.Rules.{native_in, native_of, shape_of, is_declaring};
 
 use b2_base::shape::Count;
+use b2_base::text::is_among;
 
 /// Native rules that look at their lists and the world alone.
 #[derive(Clone, Copy)]
@@ -170,15 +169,6 @@ static DECLARING: [&str; 16] = [
     "generators.register-standard",
     "import",
 ];
-
-fn is_among(name: &str, names: &[&str]) -> bool
-    ensures { result ≡ list_any (λ other. bytes_eq name.now other.now) names.now }
-{
-    match names {
-        [] => false,
-        [first, more @ ..] => name == *first || is_among(name, more),
-    }
-}
 
 /// Whether a rule of this name declares; takes no memory.
 #[tactic(auto, unfolding(crate::specs::Rules::is_declaring))]

@@ -7,13 +7,12 @@ ghost use Rattle.jam_natives.specs.Named.{paths_in};
 ghost use Rattle.jam_natives.specs.Rows.{named_by, add_each, noted, foreign_in, name_of, note};
 ghost use Rattle.jam_natives.specs.Calls.{IsPut};
 
-use crate::list::text_of;
 use crate::native::Noting;
 use crate::target::{Named, first_foreign};
 use b2_base::fault::OutOfMemory;
 use b2_base::path::path_of;
 use b2_base::text::Text;
-use b2_base::text_list::{TextList, list_at};
+use b2_base::text_list::{TextList, first_of, list_at};
 use jam_eval::natives::{NativeError, NativeStep};
 use jam_patterns::native_fault::NativeFault;
 use jam_scope::notes::StepNotes;
@@ -75,7 +74,7 @@ fn foreign<'a>(
     ensures no_zero { IfOk result (λ text. IfSome text (λ t. HasNoZero t.now)) }
 {
     match world.step() {
-        None => Ok(Some(text_of(list_at(lists, 0)))),
+        None => Ok(Some(first_of(list_at(lists, 0)))),
         Some(notes) => foreign_in(alloc, notes, rule, lists),
     }
 }

@@ -2,14 +2,13 @@
 ghost use Rattle.std.specs.Prelude.{◌≡◌, ◌++◌, ◌∷◌, [], map, filter, drop, Some, None, IfOk, OnOk, if◌then◌else◌};
 ghost use Rattle.std.specs.List.{flat_map, list_any};
 ghost use Rattle.b2_base.specs.Segments.{normal_of};
-ghost use Rattle.jam_eval.specs.Params.{rest_of};
 ghost use Rattle.jam_natives.specs.OutputDirs.{is_output_dirs, names_output_dirs, output_dirs, is_no_root, root_paths};
 
 use b2_base::fault::OutOfMemory;
 use b2_base::path::path_of;
 use b2_base::path_list::PathList;
 use b2_base::text::Text;
-use b2_base::text_list::TextList;
+use b2_base::text_list::{TextList, push_copies, rest_of};
 use std::alloc::Global;
 
 /// Whether an attribute list names output roots.
@@ -22,21 +21,11 @@ fn is_output_dirs(list: &[Text]) -> bool
     }
 }
 
-/// The lists after the first.
-fn attribute_lists(lists: &[TextList]) -> &[TextList]
-    ensures { result.now ≡ rest_of lists.now }
-{
-    match lists {
-        [] => lists,
-        [_, more @ ..] => more,
-    }
-}
-
 /// Whether a call of `project` names output roots, even none. Takes no memory.
 pub fn names_output_dirs(lists: &[TextList]) -> bool
     ensures { result ≡ names_output_dirs lists.now }
 {
-    attribute_lists(lists)
+    rest_of(lists)
         .iter()
         .any(|list| is_output_dirs(list.as_slice()))
 }
@@ -49,16 +38,6 @@ fn rest_of_list(list: &[Text]) -> &[Text]
         [] => list,
         [_, rest @ ..] => rest,
     }
-}
-
-/// Adds copies of texts.
-fn push_copies(dirs: &mut TextList, texts: &[Text]) -> Result<(), OutOfMemory>
-    ensures { OnOk result (dirs.new ≡ dirs.old ++ texts.now) }
-{
-    for text in texts {
-        dirs.push(text.copy()?)?;
-    }
-    Ok(())
 }
 
 /// Adds the directories of an attribute list, where it names output roots.
@@ -76,7 +55,7 @@ fn output_dirs(alloc: Global, lists: &[TextList]) -> Result<TextList, OutOfMemor
     ensures { IfOk result (λ dirs. dirs ≡ output_dirs lists.now) }
 {
     let mut dirs = TextList::new(alloc);
-    for list in attribute_lists(lists) {
+    for list in rest_of(lists) {
         push_dirs(&mut dirs, list.as_slice())?;
     }
     Ok(dirs)

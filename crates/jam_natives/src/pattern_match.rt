@@ -1,23 +1,12 @@
 //! The rule MATCH.
-ghost use Rattle.std.specs.Prelude.{◌≡◌, ◌++◌, None, Ok, IfOk, IfErr, OnOk};
+ghost use Rattle.std.specs.Prelude.{◌≡◌, None, Ok, IfOk, IfErr, OnOk};
 ghost use Rattle.jam_natives.specs.Matches.{with_match, with_matches, matches_of, IsRefusal};
 
-use b2_base::fault::OutOfMemory;
 use b2_base::text::Text;
 use b2_base::text_list::TextList;
 use jam_patterns::groups::groups;
 use jam_patterns::refusal::PatternFault;
 use std::alloc::Global;
-
-/// Adds the texts of a list.
-fn append(found: &mut TextList, more: TextList) -> Result<(), OutOfMemory>
-    ensures { OnOk result (found.new ≡ found.old ++ more) }
-{
-    for text in more.into_vec() {
-        found.push(text)?;
-    }
-    Ok(())
-}
 
 /// Adds the groups of a pattern's first match in a text, if there is one.
 fn add_match(
@@ -32,7 +21,7 @@ fn add_match(
     match groups(alloc, pattern.as_str(), text.as_str())? {
         None => Ok(()),
         Some(more) => {
-            append(found, more)?;
+            found.append(more)?;
             Ok(())
         }
     }

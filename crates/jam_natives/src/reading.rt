@@ -1,32 +1,22 @@
 //! Native rules that look at their lists and the world alone.
-ghost use Rattle.std.specs.Prelude.{◌≡◌, IfOk, IsTrue};
-ghost use Rattle.b2_base.specs.Bytes.{HasNoZero};
+ghost use Rattle.std.specs.Prelude.{◌≡◌, IfOk};
 ghost use Rattle.b2_base.specs.Lists.{list_at};
-ghost use Rattle.jam_scope.specs.Names.{is_text};
 ghost use Rattle.jam_natives.specs.Matches.{matches_of};
 ghost use Rattle.jam_natives.specs.Rows.{module_list, matched, read};
 ghost use Rattle.jam_natives.specs.Calls.{IsRead};
 
-use crate::list::text_of;
 use crate::native::Reading;
 use crate::pattern_match::match_all;
 use crate::texts::{after_start, line_of, sorted};
 use b2_base::fault::OutOfMemory;
 use b2_base::text::Text;
-use b2_base::text_list::{TextList, copy_texts, list_at};
+use b2_base::text_list::{TextList, copy_texts, first_of, list_at};
 use jam_eval::natives::{NativeError, NativeStep};
 use jam_patterns::native_fault::NativeFault;
 use jam_patterns::refusal::PatternFault;
 use jam_scope::world::World;
+use jam_scope::world::listing::is_text;
 use std::alloc::Global;
-
-/// Whether a name is a text.
-fn is_text(name: &str) -> bool
-    ensures value { result ≡ is_text name.now }
-    ensures no_zero { IsTrue result → HasNoZero name.now }
-{
-    name.as_bytes().iter().all(|byte| 0 < *byte)
-}
 
 /// The name of a module as a list; the global one has none.
 fn module_list(alloc: Global, owner: &str) -> Result<TextList, OutOfMemory>
@@ -82,11 +72,11 @@ pub(crate) fn read(
         Reading::Exit => Ok(NativeStep::Exit(line_of(alloc, first)?)),
         Reading::Match => matched(alloc, args),
         Reading::GetValues => {
-            let found = after_start(alloc, text_of(first), list_at(args, 1))?;
+            let found = after_start(alloc, first_of(first), list_at(args, 1))?;
             Ok(NativeStep::Value(found))
         }
-        Reading::RuleNames => Ok(NativeStep::Value(world.rule_names(text_of(first))?)),
-        Reading::VarNames => Ok(NativeStep::Value(world.var_names(text_of(first))?)),
+        Reading::RuleNames => Ok(NativeStep::Value(world.rule_names(first_of(first))?)),
+        Reading::VarNames => Ok(NativeStep::Value(world.var_names(first_of(first))?)),
         Reading::CallerModule => Ok(NativeStep::Value(module_list(alloc, world.caller())?)),
         Reading::Sort => Ok(NativeStep::Value(sorted(alloc, first)?)),
         Reading::Transform => Ok(each(alloc, args, false)?),

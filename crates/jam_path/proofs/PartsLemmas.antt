@@ -135,6 +135,11 @@ no_zero_dir path h = go (last_or 47 path)
           subst NoZero (sym (file_at path p.front p.back p.whole p.lacks)) (right_part p.front (47 ∷ p.back) both).1,
         )
 
+pub clean_dir : (path : List ℕ) → HasNoZero path → HasNoZero (dir_of path) × HasNoZero (file_of path)
+clean_dir path h =
+    let P : ℕ → Type 0 = λ byte. 0 < byte in
+    let both = no_zero_dir path (recursion_from_All P path h) in (All-from_recursion P _ both.0, All-from_recursion P _ both.1)
+
 no_zero_member : (file : List ℕ) → NoZero file → NoZero (stem_of file) × NoZero (member_of file)
 no_zero_member file h = go (member_or file)
   where

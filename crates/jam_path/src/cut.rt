@@ -3,7 +3,7 @@ ghost use Rattle.std.specs.Prelude.{◌≡◌};
 ghost use Rattle.jam_path.specs.Names.{grist_of, path_of, or_root, dir_of, file_of, member_of, stem_of, suffix_of, base_of};
 
 /// The grist, and the path after it.
-pub fn cut_grist(text: &str) -> (&str, &str)
+pub(crate) fn cut_grist(text: &str) -> (&str, &str)
     ensures grist { result.0.now ≡ grist_of text.now }
     ensures path { result.1.now ≡ path_of text.now }
 {
@@ -23,7 +23,8 @@ fn or_root(before: &str) -> &str
     if before.is_empty() { "/" } else { before }
 }
 
-/// The directory, and the file in it.
+/// The directory, which stands before the last slash and is `/` where nothing stands there, and the file after it. Takes no
+/// memory.
 pub fn cut_dir(path: &str) -> (&str, &str)
     ensures dir { result.0.now ≡ dir_of path.now }
     ensures file { result.1.now ≡ file_of path.now }
@@ -35,7 +36,7 @@ pub fn cut_dir(path: &str) -> (&str, &str)
 }
 
 /// What stands before the member, and the member.
-pub fn cut_member(file: &str) -> (&str, &str)
+pub(crate) fn cut_member(file: &str) -> (&str, &str)
     ensures stem { result.0.now ≡ stem_of file.now }
     ensures member { result.1.now ≡ member_of file.now }
 {
@@ -49,7 +50,7 @@ pub fn cut_member(file: &str) -> (&str, &str)
 }
 
 /// The base, and the suffix with its dot.
-pub fn cut_suffix(stem: &str) -> (&str, &str)
+pub(crate) fn cut_suffix(stem: &str) -> (&str, &str)
     ensures base { result.0.now ≡ base_of stem.now }
     ensures suffix { result.1.now ≡ suffix_of stem.now }
 {

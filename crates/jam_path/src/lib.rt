@@ -1,7 +1,7 @@
 //! The five parts of a file name, and patterns on names.
 #![tactic(auto)]
 
-mod cut;
+pub mod cut;
 pub mod glob;
 pub mod laws;
 pub mod name;

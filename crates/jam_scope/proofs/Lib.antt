@@ -1,4 +1,5 @@
 pub mod LineLemmas
 mod NoteLemmas
+mod TextLemmas
 mod BindLemmas
 mod RootLemmas

@@ -7,7 +7,6 @@ use crate::notes::{NotesThen, StepNotes};
 use b2_base::fault::OutOfMemory;
 use b2_base::path::Path;
 use b2_base::path_list::PathList;
-use jam_journal::reserved::push_reserved;
 use std::alloc::Global;
 use std::marker::Model;
 
@@ -187,7 +186,7 @@ impl Steps {
         ensures err { OnErr result (self.new ≡ self.old) }
     {
         self.older.reserve(1)?;
-        push_reserved(&mut self.older, self.at_mark);
+        self.older.push_reserved(self.at_mark);
         self.at_mark = noted_then(&self.notes);
         Ok(())
     }

@@ -18,7 +18,7 @@ use std::marker::Model;
 
 mod finding;
 mod frames;
-mod listing;
+pub mod listing;
 mod marks;
 mod project;
 mod rules;

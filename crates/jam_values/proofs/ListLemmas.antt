@@ -5,12 +5,12 @@ use Rattle.std.specs.Str.{bytes_eq}
 use Rattle.std.specs.Cmp.Lexicographic.{pointwise}
 use Rattle.b2_base.specs.declared.expand_fault.ExpandFault.{ExpandFault}
 use Rattle.b2_base.specs.declared.expand_fault.ExpandFault.TheVariants as faults
-use Rattle.b2_base.specs.Lists.{list_at}
+use Rattle.b2_base.specs.Lists.{list_at, rest_of}
 use Rattle.jam_expand.specs.Limits.{within}
 use Rattle.jam_expand.proofs.GatherLemmas.{fault_stays}
 use Rattle.jam_journal.specs.Tables.{Text}
 use Rattle.jam_journal.specs.Scopes.{Value}
-use Rattle.jam_eval.specs.Params.{numbered, rest_of}
+use Rattle.jam_eval.specs.Params.{numbered}
 use Rattle.jam_eval.specs.Conds.{is_same}
 
 list_after : (n : ℕ) (lists : List Value) → list_at n (rest_of lists) ≡ list_at (suc n) lists

@@ -2,10 +2,8 @@
 ghost use Rattle.std.specs.Prelude.{◌≡◌, Bool, option_map};
 ghost use Rattle.jam_grammar.specs.Trees.{block_tree, cases_tree};
 ghost use Rattle.jam_journal.specs.Tables.{Text as Bytes};
-ghost use Rattle.jam_eval.specs.Forms.{first_of};
 ghost use Rattle.jam_values.specs.Choosing.{Matches, chosen};
 
-use b2_base::text::Text;
 use jam_grammar::tree::{Block, Case};
 use jam_path::glob::glob_match;
 
@@ -19,14 +17,4 @@ pub fn chosen<'a>(cases: &'a [Case], text: &str) -> Option<&'a Block>
         }
     }
     None
-}
-
-/// The first text, or the empty one. Takes no memory.
-pub fn first_of(texts: &[Text]) -> &str
-    ensures { result.now ≡ first_of texts.now }
-{
-    match texts {
-        [] => "",
-        [first, ..] => first.as_str(),
-    }
 }

@@ -6,10 +6,9 @@ ghost use Rattle.jam_values.specs.Bindings.{bindings_of, lists_of};
 ghost use Rattle.jam_values.specs.Taking.{count_taken, IsTaken};
 
 use crate::bindings::{Bound, add};
-use crate::lists::rest_of;
 use b2_base::fault::OutOfMemory;
 use b2_base::text::Text;
-use b2_base::text_list::{TextList, list_at};
+use b2_base::text_list::{TextList, list_at, rest_of};
 use jam_grammar::tree::Param;
 use std::alloc::Global;
 

@@ -3,6 +3,7 @@ use Rattle.std.proofs.lemmas.List.{drop_all, nil_from_length}
 use Rattle.std.specs.Option.{option_map}
 use Rattle.std.specs.declared.vec.Vec.{Vec}
 use Rattle.std.specs.declared.alloc.Global.{Global}
+use Rattle.b2_base.specs.Lists.{first_of}
 use Rattle.jam_grammar.specs.declared.tree.Stmt.{out-Stmt}
 use Rattle.jam_grammar.specs.Trees.{arg_tree, args_tree, lists_tree, value_tree, expr_tree, form_tree, block_tree, stmts_tree, cases_tree, other_tree, params_of, inner_tree}
 use Rattle.jam_grammar.proofs.RowTrees.{call_is, on_return_is}
@@ -12,7 +13,6 @@ use Rattle.jam_scope.specs.Changes.{rescoped, define_rule, define_actions}
 use Rattle.jam_values.specs.Choosing.{chosen}
 use Rattle.jam_values.specs.declared.bindings.Bound.{Bound}
 use Rattle.jam_values.specs.Bindings.{bindings_of}
-use Rattle.jam_eval.specs.Forms.{first_of}
 use Rattle.jam_eval.specs.Conds.{is_true, is_same, is_within}
 use Rattle.jam_eval.specs.declared.native_answer.NativeStep.TheVariants as steps
 use Rattle.jam_effects.specs.Framing.{on_entered}
@@ -466,11 +466,11 @@ statements::switch-returns-in_err-texts g t c = handed_on c.from_residual.ensure
 
 pub statements::switch-returns-in-Some : goal.statements::switch-returns-in-Some
 statements::switch-returns-in-Some g t c = switch_picks c.args.value.now c.args.cases.now c.in-Some.inner.now c.args.at.now _ _ _ c.in_ok-texts.texts c.block.result
-    (λ matching right. ap (λ t. chosen matching t (cases_tree c.args.cases.now)) (sym (c.first_of.ensures ∙ ap first_of c.as_slice.ensures)) ∙ sym (c.in-Some.ensures matching right)) c.in_ok-texts.ensures c.block.ensures
+    (λ matching right. ap (λ t. chosen matching t (cases_tree c.args.cases.now)) (sym (c.first_of.ensures.value ∙ ap first_of c.as_slice.ensures)) ∙ sym (c.in-Some.ensures matching right)) c.in_ok-texts.ensures c.block.ensures
 
 pub statements::switch-returns : goal.statements::switch-returns
 statements::switch-returns g t c = switch_none c.args.value.now c.args.cases.now c.args.at.now _ _ c.in_ok-texts.texts
-    (λ matching right. ap (λ t. chosen matching t (cases_tree c.args.cases.now)) (sym (c.first_of.ensures ∙ ap first_of c.as_slice.ensures)) ∙ sym (c.in-None.ensures matching right)) c.in_ok-texts.ensures
+    (λ matching right. ap (λ t. chosen matching t (cases_tree c.args.cases.now)) (sym (c.first_of.ensures.value ∙ ap first_of c.as_slice.ensures)) ∙ sym (c.in-None.ensures matching right)) c.in_ok-texts.ensures
 
 pub statements::module-returns-in_err-names : goal.statements::module-returns-in_err-names
 statements::module-returns-in_err-names g t c = handed_on c.from_residual.ensures.1 (module_fails c.args.name.now c.args.inner.now c.args.at.now _ _ c.in_err-names.field-0.0 c.in_err-names.ensures)
@@ -484,7 +484,7 @@ statements::module-leave-requires g t c = may_leave _ _ c.deeper-ended.ensures.s
 
 pub statements::module-returns : goal.statements::module-returns
 statements::module-returns g t c = module_does c.args.name.now c.args.inner.now c.args.at.now _ _ c.in_ok-names.names _ _ _ c.deeper-ended.result c.in_ok-names.ensures
-    (c.in_ok-enter_module.ensures.ok ∙ ap (λ n. rescoped (enter n) c.args-2.new.world) (c.first_of.ensures ∙ ap first_of c.as_slice.ensures)) c.deeper-ended.ensures c.leave.ensures
+    (c.in_ok-enter_module.ensures.ok ∙ ap (λ n. rescoped (enter n) c.args-2.new.world) (c.first_of.ensures.value ∙ ap first_of c.as_slice.ensures)) c.deeper-ended.ensures c.leave.ensures
 
 pub statements::on_form-returns-in_err-targets : goal.statements::on_form-returns-in_err-targets
 statements::on_form-returns-in_err-targets g t c = handed_on c.from_residual.ensures.1 (on_fails c.args.target.now c.args.stmt.now c.args.at.now _ _ c.in_err-targets.field-0.0 c.in_err-targets.ensures)

@@ -2,11 +2,10 @@
 use crate::host_files::put_files;
 use crate::world::texts::text_command;
 use b2_base::path_list::PathList;
-use b2_base::text_list::{TextList, list_at};
+use b2_base::text_list::{TextList, first_of, list_at};
 use b2_host::fault::IoFault;
 use b2_memory::memory::{CallKind, MemoryHost};
 use jam_natives::glob::{glob, project_glob};
-use jam_natives::list::text_of;
 use std::alloc::Global;
 use transcript::answer::Answer;
 use transcript::case_fault::CaseFault;
@@ -46,7 +45,7 @@ fn project_glob_command(
     let given = lists(alloc, words)?;
     let given = given.as_slice();
     let roots = first_roots(alloc)?;
-    let place = path(alloc, text_of(list_at(given, 0)))?;
+    let place = path(alloc, first_of(list_at(given, 0)))?;
     let (patterns, excluded) = (list_at(given, 1), list_at(given, 2));
     let answer = project_glob(alloc, &place, patterns, excluded, roots.as_slice(), host);
     found(alloc, answer)

@@ -1,8 +1,7 @@
 //! Commands on texts.
 use crate::world::paths::path_command;
 use b2_base::shape::has_shape;
-use b2_base::text_list::{TextList, list_at};
-use jam_natives::list::text_of;
+use b2_base::text_list::{TextList, first_of, list_at};
 use jam_natives::native::{is_declaring, native_of, shape_of};
 use jam_natives::pattern_match::match_all;
 use jam_natives::texts::{after_start, line_of, sorted, without_repeats};
@@ -31,7 +30,7 @@ fn once(alloc: Global, words: &[Word]) -> Result<Answer, CaseFault> {
 fn after(alloc: Global, words: &[Word]) -> Result<Answer, CaseFault> {
     let given = lists(alloc, words)?;
     let given = given.as_slice();
-    let found = after_start(alloc, text_of(list_at(given, 0)), list_at(given, 1))?;
+    let found = after_start(alloc, first_of(list_at(given, 0)), list_at(given, 1))?;
     Answer::texts(alloc, found.as_slice())
 }
 

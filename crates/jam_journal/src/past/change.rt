@@ -5,7 +5,6 @@ ghost use Rattle.jam_journal.specs.Pasts.{noted_at, undone};
 
 use super::Replaced;
 use crate::name::Name;
-use crate::reserved::push_reserved;
 use crate::table::Table;
 use b2_base::fault::OutOfMemory;
 use std::alloc::Global;
@@ -28,14 +27,11 @@ pub fn insert_noted<V: Drop>(
     let second_name = Name::new(alloc, second)?;
     changes.reserve(1)?;
     let before = table.insert(alloc, first, second, value)?;
-    push_reserved(
-        changes,
-        Replaced {
-            first: first_name,
-            second: second_name,
-            before,
-        },
-    );
+    changes.push_reserved(Replaced {
+        first: first_name,
+        second: second_name,
+        before,
+    });
     Ok(())
 }
 

@@ -7,7 +7,6 @@ ghost use Rattle.jam_journal.specs.Lists.{lengthened, before_more, other_noted, 
 
 use super::{Before, ListChange};
 use crate::name::Name;
-use crate::reserved::push_reserved;
 use crate::sized_list::{SizedList, copies, joined};
 use crate::table::Table;
 use b2_base::fault::OutOfMemory;
@@ -32,14 +31,11 @@ pub fn insert_noted(
     let second_name = Name::new(alloc, second)?;
     changes.reserve(1)?;
     let before = table.insert(alloc, first, second, list)?;
-    push_reserved(
-        changes,
-        ListChange {
-            first: first_name,
-            second: second_name,
-            before: Before::Other(before),
-        },
-    );
+    changes.push_reserved(ListChange {
+        first: first_name,
+        second: second_name,
+        before: Before::Other(before),
+    });
     Ok(())
 }
 
@@ -100,7 +96,7 @@ pub fn append_noted(
     };
     changes.reserve(1)?;
     append(alloc, table, first, second, texts)?;
-    push_reserved(changes, change);
+    changes.push_reserved(change);
     Ok(())
 }
 

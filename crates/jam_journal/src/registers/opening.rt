@@ -6,7 +6,6 @@ ghost use Rattle.jam_journal.specs.Stacks.{in_frame, in_call, with_bound, bound_
 use super::{Cell, Registers, Scope, is_special};
 use crate::name::Name;
 use crate::past::{Replaced, change};
-use crate::reserved::push_reserved;
 use b2_base::fault::OutOfMemory;
 use std::alloc::Global;
 use std::mem;
@@ -26,7 +25,7 @@ pub fn open_frame(
     let owner = Name::new(alloc, owner)?;
     entries.reserve(1)?;
     let owner = mem::replace(&mut registers.owner, owner);
-    push_reserved(entries, Scope::Opened { owner });
+    entries.push_reserved(Scope::Opened { owner });
     Ok(())
 }
 
@@ -47,7 +46,7 @@ pub fn open_call(
     entries.reserve(1)?;
     let owner = mem::replace(&mut registers.owner, owner);
     let caller = mem::replace(&mut registers.caller, caller);
-    push_reserved(entries, Scope::Called { owner, caller });
+    entries.push_reserved(Scope::Called { owner, caller });
     Ok(())
 }
 
@@ -88,14 +87,11 @@ pub fn bind(
         .insert(alloc, registers.owner.as_str(), name, cell)?;
     match note_innermost(alloc, registers, name) {
         Ok(outer) => {
-            push_reserved(
-                entries,
-                Scope::Bound {
-                    name: key,
-                    before,
-                    outer,
-                },
-            );
+            entries.push_reserved(Scope::Bound {
+                name: key,
+                before,
+                outer,
+            });
             Ok(())
         }
         Err(fault) => {

@@ -6,16 +6,16 @@ ghost use Rattle.jam_scope.specs.Names.{is_text};
 
 use super::World;
 use b2_base::fault::OutOfMemory;
-use b2_base::text::Text;
+use b2_base::text::{Text, has_no_zero};
 use b2_base::text_list::TextList;
 use std::alloc::Global;
 
-/// Whether a name is a text.
-fn is_text(name: &str) -> bool
+/// Whether a name is a text: no byte of it is zero. Takes no memory.
+pub fn is_text(name: &str) -> bool
     ensures value { result ≡ is_text name.now }
     ensures no_zero { IsTrue result → HasNoZero name.now }
 {
-    name.as_bytes().iter().all(|byte| 0 < *byte)
+    has_no_zero(name)
 }
 
 /// Adds a name, if it is a text.

@@ -13,4 +13,4 @@ pub returns-clause-ok : goal.returns-clause-ok
 returns-clause-ok c =
     let l = c.args.self.now in
     usage_read c.args.registry.now c.args.visit.now c.args.call.now c.args.texts.now l c.in_ok-more.more c.in_ok-more.ensures.ok
-    ∙ ap (λ xs. Ok (let made : Lists = record l { usage = xs } in made)) (sym c.in_ok-append.ensures)
+    ∙ ap (λ xs. Ok (let made : Lists = record l { usage = xs } in made)) (sym c.in_ok-append.ensures.ok)
