@@ -1,25 +1,19 @@
 //! Why a feature is not declared, or a value not composed.
 use b2_base::fault::OutOfMemory;
 use b2_base::text::Text;
-use thiserror::Error;
 
 /// Why a feature is not declared, or a value not composed. Of several causes the first in this order is answered, and of
 /// several words with this cause the first in the order of the call.
-#[derive(Debug, Drop, Error)]
+#[derive(Drop)]
 pub enum FeatureFault {
     /// The feature, or an implicit value, is there, also where it stands twice in one declaration.
-    #[error("there twice")]
     Twice { word: Text },
     /// A feature that is not there, or a value that its feature does not have.
-    #[error("unknown")]
     Unknown { word: Text },
     /// A word that may not stand where it does.
-    #[error("bad value")]
     BadValue { word: Text },
     /// A value that is composed already, or one of two values of one feature.
-    #[error("conflict")]
     ComposeConflict { word: Text },
-    #[error("out of memory")]
     OutOfMemory,
 }
 

@@ -13,12 +13,27 @@ use std::alloc::Global;
 
 /// A declared feature. `values` and `attributes` stand in order of declaration, `parts` has the components of each composed
 /// value, each a feature and a value, in order of composing.
-#[derive(Drop)]
 pub struct Feature {
     pub name: Text,
     pub values: TextList,
     pub attributes: TextList,
     pub parts: Vec<(Text, Vec<(Text, Text)>)>,
+}
+
+/// By hand, so that a feature is let go by one call: a derived drop takes it apart wherever one is held.
+impl Drop for Feature {
+    fn drop(self) {
+        let Feature {
+            name,
+            values,
+            attributes,
+            parts,
+        } = self;
+        drop(name);
+        drop(values);
+        drop(attributes);
+        drop(parts);
+    }
 }
 
 /// The same pairs, in order.
