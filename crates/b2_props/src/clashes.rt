@@ -19,10 +19,18 @@ use b2_features::registry::Registry;
 use std::alloc::Global;
 
 /// The first value of each feature of some choices, and the word of the first choice with another one.
-#[derive(Drop)]
 pub(crate) struct Clashes {
     values: TextMap<Text>,
     words: TextMap<usize>,
+}
+
+/// By hand, so that both maps are let go by one call.
+impl Drop for Clashes {
+    fn drop(self) {
+        let Clashes { values, words } = self;
+        drop(values);
+        drop(words);
+    }
 }
 
 impl Clashes {

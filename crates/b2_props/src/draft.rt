@@ -22,11 +22,24 @@ use std::alloc::Global;
 use std::collections::BTreeSet;
 
 /// A value for each of some features that are not free, and free pairs, each once.
-#[derive(Drop)]
 pub(crate) struct Draft {
     values: TextMap<Text>,
     free: Vec<(Text, Text)>,
     known: BTreeSet<(Text, Text)>,
+}
+
+/// By hand, so that a draft is let go by one call.
+impl Drop for Draft {
+    fn drop(self) {
+        let Draft {
+            values,
+            free,
+            known,
+        } = self;
+        drop(values);
+        drop(free);
+        drop(known);
+    }
 }
 
 impl Draft {
@@ -192,9 +205,9 @@ impl Draft {
         ensures distinct { HasDistinctNames registry.now }
         ensures value { IfOk result (λ made. (had : List ℕ → Option (List ℕ)) (pairs : List Pair) → Holds registry.now had pairs self → made ≡ written registry.now had (firsts (free_of registry.now pairs))) }
     {
-        let mut pairs = self.valued(alloc, registry)?;
-        let mut free = self.free;
-        pairs.append(&mut free)?;
+        let mut draft = self;
+        let mut pairs = draft.valued(alloc, registry)?;
+        pairs.append(&mut draft.free)?;
         Props::from_vec(alloc, pairs)
     }
 }

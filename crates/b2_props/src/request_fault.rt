@@ -2,22 +2,17 @@
 use b2_base::fault::OutOfMemory;
 use b2_base::text::Text;
 use std::alloc::AllocFailed;
-use thiserror::Error;
 
 /// Why a request is not read, each with the word. The first property of a word that is none, in the order of the words, is
 /// answered before a conflict.
-#[derive(Debug, Drop, Error)]
+#[derive(Drop)]
 pub enum RequestFault {
     /// A word names a feature that is not there.
-    #[error("unknown word")]
     UnknownWord { word: Text },
     /// A word gives a feature a value that it does not have.
-    #[error("unknown value")]
     UnknownValue { word: Text },
     /// A word gives a feature a second value in one set: it is given itself, or a composite brings it and no word gives one.
-    #[error("conflict")]
     Conflict { word: Text },
-    #[error("out of memory")]
     OutOfMemory,
 }
 

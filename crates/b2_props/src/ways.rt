@@ -17,10 +17,18 @@ use b2_features::registry::Registry;
 use std::alloc::Global;
 
 /// Factors in the order in which they vary, and the place of the one that those of a feature join.
-#[derive(Drop)]
 pub(crate) struct WayList {
     pub(crate) factors: Vec<Factor>,
     places: TextMap<usize>,
+}
+
+/// By hand, so that the factors and their places are let go by one call.
+impl Drop for WayList {
+    fn drop(self) {
+        let WayList { factors, places } = self;
+        drop(factors);
+        drop(places);
+    }
 }
 
 /// Pairs as choices of the word at a place.
