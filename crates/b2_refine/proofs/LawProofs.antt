@@ -1,20 +1,16 @@
-use Rattle.std.proofs.Common.{◌≡◌, ◌≢◌, ℕ, suc, ◌<◌, ◌≤◌, ◌-◌, Bool, true, false, List, [], ◌∷◌, Result, Ok, Err, Option, Some, length, refl, sym, ◌∙◌, ap, ap₂, subst, ◌⊎◌, inl, inr, arith}
+use Rattle.std.proofs.Common.{◌≡◌, ℕ, suc, ◌<◌, ◌≤◌, ◌-◌, true, List, [], ◌∷◌, Result, Ok, Err, length, refl, sym, ◌∙◌, ap, ap₂, subst, ◌⊎◌, inl, inr, arith}
 use Rattle.std.specs.List.{slice_get}
-use Rattle.std.specs.List.Sorted.{IsPermutation}
-use Rattle.std.proofs.lemmas.Bool.{cases_lt, cases_eq, both_ways, and_parts, not-true}
+use Rattle.std.proofs.lemmas.Bool.{cases_lt, cases_eq, both_ways}
 use Rattle.std.proofs.lemmas.Option.{slice_get_within}
 use Rattle.std.proofs.lemmas.List.Sorted.{IsPermutation-sym}
-use Rattle.b2_features.specs.Table.{Declared}
 use Rattle.b2_props.specs.Sets.{Pair}
-use Rattle.b2_props.specs.declared.requirement.Requirement.{Requirement}
-use Rattle.b2_refine.specs.Answers.{Answer}
-use Rattle.b2_refine.specs.Conditions.{round_set, last_round, IsSettled, IsUnstable, IsAsked}
-use Rattle.b2_refine.specs.Choices.{counted, is_viable, clashes, IsChosen, IsFirstClash, IsChoiceOf, IsChoice}
+use Rattle.b2_refine.specs.Conditions.{last_round}
+use Rattle.b2_refine.specs.Choices.{counted, clashes, IsFirstClash, IsChoiceOf}
 use Rattle.b2_refine.specs.Laws.{SettlesOnOne, SettledIsStable, SettledHasNoFault, UnstableHasNoFault, MeetsOneFault, OneIsChosen, OneChoice, SameUpToNumbers, OrderChangesNumbers}
 use Rattle.b2_refine.specs.declared.choice.Choice.{Choice}
 use Rattle.b2_refine.specs.declared.choice.Choice.TheVariants as choices
 use Rattle.b2_refine.proofs.Subsets.{better_not_back}
-use Rattle.b2_refine.proofs.Searching.{clash_parts, counted_sole, counted_others, choice_of_sole}
+use Rattle.b2_refine.proofs.Searching.{clash_parts, counted_others, choice_of_sole}
 use Rattle.b2_refine.proofs.Rounds.{stays, fault_stays}
 use Rattle.b2_refine.proofs.Orders.{Rearranged, permutation_rearranges, permutation_length, viable_forth, viable_back, chosen_forth}
 

@@ -1,13 +1,13 @@
-use Rattle.std.proofs.Common.{◌≡◌, ◌≢◌, ℕ, zero, suc, ◌<◌, ◌≤◌, ◌+◌, Bool, List, Result, Ok, Err, length, refl, sym, ◌∙◌, ap, ap₂, subst, ◌⊎◌, inl, inr, arith}
+use Rattle.std.proofs.Common.{◌≡◌, ℕ, zero, suc, ◌<◌, ◌≤◌, ◌+◌, Bool, List, Result, Ok, Err, sym, ◌∙◌, ap, ap₂, subst, ◌⊎◌, inl, inr, arith}
 use Rattle.std.specs.List.{count_by}
-use Rattle.std.proofs.lemmas.Bool.{cases_lt, cases_eq}
+use Rattle.std.proofs.lemmas.Bool.{cases_lt}
 use Rattle.std.proofs.lemmas.List.Sums.{length-filter}
 use Rattle.b2_features.specs.Table.{Declared}
 use Rattle.b2_props.specs.Sets.{Pair}
 use Rattle.b2_props.specs.Refinement.{refined}
 use Rattle.b2_props.specs.declared.requirement.Requirement.{Requirement}
 use Rattle.b2_refine.specs.Answers.{Answer}
-use Rattle.b2_refine.specs.Conditions.{is_other, others, given, and_then, first_set, next_set, round_set, last_round, IsSettled, IsUnstable, IsAsked}
+use Rattle.b2_refine.specs.Conditions.{is_other, others, given, and_then, first_set, next_set, round_set, last_round, IsSettled, IsUnstable}
 use Rattle.b2_refine.specs.Faults.{IsAskedBy}
 use Rattle.b2_refine.specs.Evaluating.{IsOutcome, AreLastTwo}
 use Rattle.b2_refine.specs.declared.fault.RefineFault.{RefineFault}

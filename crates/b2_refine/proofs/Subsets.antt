@@ -1,8 +1,8 @@
-use Rattle.std.proofs.Common.{◌≡◌, ℕ, ◌<◌, ◌≤◌, Bool, true, false, not, ◌||◌, ◌&&◌, List, [], ◌∷◌, Option, Some, None, length, refl, sym, ◌∙◌, ap, subst, ◌⊎◌, inl, inr}
-use Rattle.std.specs.List.{list_any, list_all, slice_get}
+use Rattle.std.proofs.Common.{◌≡◌, ℕ, ◌<◌, ◌≤◌, Bool, true, false, not, List, [], ◌∷◌, Option, Some, None, length, get_or, refl, sym, ◌∙◌, ap, ap₂, subst, ◌⊎◌, inl, inr}
+use Rattle.std.specs.List.{slice_get}
 use Rattle.std.specs.Option.{option_map_or}
-use Rattle.std.proofs.lemmas.Bool.{and_parts, and_from, or_cases, or_left, or_right, both_ways, not-true, not_from_false, false_from_ne_true, cases_lt}
-use Rattle.std.proofs.lemmas.Option.{slice_get_past}
+use Rattle.std.proofs.lemmas.Bool.{and_parts, and_from, or_cases, both_ways, not-true, not_from_false, false_from_ne_true, cases_lt}
+use Rattle.std.proofs.lemmas.Option.{slice_get_past, slice_get_read}
 use Rattle.b2_props.specs.Sets.{Pair, same}
 use Rattle.b2_props.specs.Membership.{has, has_all}
 use Rattle.b2_props.proofs.Pairs.{same_is}
@@ -63,10 +63,34 @@ better_trans conditions i k m = beats_trans (slice_get conditions i) (slice_get 
 pub better_not_back : (conditions : List (List Pair)) (i k : ℕ) → is_better conditions i k ≡ true → is_better conditions k i ≡ true → ⊥
 better_not_back conditions i k = beats_not_back (slice_get conditions i) (slice_get conditions k)
 
+-- one past the end is not better, and none is better than it
+pub past_not_better : (conditions : List (List Pair)) (place other : ℕ) → length conditions ≤ place → false ≡ is_better conditions place other
+past_not_better conditions place other past = sym (ap (λ o. beats o (slice_get conditions other)) (slice_get_past conditions place past))
+
+pub not_better_than_past : (conditions : List (List Pair)) (place other : ℕ) → length conditions ≤ other → false ≡ is_better conditions place other
+not_better_than_past conditions place other past = sym (ap (beats (slice_get conditions place)) (slice_get_past conditions other past) ∙ go (slice_get conditions place))
+  where
+    go : (o : Option (List Pair)) → beats o None ≡ false
+    go None = refl
+    go (Some larger) = refl
+
+-- one with this condition is better than one with that, where that is a strict subset
+pub better_where_strict : (conditions : List (List Pair)) (place other : ℕ) (larger smaller : List Pair) → place < length conditions → larger ≡ get_or conditions place larger → other < length conditions → smaller ≡ get_or conditions other smaller
+    → is_strict_subset smaller larger ≡ is_better conditions place other
+better_where_strict conditions place other larger smaller within is other_within other_is =
+    sym (ap₂ beats (slice_get_read conditions (length conditions) place larger refl within is) (slice_get_read conditions (length conditions) other smaller refl other_within other_is))
+
+-- one past the end is not viable, any other where the set has its condition
+pub past_not_viable : (full : List Pair) (conditions : List (List Pair)) (place : ℕ) → length conditions ≤ place → false ≡ is_viable full conditions place
+past_not_viable full conditions place past = sym (ap (λ o. option_map_or (has_all full) o false) (slice_get_past conditions place past))
+
+pub viable_where_met : (full : List Pair) (conditions : List (List Pair)) (place : ℕ) (condition : List Pair) → place < length conditions → condition ≡ get_or conditions place condition → has_all full condition ≡ is_viable full conditions place
+viable_where_met full conditions place condition within is = sym (ap (λ o. option_map_or (has_all full) o false) (slice_get_read conditions (length conditions) place condition refl within is))
+
 -- none past the end is viable
 pub viable_within : (full : List Pair) (conditions : List (List Pair)) (place : ℕ) → is_viable full conditions place ≡ true → place < length conditions
 viable_within full conditions place viable = go (cases_lt place (length conditions))
   where
     go : (place < length conditions) ⊎ (length conditions ≤ place) → place < length conditions
     go (inl within) = within
-    go (inr past) = let bad : false ≡ true = sym (ap (λ o. option_map_or (has_all full) o false) (slice_get_past conditions place past)) ∙ viable in absurd (both_ways false refl bad)
+    go (inr past) = let bad : false ≡ true = past_not_viable full conditions place past ∙ viable in absurd (both_ways false refl bad)

@@ -1,4 +1,4 @@
-use Rattle.std.specs.Prelude.{◌≡◌, ℕ, ◌<◌, ◌≤◌, ◌==◌, Bool, true, false, not, ◌&&◌, List, Option, Some, None}
+use Rattle.std.specs.Prelude.{◌≡◌, ℕ, ◌<◌, ◌==◌, Bool, true, false, not, ◌&&◌, List, Option, Some, None}
 use Rattle.b2_props.specs.Sets.{Pair}
 use Rattle.b2_refine.specs.Choices.{is_viable, is_better, clashes}
 

@@ -1,6 +1,6 @@
-use Rattle.std.specs.Prelude.{◌≡◌, Bool, true, false, List}
+use Rattle.std.specs.Prelude.{◌≡◌, Bool, false, List}
 use Rattle.b2_features.specs.Table.{Declared}
-use Rattle.b2_props.specs.Sets.{Pair, IsSet}
+use Rattle.b2_props.specs.Sets.{Pair}
 use Rattle.b2_props.specs.declared.requirement.Requirement.{Requirement}
 use Rattle.b2_refine.specs.Answers.{Answer}
 use Rattle.b2_refine.specs.Conditions.{IsUnstable, IsAsked}

@@ -106,7 +106,6 @@ struct LastTwo {
 
 /// The sets of the first round that leaves its set as it is, or else of the last one, and of the round after it; from the set
 /// of round 0, which is handed in twice.
-#[tactic(auto, using(crate::proofs::Rounds::first_round, crate::proofs::Rounds::second_round, crate::proofs::Rounds::asked_later))]
 fn last_two<A: Ask>(
     alloc: Global,
     registry: &Registry,

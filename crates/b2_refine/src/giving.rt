@@ -82,7 +82,6 @@ fn give<A: Ask>(
 }
 
 /// What the conditional and the indirect requirements give in a set, in their order.
-#[tactic(auto, using(crate::proofs::GivenPairs::given_fault))]
 pub(crate) fn given<A: Ask>(
     alloc: Global,
     set: &Props,

@@ -1,6 +1,7 @@
-use Rattle.std.proofs.Common.{◌≡◌, ◌∙◌, ap, sym, List, Result, Ok}
+use Rattle.std.proofs.Common.{◌∙◌, ap, sym, List, Result, Ok}
 use Rattle.b2_props.specs.Sets.{Pair}
-use Rattle.b2_refine.proofs.GivenPairs.{given_next}
+use Rattle.std.proofs.lemmas.Result.{err_from_is_err_and}
+use Rattle.b2_refine.proofs.GivenPairs.{given_next, given_fault}
 use Rattle.b2_refine.proofs.giving.given.Goals as goal
 
 pub loop-requirement-preserved : goal.loop-requirement-preserved
@@ -17,3 +18,11 @@ loop-requirement-preserved g c =
           given_next told c.args.set.now g.A.Ask.is_host_fault g.A.Ask.is_out_of_memory c.args.required.now c.loop-requirement.requirement-index c.requirement-item.result c.loop-requirement.made c.in_ok-pairs.pairs c.loop-requirement-test.true c.requirement-item.is (before.told told e) (one.told told (before.answer ∙ e))
           ∙ ap (λ (ps : List Pair). let r : Result (List Pair) g.row.A-Fault.Denot = Ok ps in r) (sym c.in_ok-append.ensures.ok);
     }
+
+pub returns-in_err-pairs-clause-told : goal.returns-in_err-pairs-clause-told
+returns-in_err-pairs-clause-told g c = λ told e.
+    let before = c.loop-requirement.invariant in
+    let p = err_from_is_err_and c.from_residual-in_err-pairs.result c.from_residual-in_err-pairs.ensures.1 in
+    rw (p.1, p.2)
+    (given_fault told c.args.set.now g.A.Ask.is_host_fault g.A.Ask.is_out_of_memory c.args.required.now c.loop-requirement.requirement-index c.requirement-item.result c.loop-requirement.made c.in_err-pairs.field-0.0 c.loop-requirement-test.true c.requirement-item.is (before.told told e)
+    (c.in_err-pairs.ensures.told told (before.answer ∙ e)))
