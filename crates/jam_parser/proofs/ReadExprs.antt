@@ -11,7 +11,7 @@ use Rattle.jam_grammar.specs.Grammar.{Part, Both, Single, OneExpr, OrTail, AndTa
 use Rattle.jam_grammar.specs.Machine.{feed, go_on, run}
 use Rattle.jam_grammar.specs.Trees as trees
 use Rattle.jam_grammar.specs.Trees.{ExprTree}
-use Rattle.jam_grammar.specs.Spelling.{Key, Spells, Level, Anywhere, WithinOr, WithinAnd, spell_expr, expr_syms, pair_syms, joined_syms}
+use Rattle.jam_grammar.specs.Spelling.{Sym, Key, Spells, Level, Anywhere, WithinOr, WithinAnd, spell_expr, expr_syms, pair_syms, joined_syms}
 use Rattle.jam_grammar.specs.Gives.{Leads}
 use Rattle.jam_parser.specs.Parts.{ComesTo}
 use Rattle.jam_parser.specs.Starts.{starts_with}
@@ -40,24 +40,45 @@ raise_or (trees.Equal x y) a b h = refl
 raise_or (trees.Differ x y) a b h = refl
 raise_or (trees.Within x y) a b h = refl
 
-joined_snoc : (level : Level) (mark : Mark) (xs : List Expr) (x : Expr) → joined_syms level mark (xs ++ x ∷ []) ≡ joined_syms level mark xs ++ (Key mark ∷ expr_syms level x)
-joined_snoc level mark [] x = ap (λ s. Key mark ∷ s) (append-nil _)
-joined_snoc level mark (y ∷ xs) x = ap (λ s. Key mark ∷ s) (ap (λ s. expr_syms level y ++ s) (joined_snoc level mark xs x) ∙ sym (append_assoc (expr_syms level y) (joined_syms level mark xs) (Key mark ∷ expr_syms level x)))
+-- members that were read, each with the sign after it
+pub signed : Level → Mark → List Expr → List Sym
+signed level mark [] = []
+signed level mark (x ∷ xs) = expr_syms level x ++ (Key mark ∷ signed level mark xs)
 
--- one more member
-pub more_members : (level : Level) (mark : Mark) (xs ys : List Expr) (x : Expr) → 2 ≤ length xs → ys ≡ xs ++ x ∷ [] → pair_syms level mark ys ≡ pair_syms level mark xs ++ (Key mark ∷ expr_syms level x)
-more_members level mark [] ys x h e = absurd (omega arith)
-more_members level mark (y ∷ []) ys x h e = absurd (omega arith)
-more_members level mark (y ∷ z ∷ xs) ys x h e =
-    ap (pair_syms level mark) e
-    ∙ ap (λ s. expr_syms level y ++ (Key mark ∷ (expr_syms level z ++ s))) (joined_snoc level mark xs x)
-    ∙ ap (λ s. expr_syms level y ++ (Key mark ∷ s)) (sym (append_assoc (expr_syms level z) (joined_syms level mark xs) (Key mark ∷ expr_syms level x)))
-    ∙ sym (append_assoc (expr_syms level y) (Key mark ∷ (expr_syms level z ++ joined_syms level mark xs)) (Key mark ∷ expr_syms level x))
+signed_snoc : (level : Level) (mark : Mark) (xs : List Expr) (x : Expr) → signed level mark (xs ++ x ∷ []) ≡ signed level mark xs ++ (expr_syms level x ++ Key mark ∷ [])
+unfolding signed
+signed_snoc level mark [] x = refl
+signed_snoc level mark (y ∷ xs) x =
+    ap (λ s. expr_syms level y ++ (Key mark ∷ s)) (signed_snoc level mark xs x) ∙ sym (append_assoc (expr_syms level y) (Key mark ∷ signed level mark xs) (expr_syms level x ++ Key mark ∷ []))
 
--- two members
-pub two_members : (level : Level) (mark : Mark) (ys : List Expr) (y z : Expr) → ys ≡ y ∷ z ∷ [] → pair_syms level mark ys ≡ (expr_syms level y ++ Key mark ∷ []) ++ expr_syms level z
-two_members level mark ys y z e =
-    ap (pair_syms level mark) e ∙ ap (λ s. expr_syms level y ++ (Key mark ∷ s)) (append-nil (expr_syms level z)) ∙ sym (append_assoc (expr_syms level y) (Key mark ∷ []) (expr_syms level z))
+-- the first member, and the sign after it
+pub first_signed : (level : Level) (mark : Mark) (xs ys : List Expr) (x : Expr) → xs ≡ [] → ys ≡ xs ++ x ∷ [] → signed level mark ys ≡ (expr_syms level x ++ Key mark ∷ []) ++ []
+unfolding signed
+first_signed level mark xs ys x none e = ap (signed level mark) (e ∙ ap (λ l. l ++ x ∷ []) none) ∙ sym (append-nil (expr_syms level x ++ Key mark ∷ []))
+
+-- one more member, and the sign after it
+pub more_signed : (level : Level) (mark : Mark) (prefix syms : List Sym) (xs ys : List Expr) (x : Expr) → ys ≡ xs ++ x ∷ [] → signed level mark xs ≡ prefix ++ syms → signed level mark ys ≡ prefix ++ ((syms ++ expr_syms level x) ++ Key mark ∷ [])
+more_signed level mark prefix syms xs ys x e h =
+    ap (signed level mark) e
+    ∙ signed_snoc level mark xs x
+    ∙ ap (λ s. s ++ (expr_syms level x ++ Key mark ∷ [])) h
+    ∙ append_assoc prefix syms (expr_syms level x ++ Key mark ∷ [])
+    ∙ ap (λ s. prefix ++ s) (sym (append_assoc syms (expr_syms level x) (Key mark ∷ [])))
+
+joined_end : (level : Level) (mark : Mark) (y : Expr) (xs : List Expr) (x : Expr) → expr_syms level y ++ joined_syms level mark (xs ++ x ∷ []) ≡ signed level mark (y ∷ xs) ++ expr_syms level x
+unfolding signed
+joined_end level mark y [] x = ap (λ s. expr_syms level y ++ (Key mark ∷ s)) (append-nil (expr_syms level x)) ∙ sym (append_assoc (expr_syms level y) (Key mark ∷ []) (expr_syms level x))
+joined_end level mark y (z ∷ xs) x = ap (λ s. expr_syms level y ++ (Key mark ∷ s)) (joined_end level mark z xs x) ∙ sym (append_assoc (expr_syms level y) (Key mark ∷ signed level mark (z ∷ xs)) (expr_syms level x))
+
+pair_end : (level : Level) (mark : Mark) (y : Expr) (xs : List Expr) (x : Expr) → pair_syms level mark (y ∷ (xs ++ x ∷ [])) ≡ signed level mark (y ∷ xs) ++ expr_syms level x
+pair_end level mark y [] x = joined_end level mark y [] x
+pair_end level mark y (z ∷ xs) x = joined_end level mark y (z ∷ xs) x
+
+-- the last member, which has no sign after it
+pub last_signed : (level : Level) (mark : Mark) (prefix syms : List Sym) (xs ys : List Expr) (x : Expr) → 1 ≤ length xs → ys ≡ xs ++ x ∷ [] → signed level mark xs ≡ prefix ++ syms → pair_syms level mark ys ≡ prefix ++ (syms ++ expr_syms level x)
+last_signed level mark prefix syms [] ys x some e h = absurd (omega arith)
+last_signed level mark prefix syms (y ∷ xs) ys x some e h =
+    ap (pair_syms level mark) e ∙ pair_end level mark y xs x ∙ ap (λ s. s ++ expr_syms level x) h ∙ append_assoc prefix syms (expr_syms level x)
 
 zero_more : (n : ℕ) → n ≡ 0 + n
 zero_more n = omega arith

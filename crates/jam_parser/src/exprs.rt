@@ -1,5 +1,5 @@
 //! Reading conditions.
-ghost use Rattle.std.specs.Prelude.{◌≡◌, ◌<◌, ◌≤◌, ◌∷◌, [], false, IfOk, MatchResult};
+ghost use Rattle.std.specs.Prelude.{◌≡◌, ◌<◌, ◌≤◌, ◌∷◌, [], false, MatchResult};
 ghost use Rattle.jam_grammar.specs.Spelling.{Anywhere, WithinOr, WithinAnd, expr_syms, arg_syms};
 ghost use Rattle.jam_grammar.specs.Grammar.{OneExpr, Both, Single, OneArg, Compared, Args};
 ghost use Rattle.jam_grammar.specs.declared.mark.Mark.TheVariants as marks;
@@ -8,7 +8,6 @@ ghost use Rattle.jam_parser.specs.Parts.{IsRead, EndsBy, ReadsOn, after_or, afte
 
 use crate::args::{MAX_OPEN, arg, args};
 use crate::reading::{Fault, key_here, past};
-use b2_base::fault::OutOfMemory;
 use b2_base::token::Token;
 use jam_grammar::mark::Mark;
 use jam_grammar::tree::{Arg, Expr};
@@ -34,16 +33,6 @@ pub fn expr<'a>(
     }
 }
 
-/// Two conditions as members.
-fn pair_of(alloc: Global, first: Expr, second: Expr) -> Result<Vec<Expr>, OutOfMemory>
-    ensures { IfOk result (λ made. made.items ≡ first ∷ second ∷ []) }
-{
-    let mut made = Vec::new(alloc);
-    made.push(first)?;
-    made.push(second)?;
-    Ok(made)
-}
-
 /// Reads what stands after the first `||` of a condition.
 #[cycle(exprs)]
 fn or_rest<'a>(
@@ -55,14 +44,17 @@ fn or_rest<'a>(
     requires { depth ≤ 64 }
     ensures { ReadsOn result (with_sign (expr_syms WithinOr first) marks.Or) after_or rest.now depth (λ r. expr_syms Anywhere r.0) (λ r. r.1.now) }
 {
-    let (second, mut left) = both(alloc, rest, depth)?;
-    let mut members = pair_of(alloc, first, second)?;
-    'each: while let Some(after) = past(left, Mark::Or) {
-        let (one, after) = both(alloc, after, depth)?;
+    let mut members = Vec::new(alloc);
+    members.push(first)?;
+    let mut left = rest;
+    'each: loop {
+        let (one, after) = both(alloc, left, depth)?;
         members.push(one)?;
-        left = after;
+        match past(after, Mark::Or) {
+            Some(right) => left = right,
+            None => return Ok((Expr::Or(members), after)),
+        }
     }
-    Ok((Expr::Or(members), left))
 }
 
 /// Reads a condition without `||`.
@@ -92,14 +84,17 @@ fn and_rest<'a>(
     requires { depth ≤ 64 }
     ensures { ReadsOn result (with_sign (expr_syms WithinAnd first) marks.And) after_and rest.now depth (λ r. expr_syms WithinOr r.0) (λ r. r.1.now) }
 {
-    let (second, mut left) = single(alloc, rest, depth)?;
-    let mut members = pair_of(alloc, first, second)?;
-    'each: while let Some(after) = past(left, Mark::And) {
-        let (one, after) = single(alloc, after, depth)?;
+    let mut members = Vec::new(alloc);
+    members.push(first)?;
+    let mut left = rest;
+    'each: loop {
+        let (one, after) = single(alloc, left, depth)?;
         members.push(one)?;
-        left = after;
+        match past(after, Mark::And) {
+            Some(right) => left = right,
+            None => return Ok((Expr::And(members), after)),
+        }
     }
-    Ok((Expr::And(members), left))
 }
 
 /// Reads a condition without `||` and `&&`.

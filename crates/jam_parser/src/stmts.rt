@@ -1,5 +1,5 @@
 //! Reading statements.
-ghost use Rattle.std.specs.Prelude.{◌<◌, ◌≤◌, ◌∷◌, [], MatchResult};
+ghost use Rattle.std.specs.Prelude.{◌<◌, ◌≤◌, ◌∷◌, ◌++◌, [], MatchResult};
 ghost use Rattle.jam_grammar.specs.Trees.{form_tree};
 ghost use Rattle.jam_grammar.specs.Spelling.{stmt_syms, stmts_syms, form_syms, block_syms, braced, case_syms, cases_syms, other_syms, local_syms, is_if, only};
 ghost use Rattle.jam_grammar.specs.Spelling as spelling;
@@ -122,9 +122,28 @@ fn if_form<'a>(
     ensures { ReadsOn result (spelling.Key marks.If ∷ []) (OneExpr ∷ OneBlock ∷ OneElse ∷ []) rest.now depth (λ r. only (is_if (form_tree r.0)) (form_syms r.0)) (λ r. r.1.now) }
 {
     let (test, after) = expr(alloc, rest, depth)?;
-    let (then, after) = block(alloc, after, depth)?;
+    match branches(alloc, after, depth) {
+        Ok((then, other, after)) => Ok((Form::If { test, then, other }, after)),
+        Err(fault) => {
+            drop(test);
+            Err(fault)
+        }
+    }
+}
+
+/// Reads the block of an `if`, and what may follow on it.
+#[cycle(stmts)]
+fn branches<'a>(
+    alloc: Global,
+    rest: &'a [Token],
+    depth: u8,
+) -> Result<(Block, Other, &'a [Token]), Fault<'a>>
+    requires { depth < 64 }
+    ensures { Reads result (OneBlock ∷ OneElse ∷ []) rest.now depth (λ r. braced (block_syms r.0) ++ other_syms r.1) (λ r. r.2.now) }
+{
+    let (then, after) = block(alloc, rest, depth)?;
     let (other, after) = other(alloc, after, depth)?;
-    Ok((Form::If { test, then, other }, after))
+    Ok((then, other, after))
 }
 
 /// Reads what may follow on the block of an `if`.
@@ -228,8 +247,13 @@ fn while_form<'a>(
     ensures { ReadsOn result (spelling.Key marks.While ∷ []) (OneExpr ∷ OneBlock ∷ []) rest.now depth (λ r. form_syms r.0) (λ r. r.1.now) }
 {
     let (test, after) = expr(alloc, rest, depth)?;
-    let (block, after) = block(alloc, after, depth)?;
-    Ok((Form::While { test, block }, after))
+    match block(alloc, after, depth) {
+        Ok((block, after)) => Ok((Form::While { test, block }, after)),
+        Err(fault) => {
+            drop(test);
+            Err(fault)
+        }
+    }
 }
 
 /// Reads what stands after `module`.

@@ -1,13 +1,13 @@
-use Rattle.std.proofs.Common.{◌∷◌, [], ◌++◌, ◌+◌, length, length-append, append_assoc, ap, ◌∙◌, arith, refl}
+use Rattle.std.proofs.Common.{◌∷◌, [], ◌++◌, ◌+◌, length, length-append, ap, ◌∙◌, arith, refl}
 use Rattle.std.proofs.lemmas.Result.{MatchResult-weaker, err_from_is_err_and}
 use Rattle.jam_grammar.specs.declared.mark.Mark.TheVariants as marks
 use Rattle.jam_grammar.specs.Trees.{expr_tree}
 use Rattle.jam_grammar.specs.Spelling as spelling
-use Rattle.jam_grammar.specs.Spelling.{Anywhere, WithinOr, WithinAnd, spell_expr, expr_syms, pair_syms}
+use Rattle.jam_grammar.specs.Spelling.{Anywhere, WithinOr, WithinAnd, spell_expr, expr_syms}
 use Rattle.jam_grammar.specs.Grammar.{OneExpr, Both, OrTail, Single, AndTail, Shut, Key}
 use Rattle.jam_grammar.proofs.RowTrees.{or_is, and_is}
-use Rattle.jam_parser.proofs.Sequences.{chain, then_all, then_fault, composed, led, in_order, first_fault, later_fault, shut, shut_fault, takes_past, opens_past, stay}
-use Rattle.jam_parser.proofs.ReadExprs.{raise_and, raise_or, more_members, two_members, or_comes, and_comes, no_or_comes, no_and_comes}
+use Rattle.jam_parser.proofs.Sequences.{chain, chain_fault, then_all, then_fault, composed, led, in_order, first_fault, later_fault, shut, shut_fault, takes_past, opens_past, stay}
+use Rattle.jam_parser.proofs.ReadExprs.{raise_and, raise_or, first_signed, more_signed, last_signed, or_comes, and_comes, no_or_comes, no_and_comes}
 use Rattle.jam_parser.proofs.exprs.+exprs.Goals as goal
 
 pub single-returns-in-Some : goal.single-returns-in-Some
@@ -63,47 +63,53 @@ both-returns-in-None t c =
     (led (Both ∷ []) (AndTail ∷ []) [] d first (no_and_comes mid d c.in-None.ensures))
 
 pub and_rest-each-init : goal.and_rest-each-init
-and_rest-each-init t c =
+and_rest-each-init t c = record {
+  some = omega (arith, ap length c.in_ok-push.ensures.items, length-append c.new-members.result.items (c.args.first ∷ []));
+  continues = record {
+    syms = [];
+    whole = first_signed WithinAnd marks.And c.new-members.result.items c.push.new.self.items c.args.first c.new-members.ensures.items c.in_ok-push.ensures.items;
+    comes = stay (Single ∷ AndTail ∷ []) c.args.rest.now c.args.depth;
+  };
+}
+
+pub and_rest-returns-in_err-one : goal.and_rest-returns-in_err-one
+and_rest-returns-in_err-one t c =
+    let p = err_from_is_err_and c.from_residual-in_err-one.result c.from_residual-in_err-one.ensures.1 in
     let d = c.args.depth in
-    let items = c.in_ok-members.members.items in
-    let two = c.in_ok-members.ensures in
-    record {
-      long = omega (arith, ap length two);
-      continues = record {
-        syms = expr_syms WithinAnd c.in_ok-second.second;
-        whole = two_members WithinAnd marks.And items c.args.first c.in_ok-second.second two;
-        comes = chain (Single ∷ AndTail ∷ []) (Single ∷ []) (AndTail ∷ []) d d (omega arith) (stay (Single ∷ AndTail ∷ []) c.args.rest.now d) c.in_ok-second.ensures;
-      };
-    }
+    rw (p.1, p.2) (chain_fault (Single ∷ AndTail ∷ []) (Single ∷ []) (AndTail ∷ []) d d c.in_err-one.field-0.0 (omega arith) c.each.invariant.continues.comes c.in_err-one.ensures)
 
 pub and_rest-each-preserved : goal.and_rest-each-preserved
 and_rest-each-preserved t c =
     let d = c.args.depth in
     let old = c.each.members.items in
-    let new = c.push.new.self.items in
     let one = c.in_ok-one.one in
     let inv = c.each.invariant in
-    let grown = c.in_ok-push.ensures.items in
+    let grown = c.in_ok-push-2.ensures.items in
     let prefix = expr_syms WithinAnd c.args.first ++ spelling.Key marks.And ∷ [] in
-    let left = c.each.left.now in
     record {
-      long = omega (arith, ap length grown, length-append old (one ∷ []), inv.long);
+      some = omega (arith, ap length grown, length-append old (one ∷ []));
       continues = record {
-        syms = inv.continues.syms ++ (spelling.Key marks.And ∷ expr_syms WithinAnd one);
-        whole = more_members WithinAnd marks.And old new one inv.long grown ∙ ap (λ s. s ++ (spelling.Key marks.And ∷ expr_syms WithinAnd one)) inv.continues.whole ∙ append_assoc prefix inv.continues.syms (spelling.Key marks.And ∷ expr_syms WithinAnd one);
-        comes = composed (Single ∷ AndTail ∷ []) (AndTail ∷ []) (AndTail ∷ []) d inv.continues.comes
-            (chain (AndTail ∷ []) (Single ∷ []) (AndTail ∷ []) d d (omega arith) (takes_past AndTail (Single ∷ AndTail ∷ []) marks.And left c.in-Some.after.now d c.in-Some.ensures refl) c.in_ok-one.ensures);
+        syms = (inv.continues.syms ++ expr_syms WithinAnd one) ++ spelling.Key marks.And ∷ [];
+        whole = more_signed WithinAnd marks.And prefix inv.continues.syms old c.push-in-each.new.self.items one grown inv.continues.whole;
+        comes = composed (Single ∷ AndTail ∷ []) (AndTail ∷ []) (Single ∷ AndTail ∷ []) d
+            (chain (Single ∷ AndTail ∷ []) (Single ∷ []) (AndTail ∷ []) d d (omega arith) inv.continues.comes c.in_ok-one.ensures)
+            (takes_past AndTail (Single ∷ AndTail ∷ []) marks.And c.in_ok-one.after.now c.in-Some.right.now d c.in-Some.ensures refl);
       };
     }
 
-pub and_rest-returns : goal.and_rest-returns
-and_rest-returns t c =
+pub and_rest-returns-in-None : goal.and_rest-returns-in-None
+and_rest-returns-in-None t c =
     let d = c.args.depth in
-    let inv = c.each.invariant.continues in
+    let one = c.in_ok-one.one in
+    let after = c.in_ok-one.after.now in
+    let inv = c.each.invariant in
+    let prefix = expr_syms WithinAnd c.args.first ++ spelling.Key marks.And ∷ [] in
     record {
-      syms = inv.syms;
-      whole = ap (spell_expr WithinOr) (and_is c.each.members) ∙ inv.whole;
-      comes = led (Single ∷ AndTail ∷ []) (AndTail ∷ []) [] d inv.comes (no_and_comes c.each.left.now d c.in_default.ensures);
+      syms = inv.continues.syms ++ expr_syms WithinAnd one;
+      whole = ap (spell_expr WithinOr) (and_is c.push-in-each.new.self) ∙ last_signed WithinAnd marks.And prefix inv.continues.syms c.each.members.items c.push-in-each.new.self.items one inv.some c.in_ok-push-2.ensures.items inv.continues.whole;
+      comes = led (Single ∷ AndTail ∷ []) (AndTail ∷ []) [] d
+          (chain (Single ∷ AndTail ∷ []) (Single ∷ []) (AndTail ∷ []) d d (omega arith) inv.continues.comes c.in_ok-one.ensures)
+          (no_and_comes after d c.in-None.ensures);
     }
 
 pub expr-returns-in_err-first : goal.expr-returns-in_err-first
@@ -142,45 +148,51 @@ expr-returns-in-None t c =
     (led (OneExpr ∷ []) (OrTail ∷ []) [] d first (no_or_comes mid d c.in-None.ensures))
 
 pub or_rest-each-init : goal.or_rest-each-init
-or_rest-each-init t c =
+or_rest-each-init t c = record {
+  some = omega (arith, ap length c.in_ok-push.ensures.items, length-append c.new-members.result.items (c.args.first ∷ []));
+  continues = record {
+    syms = [];
+    whole = first_signed WithinOr marks.Or c.new-members.result.items c.push.new.self.items c.args.first c.new-members.ensures.items c.in_ok-push.ensures.items;
+    comes = stay (Both ∷ OrTail ∷ []) c.args.rest.now c.args.depth;
+  };
+}
+
+pub or_rest-returns-in_err-one : goal.or_rest-returns-in_err-one
+or_rest-returns-in_err-one t c =
+    let p = err_from_is_err_and c.from_residual-in_err-one.result c.from_residual-in_err-one.ensures.1 in
     let d = c.args.depth in
-    let items = c.in_ok-members.members.items in
-    let two = c.in_ok-members.ensures in
-    record {
-      long = omega (arith, ap length two);
-      continues = record {
-        syms = expr_syms WithinOr c.in_ok-second.second;
-        whole = two_members WithinOr marks.Or items c.args.first c.in_ok-second.second two;
-        comes = chain (Both ∷ OrTail ∷ []) (Both ∷ []) (OrTail ∷ []) d d (omega arith) (stay (Both ∷ OrTail ∷ []) c.args.rest.now d) c.in_ok-second.ensures;
-      };
-    }
+    rw (p.1, p.2) (chain_fault (Both ∷ OrTail ∷ []) (Both ∷ []) (OrTail ∷ []) d d c.in_err-one.field-0.0 (omega arith) c.each.invariant.continues.comes c.in_err-one.ensures)
 
 pub or_rest-each-preserved : goal.or_rest-each-preserved
 or_rest-each-preserved t c =
     let d = c.args.depth in
     let old = c.each.members.items in
-    let new = c.push.new.self.items in
     let one = c.in_ok-one.one in
     let inv = c.each.invariant in
-    let grown = c.in_ok-push.ensures.items in
+    let grown = c.in_ok-push-2.ensures.items in
     let prefix = expr_syms WithinOr c.args.first ++ spelling.Key marks.Or ∷ [] in
-    let left = c.each.left.now in
     record {
-      long = omega (arith, ap length grown, length-append old (one ∷ []), inv.long);
+      some = omega (arith, ap length grown, length-append old (one ∷ []));
       continues = record {
-        syms = inv.continues.syms ++ (spelling.Key marks.Or ∷ expr_syms WithinOr one);
-        whole = more_members WithinOr marks.Or old new one inv.long grown ∙ ap (λ s. s ++ (spelling.Key marks.Or ∷ expr_syms WithinOr one)) inv.continues.whole ∙ append_assoc prefix inv.continues.syms (spelling.Key marks.Or ∷ expr_syms WithinOr one);
-        comes = composed (Both ∷ OrTail ∷ []) (OrTail ∷ []) (OrTail ∷ []) d inv.continues.comes
-            (chain (OrTail ∷ []) (Both ∷ []) (OrTail ∷ []) d d (omega arith) (takes_past OrTail (Both ∷ OrTail ∷ []) marks.Or left c.in-Some.after.now d c.in-Some.ensures refl) c.in_ok-one.ensures);
+        syms = (inv.continues.syms ++ expr_syms WithinOr one) ++ spelling.Key marks.Or ∷ [];
+        whole = more_signed WithinOr marks.Or prefix inv.continues.syms old c.push-in-each.new.self.items one grown inv.continues.whole;
+        comes = composed (Both ∷ OrTail ∷ []) (OrTail ∷ []) (Both ∷ OrTail ∷ []) d
+            (chain (Both ∷ OrTail ∷ []) (Both ∷ []) (OrTail ∷ []) d d (omega arith) inv.continues.comes c.in_ok-one.ensures)
+            (takes_past OrTail (Both ∷ OrTail ∷ []) marks.Or c.in_ok-one.after.now c.in-Some.right.now d c.in-Some.ensures refl);
       };
     }
 
-pub or_rest-returns : goal.or_rest-returns
-or_rest-returns t c =
+pub or_rest-returns-in-None : goal.or_rest-returns-in-None
+or_rest-returns-in-None t c =
     let d = c.args.depth in
-    let inv = c.each.invariant.continues in
+    let one = c.in_ok-one.one in
+    let after = c.in_ok-one.after.now in
+    let inv = c.each.invariant in
+    let prefix = expr_syms WithinOr c.args.first ++ spelling.Key marks.Or ∷ [] in
     record {
-      syms = inv.syms;
-      whole = ap (spell_expr Anywhere) (or_is c.each.members) ∙ inv.whole;
-      comes = led (Both ∷ OrTail ∷ []) (OrTail ∷ []) [] d inv.comes (no_or_comes c.each.left.now d c.in_default.ensures);
+      syms = inv.continues.syms ++ expr_syms WithinOr one;
+      whole = ap (spell_expr Anywhere) (or_is c.push-in-each.new.self) ∙ last_signed WithinOr marks.Or prefix inv.continues.syms c.each.members.items c.push-in-each.new.self.items one inv.some c.in_ok-push-2.ensures.items inv.continues.whole;
+      comes = led (Both ∷ OrTail ∷ []) (OrTail ∷ []) [] d
+          (chain (Both ∷ OrTail ∷ []) (Both ∷ []) (OrTail ∷ []) d d (omega arith) inv.continues.comes c.in_ok-one.ensures)
+          (no_or_comes after d c.in-None.ensures);
     }

@@ -1,8 +1,9 @@
 use Rattle.std.proofs.Common.{◌∷◌, [], ◌++◌, length, ◌≤◌, ◌+◌, ◌-◌, ◌*◌}
-use Rattle.jam_grammar.specs.Spelling.{Key, WithinOr, WithinAnd, expr_syms, pair_syms}
+use Rattle.jam_grammar.specs.Spelling.{Key, WithinOr, WithinAnd, expr_syms}
 use Rattle.jam_grammar.specs.Grammar.{Both, OrTail, Single, AndTail}
 use Rattle.jam_grammar.specs.declared.mark.Mark.TheVariants as marks
 use Rattle.jam_parser.specs.Parts.{Continues}
+use Rattle.jam_parser.proofs.ReadExprs.{signed}
 use Rattle.jam_parser.proofs.exprs.+exprs.Given as goal
 
 abbrev pub decreases-single : goal.decreases-single
@@ -31,8 +32,8 @@ decreases-group l = 8 * (63 - l.depth) + 6
 
 abbrev pub invariant-or_rest-each : goal.invariant-or_rest-each
 invariant-or_rest-each l = record {
-  long : 2 ≤ length l.members.items;
-  continues : Continues (expr_syms WithinOr l.fn.first ++ Key marks.Or ∷ []) (Both ∷ OrTail ∷ []) (OrTail ∷ []) l.rest l.depth (pair_syms WithinOr marks.Or l.members.items) l.left;
+  some : 1 ≤ length l.members.items;
+  continues : Continues (expr_syms WithinOr l.fn.first ++ Key marks.Or ∷ []) (Both ∷ OrTail ∷ []) (Both ∷ OrTail ∷ []) l.rest l.depth (signed WithinOr marks.Or l.members.items) l.left;
 }
 
 abbrev pub decreases-or_rest-each : goal.decreases-or_rest-each
@@ -40,8 +41,8 @@ decreases-or_rest-each l = length l.left
 
 abbrev pub invariant-and_rest-each : goal.invariant-and_rest-each
 invariant-and_rest-each l = record {
-  long : 2 ≤ length l.members.items;
-  continues : Continues (expr_syms WithinAnd l.fn.first ++ Key marks.And ∷ []) (Single ∷ AndTail ∷ []) (AndTail ∷ []) l.rest l.depth (pair_syms WithinAnd marks.And l.members.items) l.left;
+  some : 1 ≤ length l.members.items;
+  continues : Continues (expr_syms WithinAnd l.fn.first ++ Key marks.And ∷ []) (Single ∷ AndTail ∷ []) (Single ∷ AndTail ∷ []) l.rest l.depth (signed WithinAnd marks.And l.members.items) l.left;
 }
 
 abbrev pub decreases-and_rest-each : goal.decreases-and_rest-each

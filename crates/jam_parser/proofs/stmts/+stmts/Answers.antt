@@ -7,7 +7,7 @@ use Rattle.jam_grammar.specs.Spelling.{spell_stmts, spell_form, arg_syms, block_
 use Rattle.jam_grammar.specs.Grammar.{Stmts, OneStmt, OneBlock, OneExpr, OneElse, ElseTail, CaseBlock, Cases, OneWord, OneArg, Args, Params, Shut, Key}
 use Rattle.jam_grammar.proofs.RowTrees.{block_is, switch_is}
 use Rattle.jam_parser.specs.Params.{params_read}
-use Rattle.jam_parser.proofs.Sequences.{chain, chain_fault, then_all, then_fault, composed, led, in_order, shut, shut_fault, takes_past, opens_past}
+use Rattle.jam_parser.proofs.Sequences.{chain, chain_fault, then_all, then_fault, composed, led, in_order, later_fault, shut, shut_fault, takes_past, opens_past}
 use Rattle.jam_parser.proofs.ReadParams.{in_parens}
 use Rattle.jam_parser.proofs.ReadStmts.{stmt_comes, more_stmts, more_cases, case_is, lined}
 use Rattle.jam_parser.proofs.stmts.+stmts.Goals as goal
@@ -70,14 +70,24 @@ for_rest-returns t c =
       comes = (in_order (OneWord ∷ []) (Key marks.In ∷ Args ∷ OneBlock ∷ []) d d (omega arith) c.in_ok-name.ensures (in_order (Key marks.In ∷ []) (Args ∷ OneBlock ∷ []) d d (omega arith) c.in_ok-after.ensures (in_order (Args ∷ []) (OneBlock ∷ []) d d (omega arith) c.in_ok-items.ensures c.in_ok-block.ensures)));
     }
 
-pub if_form-returns : goal.if_form-returns
-if_form-returns t c =
+pub branches-returns : goal.branches-returns
+branches-returns t c =
+    let d = c.args.depth in
+    in_order (OneBlock ∷ []) (OneElse ∷ []) d d (omega arith) c.in_ok-then.ensures c.in_ok-other.ensures
+
+pub if_form-returns-in-Ok : goal.if_form-returns-in-Ok
+if_form-returns-in-Ok t c =
     let d = c.args.depth in
     record {
       syms = _;
       whole = refl;
-      comes = (in_order (OneExpr ∷ []) (OneBlock ∷ OneElse ∷ []) d d (omega arith) c.in_ok-test.ensures (in_order (OneBlock ∷ []) (OneElse ∷ []) d d (omega arith) c.in_ok-then.ensures c.in_ok-other.ensures));
+      comes = in_order (OneExpr ∷ []) (OneBlock ∷ OneElse ∷ []) d d (omega arith) c.in_ok-test.ensures c.in-Ok.ensures;
     }
+
+pub if_form-returns-in-Err : goal.if_form-returns-in-Err
+if_form-returns-in-Err t c =
+    let d = c.args.depth in
+    later_fault (OneExpr ∷ []) (OneBlock ∷ OneElse ∷ []) d d c.in-Err.fault (omega arith) c.in_ok-test.ensures c.in-Err.ensures
 
 pub module_form-returns : goal.module_form-returns
 module_form-returns t c =
@@ -88,14 +98,19 @@ module_form-returns t c =
       comes = (in_order (Args ∷ []) (OneBlock ∷ []) d d (omega arith) c.in_ok-name.ensures c.in_ok-block.ensures);
     }
 
-pub while_form-returns : goal.while_form-returns
-while_form-returns t c =
+pub while_form-returns-in-Ok : goal.while_form-returns-in-Ok
+while_form-returns-in-Ok t c =
     let d = c.args.depth in
     record {
       syms = _;
       whole = refl;
-      comes = (in_order (OneExpr ∷ []) (OneBlock ∷ []) d d (omega arith) c.in_ok-test.ensures c.in_ok-block.ensures);
+      comes = in_order (OneExpr ∷ []) (OneBlock ∷ []) d d (omega arith) c.in_ok-test.ensures c.in-Ok.ensures;
     }
+
+pub while_form-returns-in-Err : goal.while_form-returns-in-Err
+while_form-returns-in-Err t c =
+    let d = c.args.depth in
+    later_fault (OneExpr ∷ []) (OneBlock ∷ []) d d c.in-Err.fault (omega arith) c.in_ok-test.ensures c.in-Err.ensures
 
 pub switch_form-returns : goal.switch_form-returns
 switch_form-returns t c =

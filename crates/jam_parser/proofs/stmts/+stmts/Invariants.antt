@@ -28,11 +28,14 @@ decreases-else_tail l = 16 * (64 - l.depth) + 1
 abbrev pub decreases-other : goal.decreases-other
 decreases-other l = 16 * (64 - l.depth) + 2
 
+abbrev pub decreases-branches : goal.decreases-branches
+decreases-branches l = 16 * (64 - l.depth) + 3
+
 abbrev pub decreases-if_form : goal.decreases-if_form
-decreases-if_form l = 16 * (64 - l.depth) + 3
+decreases-if_form l = 16 * (64 - l.depth) + 4
 
 abbrev pub decreases-else_if : goal.decreases-else_if
-decreases-else_if l = 16 * (64 - l.depth) + 4
+decreases-else_if l = 16 * (64 - l.depth) + 5
 
 abbrev pub decreases-case_block : goal.decreases-case_block
 decreases-case_block l = 16 * (64 - l.depth) + 0
@@ -50,22 +53,22 @@ abbrev pub decreases-rule_form : goal.decreases-rule_form
 decreases-rule_form l = 16 * (64 - l.depth) + 3
 
 abbrev pub decreases-form : goal.decreases-form
-decreases-form l = 16 * (64 - l.depth) + 4
+decreases-form l = 16 * (64 - l.depth) + 5
 
 abbrev pub decreases-stmt : goal.decreases-stmt
-decreases-stmt l = 16 * (64 - l.depth) + 5
+decreases-stmt l = 16 * (64 - l.depth) + 6
 
 abbrev pub decreases-stmts : goal.decreases-stmts
-decreases-stmts l = 16 * (64 - l.depth) + 6
+decreases-stmts l = 16 * (64 - l.depth) + 7
 
 abbrev pub decreases-on_form : goal.decreases-on_form
-decreases-on_form l = 16 * (64 - l.depth) + 6
+decreases-on_form l = 16 * (64 - l.depth) + 7
 
 abbrev pub decreases-one_case : goal.decreases-one_case
-decreases-one_case l = 16 * (64 - l.depth) + 7
+decreases-one_case l = 16 * (64 - l.depth) + 8
 
 abbrev pub decreases-cases : goal.decreases-cases
-decreases-cases l = 16 * (64 - l.depth) + 8
+decreases-cases l = 16 * (64 - l.depth) + 9
 
 abbrev pub invariant-stmts-each : goal.invariant-stmts-each
 invariant-stmts-each l = ComesTo (Stmts ∷ []) (Stmts ∷ []) l.rest l.depth (stmts_syms l.found.items) l.left
