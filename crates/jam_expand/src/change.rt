@@ -11,6 +11,22 @@ use jam_path::name::{parts, push_grist, push_path};
 use jam_path::name_parts::NameParts;
 use std::alloc::Global;
 
+/// Makes a part empty.
+fn empty(alloc: Global, part: &mut Text) -> Result<(), OutOfMemory>
+    ensures { OnOk result (part.new ≡ []) }
+{
+    *part = Text::new(alloc, "")?;
+    Ok(())
+}
+
+/// Replaces a part by a text.
+fn replace(part: &mut Text, value: &Text) -> Result<(), OutOfMemory>
+    ensures { OnOk result (part.new ≡ value.now) }
+{
+    *part = value.copy()?;
+    Ok(())
+}
+
 impl Choice {
     fn is_keep(&self) -> bool
         ensures { result ≡ is_keep self.now }
@@ -24,14 +40,14 @@ impl Choice {
         matches!(self, Choice::Select)
     }
 
-    /// The part that stays where this is chosen for it, and `others` tells whether parts are selected.
-    fn picked(&self, alloc: Global, others: bool, part: Text) -> Result<Text, OutOfMemory>
-        ensures { IfOk result (λ kept. kept ≡ picked others self.now part) }
+    /// Changes a part to what stays of it where this is chosen, and `others` tells whether parts are selected.
+    fn pick(&self, alloc: Global, others: bool, part: &mut Text) -> Result<(), OutOfMemory>
+        ensures { OnOk result (part.new ≡ picked others self.now part.old) }
     {
         match self {
-            Choice::Keep if others => Text::new(alloc, ""),
-            Choice::Keep | Choice::Select => Ok(part),
-            Choice::Replace(value) => value.copy(),
+            Choice::Keep if others => empty(alloc, part),
+            Choice::Keep | Choice::Select => Ok(()),
+            Choice::Replace(value) => replace(part, value),
         }
     }
 }
@@ -60,42 +76,34 @@ impl Modifiers {
         !keeps || self.parent || self.root.is_some()
     }
 
-    /// The part of a file that stays: nothing where `P` stands.
-    fn picked_file(
+    /// Changes a part of a file to what stays of it: nothing where `P` stands.
+    fn pick_file(
         &self,
         alloc: Global,
         choice: &Choice,
         others: bool,
-        part: Text,
-    ) -> Result<Text, OutOfMemory>
-        ensures { IfOk result (λ kept. kept ≡ (if self.now.parent then [] else picked others choice.now part)) }
+        part: &mut Text,
+    ) -> Result<(), OutOfMemory>
+        ensures { OnOk result (part.new ≡ (if self.now.parent then [] else picked others choice.now part.old)) }
     {
         if self.parent {
-            Text::new(alloc, "")
+            empty(alloc, part)
         } else {
-            choice.picked(alloc, others, part)
+            choice.pick(alloc, others, part)
         }
     }
 
-    /// The parts that stay.
-    fn picked_parts(&self, alloc: Global, name: NameParts) -> Result<NameParts, OutOfMemory>
-        ensures { IfOk result (λ kept. kept ≡ picked_parts self.now name) }
+    /// Changes the parts to those that stay.
+    fn pick_parts(&self, alloc: Global, name: &mut NameParts) -> Result<(), OutOfMemory>
+        ensures { OnOk result (name.new ≡ picked_parts self.now name.old) }
     {
         let others = self.selects();
-        let NameParts {
-            grist,
-            dir,
-            base,
-            suffix,
-            member,
-        } = name;
-        Ok(NameParts {
-            grist: self.grist.picked(alloc, others, grist)?,
-            dir: self.dir.picked(alloc, others, dir)?,
-            base: self.picked_file(alloc, &self.base, others, base)?,
-            suffix: self.picked_file(alloc, &self.suffix, others, suffix)?,
-            member: self.picked_file(alloc, &self.member, others, member)?,
-        })
+        self.grist.pick(alloc, others, &mut name.grist)?;
+        self.dir.pick(alloc, others, &mut name.dir)?;
+        self.pick_file(alloc, &self.base, others, &mut name.base)?;
+        self.pick_file(alloc, &self.suffix, others, &mut name.suffix)?;
+        self.pick_file(alloc, &self.member, others, &mut name.member)?;
+        Ok(())
     }
 
     /// Changes ASCII letters: `U`, then `L`.
@@ -126,9 +134,10 @@ fn push_folder(text: &mut String, root: &Text) -> Result<(), OutOfMemory>
 {
     let root = root.as_str();
     text.push_str(root)?;
-    if !root.ends_with('/') {
-        text.push('/')?;
+    if root.ends_with('/') {
+        return Ok(());
     }
+    text.push('/')?;
     Ok(())
 }
 
@@ -163,9 +172,9 @@ fn taken_apart(alloc: Global, modifiers: &Modifiers, element: &Text) -> Result<S
     ensures exact { IfOk result (λ made. string_bytes made ≡ rooted modifiers.now.root (picked_parts modifiers.now (parts_of element.now))) }
     ensures no_zero { IfOk result (λ made. HasNoZero (string_bytes made)) }
 {
-    let name = parts(alloc, element.as_str())?;
-    let kept = modifiers.picked_parts(alloc, name)?;
-    rooted(alloc, &modifiers.root, &kept)
+    let mut name = parts(alloc, element.as_str())?;
+    modifiers.pick_parts(alloc, &mut name)?;
+    rooted(alloc, &modifiers.root, &name)
 }
 
 /// The element, taken apart and put together where a modifier asks for it.
