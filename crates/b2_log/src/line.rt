@@ -45,7 +45,6 @@ pub struct ScanLine {
 }
 
 /// A line of the log.
-#[derive(Drop)]
 pub enum LogLine {
     /// The step with these outputs was run.
     Record(Record),
@@ -53,4 +52,16 @@ pub enum LogLine {
     Drop(PathList),
     /// The file was scanned.
     Scan(ScanLine),
+}
+
+// By hand, so that whoever lets a line go has one call of this proved function: a derived drop would be taken apart at each
+// exit, with a case for each kind of line.
+impl Drop for LogLine {
+    fn drop(self) {
+        match self {
+            LogLine::Record(_record) => {}
+            LogLine::Drop(_outs) => {}
+            LogLine::Scan(_scan) => {}
+        }
+    }
 }
