@@ -89,6 +89,15 @@ impl<R: Disk + AllocGlobal + Clone + Drop> Files for RealHost<R> {
     }
 }
 
+/// Starts a shell that runs a text.
+fn start_shell<R>(rt: &R, shell: &mut Command, text: &str) -> io::Result<Child>
+where
+    R: Disk + AllocGlobal + Processes<Started = SystemProcess>,
+{
+    let _shell = shell.arg("-c")?.arg(text)?;
+    shell.spawn(rt)
+}
+
 /// Makes the directories of the outputs, and starts a shell.
 fn spawn<R>(rt: &R, text: &str, outs: &[Path]) -> io::Result<Child>
 where
@@ -97,9 +106,8 @@ where
     for out in outs {
         make_parent(rt, out.as_str())?;
     }
-    let mut command = Command::new(rt.alloc(), SHELL)?;
-    let _command = command.arg("-c")?.arg(text)?;
-    command.spawn(rt)
+    let mut shell = Command::new(rt.alloc(), SHELL)?;
+    start_shell(rt, &mut shell, text)
 }
 
 impl<R> Children for RealHost<R>
@@ -113,16 +121,16 @@ where
     ghost told_alike = { λ host. refl };
 
     fn start(&mut self, step: u32, text: &str, ins: &[Path], outs: &[Path]) -> Result<(), IoFault> {
-        let job = Job::new(self.files.rt.alloc(), step, ins, outs)?;
         self.events.reserve(self.jobs.len() + 2)?;
         self.jobs.reserve(1)?;
         self.processes.reserve(1)?;
+        let job = Job::new(self.files.rt.alloc(), step, ins, outs)?;
         match spawn(&self.files.rt, text, outs) {
             Err(error) => Err(self.files.faults.fault(&error)),
             Ok(process) => {
-                self.processes.push(process).unwrap();
-                self.jobs.push(job).unwrap();
-                self.events.push(ChildEvent::Start(step)).unwrap();
+                self.processes.push_reserved(process);
+                self.jobs.push_reserved(job);
+                self.events.push_reserved(ChildEvent::Start(step));
                 Ok(())
             }
         }
@@ -137,7 +145,7 @@ where
             Ok((place, well)) => {
                 let _process = self.processes.remove(place);
                 let job = self.jobs.remove(place);
-                self.events.push(ChildEvent::Done(job.step, well)).unwrap();
+                self.events.push_reserved(ChildEvent::Done(job.step, well));
                 Ok((job.step, well))
             }
         }
