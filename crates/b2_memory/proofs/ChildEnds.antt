@@ -18,6 +18,15 @@ use Rattle.b2_memory.specs.Families.{child_with}
 use Rattle.b2_memory.specs.PendingWrites.{promised}
 use Rattle.b2_memory.proofs.ChildWrites.{is_in, in_contains, paths_of, other_path, more_past, stands_at, writes_in}
 
+-- ---- the first of several
+
+-- for any type: in a type of many parts the same takes seconds
+first_is : {X : Type 0} (x : X) (xs : List X) (y : X) → slice_get (x ∷ xs) 0 ≡ Some y → x ≡ y
+first_is x xs y e = cc
+
+none_is : {X : Type 0} (k : ℕ) (y : X) → slice_get [] k ≡ Some y → ⊥
+none_is k y e = cc
+
 -- ---- what is promised is known
 
 known_both : (m : PlaceMap) (xs ys : List Entry) → all_known m (xs ++ ys) ≡ (all_known m xs && all_known m ys)
@@ -32,9 +41,9 @@ promised_push m rs r h k =
 
 -- of one child and the others
 pub known_take : (m : PlaceMap) (rs : List Running) (k : ℕ) (r : Running) → slice_get rs k ≡ Some r → all_known m (promised rs) ≡ true → (all_known m r.entries.items ≡ true) × (all_known m (promised (remove rs k)) ≡ true)
-known_take m [] k r e h = cc
+known_take m [] k r e h = absurd (none_is k r e)
 known_take m (x ∷ rs) zero r e h =
-    let same : x ≡ r = cc in
+    let same : x ≡ r = first_is x rs r e in
     let parts = both (all_known m x.entries.items) (all_known m (promised rs)) (sym (known_both m x.entries.items (promised rs)) ∙ h) in
     (ap (λ (y : Running). all_known m y.entries.items) (sym same) ∙ parts.0, parts.1)
 known_take m (x ∷ rs) (suc k) r e h =
@@ -44,9 +53,9 @@ known_take m (x ∷ rs) (suc k) r e h =
 
 -- how much is promised without one child
 pub promised_take : (rs : List Running) (k : ℕ) (r : Running) → slice_get rs k ≡ Some r → length (promised rs) ≡ length (promised (remove rs k)) + length r.entries.items
-promised_take [] k r e = cc
+promised_take [] k r e = absurd (none_is k r e)
 promised_take (x ∷ rs) zero r e =
-    let same : x ≡ r = cc in
+    let same : x ≡ r = first_is x rs r e in
     let own : length x.entries.items ≡ length r.entries.items = ap (λ (y : Running). length y.entries.items) same in
     let sum : length (x.entries.items ++ promised rs) ≡ length x.entries.items + length (promised rs) = length-append x.entries.items (promised rs) in
     omega (arith, own, sum)
@@ -71,7 +80,7 @@ map_remove f (x ∷ xs) (suc k) = ap (λ ys. f x ∷ ys) (map_remove f xs k)
 
 contains_at : {X : Type 0} (xs : List X) (k : ℕ) (x : X) → slice_get xs k ≡ Some x → Contains xs x
 contains_at [] k x e = cc
-contains_at (y ∷ xs) zero x e = let same : y ≡ x = cc in (0, (let h : 0 < suc (length xs) = omega arith in h), same)
+contains_at (y ∷ xs) zero x e = let same : y ≡ x = first_is y xs x e in (0, (let h : 0 < suc (length xs) = omega arith in h), same)
 contains_at (y ∷ xs) (suc k) x e =
     let more = contains_at xs k x e in
     (suc more.0, (let low : more.0 < length xs = more.1 in let h : suc more.0 < suc (length xs) = omega (arith, low) in h), more.2)

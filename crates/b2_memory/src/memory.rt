@@ -69,11 +69,11 @@ impl MemoryHost {
     {
         Ok(MemoryHost {
             alloc,
+            log: path_of_log(alloc)?,
             script: Script::new(alloc),
             store: Store::new(alloc),
             child_table: ChildTable::new(alloc),
             read_notes: ReadNotes::new(alloc),
-            log: path_of_log(alloc)?,
             failed_waits: 0,
         })
     }
