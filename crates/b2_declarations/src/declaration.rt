@@ -56,7 +56,6 @@ pub struct Attributes {
 }
 
 /// What a call of a declaring rule declares.
-#[derive(Drop)]
 pub enum Declaration {
     /// `project`
     Project(Attributes),
@@ -101,4 +100,39 @@ pub enum Declaration {
     },
     /// `import`, which does nothing.
     Import,
+}
+
+// By hand, so that whoever lets a declaration go has one call of this proved function: a derived drop would be taken apart at
+// each exit, with a case for each kind of declaration.
+impl Drop for Declaration {
+    fn drop(self) {
+        match self {
+            Declaration::Project(_attributes) => {}
+            Declaration::Main(_target) => {}
+            Declaration::Explicit(_names) => {}
+            Declaration::BuildProject(_dir) => {}
+            Declaration::UseProject { id: _id, dir: _dir } => {}
+            Declaration::Using { command: _command } => {}
+            Declaration::Feature {
+                name: _name,
+                values: _values,
+                attributes: _attributes,
+            } => {}
+            Declaration::Compose {
+                property: _property,
+                parts: _parts,
+            } => {}
+            Declaration::FileType {
+                name: _name,
+                suffixes: _suffixes,
+            } => {}
+            Declaration::Generator {
+                id: _id,
+                sources: _sources,
+                targets: _targets,
+                requirements: _requirements,
+            } => {}
+            Declaration::Import => {}
+        }
+    }
 }
