@@ -102,7 +102,7 @@ pub enum Declaration {
     Import,
 }
 
-// By hand, so that whoever lets a declaration go has one call of this proved function: a derived drop would be taken apart at
+// By hand, so that dropping a declaration is one call of this proved function: a derived drop would be taken apart at
 // each exit, with a case for each kind of declaration.
 impl Drop for Declaration {
     fn drop(self) {

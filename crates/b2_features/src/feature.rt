@@ -20,7 +20,7 @@ pub struct Feature {
     pub parts: Vec<(Text, Vec<(Text, Text)>)>,
 }
 
-/// By hand, so that a feature is let go by one call: a derived drop takes it apart wherever one is held.
+/// By hand, so that dropping a feature is one call: a derived drop takes it apart wherever one is dropped.
 impl Drop for Feature {
     fn drop(self) {
         let Feature {

@@ -11,7 +11,7 @@ pub struct Generator {
     pub required: PairList,
 }
 
-/// By hand, so that a generator is let go by one call: a derived drop takes it apart wherever one is held.
+/// By hand, so that dropping a generator is one call: a derived drop takes it apart wherever one is dropped.
 impl Drop for Generator {
     fn drop(self) {
         let Generator {

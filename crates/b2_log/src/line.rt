@@ -54,7 +54,7 @@ pub enum LogLine {
     Scan(ScanLine),
 }
 
-// By hand, so that whoever lets a line go has one call of this proved function: a derived drop would be taken apart at each
+// By hand, so that dropping a line is one call of this proved function: a derived drop would be taken apart at each
 // exit, with a case for each kind of line.
 impl Drop for LogLine {
     fn drop(self) {

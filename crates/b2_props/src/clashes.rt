@@ -24,7 +24,7 @@ pub(crate) struct Clashes {
     words: TextMap<usize>,
 }
 
-/// By hand, so that both maps are let go by one call.
+/// By hand, so that dropping both maps is one call.
 impl Drop for Clashes {
     fn drop(self) {
         let Clashes { values, words } = self;

@@ -28,7 +28,7 @@ pub(crate) struct Draft {
     known: BTreeSet<(Text, Text)>,
 }
 
-/// By hand, so that a draft is let go by one call.
+/// By hand, so that dropping a draft is one call.
 impl Drop for Draft {
     fn drop(self) {
         let Draft {

@@ -22,7 +22,7 @@ pub(crate) struct WayList {
     places: TextMap<usize>,
 }
 
-/// By hand, so that the factors and their places are let go by one call.
+/// By hand, so that dropping the factors and their places is one call.
 impl Drop for WayList {
     fn drop(self) {
         let WayList { factors, places } = self;

@@ -5,7 +5,7 @@ ghost use Rattle.jam_grammar.specs.Spelling.{stmt_syms, stmts_syms, form_syms, b
 ghost use Rattle.jam_grammar.specs.Spelling as spelling;
 ghost use Rattle.jam_grammar.specs.Grammar.{Stmts, OneStmt, OneBlock, OneExpr, OneElse, ElseTail, ForTail, RuleTail, CaseBlock, Cases, OneWord, OneArg, Args, Key};
 ghost use Rattle.jam_grammar.specs.declared.mark.Mark.TheVariants as marks;
-ghost use Rattle.jam_parser.specs.Parts.{IsRead, EndsBy, ReadsOn, after_params};
+ghost use Rattle.jam_parser.specs.Parts.{IsRead, EndsBy, Reads, ReadsOn, after_params};
 
 use crate::args::{MAX_OPEN, arg, args};
 use crate::exprs::expr;
