@@ -1,1 +1,1 @@
-pub mod MakerLemmas
+pub mod MakersGrowByOne

@@ -15,7 +15,7 @@ use Rattle.std.specs.Cmp.Lexicographic.{slice_cmp}
 use Rattle.std.specs.FinMap.{FinMap, get, insert, from_entries, get-from_entries}
 use Rattle.std.proofs.lemmas.List.{append-nil}
 use Rattle.std.proofs.lemmas.List.Folds.{list_any-append}
-use Rattle.b2_plan.proofs.MakerLemmas.{get_put}
+use Rattle.b2_plan.proofs.MakersGrowByOne.{get_put}
 use Rattle.b2_props.proofs.Pairs.{text_is, text_sym}
 use Rattle.b2_supplies.specs.declared.entry.Entry.{Entry}
 use Rattle.b2_supplies.specs.Supplies.{is_library, without_repeats}

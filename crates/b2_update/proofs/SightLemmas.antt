@@ -6,7 +6,7 @@ use Rattle.std.specs.Str.{bytes_eq}
 use Rattle.std.proofs.lemmas.Slice.Eq.{bytes_eq-Decides}
 use Rattle.std.proofs.lemmas.List.Elements.{Contains-append_left, Contains-push, Contains-push_cases}
 use Rattle.b2_plan.specs.Sources.{Build}
-use Rattle.b2_plan.proofs.MakerLemmas.{get_put}
+use Rattle.b2_plan.proofs.MakersGrowByOne.{get_put}
 use Rattle.b2_runs.proofs.FirstElementOrLater.{Contains_here, Contains_nil}
 use Rattle.b2_update.specs.declared.sights.Sights.{Sights}
 use Rattle.b2_update.specs.Inputs.{FoundAs}

@@ -13,7 +13,7 @@ use Rattle.std.proofs.lemmas.List.Folds.{list_any-append}
 use Rattle.std.proofs.lemmas.Map.Lookups.{exact_bytes}
 use Rattle.std.proofs.lemmas.Map.Text.{is_eq-slice_cmp}
 use Rattle.b2_base.proofs.TextKeys.{at_text, get_text, one_text}
-use Rattle.b2_plan.proofs.MakerLemmas.{get_put}
+use Rattle.b2_plan.proofs.MakersGrowByOne.{get_put}
 use Rattle.b2_virtual.specs.Spots.{Numbers}
 
 -- ---- one text

@@ -1,6 +1,6 @@
 use Rattle.std.proofs.Common.{ap, ◌∙◌, arith}
 use Rattle.std.specs.FinMap.{insert}
-use Rattle.b2_plan.proofs.MakerLemmas.{one_out}
+use Rattle.b2_plan.proofs.MakersGrowByOne.{one_out}
 use Rattle.b2_plan.proofs.makers.add_outs.Goals as goal
 
 pub loop-out-preserved : goal.loop-out-preserved

@@ -6,7 +6,7 @@ use Rattle.std.proofs.lemmas.List.{drop_all}
 use Rattle.std.specs.Ordering.{nat_cmp}
 use Rattle.std.specs.Cmp.Lexicographic.{slice_cmp}
 use Rattle.b2_plan.specs.Plans.{maker_from}
-use Rattle.b2_plan.proofs.MakerLemmas.{one_step}
+use Rattle.b2_plan.proofs.MakersGrowByOne.{one_step}
 use Rattle.b2_plan.proofs.makers.makers_of.Goals as goal
 
 pub loop-left-init : goal.loop-left-init
