@@ -24,8 +24,8 @@ use Rattle.jam_eval.specs.Eval.{levels, rule_body}
 use Rattle.jam_eval.specs.Includes.{file_ended}
 use Rattle.jam_eval.specs.Rolled.{back_to, nowhere}
 use Rattle.jam_eval.specs.Examples.{Lines, setting_of, with_turns, lines, lines_from, list, lists, asks, sets, binds, bracket, param, file_of_rule, IsLeft, HasValue, FaultsAt, Exits, jamroot, ThreeTurns, ThreeAreEnough, TwoAreNot, RedefinedRule, DynamicScope, DynamicScopeRolled, ArityAtCall, FaultInRule, InnerCallHasItsLists}
-use Rattle.jam_eval.proofs.LookLemmas.{key_order, rule_called, rule_refused, word_list, call_is}
-use Rattle.jam_eval.proofs.CallLemmas.{first_is, next, native_is, rule_is, runs, returns_so, return_bracket, in_file, no_file, none}
+use Rattle.jam_eval.proofs.FoundInFlatWorlds.{key_order, rule_called, rule_refused, word_list, call_is}
+use Rattle.jam_eval.proofs.StatementsFollow.{first_is, next, native_is, rule_is, runs, returns_so, return_bracket, in_file, no_file, none}
 
 -- ---- forms and states
 

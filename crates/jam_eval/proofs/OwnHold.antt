@@ -25,8 +25,8 @@ use Rattle.jam_eval.specs.Calls.{value_of}
 use Rattle.jam_eval.specs.Forms.{started, form}
 use Rattle.jam_eval.specs.Eval.{levels}
 use Rattle.jam_eval.specs.Examples.{Lines, with_turns, list, binds, HasValue, jamroot, OnLocalEnds, OwnValueIsSeen}
-use Rattle.jam_eval.proofs.LookLemmas.{key_order, empty_entries, one_entry}
-use Rattle.jam_eval.proofs.CallLemmas.{first_is, next, in_file}
+use Rattle.jam_eval.proofs.FoundInFlatWorlds.{key_order, empty_entries, one_entry}
+use Rattle.jam_eval.proofs.StatementsFollow.{first_is, next, in_file}
 
 -- the entries of a row, by those of the table
 abbrev row : Text → List (Key × Value) → List (Text × Value)

@@ -1,4 +1,4 @@
-use Rattle.jam_eval.proofs.ReadingLaws.{reads}
+use Rattle.jam_eval.proofs.EachFileReads.{reads}
 use Rattle.jam_eval.proofs.laws.each_sight_has_setting.Goals as goal
 
 pub returns : goal.returns

@@ -21,7 +21,7 @@ use Rattle.jam_eval.specs.Calls.{acted, value_of, native_call}
 use Rattle.jam_eval.specs.Forms.{done, form, stmts}
 use Rattle.jam_eval.specs.Eval.{levels, rule_body}
 use Rattle.jam_eval.specs.Examples.{Lines, setting_of, at_first, lines_from, asks}
-use Rattle.jam_eval.proofs.LookLemmas.{IsFlat, native_called, rule_called, not_acted, call_is}
+use Rattle.jam_eval.proofs.FoundInFlatWorlds.{IsFlat, native_called, rule_called, not_acted, call_is}
 
 -- the first of some statements
 pub first_is : {R : Type 0} (setting : Setting R) (more line : ℕ) (f : FormTree) (forms : List FormTree) (path : Text) (s : State R) (left : ℕ) (o : Outcome R Flow) → s.left ≡ suc left
