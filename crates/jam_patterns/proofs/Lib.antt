@@ -1,2 +1,2 @@
-pub mod PatternLemmas
-pub mod LeftmostLemmas
+pub mod PatternsAreRead
+pub mod GroupsMean

@@ -1,5 +1,5 @@
 use Rattle.std.proofs.Common.{Some, sym, ap, ◌∙◌}
-use Rattle.jam_patterns.proofs.PatternLemmas.{groups_of_compiled}
+use Rattle.jam_patterns.proofs.PatternsAreRead.{groups_of_compiled}
 use Rattle.jam_patterns.proofs.groups.groups.Goals as goal
 
 pub returns-in_ok-search-in-Ok-clause-answer : goal.returns-in_ok-search-in-Ok-clause-answer

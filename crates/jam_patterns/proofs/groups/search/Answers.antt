@@ -4,7 +4,7 @@ use Rattle.regex.specs.Strings.{captures_names, regex_names}
 use Rattle.regex_syntax.specs.Grammar.{Names}
 use Rattle.jam_patterns.specs.Groups.{texts_of}
 use Rattle.jam_patterns.specs.Captured.{captured_first}
-use Rattle.jam_patterns.proofs.PatternLemmas.{captured_groups}
+use Rattle.jam_patterns.proofs.PatternsAreRead.{captured_groups}
 use Rattle.jam_patterns.proofs.groups.search.Goals as goal
 
 pub returns-in-Some : goal.returns-in-Some

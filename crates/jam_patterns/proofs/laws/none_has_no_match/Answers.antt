@@ -1,4 +1,4 @@
-use Rattle.jam_patterns.proofs.LeftmostLemmas.{none_means}
+use Rattle.jam_patterns.proofs.GroupsMean.{none_means}
 use Rattle.jam_patterns.proofs.laws.none_has_no_match.Goals as goal
 
 pub returns : goal.returns

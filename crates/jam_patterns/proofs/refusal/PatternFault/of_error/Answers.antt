@@ -1,6 +1,6 @@
 use Rattle.std.proofs.Common.{◌≡◌, not, sym, ap, ◌∙◌}
 use Rattle.jam_patterns.specs.Pattern.{is_pattern}
-use Rattle.jam_patterns.proofs.PatternLemmas.{is_pattern-read, is_pattern-refused}
+use Rattle.jam_patterns.proofs.PatternsAreRead.{is_pattern-read, is_pattern-refused}
 use Rattle.jam_patterns.proofs.refusal.PatternFault.of_error.Goals as goal
 use Rattle.jam_patterns.proofs.refusal.PatternFault.of_error.Goals.{in-Syntax, in-CompiledTooBig, in-Internal}
 
