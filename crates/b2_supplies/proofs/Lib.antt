@@ -1,2 +1,2 @@
-pub mod RepeatLemmas
-pub mod NameLemmas
+pub mod RepeatsAreLeftOut
+pub mod CleanName

@@ -2,7 +2,7 @@ use Rattle.std.proofs.Common.{◌∙◌, List, ℕ, Some, None, lit<, ap, sym, s
 use Rattle.b2_base.specs.Bytes.{HasNoZero}
 use Rattle.b2_virtual.specs.Paths.{name_of}
 use Rattle.b2_virtual.proofs.Cuts.{rsplit_parts, name_at, name_whole}
-use Rattle.b2_supplies.proofs.NameLemmas.{clean_name}
+use Rattle.b2_supplies.proofs.CleanName.{clean_name}
 use Rattle.b2_supplies.proofs.paths.file_name.Goals as goal
 
 pub returns-in-None-clause-name : goal.returns-in-None-clause-name

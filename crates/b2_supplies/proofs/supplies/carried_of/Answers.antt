@@ -1,7 +1,7 @@
 use Rattle.std.proofs.Common.{◌∙◌, ap, sym}
 use Rattle.std.specs.List.{fold}
 use Rattle.b2_supplies.specs.Repeats.{with_entry}
-use Rattle.b2_supplies.proofs.RepeatLemmas.{gathered_next, gathered_all}
+use Rattle.b2_supplies.proofs.RepeatsAreLeftOut.{gathered_next, gathered_all}
 use Rattle.b2_supplies.proofs.supplies.carried_of.Goals as goal
 
 pub loop-supply-preserved : goal.loop-supply-preserved

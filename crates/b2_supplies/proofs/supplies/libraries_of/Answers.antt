@@ -2,7 +2,7 @@ use Rattle.std.proofs.Common.{◌∙◌, ◌++◌, ap, sym}
 use Rattle.std.specs.List.{filter, fold}
 use Rattle.b2_supplies.specs.Supplies.{is_library}
 use Rattle.b2_supplies.specs.Repeats.{with_entry}
-use Rattle.b2_supplies.proofs.RepeatLemmas.{gathered_next, gathered_all}
+use Rattle.b2_supplies.proofs.RepeatsAreLeftOut.{gathered_next, gathered_all}
 use Rattle.b2_supplies.proofs.supplies.libraries_of.Goals as goal
 
 pub loop-supply-preserved : goal.loop-supply-preserved

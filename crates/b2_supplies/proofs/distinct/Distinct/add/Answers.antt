@@ -2,7 +2,7 @@ use Rattle.std.proofs.Common.{◌≡◌, ◌∙◌, ◌++◌, ◌∷◌, [], Lis
 use Rattle.std.specs.FinMap.{get, insert}
 use Rattle.b2_supplies.specs.declared.entry.Entry.{Entry}
 use Rattle.b2_supplies.specs.Repeats.{HasPaths}
-use Rattle.b2_supplies.proofs.RepeatLemmas.{has_paths_push, copied_some, entry_there, entry_new}
+use Rattle.b2_supplies.proofs.RepeatsAreLeftOut.{has_paths_push, copied_some, entry_there, entry_new}
 use Rattle.b2_supplies.proofs.distinct.Distinct.add.Goals as goal
 
 pub returns-then-is_some : goal.returns-then-is_some

@@ -1,6 +1,6 @@
 use Rattle.std.proofs.Common.{◌∙◌, ap, sym}
 use Rattle.b2_supplies.specs.Repeats.{with_entry}
-use Rattle.b2_supplies.proofs.RepeatLemmas.{fold_next}
+use Rattle.b2_supplies.proofs.RepeatsAreLeftOut.{fold_next}
 use Rattle.b2_supplies.proofs.distinct.Distinct.add_all.Goals as goal
 
 pub loop-entry-preserved : goal.loop-entry-preserved

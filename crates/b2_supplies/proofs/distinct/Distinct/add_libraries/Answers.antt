@@ -2,7 +2,7 @@ use Rattle.std.proofs.Common.{◌∙◌, ◌∷◌, [], ap, sym}
 use Rattle.std.specs.List.{filter, fold}
 use Rattle.b2_supplies.specs.Supplies.{is_library}
 use Rattle.b2_supplies.specs.Repeats.{with_entry}
-use Rattle.b2_supplies.proofs.RepeatLemmas.{library_next}
+use Rattle.b2_supplies.proofs.RepeatsAreLeftOut.{library_next}
 use Rattle.b2_supplies.proofs.distinct.Distinct.add_libraries.Goals as goal
 
 pub loop-entry-preserved : goal.loop-entry-preserved

@@ -1,7 +1,7 @@
 use Rattle.std.proofs.Common.{◌≡◌, ◌∙◌, List, sym, subst}
 use Rattle.std.specs.Result.{OnOk}
 use Rattle.b2_supplies.specs.declared.entry.Entry.{Entry}
-use Rattle.b2_supplies.proofs.RepeatLemmas.{library_yes, library_no}
+use Rattle.b2_supplies.proofs.RepeatsAreLeftOut.{library_yes, library_no}
 use Rattle.b2_supplies.proofs.distinct.Distinct.add_library.Goals as goal
 
 pub returns-then-not-is_library : goal.returns-then-not-is_library
