@@ -8,7 +8,7 @@ use Rattle.b2_metatargets.specs.Carrying.{tables_of}
 use Rattle.jam_journal.specs.Tables.{Text}
 use Rattle.jam_eval.specs.Settings.{Setting, Reading}
 use Rattle.jam_values.specs.FileReadings.{ReadsAny}
-use Rattle.jam_values.proofs.ReadingLemmas.{one_reading, file_reads}
+use Rattle.jam_values.proofs.OneReading.{one_reading, file_reads}
 use Rattle.jam_natives.specs.Keeping.{Kept}
 use Rattle.b2_walk.specs.Walks.{Walk, Course, goes_on, refused, run_text, no_walk, load_root}
 use Rattle.b2_walk.specs.Laws.{OneCourse}

@@ -17,7 +17,7 @@ use Rattle.jam_eval.specs.Includes.{is_in_roots}
 use Rattle.jam_eval.specs.Settings.{Reading, is_missing, is_too_big, has_no_tokens, has_no_tree, is_file, IsReading}
 use Rattle.jam_values.specs.declared.files.FileReading.{FileReading}
 use Rattle.jam_values.specs.FileReadings.{reading_of, ReadsOnce}
-use Rattle.jam_values.proofs.ReadingLemmas.{one_reading}
+use Rattle.jam_values.proofs.OneReading.{one_reading}
 use Rattle.b2_walk.specs.declared.fault.LoadFault.{LoadFault}
 use Rattle.b2_walk.specs.declared.fault.LoadFault.TheVariants as faults
 use Rattle.b2_walk.specs.declared.project_file.ProjectFile.{ProjectFile}

@@ -11,7 +11,7 @@ use Rattle.jam_scope.specs.Changes.{changed, freeze_roots}
 use Rattle.jam_eval.specs.Faults.{Spot, Cause, include}
 use Rattle.jam_eval.specs.Settings.{Reading, IsReading}
 use Rattle.jam_eval.specs.Includes.{is_in_roots}
-use Rattle.jam_values.proofs.ReadingLemmas.{one_reading}
+use Rattle.jam_values.proofs.OneReading.{one_reading}
 use Rattle.jam_effects.specs.declared.fault.EvalFault.{EvalFault}
 use Rattle.jam_effects.specs.declared.fault.EvalFault.TheVariants as fault
 use Rattle.jam_effects.specs.declared.including.Included.{Included}

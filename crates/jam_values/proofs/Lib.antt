@@ -1,4 +1,4 @@
-pub mod ListLemmas
-pub mod SetLemmas
-pub mod TakingLemmas
-pub mod ReadingLemmas
+pub mod ListsGrowByOne
+pub mod SetGrowsByOne
+pub mod NoMoreLists
+pub mod OneReading

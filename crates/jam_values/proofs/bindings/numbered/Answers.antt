@@ -1,7 +1,7 @@
 use Rattle.std.proofs.Common.{◌≡◌, ◌+◌}
 use Rattle.jam_eval.specs.Params.{numbered}
 use Rattle.jam_values.specs.Bindings.{bindings_of}
-use Rattle.jam_values.proofs.ListLemmas.{numbered_more}
+use Rattle.jam_values.proofs.ListsGrowByOne.{numbered_more}
 use Rattle.jam_values.proofs.bindings.numbered.Goals as goal
 
 pub loop-place-preserved : goal.loop-place-preserved

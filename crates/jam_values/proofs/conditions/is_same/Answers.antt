@@ -1,5 +1,5 @@
 use Rattle.std.proofs.Common.{◌∙◌}
-use Rattle.jam_values.proofs.ListLemmas.{same_pointwise}
+use Rattle.jam_values.proofs.ListsGrowByOne.{same_pointwise}
 use Rattle.jam_values.proofs.conditions.is_same.Goals as goal
 
 pub returns : goal.returns

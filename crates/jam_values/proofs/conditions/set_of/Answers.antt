@@ -1,6 +1,6 @@
 use Rattle.std.proofs.Common.{is_some, ◌∙◌, ap}
 use Rattle.std.specs.FinMap as map
-use Rattle.jam_values.proofs.SetLemmas.{set_more}
+use Rattle.jam_values.proofs.SetGrowsByOne.{set_more}
 use Rattle.jam_values.proofs.conditions.set_of.Goals as goal
 
 pub loop-text-init : goal.loop-text-init

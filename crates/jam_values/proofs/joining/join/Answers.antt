@@ -1,7 +1,7 @@
 use Rattle.std.proofs.Common.{◌∙◌, ap}
 use Rattle.std.proofs.lemmas.Result.{err_from_is_err_and}
 use Rattle.jam_expand.specs.Limits.{within}
-use Rattle.jam_values.proofs.ListLemmas.{one_joined, one_fault}
+use Rattle.jam_values.proofs.ListsGrowByOne.{one_joined, one_fault}
 use Rattle.jam_values.proofs.joining.join.Goals as goal
 
 pub returns-in_err-push-clause-given : goal.returns-in_err-push-clause-given

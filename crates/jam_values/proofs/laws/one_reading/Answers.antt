@@ -1,4 +1,4 @@
-use Rattle.jam_values.proofs.ReadingLemmas.{one_reading}
+use Rattle.jam_values.proofs.OneReading.{one_reading}
 use Rattle.jam_values.proofs.laws.one_reading.Goals as goal
 
 pub returns : goal.returns

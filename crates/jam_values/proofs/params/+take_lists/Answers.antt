@@ -1,5 +1,5 @@
 use Rattle.jam_values.specs.Bindings.{bindings_of}
-use Rattle.jam_values.proofs.TakingLemmas.{no_more_lists}
+use Rattle.jam_values.proofs.NoMoreLists.{no_more_lists}
 use Rattle.jam_values.proofs.params.+take_lists.Goals as goal
 
 pub returns-in-empty : goal.returns-in-empty
