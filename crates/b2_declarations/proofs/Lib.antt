@@ -1,4 +1,4 @@
 pub mod Calls
 pub mod LoopSteps
-pub mod TargetLemmas
+pub mod SameRuleName
 pub mod Trailing

@@ -2,7 +2,7 @@ use Rattle.std.proofs.Common.{◌≡◌, true, false, lit<, rules, tests}
 use Rattle.std.proofs.lemmas.Iterator.{cases_from_any}
 use Rattle.std.proofs.lemmas.Iterator.Splits.{YieldsList-from_str_split}
 use Rattle.b2_base.specs.Segments.{segments, is_up}
-use Rattle.b2_declarations.proofs.TargetLemmas.{any_is}
+use Rattle.b2_declarations.proofs.SameRuleName.{any_is}
 use Rattle.b2_declarations.proofs.target.has_up.Goals as goal
 
 pub returns : goal.returns

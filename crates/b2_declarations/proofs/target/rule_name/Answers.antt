@@ -2,7 +2,7 @@ use Rattle.std.proofs.Common.{None, Some, sym, ap, lit<}
 use Rattle.std.proofs.lemmas.Str.Pattern.{strip_prefix_char}
 use Rattle.b2_texts.proofs.Naming.{rest_clean}
 use Rattle.b2_declarations.specs.Targets.{rule_name}
-use Rattle.b2_declarations.proofs.TargetLemmas.{same_name}
+use Rattle.b2_declarations.proofs.SameRuleName.{same_name}
 use Rattle.b2_declarations.proofs.target.rule_name.Goals as goal
 
 pub returns-in-None-clause-value : goal.returns-in-None-clause-value
