@@ -4,7 +4,7 @@ use Rattle.std.proofs.lemmas.Bool.{eqb-true, eqb-false}
 use Rattle.jam_path.specs.Patterns.{Match}
 use Rattle.jam_path.specs.Patterns.Match.{ends}
 use Rattle.jam_path.specs.Steps.{IsStarless, after_one}
-use Rattle.jam_path.proofs.WalkLemmas.{Fed, fed_start, fed_more, fed_fails, fed_ended, star_here, star_later, star_never}
+use Rattle.jam_path.proofs.WalkFits.{Fed, fed_start, fed_more, fed_fails, fed_ended, star_here, star_later, star_never}
 
 -- a test that tells whether it is so
 abbrev pub Told : Type 0 → Type 0

@@ -3,8 +3,8 @@ use Rattle.std.proofs.lemmas.Bool.{ne_eqb, true≢false, or_right}
 use Rattle.std.proofs.lemmas.List.{length-append, append-nil, append_cancel_left}
 use Rattle.jam_path.specs.Patterns.{Lacks}
 use Rattle.jam_path.specs.Names.{has, begins_with, closes_with, before_end, grist_of, path_of, dir_of, file_of, has_member, member_of, stem_of, suffix_of, base_of, is_empty, grist_text, slash_text, member_text, joined, parts_of, IsPlain}
-use Rattle.jam_path.proofs.CutLemmas.{Last, has_not, has_at, before_end_at, dir_at, file_at, stem_at, member_at, has_member_at}
-use Rattle.jam_path.proofs.PartsLemmas.{Archive, last_or, member_or, whole_grist, grist_begins, whole_suffix}
+use Rattle.jam_path.proofs.CutAtSign.{Last, has_not, has_at, before_end_at, dir_at, file_at, stem_at, member_at, has_member_at}
+use Rattle.jam_path.proofs.PartsMakeTheText.{Archive, last_or, member_or, whole_grist, grist_begins, whole_suffix}
 
 not_empty : (x : ℕ) (xs : List ℕ) → is_empty (x ∷ xs) ≡ false
 not_empty x xs = ne_eqb (suc (length xs)) 0 (λ e. omega (arith, e))

@@ -1,5 +1,5 @@
-pub mod CutLemmas
-pub mod PartsLemmas
+pub mod CutAtSign
+pub mod PartsMakeTheText
 pub mod JoinGivesBack
-pub mod PieceLemmas
-pub mod WalkLemmas
+pub mod ClassUpToBracket
+pub mod WalkFits

@@ -1,7 +1,7 @@
 use Rattle.std.proofs.Common.{◌∙◌, sym, ap, subst}
 use Rattle.b2_base.specs.Bytes.{HasNoZero}
 use Rattle.jam_path.specs.Names.{dir_of, file_of}
-use Rattle.jam_path.proofs.PartsLemmas.{clean_dir}
+use Rattle.jam_path.proofs.PartsMakeTheText.{clean_dir}
 use Rattle.jam_natives.proofs.glob.cut_pattern.Goals as goal
 
 pub returns-clause-dir : goal.returns-clause-dir

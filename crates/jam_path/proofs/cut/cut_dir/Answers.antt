@@ -1,5 +1,5 @@
 use Rattle.std.proofs.Common.{◌∙◌, lit<, refl, sym, Some, None}
-use Rattle.jam_path.proofs.CutLemmas.{has_not, rsplit_parts, dir_at, file_at}
+use Rattle.jam_path.proofs.CutAtSign.{has_not, rsplit_parts, dir_at, file_at}
 use Rattle.jam_path.proofs.cut.cut_dir.Goals as goal
 
 pub returns-in-None-clause-dir : goal.returns-in-None-clause-dir

@@ -1,6 +1,6 @@
 use Rattle.std.proofs.Common.{◌∙◌, ◌++◌, ◌∷◌, lit<, refl, ap, sym, Some, None}
 use Rattle.std.proofs.lemmas.Str.Pattern.{split_parts, strip_suffix_char}
-use Rattle.jam_path.proofs.CutLemmas.{lacks_from_places, no_member, stem_at, member_at}
+use Rattle.jam_path.proofs.CutAtSign.{lacks_from_places, no_member, stem_at, member_at}
 use Rattle.jam_path.proofs.cut.cut_member.Goals as goal
 
 pub returns-in-None-clause-stem : goal.returns-in-None-clause-stem

@@ -1,7 +1,7 @@
 use Rattle.std.proofs.Common.{◌∙◌, ◌+◌, ◌∷◌, drop, take, lit<, refl, ap, sym, Some, None}
 use Rattle.std.proofs.lemmas.List.{drop_more}
 use Rattle.std.proofs.lemmas.Str.Pattern.{rfind_char}
-use Rattle.jam_path.proofs.CutLemmas.{has_not, lacks_from_places, lacks_after, cut_at, suffix_at, base_at}
+use Rattle.jam_path.proofs.CutAtSign.{has_not, lacks_from_places, lacks_after, cut_at, suffix_at, base_at}
 use Rattle.jam_path.proofs.cut.cut_suffix.Goals as goal
 
 pub returns-in-None-clause-base : goal.returns-in-None-clause-base

@@ -1,7 +1,7 @@
 use Rattle.std.proofs.Common.{refl}
 use Rattle.std.specs.Str.{chars}
 use Rattle.std.proofs.lemmas.Bool.{false≢true}
-use Rattle.jam_path.proofs.WalkLemmas.{star_here, star_later, star_never}
+use Rattle.jam_path.proofs.WalkFits.{star_here, star_later, star_never}
 use Rattle.jam_path.proofs.glob.matches_end.Goals as goal
 
 pub returns-in-Fits : goal.returns-in-Fits

@@ -1,6 +1,6 @@
 use Rattle.std.proofs.Common.{lit<, Some, None}
 use Rattle.std.proofs.lemmas.Str.Pattern.{rfind_char}
-use Rattle.jam_path.proofs.PieceLemmas.{unclosed_last}
+use Rattle.jam_path.proofs.ClassUpToBracket.{unclosed_last}
 use Rattle.jam_path.proofs.glob.unclosed_len.Goals as goal
 
 pub returns-in-None : goal.returns-in-None

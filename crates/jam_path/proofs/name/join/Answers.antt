@@ -1,6 +1,6 @@
 use Rattle.std.proofs.Common.{◌++◌, ◌∙◌, ap, sym}
 use Rattle.jam_path.specs.Names.{grist_text, path_text}
-use Rattle.jam_path.proofs.PartsLemmas.{joined_parts}
+use Rattle.jam_path.proofs.PartsMakeTheText.{joined_parts}
 use Rattle.jam_path.proofs.name.join.Goals as goal
 
 pub returns : goal.returns

@@ -1,7 +1,7 @@
 use Rattle.std.proofs.Common.{subst, sym, ap, ◌∙◌}
 use Rattle.b2_base.specs.Bytes.{HasNoZero}
 use Rattle.jam_path.specs.Names.{file_of, dir_of, stem_of, base_of, suffix_of, member_of}
-use Rattle.jam_path.proofs.PartsLemmas.{no_zeros}
+use Rattle.jam_path.proofs.PartsMakeTheText.{no_zeros}
 use Rattle.jam_path.proofs.name.parts.Goals as goal
 
 pub new-requires : goal.new-requires

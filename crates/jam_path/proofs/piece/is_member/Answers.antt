@@ -1,7 +1,7 @@
 use Rattle.std.proofs.Common.{◌∷◌, ◌∙◌, sym, ap}
 use Rattle.std.specs.Str.{chars}
 use Rattle.jam_path.specs.Patterns.{is_member}
-use Rattle.jam_path.proofs.PieceLemmas.{alone, below_range, above_range}
+use Rattle.jam_path.proofs.ClassUpToBracket.{alone, below_range, above_range}
 use Rattle.jam_path.proofs.piece.is_member.Goals as goal
 use Rattle.jam_path.proofs.piece.is_member.Goals.{else-low-character-2-via-then-low-character-2+else-character-high, else-low-character-2-via-else-low-character-2}
 

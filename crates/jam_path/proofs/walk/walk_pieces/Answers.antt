@@ -1,8 +1,8 @@
 use Rattle.std.proofs.Common.{◌∙◌, sym, arith}
 use Rattle.std.specs.Str.{chars}
-use Rattle.jam_path.proofs.PieceLemmas.{drop_twice, no_chars, no_bytes}
+use Rattle.jam_path.proofs.ClassUpToBracket.{drop_twice, no_chars, no_bytes}
 use Rattle.std.proofs.lemmas.Bool.{eqb-true, eqb-false}
-use Rattle.jam_path.proofs.WalkLemmas.{fed_more, fed_fits, fed_ended, fed_fails, fed_star}
+use Rattle.jam_path.proofs.WalkFits.{fed_more, fed_fits, fed_ended, fed_fails, fed_star}
 use Rattle.jam_path.proofs.walk.walk_pieces.Goals as goal
 
 pub returns-in-Some-clause-exact : goal.returns-in-Some-clause-exact

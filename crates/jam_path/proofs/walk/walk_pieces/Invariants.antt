@@ -2,7 +2,7 @@ use Rattle.std.proofs.Common.{◌≡◌, ◌≤◌, ℕ, length, drop}
 use denote.Text.{Utf8}
 use denote.Shadow.{shadow}
 use Rattle.std.specs.Str.{chars}
-use Rattle.jam_path.proofs.WalkLemmas.{Fed}
+use Rattle.jam_path.proofs.WalkFits.{Fed}
 use Rattle.jam_path.proofs.walk.walk_pieces.Given as goal
 
 -- the pieces so far took one character each

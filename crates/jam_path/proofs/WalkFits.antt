@@ -8,8 +8,8 @@ use Rattle.jam_path.specs.Patterns.Takes.{any, escaped, class, itself}
 use Rattle.jam_path.specs.Patterns.Match.{ends, run, one}
 use Rattle.jam_path.specs.Names.{has}
 use Rattle.jam_path.specs.Steps.{IsStarless, after_one, after_exact, after_escape, after_class, after_bracket}
-use Rattle.jam_path.proofs.CutLemmas.{First, has_not, has_at, before_at, after_at}
-use Rattle.jam_path.proofs.PartsLemmas.{first_or}
+use Rattle.jam_path.proofs.CutAtSign.{First, has_not, has_at, before_at, after_at}
+use Rattle.jam_path.proofs.PartsMakeTheText.{first_or}
 
 -- ---- the first piece, as the code finds it
 

@@ -7,7 +7,7 @@ use Rattle.b2_base.specs.Bytes.{HasNoZero}
 use Rattle.jam_path.specs.Patterns.{Lacks}
 use Rattle.jam_path.specs.Names.{has, begins_with, closes_with, has_grist, grist_of, path_of, or_root, dir_of, file_of, has_member, member_of, stem_of, suffix_of, base_of, grist_text, slash_text, member_text, path_text, joined}
 use Rattle.jam_path.specs.declared.name_parts.NameParts.{NameParts}
-use Rattle.jam_path.proofs.CutLemmas.{First, Last, has_not, grist_at, path_at, dir_at, file_at, suffix_at, base_at, stem_at, member_at, no_member}
+use Rattle.jam_path.proofs.CutAtSign.{First, Last, has_not, grist_at, path_at, dir_at, file_at, suffix_at, base_at, stem_at, member_at, no_member}
 
 -- ---- a text has a sign or not
 

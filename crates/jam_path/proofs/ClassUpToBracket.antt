@@ -6,7 +6,7 @@ use Rattle.std.proofs.lemmas.List.{length-append, nil_from_length, get_or_at, ta
 use Rattle.std.proofs.lemmas.Str.{encode_ascii, chars-nil, encodes-chars, chars-append, chars_past_char, IsUtf8-take, IsUtf8-drop, IsCharBoundary-before_ascii, IsCharBoundary-after_ascii}
 use Rattle.jam_path.specs.Patterns.{Lacks, is_member}
 use Rattle.jam_path.specs.Steps.{IsUnclosed, after_dash, after_exact, after_class, after_bracket}
-use Rattle.jam_path.proofs.CutLemmas.{has_not, has_at, before_at, after_at, lacks_from_places}
+use Rattle.jam_path.proofs.CutAtSign.{has_not, has_at, before_at, after_at, lacks_from_places}
 
 -- ---- members
 
