@@ -22,8 +22,11 @@ use Rattle.b2_memory.specs.Results.{bytes_named, joined, hexadecimal}
 use Rattle.b2_memory.specs.NamedBytes.{Found, ref_cmp, bytes_found}
 
 -- the digits of one byte more
-pub hex_more : (bytes : List ℕ) (i : ℕ) → i < length bytes → hexadecimal (take i bytes) ++ hexadecimal (get_or bytes i 0 ∷ []) ≡ hexadecimal (take (i + 1) bytes)
+hex_more : (bytes : List ℕ) (i : ℕ) → i < length bytes → hexadecimal (take i bytes) ++ hexadecimal (get_or bytes i 0 ∷ []) ≡ hexadecimal (take (i + 1) bytes)
 hex_more bytes i h = sym (ap hexadecimal (take_more bytes i 0 h) ∙ flat_map-append (λ b. digit_glyph false (b / 16) ∷ digit_glyph false (b % 16) ∷ []) (take i bytes) (get_or bytes i 0 ∷ []))
+
+pub digits_more : (bytes : List ℕ) (i : ℕ) (before after pair : List ℕ) → i < length bytes → before ≡ hexadecimal (take i bytes) → pair ≡ hexadecimal (get_or bytes i 0 ∷ []) → after ≡ before ++ pair → after ≡ hexadecimal (take (i + 1) bytes)
+digits_more bytes i before after pair low was is adds = adds ∙ ap (λ b. b ++ pair) was ∙ ap (λ p. hexadecimal (take i bytes) ++ p) is ∙ hex_more bytes i low
 
 -- one input more that is held
 pub read_more : (folder : Folder) (ins : List (List ℕ)) (i : ℕ) (d : List ℕ) → i < length ins → read_all folder (take (i + 1) ins) ≡ read_all folder (take i ins) ++ option_to_list (read_at folder (get_or ins i d))

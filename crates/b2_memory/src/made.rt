@@ -127,7 +127,6 @@ fn hexadecimal_pair(alloc: Global, byte: u8) -> Result<String, OutOfMemory>
     Ok(format!(in alloc; "{byte:02x}")?)
 }
 
-#[tactic(auto, using(crate::proofs::LoopSteps::hex_more))]
 fn hexadecimal_text(alloc: Global, bytes: &[u8]) -> Result<Vec<u8>, OutOfMemory>
     ensures { IfOk result (λ digits. digits.items ≡ hexadecimal bytes.now) }
 {
