@@ -33,7 +33,10 @@ impl At<'_> {
                 line: self.line,
                 cause,
             },
-            Err(_) => EvalFault::OutOfMemory,
+            Err(_) => {
+                drop(cause);
+                EvalFault::OutOfMemory
+            }
         }
     }
 }
