@@ -17,19 +17,14 @@ pub fn refusal(alloc: Global, kind: &str, word: &Text) -> Result<Answer, CaseFau
     Answer::line(alloc, format!(in alloc; "{kind}: {word}")?.as_str())
 }
 
-fn word_of(fault: &FeatureFault) -> Result<&Text, CaseFault> {
+fn fault_line(alloc: Global, fault: &FeatureFault) -> Result<Answer, CaseFault> {
     match fault {
-        FeatureFault::Twice { word } => Ok(word),
-        FeatureFault::Unknown { word } => Ok(word),
-        FeatureFault::BadValue { word } => Ok(word),
-        FeatureFault::ComposeConflict { word } => Ok(word),
+        FeatureFault::Twice { word } => refusal(alloc, "there twice", word),
+        FeatureFault::Unknown { word } => refusal(alloc, "unknown", word),
+        FeatureFault::BadValue { word } => refusal(alloc, "bad value", word),
+        FeatureFault::ComposeConflict { word } => refusal(alloc, "conflict", word),
         FeatureFault::OutOfMemory => Err(CaseFault::OutOfMemory),
     }
-}
-
-fn fault_line(alloc: Global, fault: &FeatureFault) -> Result<Answer, CaseFault> {
-    let kind = format!(in alloc; "{fault}")?;
-    refusal(alloc, kind.as_str(), word_of(fault)?)
 }
 
 /// The answer to a fault, which it drops.

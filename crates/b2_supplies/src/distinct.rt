@@ -17,7 +17,7 @@ pub(crate) struct Distinct {
 
 impl Distinct {
     /// No entries; takes no memory.
-    #[tactic(auto, using(crate::proofs::RepeatLemmas::has_paths_none))]
+    #[tactic(auto, using(crate::proofs::RepeatsAreLeftOut::has_paths_none))]
     pub(crate) fn new(alloc: Global) -> Distinct
         ensures entries { result.entries ≡ [] }
         ensures paths { HasPaths result.entries result.paths }

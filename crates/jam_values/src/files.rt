@@ -65,7 +65,7 @@ fn bytes_read(alloc: Global, bytes: &[u8]) -> Result<FileReading, OutOfMemory>
 }
 
 /// How the bytes of a file read.
-#[tactic(auto, using(crate::proofs::ReadingLemmas::any_of_short))]
+#[tactic(auto, using(crate::proofs::OneReading::any_of_short))]
 pub fn any_read(alloc: Global, bytes: &[u8]) -> Result<FileReading, OutOfMemory>
     ensures { IfOk result (λ read. ReadsAny bytes.now (reading_of read)) }
 {
@@ -78,7 +78,7 @@ pub fn any_read(alloc: Global, bytes: &[u8]) -> Result<FileReading, OutOfMemory>
 }
 
 /// Reads a file of statements. Where it is out of memory, the file may have been read.
-#[tactic(auto, using(crate::proofs::ReadingLemmas::file_reads))]
+#[tactic(auto, using(crate::proofs::OneReading::file_reads))]
 pub fn read_file<F: Files>(
     alloc: Global,
     files: &mut F,

@@ -3,7 +3,6 @@ use crate::declaring::refusal;
 use crate::pairs::{made, pair, pairs};
 use crate::properties::shown::{push_sets, push_targets};
 use crate::shown::{set_line, truth};
-use b2_base::text::Text;
 use b2_features::registry::Registry;
 use b2_props::elements;
 use b2_props::pair_index::PairIndex;
@@ -75,18 +74,13 @@ pub fn has_all(alloc: Global, set: &Props, words: &[Word]) -> Result<Answer, Cas
     truth(alloc, index.has_all(others.as_slice()))
 }
 
-fn word_of(fault: &RequestFault) -> Result<&Text, CaseFault> {
+fn refused(alloc: Global, fault: &RequestFault) -> Result<Answer, CaseFault> {
     match fault {
-        RequestFault::UnknownWord { word } => Ok(word),
-        RequestFault::UnknownValue { word } => Ok(word),
-        RequestFault::Conflict { word } => Ok(word),
+        RequestFault::UnknownWord { word } => refusal(alloc, "unknown word", word),
+        RequestFault::UnknownValue { word } => refusal(alloc, "unknown value", word),
+        RequestFault::Conflict { word } => refusal(alloc, "conflict", word),
         RequestFault::OutOfMemory => Err(CaseFault::OutOfMemory),
     }
-}
-
-fn refused(alloc: Global, fault: &RequestFault) -> Result<Answer, CaseFault> {
-    let kind = format!(in alloc; "{fault}")?;
-    refusal(alloc, kind.as_str(), word_of(fault)?)
 }
 
 fn asked(alloc: Global, request: &Request) -> Result<Answer, CaseFault> {
