@@ -93,6 +93,13 @@ pub seen_map : (disk : Option Disk) (P Q : Sight → Type 0) → ((sight : Sight
 seen_map None P Q f h = tt
 seen_map (Some d) P Q f h = λ sight seen here. f sight (h sight seen here)
 
+-- a search with the same pattern and directories finds the same
+pub same_found : (disk : Option Disk) (roots excluded : List (List ℕ)) (patterns others : List (List ℕ)) (dir listed shown seen : List ℕ) (P : List (List ℕ) → Type 0) → patterns ≡ others → dir ≡ listed → shown ≡ seen
+    → WhereSeen disk (λ sight. P (found_in sight roots patterns excluded dir shown)) → WhereSeen disk (λ sight. P (found_in sight roots others excluded listed seen))
+same_found disk roots excluded patterns others dir listed shown seen P named lists shows =
+    seen_map disk (λ sight. P (found_in sight roots patterns excluded dir shown)) (λ sight. P (found_in sight roots others excluded listed seen))
+    (λ sight h. subst P (λ i. found_in sight roots (named i) excluded (lists i) (shows i)) h)
+
 -- ---- loops over directories and patterns
 
 pub glob_step : (before here : Outside) (roots patterns dirs : List (List ℕ)) (i : ℕ) (dir listed : List ℕ) (now next : List (List ℕ)) → i < length dirs → dir ≡ get_or dirs i dir → here ≡ before → listed ≡ normal_of dir

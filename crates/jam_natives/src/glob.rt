@@ -1,6 +1,7 @@
 //! The rules GLOB and `glob`.
 ghost use Rattle.std.specs.Prelude.{◌≡◌, ◌++◌, ◌∷◌, [], IfOk, OnOk};
 ghost use Rattle.b2_base.specs.Bytes.{HasNoZero};
+ghost use Rattle.b2_base.specs.Segments.{normal_of, path_from};
 ghost use Rattle.b2_host.specs.Outside.{IoLooks};
 ghost use Rattle.jam_path.specs.Names.{dir_of, file_of};
 ghost use Rattle.jam_natives.specs.Sights.{ForMatching, WhereSeen};
@@ -17,6 +18,7 @@ use b2_host::files::Files;
 use jam_path::cut::cut_dir;
 use jam_path::glob::glob_match;
 use std::alloc::Global;
+use std::slice;
 
 /// What is looked for: names that a pattern matches, whose paths no excluding pattern matches, outside the output roots.
 #[derive(Clone, Copy)]
@@ -161,6 +163,34 @@ fn cut_pattern(pattern: &Text) -> (&str, &str)
     cut_dir(pattern.as_str())
 }
 
+/// A pattern of `glob` with the directory in which it looks.
+#[derive(Drop)]
+struct Placed {
+    /// What the names of the files match.
+    names: Text,
+    /// The directory.
+    listed: Path,
+    /// The directory as it stands in the paths that are found.
+    shown: Path,
+}
+
+/// A pattern, whose directory is relative to that of the project.
+fn place_pattern(alloc: Global, place: &Path, pattern: &Text) -> Result<Placed, OutOfMemory>
+    ensures names { IfOk result (λ made. made.names ≡ file_of pattern.now) }
+    ensures listed { IfOk result (λ made. made.listed ≡ path_from place.now (dir_of pattern.now)) }
+    ensures shown { IfOk result (λ made. made.shown ≡ normal_of (dir_of pattern.now)) }
+{
+    let (dir, file) = cut_pattern(pattern);
+    let listed = path_from(alloc, place, dir)?;
+    let shown = path_of(alloc, dir)?;
+    let names = Text::new(alloc, file)?;
+    Ok(Placed {
+        names,
+        listed,
+        shown,
+    })
+}
+
 /// Adds the files that one pattern of `glob` finds.
 fn add_globbed<F: Files>(
     alloc: Global,
@@ -174,17 +204,13 @@ fn add_globbed<F: Files>(
     ensures files { IoLooks (F.outside files.old) (F.outside files.new) result }
     ensures found { WhereSeen (F.outside files.old).disk (λ sight. OnOk result (found.new ≡ found.old ++ found_by sight roots.now place.now excluded.now pattern.now)) }
 {
-    let (dir, file) = cut_pattern(pattern);
-    let mut patterns = TextList::new(alloc);
-    patterns.push(Text::new(alloc, file)?)?;
+    let placed = place_pattern(alloc, place, pattern)?;
     let search = Search {
-        patterns: patterns.as_slice(),
+        patterns: slice::from_ref(&placed.names),
         excluded,
         roots,
     };
-    let listed = path_from(alloc, place, dir)?;
-    let shown = path_of(alloc, dir)?;
-    add_found(alloc, found, &search, &listed, &shown, files)
+    add_found(alloc, found, &search, &placed.listed, &placed.shown, files)
 }
 
 /// `glob`: for each pattern, the source files that it finds in its directory, which is relative to that of the project; without

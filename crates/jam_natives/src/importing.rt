@@ -16,24 +16,20 @@ use jam_scope::rule_ref::RuleRef;
 use jam_scope::world::World;
 use std::alloc::Global;
 
-/// The first of some rules that a module has not.
-fn missing_rule<'a>(
-    owner: &str,
-    names: &'a [Text],
-    world: &World,
-) -> Result<Option<&'a Text>, OutOfMemory>
-    ensures { IfOk result (λ found. option_copied found ≡ missing_rule world.now.now.rules owner.now names.now) }
+/// The first of some rules that a module has not. Takes no memory.
+fn missing_rule<'a>(owner: &str, names: &'a [Text], world: &World) -> Option<&'a Text>
+    ensures { option_copied result ≡ missing_rule world.now.now.rules owner.now names.now }
 {
     for name in names {
         let at = RuleRef {
             module: owner,
             name: name.as_str(),
         };
-        if world.rule_at(&at)?.is_none() {
-            return Ok(Some(name));
+        if world.rule_body(&at).is_none() {
+            return Some(name);
         }
     }
-    Ok(None)
+    None
 }
 
 /// Puts rules of a module, one after the other, into a module under names. After an error some may have been put.
@@ -83,7 +79,7 @@ fn import(
     ensures put { IsPut result (imported from.now names.now to.now places.now) world.old world.new }
     ensures frames { KeepsFrames world.old world.new }
 {
-    if let Some(name) = missing_rule(from, names, world)? {
+    if let Some(name) = missing_rule(from, names, world) {
         return Err(NativeError::Fault(no_such_rule(alloc, from, name)?));
     }
     import_each(from, names, to, places, world)?;
