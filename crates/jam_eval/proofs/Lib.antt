@@ -1,10 +1,10 @@
-mod CallLemmas
 mod CallsHold
+mod EachFileReads
 mod ExamplesHold
 mod FewerTurns
+mod FoundInFlatWorlds
 pub mod FramesStay
 pub mod IsKept
 pub mod KeptByEval
-mod LookLemmas
 mod OwnHold
-mod ReadingLaws
+mod StatementsFollow
