@@ -1,5 +1,4 @@
 pub mod Rules
-pub mod Lists
 pub mod Texts
 pub mod Seen
 pub mod Matches
