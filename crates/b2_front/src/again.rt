@@ -188,6 +188,7 @@ pub(crate) fn settled<'a, F: Files, S: Entry>(
     ensures same_reference { result.own.host.files.ghost_name ≡ own.entry.host.files.ghost_name }
 {
     if is_refused_answer(&generated) {
+        drop(generated);
         plan_again(alloc, declared, request, own)
     } else {
         Ended {

@@ -110,7 +110,9 @@ fn go_on<F: Files>(
             } = project;
             // What was recorded while the files ran is declared by now.
             drop(natives);
-            ask(alloc, words, &declared, world, files)
+            let result = ask(alloc, words, &declared, world, files);
+            drop(declared);
+            result
         }
         Err(fault) => Err(not_loaded(fault)),
     }
