@@ -167,6 +167,21 @@ fn job_files(
     Ok(StepFiles { ins: made, dirs })
 }
 
+/// The step of a job with its text, which reads these files.
+fn step_with(job: StepJob, text: StepText, files: StepFiles) -> Step
+    ensures { result ≡ record { name = job.name; text = text.text; outs = job.outs; ins = files.ins; dirs = files.dirs; always = text.always; notfile = text.notfile } }
+{
+    Step {
+        name: job.name,
+        text: text.text,
+        outs: job.outs,
+        ins: files.ins,
+        dirs: files.dirs,
+        always: text.always,
+        notfile: text.notfile,
+    }
+}
+
 /// The step of a job that has a text.
 pub(crate) fn step_of(
     alloc: Global,
@@ -176,16 +191,14 @@ pub(crate) fn step_of(
 ) -> Result<Step, OutOfMemory>
     ensures { IfOk result (λ step. step ≡ step_of (site_of site.now) (job_of job) (step_answer text)) }
 {
-    let files = job_files(alloc, site, job.ins.as_slice(), text.depends.as_slice())?;
-    Ok(Step {
-        name: job.name,
-        text: text.text,
-        outs: job.outs,
-        ins: files.ins,
-        dirs: files.dirs,
-        always: text.always,
-        notfile: text.notfile,
-    })
+    match job_files(alloc, site, job.ins.as_slice(), text.depends.as_slice()) {
+        Ok(files) => Ok(step_with(job, text, files)),
+        Err(fault) => {
+            drop(job);
+            drop(text);
+            Err(fault)
+        }
+    }
 }
 
 // ---- copies

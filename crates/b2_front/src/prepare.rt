@@ -110,9 +110,9 @@ fn go_on<F: Files>(
             } = project;
             // What was recorded while the files ran is declared by now.
             drop(natives);
-            let result = ask(alloc, words, &declared, world, files);
+            let planned = ask(alloc, words, &declared, world, files);
             drop(declared);
-            result
+            planned
         }
         Err(fault) => Err(not_loaded(fault)),
     }
