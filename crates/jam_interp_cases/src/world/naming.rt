@@ -36,6 +36,20 @@ fn leave(alloc: Global, world: &mut World, words: &[Word]) -> Result<Answer, Cas
     Ok(Answer::new(alloc))
 }
 
+/// Carries out a command that looks at names and frames, or another one.
+fn look_command(alloc: Global, scene: &mut Scene, command: &Command) -> Result<Answer, CaseFault> {
+    let words = command.words();
+    match command.name() {
+        "look" => Answer::texts(alloc, scene.world.look(only(words)?)),
+        "look_size" => Answer::number(alloc, scene.world.look(only(words)?).len() as u64),
+        "assigned" => Answer::texts(alloc, scene.world.assigned(only(words)?)),
+        "assigned_size" => Answer::number(alloc, scene.world.assigned_size(only(words)?)),
+        "module" => Answer::line(alloc, scene.world.module()),
+        "caller" => Answer::line(alloc, scene.world.caller()),
+        _ => rule_command(alloc, scene, command),
+    }
+}
+
 /// Carries out a command on names and frames, or another one.
 pub fn naming_command(
     alloc: Global,
@@ -44,18 +58,12 @@ pub fn naming_command(
 ) -> Result<Answer, CaseFault> {
     let words = command.words();
     match command.name() {
-        "look" => Answer::texts(alloc, scene.world.look(only(words)?)),
-        "look_size" => Answer::number(alloc, scene.world.look(only(words)?).len() as u64),
-        "assigned" => Answer::texts(alloc, scene.world.assigned(only(words)?)),
-        "assigned_size" => Answer::number(alloc, scene.world.assigned_size(only(words)?)),
         "set" => set(alloc, &mut scene.world, words),
         "append" => append(alloc, &mut scene.world, words),
         "bind" => bind(alloc, &mut scene.world, words),
         "enter" => Answer::done(alloc, scene.world.enter(only(words)?)),
         "enter_call" => Answer::done(alloc, scene.world.enter_call(only(words)?)),
         "leave" => leave(alloc, &mut scene.world, words),
-        "module" => Answer::line(alloc, scene.world.module()),
-        "caller" => Answer::line(alloc, scene.world.caller()),
-        _ => rule_command(alloc, scene, command),
+        _ => look_command(alloc, scene, command),
     }
 }
