@@ -34,7 +34,7 @@ pub fn has_no_zero(text: &str) -> bool
     text.as_bytes().iter().all(|byte| *byte > 0)
 }
 
-/// Whether a text is one of some texts. Takes no memory.
+/// Whether a text is one of a few texts. Takes no memory, but stack for each of them.
 pub fn is_among(text: &str, texts: &[&str]) -> bool
     ensures { result ≡ list_any (λ other. bytes_eq text.now other.now) texts.now }
 {

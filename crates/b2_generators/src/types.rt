@@ -45,8 +45,8 @@ impl Types {
         }
     }
 
-    /// Registers a type with its suffixes, each without the dot before it; one that has a dot inside is no file's. False where the name or a suffix is there, or a
-    /// suffix stands twice; then, and after an error, nothing has changed.
+    /// Registers a type with its suffixes, each without the dot before it; one with a dot inside is no file's. False where
+    /// the name or a suffix is there, or a suffix stands twice; then, and after an error, nothing has changed.
     pub fn register_type(&mut self, name: &str, suffixes: &[Text]) -> Result<bool, OutOfMemory>
         requires { HasNoZero name.now }
         ensures registered { result ≡ Ok true → self.new ≡ record self.old { types = self.old.types ++ record { name = name.now; suffixes = suffixes.now } ∷ [] } }

@@ -76,7 +76,7 @@ pub fn short_is_failed()
     ensures { ShortIsFailed }
 {}
 
-/// No step left an output out that makes no file.
+/// A step that makes no file never counts as one that left an output out.
 pub fn short_owes_files()
     ensures { ShortOwesFiles }
 {}

@@ -41,12 +41,12 @@ pub fn log_drops_failed()
     ensures { LogDropsFailed }
 {}
 
-/// The log has a record that names it of each step that was done well and owes files.
+/// For each step that was done well and has to make files, the log has its record.
 pub fn log_has_records()
     ensures { LogHasRecords }
 {}
 
-/// The file that an update leaves which was not cut off counts as the lines that its events call for.
+/// The log's file after an update that was not cut off counts as the lines that its events call for.
 pub fn whole_log_counts()
     ensures { WholeLogCounts }
 {}
@@ -91,7 +91,7 @@ pub fn log_stays_good()
     ensures { LogStaysGood }
 {}
 
-/// What an update leaves that was not cut off is one of the files that one may leave which was.
+/// Each log file that an update may leave which was not cut off is also one that an update may leave which was.
 pub fn whole_is_cut()
     ensures { WholeIsCut }
 {}

@@ -67,7 +67,7 @@ pub fn update_counts_fault()
     ensures { UpdateCountsFault }
 {}
 
-/// So has one that was stopped.
+/// So has one that was stopped, with the same exception.
 pub fn stop_counts_fault()
     ensures { StopCountsFault }
 {}

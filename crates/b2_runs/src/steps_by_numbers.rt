@@ -16,7 +16,7 @@ pub fn skipped_by_numbers()
     ensures { SkippedByNumbers }
 {}
 
-/// A step needs a stuck step where it needs a step that is stuck.
+/// That a step needs a stuck one is that it needs that one, which is stuck.
 pub fn stuck_by_numbers()
     ensures { StuckByNumbers }
 {}

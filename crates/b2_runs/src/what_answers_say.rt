@@ -52,7 +52,7 @@ pub fn update_reads_once()
     ensures { UpdateReadsOnce }
 {}
 
-/// Wherever an update ends, each output stands that a step owes which was done well.
+/// Wherever an update ends, each output that a step has to make stands, if the step was done well.
 pub fn done_well_stands()
     ensures { DoneWellStands }
 {}
