@@ -8,7 +8,7 @@ use Rattle.b2_metatargets.specs.Declaring.{declared}
 use Rattle.b2_metatargets.specs.Laws.{visited, IsSound}
 use Rattle.b2_walk.specs.declared.walk.Walk.{Walk as Walking}
 use Rattle.b2_walk.specs.declared.fault.LoadFault.{LoadFault}
-use Rattle.b2_visits.specs.Directories.{HaveParentsBefore}
+use Rattle.b2_walk.specs.Directories.{HaveParentsBefore}
 use Rattle.b2_project.specs.declared.load.Told.{Told}
 use Rattle.b2_project.specs.declared.load.Loaded.{Loaded}
 use Rattle.b2_project.specs.Parts.{IsDeclaredOf, IsFoundOf, IsToldOf, project_in}

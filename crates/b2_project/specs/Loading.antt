@@ -17,7 +17,7 @@ use Rattle.jam_natives.specs.Seeing.{kept_of}
 use Rattle.jam_effects.specs.declared.turns.Turns.{Turns}
 use Rattle.b2_walk.specs.declared.fault.LoadFault.{LoadFault}
 use Rattle.b2_walk.specs.declared.fault.LoadFault.TheVariants as faults
-use Rattle.b2_visits.specs.Directories.{HaveParentsBefore}
+use Rattle.b2_walk.specs.Directories.{HaveParentsBefore}
 use Rattle.b2_walk.specs.Faults.{refusal_of, refused_of}
 use Rattle.b2_walk.specs.Walking.{IsSettingFor, AreAllVisited}
 use Rattle.b2_walk.specs.Walks.{Walk, Refusal}

@@ -7,9 +7,9 @@ use Rattle.b2_metatargets.specs.declared.visit.Visit.{Visit}
 use Rattle.b2_metatargets.specs.declared.visit.Call.{Call}
 use Rattle.jam_journal.specs.Tables.{Text}
 use Rattle.jam_natives.specs.declared.decl.Decl.{Decl}
-use Rattle.b2_visits.specs.Directories.{visit_of}
+use Rattle.b2_walk.specs.Directories.{visit_of}
 use Rattle.b2_walk.specs.Walking.{AreOfProjects, AreVisited, none_yet, one_more}
-use Rattle.b2_visits.specs.Calls.{call_of}
+use Rattle.b2_walk.specs.Calls.{call_of}
 
 -- with one more project, and calls that its file made
 of_one_more : (visits : List Visit) (visit : Visit) (calls : List Call) (decls : List Decl) → AreOfProjects visits calls → AreOfProjects (visits ++ visit ∷ []) (calls ++ each (call_of (length visits)) decls)

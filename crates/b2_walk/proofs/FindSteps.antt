@@ -21,7 +21,7 @@ use Rattle.jam_values.proofs.OneReading.{one_reading}
 use Rattle.b2_walk.specs.declared.fault.LoadFault.{LoadFault}
 use Rattle.b2_walk.specs.declared.fault.LoadFault.TheVariants as faults
 use Rattle.b2_walk.specs.declared.project_file.ProjectFile.{ProjectFile}
-use Rattle.b2_visits.specs.Directories.{file_names, seen, or_next, first_file}
+use Rattle.b2_walk.specs.Directories.{file_names, seen, or_next, first_file}
 use Rattle.b2_walk.specs.Finding.{misses, of_io, IsRead, IsFileFound, IsSeen, IsFileAt, IsFileOf, Looked, CountsFault, Counts, LooksFor}
 
 -- ---- the outside

@@ -1,3 +1,6 @@
+mod CleanLemmas
+mod WayLemmas
+mod VisitLemmas
 mod CallLemmas
 mod LineLemmas
 mod FindSteps

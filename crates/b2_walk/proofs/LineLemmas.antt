@@ -12,11 +12,11 @@ use Rattle.b2_metatargets.specs.declared.visit.Visit.{Visit}
 use Rattle.jam_journal.specs.Tables.{Text, Table}
 use Rattle.jam_journal.proofs.TableLemmas.{key_order}
 use Rattle.jam_scope.specs.Lines.{upward, line_by, line}
-use Rattle.b2_visits.specs.Directories.{module_name, place_after, is_visited, module_at, module_above}
+use Rattle.b2_walk.specs.Directories.{module_name, place_after, is_visited, module_at, module_above}
 use Rattle.b2_walk.specs.Running.{MayBePut}
 use Rattle.b2_walk.specs.Walks.{Walk, put_below}
 use Rattle.b2_walk.specs.Doing.{AreInLine}
-use Rattle.b2_visits.proofs.VisitLemmas.{visited_more}
+use Rattle.b2_walk.proofs.VisitLemmas.{visited_more}
 
 -- one directory has one module
 pub one_module : (dir other : Text) → module_name dir ≡ module_name other → dir ≡ other

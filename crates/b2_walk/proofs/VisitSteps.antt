@@ -33,7 +33,7 @@ use Rattle.jam_effects.specs.Does.{Faults as EvalFaults, CountsFault as EvalCoun
 use Rattle.jam_effects.specs.Machines.{Machine, folder_of, IsSettingOf}
 use Rattle.b2_walk.specs.declared.fault.LoadFault.{LoadFault}
 use Rattle.b2_walk.specs.declared.fault.LoadFault.TheVariants as load_faults
-use Rattle.b2_visits.specs.Directories.{module_above, place_of, is_visited, first_new, visit_of, project_files, seen, first_file}
+use Rattle.b2_walk.specs.Directories.{module_above, place_of, is_visited, first_new, visit_of, project_files, seen, first_file}
 use Rattle.b2_walk.specs.declared.project_file.ProjectFile.{ProjectFile}
 use Rattle.b2_walk.specs.Finding.{AreReadings, IsFileFound, IsFileOf, Looked, CountsFault, LooksFor}
 use Rattle.b2_walk.specs.Faults.{refusal_of, refused_by, of_eval, of_lex, of_syntax, IsOfWalk}
@@ -42,12 +42,12 @@ use Rattle.b2_walk.specs.Walking.{walk_of, IsSettingFor, IsRefusedBy, AreVisited
 use Rattle.b2_walk.specs.Laws.{FilesKeepParents}
 use Rattle.b2_walk.specs.Running.{MayBePut, Runs}
 use Rattle.b2_walk.specs.Walks.{Walk, lex, too_big, syntax_at, Course, goes_on, prepared, put_below, new_calls, run_project, with_project, visited, after_run, visit_file, visit_found, visit}
-use Rattle.b2_visits.specs.Calls.{call_of, names_of}
+use Rattle.b2_walk.specs.Calls.{call_of, names_of}
 use Rattle.b2_walk.specs.Doing.{Stand, ArePassed, AreInLine, IsNext, What, runs_tree, found_as, visits_dir, IsAdded, IsGrown, Does}
 use Rattle.b2_walk.proofs.FindSteps.{looked_same, looked_then, counted}
 use Rattle.b2_walk.proofs.DoSteps.{frames_same, agrees_from, does_from, setting_later, does_stay}
 use Rattle.b2_walk.proofs.LineLemmas.{may_be_put, in_line_more}
-use Rattle.b2_visits.proofs.VisitLemmas.{none_more, parent_before, no_place}
+use Rattle.b2_walk.proofs.VisitLemmas.{none_more, parent_before, no_place}
 use Rattle.jam_eval.specs.Kept.{Ends}
 
 -- natives, a world and turns of a stand, as evaluation has them

@@ -14,13 +14,13 @@ use Rattle.b2_metatargets.specs.declared.visit.Visit.{Visit}
 use Rattle.b2_walk.specs.declared.walk.Walk.{Walk as Walking}
 use Rattle.b2_walk.specs.declared.fault.LoadFault.{LoadFault}
 use Rattle.b2_walk.specs.declared.fault.LoadFault.TheVariants as faults
-use Rattle.b2_visits.specs.Directories.{here, way_to, is_visited, first_new}
+use Rattle.b2_walk.specs.Directories.{here, way_to, is_visited, first_new}
 use Rattle.b2_walk.specs.Finding.{CountsFault}
 use Rattle.b2_walk.specs.Faults.{refusal_of, refused_by, refused_of, IsOfWalk}
 use Rattle.b2_walk.specs.Walking.{walk_of, IsRefusedBy, AreVisited, AreAllVisited}
 use Rattle.b2_walk.specs.Walks.{Walk, Refusal, no_jamroot, no_jamfile, Course, goes_on, refused, and_then, visit, visit_all, unless_visited, load_dir, load_root, due, ComesTo, is_refused, is_whole, leads_on}
 use Rattle.b2_walk.specs.Doing.{Stand, stand, ArePassed, Grows, What, by, visits_dir, visits_all, loads_dir, loads_root, Does, walked, walked_all, Leads}
-use Rattle.b2_visits.proofs.VisitLemmas.{visited_later, none_later, longer}
+use Rattle.b2_walk.proofs.VisitLemmas.{visited_later, none_later, longer}
 use Rattle.b2_walk.proofs.VisitSteps.{no_memory}
 use Rattle.b2_walk.proofs.FindSteps.{looked_same, looked_then, counted}
 use Rattle.b2_walk.proofs.DoSteps.{frames_same, frames_then, grows_same, grows_then, grown_after, took_later, setting_later, agrees_from, followed, joined, stopped, Stays, does_stay}

@@ -15,13 +15,13 @@ use Rattle.jam_effects.specs.declared.turns.Turns.{Turns}
 use Rattle.b2_metatargets.specs.declared.visit.Visit.{Visit}
 use Rattle.b2_walk.specs.declared.fault.LoadFault.{LoadFault}
 use Rattle.b2_walk.specs.declared.walk.Walk.{Walk as Walking}
-use Rattle.b2_visits.specs.Directories.{IsBefore, module_name, module_above, place_of, is_visited, first_new, visit_of}
+use Rattle.b2_walk.specs.Directories.{IsBefore, module_name, module_above, place_of, is_visited, first_new, visit_of}
 use Rattle.b2_walk.specs.Faults.{refusal_of, refused_of, IsOfWalk}
 use Rattle.b2_walk.specs.Finding.{Looked, Counts}
 use Rattle.b2_walk.specs.Running.{RunsProject}
 use Rattle.b2_walk.specs.Walking.{walk_of, IsSettingFor, IsRefusedBy, Follows, AreVisited}
 use Rattle.b2_walk.specs.Walks.{Walk, Course, goes_on, with_project, visited, after_run, run_project, RunsText, run_text, visit_found, visit, visit_all, load_dir, load_root, ComesTo}
-use Rattle.b2_visits.specs.Calls.{call_of}
+use Rattle.b2_walk.specs.Calls.{call_of}
 
 -- a walk, how many of the first directories that were named are known to be visited, the turns that there were at first, and the outside
 pub record Stand : Type 0 where

@@ -14,7 +14,7 @@ use Rattle.jam_values.specs.FileReadings.{reading_of}
 use Rattle.b2_walk.specs.declared.fault.LoadFault.{LoadFault}
 use Rattle.b2_walk.specs.declared.fault.LoadFault.TheVariants as faults
 use Rattle.b2_walk.specs.declared.project_file.ProjectFile.{ProjectFile}
-use Rattle.b2_visits.specs.Directories.{project_files, seen, first_file}
+use Rattle.b2_walk.specs.Directories.{project_files, seen, first_file}
 
 -- the files of a folder read so
 abbrev pub AreReadings : Folder → (Text → Reading) → Type 0

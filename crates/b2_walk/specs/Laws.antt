@@ -12,7 +12,7 @@ use Rattle.jam_natives.specs.declared.decl.Decl.{Decl}
 use Rattle.jam_natives.specs.Keeping.{Kept}
 use Rattle.jam_natives.specs.Rows.{jam_meaning}
 use Rattle.b2_walk.specs.Walks.{Walk, Course, goes_on, no_walk, load_root, ComesTo}
-use Rattle.b2_visits.specs.Calls.{call_of}
+use Rattle.b2_walk.specs.Calls.{call_of}
 
 -- from a course a walk comes to one end
 abbrev pub OneCourse : Type 0

@@ -1,3 +1,6 @@
+pub mod Directories
+pub mod Indexing
+pub mod Calls
 pub mod Walks
 pub mod Faults
 pub mod Walking

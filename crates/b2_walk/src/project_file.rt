@@ -7,11 +7,11 @@ ghost use Rattle.jam_eval.specs.Settings.{IsReading};
 ghost use Rattle.jam_values.specs.FileReadings.{reading_of};
 ghost use Rattle.b2_walk.specs.Finding.{misses, of_io, IsSeen, IsFileAt, IsFileOf, LooksFor};
 
+use crate::directories::file_names;
 use crate::fault::LoadFault;
 use b2_base::path::{Path, path_from};
 use b2_host::fault::IoFault;
 use b2_host::files::Files;
-use b2_visits::directories::file_names;
 use jam_scope::world::World;
 use jam_values::files::{FileReading, read_file};
 use jam_values::paths::is_below_any;

@@ -1,10 +1,10 @@
 use Rattle.std.proofs.Common.{◌≡◌, ◌++◌, length, Err, Some, None, sym, ap, ◌∙◌, subst, arith}
 use Rattle.std.proofs.lemmas.Result.{err_from_is_err_and}
 use Rattle.b2_declarations.specs.Directories.{directories}
-use Rattle.b2_visits.specs.Directories.{here}
+use Rattle.b2_walk.specs.Directories.{here}
 use Rattle.b2_walk.specs.Walks.{Walk}
 use Rattle.b2_walk.specs.Doing.{stand, walked, Does}
-use Rattle.b2_visits.proofs.VisitLemmas.{first_is_new}
+use Rattle.b2_walk.proofs.VisitLemmas.{first_is_new}
 use Rattle.b2_walk.proofs.WalkSteps.{short_on_the_way, leads_on_from, due_told, load_stopped, loaded_one, none_is_due, passed_later, more_visited}
 use Rattle.b2_walk.proofs.walk.Walk.load_named.Goals as goal
 

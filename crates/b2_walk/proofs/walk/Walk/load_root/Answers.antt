@@ -1,5 +1,5 @@
 use Rattle.std.proofs.Common.{Ok, sym, ap, ◌∙◌, subst}
-use Rattle.b2_visits.specs.Directories.{is_visited}
+use Rattle.b2_walk.specs.Directories.{is_visited}
 use Rattle.b2_walk.specs.Doing.{stand, visits_dir, Does}
 use Rattle.b2_walk.proofs.WalkSteps.{root_lacks}
 use Rattle.b2_walk.proofs.walk.Walk.load_root.Goals as goal

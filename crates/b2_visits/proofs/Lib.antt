@@ -1,3 +1,0 @@
-pub mod CleanLemmas
-pub mod WayLemmas
-pub mod VisitLemmas

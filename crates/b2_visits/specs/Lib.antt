@@ -1,3 +1,0 @@
-pub mod Directories
-pub mod Indexing
-pub mod Calls
