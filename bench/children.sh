@@ -1,14 +1,14 @@
 #!/bin/sh
 # Prints the seconds that the real host takes over child processes: of steps of different lengths and of a long one beside
 # short ones, four at a time, with the least that is possible; and of 2,000 starts of `true`, beside a loop of the shell.
-# It first builds crates/b2_cases.
+# It first builds crates/b2_transcript.
 set -eu
 top=$(cd "$(dirname "$0")/.." && pwd)
 work=$(mktemp -d)
 trap 'rm -rf "$work"' EXIT
-(cd "$top/crates/b2_cases" && rt run -- >/dev/null 2>&1) || true
-program=$top/crates/b2_cases/out/b2_cases
-[ -x "$program" ] || { echo "b2_cases is not proved or not built" >&2; exit 1; }
+(cd "$top/crates/b2_transcript" && rt run </dev/null >/dev/null 2>&1) || true
+program=$top/crates/b2_transcript/out/b2_transcript
+[ -x "$program" ] || { echo "b2_transcript is not proved or not built" >&2; exit 1; }
 cd "$work"
 
 measure() {

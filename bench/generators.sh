@@ -1,13 +1,13 @@
 #!/bin/sh
 # Prints the seconds and the memory that registering types and generators, and the search for a chain among them, take. It
-# first builds crates/b2_props_cases.
+# first builds crates/b2_transcript.
 set -eu
 top=$(cd "$(dirname "$0")/.." && pwd)
 work=$(mktemp -d)
 trap 'rm -rf "$work"' EXIT
-(cd "$top/crates/b2_props_cases" && rt run >/dev/null 2>&1) || true
-program=$top/crates/b2_props_cases/out/b2_props_cases
-[ -x "$program" ] || { echo "b2_props_cases is not proved or not built" >&2; exit 1; }
+(cd "$top/crates/b2_transcript" && rt run </dev/null >/dev/null 2>&1) || true
+program=$top/crates/b2_transcript/out/b2_transcript
+[ -x "$program" ] || { echo "b2_transcript is not proved or not built" >&2; exit 1; }
 cd "$work"
 
 part() {

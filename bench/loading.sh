@@ -1,20 +1,21 @@
 #!/bin/sh
 # Prints the seconds and the memory that loading takes: many calls in one file, many files, a folder of many names. It first builds
-# crates/b2_project_cases, whose transcript commands it gives. Each part is measured without its `load` too, so that what the
+# crates/b2_transcript, whose transcript commands it gives. Each part is measured without its `load` too, so that what the
 # commands themselves take can be told apart.
 set -eu
 top=$(cd "$(dirname "$0")/.." && pwd)
 work=$(mktemp -d)
 trap 'rm -rf "$work"' EXIT
-(cd "$top/crates/b2_project_cases" && rt run -- < stdin >/dev/null 2>&1) || true
-program=$top/crates/b2_project_cases/out/b2_project_cases
-[ -x "$program" ] || { echo "b2_project_cases is not proved or not built" >&2; exit 1; }
+(cd "$top/crates/b2_transcript" && rt run </dev/null >/dev/null 2>&1) || true
+program=$top/crates/b2_transcript/out/b2_transcript
+[ -x "$program" ] || { echo "b2_transcript is not proved or not built" >&2; exit 1; }
 cd "$work"
 
 # part NAME: runs the commands of the file `commands`, without a load and with one
 part() {
-    python3 "$top/bench/measure.py" "$1, not loaded" sh -c 'exec "$0" < commands' "$program"
-    { cat commands; echo 'load'; } > loaded
+    { echo 'part loads'; cat commands; } > alone
+    python3 "$top/bench/measure.py" "$1, not loaded" sh -c 'exec "$0" < alone' "$program"
+    { cat alone; echo 'load'; } > loaded
     python3 "$top/bench/measure.py" "$1" sh -c 'exec "$0" < loaded' "$program"
 }
 

@@ -1,14 +1,20 @@
 //! The program `b2`.
 #![tactic(auto)]
 
-use b2_entry::command::carry_out;
-use b2_entry::words::words_of;
+use b2_realhost::real_host::RealHost;
+use b2_realhost::real_sink::RealSink;
+use b2_top::command_line::words_of;
+use b2_top::program::run_program;
 use std::process::ExitCode;
 
-/// Carries out the words of the command line, and ends with the status of the answer.
+/// Carries out the words of the command line over the system, and ends with the status of the answer.
 fn main(rt: HostRuntime) -> ExitCode {
     match words_of(&rt) {
-        Ok(words) => ExitCode::from(carry_out(rt, words.as_slice())),
+        Ok(words) => {
+            let mut host = RealHost::new(rt);
+            let mut out = RealSink::new(rt);
+            ExitCode::from(run_program(rt.alloc(), words.as_slice(), &mut host, &mut out))
+        }
         Err(fault) => ExitCode::from(fault.status()),
     }
 }

@@ -8,7 +8,7 @@ use b2_props::pair_list::PairList;
 use std::alloc::Global;
 use transcript::case_fault::CaseFault;
 use transcript::command::Word;
-use transcript::words::{path, property, text};
+use transcript::words::{own_path, own_text, property};
 
 /// A word that has no zero byte.
 pub fn plain(word: &str) -> Result<&str, CaseFault>
@@ -23,13 +23,13 @@ pub fn plain(word: &str) -> Result<&str, CaseFault>
 
 /// The project file of a directory.
 pub fn file_in(alloc: Global, dir: &str) -> Result<Path, CaseFault> {
-    path(alloc, format!(in alloc; "{dir}/Jamfile")?.as_str())
+    own_path(alloc, format!(in alloc; "{dir}/Jamfile")?.as_str())
 }
 
 fn push_property(alloc: Global, made: &mut PairList, word: &str) -> Result<(), CaseFault> {
     let (feature, value) = property(word)?;
-    let feature = text(alloc, feature)?;
-    made.push(feature, text(alloc, value)?)?;
+    let feature = own_text(alloc, feature)?;
+    made.push(feature, own_text(alloc, value)?)?;
     Ok(())
 }
 

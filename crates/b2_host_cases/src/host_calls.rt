@@ -25,7 +25,8 @@ fn read_answer(alloc: Global, answer: &ReadAnswer) -> Result<Answer, CaseFault> 
 fn read<H: Files>(alloc: Global, host: &mut H, words: &[Word]) -> Result<Answer, CaseFault> {
     let (name, most) = both(words)?;
     let most = number(most)? as u64;
-    match host.read(&path(alloc, name)?, most) {
+    let path = path(alloc, name)?;
+    match host.read(&path, most) {
         Ok(answer) => read_answer(alloc, &answer),
         Err(fault) => fault_answer(alloc, fault),
     }
@@ -33,7 +34,8 @@ fn read<H: Files>(alloc: Global, host: &mut H, words: &[Word]) -> Result<Answer,
 
 /// `list DIR`: the names of the files in it, one a line.
 fn list<H: Files>(alloc: Global, host: &mut H, words: &[Word]) -> Result<Answer, CaseFault> {
-    match host.list(&path(alloc, only(words)?)?) {
+    let path = path(alloc, only(words)?)?;
+    match host.list(&path) {
         Ok(names) => Answer::texts(alloc, names.as_slice()),
         Err(fault) => fault_answer(alloc, fault),
     }
@@ -59,7 +61,8 @@ fn replace<H: Files>(alloc: Global, host: &mut H, words: &[Word]) -> Result<Answ
 
 /// `remove PATH`: leaves no file there.
 fn remove<H: Files>(alloc: Global, host: &mut H, words: &[Word]) -> Result<Answer, CaseFault> {
-    match host.remove(&path(alloc, only(words)?)?) {
+    let path = path(alloc, only(words)?)?;
+    match host.remove(&path) {
         Ok(()) => Answer::line(alloc, "Ok"),
         Err(Failed) => Answer::line(alloc, "Failed"),
     }

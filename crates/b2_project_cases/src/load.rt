@@ -10,7 +10,7 @@ use std::mem::ManuallyDrop;
 use transcript::answer::Answer;
 use transcript::case_fault::CaseFault;
 
-/// What was loaded. What takes its place lets it be, until the process ends: a program that takes it apart proves the drop of all
+/// What was loaded. What takes its place lets it be, until the process ends: a crate that takes it apart proves the drop of all
 /// that it holds, which costs more than the proof of its commands.
 pub type Kept = ManuallyDrop<Project>;
 

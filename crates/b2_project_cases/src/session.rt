@@ -18,7 +18,7 @@ use transcript::words::{number, only, texts};
 
 /// The files, how many turns each load has, how many the last one left, and what was loaded last.
 #[derive(Drop)]
-pub struct Cases {
+pub struct Loads {
     host: ManuallyDrop<MemoryHost>,
     budget: u32,
     left: u32,
@@ -72,10 +72,10 @@ fn set_turns(alloc: Global, budget: &mut u32, words: &[Word]) -> Result<Answer, 
     Ok(Answer::new(alloc))
 }
 
-impl Cases {
+impl Loads {
     /// No files, and nothing loaded.
-    pub fn new(alloc: Global) -> Result<Cases, OutOfMemory> {
-        Ok(Cases {
+    pub fn new(alloc: Global) -> Result<Loads, OutOfMemory> {
+        Ok(Loads {
             host: ManuallyDrop::new(MemoryHost::new(alloc)?),
             budget: 1_000_000,
             left: 0,
@@ -84,7 +84,7 @@ impl Cases {
     }
 
     fn renew(&mut self, alloc: Global) -> Result<Answer, CaseFault> {
-        *self = Cases::new(alloc)?;
+        *self = Loads::new(alloc)?;
         Ok(Answer::new(alloc))
     }
 
@@ -103,7 +103,7 @@ impl Cases {
     }
 }
 
-impl Session for Cases {
+impl Session for Loads {
     fn carry_out(&mut self, alloc: Global, command: &Command) -> Result<Answer, CaseFault> {
         let words = command.words();
         match command.name() {

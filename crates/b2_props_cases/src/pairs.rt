@@ -11,12 +11,12 @@ use b2_props::refinement::set_of;
 use std::alloc::Global;
 use transcript::case_fault::CaseFault;
 use transcript::command::Word;
-use transcript::words::{property, text};
+use transcript::words::{own_text, property};
 
 /// A word `<feature>value` as a pair.
 pub fn pair(alloc: Global, word: &str) -> Result<(Text, Text), CaseFault> {
     let (feature, value) = property(word)?;
-    Ok((text(alloc, feature)?, text(alloc, value)?))
+    Ok((own_text(alloc, feature)?, own_text(alloc, value)?))
 }
 
 fn push_word(alloc: Global, made: &mut PairList, word: &Word) -> Result<(), CaseFault> {

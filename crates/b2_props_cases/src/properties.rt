@@ -36,11 +36,12 @@ use std::mem::ManuallyDrop;
 use transcript::answer::Answer;
 use transcript::case_fault::CaseFault;
 use transcript::command::{Command, Word};
+use transcript::session::Session;
 use transcript::words::no_words;
 
 /// The table and the set at hand, and the sets that were copied.
 ///
-/// What is put in place of a table lets it be, until the process ends: a program that takes it apart proves the drop of all
+/// What is put in place of a table lets it be, until the process ends: a crate that takes it apart proves the drop of all
 /// that it holds.
 #[derive(Drop)]
 pub struct Properties {
@@ -129,9 +130,10 @@ impl Properties {
             _ => self.ask(alloc, command),
         }
     }
+}
 
-    /// Carries out a command and answers it.
-    pub fn carry_out(&mut self, alloc: Global, command: &Command) -> Result<Answer, CaseFault> {
+impl Session for Properties {
+    fn carry_out(&mut self, alloc: Global, command: &Command) -> Result<Answer, CaseFault> {
         let words = command.words();
         match command.name() {
             "new" => self.renew(alloc, words),

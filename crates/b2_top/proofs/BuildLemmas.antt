@@ -1,12 +1,12 @@
 -- A build, from what the files and the words came to.
 use Rattle.std.proofs.Common.{◌≡◌, ℕ, List, ◌++◌, Some, None, IfSome, Result, Ok, Err, inl, inr, refl, sym, ap, ◌∙◌, subst}
-use Rattle.b2_answers.proofs.FaultLemmas.{whole_of, pattern_refused}
-use Rattle.b2_answers.proofs.ToldLemmas.{if_map}
-use Rattle.b2_answers.specs.Causes.{fault_of, IsPatternRefused}
-use Rattle.b2_answers.specs.Reports.{echo_lines}
-use Rattle.b2_answers.specs.Writing.{Writes, unwritten, AnswersStop}
-use Rattle.b2_answers.specs.declared.answer.Answer.{Answer}
-use Rattle.b2_answers.specs.declared.answer.Answer.TheVariants as answers
+use Rattle.b2_top.proofs.FaultLemmas.{whole_of, pattern_refused}
+use Rattle.b2_top.proofs.ToldLemmas.{if_map}
+use Rattle.b2_top.specs.RefusalCauses.{fault_of, IsPatternRefused}
+use Rattle.b2_top.specs.Reports.{echo_lines}
+use Rattle.b2_top.specs.Writing.{Writes, unwritten, AnswersStop}
+use Rattle.b2_top.specs.declared.answer.Answer.{Answer}
+use Rattle.b2_top.specs.declared.answer.Answer.TheVariants as answers
 use Rattle.b2_front.specs.Laws.{OneMeaning}
 use Rattle.b2_front.specs.Meaning.{Refusal as Why, Means}
 use Rattle.b2_front.specs.Preparing.{IsPrepared, IsWhole as IsWholeStop, CountsStop}

@@ -1,3 +1,6 @@
+mod WritingLemmas
+mod FaultLemmas
+mod ToldLemmas
 mod FoundLemmas
 mod WalkLemmas
 mod FileLemmas
@@ -6,3 +9,5 @@ mod StillLemmas
 mod EndLemmas
 mod RunLemmas
 mod BuildLemmas
+mod LookWordLemmas
+mod ShowLemmas

@@ -2,14 +2,14 @@
 use Rattle.std.proofs.Common.{◌≡◌, ℕ, false, List, [], ◌++◌, Option, Some, None, IfSome, Result, Ok, inl, inr, refl, sym, ap, ◌∙◌, subst, append_assoc, arith}
 use Rattle.std.specs.List.{Contains}
 use Rattle.std.specs.Option.{option_map}
-use Rattle.b2_answers.proofs.ToldLemmas.{text_of, faults_of}
-use Rattle.b2_answers.specs.Reports.{echo_lines, refusal_report, fault_report}
-use Rattle.b2_answers.specs.Writing.{Says, SaysFault}
-use Rattle.b2_answers.specs.Writing.Says.{said, failed, stopped}
-use Rattle.b2_answers.specs.Writing.SaysFault.{fault_said, fault_failed, fault_stopped}
-use Rattle.b2_answers.specs.declared.answer.Answer.{Answer}
-use Rattle.b2_answers.specs.declared.answer.Answer.TheVariants as answers
-use Rattle.b2_answers.specs.Told.{CountsStay}
+use Rattle.b2_top.proofs.ToldLemmas.{text_of, faults_of}
+use Rattle.b2_top.specs.Reports.{echo_lines, refusal_report, fault_report}
+use Rattle.b2_top.specs.Writing.{Says, SaysFault}
+use Rattle.b2_top.specs.Writing.Says.{said, failed, stopped}
+use Rattle.b2_top.specs.Writing.SaysFault.{fault_said, fault_failed, fault_stopped}
+use Rattle.b2_top.specs.declared.answer.Answer.{Answer}
+use Rattle.b2_top.specs.declared.answer.Answer.TheVariants as answers
+use Rattle.b2_top.specs.Told.{CountsStay}
 use Rattle.b2_front.specs.Laws.{OneMeaning}
 use Rattle.b2_front.specs.Meaning.{Refusal, Means}
 use Rattle.b2_front.specs.Preparing.{IsPrepared}

@@ -2,16 +2,16 @@
 use Rattle.std.proofs.Common.{◌≡◌, ℕ, List, [], ◌∷◌, ◌++◌, Option, Some, None, IfSome, inl, inr, refl, sym, ap, ◌∙◌, subst, append-nil, arith}
 use Rattle.std.specs.List.{Contains}
 use Rattle.std.specs.Option.{option_map}
-use Rattle.b2_answers.proofs.ToldLemmas.{if_map, if_all, written_told, text_of, faults_of}
-use Rattle.b2_answers.proofs.WritingLemmas.{written_none}
-use Rattle.b2_answers.specs.Causes.{IsPatternRefused}
-use Rattle.b2_answers.specs.Reports.{echo_lines, refusal_report, fault_report}
-use Rattle.b2_answers.specs.Told.{WrittenTold}
-use Rattle.b2_answers.specs.Writing.{FailsIn, StopsIn, Says, SaysFault}
-use Rattle.b2_answers.specs.Writing.Says.{said, failed, stopped}
-use Rattle.b2_answers.specs.Writing.SaysFault.{fault_said, fault_failed, fault_stopped}
-use Rattle.b2_answers.specs.declared.answer.Answer.{Answer}
-use Rattle.b2_answers.specs.declared.answer.Answer.TheVariants as answers
+use Rattle.b2_top.proofs.ToldLemmas.{if_map, if_all, written_told, text_of, faults_of}
+use Rattle.b2_top.proofs.WritingLemmas.{written_none}
+use Rattle.b2_top.specs.RefusalCauses.{IsPatternRefused}
+use Rattle.b2_top.specs.Reports.{echo_lines, refusal_report, fault_report}
+use Rattle.b2_top.specs.Told.{WrittenTold}
+use Rattle.b2_top.specs.Writing.{FailsIn, StopsIn, Says, SaysFault}
+use Rattle.b2_top.specs.Writing.Says.{said, failed, stopped}
+use Rattle.b2_top.specs.Writing.SaysFault.{fault_said, fault_failed, fault_stopped}
+use Rattle.b2_top.specs.declared.answer.Answer.{Answer}
+use Rattle.b2_top.specs.declared.answer.Answer.TheVariants as answers
 use Rattle.b2_host.specs.ChildProcesses.{BothTold}
 use Rattle.b2_host.specs.Disks.{Disk}
 use Rattle.b2_host.specs.Faults.{Rose}

@@ -1,11 +1,11 @@
 -- What a call of the build command promises, from the moment of its start to that of its answer.
 use Rattle.std.specs.Prelude.{◌≡◌, ℕ, List, ◌++◌, Some, None, ◌⊎◌, ⊤, false}
 use Rattle.std.specs.List.{Contains}
-use Rattle.b2_answers.specs.Causes.{IsPatternRefused}
-use Rattle.b2_answers.specs.Endings.{IsOrCutShort, IsUsageOrCutShort, IfRefused}
-use Rattle.b2_answers.specs.Told.{CountsStay, WrittenTold}
-use Rattle.b2_answers.specs.declared.answer.Answer.{Answer}
-use Rattle.b2_answers.specs.declared.answer.Answer.TheVariants as answers
+use Rattle.b2_top.specs.RefusalCauses.{IsPatternRefused}
+use Rattle.b2_top.specs.Endings.{IsOrCutShort, IsUsageOrCutShort, IfRefused}
+use Rattle.b2_top.specs.Told.{CountsStay, WrittenTold}
+use Rattle.b2_top.specs.declared.answer.Answer.{Answer}
+use Rattle.b2_top.specs.declared.answer.Answer.TheVariants as answers
 use Rattle.b2_host.specs.ChildProcesses.{Family, BothTold}
 use Rattle.b2_host.specs.Disks.{Disk}
 use Rattle.b2_host.specs.Faults.{Rose}

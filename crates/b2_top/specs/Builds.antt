@@ -1,7 +1,7 @@
 -- What happened in a call, by its answer.
 use Rattle.std.specs.Prelude.{◌≡◌, List, None, ◌⊎◌}
-use Rattle.b2_answers.specs.declared.answer.Answer.{Answer}
-use Rattle.b2_answers.specs.declared.answer.Answer.TheVariants as answers
+use Rattle.b2_top.specs.declared.answer.Answer.{Answer}
+use Rattle.b2_top.specs.declared.answer.Answer.TheVariants as answers
 use Rattle.b2_host.specs.ChildProcesses.{Family}
 use Rattle.b2_host.specs.Disks.{Disk}
 use Rattle.b2_refusals.specs.declared.fault.Fault.{Fault}

@@ -1,6 +1,6 @@
 -- Why a build is refused before anything is started.
 use Rattle.std.specs.Prelude.{◌≡◌, ℕ, List, [], Some, None, Ok, ⊤}
-use Rattle.b2_answers.specs.Causes.{HasCause as HasCauseIn}
+use Rattle.b2_top.specs.RefusalCauses.{HasCause as HasCauseIn}
 use Rattle.b2_front.specs.Meaning.{Means}
 use Rattle.b2_generate.specs.Planning.{Planned}
 use Rattle.b2_host.specs.Disks.{Disk}

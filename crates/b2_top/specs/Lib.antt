@@ -1,3 +1,9 @@
+pub mod Statuses
+pub mod Endings
+pub mod Reports
+pub mod RefusalCauses
+pub mod Writing
+pub mod Told
 pub mod Commands
 pub mod Unbuilt
 pub mod Found
@@ -7,3 +13,7 @@ pub mod Builds
 pub mod Reported
 pub mod Answered
 pub mod Running
+pub mod Modes
+pub mod Looks
+pub mod Tells
+pub mod Shows

@@ -1,8 +1,8 @@
 -- What was written in a call, by its answer. Events are those of the call.
 use Rattle.std.specs.Prelude.{◌≡◌, ℕ, List, [], ◌++◌, Some, None, ◌⊎◌}
-use Rattle.b2_answers.specs.Reports.{echo_lines, refusal_report}
-use Rattle.b2_answers.specs.declared.answer.Answer.{Answer}
-use Rattle.b2_answers.specs.declared.answer.Answer.TheVariants as answers
+use Rattle.b2_top.specs.Reports.{echo_lines, refusal_report}
+use Rattle.b2_top.specs.declared.answer.Answer.{Answer}
+use Rattle.b2_top.specs.declared.answer.Answer.TheVariants as answers
 use Rattle.b2_host.specs.Disks.{Disk}
 use Rattle.b2_host.specs.Faults.{Rose}
 use Rattle.b2_host.specs.declared.children.ChildEvent.{ChildEvent}

@@ -1,9 +1,9 @@
 -- What the parts of a call do.
 use Rattle.std.specs.Prelude.{◌≡◌, ℕ, List, [], Some, None, Err}
-use Rattle.b2_answers.specs.Reports.{echo_lines, refusal_report, fault_report}
-use Rattle.b2_answers.specs.Writing.{Writes, unwritten, Says, SaysFault}
-use Rattle.b2_answers.specs.declared.answer.Answer.{Answer}
-use Rattle.b2_answers.specs.declared.answer.Answer.TheVariants as answers
+use Rattle.b2_top.specs.Reports.{echo_lines, refusal_report, fault_report}
+use Rattle.b2_top.specs.Writing.{Writes, unwritten, Says, SaysFault}
+use Rattle.b2_top.specs.declared.answer.Answer.{Answer}
+use Rattle.b2_top.specs.declared.answer.Answer.TheVariants as answers
 use Rattle.b2_host.specs.Output.{Output, with_written}
 use Rattle.b2_host.specs.declared.fault.IoFault.{IoFault}
 use Rattle.b2_plan.specs.declared.plan.Plan.{Plan}

@@ -6,10 +6,10 @@ ghost use Rattle.b2_runs.specs.UpdateAnswers.{LeavesNone};
 ghost use Rattle.b2_update.specs.Moments.{moment};
 ghost use Rattle.b2_top.specs.Running.{Updates, Runs, Carries, Builds, RefusesFile};
 
+use crate::answer::Answer;
+use crate::lines::write_echoes;
+use crate::tell::{tell_host_fault, tell_refusal, tell_stop, unwritten};
 use crate::unbuilt::unbuilt_file;
-use b2_answers::answer::Answer;
-use b2_answers::lines::write_echoes;
-use b2_answers::tell::{tell_host_fault, tell_refusal, tell_stop, unwritten};
 use b2_base::path::Path;
 use b2_base::text::Text;
 use b2_front::laws::one_meaning;

@@ -1,7 +1,18 @@
-//! The build command: from words to a plan that is carried out.
+//! The commands of the program, from the words of the command line to the answer: a build, whose plan is carried out, and a look,
+//! which prints the steps or the table of a plan.
 #![tactic(auto)]
 
+pub mod answer;
 mod build;
-mod command;
+pub mod command_line;
+mod free_words;
+mod lines;
+mod look;
+mod look_end;
+mod look_lines;
+pub mod mode;
+pub mod program;
 pub mod run;
+pub mod show;
+mod tell;
 mod unbuilt;

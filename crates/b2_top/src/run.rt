@@ -1,6 +1,6 @@
 //! The build command.
 ghost use Rattle.std.specs.Prelude.{◌≡◌, List, [], Some, None};
-ghost use Rattle.b2_answers.specs.Endings.{IsUsageOrCutShort, IfRefused};
+ghost use Rattle.b2_top.specs.Endings.{IsUsageOrCutShort, IfRefused};
 ghost use Rattle.b2_host.specs.OutsideLaws.{Keeps};
 ghost use Rattle.b2_refusals.specs.Wholes.{IsWhole};
 ghost use Rattle.b2_runs.specs.UpdateAnswers.{LeavesNone};
@@ -11,11 +11,11 @@ ghost use Rattle.b2_top.specs.Unbuilt.{unbuilt_option};
 ghost use Rattle.b2_top.specs.Causes.{IsNotTooBig};
 ghost use Rattle.b2_top.specs.Answered.{CleanTold, HappenedTold, CountsTold, IsNotYetOrCutShort, StartsNone, CompleteTold, ReportTold, TurnsTold, IsAnswered};
 
+use crate::answer::Answer;
 use crate::build::build;
-use crate::command::free_words;
+use crate::free_words::free_words;
+use crate::tell::{tell_refusal, tell_usage};
 use crate::unbuilt::unbuilt_option;
-use b2_answers::answer::Answer;
-use b2_answers::tell::{tell_refusal, tell_usage};
 use b2_base::text::Text;
 use b2_host::children::Children;
 use b2_host::sink::Sink;

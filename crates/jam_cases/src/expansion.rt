@@ -18,7 +18,7 @@ use std::collections::BTreeMap;
 use transcript::answer::Answer;
 use transcript::case_fault::CaseFault;
 use transcript::command::{Command, Word};
-use transcript::words::{both, only, text, texts};
+use transcript::words::{both, only, own_text, own_texts, text};
 
 /// The variables that were set, each with its texts; every other one has none.
 #[derive(Drop)]
@@ -80,7 +80,7 @@ fn answer_set(
     if colon.as_str()? != ":" {
         return Err(CaseFault::WrongWords);
     }
-    variables.set(alloc, name.as_str()?, texts(alloc, elements)?)?;
+    variables.set(alloc, name.as_str()?, own_texts(alloc, elements)?)?;
     Ok(Answer::new(alloc))
 }
 
@@ -158,8 +158,8 @@ fn answer_expand_size(
 /// The body that a command has: its one word, or its text.
 fn body_of(alloc: Global, command: &Command) -> Result<Text, CaseFault> {
     match command.words() {
-        [] => text(alloc, command.text()),
-        words => text(alloc, only(words)?),
+        [] => own_text(alloc, command.text()),
+        words => own_text(alloc, only(words)?),
     }
 }
 

@@ -84,7 +84,8 @@ fn match_answer(
 
 fn answer_groups(alloc: Global, words: &[Word]) -> Result<Answer, CaseFault> {
     let (pattern, within) = both(words)?;
-    match_answer(alloc, pattern, &text(alloc, within)?, Shown::Texts)
+    let within = text(alloc, within)?;
+    match_answer(alloc, pattern, &within, Shown::Texts)
 }
 
 fn answer_group_lengths(

@@ -1,4 +1,7 @@
 //! The words of a command as what they stand for. Words of another number or form are `WrongWords`.
+//!
+//! What a command only lends to the call that it makes is a `ManuallyDrop` and lives until the process ends, since each exit at which
+//! a value is dropped is proved. The functions whose name begins with `own_`, and `named`, give what is handed over or kept.
 use crate::case_fault::CaseFault;
 use crate::command::Word;
 use b2_base::path::{Path, PathFault};
@@ -6,6 +9,7 @@ use b2_base::path_list::PathList;
 use b2_base::text::{Text, has_no_zero};
 use b2_base::text_list::TextList;
 use std::alloc::Global;
+use std::mem::ManuallyDrop;
 
 /// Refuses words where a command takes none.
 pub fn no_words(words: &[Word]) -> Result<(), CaseFault> {
@@ -59,7 +63,7 @@ pub fn number(word: &str) -> Result<u32, CaseFault> {
 }
 
 /// A word as a text.
-pub fn text(alloc: Global, word: &str) -> Result<Text, CaseFault> {
+pub fn own_text(alloc: Global, word: &str) -> Result<Text, CaseFault> {
     if has_no_zero(word) {
         Ok(Text::new(alloc, word)?)
     } else {
@@ -79,7 +83,7 @@ pub fn property(word: &str) -> Result<(&str, &str), CaseFault> {
 }
 
 /// Words as texts.
-pub fn texts(alloc: Global, words: &[Word]) -> Result<TextList, CaseFault> {
+pub fn own_texts(alloc: Global, words: &[Word]) -> Result<TextList, CaseFault> {
     let mut texts = TextList::new(alloc);
     for word in words {
         texts.push(word.as_text(alloc)?)?;
@@ -90,11 +94,10 @@ pub fn texts(alloc: Global, words: &[Word]) -> Result<TextList, CaseFault> {
 /// The first word, and the others as texts.
 pub fn named(alloc: Global, words: &[Word]) -> Result<(&str, TextList), CaseFault> {
     let (name, others) = first(words)?;
-    Ok((name, texts(alloc, others)?))
+    Ok((name, own_texts(alloc, others)?))
 }
 
-/// The lists of words that `:` divides; no words are no list.
-pub fn lists(alloc: Global, words: &[Word]) -> Result<Vec<TextList>, CaseFault> {
+fn own_lists(alloc: Global, words: &[Word]) -> Result<Vec<TextList>, CaseFault> {
     let mut lists = Vec::new(alloc);
     if words.is_empty() {
         return Ok(lists);
@@ -112,8 +115,13 @@ pub fn lists(alloc: Global, words: &[Word]) -> Result<Vec<TextList>, CaseFault> 
     Ok(lists)
 }
 
+/// The lists of words that `:` divides, to lend; no words are no list.
+pub fn lists(alloc: Global, words: &[Word]) -> Result<ManuallyDrop<Vec<TextList>>, CaseFault> {
+    Ok(ManuallyDrop::new(own_lists(alloc, words)?))
+}
+
 /// A word as a path, which is brought into normal form.
-pub fn path(alloc: Global, word: &str) -> Result<Path, CaseFault> {
+pub fn own_path(alloc: Global, word: &str) -> Result<Path, CaseFault> {
     match Path::normal(alloc, word) {
         Ok(path) => Ok(path),
         Err(PathFault::OutOfMemory) => Err(CaseFault::OutOfMemory),
@@ -122,19 +130,44 @@ pub fn path(alloc: Global, word: &str) -> Result<Path, CaseFault> {
 }
 
 /// Words as paths.
-pub fn paths(alloc: Global, words: &[Word]) -> Result<PathList, CaseFault> {
+pub fn own_paths(alloc: Global, words: &[Word]) -> Result<PathList, CaseFault> {
     let mut paths = PathList::new(alloc);
     for word in words {
-        paths.push(path(alloc, word.as_str()?)?)?;
+        paths.push(own_path(alloc, word.as_str()?)?)?;
     }
     Ok(paths)
 }
 
 /// Texts as paths.
-pub fn paths_of(alloc: Global, texts: &[Text]) -> Result<PathList, CaseFault> {
+pub fn own_paths_of(alloc: Global, texts: &[Text]) -> Result<PathList, CaseFault> {
     let mut paths = PathList::new(alloc);
     for text in texts {
-        paths.push(path(alloc, text.as_str())?)?;
+        paths.push(own_path(alloc, text.as_str())?)?;
     }
     Ok(paths)
+}
+
+/// A word as a text, to lend.
+pub fn text(alloc: Global, word: &str) -> Result<ManuallyDrop<Text>, CaseFault> {
+    Ok(ManuallyDrop::new(own_text(alloc, word)?))
+}
+
+/// Words as texts, to lend.
+pub fn texts(alloc: Global, words: &[Word]) -> Result<ManuallyDrop<TextList>, CaseFault> {
+    Ok(ManuallyDrop::new(own_texts(alloc, words)?))
+}
+
+/// A word as a path in normal form, to lend.
+pub fn path(alloc: Global, word: &str) -> Result<ManuallyDrop<Path>, CaseFault> {
+    Ok(ManuallyDrop::new(own_path(alloc, word)?))
+}
+
+/// Words as paths, to lend.
+pub fn paths(alloc: Global, words: &[Word]) -> Result<ManuallyDrop<PathList>, CaseFault> {
+    Ok(ManuallyDrop::new(own_paths(alloc, words)?))
+}
+
+/// Texts as paths, to lend.
+pub fn paths_of(alloc: Global, texts: &[Text]) -> Result<ManuallyDrop<PathList>, CaseFault> {
+    Ok(ManuallyDrop::new(own_paths_of(alloc, texts)?))
 }

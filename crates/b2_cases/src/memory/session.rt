@@ -5,9 +5,9 @@ use crate::memory::shown::{calls_shown, end_shown, events_shown, files_shown, st
 use b2_base::fault::OutOfMemory;
 use b2_base::text::Text;
 use b2_memory::memory::CallKind;
-use b2_show::mode::{Mode, mode_of};
-use b2_show::show::show_b2;
+use b2_top::mode::{Mode, mode_of};
 use b2_top::run::run_b2;
+use b2_top::show::show_b2;
 use std::alloc::Global;
 use std::mem::ManuallyDrop;
 use transcript::answer::Answer;

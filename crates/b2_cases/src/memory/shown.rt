@@ -1,11 +1,11 @@
 //! Answers of the program and of its host, as lines.
 use crate::memory::case_host::Calls;
-use b2_answers::answer::Answer as Ended;
 use b2_base::path::Path;
 use b2_files::version::Version;
 use b2_host::children::ChildEvent;
 use b2_memory::job::Job;
 use b2_memory::memory::MemoryHost;
+use b2_top::answer::Answer as Ended;
 use b2_update::failed_lists::FailedLists;
 use std::alloc::Global;
 use std::rc::Rc;

@@ -10,7 +10,8 @@ use transcript::words::{both, number, only, path};
 
 /// `stat PATH`: whether a file stands there.
 fn stat<H: Files>(alloc: Global, host: &mut H, words: &[Word]) -> Result<Answer, CaseFault> {
-    match host.stat(&path(alloc, only(words)?)?) {
+    let path = path(alloc, only(words)?)?;
+    match host.stat(&path) {
         Ok(None) => Answer::line(alloc, "None"),
         Ok(Some(_stamp)) => Answer::line(alloc, "Some"),
         Err(Failed) => Answer::line(alloc, "Failed"),
@@ -33,7 +34,8 @@ fn read_answer(alloc: Global, answer: &ReadAnswer) -> Result<Answer, CaseFault> 
 fn read<H: Files>(alloc: Global, host: &mut H, words: &[Word]) -> Result<Answer, CaseFault> {
     let (name, most) = both(words)?;
     let most = number(most)? as u64;
-    match host.read(&path(alloc, name)?, most) {
+    let path = path(alloc, name)?;
+    match host.read(&path, most) {
         Ok(answer) => read_answer(alloc, &answer),
         Err(fault) => fault_answer(alloc, fault),
     }
@@ -41,7 +43,8 @@ fn read<H: Files>(alloc: Global, host: &mut H, words: &[Word]) -> Result<Answer,
 
 /// `list DIR`: the names of the files in it, one a line.
 fn list<H: Files>(alloc: Global, host: &mut H, words: &[Word]) -> Result<Answer, CaseFault> {
-    match host.list(&path(alloc, only(words)?)?) {
+    let path = path(alloc, only(words)?)?;
+    match host.list(&path) {
         Ok(names) => Answer::texts(alloc, names.as_slice()),
         Err(fault) => fault_answer(alloc, fault),
     }
@@ -67,7 +70,8 @@ fn replace<H: Files>(alloc: Global, host: &mut H, words: &[Word]) -> Result<Answ
 
 /// `remove PATH`: leaves no file there.
 fn remove<H: Files>(alloc: Global, host: &mut H, words: &[Word]) -> Result<Answer, CaseFault> {
-    match host.remove(&path(alloc, only(words)?)?) {
+    let path = path(alloc, only(words)?)?;
+    match host.remove(&path) {
         Ok(()) => Answer::line(alloc, "Ok"),
         Err(Failed) => Answer::line(alloc, "Failed"),
     }

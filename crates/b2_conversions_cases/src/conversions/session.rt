@@ -14,7 +14,8 @@ use std::mem::ManuallyDrop;
 use transcript::answer::Answer;
 use transcript::case_fault::CaseFault;
 use transcript::command::{Command, Word};
-use transcript::words::{no_words, only, paths, texts};
+use transcript::session::Session;
+use transcript::words::{no_words, only, own_paths, own_texts};
 
 /// What is at hand.
 #[derive(Drop)]
@@ -29,6 +30,7 @@ pub struct Conversions {
 }
 
 impl Conversions {
+    /// Empty tables, and nothing that is supplied or made.
     pub fn new(alloc: Global) -> Conversions {
         Conversions {
             registry: ManuallyDrop::new(Registry::new(alloc)),
@@ -59,21 +61,23 @@ impl Conversions {
     /// Carries out a command that puts something in place, or one that declares.
     fn put(&mut self, alloc: Global, name: &str, words: &[Word]) -> Result<Answer, CaseFault> {
         match name {
-            "roots" => self.roots = paths(alloc, words)?,
+            "roots" => self.roots = own_paths(alloc, words)?,
             "project" => self.project = Some(project_in(alloc, only(words)?)?),
             "properties" => self.needs.properties = pairs(alloc, words)?,
             "source" => self.needs.add_files(alloc, &self.types, words)?,
             "source_target" => self.needs.add_source_target(alloc, &self.types, words)?,
             "library" => self.needs.add_part(alloc, &self.types, words)?,
-            "order" => self.needs.order = paths(alloc, words)?,
-            "no_text" => self.texts.without = texts(alloc, words)?,
-            "notes" => self.texts.noted = paths(alloc, words)?,
+            "order" => self.needs.order = own_paths(alloc, words)?,
+            "no_text" => self.texts.without = own_texts(alloc, words)?,
+            "notes" => self.texts.noted = own_paths(alloc, words)?,
             _ => return declare(alloc, &mut self.registry, &mut self.types, name, words),
         }
         Ok(Answer::new(alloc))
     }
+}
 
-    pub fn carry_out(&mut self, alloc: Global, command: &Command) -> Result<Answer, CaseFault> {
+impl Session for Conversions {
+    fn carry_out(&mut self, alloc: Global, command: &Command) -> Result<Answer, CaseFault> {
         let words = command.words();
         let name = command.name();
         if let Some(kind) = kind_of(name) {

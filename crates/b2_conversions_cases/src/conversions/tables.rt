@@ -10,7 +10,7 @@ use std::alloc::Global;
 use transcript::answer::Answer;
 use transcript::case_fault::CaseFault;
 use transcript::command::Word;
-use transcript::words::{first, halves, named, no_words, text, texts};
+use transcript::words::{first, halves, named, no_words, own_text, own_texts, texts};
 
 /// No lines where a declaration was taken.
 fn taken(alloc: Global, is_taken: bool) -> Result<Answer, CaseFault> {
@@ -66,9 +66,9 @@ fn generator(alloc: Global, types: &mut Types, words: &[Word]) -> Result<Answer,
     let (sources, words) = halves(words);
     let (targets, required) = halves(words);
     let generator = Generator {
-        id: text(alloc, id)?,
-        sources: texts(alloc, sources)?,
-        targets: texts(alloc, targets)?,
+        id: own_text(alloc, id)?,
+        sources: own_texts(alloc, sources)?,
+        targets: own_texts(alloc, targets)?,
         required: pairs(alloc, required)?,
     };
     taken(alloc, types.register(generator)?)

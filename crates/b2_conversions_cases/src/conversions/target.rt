@@ -10,7 +10,7 @@ use b2_virtual::tails::source_tail;
 use std::alloc::Global;
 use transcript::case_fault::CaseFault;
 use transcript::command::Word;
-use transcript::words::{halves, path, text};
+use transcript::words::{halves, own_path, own_text, path};
 
 /// A project, by its directory, its module and its file.
 #[derive(Drop)]
@@ -79,12 +79,12 @@ impl Needs {
 fn module_of(alloc: Global, dir: &Path) -> Result<Text, CaseFault> {
     let dir = dir.as_str();
     let name = format!(in alloc; "Jamfile<{dir}>")?;
-    text(alloc, name.as_str())
+    own_text(alloc, name.as_str())
 }
 
 /// The project in a directory.
 pub fn project_in(alloc: Global, dir: &str) -> Result<Project, CaseFault> {
-    let dir = path(alloc, dir)?;
+    let dir = own_path(alloc, dir)?;
     let owner = module_of(alloc, &dir)?;
     let file = file_in(alloc, dir.as_str())?;
     Ok(Project { dir, owner, file })
@@ -92,12 +92,12 @@ pub fn project_in(alloc: Global, dir: &str) -> Result<Project, CaseFault> {
 
 /// A file that a step made. Below `bin` its tail is the rest of its path.
 fn made_entry(alloc: Global, types: &Types, word: &Word) -> Result<Entry, CaseFault> {
-    let made = path(alloc, word.as_str()?)?;
+    let made = own_path(alloc, word.as_str()?)?;
     let tail = match made.as_str().strip_prefix("bin/") {
-        Some(tail) => path(alloc, tail)?,
+        Some(tail) => own_path(alloc, tail)?,
         None => source_tail(alloc, &made)?,
     };
-    let file_type = text(alloc, types.type_of(&made))?;
+    let file_type = own_text(alloc, types.type_of(&made))?;
     Ok(Entry {
         path: made,
         file_type,

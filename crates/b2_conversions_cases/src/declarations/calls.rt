@@ -9,6 +9,7 @@ use std::alloc::Global;
 use transcript::answer::Answer;
 use transcript::case_fault::CaseFault;
 use transcript::command::{Command, Word};
+use transcript::session::Session;
 use transcript::words::{first, lists, path};
 
 /// What the call of a rule with lists declares.
@@ -60,12 +61,17 @@ fn directories_of_call(alloc: Global, words: &[Word]) -> Result<Answer, CaseFaul
     }
 }
 
-/// Carries out a command on the call of a declaring rule.
-pub fn call_command(alloc: Global, command: &Command) -> Result<Answer, CaseFault> {
-    let words = command.words();
-    match command.name() {
-        "declaration" | "is_refused" => told_of_call(alloc, command.name(), words),
-        "named_directories" => directories_of_call(alloc, words),
-        _ => Err(CaseFault::UnknownCommand),
+/// The part holds nothing.
+#[derive(Drop)]
+pub struct Declarations;
+
+impl Session for Declarations {
+    fn carry_out(&mut self, alloc: Global, command: &Command) -> Result<Answer, CaseFault> {
+        let words = command.words();
+        match command.name() {
+            "declaration" | "is_refused" => told_of_call(alloc, command.name(), words),
+            "named_directories" => directories_of_call(alloc, words),
+            _ => Err(CaseFault::UnknownCommand),
+        }
     }
 }

@@ -7,12 +7,12 @@ use std::alloc::Global;
 use transcript::answer::Answer;
 use transcript::case_fault::CaseFault;
 use transcript::command::Word;
-use transcript::words::{both, halves, number, path, paths, text};
+use transcript::words::{both, halves, number, own_path, own_paths, own_text};
 
 /// A step of a name and a text alone.
 fn bare(alloc: Global, name: &str, words: &str) -> Result<Step, CaseFault> {
-    let name = text(alloc, name)?;
-    let text = text(alloc, words)?;
+    let name = own_text(alloc, name)?;
+    let text = own_text(alloc, words)?;
     Ok(Step {
         name,
         text,
@@ -39,9 +39,9 @@ fn fill(alloc: Global, step: &mut Step, words: &[Word]) -> Result<(), CaseFault>
     let (outs, rest) = halves(words);
     let (ins, rest) = halves(rest);
     let (dirs, flags) = halves(rest);
-    step.outs = paths(alloc, outs)?;
-    step.ins = paths(alloc, ins)?;
-    step.dirs = paths(alloc, dirs)?;
+    step.outs = own_paths(alloc, outs)?;
+    step.ins = own_paths(alloc, ins)?;
+    step.dirs = own_paths(alloc, dirs)?;
     step.always = has(flags, "always");
     step.notfile = has(flags, "notfile");
     Ok(())
@@ -64,7 +64,7 @@ pub fn add(alloc: Global, builder: &mut Builder, words: &[Word]) -> Result<Answe
 
 /// A step that writes one path.
 fn note(alloc: Global, out: &str) -> Result<Step, CaseFault> {
-    let out = path(alloc, out)?;
+    let out = own_path(alloc, out)?;
     let mut step = bare(alloc, "note", "true")?;
     step.outs.push(out)?;
     Ok(step)

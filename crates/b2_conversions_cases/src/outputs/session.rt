@@ -9,6 +9,7 @@ use std::mem::ManuallyDrop;
 use transcript::answer::Answer;
 use transcript::case_fault::CaseFault;
 use transcript::command::Command;
+use transcript::session::Session;
 use transcript::words::only;
 
 /// The steps at hand.
@@ -18,6 +19,7 @@ pub struct Outputs {
 }
 
 impl Outputs {
+    /// No steps.
     pub fn new(alloc: Global) -> Outputs {
         Outputs {
             builder: ManuallyDrop::new(Builder::new(alloc)),
@@ -31,8 +33,10 @@ impl Outputs {
         drop(steps);
         answer
     }
+}
 
-    pub fn carry_out(&mut self, alloc: Global, command: &Command) -> Result<Answer, CaseFault> {
+impl Session for Outputs {
+    fn carry_out(&mut self, alloc: Global, command: &Command) -> Result<Answer, CaseFault> {
         let words = command.words();
         match command.name() {
             "new" => {

@@ -11,7 +11,7 @@ use std::alloc::Global;
 use transcript::answer::Answer;
 use transcript::case_fault::CaseFault;
 use transcript::command::Word;
-use transcript::words::{first, lists, number, path, text};
+use transcript::words::{first, lists, number, own_path, own_text};
 
 /// The projects that were visited, and the calls that their files made.
 #[derive(Drop)]
@@ -59,7 +59,7 @@ impl Load {
         parent: Option<usize>,
     ) -> Result<Answer, CaseFault> {
         let number = self.visits.len();
-        let dir = path(alloc, dir)?;
+        let dir = own_path(alloc, dir)?;
         self.visits.push(visit(alloc, dir, parent)?)?;
         Answer::number(alloc, number as u64)
     }
@@ -101,7 +101,7 @@ impl Load {
         let project = place(project)?;
         let (rule, words) = first(words)?;
         let lists = lists(alloc, words)?;
-        let rule = text(alloc, rule)?;
+        let rule = own_text(alloc, rule)?;
         self.add_call(alloc, project, rule, lists.as_slice())
     }
 }

@@ -24,13 +24,13 @@ use std::alloc::Global;
 use transcript::answer::Answer;
 use transcript::case_fault::CaseFault;
 use transcript::command::Word;
-use transcript::words::{both, first, only, path, text, texts};
+use transcript::words::{both, first, only, own_text, path, text, texts};
 
 /// A place and a word.
 fn placed(alloc: Global, words: &[Word]) -> Result<(usize, Text), CaseFault> {
     let (at, word) = both(words)?;
     let at = place(at)?;
-    Ok((at, text(alloc, word)?))
+    Ok((at, own_text(alloc, word)?))
 }
 
 /// What a text or a project names.
@@ -72,7 +72,10 @@ fn told_of_projects(
     words: &[Word],
 ) -> Result<Answer, CaseFault> {
     match name {
-        "place_at" => number_or_none(alloc, index.place_at(&path(alloc, only(words)?)?)),
+        "place_at" => {
+            let dir = path(alloc, only(words)?)?;
+            number_or_none(alloc, index.place_at(&dir))
+        }
         "place_with" => number_or_none(alloc, index.place_with(only(words)?)),
         _ => places(alloc, index.lineage(place(only(words)?)?)?.as_slice()),
     }
@@ -110,7 +113,7 @@ fn sets_line(alloc: Global, index: &Index, words: &[Word]) -> Result<Answer, Cas
     let at = place(at)?;
     let (name, words) = first(words)?;
     let pairs = pairs(alloc, words)?;
-    let name = TargetName::new(at, text(alloc, name)?);
+    let name = TargetName::new(at, own_text(alloc, name)?);
     let found = sets_of(alloc, index, &name, pairs.as_slice())?;
     sets(alloc, &found)
 }

@@ -6,6 +6,7 @@ use std::mem::ManuallyDrop;
 use transcript::answer::Answer;
 use transcript::case_fault::CaseFault;
 use transcript::command::{Command, Word};
+use transcript::session::Session;
 use transcript::words::no_words;
 
 /// The load at hand.
@@ -15,6 +16,7 @@ pub struct References {
 }
 
 impl References {
+    /// An empty load.
     pub fn new(alloc: Global) -> References {
         References {
             load: ManuallyDrop::new(Load::new(alloc)),
@@ -26,8 +28,10 @@ impl References {
         *self = References::new(alloc);
         Answer::line(alloc, "ok")
     }
+}
 
-    pub fn carry_out(&mut self, alloc: Global, command: &Command) -> Result<Answer, CaseFault> {
+impl Session for References {
+    fn carry_out(&mut self, alloc: Global, command: &Command) -> Result<Answer, CaseFault> {
         match command.name() {
             "new" => self.renew(alloc, command.words()),
             "project" => self.load.project(alloc, command.words()),

@@ -10,7 +10,7 @@ use std::alloc::Global;
 use transcript::answer::Answer;
 use transcript::case_fault::CaseFault;
 use transcript::command::{Command, Word};
-use transcript::words::{no_words, number, paths};
+use transcript::words::{no_words, number, own_paths};
 
 /// What a child reads and writes: the paths before the first word `>`, and those after it.
 fn ins_and_outs(alloc: Global, words: &[Word]) -> Result<(PathList, PathList), CaseFault> {
@@ -20,8 +20,8 @@ fn ins_and_outs(alloc: Global, words: &[Word]) -> Result<(PathList, PathList), C
     {
         None => Err(CaseFault::WrongWords),
         Some(place) => {
-            let ins = paths(alloc, &words[..place])?;
-            let outs = paths(alloc, &words[place + 1..])?;
+            let ins = own_paths(alloc, &words[..place])?;
+            let outs = own_paths(alloc, &words[place + 1..])?;
             Ok((ins, outs))
         }
     }

@@ -46,7 +46,8 @@ fn delete(alloc: Global, host: &mut MemoryHost, words: &[Word]) -> Result<Answer
 
 /// `stat PATH`: the stamp of the file there.
 fn stat(alloc: Global, host: &mut MemoryHost, words: &[Word]) -> Result<Answer, CaseFault> {
-    match host.stat(&path(alloc, only(words)?)?) {
+    let path = path(alloc, only(words)?)?;
+    match host.stat(&path) {
         Ok(None) => Answer::line(alloc, "none"),
         Ok(Some(stamp)) => Answer::line(alloc, format!(in alloc; "stamp {stamp}")?.as_str()),
         Err(Failed) => Answer::line(alloc, "Failed"),

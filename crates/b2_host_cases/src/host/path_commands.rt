@@ -6,6 +6,7 @@ use b2_base::path_list::{PathList, copy_paths};
 use b2_memory::memory::MemoryHost;
 use std::alloc::Global;
 use std::cmp::Ordering;
+use std::mem::ManuallyDrop;
 use transcript::answer::Answer;
 use transcript::case_fault::CaseFault;
 use transcript::command::{Command, Word};
@@ -24,20 +25,25 @@ fn normal(alloc: Global, words: &[Word]) -> Result<Answer, CaseFault> {
 /// `under PATH DIR`: whether the path lies below the folder.
 fn under(alloc: Global, words: &[Word]) -> Result<Answer, CaseFault> {
     let (one, dir) = both(words)?;
-    let is_under = path(alloc, one)?.under(&path(alloc, dir)?);
-    truth(alloc, is_under)
+    let (path, dir) = (path(alloc, one)?, path(alloc, dir)?);
+    truth(alloc, path.under(&dir))
+}
+
+fn order_name(order: Ordering) -> &'static str {
+    match order {
+        Ordering::Less => "Less",
+        Ordering::Equal => "Equal",
+        Ordering::Greater => "Greater",
+    }
 }
 
 /// `cmp PATH PATH`: how a copy of the first one stands to the second.
 fn cmp(alloc: Global, words: &[Word]) -> Result<Answer, CaseFault> {
     let (one, other) = both(words)?;
-    let copy = path(alloc, one)?.copy()?;
-    let order = match copy.cmp(&path(alloc, other)?) {
-        Ordering::Less => "Less",
-        Ordering::Equal => "Equal",
-        Ordering::Greater => "Greater",
-    };
-    Answer::line(alloc, order)
+    let one = path(alloc, one)?;
+    let other = path(alloc, other)?;
+    let copy = ManuallyDrop::new(one.copy()?);
+    Answer::line(alloc, order_name(copy.cmp(&other)))
 }
 
 /// `paths PATH ..`: a copy of a list of paths, made of a vector of them again.

@@ -10,7 +10,7 @@ use std::alloc::Global;
 use transcript::answer::Answer;
 use transcript::case_fault::CaseFault;
 use transcript::command::{Command, Word};
-use transcript::words::{first, path, paths};
+use transcript::words::{first, own_paths, path};
 
 /// A step without inputs that has these outputs.
 fn step_of(alloc: Global, outs: PathList) -> Result<Step, CaseFault> {
@@ -29,7 +29,7 @@ fn step_of(alloc: Global, outs: PathList) -> Result<Step, CaseFault> {
 fn steps_of(alloc: Global, words: &[Word]) -> Result<StepList, CaseFault> {
     let mut steps = StepList::new(alloc);
     for outs in words.split(|word| word.bytes() == b">".as_slice()) {
-        steps.push(step_of(alloc, paths(alloc, outs)?)?)?;
+        steps.push(step_of(alloc, own_paths(alloc, outs)?)?)?;
     }
     Ok(steps)
 }

@@ -12,7 +12,7 @@ use transcript::answer::{Answer, shown};
 use transcript::case_fault::CaseFault;
 use transcript::command::{Command, Word};
 use transcript::session::Session;
-use transcript::words::{both, no_words, number, only, text};
+use transcript::words::{both, no_words, number, only, own_text, text};
 
 /// A map, a host and a sink, each as it was made. A map or a host that another one takes the place of stays until the process
 /// ends, so that none is taken apart.
@@ -26,7 +26,7 @@ pub struct HostAtHand {
 /// `insert TEXT VALUE`: gives a text a value in the map, and answers the one before.
 fn insert(alloc: Global, map: &mut TextMap<Text>, words: &[Word]) -> Result<Answer, CaseFault> {
     let (name, value) = both(words)?;
-    match map.insert(text(alloc, name)?, text(alloc, value)?)? {
+    match map.insert(own_text(alloc, name)?, own_text(alloc, value)?)? {
         None => Answer::line(alloc, "none"),
         Some(before) => Answer::line(alloc, before.as_str()),
     }
@@ -34,7 +34,8 @@ fn insert(alloc: Global, map: &mut TextMap<Text>, words: &[Word]) -> Result<Answ
 
 /// `get TEXT`: the value of a text in the map.
 fn get(alloc: Global, map: &TextMap<Text>, words: &[Word]) -> Result<Answer, CaseFault> {
-    match map.get(&text(alloc, only(words)?)?) {
+    let name = text(alloc, only(words)?)?;
+    match map.get(&name) {
         None => Answer::line(alloc, "none"),
         Some(value) => Answer::line(alloc, value.as_str()),
     }

@@ -8,7 +8,7 @@ use std::alloc::Global;
 use transcript::answer::Answer;
 use transcript::case_fault::CaseFault;
 use transcript::command::{Command, Word};
-use transcript::words::{only, texts};
+use transcript::words::{only, own_texts};
 
 /// `has_no_zero TEXT`: whether no byte is zero.
 fn no_zero(alloc: Global, words: &[Word]) -> Result<Answer, CaseFault> {
@@ -17,7 +17,7 @@ fn no_zero(alloc: Global, words: &[Word]) -> Result<Answer, CaseFault> {
 
 /// `texts TEXT ..`: a list of texts, made of a vector of them again.
 fn text_list(alloc: Global, words: &[Word]) -> Result<Answer, CaseFault> {
-    let list = TextList::from_vec(texts(alloc, words)?.into_vec());
+    let list = TextList::from_vec(own_texts(alloc, words)?.into_vec());
     Answer::texts(alloc, list.as_slice())
 }
 

@@ -6,7 +6,7 @@ use b2_log::line::{IncludeList, LogLine, ScanLine};
 use std::alloc::Global;
 use transcript::case_fault::CaseFault;
 use transcript::command::Word;
-use transcript::words::{first, path, paths};
+use transcript::words::{first, own_path, own_paths};
 
 fn is_quoted(mark: &str) -> Result<bool, CaseFault> {
     match mark {
@@ -45,7 +45,7 @@ pub fn scan_of(alloc: Global, words: &[Word]) -> Result<ScanLine, CaseFault> {
     };
     let stamp = stamp(time.as_str()?)?;
     Ok(ScanLine {
-        path: path(alloc, name.as_str()?)?,
+        path: own_path(alloc, name.as_str()?)?,
         stamp,
         includes: includes_of(alloc, rest)?,
     })
@@ -56,7 +56,7 @@ pub fn line_of(alloc: Global, words: &[Word]) -> Result<LogLine, CaseFault> {
     let (kind, rest) = first(words)?;
     match kind {
         "record" => Ok(LogLine::Record(record_of(alloc, rest)?)),
-        "drop" => Ok(LogLine::Drop(paths(alloc, rest)?)),
+        "drop" => Ok(LogLine::Drop(own_paths(alloc, rest)?)),
         "scan" => Ok(LogLine::Scan(scan_of(alloc, rest)?)),
         _ => Err(CaseFault::WrongWords),
     }

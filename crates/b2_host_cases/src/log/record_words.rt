@@ -6,7 +6,7 @@ use b2_log::line::{Digests, Record, StampedPaths};
 use std::alloc::Global;
 use transcript::case_fault::CaseFault;
 use transcript::command::Word;
-use transcript::words::{first, path, text};
+use transcript::words::{first, own_path, own_text};
 
 /// What was read of a record after its text.
 #[derive(Drop)]
@@ -33,18 +33,18 @@ impl Parts {
 
     fn push_out(&mut self, name: &str, time: &str) -> Result<(), CaseFault> {
         let stamp = stamp(time)?;
-        self.outs.push((path(self.alloc, name)?, stamp))?;
+        self.outs.push((own_path(self.alloc, name)?, stamp))?;
         Ok(())
     }
 
     fn push_in(&mut self, name: &str, time: &str) -> Result<(), CaseFault> {
         let stamp = stamp(time)?;
-        self.ins.push((path(self.alloc, name)?, stamp))?;
+        self.ins.push((own_path(self.alloc, name)?, stamp))?;
         Ok(())
     }
 
     fn push_digest(&mut self, list: &str, digest: &str) -> Result<(), CaseFault> {
-        let digest = text(self.alloc, digest)?;
+        let digest = own_text(self.alloc, digest)?;
         self.has_digests = true;
         match list {
             "out" => self.out_digests.push(digest)?,
@@ -93,7 +93,7 @@ fn parts_of(alloc: Global, words: &[Word]) -> Result<Parts, CaseFault> {
 /// The record of these words: its text, and `out`, `in` and `digest` with two words each.
 pub fn record_of(alloc: Global, words: &[Word]) -> Result<Record, CaseFault> {
     let (given, rest) = first(words)?;
-    let text = text(alloc, given)?;
+    let text = own_text(alloc, given)?;
     let parts = parts_of(alloc, rest)?;
     Ok(Record {
         text,

@@ -123,7 +123,8 @@ impl LogAtHand {
     fn scanned(&self, alloc: Global, words: &[Word]) -> Result<Answer, CaseFault> {
         let (name, time) = both(words)?;
         let time = stamp(time)?;
-        match self.log.scan(&path(alloc, name)?, time) {
+        let path = path(alloc, name)?;
+        match self.log.scan(&path, time) {
             Some(scan) => shown_scan(alloc, scan),
             None => Answer::line(alloc, "none"),
         }

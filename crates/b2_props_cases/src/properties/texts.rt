@@ -16,18 +16,18 @@ use std::alloc::Global;
 use transcript::answer::Answer;
 use transcript::case_fault::CaseFault;
 use transcript::command::{Command, Word};
-use transcript::words::{both, first, path, text, texts};
+use transcript::words::{both, first, own_path, own_text, own_texts};
 
 /// The directory of a project, and a text of its file.
 fn dir_and_text(alloc: Global, words: &[Word]) -> Result<(Path, Text), CaseFault> {
     let (dir, word) = both(words)?;
-    Ok((path(alloc, dir)?, text(alloc, word)?))
+    Ok((own_path(alloc, dir)?, own_text(alloc, word)?))
 }
 
 /// The directory of a project, and texts of its file.
 fn dir_and_texts(alloc: Global, words: &[Word]) -> Result<(Path, TextList), CaseFault> {
     let (dir, words) = first(words)?;
-    Ok((path(alloc, dir)?, texts(alloc, words)?))
+    Ok((own_path(alloc, dir)?, own_texts(alloc, words)?))
 }
 
 fn pair_line(alloc: Global, pair: &(Text, Text)) -> Result<Answer, CaseFault> {

@@ -17,7 +17,7 @@ use std::alloc::Global;
 use transcript::answer::Answer;
 use transcript::case_fault::CaseFault;
 use transcript::command::Word;
-use transcript::words::{halves, no_words, only, text};
+use transcript::words::{halves, no_words, only, own_text};
 
 /// The whole set of a request.
 pub fn whole(alloc: Global, registry: &Registry, words: &[Word]) -> Result<Props, CaseFault> {
@@ -59,7 +59,7 @@ pub fn row(alloc: Global, words: &[Word]) -> Result<Row, CaseFault> {
 /// A row that answers with a fault.
 pub fn fault_row(alloc: Global, words: &[Word]) -> Result<Row, CaseFault> {
     let (conditions, word) = halves(words);
-    let word = text(alloc, only(word)?)?;
+    let word = own_text(alloc, only(word)?)?;
     Ok(Row {
         conditions: pairs(alloc, conditions)?,
         properties: PairList::new(alloc),

@@ -7,7 +7,7 @@ use std::alloc::Global;
 use transcript::answer::Answer;
 use transcript::case_fault::CaseFault;
 use transcript::command::{Command, Word};
-use transcript::words::{first, halves, only, path, text, texts};
+use transcript::words::{first, halves, only, own_text, own_texts, path, text, texts};
 
 fn register_type(alloc: Global, types: &mut Types, words: &[Word]) -> Result<Answer, CaseFault> {
     let (name, words) = first(words)?;
@@ -25,9 +25,9 @@ fn generator(alloc: Global, words: &[Word]) -> Result<Generator, CaseFault> {
     let (sources, words) = halves(words);
     let (targets, required) = halves(words);
     Ok(Generator {
-        id: text(alloc, id)?,
-        sources: texts(alloc, sources)?,
-        targets: texts(alloc, targets)?,
+        id: own_text(alloc, id)?,
+        sources: own_texts(alloc, sources)?,
+        targets: own_texts(alloc, targets)?,
         required: pairs(alloc, required)?,
     })
 }

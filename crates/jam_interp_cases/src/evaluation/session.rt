@@ -13,7 +13,7 @@ use transcript::answer::Answer;
 use transcript::case_fault::CaseFault;
 use transcript::command::{Command, Word};
 use transcript::session::Session;
-use transcript::words::{number, only, path, text};
+use transcript::words::{number, only, own_text, path};
 
 /// A machine, the module of the files that are run, and the turns of a run.
 #[derive(Drop)]
@@ -30,7 +30,7 @@ fn set_turns(alloc: Global, budget: &mut u32, words: &[Word]) -> Result<Answer, 
 }
 
 fn set_module(alloc: Global, module: &mut Text, words: &[Word]) -> Result<Answer, CaseFault> {
-    *module = text(alloc, only(words)?)?;
+    *module = own_text(alloc, only(words)?)?;
     Ok(Answer::new(alloc))
 }
 

@@ -11,7 +11,7 @@ use std::alloc::Global;
 use transcript::answer::Answer;
 use transcript::case_fault::CaseFault;
 use transcript::command::Word;
-use transcript::words::{lists, paths_of};
+use transcript::words::{lists, own_paths_of};
 
 fn name_of(lists: &[TextList]) -> Result<Text, CaseFault> {
     match list_at(lists, 0) {
@@ -25,8 +25,8 @@ fn job_of(alloc: Global, module: &Text, words: &[Word]) -> Result<StepJob, CaseF
     let lists = lists.as_slice();
     let name = name_of(lists)?;
     let path = Text::new(alloc, "Jamroot")?;
-    let outs = paths_of(alloc, list_at(lists, 1))?;
-    let ins = paths_of(alloc, list_at(lists, 2))?;
+    let outs = own_paths_of(alloc, list_at(lists, 1))?;
+    let ins = own_paths_of(alloc, list_at(lists, 2))?;
     let props = copy_texts(alloc, list_at(lists, 3))?;
     Ok(StepJob {
         name,

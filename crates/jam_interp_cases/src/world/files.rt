@@ -10,13 +10,13 @@ use std::alloc::Global;
 use transcript::answer::Answer;
 use transcript::case_fault::CaseFault;
 use transcript::command::{Command, Word};
-use transcript::words::{lists, number, only, path};
+use transcript::words::{lists, number, only, own_path, path};
 
 /// The output roots of a new world.
 fn first_roots(alloc: Global) -> Result<PathList, CaseFault> {
     let mut roots = PathList::new(alloc);
     for root in &["bin", "stage", "dist"] {
-        roots.push(path(alloc, root)?)?;
+        roots.push(own_path(alloc, root)?)?;
     }
     Ok(roots)
 }

@@ -8,7 +8,7 @@ use std::alloc::Global;
 use transcript::answer::Answer;
 use transcript::case_fault::CaseFault;
 use transcript::command::{Command, Word};
-use transcript::words::{halves, no_words, only, path, paths};
+use transcript::words::{halves, no_words, only, own_path, paths};
 
 fn open(
     alloc: Global,
@@ -64,7 +64,7 @@ pub fn step_command(
             step(alloc, &scene.world)
         }
         "add_depends" => {
-            let path = path(alloc, only(words)?)?;
+            let path = own_path(alloc, only(words)?)?;
             Answer::done(alloc, scene.world.add_depends(path))
         }
         "set_always" => {

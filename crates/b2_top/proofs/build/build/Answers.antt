@@ -7,7 +7,7 @@ use Rattle.b2_host.specs.Disks.{Disk}
 use Rattle.b2_host.specs.OutsideLaws.{keeps_then}
 use Rattle.b2_plan.specs.Plans.{Apart}
 use Rattle.b2_update.specs.Moments.{moment}
-use Rattle.b2_answers.specs.Writing.{AnswersStop}
+use Rattle.b2_top.specs.Writing.{AnswersStop}
 use Rattle.b2_top.specs.Running.{Carries}
 use Rattle.b2_top.proofs.BuildLemmas.{carried, stopped, left_from}
 use Rattle.b2_top.proofs.build.build.Goals as goal

@@ -1,7 +1,7 @@
 use Rattle.std.proofs.Common.{List, [], refl, subst}
-use Rattle.b2_answers.specs.Reports.{refusal_report}
-use Rattle.b2_answers.specs.Writing.{Says}
-use Rattle.b2_answers.specs.declared.answer.Answer.TheVariants as answers
+use Rattle.b2_top.specs.Reports.{refusal_report}
+use Rattle.b2_top.specs.Writing.{Says}
+use Rattle.b2_top.specs.declared.answer.Answer.TheVariants as answers
 use Rattle.b2_plan.specs.declared.step.Step.{Step}
 use Rattle.b2_refusals.specs.declared.fault.Fault.TheVariants as faults
 use Rattle.b2_update.specs.declared.update_answer.UpdateAnswer.TheVariants as ended

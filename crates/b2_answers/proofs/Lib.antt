@@ -1,3 +1,0 @@
-pub mod WritingLemmas
-pub mod FaultLemmas
-pub mod ToldLemmas

@@ -1,4 +1,0 @@
-pub mod Modes
-pub mod Looks
-pub mod Tells
-pub mod Shows

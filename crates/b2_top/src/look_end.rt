@@ -1,0 +1,45 @@
+//! What the answer of a look is, and what is written with it.
+ghost use Rattle.std.specs.Prelude.{IfErr};
+ghost use Rattle.b2_front.specs.Preparing.{IsWhole as IsWholeStop};
+ghost use Rattle.b2_generate.specs.Plans.{seen};
+ghost use Rattle.b2_top.specs.Writing.{Says};
+ghost use Rattle.b2_top.specs.Looks.{look_report};
+ghost use Rattle.b2_top.specs.Tells.{AnswersWith};
+
+use crate::answer::Answer;
+use crate::look_lines::write_look;
+use crate::tell::{tell_stop, unwritten};
+use b2_base::text::Text;
+use b2_front::prepare::Prepared;
+use b2_generate::planned::Planned;
+use b2_host::sink::Sink;
+use b2_words::words::View;
+use std::alloc::Global;
+
+/// Writes the report of a look at a plan.
+fn tell_look<S: Sink>(
+    alloc: Global,
+    view: View,
+    echoes: &[Text],
+    planned: &Planned,
+    out: &mut S,
+) -> Answer
+    ensures { Says Answer.Ok (look_report echoes.now view (seen planned.now)) (S.output out.old) (S.output out.new) result }
+{
+    match write_look(alloc, echoes, view, planned, out) {
+        Ok(()) => Answer::Ok,
+        Err(fault) => unwritten(fault),
+    }
+}
+
+/// Tells what the files and the words came to.
+pub fn tell<S: Sink>(alloc: Global, view: View, prepared: Prepared, out: &mut S) -> Answer
+    requires { IfErr prepared.result IsWholeStop }
+    ensures { AnswersWith view prepared.echoes prepared.result (S.output out.old) (S.output out.new) result }
+{
+    let Prepared { echoes, result } = prepared;
+    match result {
+        Ok(planned) => tell_look(alloc, view, echoes.as_slice(), &planned, out),
+        Err(stop) => tell_stop(alloc, echoes.as_slice(), stop, out),
+    }
+}

@@ -1,0 +1,80 @@
+//! The look command.
+ghost use Rattle.std.specs.Prelude.{◌≡◌, None};
+ghost use Rattle.b2_top.specs.Endings.{IsUsageOrCutShort, IfRefused};
+ghost use Rattle.b2_host.specs.OutsideLaws.{Keeps};
+ghost use Rattle.b2_refusals.specs.Wholes.{IsWhole};
+ghost use Rattle.b2_top.specs.Looks.{look_of};
+ghost use Rattle.b2_top.specs.Shows.{ShownTold, ReportTold, CountsTold, IsOfLook, CompleteTold, IsAnswered, Shows};
+ghost use Rattle.b2_update.specs.Moments.{moment};
+
+use crate::answer::Answer;
+use crate::look::{Look, look_of};
+use crate::look_end::tell;
+use crate::tell::tell_usage;
+use b2_base::text::Text;
+use b2_front::laws::one_meaning;
+use b2_front::prepare::prepare;
+use b2_host::files::Files;
+use b2_host::sink::Sink;
+use b2_words::fault::WordsFault;
+use std::alloc::Global;
+
+/// Shows what is asked for.
+fn show<H: Files, S: Sink>(alloc: Global, look: &Look, host: &mut H, out: &mut S) -> Answer
+    ensures shows { Shows look.now (moment (H.outside host.old) (S.output out.old)) (moment (H.outside host.new) (S.output out.new)) result }
+    ensures disk { (H.outside host.new).disk ≡ (H.outside host.old).disk }
+    ensures children { (H.outside host.new).children ≡ (H.outside host.old).children }
+    ensures keeps { Keeps (H.outside host.old) (H.outside host.new) }
+{
+    one_meaning();
+    let prepared = prepare(alloc, look.words.as_slice(), host);
+    tell(alloc, look.view, prepared, out)
+}
+
+/// Reads the words, and shows what they ask for.
+fn answer<H: Files, S: Sink>(alloc: Global, words: &[Text], host: &mut H, out: &mut S) -> Answer
+    ensures answered { IsAnswered words.now (moment (H.outside host.old) (S.output out.old)) (moment (H.outside host.new) (S.output out.new)) result }
+    ensures disk { (H.outside host.new).disk ≡ (H.outside host.old).disk }
+    ensures children { (H.outside host.new).children ≡ (H.outside host.old).children }
+    ensures keeps { Keeps (H.outside host.old) (H.outside host.new) }
+{
+    match look_of(alloc, words) {
+        Ok(look) => show(alloc, &look, host, out),
+        Err(WordsFault::Usage) => tell_usage(out),
+        Err(WordsFault::OutOfMemory) => Answer::OutOfMemory,
+    }
+}
+
+/// Shows the plan of what the words ask for, and builds nothing: with `--show` the table of main targets with their properties, with
+/// `-n` the steps with their texts. The lines of ECHO come first. Changes no file, starts nothing and always returns.
+pub fn show_b2<H: Files, S: Sink>(
+    alloc: Global,
+    words: &[Text],
+    host: &mut H,
+    out: &mut S,
+) -> Answer
+    // After Ok exactly the lines of ECHO and the table, or the steps with their texts, of the plan were written.
+    ensures shown { ShownTold words.now (moment (H.outside host.old) (S.output out.old)) (moment (H.outside host.new) (S.output out.new)) result }
+    // What was written is the report; each refusal has its cause.
+    ensures reported { ReportTold words.now (moment (H.outside host.old) (S.output out.old)) (moment (H.outside host.new) (S.output out.new)) result }
+    // No file has changed, and nothing was started.
+    ensures disk { (H.outside host.new).disk ≡ (H.outside host.old).disk }
+    ensures children { (H.outside host.new).children ≡ (H.outside host.old).children }
+    // No count falls, and visible files stay visible.
+    ensures keeps { Keeps (H.outside host.old) (H.outside host.new) }
+    // Ok, Refused and Usage come only where nothing failed; a fault comes only where its count rose.
+    ensures counts { CountsTold (moment (H.outside host.old) (S.output out.old)) (moment (H.outside host.new) (S.output out.new)) result }
+    // Words that are no look ask for the usage line, and the host is not called; nothing else does.
+    ensures usage { look_of words.now ≡ None → IsUsageOrCutShort result }
+    ensures alone { look_of words.now ≡ None → H.outside host.new ≡ H.outside host.old }
+    ensures no_usage { result ≡ Answer.Usage → look_of words.now ≡ None }
+    // No fault of the host and no out of memory is within a refusal.
+    ensures whole { IfRefused IsWhole result }
+    // A look has no list of failures, and no refusal but those of the load, the request and generation.
+    ensures not_failed { IsOfLook result }
+    // Where the words, the load, the request and generation come to a plan, the answer is Ok, or the call was cut short, or a pattern
+    // of the project's own text was refused though it reads as one.
+    ensures complete { CompleteTold words.now (H.outside host.old) result }
+{
+    answer(alloc, words, host, out)
+}
