@@ -10,10 +10,10 @@ pub fn truth(alloc: Global, holds: bool) -> Result<Answer, CaseFault> {
 
 /// What happened, and the text that it happened to.
 pub fn happened(alloc: Global, what: &str, text: &str) -> Result<Answer, CaseFault> {
-    Answer::line(alloc, format!(in alloc; "{what}: {text}")?.as_str())
+    Answer::from_string(alloc, format!(in alloc; "{what}: {text}")?)
 }
 
 /// The number of steps that there would be.
 pub fn too_many(alloc: Global, count: u32) -> Result<Answer, CaseFault> {
-    Answer::line(alloc, format!(in alloc; "{count} steps")?.as_str())
+    Answer::from_string(alloc, format!(in alloc; "{count} steps")?)
 }

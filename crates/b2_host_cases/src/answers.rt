@@ -32,8 +32,8 @@ pub fn ended_answer(
     ended: Result<(u32, bool), Failed>,
 ) -> Result<Answer, CaseFault> {
     match ended {
-        Ok((step, true)) => Answer::line(alloc, format!(in alloc; "{step} well")?.as_str()),
-        Ok((step, false)) => Answer::line(alloc, format!(in alloc; "{step} badly")?.as_str()),
+        Ok((step, true)) => Answer::from_string(alloc, format!(in alloc; "{step} well")?),
+        Ok((step, false)) => Answer::from_string(alloc, format!(in alloc; "{step} badly")?),
         Err(Failed) => Answer::line(alloc, "Failed"),
     }
 }

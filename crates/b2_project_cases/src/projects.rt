@@ -35,7 +35,7 @@ fn push_place(
     number: usize,
     place: &Place,
 ) -> Result<(), CaseFault> {
-    answer.push_line(place_line(alloc, number, place)?.as_str())?;
+    answer.push_string(place_line(alloc, number, place)?)?;
     push_requirements(alloc, answer, "requirements", place.requirements.as_slice())?;
     push_pair_list(alloc, answer, "default-build", place.defaults.as_slice())?;
     push_requirements(alloc, answer, "usage-requirements", place.usage.as_slice())?;
@@ -75,11 +75,11 @@ fn push_rule(alloc: Global, answer: &mut Answer, target: &Target) -> Result<(), 
     if rule.is_empty() {
         return Ok(());
     }
-    answer.push_line(format!(in alloc; "rule {rule}")?.as_str())
+    answer.push_string(format!(in alloc; "rule {rule}")?)
 }
 
 fn push_target(alloc: Global, answer: &mut Answer, target: &Target) -> Result<(), CaseFault> {
-    answer.push_line(target_line(alloc, target)?.as_str())?;
+    answer.push_string(target_line(alloc, target)?)?;
     push_list(alloc, answer, "sources", target.sources.as_slice())?;
     push_rule(alloc, answer, target)?;
     push_requirements(
@@ -110,7 +110,7 @@ fn rule_line(alloc: Global, number: usize, rule: &IndirectRule) -> Result<String
 pub fn indirect(alloc: Global, rules: &[IndirectRule]) -> Result<Answer, CaseFault> {
     let mut answer = Answer::new(alloc);
     for number in 0..rules.len() {
-        answer.push_line(rule_line(alloc, number, &rules[number])?.as_str())?;
+        answer.push_string(rule_line(alloc, number, &rules[number])?)?;
     }
     Ok(answer)
 }
@@ -134,7 +134,7 @@ fn decl_line(alloc: Global, decl: &Decl) -> Result<String, CaseFault> {
 pub fn decls(alloc: Global, decls: &[Decl]) -> Result<Answer, CaseFault> {
     let mut answer = Answer::new(alloc);
     for decl in decls {
-        answer.push_line(decl_line(alloc, decl)?.as_str())?;
+        answer.push_string(decl_line(alloc, decl)?)?;
     }
     Ok(answer)
 }

@@ -44,7 +44,7 @@ fn push_feature(
     name: &str,
 ) -> Result<(), CaseFault> {
     match registry.find(name) {
-        Some(feature) => answer.push_line(feature_line(alloc, feature)?.as_str()),
+        Some(feature) => answer.push_string(feature_line(alloc, feature)?),
         None => answer.push_line("none"),
     }
 }
@@ -77,7 +77,7 @@ fn parts_line(
 pub fn parts_of(alloc: Global, registry: &Registry, words: &[Word]) -> Result<Answer, CaseFault> {
     let (feature, value) = both(words)?;
     let line = parts_line(alloc, registry, feature, value)?;
-    Answer::line(alloc, line.as_str())
+    Answer::from_string(alloc, line)
 }
 
 fn push_type(
@@ -111,7 +111,7 @@ fn push_generator_lines(
     answer: &mut Answer,
     generator: &Generator,
 ) -> Result<(), CaseFault> {
-    answer.push_line(generator_line(alloc, generator)?.as_str())?;
+    answer.push_string(generator_line(alloc, generator)?)?;
     push_pair_list(alloc, answer, "requirements", generator.required.as_slice())
 }
 

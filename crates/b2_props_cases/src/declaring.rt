@@ -14,7 +14,7 @@ use transcript::words::{first, halves, no_words, text, texts};
 /// A refusal with the word that it names.
 pub fn refusal(alloc: Global, kind: &str, word: &Text) -> Result<Answer, CaseFault> {
     let word = word.as_str();
-    Answer::line(alloc, format!(in alloc; "{kind}: {word}")?.as_str())
+    Answer::from_string(alloc, format!(in alloc; "{kind}: {word}")?)
 }
 
 fn fault_line(alloc: Global, fault: &FeatureFault) -> Result<Answer, CaseFault> {

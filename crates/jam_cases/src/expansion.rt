@@ -102,7 +102,7 @@ fn fault_text(alloc: Global, fault: &ExpandFault) -> Result<String, CaseFault> {
 }
 
 fn fault_answer(alloc: Global, fault: &ExpandFault) -> Result<Answer, CaseFault> {
-    Answer::line(alloc, fault_text(alloc, fault)?.as_str())
+    Answer::from_string(alloc, fault_text(alloc, fault)?)
 }
 
 fn answer_add_expansion(
@@ -140,7 +140,7 @@ fn size_answer(alloc: Global, elements: &[Text]) -> Result<Answer, CaseFault> {
         bytes = bytes.saturating_add(element.as_str().len());
     }
     let size = format!(in alloc; "elements {count}, bytes {bytes}")?;
-    Answer::line(alloc, size.as_str())
+    Answer::from_string(alloc, size)
 }
 
 fn answer_expand_size(
@@ -184,7 +184,7 @@ fn answer_expand_body_size(
     match expand_body(alloc, body.as_str(), variables) {
         Ok(text) => {
             let bytes = text.as_str().len();
-            Answer::line(alloc, format!(in alloc; "bytes {bytes}")?.as_str())
+            Answer::from_string(alloc, format!(in alloc; "bytes {bytes}")?)
         }
         Err(fault) => fault_answer(alloc, &fault),
     }

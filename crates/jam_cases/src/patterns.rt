@@ -23,7 +23,7 @@ enum Shown {
 
 fn refusal_answer(alloc: Global, refusal: &Refusal) -> Result<Answer, CaseFault> {
     let text = refusal.text();
-    let mut answer = Answer::line(alloc, format!(in alloc; "bad pattern {text}")?.as_str())?;
+    let mut answer = Answer::from_string(alloc, format!(in alloc; "bad pattern {text}")?)?;
     answer.push_line(if refusal.syntax() {
         "syntax true"
     } else {
@@ -42,7 +42,7 @@ fn push_group(
         Shown::Texts => answer.push_line(group),
         Shown::Lengths => {
             let len = group.len();
-            answer.push_line(format!(in alloc; "{len}")?.as_str())
+            answer.push_string(format!(in alloc; "{len}")?)
         }
     }
 }

@@ -15,7 +15,7 @@ use transcript::command::Command;
 pub fn fault_answer(alloc: Global, fault: &LexFault) -> Result<Answer, CaseFault> {
     match fault {
         LexFault::OutOfMemory => Err(CaseFault::OutOfMemory),
-        _ => Answer::line(alloc, format!(in alloc; "{fault}")?.as_str()),
+        _ => Answer::from_string(alloc, format!(in alloc; "{fault}")?),
     }
 }
 
@@ -34,7 +34,7 @@ fn tokens_answer(alloc: Global, tokens: &[Token]) -> Result<Answer, CaseFault> {
     }
     let mut answer = Answer::new(alloc);
     for token in tokens {
-        answer.push_line(token_line(alloc, token)?.as_str())?;
+        answer.push_string(token_line(alloc, token)?)?;
     }
     Ok(answer)
 }

@@ -23,10 +23,10 @@ fn syntax_answer(alloc: Global, fault: &SyntaxFault) -> Result<Answer, CaseFault
             let found = found.as_str();
             if found.is_empty() {
                 let told = format!(in alloc; "line {line}: syntax error at end of file")?;
-                Answer::line(alloc, told.as_str())
+                Answer::from_string(alloc, told)
             } else {
                 let told = format!(in alloc; "line {line}: syntax error at {found}")?;
-                Answer::line(alloc, told.as_str())
+                Answer::from_string(alloc, told)
             }
         }
     }

@@ -77,6 +77,11 @@ impl Answer {
         Ok(answer)
     }
 
+    /// An answer of one line, which is handed over: what is dropped here need not be dropped by each caller.
+    pub fn from_string(alloc: Global, line: String) -> Result<Answer, CaseFault> {
+        Answer::line(alloc, line.as_str())
+    }
+
     /// An answer of no lines to a call that has nothing to tell.
     pub fn done(alloc: Global, called: Result<(), OutOfMemory>) -> Result<Answer, CaseFault> {
         match called {
@@ -92,7 +97,7 @@ impl Answer {
 
     /// A number in decimal.
     pub fn number(alloc: Global, number: u64) -> Result<Answer, CaseFault> {
-        Answer::line(alloc, format!(in alloc; "{number}")?.as_str())
+        Answer::from_string(alloc, format!(in alloc; "{number}")?)
     }
 
     /// Each text on a line.
@@ -122,9 +127,14 @@ impl Answer {
     ) -> Result<(), CaseFault> {
         for path in paths {
             let path = path.as_str();
-            self.push_line(format!(in alloc; "{word} {path}")?.as_str())?;
+            self.push_string(format!(in alloc; "{word} {path}")?)?;
         }
         Ok(())
+    }
+
+    /// Adds a line as `push_line` does, which is handed over.
+    pub fn push_string(&mut self, line: String) -> Result<(), CaseFault> {
+        self.push_line(line.as_str())
     }
 
     /// Adds a line, whose control bytes are shown as escapes. After an error the answer may hold a part of it.

@@ -27,7 +27,7 @@
 //!             },
 //!             "sum" => {
 //!                 let bytes = self.bytes;
-//!                 Answer::line(alloc, format!(in alloc; "{bytes} bytes")?.as_str())
+//!                 Answer::from_string(alloc, format!(in alloc; "{bytes} bytes")?)
 //!             }
 //!             _ => Err(CaseFault::UnknownCommand),
 //!         }

@@ -37,7 +37,7 @@ fn push_lists(alloc: Global, answer: &mut Answer, lists: &FailedLists) -> Result
     let skipped = numbers_shown(alloc, lists.skipped.as_slice())?;
     let missing = paths_shown(alloc, lists.missing.as_slice())?;
     let line = format!(in alloc; "Failed: failed{failed}, skipped{skipped}, missing{missing}")?;
-    answer.push_line(line.as_str())
+    answer.push_string(line)
 }
 
 /// What was printed, and how the program ended.
@@ -49,7 +49,7 @@ pub fn end_shown(alloc: Global, ended: &Ended, printed: &[u8]) -> Result<Answer,
         answer.push_line("(without a line feed)")?;
     }
     let status = ended.status();
-    answer.push_line(format!(in alloc; "status {status}")?.as_str())?;
+    answer.push_string(format!(in alloc; "status {status}")?)?;
     if let Ended::Failed(lists) = ended {
         push_lists(alloc, &mut answer, lists)?;
     }
@@ -80,7 +80,7 @@ pub fn starts_shown(alloc: Global, given: &[Rc<Job>]) -> Result<Answer, CaseFaul
     for job in given {
         let step = job.as_ref().step;
         let text = job.as_ref().text.as_str();
-        answer.push_line(format!(in alloc; "{step}: {text}")?.as_str())?;
+        answer.push_string(format!(in alloc; "{step}: {text}")?)?;
     }
     Ok(answer)
 }
@@ -97,7 +97,7 @@ fn push_file(
         Some(standing) if standing == stamp => {
             let path = version.path.as_str();
             let bytes = shown(alloc, host.bytes_of(version))?;
-            answer.push_line(format!(in alloc; "{path}, stamp {stamp}: {bytes}")?.as_str())
+            answer.push_string(format!(in alloc; "{path}, stamp {stamp}: {bytes}")?)
         }
         _ => Ok(()),
     }
@@ -128,5 +128,5 @@ pub fn calls_shown(alloc: Global, calls: Calls) -> Result<Answer, CaseFault> {
     let line = format!(in alloc;
         "stat {stat}, read {read}, list {list}, append {append}, replace {replace}, remove {remove}, start {start}, wait {wait}"
     )?;
-    Answer::line(alloc, line.as_str())
+    Answer::from_string(alloc, line)
 }

@@ -52,8 +52,8 @@ fn wait_one<R: System>(
         return Answer::line(alloc, "no child runs");
     }
     match host.wait_one() {
-        Ok((step, true)) => Answer::line(alloc, format!(in alloc; "{step} well")?.as_str()),
-        Ok((step, false)) => Answer::line(alloc, format!(in alloc; "{step} badly")?.as_str()),
+        Ok((step, true)) => Answer::from_string(alloc, format!(in alloc; "{step} well")?),
+        Ok((step, false)) => Answer::from_string(alloc, format!(in alloc; "{step} badly")?),
         Err(Failed) => Answer::line(alloc, "Failed"),
     }
 }
@@ -111,10 +111,7 @@ fn run_lines<R: System>(host: &mut RealHost<R>, jobs: usize, text: &str) -> Resu
 
 fn count_shown(alloc: Global, ended: Ended) -> Result<Answer, CaseFault> {
     let Ended { well, badly } = ended;
-    Answer::line(
-        alloc,
-        format!(in alloc; "{well} well, {badly} badly")?.as_str(),
-    )
+    Answer::from_string(alloc, format!(in alloc; "{well} well, {badly} badly")?)
 }
 
 /// `run JOBS` with texts below it, one a line: starts a child for each, so many at a time, and waits for all.

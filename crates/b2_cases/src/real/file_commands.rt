@@ -20,12 +20,10 @@ fn stat<H: Files>(alloc: Global, host: &mut H, words: &[Word]) -> Result<Answer,
 
 fn read_answer(alloc: Global, answer: &ReadAnswer) -> Result<Answer, CaseFault> {
     match answer {
-        ReadAnswer::Bytes(bytes) => {
-            Answer::line(alloc, shown(alloc, bytes.as_slice())?.as_str())
-        }
+        ReadAnswer::Bytes(bytes) => { Answer::from_string(alloc, shown(alloc, bytes.as_slice())?) }
         ReadAnswer::Missing => Answer::line(alloc, "Missing"),
         ReadAnswer::TooBig { size } => {
-            Answer::line(alloc, format!(in alloc; "TooBig {size}")?.as_str())
+            Answer::from_string(alloc, format!(in alloc; "TooBig {size}")?)
         }
     }
 }

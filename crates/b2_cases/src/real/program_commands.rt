@@ -13,5 +13,5 @@ pub fn program<R: System>(alloc: Global, rt: R, words: &[Text]) -> Result<Answer
     let mut host = RealHost::new(rt);
     let mut out = RealSink::new(rt);
     let status = run_program(alloc, words, &mut host, &mut out);
-    Answer::line(alloc, format!(in alloc; "status {status}")?.as_str())
+    Answer::from_string(alloc, format!(in alloc; "status {status}")?)
 }

@@ -43,7 +43,7 @@ fn made(
     name: &Text,
     rule: &Text,
 ) -> Result<Answer, CaseFault> {
-    let Some(project) = &held.project else {
+    let Some(project) = &*held.project else {
         return Err(CaseFault::WrongWords);
     };
     let registry: &Registry = &held.registry;
@@ -68,7 +68,7 @@ fn made(
         parts: needs.parts.as_slice(),
         order: needs.order.as_slice(),
     };
-    let supplied = make(&setting, &site, &mut held.texts, &mut held.builder);
+    let supplied = make(&setting, &site, &mut *held.texts, &mut held.builder);
     made_answer(alloc, supplied)
 }
 

@@ -4,7 +4,6 @@ use crate::conversions::shown::steps_answer;
 use crate::conversions::tables::declare;
 use crate::conversions::target::{Needs, Project, project_in};
 use crate::conversions::texts::Texts;
-use crate::words::pairs;
 use b2_base::path_list::PathList;
 use b2_features::registry::Registry;
 use b2_generators::types::Types;
@@ -15,18 +14,33 @@ use transcript::answer::Answer;
 use transcript::case_fault::CaseFault;
 use transcript::command::{Command, Word};
 use transcript::session::Session;
-use transcript::words::{no_words, only, own_paths, own_texts};
+use transcript::words::{no_words, only, own_paths};
 
 /// What is at hand.
 #[derive(Drop)]
 pub struct Conversions {
     pub registry: ManuallyDrop<Registry>,
     pub types: ManuallyDrop<Types>,
-    pub roots: PathList,
-    pub project: Option<Project>,
+    pub roots: ManuallyDrop<PathList>,
+    pub project: ManuallyDrop<Option<Project>>,
     pub needs: ManuallyDrop<Needs>,
-    pub texts: Texts,
+    pub texts: ManuallyDrop<Texts>,
     pub builder: ManuallyDrop<Builder>,
+}
+
+fn put_paths(alloc: Global, held: &mut PathList, words: &[Word]) -> Result<Answer, CaseFault> {
+    *held = own_paths(alloc, words)?;
+    Ok(Answer::new(alloc))
+}
+
+fn put_project(
+    alloc: Global,
+    held: &mut ManuallyDrop<Option<Project>>,
+    words: &[Word],
+) -> Result<Answer, CaseFault> {
+    let project = project_in(alloc, only(words)?)?;
+    *held = ManuallyDrop::new(Some(project));
+    Ok(Answer::new(alloc))
 }
 
 impl Conversions {
@@ -35,10 +49,10 @@ impl Conversions {
         Conversions {
             registry: ManuallyDrop::new(Registry::new(alloc)),
             types: ManuallyDrop::new(Types::new(alloc)),
-            roots: PathList::new(alloc),
-            project: None,
+            roots: ManuallyDrop::new(PathList::new(alloc)),
+            project: ManuallyDrop::new(None),
             needs: ManuallyDrop::new(Needs::new(alloc)),
-            texts: Texts::new(alloc),
+            texts: ManuallyDrop::new(Texts::new(alloc)),
             builder: ManuallyDrop::new(Builder::new(alloc)),
         }
     }
@@ -61,18 +75,17 @@ impl Conversions {
     /// Carries out a command that puts something in place, or one that declares.
     fn put(&mut self, alloc: Global, name: &str, words: &[Word]) -> Result<Answer, CaseFault> {
         match name {
-            "roots" => self.roots = own_paths(alloc, words)?,
-            "project" => self.project = Some(project_in(alloc, only(words)?)?),
-            "properties" => self.needs.properties = pairs(alloc, words)?,
-            "source" => self.needs.add_files(alloc, &self.types, words)?,
-            "source_target" => self.needs.add_source_target(alloc, &self.types, words)?,
-            "library" => self.needs.add_part(alloc, &self.types, words)?,
-            "order" => self.needs.order = own_paths(alloc, words)?,
-            "no_text" => self.texts.without = own_texts(alloc, words)?,
-            "notes" => self.texts.noted = own_paths(alloc, words)?,
-            _ => return declare(alloc, &mut self.registry, &mut self.types, name, words),
+            "roots" => put_paths(alloc, &mut self.roots, words),
+            "project" => put_project(alloc, &mut self.project, words),
+            "properties" => self.needs.put_properties(alloc, words),
+            "source" => self.needs.add_files(alloc, &self.types, words),
+            "source_target" => self.needs.add_source_target(alloc, &self.types, words),
+            "library" => self.needs.add_part(alloc, &self.types, words),
+            "order" => put_paths(alloc, &mut self.needs.order, words),
+            "no_text" => self.texts.put_names(alloc, words),
+            "notes" => put_paths(alloc, &mut self.texts.noted, words),
+            _ => declare(alloc, &mut self.registry, &mut self.types, name, words),
         }
-        Ok(Answer::new(alloc))
     }
 }
 

@@ -24,7 +24,7 @@ fn entry_line(alloc: Global, entry: &Entry) -> Result<String, CaseFault> {
 fn push_entries(alloc: Global, answer: &mut Answer, entries: &[Entry]) -> Result<(), CaseFault> {
     for entry in entries {
         let line = entry_line(alloc, entry)?;
-        answer.push_line(line.as_str())?;
+        answer.push_string(line)?;
     }
     Ok(())
 }
@@ -32,7 +32,7 @@ fn push_entries(alloc: Global, answer: &mut Answer, entries: &[Entry]) -> Result
 fn push_carried(alloc: Global, answer: &mut Answer, entries: &[Entry]) -> Result<(), CaseFault> {
     for entry in entries {
         let path = entry.path.as_str();
-        answer.push_line(format!(in alloc; "carries {path}")?.as_str())?;
+        answer.push_string(format!(in alloc; "carries {path}")?)?;
     }
     Ok(())
 }
@@ -50,10 +50,7 @@ fn supply_lines(alloc: Global, supply: &Supply) -> Result<Answer, CaseFault> {
 fn no_chain(alloc: Global, from: &Text, to: &Text) -> Result<Answer, CaseFault> {
     let from = from.as_str();
     let to = to.as_str();
-    Answer::line(
-        alloc,
-        format!(in alloc; "no chain from {from} to {to}")?.as_str(),
-    )
+    Answer::from_string(alloc, format!(in alloc; "no chain from {from} to {to}")?)
 }
 
 fn two_chains(
@@ -69,7 +66,7 @@ fn two_chains(
     push_words(&mut line, first)?;
     line.push(';')?;
     push_words(&mut line, second)?;
-    Answer::line(alloc, line.as_str())
+    Answer::from_string(alloc, line)
 }
 
 fn without_text(alloc: Global, fault: &TextFault) -> Result<Answer, CaseFault> {
@@ -139,7 +136,7 @@ fn push_step(
     step: &Step,
 ) -> Result<(), CaseFault> {
     let line = step_line(alloc, number, step)?;
-    answer.push_line(line.as_str())?;
+    answer.push_string(line)?;
     answer.push_line(step.text.as_str())
 }
 

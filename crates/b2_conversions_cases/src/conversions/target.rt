@@ -1,5 +1,5 @@
 //! The main target at hand: its project, its properties, and what is supplied to it.
-use crate::words::file_in;
+use crate::words::{file_in, pairs};
 use b2_base::path::Path;
 use b2_base::path_list::PathList;
 use b2_base::text::Text;
@@ -8,6 +8,7 @@ use b2_props::pair_list::PairList;
 use b2_supplies::entry::{Entry, EntryList, Supply, file_entry};
 use b2_virtual::tails::source_tail;
 use std::alloc::Global;
+use transcript::answer::Answer;
 use transcript::case_fault::CaseFault;
 use transcript::command::Word;
 use transcript::words::{halves, own_path, own_text, path};
@@ -39,15 +40,21 @@ impl Needs {
         }
     }
 
+    /// Puts pairs in the place of the properties.
+    pub fn put_properties(&mut self, alloc: Global, words: &[Word]) -> Result<Answer, CaseFault> {
+        self.properties = pairs(alloc, words)?;
+        Ok(Answer::new(alloc))
+    }
+
     /// Adds what a main target supplies that is no source: `ENTRIES : CARRIED`.
     pub fn add_part(
         &mut self,
         alloc: Global,
         types: &Types,
         words: &[Word],
-    ) -> Result<(), CaseFault> {
+    ) -> Result<Answer, CaseFault> {
         self.parts.push(target_supply(alloc, types, words)?)?;
-        Ok(())
+        Ok(Answer::new(alloc))
     }
 
     /// Adds what a main target supplies that is a source: `ENTRIES : CARRIED`.
@@ -56,7 +63,7 @@ impl Needs {
         alloc: Global,
         types: &Types,
         words: &[Word],
-    ) -> Result<(), CaseFault> {
+    ) -> Result<Answer, CaseFault> {
         self.sources.push(target_supply(alloc, types, words)?)?;
         self.add_part(alloc, types, words)
     }
@@ -67,12 +74,12 @@ impl Needs {
         alloc: Global,
         types: &Types,
         words: &[Word],
-    ) -> Result<(), CaseFault> {
+    ) -> Result<Answer, CaseFault> {
         for word in words {
             self.sources.push(file_supply(alloc, types, word)?)?;
             self.parts.push(file_supply(alloc, types, word)?)?;
         }
-        Ok(())
+        Ok(Answer::new(alloc))
     }
 }
 

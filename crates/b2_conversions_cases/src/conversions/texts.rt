@@ -7,6 +7,10 @@ use b2_base::text_list::TextList;
 use b2_evaluation::evaluate::Evaluate;
 use jam_eval::step::{StepJob, StepText};
 use std::alloc::Global;
+use transcript::answer::Answer;
+use transcript::case_fault::CaseFault;
+use transcript::command::Word;
+use transcript::words::own_texts;
 
 /// Why a step has no text.
 #[derive(Drop)]
@@ -80,6 +84,12 @@ impl Texts {
             without: TextList::new(alloc),
             noted: PathList::new(alloc),
         }
+    }
+
+    /// Puts names in the place of those of the steps that have no text.
+    pub fn put_names(&mut self, alloc: Global, words: &[Word]) -> Result<Answer, CaseFault> {
+        self.without = own_texts(alloc, words)?;
+        Ok(Answer::new(alloc))
     }
 }
 

@@ -32,12 +32,12 @@ fn push_list(
     if words.is_empty() {
         return Ok(());
     }
-    answer.push_line(listed_line(alloc, name, words)?.as_str())
+    answer.push_string(listed_line(alloc, name, words)?)
 }
 
 /// An answer whose line is a name and a word.
 fn headed(alloc: Global, name: &str, word: &str) -> Result<Answer, CaseFault> {
-    Answer::line(alloc, headed_line(alloc, name, word)?.as_str())
+    Answer::from_string(alloc, headed_line(alloc, name, word)?)
 }
 
 /// An answer whose line is a name, and a word where there is one.
@@ -61,7 +61,7 @@ fn kind_word(kind: Kind) -> &'static str {
 
 fn push_rule(alloc: Global, answer: &mut Answer, target: &MainTarget) -> Result<(), CaseFault> {
     match target.kind {
-        Kind::Make => answer.push_line(headed_line(alloc, "rule", target.rule.as_str())?.as_str()),
+        Kind::Make => answer.push_string(headed_line(alloc, "rule", target.rule.as_str())?),
         _ => Ok(()),
     }
 }
@@ -160,7 +160,7 @@ fn registered(alloc: Global, declaration: &Declaration) -> Result<Answer, CaseFa
 }
 
 fn names_line(alloc: Global, kind: &str, names: &[Text]) -> Result<Answer, CaseFault> {
-    Answer::line(alloc, listed_line(alloc, kind, names)?.as_str())
+    Answer::from_string(alloc, listed_line(alloc, kind, names)?)
 }
 
 /// A declaration in lines.

@@ -1,4 +1,8 @@
 //! Commands that show paths.
+ghost use Rattle.std.specs.Prelude.{IfSome};
+ghost use Rattle.std.specs.Option.{option_copied};
+ghost use Rattle.b2_base.specs.Bytes.{HasNoZero};
+
 use crate::answers::truth;
 use crate::outputs::shown::path_answer;
 use crate::words::plain;
@@ -11,23 +15,23 @@ use std::alloc::Global;
 use transcript::answer::Answer;
 use transcript::case_fault::CaseFault;
 use transcript::command::{Command, Word};
-use transcript::words::{both, halves, only, path, paths};
+use transcript::words::{both, first, halves, only, path, paths};
 
 fn shown(alloc: Global, made: Result<Path, OutOfMemory>) -> Result<Answer, CaseFault> {
     Answer::line(alloc, made?.as_str())
 }
 
+fn show_converted(alloc: Global, tail: &str, suffix: Option<&str>) -> Result<Answer, CaseFault>
+    requires { IfSome (option_copied suffix) HasNoZero }
+{
+    let tail = path(alloc, tail)?;
+    shown(alloc, converted_tail(alloc, &tail, suffix))
+}
+
 fn show_converted_tail(alloc: Global, words: &[Word]) -> Result<Answer, CaseFault> {
     match words {
-        [tail] => {
-            let tail = path(alloc, tail.as_str()?)?;
-            shown(alloc, converted_tail(alloc, &tail, None))
-        }
-        [tail, suffix] => {
-            let suffix = plain(suffix.as_str()?)?;
-            let tail = path(alloc, tail.as_str()?)?;
-            shown(alloc, converted_tail(alloc, &tail, Some(suffix)))
-        }
+        [tail] => show_converted(alloc, tail.as_str()?, None),
+        [tail, suffix] => show_converted(alloc, tail.as_str()?, Some(plain(suffix.as_str()?)?)),
         _ => Err(CaseFault::WrongWords),
     }
 }
@@ -46,19 +50,19 @@ fn show_output_path(alloc: Global, words: &[Word]) -> Result<Answer, CaseFault> 
     shown(alloc, output_path(alloc, elements, &tail))
 }
 
+fn show_location(alloc: Global, roots: &[Path], words: &[Word]) -> Result<Answer, CaseFault> {
+    let (dir, words) = first(words)?;
+    let (location, name) = both(words)?;
+    let location = plain(location)?;
+    let name = plain(name)?;
+    let dir = path(alloc, dir)?;
+    path_answer(alloc, location_path(alloc, roots, &dir, location, name))
+}
+
 fn show_location_path(alloc: Global, words: &[Word]) -> Result<Answer, CaseFault> {
     let (words, roots) = halves(words);
-    let [dir, location, name] = words else {
-        return Err(CaseFault::WrongWords);
-    };
-    let location = plain(location.as_str()?)?;
-    let name = plain(name.as_str()?)?;
     let roots = paths(alloc, roots)?;
-    let dir = path(alloc, dir.as_str()?)?;
-    path_answer(
-        alloc,
-        location_path(alloc, roots.as_slice(), &dir, location, name),
-    )
+    show_location(alloc, roots.as_slice(), words)
 }
 
 fn show_is_in_roots(alloc: Global, words: &[Word]) -> Result<Answer, CaseFault> {

@@ -54,7 +54,7 @@ pub fn steps_answer(alloc: Global, steps: &[Step]) -> Result<Answer, CaseFault> 
     let mut answer = Answer::new(alloc);
     for (place, step) in steps.iter().enumerate() {
         let line = step_line(alloc, place + 1, step)?;
-        answer.push_line(line.as_str())?;
+        answer.push_string(line)?;
     }
     Ok(answer)
 }

@@ -26,39 +26,40 @@ use transcript::case_fault::CaseFault;
 use transcript::command::Word;
 use transcript::words::{both, first, only, own_text, path, text, texts};
 
-/// A place and a word.
-fn placed(alloc: Global, words: &[Word]) -> Result<(usize, Text), CaseFault> {
-    let (at, word) = both(words)?;
+/// What a source names.
+fn meaning_of_source(alloc: Global, index: &Index, words: &[Word]) -> Result<Meaning, CaseFault> {
+    let (at, source) = both(words)?;
     let at = place(at)?;
-    Ok((at, own_text(alloc, word)?))
+    let source = text(alloc, source)?;
+    Ok(source_meaning(alloc, index, at, &source)?)
+}
+
+fn meaning_of_value(alloc: Global, index: &Index, words: &[Word]) -> Result<Meaning, CaseFault> {
+    let value = text(alloc, only(words)?)?;
+    Ok(value_meaning(alloc, index, &value)?)
+}
+
+fn meaning_of_word(alloc: Global, index: &Index, words: &[Word]) -> Result<Meaning, CaseFault> {
+    let word = text(alloc, only(words)?)?;
+    Ok(word_meaning(alloc, index, &word)?)
+}
+
+fn meaning_of_project(alloc: Global, index: &Index, words: &[Word]) -> Result<Meaning, CaseFault> {
+    Ok(project_meaning(alloc, index, place(only(words)?)?)?)
 }
 
 /// What a text or a project names.
-fn meaning_of(
-    alloc: Global,
-    index: &Index,
-    name: &str,
-    words: &[Word],
-) -> Result<Meaning, CaseFault> {
-    match name {
-        "source_meaning" => {
-            let (at, text) = placed(alloc, words)?;
-            Ok(source_meaning(alloc, index, at, &text)?)
-        }
-        "value_meaning" => {
-            let text = text(alloc, only(words)?)?;
-            Ok(value_meaning(alloc, index, &text)?)
-        }
-        "word_meaning" => {
-            let text = text(alloc, only(words)?)?;
-            Ok(word_meaning(alloc, index, &text)?)
-        }
-        _ => Ok(project_meaning(alloc, index, place(only(words)?)?)?),
-    }
+fn named(alloc: Global, index: &Index, name: &str, words: &[Word]) -> Result<Answer, CaseFault> {
+    let found = match name {
+        "source_meaning" => meaning_of_source(alloc, index, words),
+        "value_meaning" => meaning_of_value(alloc, index, words),
+        "word_meaning" => meaning_of_word(alloc, index, words),
+        _ => meaning_of_project(alloc, index, words),
+    };
+    shown(alloc, index, found?)
 }
 
-fn named(alloc: Global, index: &Index, name: &str, words: &[Word]) -> Result<Answer, CaseFault> {
-    let found = meaning_of(alloc, index, name, words)?;
+fn shown(alloc: Global, index: &Index, found: Meaning) -> Result<Answer, CaseFault> {
     let answer = meaning(alloc, index, &found);
     drop(found);
     answer
@@ -88,12 +89,14 @@ fn told_of_target(
     question: &str,
     words: &[Word],
 ) -> Result<Answer, CaseFault> {
-    let (place, name) = placed(alloc, words)?;
+    let (at, name) = both(words)?;
+    let at = place(at)?;
+    let name = text(alloc, name)?;
     match question {
-        "numbers" => numbers(alloc, index.numbers(place, &name)),
-        "alternatives" => targets(alloc, index.alternatives(place, &name)?.as_slice()),
-        "default_build" => pairs_line(alloc, index.default_build(place, &name)?),
-        _ => Answer::line(alloc, index.target_text(place, &name)?.as_str()),
+        "numbers" => numbers(alloc, index.numbers(at, &name)),
+        "alternatives" => targets(alloc, index.alternatives(at, &name)?.as_slice()),
+        "default_build" => pairs_line(alloc, index.default_build(at, &name)?),
+        _ => Answer::line(alloc, index.target_text(at, &name)?.as_str()),
     }
 }
 

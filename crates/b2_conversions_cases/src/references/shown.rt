@@ -22,7 +22,7 @@ pub fn numbers(alloc: Global, numbers: &[usize]) -> Result<Answer, CaseFault> {
     let mut answer = Answer::new(alloc);
     for number in numbers {
         let number = *number;
-        answer.push_line(format!(in alloc; "{number}")?.as_str())?;
+        answer.push_string(format!(in alloc; "{number}")?)?;
     }
     Ok(answer)
 }
@@ -79,7 +79,7 @@ pub fn meaning(alloc: Global, index: &Index, meaning: &Meaning) -> Result<Answer
     match meaning {
         Meaning::File { path } => {
             let path = path.as_str();
-            Answer::line(alloc, format!(in alloc; "file {path}")?.as_str())
+            Answer::from_string(alloc, format!(in alloc; "file {path}")?)
         }
         Meaning::Targets { names: all } => names(alloc, index, all.as_slice()),
         Meaning::Nothing => Answer::line(alloc, "nothing"),
@@ -106,7 +106,7 @@ fn piece(alloc: Global, index: &Index, piece: &Asked) -> Result<String, CaseFaul
 pub fn pieces(alloc: Global, index: &Index, pieces: &[Asked]) -> Result<Answer, CaseFault> {
     let mut answer = Answer::new(alloc);
     for one in pieces {
-        answer.push_line(piece(alloc, index, one)?.as_str())?;
+        answer.push_string(piece(alloc, index, one)?)?;
     }
     Ok(answer)
 }

@@ -49,7 +49,7 @@ fn stat(alloc: Global, host: &mut MemoryHost, words: &[Word]) -> Result<Answer, 
     let path = path(alloc, only(words)?)?;
     match host.stat(&path) {
         Ok(None) => Answer::line(alloc, "none"),
-        Ok(Some(stamp)) => Answer::line(alloc, format!(in alloc; "stamp {stamp}")?.as_str()),
+        Ok(Some(stamp)) => Answer::from_string(alloc, format!(in alloc; "stamp {stamp}")?),
         Err(Failed) => Answer::line(alloc, "Failed"),
     }
 }

@@ -38,7 +38,7 @@ fn push_file(
     let path = path.as_str();
     let bytes = shown(alloc, bytes)?;
     let bytes = bytes.as_str();
-    answer.push_line(format!(in alloc; "{stamp} {path} \"{bytes}\"")?.as_str())
+    answer.push_string(format!(in alloc; "{stamp} {path} \"{bytes}\"")?)
 }
 
 /// `files`: the files that stand, in order of stamps.
@@ -100,12 +100,12 @@ fn running(alloc: Global, host: &MemoryHost) -> Result<Answer, CaseFault> {
 
 /// What a start gave, and below it the inputs that stood then, with their bytes.
 fn push_given(alloc: Global, answer: &mut Answer, job: &Job) -> Result<(), CaseFault> {
-    answer.push_line(job_line(alloc, job)?.as_str())?;
+    answer.push_string(job_line(alloc, job)?)?;
     for entry in &job.held {
         let path = entry.path.as_str();
         let bytes = shown(alloc, entry.bytes.as_ref().as_slice())?;
         let bytes = bytes.as_str();
-        answer.push_line(format!(in alloc; "held {path} \"{bytes}\"")?.as_str())?;
+        answer.push_string(format!(in alloc; "held {path} \"{bytes}\"")?)?;
     }
     Ok(())
 }
@@ -123,7 +123,7 @@ fn given(alloc: Global, host: &MemoryHost) -> Result<Answer, CaseFault> {
 fn faults(alloc: Global, host: &MemoryHost) -> Result<Answer, CaseFault> {
     let calls = host.fault_count();
     let waits = host.failed_wait_count();
-    Answer::line(alloc, format!(in alloc; "{calls}, waits {waits}")?.as_str())
+    Answer::from_string(alloc, format!(in alloc; "{calls}, waits {waits}")?)
 }
 
 /// Carries out a command that looks at the host, or one on files. `reads` shows the paths of the reads that were answered.

@@ -69,7 +69,7 @@ impl HostAtHand {
         match command.name() {
             "write" => write(alloc, &mut self.sink, command.words()),
             "fail_at" => fail_at(alloc, &mut self.sink, command.words()),
-            "bytes" => Answer::line(alloc, shown(alloc, self.sink.bytes())?.as_str()),
+            "bytes" => Answer::from_string(alloc, shown(alloc, self.sink.bytes())?),
             "sink_faults" => Answer::number(alloc, self.sink.fault_count()),
             _ => text_command(alloc, &mut *self.host, command),
         }

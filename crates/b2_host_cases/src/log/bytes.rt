@@ -38,7 +38,7 @@ fn marked(alloc: Global, text: &str) -> Result<String, CaseFault> {
 /// Lines of a log, each as a line of the answer, with `␉` for a tab and `␊` for a line feed.
 pub fn lines_answer(alloc: Global, bytes: &[u8]) -> Result<Answer, CaseFault> {
     let Ok(text) = str::from_utf8(bytes) else {
-        return Answer::line(alloc, shown(alloc, bytes)?.as_str());
+        return Answer::from_string(alloc, shown(alloc, bytes)?);
     };
     let mut answer = Answer::new(alloc);
     answer.push_text(marked(alloc, text)?.as_str())?;

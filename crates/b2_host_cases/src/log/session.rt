@@ -29,7 +29,7 @@ fn prefixes_answer(alloc: Global, bytes: &[u8]) -> Result<Answer, CaseFault> {
         let good = read_log(alloc, &bytes[..end])?.good();
         if last != Some(good) {
             let line = format!(in alloc; "from {end} bytes on {good} are good")?;
-            answer.push_line(line.as_str())?;
+            answer.push_string(line)?;
         }
         last = Some(good);
     }
@@ -89,7 +89,7 @@ impl LogAtHand {
         let good = self.log.good();
         let all = bytes.len();
         let line = format!(in alloc; "{good} of {all} bytes are good")?;
-        Answer::line(alloc, line.as_str())
+        Answer::from_string(alloc, line)
     }
 
     fn good(&self, alloc: Global, words: &[Word]) -> Result<Answer, CaseFault> {

@@ -32,13 +32,13 @@ fn command_line(alloc: Global, command: Asked) -> Result<String, CaseFault> {
 fn push_word(alloc: Global, answer: &mut Answer, word: &Text) -> Result<(), CaseFault> {
     let word = word.as_str();
     let line = format!(in alloc; "<{word}>")?;
-    answer.push_line(line.as_str())
+    answer.push_string(line)
 }
 
 /// What the words ask for, and below it each word that is no option.
 pub fn words_shown(alloc: Global, words: &Words) -> Result<Answer, CaseFault> {
     let line = command_line(alloc, words.command)?;
-    let mut answer = Answer::line(alloc, line.as_str())?;
+    let mut answer = Answer::from_string(alloc, line)?;
     for word in words.words.as_slice() {
         push_word(alloc, &mut answer, word)?;
     }

@@ -42,7 +42,7 @@ pub fn pairs_or_none(alloc: Global, found: Option<&[(Text, Text)]>) -> Result<An
 pub fn push_targets(answer: &mut Answer, alloc: Global, targets: &[Text]) -> Result<(), CaseFault> {
     for target in targets {
         let target = target.as_str();
-        answer.push_line(format!(in alloc; "target {target}")?.as_str())?;
+        answer.push_string(format!(in alloc; "target {target}")?)?;
     }
     Ok(())
 }

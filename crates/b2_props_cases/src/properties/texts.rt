@@ -48,13 +48,13 @@ fn conditional(alloc: Global, read: &Conditional) -> Result<String, CaseFault> {
 }
 
 fn conditional_line(alloc: Global, read: &Conditional) -> Result<Answer, CaseFault> {
-    Answer::line(alloc, conditional(alloc, read)?.as_str())
+    Answer::from_string(alloc, conditional(alloc, read)?)
 }
 
 fn conditional_lines(alloc: Global, read: &[Conditional]) -> Result<Answer, CaseFault> {
     let mut answer = Answer::new(alloc);
     for usage in read {
-        answer.push_line(conditional(alloc, usage)?.as_str())?;
+        answer.push_string(conditional(alloc, usage)?)?;
     }
     Ok(answer)
 }
@@ -64,7 +64,7 @@ fn requirement_line(alloc: Global, read: &RequirementText) -> Result<Answer, Cas
         RequirementText::Plain(plain) => conditional_line(alloc, plain),
         RequirementText::Indirect(rule) => {
             let rule = rule.as_str();
-            Answer::line(alloc, format!(in alloc; "rule {rule}")?.as_str())
+            Answer::from_string(alloc, format!(in alloc; "rule {rule}")?)
         }
     }
 }

@@ -21,10 +21,7 @@ fn chain_line(alloc: Global, chain: &GenChain) -> Result<Answer, CaseFault> {
 fn no_chain(alloc: Global, from: &Text, to: &Text) -> Result<Answer, CaseFault> {
     let from = from.as_str();
     let to = to.as_str();
-    Answer::line(
-        alloc,
-        format!(in alloc; "no chain from {from} to {to}")?.as_str(),
-    )
+    Answer::from_string(alloc, format!(in alloc; "no chain from {from} to {to}")?)
 }
 
 fn two_chains(
@@ -40,7 +37,7 @@ fn two_chains(
     push_texts(&mut line, first)?;
     line.push(';')?;
     push_texts(&mut line, second)?;
-    Answer::line(alloc, line.as_str())
+    Answer::from_string(alloc, line)
 }
 
 fn refused(alloc: Global, fault: &ChainFault) -> Result<Answer, CaseFault> {

@@ -121,7 +121,7 @@ fn refused(alloc: Global, fault: &RefineFault<RuleFault>) -> Result<Answer, Case
         RefineFault::Unstable { first, second } => unstable_lines(alloc, first, second),
         RefineFault::Asked(RuleFault::Word(word)) => {
             let word = word.as_str();
-            Answer::line(alloc, format!(in alloc; "asked {word}")?.as_str())
+            Answer::from_string(alloc, format!(in alloc; "asked {word}")?)
         }
         RefineFault::Asked(RuleFault::OutOfMemory) => Err(CaseFault::OutOfMemory),
         RefineFault::OutOfMemory => Err(CaseFault::OutOfMemory),
@@ -151,10 +151,10 @@ pub fn evaluated(
 
 pub fn chosen(alloc: Global, conditions: &[PairList], full: &Props) -> Result<Answer, CaseFault> {
     match choose(conditions, full) {
-        Choice::One(i) => Answer::line(alloc, format!(in alloc; "one {i}")?.as_str()),
+        Choice::One(i) => Answer::from_string(alloc, format!(in alloc; "one {i}")?),
         Choice::None => Answer::line(alloc, "none"),
         Choice::Ambiguous { i, k } => {
-            Answer::line(alloc, format!(in alloc; "ambiguous {i} {k}")?.as_str())
+            Answer::from_string(alloc, format!(in alloc; "ambiguous {i} {k}")?)
         }
     }
 }

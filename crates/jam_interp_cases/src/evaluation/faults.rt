@@ -98,7 +98,7 @@ pub fn push_fault(alloc: Global, answer: &mut Answer, fault: &EvalFault) -> Resu
         EvalFault::At { path, line, cause } => {
             let why = cause_text(alloc, cause)?;
             let (path, why) = (path.as_str(), why.as_str());
-            answer.push_line(format!(in alloc; "{path}:{line}: {why}")?.as_str())
+            answer.push_string(format!(in alloc; "{path}:{line}: {why}")?)
         }
     }
 }

@@ -29,7 +29,7 @@ fn push_value(
     name: &str,
     value: &[Text],
 ) -> Result<(), CaseFault> {
-    answer.push_line(line_of(alloc, name, value)?.as_str())
+    answer.push_string(line_of(alloc, name, value)?)
 }
 
 /// What variables hold in the present module.
@@ -99,7 +99,7 @@ fn decl_line(alloc: Global, decl: &Decl) -> Result<String, CaseFault> {
 pub fn decls(alloc: Global, natives: &JamNatives) -> Result<Answer, CaseFault> {
     let mut answer = Answer::new(alloc);
     for decl in natives.decls() {
-        answer.push_line(decl_line(alloc, decl)?.as_str())?;
+        answer.push_string(decl_line(alloc, decl)?)?;
     }
     Ok(answer)
 }

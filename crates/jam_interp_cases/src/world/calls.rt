@@ -23,10 +23,7 @@ fn each_answer(
     let rule = line_of(alloc, rule.as_slice())?;
     let items = line_of(alloc, items.as_slice())?;
     let (rule, items) = (rule.as_str(), items.as_str());
-    Answer::line(
-        alloc,
-        format!(in alloc; "{what} by {rule}: {items}")?.as_str(),
-    )
+    Answer::from_string(alloc, format!(in alloc; "{what} by {rule}: {items}")?)
 }
 
 fn step_answer(alloc: Global, step: &NativeStep) -> Result<Answer, CaseFault> {
@@ -35,7 +32,7 @@ fn step_answer(alloc: Global, step: &NativeStep) -> Result<Answer, CaseFault> {
         NativeStep::Value(texts) => Answer::texts(alloc, texts.as_slice()),
         NativeStep::Exit(text) => {
             let text = text.as_str();
-            Answer::line(alloc, format!(in alloc; "exit \"{text}\"")?.as_str())
+            Answer::from_string(alloc, format!(in alloc; "exit \"{text}\"")?)
         }
         NativeStep::Each {
             rule,
@@ -49,20 +46,17 @@ fn fault_answer(alloc: Global, fault: &NativeFault) -> Result<Answer, CaseFault>
     match fault {
         NativeFault::PatternRefused { refusal } => {
             let text = refusal.text();
-            Answer::line(alloc, format!(in alloc; "refused pattern {text}")?.as_str())
+            Answer::from_string(alloc, format!(in alloc; "refused pattern {text}")?)
         }
         NativeFault::NoSuchRule { module, name } => {
             let (module, name) = (module.as_str(), name.as_str());
-            Answer::line(
-                alloc,
-                format!(in alloc; "no rule {name} in [{module}]")?.as_str(),
-            )
+            Answer::from_string(alloc, format!(in alloc; "no rule {name} in [{module}]")?)
         }
         NativeFault::DependsElsewhere { rule, text } => {
             let (rule, text) = (rule.as_str(), text.as_str());
-            Answer::line(
+            Answer::from_string(
                 alloc,
-                format!(in alloc; "{rule} on a foreign target \"{text}\"")?.as_str(),
+                format!(in alloc; "{rule} on a foreign target \"{text}\"")?,
             )
         }
     }
@@ -110,13 +104,13 @@ fn call(alloc: Global, scene: &mut Scene, words: &[Word]) -> Result<Answer, Case
 fn push_list(alloc: Global, answer: &mut Answer, list: &TextList) -> Result<(), CaseFault> {
     let list = line_of(alloc, list.as_slice())?;
     let list = list.as_str();
-    answer.push_line(format!(in alloc; ": {list}")?.as_str())
+    answer.push_string(format!(in alloc; ": {list}")?)
 }
 
 fn push_decl(alloc: Global, answer: &mut Answer, decl: &Decl) -> Result<(), CaseFault> {
     let (rule, module) = (decl.rule.as_str(), decl.module.as_str());
     let (dir, line) = (decl.dir.as_str(), decl.line);
-    answer.push_line(format!(in alloc; "{rule} in [{module}] of {dir}, line {line}")?.as_str())?;
+    answer.push_string(format!(in alloc; "{rule} in [{module}] of {dir}, line {line}")?)?;
     for list in decl.lists.as_slice() {
         push_list(alloc, answer, list)?;
     }

@@ -17,7 +17,7 @@ fn foreign_answer(
         None => Answer::line(alloc, "none"),
         Some(text) => {
             let text = text.as_str();
-            Answer::line(alloc, format!(in alloc; "foreign \"{text}\"")?.as_str())
+            Answer::from_string(alloc, format!(in alloc; "foreign \"{text}\"")?)
         }
     }
 }

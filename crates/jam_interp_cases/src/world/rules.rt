@@ -52,7 +52,7 @@ fn find_rule(alloc: Global, world: &World, words: &[Word]) -> Result<Answer, Cas
     let RuleRef { module, name } = at;
     let line = body.line();
     let shown = format!(in alloc; "[{module}] {name}, home [{home}], line {line}")?;
-    Answer::line(alloc, shown.as_str())
+    Answer::from_string(alloc, shown)
 }
 
 fn find_actions(alloc: Global, world: &World, words: &[Word]) -> Result<Answer, CaseFault> {
@@ -65,7 +65,7 @@ fn find_actions(alloc: Global, world: &World, words: &[Word]) -> Result<Answer, 
     let RuleRef { module, name } = at;
     let body = actions.text().as_str();
     let shown = format!(in alloc; "[{module}] {name}: {body}")?;
-    Answer::line(alloc, shown.as_str())
+    Answer::from_string(alloc, shown)
 }
 
 fn rule_body(alloc: Global, world: &World, words: &[Word]) -> Result<Answer, CaseFault> {
@@ -75,7 +75,7 @@ fn rule_body(alloc: Global, world: &World, words: &[Word]) -> Result<Answer, Cas
     };
     let line = body.line();
     let shown = format!(in alloc; "home [{home}], line {line}")?;
-    Answer::line(alloc, shown.as_str())
+    Answer::from_string(alloc, shown)
 }
 
 fn import_rule(alloc: Global, world: &mut World, words: &[Word]) -> Result<Answer, CaseFault> {
@@ -94,7 +94,7 @@ fn rule_line(alloc: Global, rule: &Rule) -> Result<Answer, CaseFault> {
     let shown = format!(in alloc;
         "home [{home}], {path}:{line}, {lists} lists, {statements} statements"
     )?;
-    Answer::line(alloc, shown.as_str())
+    Answer::from_string(alloc, shown)
 }
 
 /// A share of a rule, after its name was defined anew in the present module.

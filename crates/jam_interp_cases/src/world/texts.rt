@@ -43,7 +43,7 @@ fn groups_answer(
         Err(PatternFault::Refused(refusal)) => {
             let text = refusal.text();
             let why = if refusal.syntax() { "no" } else { "refused" };
-            Answer::line(alloc, format!(in alloc; "{why} pattern {text}")?.as_str())
+            Answer::from_string(alloc, format!(in alloc; "{why} pattern {text}")?)
         }
         Err(PatternFault::OutOfMemory) => Err(CaseFault::OutOfMemory),
     }
