@@ -23,11 +23,11 @@ use Rattle.b2_conversions.specs.declared.fault.MakingFault.{MakingFault}
 use Rattle.b2_conversions.specs.declared.fault.MakingFault.TheVariants as making
 use Rattle.b2_generate.specs.declared.fault.GenFault.{GenFault}
 use Rattle.b2_generate.specs.declared.fault.GenFault.TheVariants as generating
-use Rattle.b2_generate.specs.declared.planned.Planned.{Planned as Made}
+use Rattle.b2_planning.specs.declared.planned.Planned.{Planned as Made}
 use Rattle.b2_generate.specs.Faults.{Fault, not_chosen, not_made}
 use Rattle.b2_generate.specs.Loaded.{Loaded}
 use Rattle.b2_generate.specs.Planning.{Planned, Plans}
-use Rattle.b2_generate.specs.Plans.{IsPlanned}
+use Rattle.b2_planning.specs.Plans.{IsPlanned}
 use Rattle.b2_generate.specs.Told.{unless, fault_of, loaded_of, IsRefusal, IsKnown, is_eval, is_memory as is_of_memory}
 use Rattle.b2_loaded.specs.Faults.{is_host_fault, is_out_of_memory, is_host, is_memory}
 use Rattle.b2_loaded.specs.Held.{Given, CanEndWithGiven}

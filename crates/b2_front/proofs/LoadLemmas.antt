@@ -21,7 +21,7 @@ use Rattle.b2_walk.specs.Walks.{Walk, Refusal as LoadRefusal}
 use Rattle.b2_project.specs.declared.project.Project.{Project}
 use Rattle.b2_project.specs.Loading.{HasPlaces, IsProject, IsRefused, IsLoaded, TellsLoad}
 use Rattle.b2_project.specs.Loads.{Loads, loaded}
-use Rattle.b2_generate.specs.declared.planned.Planned.{Planned as Made}
+use Rattle.b2_planning.specs.declared.planned.Planned.{Planned as Made}
 use Rattle.b2_generate.specs.Loaded.{Loaded}
 use Rattle.b2_generate.specs.Planning.{Planned}
 use Rattle.b2_front.specs.declared.refusal.Stop.{Stop}

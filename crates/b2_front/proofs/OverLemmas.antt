@@ -12,8 +12,8 @@ use Rattle.b2_metatargets.specs.declared.place.Place.{Place}
 use Rattle.b2_metatargets.specs.declared.whole.Declared.{Declared}
 use Rattle.b2_evaluation.specs.Answers.{Answers, IsCounted}
 use Rattle.b2_generate.specs.declared.fault.GenFault.{GenFault}
-use Rattle.b2_generate.specs.declared.planned.Planned.{Planned as Made}
-use Rattle.b2_generate.specs.Plans.{IsPlanned}
+use Rattle.b2_planning.specs.declared.planned.Planned.{Planned as Made}
+use Rattle.b2_planning.specs.Plans.{IsPlanned}
 use Rattle.b2_generate.specs.Told.{loaded_of, is_eval, is_memory}
 use Rattle.b2_loaded.specs.Faults.{is_host_fault, is_out_of_memory}
 use Rattle.b2_loaded.specs.Worlds.{told_in}

@@ -25,11 +25,11 @@ use Rattle.b2_walk.specs.Faults.{IsWhole as IsWholeLoad}
 use Rattle.b2_walk.specs.Finding.{CountsFault as CountsLoad}
 use Rattle.b2_generate.specs.declared.fault.GenFault.{GenFault}
 use Rattle.b2_generate.specs.declared.fault.GenFault.TheVariants as generating
-use Rattle.b2_generate.specs.declared.planned.Planned.{Planned as Made}
+use Rattle.b2_planning.specs.declared.planned.Planned.{Planned as Made}
 use Rattle.b2_generate.specs.Faults.{Fault, not_chosen, not_made}
 use Rattle.b2_generate.specs.Loaded.{Loaded}
 use Rattle.b2_generate.specs.Planning.{Plans}
-use Rattle.b2_generate.specs.Plans.{IsPlanned}
+use Rattle.b2_planning.specs.Plans.{IsPlanned}
 use Rattle.b2_generate.specs.Told.{unless, fault_of, IfFault, IsKnown, is_eval, is_memory}
 use Rattle.b2_loaded.specs.Faults.{is_host_fault, is_out_of_memory}
 use Rattle.b2_front.specs.declared.refusal.Refusal.{Refusal as Why}

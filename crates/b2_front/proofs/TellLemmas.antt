@@ -12,9 +12,9 @@ use Rattle.b2_walk.specs.declared.fault.LoadFault.TheVariants as loading
 use Rattle.b2_walk.specs.Faults.{refused_by}
 use Rattle.b2_generate.specs.declared.fault.GenFault.{GenFault}
 use Rattle.b2_generate.specs.declared.fault.GenFault.TheVariants as generating
-use Rattle.b2_generate.specs.declared.planned.Planned.{Planned as Made}
+use Rattle.b2_planning.specs.declared.planned.Planned.{Planned as Made}
 use Rattle.b2_generate.specs.Planning.{Planned}
-use Rattle.b2_generate.specs.Plans.{seen}
+use Rattle.b2_planning.specs.Plans.{seen}
 use Rattle.b2_generate.specs.Told.{IsKnown}
 use Rattle.b2_front.specs.declared.refusal.Refusal.{Refusal as Why}
 use Rattle.b2_front.specs.declared.refusal.Refusal.TheVariants as refusals

@@ -18,10 +18,10 @@ use Rattle.b2_walk.specs.declared.fault.LoadFault.{LoadFault}
 use Rattle.b2_project.specs.declared.project.Project.{Project}
 use Rattle.b2_project.specs.Loading.{HasPlaces}
 use Rattle.b2_generate.specs.declared.fault.GenFault.{GenFault}
-use Rattle.b2_generate.specs.declared.planned.Planned.{Planned as Made}
+use Rattle.b2_planning.specs.declared.planned.Planned.{Planned as Made}
 use Rattle.b2_generate.specs.Loaded.{Loaded}
 use Rattle.b2_generate.specs.Planning.{Planned, Plans}
-use Rattle.b2_generate.specs.Plans.{IsPlanOf}
+use Rattle.b2_planning.specs.Plans.{IsPlanOf}
 use Rattle.b2_front.specs.declared.refusal.Stop.{Stop}
 use Rattle.b2_front.specs.Meaning.{Refusal, of_load, of_request, of_generation, project_of, Refuses}
 use Rattle.b2_front.specs.Refusals.{stop_of_load, stop_of_generation}

@@ -10,8 +10,8 @@ use b2_base::fault::OutOfMemory;
 use b2_base::path_list::PathList;
 use b2_evaluation::evaluate::Evaluate;
 use b2_generate::fault::GenFault;
-use b2_generate::plan::{Answered, plan};
 use b2_metatargets::whole::Declared;
+use b2_planning::plan::{Answered, plan};
 use b2_props::request::Request;
 use std::alloc::Global;
 

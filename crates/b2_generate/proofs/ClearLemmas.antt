@@ -8,7 +8,7 @@ use Rattle.b2_references.specs.Names.{Name, is_among}
 use Rattle.b2_generate.specs.Clear.{IsClear, is_marked, MarksStay, AreMarked, AreClearBefore, Passes}
 use Rattle.b2_generate.specs.Laws.{AreClosed}
 use Rattle.b2_generate.specs.Nodes.{entry_in, AreDated, AreLate}
-use Rattle.b2_generate.specs.TableRows.{rows_at, is_before}
+use Rattle.b2_generate.specs.Places.{rows_at, is_before}
 use Rattle.b2_generate.specs.declared.node.Node.{Node}
 use Rattle.b2_generate.proofs.GatherLemmas.{further_at}
 use Rattle.b2_generate.proofs.NameFacts.{same}

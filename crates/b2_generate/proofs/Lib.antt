@@ -3,7 +3,7 @@ mod RememberLemmas
 mod MeasureLemmas
 mod TurnLemmas
 mod OneLemmas
-mod NodeLemmas
+pub mod NodeLemmas
 mod AgainLemmas
 mod NameKeys
 mod MachineLemmas
@@ -11,11 +11,11 @@ mod TakingLemmas
 mod MakingLemmas
 mod GatherLemmas
 mod MadeLemmas
-mod NameFacts
+pub mod NameFacts
 mod DateLemmas
 mod ExitLemmas
 mod OpeningLemmas
-mod LeadLemmas
+pub mod LeadLemmas
 mod GoLemmas
 mod LawLemmas
 mod StepLemmas
@@ -26,11 +26,6 @@ mod DoneLemmas
 mod RequestLemmas
 mod AddLemmas
 mod PieceLemmas
-mod PlanLemmas
 mod PlanLaws
-mod PlaceLemmas
-mod RowKeys
-mod RowLemmas
-mod WalkLemmas
-mod WalkSteps
+pub mod PlaceLemmas
 mod ClearLemmas

@@ -7,7 +7,7 @@ use Rattle.std.proofs.lemmas.List.{reverse-reverse}
 use Rattle.b2_generate.specs.Answers.{Row}
 use Rattle.b2_generate.specs.declared.node.Node.{Node}
 use Rattle.b2_generate.specs.Nodes.{entry_in, given_by, node_in, row_of}
-use Rattle.b2_generate.specs.TableRows.{rows_at, is_before, children_at, children_left}
+use Rattle.b2_generate.specs.Places.{rows_at, is_before, children_at, children_left}
 use Rattle.b2_generate.proofs.NodeLemmas.{entry_older, node_at}
 
 -- a node of the code is the one at its place

@@ -20,6 +20,6 @@ pub mod Making
 pub mod Turning
 pub mod Generating
 pub mod Pieces
-pub mod Plans
-pub mod TableRows
+pub mod Wholes
+pub mod Places
 pub mod Clear

@@ -20,10 +20,10 @@ use std::alloc::Global;
 
 /// What was generated, in order of completion, and the places of the first and of the newest node of each main target.
 #[derive(Drop)]
-pub(crate) struct Nodes {
-    pub(crate) list: Vec<Node>,
-    pub(crate) firsts: NameTable<usize>,
-    pub(crate) newest: NameTable<usize>,
+pub struct Nodes {
+    pub list: Vec<Node>,
+    pub firsts: NameTable<usize>,
+    pub newest: NameTable<usize>,
 }
 
 /// What is noted with a node.
@@ -142,7 +142,7 @@ fn note_newest(
 
 impl Nodes {
     /// Nothing was generated; takes no memory.
-    pub(crate) fn new(alloc: Global) -> Nodes
+    pub fn new(alloc: Global) -> Nodes
         ensures list { result.list.items ≡ [] }
         ensures firsts { result.firsts ≡ finite.empty }
     {

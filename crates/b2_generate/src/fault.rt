@@ -1,6 +1,6 @@
 //! Why a request has no plan.
 ghost use Rattle.std.specs.Prelude.{◌≡◌};
-ghost use Rattle.b2_generate.specs.Plans.{whole_choice, whole_making, whole_fault};
+ghost use Rattle.b2_generate.specs.Wholes.{whole_choice, whole_making, whole_fault};
 ghost use Rattle.b2_generate.specs.declared.fault.GenFault.TheVariants as faults;
 
 use b2_alternatives::fault::ChoiceFault;
@@ -57,7 +57,7 @@ fn whole_making<F: Drop>(fault: MakingFault<F>) -> GenFault<F>
 
 impl<F: Drop> GenFault<F> {
     /// The same fault, in which out of memory of a crate below is that of this one.
-    pub(crate) fn whole(self) -> GenFault<F>
+    pub fn whole(self) -> GenFault<F>
         ensures { result ≡ whole_fault self }
     {
         match self {

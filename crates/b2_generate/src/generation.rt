@@ -29,11 +29,11 @@ use std::alloc::Global;
 
 /// A generation under way: the output roots, who is asked for the project's own text, the steps so far, and what was generated.
 #[derive(Drop)]
-pub(crate) struct Generation<'a, E: Evaluate + Drop> {
-    pub(crate) roots: &'a [Path],
-    pub(crate) asker: Asker<'a, E>,
-    pub(crate) builder: Builder,
-    pub(crate) nodes: Nodes,
+pub struct Generation<'a, E: Evaluate + Drop> {
+    pub roots: &'a [Path],
+    pub asker: Asker<'a, E>,
+    pub builder: Builder,
+    pub nodes: Nodes,
 }
 
 /// The place at which an open main target was generated first, or the earliest one of those below it, where that is smaller.

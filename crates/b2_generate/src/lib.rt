@@ -1,20 +1,17 @@
-//! Generation: what main targets give with sets of properties, the steps that make it, and the plan of a request.
+//! Generation: what main targets give with sets of properties, and the steps that make it.
 #![tactic(auto)]
 
 mod clear;
-mod completing;
+pub mod completing;
 pub mod fault;
 mod frame;
-mod generation;
+pub mod generation;
 pub mod laws;
-mod making;
-mod name_table;
-mod node;
+pub mod making;
+pub mod name_table;
+pub mod node;
 mod opening;
-mod pieces;
-pub mod plan;
-pub mod planned;
+pub mod pieces;
 mod stack;
 mod supplies;
-mod table;
 mod taking;

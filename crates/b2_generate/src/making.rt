@@ -90,7 +90,7 @@ fn empty_text(alloc: Global) -> Text
 }
 
 /// Adds the paths of some files.
-pub(crate) fn push_paths(paths: &mut PathList, entries: &[Entry]) -> Result<(), OutOfMemory>
+pub fn push_paths(paths: &mut PathList, entries: &[Entry]) -> Result<(), OutOfMemory>
     ensures { OnOk result (paths.new ≡ paths.old ++ map (λ e. e.path) entries.now) }
 {
     for entry in entries {

@@ -11,9 +11,16 @@ use std::collections::BTreeMap;
 use std::marker::Model;
 
 /// One value for each of some main targets, seen as a finite map from their names.
-#[derive(Drop)]
-pub(crate) struct NameTable<V: Drop> {
+pub struct NameTable<V: Drop> {
     values: BTreeMap<(usize, Text), V>,
+}
+
+/// By hand, so that dropping one is one call.
+impl<V: Drop> Drop for NameTable<V> {
+    fn drop(self) {
+        let NameTable { values } = self;
+        drop(values);
+    }
 }
 
 impl<V: Drop> Model for NameTable<V> {

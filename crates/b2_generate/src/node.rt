@@ -7,22 +7,22 @@ use b2_supplies::entry::Supply;
 
 /// A main target that was generated. Nodes have places, from 0, in order of completion.
 #[derive(Drop)]
-pub(crate) struct Node {
-    pub(crate) name: TargetName,
+pub struct Node {
+    pub name: TargetName,
     /// The set that it was asked for with.
-    pub(crate) asked: Props,
+    pub asked: Props,
     /// The number of its alternative, from 1.
-    pub(crate) number: usize,
+    pub number: usize,
     /// The final set of its properties.
-    pub(crate) set: Props,
+    pub set: Props,
     /// Its files and the libraries that it carries on.
-    pub(crate) supply: Supply,
+    pub supply: Supply,
     /// Its usage requirements.
-    pub(crate) usage: PairList,
+    pub usage: PairList,
     /// The places of what was generated for it, in order.
-    pub(crate) children: List<usize>,
+    pub children: List<usize>,
     /// Each main target that was opened for it, it among them, was generated first at this place or before it.
-    pub(crate) latest: usize,
+    pub latest: usize,
     /// The place of the node before it that is of the same main target.
-    pub(crate) previous: Option<usize>,
+    pub previous: Option<usize>,
 }

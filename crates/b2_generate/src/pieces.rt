@@ -29,7 +29,7 @@ fn give<'a, E: Evaluate + Drop>(
 /// The places of what pieces give, in order, up to the first refusal. A main target that an earlier piece asked for with the same
 /// set is generated again, and no step is new.
 #[tactic(none)]
-pub(crate) fn give_all<'a, E: Evaluate + Drop>(
+pub fn give_all<'a, E: Evaluate + Drop>(
     generation: &mut Generation<'a, E>,
     pieces: AskedList,
 ) -> Result<List<usize>, GenFault<E::Fault>>

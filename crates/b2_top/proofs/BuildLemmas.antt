@@ -15,8 +15,8 @@ use Rattle.b2_front.specs.declared.refusal.Refusal.TheVariants as refusals
 use Rattle.b2_front.specs.declared.refusal.Stop.{Stop}
 use Rattle.b2_front.specs.declared.refusal.Stop.TheVariants as stops
 use Rattle.b2_generate.specs.Planning as planning
-use Rattle.b2_generate.specs.Plans.{seen}
-use Rattle.b2_generate.specs.declared.planned.Planned.{Planned}
+use Rattle.b2_planning.specs.Plans.{seen}
+use Rattle.b2_planning.specs.declared.planned.Planned.{Planned}
 use Rattle.b2_host.specs.ChildProcesses.{Family, BothTold}
 use Rattle.b2_host.specs.Disks.{Disk}
 use Rattle.b2_host.specs.Outside.{Outside}

@@ -14,8 +14,8 @@ use Rattle.b2_front.specs.Laws.{OneMeaning}
 use Rattle.b2_front.specs.Meaning.{Refusal, Means}
 use Rattle.b2_front.specs.Preparing.{IsPrepared}
 use Rattle.b2_generate.specs.Planning as planning
-use Rattle.b2_generate.specs.Plans.{seen}
-use Rattle.b2_generate.specs.declared.planned.Planned.{Planned}
+use Rattle.b2_planning.specs.Plans.{seen}
+use Rattle.b2_planning.specs.declared.planned.Planned.{Planned}
 use Rattle.b2_host.specs.ChildProcesses.{Family, BothTold}
 use Rattle.b2_host.specs.Disks.{Disk}
 use Rattle.b2_host.specs.Faults.{Rose}

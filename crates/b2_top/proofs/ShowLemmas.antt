@@ -6,8 +6,8 @@ use Rattle.b2_host.specs.Faults.{Rose}
 use Rattle.b2_host.specs.Outside.{Outside}
 use Rattle.b2_host.specs.Output.{Output}
 use Rattle.b2_words.specs.Words.{Word}
-use Rattle.b2_generate.specs.declared.planned.Planned.{Planned as Made}
-use Rattle.b2_generate.specs.Plans.{seen}
+use Rattle.b2_planning.specs.declared.planned.Planned.{Planned as Made}
+use Rattle.b2_planning.specs.Plans.{seen}
 use Rattle.b2_front.specs.Laws.{OneMeaning}
 use Rattle.b2_front.specs.Meaning.{Means}
 use Rattle.b2_front.specs.Preparing.{IsPrepared, IsWhole as IsWholeStop, Counts}

@@ -3,7 +3,7 @@ use Rattle.std.specs.Prelude.{ℕ, List, ◌++◌, Option, Some, None}
 use Rattle.std.specs.Option.{option_map}
 use Rattle.std.specs.List.{flat_map}
 use Rattle.b2_generate.specs.Planning.{Line, Planned}
-use Rattle.b2_generate.specs.declared.planned.Built.{Built}
+use Rattle.b2_planning.specs.declared.planned.Built.{Built}
 use Rattle.b2_plan.specs.declared.step.Step.{Step}
 use Rattle.b2_refusals.specs.Lines.{table_line, step_lines}
 use Rattle.b2_words.specs.Words.{Word, reading}

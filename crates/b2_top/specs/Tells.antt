@@ -2,8 +2,8 @@
 use Rattle.std.specs.Prelude.{ℕ, List, Result, Ok, Err}
 use Rattle.b2_host.specs.Output.{Output}
 use Rattle.b2_words.specs.declared.words.View.{View}
-use Rattle.b2_generate.specs.declared.planned.Planned.{Planned}
-use Rattle.b2_generate.specs.Plans.{seen}
+use Rattle.b2_planning.specs.declared.planned.Planned.{Planned}
+use Rattle.b2_planning.specs.Plans.{seen}
 use Rattle.b2_front.specs.declared.refusal.Stop.{Stop}
 use Rattle.b2_top.specs.declared.answer.Answer.{Answer}
 use Rattle.b2_top.specs.declared.answer.Answer.TheVariants as answers

@@ -1,7 +1,7 @@
 //! What the answer of a look is, and what is written with it.
 ghost use Rattle.std.specs.Prelude.{IfErr};
 ghost use Rattle.b2_front.specs.Preparing.{IsWhole as IsWholeStop};
-ghost use Rattle.b2_generate.specs.Plans.{seen};
+ghost use Rattle.b2_planning.specs.Plans.{seen};
 ghost use Rattle.b2_top.specs.Writing.{Says};
 ghost use Rattle.b2_top.specs.Looks.{look_report};
 ghost use Rattle.b2_top.specs.Tells.{AnswersWith};
@@ -11,8 +11,8 @@ use crate::look_lines::write_look;
 use crate::tell::{tell_stop, unwritten};
 use b2_base::text::Text;
 use b2_front::prepare::Prepared;
-use b2_generate::planned::Planned;
 use b2_host::sink::Sink;
+use b2_planning::planned::Planned;
 use b2_words::words::View;
 use std::alloc::Global;
 

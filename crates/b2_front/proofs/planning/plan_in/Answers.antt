@@ -1,7 +1,7 @@
 use Rattle.std.proofs.Common.{◌≡◌, refl, sym, subst, ◌∙◌, codes}
 use Rattle.std.specs.Prelude.{IfOk}
 use Rattle.std.specs.List.{Contains}
-use Rattle.b2_generate.specs.Plans.{IsPlanOf}
+use Rattle.b2_planning.specs.Plans.{IsPlanOf}
 use Rattle.b2_front.proofs.planning.plan_in.Goals as goal
 
 pub plan-requires-clause-numbered : goal.plan-requires-clause-numbered

@@ -54,9 +54,3 @@ returns-clause-project g c = c.loop-piece.invariant.1
 
 pub returns-clause-roots : goal.returns-clause-roots
 returns-clause-roots g c = c.loop-piece.invariant.2
-
-pub same-places : goal.same-places
-same-places g c = refl
-
-pub same-places-in-Continue-branch-2 : goal.same-places-in-Continue-branch-2
-same-places-in-Continue-branch-2 g c = refl

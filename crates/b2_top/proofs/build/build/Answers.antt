@@ -1,7 +1,7 @@
 use Rattle.std.proofs.Common.{ℕ, List, Result, IfSome, IfOk, IfErr, inl, ap, ◌∙◌, subst}
 use Rattle.b2_front.specs.Preparing.{IsPrepared, Counts, IsWhole}
 use Rattle.b2_front.specs.declared.refusal.Stop.{Stop}
-use Rattle.b2_generate.specs.declared.planned.Planned.{Planned}
+use Rattle.b2_planning.specs.declared.planned.Planned.{Planned}
 use Rattle.b2_host.specs.ChildProcesses.{Family}
 use Rattle.b2_host.specs.Disks.{Disk}
 use Rattle.b2_host.specs.OutsideLaws.{keeps_then}

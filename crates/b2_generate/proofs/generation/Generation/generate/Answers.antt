@@ -10,9 +10,6 @@ use Rattle.b2_generate.proofs.generation.Generation.generate.Goals as goal
 pub returns-in_err-earliest-clause-request : goal.returns-in_err-earliest-clause-request
 returns-in_err-earliest-clause-request g c = request_out c.from_residual.result (exit_is c.from_residual.result _ c.from_residual.ensures.1) (grows_none _ _) refl refl
 
-pub same-name : goal.same-name
-same-name g c = refl
-
 pub begin-requires : goal.begin-requires
 begin-requires g c = c.requires.ready.numbered
 

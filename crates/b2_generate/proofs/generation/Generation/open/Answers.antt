@@ -103,6 +103,3 @@ returns-in_err-open-clause-roots g c = refl
 
 pub returns-clause-roots : goal.returns-clause-roots
 returns-clause-roots g c = refl
-
-pub same-name : goal.same-name
-same-name g c = refl

@@ -119,6 +119,3 @@ returns-in_err-take-in-Some-clause-roots g c = refl
 
 pub returns-in_ok-take-in-Some-clause-roots : goal.returns-in_ok-take-in-Some-clause-roots
 returns-in_ok-take-in-Some-clause-roots g c = refl
-
-pub same-name : goal.same-name
-same-name g c = refl

@@ -1,0 +1,5 @@
+mod PlanLemmas
+mod RowLemmas
+mod RowKeys
+mod WalkLemmas
+mod WalkSteps
