@@ -22,7 +22,6 @@ use std::alloc::Global;
 
 /// What an alternative depends on: the set of its properties so far, the usage requirements that it has met, which main targets
 /// were generated, and its needs. Over all needs the search for the next one takes time in proportion to them.
-#[derive(Drop)]
 pub struct Dependencies {
     alloc: Global,
     set: Props,
@@ -31,6 +30,27 @@ pub struct Dependencies {
     done: KnownNames,
     sources: NeedList,
     properties: NeedList,
+}
+
+/// By hand, so that dropping one is one call.
+impl Drop for Dependencies {
+    fn drop(self) {
+        let Dependencies {
+            alloc: _,
+            set,
+            usage,
+            values,
+            done,
+            sources,
+            properties,
+        } = self;
+        drop(set);
+        drop(usage);
+        drop(values);
+        drop(done);
+        drop(sources);
+        drop(properties);
+    }
 }
 
 impl Dependencies {

@@ -11,10 +11,17 @@ use b2_references::name::TargetName;
 use std::alloc::Global;
 
 /// Names of main targets: under each name the places of the projects that have one of it.
-#[derive(Drop)]
 pub struct KnownNames {
     alloc: Global,
     projects: TextMap<List<usize>>,
+}
+
+/// By hand, so that dropping one is one call.
+impl Drop for KnownNames {
+    fn drop(self) {
+        let KnownNames { alloc: _, projects } = self;
+        drop(projects);
+    }
 }
 
 fn copied(alloc: Global, projects: &[usize]) -> Result<List<usize>, OutOfMemory>

@@ -14,10 +14,17 @@ use b2_references::meaning::Meaning;
 use b2_references::name::TargetName;
 
 /// Needs in order. Those before the place are met: each names a file, or its main targets were generated.
-#[derive(Drop)]
 pub struct NeedList {
     needs: List<Need>,
     place: usize,
+}
+
+/// By hand, so that dropping one is one call.
+impl Drop for NeedList {
+    fn drop(self) {
+        let NeedList { needs, place: _ } = self;
+        drop(needs);
+    }
 }
 
 /// What comes next by a list of needs, and the place of the need that asks for it.

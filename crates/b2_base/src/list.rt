@@ -6,9 +6,17 @@ use std::alloc::Global;
 use std::marker::Model;
 
 /// Values in order, seen as the list of them.
-#[derive(Debug, Drop)]
+#[derive(Debug)]
 pub struct List<T: Drop> {
     values: Vec<T>,
+}
+
+/// By hand, so that dropping one is one call.
+impl<T: Drop> Drop for List<T> {
+    fn drop(self) {
+        let List { values } = self;
+        drop(values);
+    }
 }
 
 impl<T: Drop> Model for List<T> {
@@ -43,7 +51,8 @@ impl<T: Drop> List<T> {
     pub fn into_vec(self) -> Vec<T>
         ensures { result.items ≡ self }
     {
-        self.values
+        let List { values } = self;
+        values
     }
 
     /// Adds a value at the end. After an error the list is as before. A list of one value has room for one: most stay so.
@@ -63,7 +72,7 @@ impl<T: Drop> List<T> {
         ensures ok { OnOk result (self.new ≡ self.old ++ more) }
         ensures err { OnErr result (self.new ≡ self.old) }
     {
-        let mut more = more.values;
+        let List { values: mut more } = more;
         self.values.append(&mut more)?;
         Ok(())
     }

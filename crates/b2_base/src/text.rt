@@ -11,9 +11,17 @@ use std::marker::Model;
 
 /// Owned text with no zero byte, seen as its bytes in UTF-8. Two texts are equal where their bytes are, and they are
 /// ordered byte by byte, a text before those that it begins.
-#[derive(Debug, Drop)]
+#[derive(Debug)]
 pub struct Text {
     text: String,
+}
+
+/// By hand, so that dropping one is one call.
+impl Drop for Text {
+    fn drop(self) {
+        let Text { text } = self;
+        drop(text);
+    }
 }
 
 impl Model for Text {

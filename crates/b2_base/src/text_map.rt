@@ -10,9 +10,16 @@ use std::collections::BTreeMap;
 use std::marker::Model;
 
 /// One value for each of some texts, seen as a finite map from their bytes.
-#[derive(Drop)]
 pub struct TextMap<V: Drop> {
     values: BTreeMap<Text, V>,
+}
+
+/// By hand, so that dropping one is one call.
+impl<V: Drop> Drop for TextMap<V> {
+    fn drop(self) {
+        let TextMap { values } = self;
+        drop(values);
+    }
 }
 
 impl<V: Drop> Model for TextMap<V> {

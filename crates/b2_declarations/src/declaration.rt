@@ -26,14 +26,20 @@ pub enum ListName {
 }
 
 /// A list of property texts in a call, as they are written.
-#[derive(Drop)]
 pub struct PropertyList {
     pub name: ListName,
     pub texts: TextList,
 }
 
+/// By hand, so that dropping one is one call.
+impl Drop for PropertyList {
+    fn drop(self) {
+        let PropertyList { name: _, texts } = self;
+        drop(texts);
+    }
+}
+
 /// A main target.
-#[derive(Drop)]
 pub struct MainTarget {
     pub kind: Kind,
     /// The name as it is written.
@@ -46,13 +52,38 @@ pub struct MainTarget {
     pub lists: List<PropertyList>,
 }
 
+/// By hand, so that dropping one is one call.
+impl Drop for MainTarget {
+    fn drop(self) {
+        let MainTarget {
+            kind: _,
+            name,
+            sources,
+            rule,
+            lists,
+        } = self;
+        drop(name);
+        drop(sources);
+        drop(rule);
+        drop(lists);
+    }
+}
+
 /// What a call of `project` says of its project. The output roots that it names were added when it ran.
-#[derive(Drop)]
 pub struct Attributes {
     /// The id, which begins with a slash.
     pub id: Option<Text>,
     /// The property lists, in the order of the call; several may have one name.
     pub lists: List<PropertyList>,
+}
+
+/// By hand, so that dropping one is one call.
+impl Drop for Attributes {
+    fn drop(self) {
+        let Attributes { id, lists } = self;
+        drop(id);
+        drop(lists);
+    }
 }
 
 /// What a call of a declaring rule declares.

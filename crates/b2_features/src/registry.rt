@@ -24,11 +24,23 @@ use std::marker::Model;
 
 /// The declared features, seen as their list in order of declaration. No two have one name, and each that is neither free
 /// nor optional has a value.
-#[derive(Drop)]
 pub struct Registry {
     alloc: Global,
     features: IndexMap<String, Feature>,
     implicit: TextPlaces,
+}
+
+/// By hand, so that dropping one is one call.
+impl Drop for Registry {
+    fn drop(self) {
+        let Registry {
+            alloc: _,
+            features,
+            implicit,
+        } = self;
+        drop(features);
+        drop(implicit);
+    }
 }
 
 impl Model for Registry {

@@ -11,9 +11,16 @@ use std::alloc::Global;
 use std::marker::Model;
 
 /// A place for each of some texts, seen as the list of both.
-#[derive(Drop)]
 pub struct TextPlaces {
     places: IndexMap<String, usize>,
+}
+
+/// By hand, so that dropping one is one call.
+impl Drop for TextPlaces {
+    fn drop(self) {
+        let TextPlaces { places } = self;
+        drop(places);
+    }
 }
 
 impl Model for TextPlaces {

@@ -12,9 +12,16 @@ use std::collections::BTreeMap;
 use std::marker::Model;
 
 /// One value for each of some paths, seen as a finite map from their bytes.
-#[derive(Drop)]
 pub struct PathMap<V: Drop> {
     values: BTreeMap<Path, V>,
+}
+
+/// By hand, so that dropping one is one call.
+impl<V: Drop> Drop for PathMap<V> {
+    fn drop(self) {
+        let PathMap { values } = self;
+        drop(values);
+    }
 }
 
 impl<V: Drop> Model for PathMap<V> {

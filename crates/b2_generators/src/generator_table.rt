@@ -10,10 +10,20 @@ use std::alloc::Global;
 use std::marker::Model;
 
 /// Generators in order of registration, seen as their list. No two have one id.
-#[derive(Drop)]
 pub(crate) struct GeneratorTable {
     alloc: Global,
     generators: IndexMap<String, Generator>,
+}
+
+/// By hand, so that dropping one is one call.
+impl Drop for GeneratorTable {
+    fn drop(self) {
+        let GeneratorTable {
+            alloc: _,
+            generators,
+        } = self;
+        drop(generators);
+    }
 }
 
 impl Model for GeneratorTable {

@@ -14,11 +14,23 @@ use std::alloc::Global;
 use std::marker::Model;
 
 /// Types in order of registration, seen as their list. No two have a name or a suffix in common.
-#[derive(Drop)]
 pub(crate) struct TypeTable {
     alloc: Global,
     types: IndexMap<String, TextList>,
     suffixes: TextPlaces,
+}
+
+/// By hand, so that dropping one is one call.
+impl Drop for TypeTable {
+    fn drop(self) {
+        let TypeTable {
+            alloc: _,
+            types,
+            suffixes,
+        } = self;
+        drop(types);
+        drop(suffixes);
+    }
 }
 
 impl Model for TypeTable {

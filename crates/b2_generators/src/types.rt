@@ -17,10 +17,18 @@ use std::marker::Model;
 
 /// The registered types and generators, each seen as the list in order of registration. No two types have a name or a
 /// suffix in common, and no two generators have one id.
-#[derive(Drop)]
 pub struct Types {
     types: TypeTable,
     generators: GeneratorTable,
+}
+
+/// By hand, so that dropping one is one call.
+impl Drop for Types {
+    fn drop(self) {
+        let Types { types, generators } = self;
+        drop(types);
+        drop(generators);
+    }
 }
 
 impl Model for Types {

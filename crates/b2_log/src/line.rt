@@ -12,7 +12,6 @@ pub type StampedPaths = List<(Path, u64)>;
 pub type IncludeList = List<(Text, bool)>;
 
 /// The digests of what a record names, each as 64 lower-case hexadecimal digits.
-#[derive(Drop)]
 pub struct Digests {
     /// Those of the outputs, in the order of the outputs.
     pub outs: TextList,
@@ -20,8 +19,16 @@ pub struct Digests {
     pub ins: TextList,
 }
 
+/// By hand, so that dropping one is one call.
+impl Drop for Digests {
+    fn drop(self) {
+        let Digests { outs, ins } = self;
+        drop(outs);
+        drop(ins);
+    }
+}
+
 /// What a step read and wrote.
-#[derive(Drop)]
 pub struct Record {
     /// The text of the step's command.
     pub text: Text,
@@ -33,8 +40,23 @@ pub struct Record {
     pub digests: Option<Digests>,
 }
 
+/// By hand, so that dropping one is one call.
+impl Drop for Record {
+    fn drop(self) {
+        let Record {
+            text,
+            outs,
+            ins,
+            digests,
+        } = self;
+        drop(text);
+        drop(outs);
+        drop(ins);
+        drop(digests);
+    }
+}
+
 /// What was found in a file that was scanned.
-#[derive(Drop)]
 pub struct ScanLine {
     /// Where the file stood.
     pub path: Path,
@@ -42,6 +64,19 @@ pub struct ScanLine {
     pub stamp: u64,
     /// In the order of the file.
     pub includes: IncludeList,
+}
+
+/// By hand, so that dropping one is one call.
+impl Drop for ScanLine {
+    fn drop(self) {
+        let ScanLine {
+            path,
+            stamp: _,
+            includes,
+        } = self;
+        drop(path);
+        drop(includes);
+    }
 }
 
 /// A line of the log.

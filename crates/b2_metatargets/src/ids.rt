@@ -11,10 +11,17 @@ use std::alloc::Global;
 use std::marker::Model;
 
 /// Ids in order, each with the directory that it stands for, seen as their list. No id stands twice.
-#[derive(Drop)]
 pub struct Ids {
     alloc: Global,
     dirs: IndexMap<String, Path>,
+}
+
+/// By hand, so that dropping one is one call.
+impl Drop for Ids {
+    fn drop(self) {
+        let Ids { alloc: _, dirs } = self;
+        drop(dirs);
+    }
 }
 
 impl Model for Ids {

@@ -10,7 +10,6 @@ use b2_props::requirement::Requirement;
 
 /// A project: its directory and its file, from the folder, the name of its module, the place of its parent among the
 /// projects, and what its file declares of it.
-#[derive(Drop)]
 pub struct Place {
     pub dir: Path,
     pub file: Path,
@@ -25,8 +24,32 @@ pub struct Place {
     pub explicit: TextList,
 }
 
+/// By hand, so that dropping one is one call.
+impl Drop for Place {
+    fn drop(self) {
+        let Place {
+            dir,
+            file,
+            module,
+            parent: _,
+            requirements,
+            usage,
+            defaults,
+            builds,
+            explicit,
+        } = self;
+        drop(dir);
+        drop(file);
+        drop(module);
+        drop(requirements);
+        drop(usage);
+        drop(defaults);
+        drop(builds);
+        drop(explicit);
+    }
+}
+
 /// A main target: the place of its project, what its call says, and the line of the call.
-#[derive(Drop)]
 pub struct Target {
     pub project: usize,
     pub name: Text,
@@ -40,11 +63,45 @@ pub struct Target {
     pub line: u32,
 }
 
+/// By hand, so that dropping one is one call.
+impl Drop for Target {
+    fn drop(self) {
+        let Target {
+            project: _,
+            name,
+            kind: _,
+            sources,
+            rule,
+            requirements,
+            usage,
+            defaults,
+            line: _,
+        } = self;
+        drop(name);
+        drop(sources);
+        drop(rule);
+        drop(requirements);
+        drop(usage);
+        drop(defaults);
+    }
+}
+
 /// The rule that answers an indirect requirement: the place of the project that requires it, the rule's name, and the line
 /// of the call.
-#[derive(Drop)]
 pub struct IndirectRule {
     pub project: usize,
     pub rule: Text,
     pub line: u32,
+}
+
+/// By hand, so that dropping one is one call.
+impl Drop for IndirectRule {
+    fn drop(self) {
+        let IndirectRule {
+            project: _,
+            rule,
+            line: _,
+        } = self;
+        drop(rule);
+    }
 }

@@ -8,7 +8,6 @@ use b2_declarations::declaration::Declaration;
 
 /// A project that was loaded: its directory and its file, from the folder, the name of its module, and the place of its
 /// parent among the projects, where it has one.
-#[derive(Drop)]
 pub struct Visit {
     pub dir: Path,
     pub file: Path,
@@ -16,16 +15,45 @@ pub struct Visit {
     pub parent: Option<usize>,
 }
 
+/// By hand, so that dropping one is one call.
+impl Drop for Visit {
+    fn drop(self) {
+        let Visit {
+            dir,
+            file,
+            module,
+            parent: _,
+        } = self;
+        drop(dir);
+        drop(file);
+        drop(module);
+    }
+}
+
 /// A recorded call of a declaring rule: the place of the project whose file made it, the rule, the line, what it declares
 /// (nothing where the lists of the call have another shape than those of the rule), and whether the output roots that it
 /// names were refused when it ran.
-#[derive(Drop)]
 pub struct Call {
     pub project: usize,
     pub rule: Text,
     pub line: u32,
     pub declaration: Option<Declaration>,
     pub refused: bool,
+}
+
+/// By hand, so that dropping one is one call.
+impl Drop for Call {
+    fn drop(self) {
+        let Call {
+            project: _,
+            rule,
+            line: _,
+            declaration,
+            refused: _,
+        } = self;
+        drop(rule);
+        drop(declaration);
+    }
 }
 
 /// The project of a call; takes no memory.

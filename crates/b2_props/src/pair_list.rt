@@ -35,9 +35,16 @@ pub(crate) fn copy_pairs(
 }
 
 /// Pairs of a feature and a value in order, seen as their list.
-#[derive(Drop)]
 pub struct PairList {
     pairs: Vec<(Text, Text)>,
+}
+
+/// By hand, so that dropping one is one call.
+impl Drop for PairList {
+    fn drop(self) {
+        let PairList { pairs } = self;
+        drop(pairs);
+    }
 }
 
 impl Model for PairList {
@@ -69,7 +76,8 @@ impl PairList {
     pub fn into_vec(self) -> Vec<(Text, Text)>
         ensures { result.items ≡ self }
     {
-        self.pairs
+        let PairList { pairs } = self;
+        pairs
     }
 
     /// Adds a pair at the end. After an error the list is as before.
@@ -86,7 +94,7 @@ impl PairList {
         ensures ok { OnOk result (self.new ≡ self.old ++ more) }
         ensures err { OnErr result (self.new ≡ self.old) }
     {
-        let mut more = more.pairs;
+        let PairList { pairs: mut more } = more;
         self.pairs.append(&mut more)?;
         Ok(())
     }

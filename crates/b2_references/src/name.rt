@@ -8,10 +8,17 @@ use b2_base::text::Text;
 use std::marker::Model;
 
 /// A main target by the place of its project among the projects, from 0, and its name there; seen as the pair of both.
-#[derive(Drop)]
 pub struct TargetName {
     project: usize,
     name: Text,
+}
+
+/// By hand, so that dropping one is one call.
+impl Drop for TargetName {
+    fn drop(self) {
+        let TargetName { project: _, name } = self;
+        drop(name);
+    }
 }
 
 impl Model for TargetName {

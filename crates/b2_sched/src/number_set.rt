@@ -11,11 +11,24 @@ const GROUP: usize = 64;
 
 /// A set of numbers below a bound, seen as its flags. A flag above each 64 flags tells whether one of them is set, and one
 /// more above 64 of these: so of 65,536 numbers the lowest is found by at most 144 tests, and no call but `new` takes memory.
-#[derive(Drop)]
 pub struct NumberSet {
     flags: Vec<bool>,
     groups: Vec<bool>,
     regions: Vec<bool>,
+}
+
+/// By hand, so that dropping one is one call.
+impl Drop for NumberSet {
+    fn drop(self) {
+        let NumberSet {
+            flags,
+            groups,
+            regions,
+        } = self;
+        drop(flags);
+        drop(groups);
+        drop(regions);
+    }
 }
 
 impl Model for NumberSet {

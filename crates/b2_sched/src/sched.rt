@@ -16,7 +16,6 @@ use std::marker::Model;
 /// A step that is needed is looked at, and looked at again when a need of it settles. While it is looked at, the caller adds
 /// the needs that it finds and says what is lacking; when all needs are settled and nothing is lacking, it judges the step.
 /// A fresh step settles at once, a stale one is started when there is room, and settles or fails when it ends.
-#[derive(Drop)]
 pub struct Sched {
     alloc: Global,
     jobs: u32,
@@ -26,6 +25,27 @@ pub struct Sched {
     looks: NumberSet,
     starts: NumberSet,
     running: u32,
+}
+
+/// By hand, so that dropping one is one call.
+impl Drop for Sched {
+    fn drop(self) {
+        let Sched {
+            alloc: _,
+            jobs: _,
+            states,
+            dependents,
+            lacking,
+            looks,
+            starts,
+            running: _,
+        } = self;
+        drop(states);
+        drop(dependents);
+        drop(lacking);
+        drop(looks);
+        drop(starts);
+    }
 }
 
 impl Model for Sched {

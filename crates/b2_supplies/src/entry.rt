@@ -12,7 +12,6 @@ use std::alloc::Global;
 
 /// A file that a main target gives: its path, the name of its type, the tail that files converted from it get theirs from,
 /// and whether a step makes it.
-#[derive(Drop)]
 pub struct Entry {
     pub path: Path,
     pub file_type: Text,
@@ -20,14 +19,37 @@ pub struct Entry {
     pub is_made: bool,
 }
 
+/// By hand, so that dropping one is one call.
+impl Drop for Entry {
+    fn drop(self) {
+        let Entry {
+            path,
+            file_type,
+            tail,
+            is_made: _,
+        } = self;
+        drop(path);
+        drop(file_type);
+        drop(tail);
+    }
+}
+
 /// Entries in order, seen as the list of them.
 pub type EntryList = List<Entry>;
 
 /// What a file or a main target gives: its entries, and the libraries that it carries on.
-#[derive(Drop)]
 pub struct Supply {
     pub entries: EntryList,
     pub carried: EntryList,
+}
+
+/// By hand, so that dropping one is one call.
+impl Drop for Supply {
+    fn drop(self) {
+        let Supply { entries, carried } = self;
+        drop(entries);
+        drop(carried);
+    }
 }
 
 impl Entry {

@@ -22,11 +22,23 @@ use std::marker::Model;
 
 /// Steps that joined a plan, seen as the list of them in order. Their outputs are apart: no two steps share one, none is a
 /// folder of another, and none is the log or below it.
-#[derive(Drop)]
 pub struct Builder {
     alloc: Global,
     steps: StepList,
     numbers: SpotMap,
+}
+
+/// By hand, so that dropping one is one call.
+impl Drop for Builder {
+    fn drop(self) {
+        let Builder {
+            alloc: _,
+            steps,
+            numbers,
+        } = self;
+        drop(steps);
+        drop(numbers);
+    }
 }
 
 impl Model for Builder {
@@ -121,7 +133,13 @@ impl Builder {
         ensures apart { AreApart result }
         ensures few { length result ≤ 65536 }
     {
-        self.steps
+        let Builder {
+            alloc: _,
+            steps,
+            numbers,
+        } = self;
+        drop(numbers);
+        steps
     }
 
     /// The number of an equal step, by the spot of its first output.

@@ -14,9 +14,16 @@ use std::marker::Model;
 
 /// A number for each of some texts, seen as a finite map from their bytes. Where no text begins another one, two look-ups
 /// tell whether a further text begins one of them, or one of them that text.
-#[derive(Drop)]
 pub struct SpotMap {
     numbers: BTreeMap<Text, u32>,
+}
+
+/// By hand, so that dropping one is one call.
+impl Drop for SpotMap {
+    fn drop(self) {
+        let SpotMap { numbers } = self;
+        drop(numbers);
+    }
 }
 
 impl Model for SpotMap {

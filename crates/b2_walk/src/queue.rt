@@ -8,10 +8,17 @@ use b2_base::path_list::PathList;
 use std::alloc::Global;
 
 /// Directories in order of naming, and how many of the first ones were visited.
-#[derive(Drop)]
 pub struct Queue {
     pub dirs: Vec<Path>,
     pub passed: usize,
+}
+
+/// By hand, so that dropping one is one call.
+impl Drop for Queue {
+    fn drop(self) {
+        let Queue { dirs, passed: _ } = self;
+        drop(dirs);
+    }
 }
 
 impl Queue {

@@ -12,10 +12,18 @@ use std::alloc::Global;
 use std::marker::Model;
 
 /// The projects that were visited, in order, seen as the list of them. Each is found by its directory, and stands after its parent.
-#[derive(Drop)]
 pub struct Visits {
     visits: Vec<Visit>,
     places: TextMap<usize>,
+}
+
+/// By hand, so that dropping one is one call.
+impl Drop for Visits {
+    fn drop(self) {
+        let Visits { visits, places } = self;
+        drop(visits);
+        drop(places);
+    }
 }
 
 impl Model for Visits {

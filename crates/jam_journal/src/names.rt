@@ -12,10 +12,18 @@ use std::marker::Model;
 
 /// One value for each of some texts, seen as a finite map from them. The names of argument lists have places of their own, so
 /// that a call that binds them takes no memory for keys, and finds none by comparing.
-#[derive(Drop)]
 pub struct Names<V: Drop> {
     slots: Vec<Slot<V>>,
     others: Others<V>,
+}
+
+/// By hand, so that dropping one is one call.
+impl<V: Drop> Drop for Names<V> {
+    fn drop(self) {
+        let Names { slots, others } = self;
+        drop(slots);
+        drop(others);
+    }
 }
 
 impl<V: Drop> Model for Names<V> {

@@ -11,9 +11,16 @@ use std::marker::Model;
 use std::mem;
 
 /// One value for each of some texts, seen as a finite map from them.
-#[derive(Drop)]
 pub struct Others<V: Drop> {
     values: BTreeMap<String, V>,
+}
+
+/// By hand, so that dropping one is one call.
+impl<V: Drop> Drop for Others<V> {
+    fn drop(self) {
+        let Others { values } = self;
+        drop(values);
+    }
 }
 
 impl<V: Drop> Model for Others<V> {

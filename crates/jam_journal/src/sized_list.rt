@@ -9,11 +9,18 @@ use std::alloc::Global;
 use std::marker::Model;
 
 /// Texts in order, seen as the list of their bytes. Their size, the sum of their lengths plus one each, is kept beside them.
-#[derive(Drop)]
 pub struct SizedList {
     texts: Vec<Text>,
     /// The size, or the largest number where it is larger.
     size: u64,
+}
+
+/// By hand, so that dropping one is one call.
+impl Drop for SizedList {
+    fn drop(self) {
+        let SizedList { texts, size: _ } = self;
+        drop(texts);
+    }
 }
 
 impl Model for SizedList {

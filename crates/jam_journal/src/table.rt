@@ -12,9 +12,16 @@ use std::collections::HashMap;
 use std::marker::Model;
 
 /// One value for each of some pairs of texts, seen as a finite map from them.
-#[derive(Drop)]
 pub struct Table<V: Drop> {
     rows: HashMap<String, Names<V>>,
+}
+
+/// By hand, so that dropping one is one call.
+impl<V: Drop> Drop for Table<V> {
+    fn drop(self) {
+        let Table { rows } = self;
+        drop(rows);
+    }
 }
 
 impl<V: Drop> Model for Table<V> {

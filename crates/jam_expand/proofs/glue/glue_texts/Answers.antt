@@ -9,7 +9,7 @@ pub loop-place-preserved : goal.loop-place-preserved
 loop-place-preserved c =
     let glue = c.args.glue.now in
     let so_far = glued_text glue (map (changed c.args.modifiers.now) (take c.loop-place.place c.args.texts.now)) in
-    let after = c.append-in-loop-place-2.new.self in
+    let after = c.append-in-loop-place.new.self in
     elim c.if-place-gt0.branch [
       | then-place-gt0+in_ok-append w ↦
           subst (IsGlued after) (glue_next glue c.args.modifiers.now c.args.texts.now c.loop-place.place c.index-texts-place.result c.in_ok-changed.field-0 w.if-place-gt0.true c.loop-place-test.true c.index-texts-place.is c.in_ok-changed.ensures)
