@@ -12,9 +12,16 @@ use std::alloc::Global;
 use std::marker::Model;
 
 /// For each path that was named, a place, or None.
-#[derive(Drop)]
 pub struct Places {
     values: PathMap<Option<usize>>,
+}
+
+/// By hand, so that dropping one is one call.
+impl Drop for Places {
+    fn drop(self) {
+        let Places { values } = self;
+        drop(values);
+    }
 }
 
 impl Model for Places {

@@ -29,13 +29,26 @@ use b2_host::files::ReadAnswer;
 use std::alloc::Global;
 
 /// All that ever stood, in order, and where the file of each path is among it.
-#[derive(Drop)]
 pub struct Store {
     pub past: Vec<Version>,
     pub places: Places,
     pub contents: Contents,
     pub ghost placed: { IsPlaced (writes_in (buffers_of contents) past.items) places } by { Prim.hlevel props },
     ghost within: { IsTrue (all_within (buffers_of contents) past.items) },
+}
+
+/// By hand, so that dropping one is one call.
+impl Drop for Store {
+    fn drop(self) {
+        let Store {
+            past,
+            places,
+            contents,
+        } = self;
+        drop(past);
+        drop(places);
+        drop(contents);
+    }
 }
 
 impl Store {

@@ -20,12 +20,25 @@ use std::alloc::Global;
 use std::marker::Model;
 
 /// The lines of a log in order, each of them proper, seen as these lines and how many bytes of what it was read from are good.
-#[derive(Drop)]
 pub struct Log {
     alloc: Global,
     lines: Vec<LogLine>,
     latest: Latest,
     good: usize,
+}
+
+/// By hand, so that dropping one is one call.
+impl Drop for Log {
+    fn drop(self) {
+        let Log {
+            alloc: _,
+            lines,
+            latest,
+            good: _,
+        } = self;
+        drop(lines);
+        drop(latest);
+    }
 }
 
 impl Model for Log {

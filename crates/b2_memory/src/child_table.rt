@@ -11,7 +11,6 @@ use std::rc::Rc;
 
 /// What each start gave, the children that run, and what happened to them. `pending` counts what the children are yet
 /// to write.
-#[derive(Drop)]
 pub struct ChildTable {
     pub given: Vec<Rc<Job>>,
     pub running: Vec<Running>,
@@ -19,6 +18,21 @@ pub struct ChildTable {
     pub pending: usize,
     ghost owed: { pending ≡ length (promised running.items) },
     ghost event_room: { vec_len events + vec_len running ≤ vec_capacity events },
+}
+
+/// By hand, so that dropping one is one call.
+impl Drop for ChildTable {
+    fn drop(self) {
+        let ChildTable {
+            given,
+            running,
+            events,
+            pending: _,
+        } = self;
+        drop(given);
+        drop(running);
+        drop(events);
+    }
 }
 
 impl ChildTable {

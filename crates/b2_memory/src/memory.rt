@@ -33,7 +33,6 @@ use std::rc::Rc;
 /// so does a write that fails, after which the file has what was left of the piece, for an append after its old bytes. A
 /// deletion takes none. What a child writes is decided when it starts, by the bytes that its inputs have then, and stands
 /// when it ends. `stat`, `remove`, `wait_one` and `reopen` take no memory.
-#[derive(Drop)]
 pub struct MemoryHost {
     alloc: Global,
     script: Script,
@@ -45,6 +44,26 @@ pub struct MemoryHost {
     ghost room: { vec_len store.past + child_table.pending ≤ vec_capacity store.past },
     ghost known: { IsTrue (all_known store.places (promised child_table.running.items)) },
     ghost log_is: { log ≡ log_path },
+}
+
+/// By hand, so that dropping one is one call.
+impl Drop for MemoryHost {
+    fn drop(self) {
+        let MemoryHost {
+            alloc: _,
+            script,
+            store,
+            child_table,
+            read_notes,
+            log,
+            failed_waits: _,
+        } = self;
+        drop(script);
+        drop(store);
+        drop(child_table);
+        drop(read_notes);
+        drop(log);
+    }
 }
 
 /// The path of the log.

@@ -7,11 +7,19 @@ use b2_base::path::Path;
 use std::alloc::Global;
 
 /// The reads in order: their paths, and the stamps that the file there and the log had then.
-#[derive(Drop)]
 pub struct ReadNotes {
     pub paths: Vec<Path>,
     pub stamps: Vec<(Option<u64>, Option<u64>)>,
     ghost as_many: { length stamps.items ≡ length paths.items },
+}
+
+/// By hand, so that dropping one is one call.
+impl Drop for ReadNotes {
+    fn drop(self) {
+        let ReadNotes { paths, stamps } = self;
+        drop(paths);
+        drop(stamps);
+    }
 }
 
 impl ReadNotes {

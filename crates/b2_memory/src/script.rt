@@ -46,7 +46,6 @@ impl CallKind {
 /// What a host was told: the calls that are to fail, each with its kind and its number from now on; the starts that are to
 /// end badly; which child each wait gives; after how many more calls every call fails; and how many bytes a failed write
 /// leaves. Beside it, how often a call failed.
-#[derive(Drop)]
 pub struct Script {
     pub calls: Vec<(CallKind, u32)>,
     pub starts: Vec<u32>,
@@ -57,6 +56,24 @@ pub struct Script {
     pub tear: u32,
     pub faults: u64,
     ghost within: { taken ≤ vec_len picks },
+}
+
+/// By hand, so that dropping one is one call.
+impl Drop for Script {
+    fn drop(self) {
+        let Script {
+            calls,
+            starts,
+            picks,
+            taken: _,
+            fuse: _,
+            tear: _,
+            faults: _,
+        } = self;
+        drop(calls);
+        drop(starts);
+        drop(picks);
+    }
 }
 
 /// A call of a kind was made: a listed call of that kind comes one nearer.

@@ -12,13 +12,28 @@ use b2_base::text_map::TextMap;
 use std::alloc::Global;
 
 /// What is to be built: the steps in order, the wanted files, and the output roots.
-#[derive(Drop)]
 pub struct Plan {
     pub steps: StepList,
     pub wanted: PathList,
     pub roots: PathList,
     makers: TextMap<u32>,
     ghost makers_are: { (path : List ℕ) → map.get makers path ≡ maker_of steps path },
+}
+
+/// By hand, so that dropping one is one call.
+impl Drop for Plan {
+    fn drop(self) {
+        let Plan {
+            steps,
+            wanted,
+            roots,
+            makers,
+        } = self;
+        drop(steps);
+        drop(wanted);
+        drop(roots);
+        drop(makers);
+    }
 }
 
 impl Plan {

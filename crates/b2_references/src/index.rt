@@ -20,12 +20,25 @@ use std::marker::Model;
 
 /// What the files of a load declare, with look-ups; seen as what they declare. The places of projects, and the numbers of
 /// main targets, are those among the declared ones, from 0.
-#[derive(Drop)]
 pub struct Index<'a> {
     alloc: Global,
     declared: &'a Declared,
     dirs: TextMap<usize>,
     entries: Vec<Entry>,
+}
+
+/// By hand, so that dropping one is one call.
+impl<'a> Drop for Index<'a> {
+    fn drop(self) {
+        let Index {
+            alloc: _,
+            declared: _,
+            dirs,
+            entries,
+        } = self;
+        drop(dirs);
+        drop(entries);
+    }
 }
 
 impl<'a> Model for Index<'a> {

@@ -4,9 +4,16 @@ use std::alloc::Global;
 use std::marker::Model;
 
 /// The steps that a step may still have to wait for, seen as the list of their numbers.
-#[derive(Drop)]
 pub struct Waiting {
     numbers: Vec<u32>,
+}
+
+/// By hand, so that dropping one is one call.
+impl Drop for Waiting {
+    fn drop(self) {
+        let Waiting { numbers } = self;
+        drop(numbers);
+    }
 }
 
 impl Model for Waiting {

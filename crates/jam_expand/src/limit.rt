@@ -27,10 +27,17 @@ pub fn longer(sum: u64, len: usize) -> Result<u64, ExpandFault>
 }
 
 /// A list of texts that is not too large.
-#[derive(Drop)]
 pub struct Gathered {
     texts: TextList,
     sum: u64,
+}
+
+/// By hand, so that dropping one is one call.
+impl Drop for Gathered {
+    fn drop(self) {
+        let Gathered { texts, sum: _ } = self;
+        drop(texts);
+    }
 }
 
 impl Model for Gathered {
@@ -91,6 +98,7 @@ impl Gathered {
         ensures value { result ≡ self }
         ensures within { within self ≡ Ok self }
     {
-        self.texts
+        let Gathered { texts, sum: _ } = self;
+        texts
     }
 }

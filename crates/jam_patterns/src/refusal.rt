@@ -10,10 +10,17 @@ use std::alloc::Global;
 use std::marker::Model;
 
 /// A pattern that was refused, seen as the pattern's text. `groups` alone makes one, and `copy` the same again.
-#[derive(Drop)]
 pub struct Refusal {
     pattern: Text,
     syntax: bool,
+}
+
+/// By hand, so that dropping one is one call.
+impl Drop for Refusal {
+    fn drop(self) {
+        let Refusal { pattern, syntax: _ } = self;
+        drop(pattern);
+    }
 }
 
 impl Model for Refusal {

@@ -8,12 +8,26 @@ use std::marker::Model;
 use std::rc::Rc;
 
 /// What a call of a rule does, seen as plain data.
-#[derive(Drop)]
 pub struct RuleBody {
     params: Vec<Vec<Param>>,
     block: Rc<Block>,
     path: Text,
     line: u32,
+}
+
+/// By hand, so that dropping one is one call.
+impl Drop for RuleBody {
+    fn drop(self) {
+        let RuleBody {
+            params,
+            block,
+            path,
+            line: _,
+        } = self;
+        drop(params);
+        drop(block);
+        drop(path);
+    }
 }
 
 impl Model for RuleBody {
@@ -73,9 +87,16 @@ impl RuleBody {
 }
 
 /// What actions run, seen as the text between the braces, before its words are expanded.
-#[derive(Drop)]
 pub struct ActionBody {
     body: Text,
+}
+
+/// By hand, so that dropping one is one call.
+impl Drop for ActionBody {
+    fn drop(self) {
+        let ActionBody { body } = self;
+        drop(body);
+    }
 }
 
 impl Model for ActionBody {

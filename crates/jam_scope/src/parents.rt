@@ -6,9 +6,16 @@ use std::alloc::Global;
 use std::marker::Model;
 
 /// The module above each of some modules, and what it was at marks. No module is above itself.
-#[derive(Drop)]
 pub(crate) struct Parents {
     past: Past<Name>,
+}
+
+/// By hand, so that dropping one is one call.
+impl Drop for Parents {
+    fn drop(self) {
+        let Parents { past } = self;
+        drop(past);
+    }
 }
 
 impl Model for Parents {

@@ -9,9 +9,16 @@ use std::alloc::Global;
 use std::marker::Model;
 
 /// The output roots `bin`, `stage` and `dist`, and further ones after them.
-#[derive(Drop)]
 pub(crate) struct Roots {
     paths: PathList,
+}
+
+/// By hand, so that dropping one is one call.
+impl Drop for Roots {
+    fn drop(self) {
+        let Roots { paths } = self;
+        drop(paths);
+    }
 }
 
 impl Model for Roots {

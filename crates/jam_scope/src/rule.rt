@@ -7,10 +7,18 @@ use std::marker::Model;
 use std::rc::Rc;
 
 /// A rule, and the module in which it was defined. Its body is shared by all modules that have it, and by those that run it.
-#[derive(Drop)]
 pub struct Rule {
     home: Name,
     body: Rc<RuleBody>,
+}
+
+/// By hand, so that dropping one is one call.
+impl Drop for Rule {
+    fn drop(self) {
+        let Rule { home, body } = self;
+        drop(home);
+        drop(body);
+    }
 }
 
 impl Model for Rule {

@@ -12,13 +12,26 @@ use std::marker::Model;
 
 /// The notes of the open step, if there is one, and what they were at marks. It keeps the present notes, and of each mark how
 /// many inputs had been added and which of the two flags were set. A mark copies no path.
-#[derive(Drop)]
 pub(crate) struct Steps {
     notes: Option<StepNotes>,
     /// What the notes were at the newest mark, if a step was open then.
     at_mark: Option<NotesThen>,
     /// The same at each older mark, and before all marks, the newest last.
     older: Vec<Option<NotesThen>>,
+}
+
+/// By hand, so that dropping one is one call.
+impl Drop for Steps {
+    fn drop(self) {
+        let Steps {
+            notes,
+            at_mark,
+            older,
+        } = self;
+        drop(notes);
+        drop(at_mark);
+        drop(older);
+    }
 }
 
 impl Model for Steps {

@@ -6,80 +6,98 @@ use b2_base::text::Text;
 use std::alloc::Global;
 use std::io;
 
+/// Text that grows. Where memory runs out for a piece, that piece is left out, and the text is cut from then on.
+#[derive(Drop)]
+struct Printed {
+    text: String,
+    is_cut: bool,
+}
+
+impl Printed {
+    fn push(&mut self, mark: char) {
+        match self.text.push(mark) {
+            Ok(()) => {}
+            Err(_error) => self.is_cut = true,
+        }
+    }
+
+    fn push_str(&mut self, text: &str) {
+        match self.text.push_str(text) {
+            Ok(()) => {}
+            Err(_error) => self.is_cut = true,
+        }
+    }
+
+    fn push_number(&mut self, number: u64) {
+        match write!(self.text, "{number}") {
+            Ok(()) => {}
+            Err(_error) => self.is_cut = true,
+        }
+    }
+
+    fn push_hexadecimal(&mut self, byte: u8) {
+        match write!(self.text, "\\x{byte:02x}") {
+            Ok(()) => {}
+            Err(_error) => self.is_cut = true,
+        }
+    }
+
+    fn push_char(&mut self, mark: char) {
+        match mark {
+            '\n' => self.push_str("\\n"),
+            '\t' => self.push_str("\\t"),
+            '\0'..='\x1f' => self.push_hexadecimal(mark as u8),
+            '\x7f' => self.push_hexadecimal(127),
+            _ => self.push(mark),
+        }
+    }
+
+    fn push_byte(&mut self, byte: u8) {
+        if byte < 128 {
+            self.push_char(char::from(byte));
+        } else {
+            self.push_hexadecimal(byte);
+        }
+    }
+}
+
 /// The lines that answer a command, in order; there may be none.
+///
+/// What adds to it takes memory and answers nothing, so that what is shown piece by piece has no exit at each piece. Where
+/// memory runs out the answer is cut from then on, and the transcript ends in place of printing it.
 #[derive(Drop)]
 pub struct Answer {
-    /// The lines as they are printed, each ended by a line feed.
-    printed: String,
-}
-
-fn push_hexadecimal(shown: &mut String, byte: u8) -> Result<(), CaseFault> {
-    write!(shown, "\\x{byte:02x}")?;
-    Ok(())
-}
-
-fn push_char(shown: &mut String, mark: char) -> Result<(), CaseFault> {
-    match mark {
-        '\n' => shown.push_str("\\n")?,
-        '\t' => shown.push_str("\\t")?,
-        '\0'..='\x1f' => push_hexadecimal(shown, mark as u8)?,
-        '\x7f' => push_hexadecimal(shown, 127)?,
-        _ => shown.push(mark)?,
-    }
-    Ok(())
-}
-
-fn push_text(shown: &mut String, text: &str) -> Result<(), CaseFault> {
-    for mark in text.chars() {
-        push_char(shown, mark)?;
-    }
-    Ok(())
-}
-
-fn push_byte(shown: &mut String, byte: u8) -> Result<(), CaseFault> {
-    if byte < 128 {
-        push_char(shown, char::from(byte))
-    } else {
-        push_hexadecimal(shown, byte)
-    }
-}
-
-fn push_each(shown: &mut String, bytes: &[u8]) -> Result<(), CaseFault> {
-    for byte in bytes {
-        push_byte(shown, *byte)?;
-    }
-    Ok(())
-}
-
-/// Bytes as a text of one line: control bytes as `\n`, `\t` or `\xHH`, and where the bytes are no UTF-8, each byte above
-/// 127 as `\xHH`. A backslash stays as it is.
-pub fn shown(alloc: Global, bytes: &[u8]) -> Result<String, CaseFault> {
-    let mut shown = String::new(alloc);
-    match str::from_utf8(bytes) {
-        Ok(text) => push_text(&mut shown, text)?,
-        Err(_error) => push_each(&mut shown, bytes)?,
-    }
-    Ok(shown)
+    /// The lines as they are printed. Each is ended by a line feed, but for the one that is open.
+    printed: Printed,
+    /// Whether something stands on the line at hand.
+    is_open: bool,
 }
 
 impl Answer {
     /// An answer of no lines, which takes no memory.
     pub fn new(alloc: Global) -> Answer {
+        let printed = Printed {
+            text: String::new(alloc),
+            is_cut: false,
+        };
         Answer {
-            printed: String::new(alloc),
+            printed,
+            is_open: false,
         }
     }
 
     /// An answer of one line.
     pub fn line(alloc: Global, line: &str) -> Result<Answer, CaseFault> {
         let mut answer = Answer::new(alloc);
-        answer.push_line(line)?;
+        answer.push_line(line);
         Ok(answer)
     }
 
-    /// An answer of one line, which is handed over: what is dropped here need not be dropped by each caller.
-    pub fn from_string(alloc: Global, line: String) -> Result<Answer, CaseFault> {
-        Answer::line(alloc, line.as_str())
+    /// An answer of one line of two words, with a space between them.
+    pub fn words(alloc: Global, word: &str, other: &str) -> Result<Answer, CaseFault> {
+        let mut answer = Answer::new(alloc);
+        answer.push_words(word, other);
+        Ok(answer)
     }
 
     /// An answer of no lines to a call that has nothing to tell.
@@ -97,14 +115,17 @@ impl Answer {
 
     /// A number in decimal.
     pub fn number(alloc: Global, number: u64) -> Result<Answer, CaseFault> {
-        Answer::from_string(alloc, format!(in alloc; "{number}")?)
+        let mut answer = Answer::new(alloc);
+        answer.put_number(number);
+        answer.end_line();
+        Ok(answer)
     }
 
     /// Each text on a line.
     pub fn texts(alloc: Global, texts: &[Text]) -> Result<Answer, CaseFault> {
         let mut answer = Answer::new(alloc);
         for text in texts {
-            answer.push_line(text.as_str())?;
+            answer.push_line(text.as_str());
         }
         Ok(answer)
     }
@@ -113,51 +134,105 @@ impl Answer {
     pub fn paths(alloc: Global, paths: &[Path]) -> Result<Answer, CaseFault> {
         let mut answer = Answer::new(alloc);
         for path in paths {
-            answer.push_line(path.as_str())?;
+            answer.push_line(path.as_str());
         }
         Ok(answer)
     }
 
+    fn open(&mut self) {
+        if !self.is_open {
+            self.printed.push_str("= ");
+            self.is_open = true;
+        }
+    }
+
+    /// Adds a text to the line at hand. Its control bytes are shown as `\n`, `\t` or `\xHH`; a backslash stays as it is.
+    pub fn put(&mut self, text: &str) {
+        if !text.is_empty() {
+            self.open();
+        }
+        for mark in text.chars() {
+            self.printed.push_char(mark);
+        }
+    }
+
+    /// Adds a number in decimal to the line at hand.
+    pub fn put_number(&mut self, number: u64) {
+        self.open();
+        self.printed.push_number(number);
+    }
+
+    /// Adds a space to the line at hand, but not at its start.
+    pub fn put_space(&mut self) {
+        if self.is_open {
+            self.printed.push(' ');
+        }
+    }
+
+    fn put_each(&mut self, bytes: &[u8]) {
+        if !bytes.is_empty() {
+            self.open();
+        }
+        for byte in bytes {
+            self.printed.push_byte(*byte);
+        }
+    }
+
+    /// Adds bytes to the line at hand as `put` does; where they are no UTF-8, each byte above 127 is shown as `\xHH`.
+    pub fn put_bytes(&mut self, bytes: &[u8]) {
+        match str::from_utf8(bytes) {
+            Ok(text) => self.put(text),
+            Err(_error) => self.put_each(bytes),
+        }
+    }
+
+    /// Ends the line at hand, which may be empty.
+    pub fn end_line(&mut self) {
+        if !self.is_open {
+            self.printed.push('=');
+        }
+        self.printed.push('\n');
+        self.is_open = false;
+    }
+
+    /// Adds a text and ends the line.
+    pub fn push_line(&mut self, line: &str) {
+        self.put(line);
+        self.end_line();
+    }
+
+    /// Adds two words with a space between them, and ends the line.
+    pub fn push_words(&mut self, word: &str, other: &str) {
+        self.put(word);
+        self.put(" ");
+        self.put(other);
+        self.end_line();
+    }
+
     /// Adds a line for each path: a word, a space and the path.
-    pub fn push_paths(
-        &mut self,
-        alloc: Global,
-        word: &str,
-        paths: &[Path],
-    ) -> Result<(), CaseFault> {
+    pub fn push_paths(&mut self, word: &str, paths: &[Path]) {
         for path in paths {
-            let path = path.as_str();
-            self.push_string(format!(in alloc; "{word} {path}")?)?;
+            self.push_words(word, path.as_str());
         }
-        Ok(())
-    }
-
-    /// Adds a line as `push_line` does, which is handed over.
-    pub fn push_string(&mut self, line: String) -> Result<(), CaseFault> {
-        self.push_line(line.as_str())
-    }
-
-    /// Adds a line, whose control bytes are shown as escapes. After an error the answer may hold a part of it.
-    pub fn push_line(&mut self, line: &str) -> Result<(), CaseFault> {
-        self.printed.push('=')?;
-        if !line.is_empty() {
-            self.printed.push(' ')?;
-            push_text(&mut self.printed, line)?;
-        }
-        self.printed.push('\n')?;
-        Ok(())
     }
 
     /// Adds each line of a text as a line of its own. Whether the last one ends with a line feed is not shown.
-    pub fn push_text(&mut self, text: &str) -> Result<(), CaseFault> {
+    pub fn push_text(&mut self, text: &str) {
         for line in text.lines() {
-            self.push_line(line)?;
+            self.push_line(line);
         }
-        Ok(())
+    }
+
+    /// Tells that memory ran out for what was to be shown.
+    pub fn cut(&mut self) {
+        self.printed.is_cut = true;
     }
 
     pub(crate) fn print(&self, rt: &impl Print) -> io::Result<()> {
-        let printed = &self.printed;
+        if self.printed.is_cut {
+            return Err(io::Error::from(io::ErrorKind::OutOfMemory));
+        }
+        let printed = &self.printed.text;
         print!(rt; "{printed}")
     }
 }

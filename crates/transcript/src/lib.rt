@@ -26,8 +26,11 @@
 //!                 _ => Err(CaseFault::WrongWords),
 //!             },
 //!             "sum" => {
-//!                 let bytes = self.bytes;
-//!                 Answer::from_string(alloc, format!(in alloc; "{bytes} bytes")?)
+//!                 let mut answer = Answer::new(alloc);
+//!                 answer.put_number(self.bytes as u64);
+//!                 answer.put(" bytes");
+//!                 answer.end_line();
+//!                 Ok(answer)
 //!             }
 //!             _ => Err(CaseFault::UnknownCommand),
 //!         }
