@@ -7,4 +7,5 @@
 
 pub mod evaluation;
 mod host_files;
+mod shown;
 pub mod world;

@@ -39,11 +39,15 @@
 
 mod calls;
 mod files;
+mod found;
+mod many;
 mod marking;
 mod naming;
 mod paths;
 mod project;
+mod quoted;
 mod rules;
 pub mod session;
 mod steps;
 mod texts;
+mod values;

@@ -1,111 +1,94 @@
-//! The texts of faults.
+//! How faults are shown.
 use b2_base::expand_fault::ExpandFault;
 use jam_interp::fault::{EvalCause, EvalFault};
 use jam_lexer::fault::LexFault;
 use jam_patterns::native_fault::NativeFault;
-use std::alloc::Global;
 use transcript::answer::Answer;
-use transcript::case_fault::CaseFault;
 
-fn expand_text(alloc: Global, fault: &ExpandFault) -> Result<String, CaseFault> {
+/// Adds what is wrong, and with what.
+fn put_both(answer: &mut Answer, wrong: &str, with: &str) {
+    answer.put(wrong);
+    answer.put(with);
+}
+
+/// Adds a number between two texts.
+fn put_between(answer: &mut Answer, before: &str, number: u64, after: &str) {
+    answer.put(before);
+    answer.put_number(number);
+    answer.put(after);
+}
+
+fn put_expand(answer: &mut Answer, fault: &ExpandFault) {
     match fault {
-        ExpandFault::BadIndex { text } => {
-            let text = text.as_str();
-            Ok(format!(in alloc; "bad index {text}")?)
-        }
-        ExpandFault::BadModifier { text } => {
-            let text = text.as_str();
-            Ok(format!(in alloc; "bad modifier {text}")?)
-        }
-        ExpandFault::TooDeep => Ok(format!(in alloc; "expansion too deep")?),
-        ExpandFault::TooLarge { bytes } => Ok(format!(in alloc; "expansion of {bytes} bytes")?),
-        ExpandFault::OutOfMemory => Err(CaseFault::OutOfMemory),
+        ExpandFault::BadIndex { text } => put_both(answer, "bad index ", text.as_str()),
+        ExpandFault::BadModifier { text } => put_both(answer, "bad modifier ", text.as_str()),
+        ExpandFault::TooDeep => answer.put("expansion too deep"),
+        ExpandFault::TooLarge { bytes } => put_between(answer, "expansion of ", *bytes, " bytes"),
+        ExpandFault::OutOfMemory => answer.cut(),
     }
 }
 
-fn native_text(alloc: Global, fault: &NativeFault) -> Result<String, CaseFault> {
+fn put_native(answer: &mut Answer, fault: &NativeFault) {
     match fault {
-        NativeFault::PatternRefused { refusal } => {
-            let text = refusal.text();
-            Ok(format!(in alloc; "bad pattern {text}")?)
-        }
+        NativeFault::PatternRefused { refusal } => put_both(answer, "bad pattern ", refusal.text()),
         NativeFault::NoSuchRule { module, name } => {
-            let (module, name) = (module.as_str(), name.as_str());
-            Ok(format!(in alloc; "no rule {name} in module {module}")?)
+            put_both(answer, "no rule ", name.as_str());
+            put_both(answer, " in module ", module.as_str());
         }
         NativeFault::DependsElsewhere { rule, text } => {
-            let (rule, text) = (rule.as_str(), text.as_str());
-            Ok(format!(in alloc; "{rule} on a foreign target {text}")?)
+            answer.put(rule.as_str());
+            put_both(answer, " on a foreign target ", text.as_str());
         }
     }
 }
 
-fn lex_text(alloc: Global, fault: &LexFault) -> Result<String, CaseFault> {
+fn put_lex(answer: &mut Answer, fault: &LexFault) {
     match fault {
-        LexFault::NotUtf8 { at } => Ok(format!(in alloc; "byte {at} is not text")?),
-        LexFault::OpenQuote { line } => Ok(format!(in alloc; "open quote on line {line}")?),
-        LexFault::OpenActions { line } => Ok(format!(in alloc; "open actions on line {line}")?),
-        LexFault::OutOfMemory => Err(CaseFault::OutOfMemory),
+        LexFault::NotUtf8 { at } => put_between(answer, "byte ", *at as u64, " is not text"),
+        LexFault::OpenQuote { line } => {
+            answer.put("open quote on line ");
+            answer.put_number(*line as u64);
+        }
+        LexFault::OpenActions { line } => {
+            answer.put("open actions on line ");
+            answer.put_number(*line as u64);
+        }
+        LexFault::OutOfMemory => answer.cut(),
     }
 }
 
-fn file_text(alloc: Global, cause: &EvalCause) -> Result<String, CaseFault> {
+fn put_cause(answer: &mut Answer, cause: &EvalCause) {
     match cause {
-        EvalCause::Include { path } => {
-            let path = path.as_str();
-            Ok(format!(in alloc; "no file {path}")?)
-        }
-        EvalCause::Lex(fault) => lex_text(alloc, fault),
+        EvalCause::UnknownRule { name } => put_both(answer, "unknown rule ", name.as_str()),
+        EvalCause::Arity { rule } => put_both(answer, "wrong arguments for ", rule.as_str()),
+        EvalCause::Turns { budget } => put_between(answer, "more than ", *budget as u64, " turns"),
+        EvalCause::Depth => answer.put("more than 256 levels"),
+        EvalCause::Expand(fault) => put_expand(answer, fault),
+        EvalCause::Exit { text } => answer.put(text.as_str()),
+        EvalCause::Native(fault) => put_native(answer, fault),
+        EvalCause::Include { path } => put_both(answer, "no file ", path.as_str()),
+        EvalCause::Lex(fault) => put_lex(answer, fault),
         EvalCause::Syntax { line, found } => {
-            let found = found.as_str();
-            Ok(format!(in alloc; "syntax error on line {line} at {found}")?)
+            put_between(answer, "syntax error on line ", *line as u64, " at ");
+            answer.put(found.as_str());
         }
         EvalCause::TooBig { path, size } => {
-            let path = path.as_str();
-            Ok(format!(in alloc; "{path} has {size} bytes")?)
+            answer.put(path.as_str());
+            put_between(answer, " has ", *size, " bytes");
         }
-        _ => Err(CaseFault::WrongWords),
-    }
-}
-
-fn cause_text(alloc: Global, cause: &EvalCause) -> Result<String, CaseFault> {
-    match cause {
-        EvalCause::UnknownRule { name } => {
-            let name = name.as_str();
-            Ok(format!(in alloc; "unknown rule {name}")?)
-        }
-        EvalCause::Arity { rule } => {
-            let rule = rule.as_str();
-            Ok(format!(in alloc; "wrong arguments for {rule}")?)
-        }
-        EvalCause::Turns { budget } => Ok(format!(in alloc; "more than {budget} turns")?),
-        EvalCause::Depth => Ok(format!(in alloc; "more than 256 levels")?),
-        EvalCause::Expand(fault) => expand_text(alloc, fault),
-        EvalCause::Exit { text } => {
-            let text = text.as_str();
-            Ok(format!(in alloc; "{text}")?)
-        }
-        EvalCause::Native(fault) => native_text(alloc, fault),
-        _ => file_text(alloc, cause),
     }
 }
 
 /// Shows why an evaluation ended.
-pub fn push_fault(alloc: Global, answer: &mut Answer, fault: &EvalFault) -> Result<(), CaseFault> {
+pub fn push_fault(answer: &mut Answer, fault: &EvalFault) {
     match fault {
         EvalFault::Host => answer.push_line("host fault"),
-        EvalFault::OutOfMemory => Err(CaseFault::OutOfMemory),
+        EvalFault::OutOfMemory => answer.cut(),
         EvalFault::At { path, line, cause } => {
-            let why = cause_text(alloc, cause)?;
-            let (path, why) = (path.as_str(), why.as_str());
-            answer.push_string(format!(in alloc; "{path}:{line}: {why}")?)
+            answer.put(path.as_str());
+            put_between(answer, ":", *line as u64, ": ");
+            put_cause(answer, cause);
+            answer.end_line();
         }
     }
-}
-
-/// Why an evaluation ended.
-pub fn fault_answer(alloc: Global, fault: &EvalFault) -> Result<Answer, CaseFault> {
-    let mut answer = Answer::new(alloc);
-    push_fault(alloc, &mut answer, fault)?;
-    Ok(answer)
 }

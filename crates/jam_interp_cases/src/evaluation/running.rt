@@ -10,8 +10,11 @@ use jam_lexer::lex;
 use jam_natives::natives::JamNatives;
 use jam_parser::parse::parse;
 use std::alloc::Global;
+use std::mem::ManuallyDrop;
 use transcript::answer::Answer;
 use transcript::case_fault::CaseFault;
+use transcript::command::Command;
+use transcript::words::{only, path};
 
 /// The statements of a text; `WrongWords` where it is none.
 fn statements(alloc: Global, text: &str) -> Result<Tree, CaseFault> {
@@ -21,6 +24,7 @@ fn statements(alloc: Global, text: &str) -> Result<Tree, CaseFault> {
     let Ok(tokens) = lex(alloc, text.as_bytes()) else {
         return Err(CaseFault::WrongWords);
     };
+    let tokens = ManuallyDrop::new(tokens);
     match parse(alloc, &tokens) {
         Ok(tree) => Ok(tree),
         Err(_fault) => Err(CaseFault::WrongWords),
@@ -28,17 +32,12 @@ fn statements(alloc: Global, text: &str) -> Result<Tree, CaseFault> {
 }
 
 /// Shows the lines of ECHO that were not shown yet.
-fn push_echoes(
-    answer: &mut Answer,
-    natives: &JamNatives,
-    shown: &mut usize,
-) -> Result<(), CaseFault> {
+fn push_echoes(answer: &mut Answer, natives: &JamNatives, shown: &mut usize) {
     let echoes = natives.echoes();
     for line in echoes.iter().skip(*shown) {
-        answer.push_line(line.as_str())?;
+        answer.push_line(line.as_str());
     }
     *shown = echoes.len();
-    Ok(())
 }
 
 /// Runs statements in a module.
@@ -66,32 +65,31 @@ fn run_there(
     ended
 }
 
-/// The lines of ECHO that were not shown yet, and why the run ended, unless all was done.
-fn shown(
+/// The path and the statements of a file that is run, read where no machine is.
+fn file_of(
     alloc: Global,
-    machine: &mut Machine,
-    ended: &Result<(), EvalFault>,
-) -> Result<Answer, CaseFault> {
-    let mut answer = Answer::new(alloc);
-    push_echoes(&mut answer, &machine.natives, &mut machine.shown)?;
-    if let Err(fault) = ended {
-        push_fault(alloc, &mut answer, fault)?;
-    }
-    Ok(answer)
+    command: &Command,
+) -> Result<(ManuallyDrop<Path>, ManuallyDrop<Tree>), CaseFault> {
+    let path = path(alloc, only(command.words())?)?;
+    let tree = statements(alloc, command.text())?;
+    Ok((path, ManuallyDrop::new(tree)))
 }
 
-/// Runs a text as a file in a module, and shows what came of it.
+/// Runs the text lines of a command as a file in a module. It shows the lines of ECHO that were not shown yet, and why the run
+/// ended, unless all was done.
 pub fn run_text(
     alloc: Global,
     machine: &mut Machine,
     module: &str,
-    path: &Path,
-    text: &str,
+    command: &Command,
     turns: &mut Turns,
 ) -> Result<Answer, CaseFault> {
-    let tree = statements(alloc, text)?;
-    let ended = run_there(alloc, machine, module, path, &tree, turns);
-    let answer = shown(alloc, machine, &ended);
-    drop(ended);
-    answer
+    let (path, tree) = file_of(alloc, command)?;
+    let ended = ManuallyDrop::new(run_there(alloc, machine, module, &path, &tree, turns));
+    let mut answer = Answer::new(alloc);
+    push_echoes(&mut answer, &machine.natives, &mut machine.shown);
+    if let Err(fault) = &*ended {
+        push_fault(&mut answer, fault);
+    }
+    Ok(answer)
 }

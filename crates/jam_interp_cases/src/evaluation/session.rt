@@ -1,10 +1,9 @@
 //! The machine at hand, and how files are run on it.
 use crate::evaluation::calls::call_rule;
-use crate::evaluation::looks::{decls, own_values, values};
+use crate::evaluation::looks::look_command;
 use crate::evaluation::machine::Machine;
 use crate::evaluation::running::run_text;
 use crate::evaluation::steps::text_of_step;
-use crate::host_files::put_files;
 use b2_base::fault::OutOfMemory;
 use b2_base::text::Text;
 use jam_interp::turns::Turns;
@@ -13,7 +12,7 @@ use transcript::answer::Answer;
 use transcript::case_fault::CaseFault;
 use transcript::command::{Command, Word};
 use transcript::session::Session;
-use transcript::words::{number, only, own_text, path};
+use transcript::words::{number, only, own_text};
 
 /// A machine, the module of the files that are run, and the turns of a run.
 #[derive(Drop)]
@@ -34,6 +33,21 @@ fn set_module(alloc: Global, module: &mut Text, words: &[Word]) -> Result<Answer
     Ok(Answer::new(alloc))
 }
 
+/// Carries out `run`, `call_rolled` or `step_text`.
+fn evaluate(
+    alloc: Global,
+    machine: &mut Machine,
+    module: &Text,
+    command: &Command,
+    turns: &mut Turns,
+) -> Result<Answer, CaseFault> {
+    match command.name() {
+        "run" => run_text(alloc, machine, module.as_str(), command, turns),
+        "call_rolled" => call_rule(alloc, machine, module.as_str(), command.words(), turns),
+        _ => text_of_step(alloc, machine, module, command.words(), turns),
+    }
+}
+
 impl Evaluation {
     /// An empty world without files.
     pub fn new(alloc: Global) -> Result<Evaluation, OutOfMemory> {
@@ -47,35 +61,20 @@ impl Evaluation {
         })
     }
 
-    fn run(&mut self, alloc: Global, command: &Command) -> Result<Answer, CaseFault> {
-        let at = path(alloc, only(command.words())?)?;
+    /// Carries out a command that takes turns, and keeps how many of them it left.
+    fn take_turns(&mut self, alloc: Global, command: &Command) -> Result<Answer, CaseFault> {
         let mut turns = Turns::new(self.budget);
-        let module = self.module.as_str();
-        let answer = run_text(
-            alloc,
-            &mut self.machine,
-            module,
-            &at,
-            command.text(),
-            &mut turns,
-        );
+        let answer = evaluate(alloc, &mut self.machine, &self.module, command, &mut turns);
         self.left = turns.left;
         answer
     }
 
-    fn call(&mut self, alloc: Global, words: &[Word]) -> Result<Answer, CaseFault> {
-        let mut turns = Turns::new(self.budget);
-        let module = self.module.as_str();
-        let answer = call_rule(alloc, &mut self.machine, module, words, &mut turns);
-        self.left = turns.left;
-        answer
-    }
-
-    fn step(&mut self, alloc: Global, words: &[Word]) -> Result<Answer, CaseFault> {
-        let mut turns = Turns::new(self.budget);
-        let answer = text_of_step(alloc, &mut self.machine, &self.module, words, &mut turns);
-        self.left = turns.left;
-        answer
+    /// Carries out a command on the machine.
+    fn on_machine(&mut self, alloc: Global, command: &Command) -> Result<Answer, CaseFault> {
+        match command.name() {
+            "run" | "call_rolled" | "step_text" => self.take_turns(alloc, command),
+            _ => look_command(alloc, &mut self.machine, self.module.as_str(), command),
+        }
     }
 
     fn renew(&mut self, alloc: Global) -> Result<Answer, CaseFault> {
@@ -91,15 +90,8 @@ impl Session for Evaluation {
             "new" => self.renew(alloc),
             "turns" => set_turns(alloc, &mut self.budget, words),
             "module" => set_module(alloc, &mut self.module, words),
-            "file" => put_files(alloc, &mut self.machine.host, command),
-            "run" => self.run(alloc, command),
-            "call_rolled" => self.call(alloc, words),
-            "step_text" => self.step(alloc, words),
-            "value" => values(alloc, &mut self.machine, self.module.as_str(), words),
-            "on" => own_values(alloc, &self.machine.world, words),
             "left" => Answer::number(alloc, self.left as u64),
-            "decls" => decls(alloc, &self.machine.natives),
-            _ => Err(CaseFault::UnknownCommand),
+            _ => self.on_machine(alloc, command),
         }
     }
 }

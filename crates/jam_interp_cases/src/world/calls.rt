@@ -1,81 +1,79 @@
 //! Calls of native and declaring rules, and what they keep.
+use crate::shown::{push_texts, put_each};
 use crate::world::files::file_command;
+use crate::world::quoted::push_quoted;
 use crate::world::session::Scene;
+use b2_base::text::Text;
 use b2_base::text_list::TextList;
 use jam_eval::natives::{NativeError, NativeStep, Natives};
 use jam_natives::decl::Decl;
 use jam_natives::natives::JamNatives;
-use jam_natives::texts::line_of;
 use jam_patterns::native_fault::NativeFault;
 use std::alloc::Global;
+use std::mem::ManuallyDrop;
 use transcript::answer::Answer;
 use transcript::case_fault::CaseFault;
 use transcript::command::{Command, Word};
 use transcript::words::{first, lists, number};
 
-fn each_answer(
-    alloc: Global,
-    rule: &TextList,
-    items: &TextList,
-    filter: bool,
-) -> Result<Answer, CaseFault> {
-    let what = if filter { "filter" } else { "transform" };
-    let rule = line_of(alloc, rule.as_slice())?;
-    let items = line_of(alloc, items.as_slice())?;
-    let (rule, items) = (rule.as_str(), items.as_str());
-    Answer::from_string(alloc, format!(in alloc; "{what} by {rule}: {items}")?)
+/// Adds texts with a space between them.
+fn put_texts(answer: &mut Answer, texts: &[Text]) {
+    if let [text, others @ ..] = texts {
+        answer.put(text.as_str());
+        put_each(answer, others);
+    }
 }
 
-fn step_answer(alloc: Global, step: &NativeStep) -> Result<Answer, CaseFault> {
+fn push_step(answer: &mut Answer, step: &NativeStep) {
     match step {
-        NativeStep::Unknown => Answer::line(alloc, "no native rule"),
-        NativeStep::Value(texts) => Answer::texts(alloc, texts.as_slice()),
-        NativeStep::Exit(text) => {
-            let text = text.as_str();
-            Answer::from_string(alloc, format!(in alloc; "exit \"{text}\"")?)
-        }
+        NativeStep::Unknown => answer.push_line("no native rule"),
+        NativeStep::Value(texts) => push_texts(answer, texts.as_slice()),
+        NativeStep::Exit(text) => push_quoted(answer, "exit", text.as_str()),
         NativeStep::Each {
             rule,
             items,
             filter,
-        } => each_answer(alloc, rule, items, *filter),
+        } => {
+            answer.put(if *filter {
+                "filter by "
+            } else {
+                "transform by "
+            });
+            put_texts(answer, rule.as_slice());
+            answer.put(": ");
+            put_texts(answer, items.as_slice());
+            answer.end_line();
+        }
     }
 }
 
-fn fault_answer(alloc: Global, fault: &NativeFault) -> Result<Answer, CaseFault> {
+fn push_fault(answer: &mut Answer, fault: &NativeFault) {
     match fault {
-        NativeFault::PatternRefused { refusal } => {
-            let text = refusal.text();
-            Answer::from_string(alloc, format!(in alloc; "refused pattern {text}")?)
-        }
+        NativeFault::PatternRefused { refusal } => answer.push_words(
+            "refused pattern",
+            refusal.text(),
+        ),
         NativeFault::NoSuchRule { module, name } => {
-            let (module, name) = (module.as_str(), name.as_str());
-            Answer::from_string(alloc, format!(in alloc; "no rule {name} in [{module}]")?)
+            answer.put("no rule ");
+            answer.put(name.as_str());
+            answer.put(" in [");
+            answer.put(module.as_str());
+            answer.push_line("]");
         }
         NativeFault::DependsElsewhere { rule, text } => {
-            let (rule, text) = (rule.as_str(), text.as_str());
-            Answer::from_string(
-                alloc,
-                format!(in alloc; "{rule} on a foreign target \"{text}\"")?,
-            )
+            answer.put(rule.as_str());
+            push_quoted(answer, " on a foreign target", text.as_str());
         }
     }
 }
 
-fn error_answer(alloc: Global, error: &NativeError) -> Result<Answer, CaseFault> {
+fn push_error(answer: &mut Answer, error: &NativeError) {
     match error {
-        NativeError::Fault(fault) => fault_answer(alloc, fault),
-        NativeError::Arity => Answer::line(alloc, "wrong lists"),
-        NativeError::Expand(_) => Answer::line(alloc, "no expansion"),
-        NativeError::Host => Answer::line(alloc, "host fault"),
-        NativeError::OutOfMemory => Err(CaseFault::OutOfMemory),
-    }
-}
-
-fn called(alloc: Global, ended: &Result<NativeStep, NativeError>) -> Result<Answer, CaseFault> {
-    match ended {
-        Ok(step) => step_answer(alloc, step),
-        Err(error) => error_answer(alloc, error),
+        NativeError::Fault(fault) => push_fault(answer, fault),
+        NativeError::Arity => answer.push_line("wrong lists"),
+        NativeError::Expand(_) => answer.push_line("no expansion"),
+        NativeError::Host => answer.push_line("host fault"),
+        NativeError::OutOfMemory => answer.cut(),
     }
 }
 
@@ -86,10 +84,15 @@ fn call_shown(
     name: &str,
     given: &[TextList],
     line: u32,
-) -> Result<Answer, CaseFault> {
-    let ended = scene.natives.call(alloc, name, given, line, &mut scene.world, &mut *scene.host);
-    let answer = called(alloc, &ended);
-    drop(ended);
+) -> Answer {
+    let ended = ManuallyDrop::new(
+        scene.natives.call(alloc, name, given, line, &mut scene.world, &mut *scene.host),
+    );
+    let mut answer = Answer::new(alloc);
+    match &*ended {
+        Ok(step) => push_step(&mut answer, step),
+        Err(error) => push_error(&mut answer, error),
+    }
     answer
 }
 
@@ -98,32 +101,32 @@ fn call(alloc: Global, scene: &mut Scene, words: &[Word]) -> Result<Answer, Case
     let line = number(line)?;
     let (name, others) = first(others)?;
     let given = lists(alloc, others)?;
-    call_shown(alloc, scene, name, given.as_slice(), line)
+    Ok(call_shown(alloc, scene, name, given.as_slice(), line))
 }
 
-fn push_list(alloc: Global, answer: &mut Answer, list: &TextList) -> Result<(), CaseFault> {
-    let list = line_of(alloc, list.as_slice())?;
-    let list = list.as_str();
-    answer.push_string(format!(in alloc; ": {list}")?)
-}
-
-fn push_decl(alloc: Global, answer: &mut Answer, decl: &Decl) -> Result<(), CaseFault> {
-    let (rule, module) = (decl.rule.as_str(), decl.module.as_str());
-    let (dir, line) = (decl.dir.as_str(), decl.line);
-    answer.push_string(format!(in alloc; "{rule} in [{module}] of {dir}, line {line}")?)?;
+fn push_decl(answer: &mut Answer, decl: &Decl) {
+    answer.put(decl.rule.as_str());
+    answer.put(" in [");
+    answer.put(decl.module.as_str());
+    answer.put("] of ");
+    answer.put(decl.dir.as_str());
+    answer.put(", line ");
+    answer.put_number(decl.line as u64);
+    answer.end_line();
     for list in decl.lists.as_slice() {
-        push_list(alloc, answer, list)?;
+        answer.put(": ");
+        put_texts(answer, list.as_slice());
+        answer.end_line();
     }
     if decl.refused {
-        answer.push_line("refused")?;
+        answer.push_line("refused");
     }
-    Ok(())
 }
 
 fn decls(alloc: Global, natives: &JamNatives) -> Result<Answer, CaseFault> {
     let mut answer = Answer::new(alloc);
     for decl in natives.decls() {
-        push_decl(alloc, &mut answer, decl)?;
+        push_decl(&mut answer, decl);
     }
     Ok(answer)
 }
@@ -138,6 +141,6 @@ pub fn call_command(
         "call" => call(alloc, scene, command.words()),
         "decls" => decls(alloc, &scene.natives),
         "echoes" => Answer::texts(alloc, scene.natives.echoes()),
-        _ => file_command(alloc, &mut scene.host, command),
+        _ => file_command(alloc, scene, command),
     }
 }

@@ -1,29 +1,34 @@
 //! Commands on files.
 use crate::host_files::put_files;
-use crate::world::texts::text_command;
+use crate::world::naming::naming_command;
+use crate::world::session::Scene;
 use b2_base::path_list::PathList;
 use b2_base::text_list::{TextList, first_of, list_at};
 use b2_host::fault::IoFault;
 use b2_memory::memory::{CallKind, MemoryHost};
 use jam_natives::glob::{glob, project_glob};
 use std::alloc::Global;
+use std::mem::ManuallyDrop;
 use transcript::answer::Answer;
 use transcript::case_fault::CaseFault;
 use transcript::command::{Command, Word};
 use transcript::words::{lists, number, only, own_path, path};
 
 /// The output roots of a new world.
-fn first_roots(alloc: Global) -> Result<PathList, CaseFault> {
+fn first_roots(alloc: Global) -> Result<ManuallyDrop<PathList>, CaseFault> {
     let mut roots = PathList::new(alloc);
     for root in &["bin", "stage", "dist"] {
         roots.push(own_path(alloc, root)?)?;
     }
-    Ok(roots)
+    Ok(ManuallyDrop::new(roots))
 }
 
 fn found(alloc: Global, found: Result<TextList, IoFault>) -> Result<Answer, CaseFault> {
     match found {
-        Ok(texts) => Answer::texts(alloc, texts.as_slice()),
+        Ok(texts) => {
+            let texts = ManuallyDrop::new(texts);
+            Answer::texts(alloc, texts.as_slice())
+        }
         Err(IoFault::Failed) => Answer::line(alloc, "host fault"),
         Err(IoFault::OutOfMemory) => Err(CaseFault::OutOfMemory),
     }
@@ -60,15 +65,15 @@ fn fail_list(alloc: Global, host: &mut MemoryHost, words: &[Word]) -> Result<Ans
 /// Carries out a command on files, or another one.
 pub fn file_command(
     alloc: Global,
-    host: &mut MemoryHost,
+    scene: &mut Scene,
     command: &Command,
 ) -> Result<Answer, CaseFault> {
     let words = command.words();
     match command.name() {
-        "file" => put_files(alloc, host, command),
-        "fail_list" => fail_list(alloc, host, words),
-        "glob" => glob_command(alloc, host, words),
-        "project_glob" => project_glob_command(alloc, host, words),
-        _ => text_command(alloc, command),
+        "file" => put_files(alloc, &mut scene.host, command),
+        "fail_list" => fail_list(alloc, &mut scene.host, words),
+        "glob" => glob_command(alloc, &mut scene.host, words),
+        "project_glob" => project_glob_command(alloc, &mut scene.host, words),
+        _ => naming_command(alloc, &mut scene.world, command),
     }
 }

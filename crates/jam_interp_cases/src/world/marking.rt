@@ -1,6 +1,7 @@
-//! Commands on marks, and on many calls at once.
+//! Commands on marks.
+use crate::world::calls::call_command;
+use crate::world::many::{counted, set_once};
 use crate::world::session::Scene;
-use crate::world::steps::step_command;
 use b2_base::fault::OutOfMemory;
 use jam_scope::mark::Mark;
 use jam_scope::world::World;
@@ -8,7 +9,7 @@ use std::alloc::Global;
 use transcript::answer::Answer;
 use transcript::case_fault::CaseFault;
 use transcript::command::{Command, Word};
-use transcript::words::{first, named, no_words, number, only};
+use transcript::words::{no_words, number, only};
 
 /// Goes back to the newest mark, and tells whether there is one.
 fn roll_one_back(world: &mut World, marks: &mut Vec<Mark>) -> bool {
@@ -41,45 +42,6 @@ fn roll_back(
     Ok(Answer::new(alloc))
 }
 
-/// How often a command is carried out, and its other words.
-fn counted(words: &[Word]) -> Result<(u32, &[Word]), CaseFault> {
-    let (count, others) = first(words)?;
-    Ok((number(count)?, others))
-}
-
-fn set(alloc: Global, world: &mut World, words: &[Word]) -> Result<(), CaseFault> {
-    let (name, value) = named(alloc, words)?;
-    world.set(name, value)?;
-    Ok(())
-}
-
-fn sets(alloc: Global, world: &mut World, words: &[Word]) -> Result<Answer, CaseFault> {
-    let (count, words) = counted(words)?;
-    for _ in 0..count {
-        set(alloc, world, words)?;
-    }
-    Ok(Answer::new(alloc))
-}
-
-fn appends(alloc: Global, world: &mut World, words: &[Word]) -> Result<Answer, CaseFault> {
-    let (count, words) = counted(words)?;
-    let (name, value) = named(alloc, words)?;
-    for _ in 0..count {
-        world.append(name, value.as_slice())?;
-    }
-    Ok(Answer::new(alloc))
-}
-
-fn appends_on(alloc: Global, world: &mut World, words: &[Word]) -> Result<Answer, CaseFault> {
-    let (count, others) = counted(words)?;
-    let (target, others) = first(others)?;
-    let (name, value) = named(alloc, others)?;
-    for _ in 0..count {
-        world.append_on(target, name, value.as_slice())?;
-    }
-    Ok(Answer::new(alloc))
-}
-
 fn marked_sets(
     alloc: Global,
     world: &mut World,
@@ -89,7 +51,7 @@ fn marked_sets(
     let (count, words) = counted(words)?;
     for _ in 0..count {
         mark(world, marks)?;
-        set(alloc, world, words)?;
+        set_once(alloc, world, words)?;
     }
     Ok(Answer::new(alloc))
 }
@@ -115,10 +77,7 @@ pub fn marking_command(
             roll_back(alloc, &mut scene.world, &mut scene.marks, count)
         }
         "marked" => Answer::yes_or_no(alloc, scene.world.marked()),
-        "sets" => sets(alloc, &mut scene.world, words),
-        "appends" => appends(alloc, &mut scene.world, words),
-        "appends_on" => appends_on(alloc, &mut scene.world, words),
         "marked_sets" => marked_sets(alloc, &mut scene.world, &mut scene.marks, words),
-        _ => step_command(alloc, scene, command),
+        _ => call_command(alloc, scene, command),
     }
 }

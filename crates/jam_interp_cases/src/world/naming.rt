@@ -1,6 +1,6 @@
 //! Commands on names and frames.
 use crate::world::rules::rule_command;
-use crate::world::session::Scene;
+use crate::world::values::name_and_value;
 use b2_base::look::Look;
 use jam_scope::world::World;
 use std::alloc::Global;
@@ -15,7 +15,7 @@ fn set(alloc: Global, world: &mut World, words: &[Word]) -> Result<Answer, CaseF
 }
 
 fn append(alloc: Global, world: &mut World, words: &[Word]) -> Result<Answer, CaseFault> {
-    let (name, value) = named(alloc, words)?;
+    let (name, value) = name_and_value(alloc, words)?;
     Answer::done(alloc, world.append(name, value.as_slice()))
 }
 
@@ -37,33 +37,33 @@ fn leave(alloc: Global, world: &mut World, words: &[Word]) -> Result<Answer, Cas
 }
 
 /// Carries out a command that looks at names and frames, or another one.
-fn look_command(alloc: Global, scene: &mut Scene, command: &Command) -> Result<Answer, CaseFault> {
+fn look_command(alloc: Global, world: &mut World, command: &Command) -> Result<Answer, CaseFault> {
     let words = command.words();
     match command.name() {
-        "look" => Answer::texts(alloc, scene.world.look(only(words)?)),
-        "look_size" => Answer::number(alloc, scene.world.look(only(words)?).len() as u64),
-        "assigned" => Answer::texts(alloc, scene.world.assigned(only(words)?)),
-        "assigned_size" => Answer::number(alloc, scene.world.assigned_size(only(words)?)),
-        "module" => Answer::line(alloc, scene.world.module()),
-        "caller" => Answer::line(alloc, scene.world.caller()),
-        _ => rule_command(alloc, scene, command),
+        "look" => Answer::texts(alloc, world.look(only(words)?)),
+        "look_size" => Answer::number(alloc, world.look(only(words)?).len() as u64),
+        "assigned" => Answer::texts(alloc, world.assigned(only(words)?)),
+        "assigned_size" => Answer::number(alloc, world.assigned_size(only(words)?)),
+        "module" => Answer::line(alloc, world.module()),
+        "caller" => Answer::line(alloc, world.caller()),
+        _ => rule_command(alloc, world, command),
     }
 }
 
 /// Carries out a command on names and frames, or another one.
 pub fn naming_command(
     alloc: Global,
-    scene: &mut Scene,
+    world: &mut World,
     command: &Command,
 ) -> Result<Answer, CaseFault> {
     let words = command.words();
     match command.name() {
-        "set" => set(alloc, &mut scene.world, words),
-        "append" => append(alloc, &mut scene.world, words),
-        "bind" => bind(alloc, &mut scene.world, words),
-        "enter" => Answer::done(alloc, scene.world.enter(only(words)?)),
-        "enter_call" => Answer::done(alloc, scene.world.enter_call(only(words)?)),
-        "leave" => leave(alloc, &mut scene.world, words),
-        _ => look_command(alloc, scene, command),
+        "set" => set(alloc, world, words),
+        "append" => append(alloc, world, words),
+        "bind" => bind(alloc, world, words),
+        "enter" => Answer::done(alloc, world.enter(only(words)?)),
+        "enter_call" => Answer::done(alloc, world.enter_call(only(words)?)),
+        "leave" => leave(alloc, world, words),
+        _ => look_command(alloc, world, command),
     }
 }

@@ -1,8 +1,9 @@
 //! Commands on own values of targets, the project's directory and the output roots.
-use crate::world::calls::call_command;
-use crate::world::session::Scene;
+use crate::world::texts::text_command;
+use crate::world::values::name_and_value;
 use jam_scope::world::World;
 use std::alloc::Global;
+use std::mem::ManuallyDrop;
 use transcript::answer::Answer;
 use transcript::case_fault::CaseFault;
 use transcript::command::{Command, Word};
@@ -16,7 +17,7 @@ fn set_on(alloc: Global, world: &mut World, words: &[Word]) -> Result<Answer, Ca
 
 fn append_on(alloc: Global, world: &mut World, words: &[Word]) -> Result<Answer, CaseFault> {
     let (target, others) = first(words)?;
-    let (name, value) = named(alloc, others)?;
+    let (name, value) = name_and_value(alloc, others)?;
     Answer::done(alloc, world.append_on(target, name, value.as_slice()))
 }
 
@@ -31,6 +32,11 @@ fn on_target(alloc: Global, world: &World, words: &[Word]) -> Result<Answer, Cas
         Some(texts) => Answer::texts(alloc, texts),
         None => Answer::line(alloc, "none"),
     }
+}
+
+fn own_names(alloc: Global, world: &World, words: &[Word]) -> Result<Answer, CaseFault> {
+    let names = ManuallyDrop::new(world.own_names(only(words)?)?);
+    Answer::texts(alloc, names.as_slice())
 }
 
 fn bind_own(alloc: Global, world: &mut World, words: &[Word]) -> Result<Answer, CaseFault> {
@@ -52,29 +58,41 @@ fn add_roots(alloc: Global, world: &mut World, words: &[Word]) -> Result<Answer,
     Answer::line(alloc, if added { "added" } else { "frozen" })
 }
 
-/// Carries out a command on a project, or another one.
-pub fn project_command(
+/// Carries out a command on the project's directory and the output roots, or another one.
+fn project_command(
     alloc: Global,
-    scene: &mut Scene,
+    world: &mut World,
     command: &Command,
 ) -> Result<Answer, CaseFault> {
     let words = command.words();
     match command.name() {
-        "set_on" => set_on(alloc, &mut scene.world, words),
-        "append_on" => append_on(alloc, &mut scene.world, words),
-        "own_size" => own_size(alloc, &scene.world, words),
-        "on_target" => on_target(alloc, &scene.world, words),
-        "own_names" => Answer::texts(alloc, scene.world.own_names(only(words)?)?.as_slice()),
-        "bind_own" => bind_own(alloc, &mut scene.world, words),
-        "set_place" => set_place(alloc, &mut scene.world, words),
-        "place" => Answer::line(alloc, scene.world.place().as_str()),
-        "add_roots" => add_roots(alloc, &mut scene.world, words),
+        "set_place" => set_place(alloc, world, words),
+        "place" => Answer::line(alloc, world.place().as_str()),
+        "add_roots" => add_roots(alloc, world, words),
         "freeze_roots" => {
             no_words(words)?;
-            scene.world.freeze_roots();
+            world.freeze_roots();
             Ok(Answer::new(alloc))
         }
-        "roots" => Answer::paths(alloc, scene.world.roots()),
-        _ => call_command(alloc, scene, command),
+        "roots" => Answer::paths(alloc, world.roots()),
+        _ => text_command(alloc, command),
+    }
+}
+
+/// Carries out a command on own values of targets, or another one.
+pub fn own_command(
+    alloc: Global,
+    world: &mut World,
+    command: &Command,
+) -> Result<Answer, CaseFault> {
+    let words = command.words();
+    match command.name() {
+        "set_on" => set_on(alloc, world, words),
+        "append_on" => append_on(alloc, world, words),
+        "own_size" => own_size(alloc, world, words),
+        "on_target" => on_target(alloc, world, words),
+        "own_names" => own_names(alloc, world, words),
+        "bind_own" => bind_own(alloc, world, words),
+        _ => project_command(alloc, world, command),
     }
 }

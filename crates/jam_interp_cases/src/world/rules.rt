@@ -1,6 +1,5 @@
-//! Commands on rules and actions.
-use crate::world::marking::marking_command;
-use crate::world::session::Scene;
+//! Commands that define rules and actions.
+use crate::world::found::{found_command, put_home};
 use b2_base::fault::OutOfMemory;
 use b2_base::text::Text;
 use jam_grammar::tree::Block;
@@ -9,6 +8,7 @@ use jam_scope::rule::Rule;
 use jam_scope::rule_ref::RuleRef;
 use jam_scope::world::World;
 use std::alloc::Global;
+use std::mem::ManuallyDrop;
 use std::rc::Rc;
 use transcript::answer::Answer;
 use transcript::case_fault::CaseFault;
@@ -42,42 +42,6 @@ fn define_actions(alloc: Global, world: &mut World, words: &[Word]) -> Result<An
     Answer::done(alloc, world.define_actions(name, body))
 }
 
-fn find_rule(alloc: Global, world: &World, words: &[Word]) -> Result<Answer, CaseFault> {
-    let Some(at) = world.find_rule(only(words)?) else {
-        return Answer::line(alloc, "none");
-    };
-    let Some((home, body)) = world.rule_body(&at) else {
-        return Answer::line(alloc, "none");
-    };
-    let RuleRef { module, name } = at;
-    let line = body.line();
-    let shown = format!(in alloc; "[{module}] {name}, home [{home}], line {line}")?;
-    Answer::from_string(alloc, shown)
-}
-
-fn find_actions(alloc: Global, world: &World, words: &[Word]) -> Result<Answer, CaseFault> {
-    let Some(at) = world.find_actions(only(words)?) else {
-        return Answer::line(alloc, "none");
-    };
-    let Some(actions) = world.action_body(&at) else {
-        return Answer::line(alloc, "none");
-    };
-    let RuleRef { module, name } = at;
-    let body = actions.text().as_str();
-    let shown = format!(in alloc; "[{module}] {name}: {body}")?;
-    Answer::from_string(alloc, shown)
-}
-
-fn rule_body(alloc: Global, world: &World, words: &[Word]) -> Result<Answer, CaseFault> {
-    let (module, name) = both(words)?;
-    let Some((home, body)) = world.rule_body(&RuleRef { module, name }) else {
-        return Answer::line(alloc, "none");
-    };
-    let line = body.line();
-    let shown = format!(in alloc; "home [{home}], line {line}")?;
-    Answer::from_string(alloc, shown)
-}
-
 fn import_rule(alloc: Global, world: &mut World, words: &[Word]) -> Result<Answer, CaseFault> {
     let (module, others) = first(words)?;
     let (name, others) = first(others)?;
@@ -86,37 +50,33 @@ fn import_rule(alloc: Global, world: &mut World, words: &[Word]) -> Result<Answe
     Answer::line(alloc, if found { "imported" } else { "none" })
 }
 
-fn rule_line(alloc: Global, rule: &Rule) -> Result<Answer, CaseFault> {
-    let home = rule.home();
+/// Shows a rule.
+fn push_rule(answer: &mut Answer, rule: &Rule) {
     let body = rule.body();
-    let (path, line) = (body.path().as_str(), body.line());
-    let (lists, statements) = (body.params().len(), body.block().stmts.len());
-    let shown = format!(in alloc;
-        "home [{home}], {path}:{line}, {lists} lists, {statements} statements"
-    )?;
-    Answer::from_string(alloc, shown)
+    put_home(answer, rule.home());
+    answer.put(body.path().as_str());
+    answer.put(":");
+    answer.put_number(body.line() as u64);
+    answer.put(", ");
+    answer.put_number(body.params().len() as u64);
+    answer.put(" lists, ");
+    answer.put_number(body.block().stmts.len() as u64);
+    answer.push_line(" statements");
 }
 
-/// A share of a rule, after its name was defined anew in the present module.
-fn rule_defined_anew(
-    alloc: Global,
-    world: &mut World,
-    rule: &Rule,
-    name: &str,
-    line: u32,
-) -> Result<Answer, CaseFault> {
-    define(alloc, world, name, line)?;
-    rule_line(alloc, rule)
-}
-
+/// Shows a share of a rule, after its name was defined anew in the present module.
 fn rule_at(alloc: Global, world: &mut World, words: &[Word]) -> Result<Answer, CaseFault> {
     let (module, others) = first(words)?;
     let (name, line) = both(others)?;
     let line = number(line)?;
-    match world.rule_at(&RuleRef { module, name })? {
-        Some(rule) => rule_defined_anew(alloc, world, &rule, name, line),
-        None => Answer::line(alloc, "none"),
-    }
+    let Some(rule) = world.rule_at(&RuleRef { module, name })? else {
+        return Answer::line(alloc, "none");
+    };
+    let rule = ManuallyDrop::new(rule);
+    define(alloc, world, name, line)?;
+    let mut answer = Answer::new(alloc);
+    push_rule(&mut answer, &rule);
+    Ok(answer)
 }
 
 fn set_parent(alloc: Global, world: &mut World, words: &[Word]) -> Result<Answer, CaseFault> {
@@ -127,23 +87,19 @@ fn set_parent(alloc: Global, world: &mut World, words: &[Word]) -> Result<Answer
     Answer::done(alloc, world.set_parent(module, parent))
 }
 
-/// Carries out a command on rules and actions, or another one.
+/// Carries out a command that defines rules and actions, or another one.
 pub fn rule_command(
     alloc: Global,
-    scene: &mut Scene,
+    world: &mut World,
     command: &Command,
 ) -> Result<Answer, CaseFault> {
     let words = command.words();
     match command.name() {
-        "define_rule" => define_rule(alloc, &mut scene.world, words),
-        "define_actions" => define_actions(alloc, &mut scene.world, words),
-        "find_rule" => find_rule(alloc, &scene.world, words),
-        "find_actions" => find_actions(alloc, &scene.world, words),
-        "rule_body" => rule_body(alloc, &scene.world, words),
-        "import_rule" => import_rule(alloc, &mut scene.world, words),
-        "rule_at" => rule_at(alloc, &mut scene.world, words),
-        "rule_names" => Answer::texts(alloc, scene.world.rule_names(only(words)?)?.as_slice()),
-        "set_parent" => set_parent(alloc, &mut scene.world, words),
-        _ => marking_command(alloc, scene, command),
+        "define_rule" => define_rule(alloc, world, words),
+        "define_actions" => define_actions(alloc, world, words),
+        "import_rule" => import_rule(alloc, world, words),
+        "rule_at" => rule_at(alloc, world, words),
+        "set_parent" => set_parent(alloc, world, words),
+        _ => found_command(alloc, world, command),
     }
 }

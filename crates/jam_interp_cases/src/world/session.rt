@@ -1,5 +1,5 @@
 //! The world at hand with its native rules and files.
-use crate::world::naming::naming_command;
+use crate::world::marking::marking_command;
 use b2_base::fault::OutOfMemory;
 use b2_memory::memory::MemoryHost;
 use jam_natives::natives::JamNatives;
@@ -46,7 +46,7 @@ impl Session for Scene {
     fn carry_out(&mut self, alloc: Global, command: &Command) -> Result<Answer, CaseFault> {
         match command.name() {
             "new" => self.renew(alloc, command.words()),
-            _ => naming_command(alloc, self, command),
+            _ => marking_command(alloc, self, command),
         }
     }
 }
