@@ -1,5 +1,4 @@
 //! What calls of a host and a sink answer, as answers.
-use b2_base::path::Path;
 use b2_host::fault::{Failed, IoFault};
 use std::alloc::Global;
 use transcript::answer::Answer;
@@ -26,23 +25,29 @@ pub fn io_answer(alloc: Global, done: Result<(), IoFault>) -> Result<Answer, Cas
     }
 }
 
+/// Shows the step of a child process that has ended, and how.
+pub fn push_ended(answer: &mut Answer, step: u32, well: bool) {
+    answer.put_number(step as u64);
+    answer.push_line(if well { " well" } else { " badly" });
+}
+
 /// Which child process has ended, and how.
 pub fn ended_answer(
     alloc: Global,
     ended: Result<(u32, bool), Failed>,
 ) -> Result<Answer, CaseFault> {
+    let mut answer = Answer::new(alloc);
     match ended {
-        Ok((step, true)) => Answer::from_string(alloc, format!(in alloc; "{step} well")?),
-        Ok((step, false)) => Answer::from_string(alloc, format!(in alloc; "{step} badly")?),
-        Err(Failed) => Answer::line(alloc, "Failed"),
+        Ok((step, well)) => push_ended(&mut answer, step, well),
+        Err(Failed) => answer.push_line("Failed"),
     }
+    Ok(answer)
 }
 
-/// Adds each path to a line, with a blank before it.
-pub fn push_paths(line: &mut String, paths: &[Path]) -> Result<(), CaseFault> {
-    for path in paths {
-        line.push(' ')?;
-        line.push_str(path.as_str())?;
-    }
-    Ok(())
+/// A line of bytes.
+pub fn bytes_answer(alloc: Global, bytes: &[u8]) -> Result<Answer, CaseFault> {
+    let mut answer = Answer::new(alloc);
+    answer.put_bytes(bytes);
+    answer.end_line();
+    Ok(answer)
 }

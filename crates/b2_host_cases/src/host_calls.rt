@@ -1,20 +1,25 @@
 //! Commands that make one call of any host or sink.
-use crate::answers::{fault_answer, io_answer};
+use crate::answers::{bytes_answer, fault_answer, io_answer};
 use b2_host::fault::Failed;
 use b2_host::files::{Files, ReadAnswer};
 use b2_host::sink::Sink;
 use std::alloc::Global;
-use transcript::answer::{Answer, shown};
+use std::mem::ManuallyDrop;
+use transcript::answer::Answer;
 use transcript::case_fault::CaseFault;
 use transcript::command::{Command, Word};
 use transcript::words::{both, number, only, path};
 
-fn read_answer(alloc: Global, answer: &ReadAnswer) -> Result<Answer, CaseFault> {
-    match answer {
-        ReadAnswer::Bytes(bytes) => { Answer::from_string(alloc, shown(alloc, bytes.as_slice())?) }
+fn read_answer(alloc: Global, read: &ReadAnswer) -> Result<Answer, CaseFault> {
+    match read {
+        ReadAnswer::Bytes(bytes) => bytes_answer(alloc, bytes.as_slice()),
         ReadAnswer::Missing => Answer::line(alloc, "Missing"),
         ReadAnswer::TooBig { size } => {
-            Answer::from_string(alloc, format!(in alloc; "TooBig {size}")?)
+            let mut answer = Answer::new(alloc);
+            answer.put("TooBig ");
+            answer.put_number(*size);
+            answer.end_line();
+            Ok(answer)
         }
     }
 }
@@ -25,7 +30,10 @@ fn read<H: Files>(alloc: Global, host: &mut H, words: &[Word]) -> Result<Answer,
     let most = number(most)? as u64;
     let path = path(alloc, name)?;
     match host.read(&path, most) {
-        Ok(answer) => read_answer(alloc, &answer),
+        Ok(read) => {
+            let read = ManuallyDrop::new(read);
+            read_answer(alloc, &read)
+        }
         Err(fault) => fault_answer(alloc, fault),
     }
 }
@@ -34,7 +42,10 @@ fn read<H: Files>(alloc: Global, host: &mut H, words: &[Word]) -> Result<Answer,
 fn list<H: Files>(alloc: Global, host: &mut H, words: &[Word]) -> Result<Answer, CaseFault> {
     let path = path(alloc, only(words)?)?;
     match host.list(&path) {
-        Ok(names) => Answer::texts(alloc, names.as_slice()),
+        Ok(names) => {
+            let names = ManuallyDrop::new(names);
+            Answer::texts(alloc, names.as_slice())
+        }
         Err(fault) => fault_answer(alloc, fault),
     }
 }

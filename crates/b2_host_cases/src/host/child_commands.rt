@@ -7,21 +7,25 @@ use b2_base::path_list::PathList;
 use b2_host::children::Children;
 use b2_memory::memory::MemoryHost;
 use std::alloc::Global;
+use std::mem::ManuallyDrop;
 use transcript::answer::Answer;
 use transcript::case_fault::CaseFault;
 use transcript::command::{Command, Word};
-use transcript::words::{no_words, number, own_paths};
+use transcript::words::{no_words, number, paths};
 
-/// What a child reads and writes: the paths before the first word `>`, and those after it.
-fn ins_and_outs(alloc: Global, words: &[Word]) -> Result<(PathList, PathList), CaseFault> {
+/// What a child reads and writes, to lend: the paths before the first word `>`, and those after it.
+fn ins_and_outs(
+    alloc: Global,
+    words: &[Word],
+) -> Result<(ManuallyDrop<PathList>, ManuallyDrop<PathList>), CaseFault> {
     match words
         .iter()
         .position(|word| word.bytes() == b">".as_slice())
     {
         None => Err(CaseFault::WrongWords),
         Some(place) => {
-            let ins = own_paths(alloc, &words[..place])?;
-            let outs = own_paths(alloc, &words[place + 1..])?;
+            let ins = paths(alloc, &words[..place])?;
+            let outs = paths(alloc, &words[place + 1..])?;
             Ok((ins, outs))
         }
     }

@@ -49,7 +49,13 @@ fn stat(alloc: Global, host: &mut MemoryHost, words: &[Word]) -> Result<Answer, 
     let path = path(alloc, only(words)?)?;
     match host.stat(&path) {
         Ok(None) => Answer::line(alloc, "none"),
-        Ok(Some(stamp)) => Answer::from_string(alloc, format!(in alloc; "stamp {stamp}")?),
+        Ok(Some(stamp)) => {
+            let mut answer = Answer::new(alloc);
+            answer.put("stamp ");
+            answer.put_number(stamp);
+            answer.end_line();
+            Ok(answer)
+        }
         Err(Failed) => Answer::line(alloc, "Failed"),
     }
 }

@@ -1,44 +1,51 @@
 //! Commands that look at the host in memory.
-use crate::answers::push_paths;
+use crate::answers::push_ended;
 use crate::host_calls::file_command;
 use b2_base::path::Path;
 use b2_host::children::ChildEvent;
 use b2_memory::job::Job;
 use b2_memory::memory::MemoryHost;
 use std::alloc::Global;
-use transcript::answer::{Answer, shown};
+use transcript::answer::Answer;
 use transcript::case_fault::CaseFault;
 use transcript::command::Command;
 
-fn push_event(alloc: Global, answer: &mut Answer, event: ChildEvent) -> Result<(), CaseFault> {
-    let line = match event {
-        ChildEvent::Start(step) => format!(in alloc; "Start {step}")?,
-        ChildEvent::Done(step, true) => format!(in alloc; "Done {step} well")?,
-        ChildEvent::Done(step, false) => format!(in alloc; "Done {step} badly")?,
-    };
-    answer.push_line(line.as_str())
+fn push_event(answer: &mut Answer, event: ChildEvent) {
+    match event {
+        ChildEvent::Start(step) => {
+            answer.put("Start ");
+            answer.put_number(step as u64);
+            answer.end_line();
+        }
+        ChildEvent::Done(step, well) => {
+            answer.put("Done ");
+            push_ended(answer, step, well);
+        }
+    }
 }
 
 /// `events`: what happened to the children.
 fn events(alloc: Global, host: &MemoryHost) -> Result<Answer, CaseFault> {
     let mut answer = Answer::new(alloc);
     for event in host.events() {
-        push_event(alloc, &mut answer, *event)?;
+        push_event(&mut answer, *event);
     }
     Ok(answer)
 }
 
-fn push_file(
-    alloc: Global,
-    answer: &mut Answer,
-    stamp: u64,
-    path: &Path,
-    bytes: &[u8],
-) -> Result<(), CaseFault> {
-    let path = path.as_str();
-    let bytes = shown(alloc, bytes)?;
-    let bytes = bytes.as_str();
-    answer.push_string(format!(in alloc; "{stamp} {path} \"{bytes}\"")?)
+/// Adds a path and what the file there holds, and ends the line.
+fn push_contents(answer: &mut Answer, path: &Path, bytes: &[u8]) {
+    answer.put(path.as_str());
+    answer.put(" \"");
+    answer.put_bytes(bytes);
+    answer.push_line("\"");
+}
+
+/// Shows a file with the stamp that it has or had.
+fn push_file(answer: &mut Answer, stamp: u64, path: &Path, bytes: &[u8]) {
+    answer.put_number(stamp);
+    answer.put(" ");
+    push_contents(answer, path, bytes);
 }
 
 /// `files`: the files that stand, in order of stamps.
@@ -47,13 +54,7 @@ fn files(alloc: Global, host: &MemoryHost) -> Result<Answer, CaseFault> {
     for (place, version) in host.past().iter().enumerate() {
         let stamp = place as u64 + 1;
         if host.stamp_of(&version.path) == Some(stamp) {
-            push_file(
-                alloc,
-                &mut answer,
-                stamp,
-                &version.path,
-                host.bytes_of(version),
-            )?;
+            push_file(&mut answer, stamp, &version.path, host.bytes_of(version));
         }
     }
     Ok(answer)
@@ -64,69 +65,85 @@ fn past(alloc: Global, host: &MemoryHost) -> Result<Answer, CaseFault> {
     let mut answer = Answer::new(alloc);
     for (place, version) in host.past().iter().enumerate() {
         let stamp = place as u64 + 1;
-        push_file(
-            alloc,
-            &mut answer,
-            stamp,
-            &version.path,
-            host.bytes_of(version),
-        )?;
+        push_file(&mut answer, stamp, &version.path, host.bytes_of(version));
     }
     Ok(answer)
 }
 
-/// What a start gave, as the words of a `start`.
-fn job_line(alloc: Global, job: &Job) -> Result<String, CaseFault> {
-    let step = job.step;
-    let text = shown(alloc, job.text.as_bytes())?;
-    let text = text.as_str();
-    let mut line = format!(in alloc; "{step} \"{text}\"")?;
-    push_paths(&mut line, job.ins.as_slice())?;
-    line.push_str(" >")?;
-    push_paths(&mut line, job.outs.as_slice())?;
-    Ok(line)
+/// Adds each path, with a space before it.
+fn put_paths(answer: &mut Answer, paths: &[Path]) {
+    for path in paths {
+        answer.put(" ");
+        answer.put(path.as_str());
+    }
+}
+
+/// Adds what a start gave, as the words of a `start`.
+fn put_job(answer: &mut Answer, job: &Job) {
+    answer.put_number(job.step as u64);
+    answer.put(" \"");
+    answer.put(job.text.as_str());
+    answer.put("\"");
+    put_paths(answer, job.ins.as_slice());
+    answer.put(" >");
+    put_paths(answer, job.outs.as_slice());
 }
 
 /// `running`: the children that run, in order of start, each with how it is to end.
 fn running(alloc: Global, host: &MemoryHost) -> Result<Answer, CaseFault> {
     let mut answer = Answer::new(alloc);
     for child in host.running() {
-        let mut line = job_line(alloc, child.job.as_ref())?;
-        line.push_str(if child.well { ", well" } else { ", badly" })?;
-        answer.push_line(line.as_str())?;
+        put_job(&mut answer, child.job.as_ref());
+        answer.push_line(if child.well { ", well" } else { ", badly" });
     }
     Ok(answer)
 }
 
-/// What a start gave, and below it the inputs that stood then, with their bytes.
-fn push_given(alloc: Global, answer: &mut Answer, job: &Job) -> Result<(), CaseFault> {
-    answer.push_string(job_line(alloc, job)?)?;
+/// Shows what a start gave, and below it the inputs that stood then, with their bytes.
+fn push_given(answer: &mut Answer, job: &Job) {
+    put_job(answer, job);
+    answer.end_line();
     for entry in &job.held {
-        let path = entry.path.as_str();
-        let bytes = shown(alloc, entry.bytes.as_ref().as_slice())?;
-        let bytes = bytes.as_str();
-        answer.push_string(format!(in alloc; "held {path} \"{bytes}\"")?)?;
+        answer.put("held ");
+        push_contents(answer, &entry.path, entry.bytes.as_ref().as_slice());
     }
-    Ok(())
 }
 
 /// `given`: what each start gave.
 fn given(alloc: Global, host: &MemoryHost) -> Result<Answer, CaseFault> {
     let mut answer = Answer::new(alloc);
     for job in host.given() {
-        push_given(alloc, &mut answer, job.as_ref())?;
+        push_given(&mut answer, job.as_ref());
     }
     Ok(answer)
 }
 
 /// `faults`: how often a call failed, and how often a wait did.
 fn faults(alloc: Global, host: &MemoryHost) -> Result<Answer, CaseFault> {
-    let calls = host.fault_count();
-    let waits = host.failed_wait_count();
-    Answer::from_string(alloc, format!(in alloc; "{calls}, waits {waits}")?)
+    let mut answer = Answer::new(alloc);
+    answer.put_number(host.fault_count());
+    answer.put(", waits ");
+    answer.put_number(host.failed_wait_count());
+    answer.end_line();
+    Ok(answer)
 }
 
-/// Carries out a command that looks at the host, or one on files. `reads` shows the paths of the reads that were answered.
+/// Carries out a command that looks at the files of the host, or one on files. `reads` shows the paths of the reads that were
+/// answered.
+fn look_at_files(
+    alloc: Global,
+    host: &mut MemoryHost,
+    command: &Command,
+) -> Result<Answer, CaseFault> {
+    match command.name() {
+        "files" => files(alloc, host),
+        "past" => past(alloc, host),
+        "reads" => Answer::paths(alloc, host.reads()),
+        _ => file_command(alloc, host, command),
+    }
+}
+
+/// Carries out a command that looks at the host, or one on files.
 pub fn look_command(
     alloc: Global,
     host: &mut MemoryHost,
@@ -134,12 +151,9 @@ pub fn look_command(
 ) -> Result<Answer, CaseFault> {
     match command.name() {
         "events" => events(alloc, host),
-        "files" => files(alloc, host),
-        "past" => past(alloc, host),
         "running" => running(alloc, host),
         "given" => given(alloc, host),
-        "reads" => Answer::paths(alloc, host.reads()),
         "faults" => faults(alloc, host),
-        _ => file_command(alloc, host, command),
+        _ => look_at_files(alloc, host, command),
     }
 }

@@ -15,7 +15,10 @@ use transcript::words::{both, only, path, paths};
 /// `normal TEXT`: the normal form.
 fn normal(alloc: Global, words: &[Word]) -> Result<Answer, CaseFault> {
     match Path::normal(alloc, only(words)?) {
-        Ok(path) => Answer::line(alloc, path.as_str()),
+        Ok(path) => {
+            let path = ManuallyDrop::new(path);
+            Answer::line(alloc, path.as_str())
+        }
         Err(PathFault::Empty) => Answer::line(alloc, "Empty"),
         Err(PathFault::Nul) => Answer::line(alloc, "Nul"),
         Err(PathFault::OutOfMemory) => Err(CaseFault::OutOfMemory),
@@ -48,8 +51,9 @@ fn cmp(alloc: Global, words: &[Word]) -> Result<Answer, CaseFault> {
 
 /// `paths PATH ..`: a copy of a list of paths, made of a vector of them again.
 fn path_list(alloc: Global, words: &[Word]) -> Result<Answer, CaseFault> {
-    let copies = copy_paths(alloc, paths(alloc, words)?.as_slice())?;
-    let list = PathList::from_vec(copies.into_vec());
+    let given = paths(alloc, words)?;
+    let copies = copy_paths(alloc, given.as_slice())?;
+    let list = ManuallyDrop::new(PathList::from_vec(copies.into_vec()));
     Answer::paths(alloc, list.as_slice())
 }
 

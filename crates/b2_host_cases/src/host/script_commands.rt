@@ -2,18 +2,29 @@
 use crate::host::look_commands::look_command;
 use b2_memory::memory::{CallKind, MemoryHost};
 use std::alloc::Global;
+use std::mem::ManuallyDrop;
 use transcript::answer::Answer;
 use transcript::case_fault::CaseFault;
 use transcript::command::{Command, Word};
 use transcript::words::{both, no_words, number, only};
 
-/// The words as numbers.
-fn numbers(alloc: Global, words: &[Word]) -> Result<Vec<u32>, CaseFault> {
+/// The words as numbers, to lend.
+fn numbers(alloc: Global, words: &[Word]) -> Result<ManuallyDrop<Vec<u32>>, CaseFault> {
     let mut numbers = Vec::new(alloc);
     for word in words {
         numbers.push(number(word.as_str()?)?)?;
     }
-    Ok(numbers)
+    Ok(ManuallyDrop::new(numbers))
+}
+
+/// The kind of a call that changes a file.
+fn change_kind(word: &str) -> Result<CallKind, CaseFault> {
+    match word {
+        "Append" => Ok(CallKind::Append),
+        "Replace" => Ok(CallKind::Replace),
+        "Remove" => Ok(CallKind::Remove),
+        _ => Err(CaseFault::WrongWords),
+    }
 }
 
 fn call_kind(word: &str) -> Result<CallKind, CaseFault> {
@@ -21,12 +32,9 @@ fn call_kind(word: &str) -> Result<CallKind, CaseFault> {
         "Stat" => Ok(CallKind::Stat),
         "Read" => Ok(CallKind::Read),
         "List" => Ok(CallKind::List),
-        "Append" => Ok(CallKind::Append),
-        "Replace" => Ok(CallKind::Replace),
-        "Remove" => Ok(CallKind::Remove),
         "Start" => Ok(CallKind::Start),
         "Wait" => Ok(CallKind::Wait),
-        _ => Err(CaseFault::WrongWords),
+        _ => change_kind(word),
     }
 }
 

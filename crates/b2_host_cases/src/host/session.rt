@@ -1,4 +1,5 @@
 //! The map, the host and the sink at hand.
+use crate::answers::bytes_answer;
 use crate::host::text_commands::text_command;
 use crate::host_calls::write;
 use b2_base::fault::OutOfMemory;
@@ -8,7 +9,7 @@ use b2_memory::memory::MemoryHost;
 use b2_memory::memory_sink::MemorySink;
 use std::alloc::Global;
 use std::mem::ManuallyDrop;
-use transcript::answer::{Answer, shown};
+use transcript::answer::Answer;
 use transcript::case_fault::CaseFault;
 use transcript::command::{Command, Word};
 use transcript::session::Session;
@@ -26,7 +27,10 @@ pub struct HostAtHand {
 /// `insert TEXT VALUE`: gives a text a value in the map, and answers the one before.
 fn insert(alloc: Global, map: &mut TextMap<Text>, words: &[Word]) -> Result<Answer, CaseFault> {
     let (name, value) = both(words)?;
-    match map.insert(own_text(alloc, name)?, own_text(alloc, value)?)? {
+    let name = text(alloc, name)?;
+    let value = own_text(alloc, value)?;
+    let before = ManuallyDrop::new(map.insert(ManuallyDrop::into_inner(name), value)?);
+    match &*before {
         None => Answer::line(alloc, "none"),
         Some(before) => Answer::line(alloc, before.as_str()),
     }
@@ -62,17 +66,22 @@ impl HostAtHand {
         *self = HostAtHand::new(alloc)?;
         Ok(Answer::new(alloc))
     }
+}
 
-    /// Carries out a command on the sink, or another one that asks for no more than a host. `bytes` shows what was written,
-    /// and `sink_faults` how often a write failed.
-    fn on_sink(&mut self, alloc: Global, command: &Command) -> Result<Answer, CaseFault> {
-        match command.name() {
-            "write" => write(alloc, &mut self.sink, command.words()),
-            "fail_at" => fail_at(alloc, &mut self.sink, command.words()),
-            "bytes" => Answer::from_string(alloc, shown(alloc, self.sink.bytes())?),
-            "sink_faults" => Answer::number(alloc, self.sink.fault_count()),
-            _ => text_command(alloc, &mut *self.host, command),
-        }
+/// Carries out a command on the sink, or another one that asks for no more than a host. `bytes` shows what was written, and
+/// `sink_faults` how often a write failed.
+fn sink_command(
+    alloc: Global,
+    sink: &mut MemorySink,
+    host: &mut MemoryHost,
+    command: &Command,
+) -> Result<Answer, CaseFault> {
+    match command.name() {
+        "write" => write(alloc, sink, command.words()),
+        "fail_at" => fail_at(alloc, sink, command.words()),
+        "bytes" => bytes_answer(alloc, sink.bytes()),
+        "sink_faults" => Answer::number(alloc, sink.fault_count()),
+        _ => text_command(alloc, host, command),
     }
 }
 
@@ -82,7 +91,7 @@ impl Session for HostAtHand {
             "new" => self.renew(alloc, command.words()),
             "insert" => insert(alloc, &mut *self.map, command.words()),
             "get" => get(alloc, &*self.map, command.words()),
-            _ => self.on_sink(alloc, command),
+            _ => sink_command(alloc, &mut self.sink, &mut *self.host, command),
         }
     }
 }

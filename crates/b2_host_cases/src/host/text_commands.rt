@@ -5,6 +5,7 @@ use b2_base::text::has_no_zero;
 use b2_base::text_list::TextList;
 use b2_memory::memory::MemoryHost;
 use std::alloc::Global;
+use std::mem::ManuallyDrop;
 use transcript::answer::Answer;
 use transcript::case_fault::CaseFault;
 use transcript::command::{Command, Word};
@@ -17,7 +18,7 @@ fn no_zero(alloc: Global, words: &[Word]) -> Result<Answer, CaseFault> {
 
 /// `texts TEXT ..`: a list of texts, made of a vector of them again.
 fn text_list(alloc: Global, words: &[Word]) -> Result<Answer, CaseFault> {
-    let list = TextList::from_vec(own_texts(alloc, words)?.into_vec());
+    let list = ManuallyDrop::new(TextList::from_vec(own_texts(alloc, words)?.into_vec()));
     Answer::texts(alloc, list.as_slice())
 }
 

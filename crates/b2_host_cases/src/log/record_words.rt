@@ -4,9 +4,10 @@ use crate::log::words::stamp;
 use b2_base::text_list::TextList;
 use b2_log::line::{Digests, Record, StampedPaths};
 use std::alloc::Global;
+use std::mem::ManuallyDrop;
 use transcript::case_fault::CaseFault;
 use transcript::command::Word;
-use transcript::words::{first, own_path, own_text};
+use transcript::words::{first, own_path, own_text, text};
 
 /// What was read of a record after its text.
 #[derive(Drop)]
@@ -84,19 +85,20 @@ impl Parts {
     }
 }
 
+/// What these words tell. Where they are wrong, what was read before is let be and not taken apart.
 fn parts_of(alloc: Global, words: &[Word]) -> Result<Parts, CaseFault> {
-    let mut parts = Parts::new(alloc);
+    let mut parts = ManuallyDrop::new(Parts::new(alloc));
     parts.push_all(words)?;
-    Ok(parts)
+    Ok(ManuallyDrop::into_inner(parts))
 }
 
 /// The record of these words: its text, and `out`, `in` and `digest` with two words each.
 pub fn record_of(alloc: Global, words: &[Word]) -> Result<Record, CaseFault> {
     let (given, rest) = first(words)?;
-    let text = own_text(alloc, given)?;
+    let text = text(alloc, given)?;
     let parts = parts_of(alloc, rest)?;
     Ok(Record {
-        text,
+        text: ManuallyDrop::into_inner(text),
         outs: parts.outs,
         ins: parts.ins,
         digests: Parts::digests(parts.out_digests, parts.in_digests, parts.has_digests),

@@ -21,15 +21,24 @@ pub struct LogAtHand {
     log: ManuallyDrop<Log>,
 }
 
+/// Shows how many bytes of a prefix are good.
+fn push_prefix(answer: &mut Answer, end: usize, good: usize) {
+    answer.put("from ");
+    answer.put_number(end as u64);
+    answer.put(" bytes on ");
+    answer.put_number(good as u64);
+    answer.push_line(" are good");
+}
+
 /// How many bytes of each prefix are good, at the shortest one and wherever there are more.
 fn prefixes_answer(alloc: Global, bytes: &[u8]) -> Result<Answer, CaseFault> {
     let mut answer = Answer::new(alloc);
     let mut last = None;
     for end in 0..=bytes.len() {
-        let good = read_log(alloc, &bytes[..end])?.good();
+        let read = ManuallyDrop::new(read_log(alloc, &bytes[..end])?);
+        let good = read.good();
         if last != Some(good) {
-            let line = format!(in alloc; "from {end} bytes on {good} are good")?;
-            answer.push_string(line)?;
+            push_prefix(&mut answer, end, good);
         }
         last = Some(good);
     }
@@ -37,37 +46,112 @@ fn prefixes_answer(alloc: Global, bytes: &[u8]) -> Result<Answer, CaseFault> {
 }
 
 fn shown_record(alloc: Global, record: &Record) -> Result<Answer, CaseFault> {
-    lines_answer(alloc, record_line(alloc, record)?.as_slice())
+    let line = ManuallyDrop::new(record_line(alloc, record)?);
+    lines_answer(alloc, line.as_slice())
 }
 
 fn record_answer(alloc: Global, words: &[Word]) -> Result<Answer, CaseFault> {
-    let record = record_of(alloc, words)?;
-    let answer = shown_record(alloc, &record);
-    drop(record);
-    answer
+    let record = ManuallyDrop::new(record_of(alloc, words)?);
+    shown_record(alloc, &record)
 }
 
 fn drop_answer(alloc: Global, words: &[Word]) -> Result<Answer, CaseFault> {
     let outs = paths(alloc, words)?;
-    lines_answer(alloc, drop_line(alloc, outs.as_slice())?.as_slice())
+    let line = ManuallyDrop::new(drop_line(alloc, outs.as_slice())?);
+    lines_answer(alloc, line.as_slice())
 }
 
 fn shown_scan(alloc: Global, scan: &ScanLine) -> Result<Answer, CaseFault> {
-    lines_answer(alloc, scan_line(alloc, scan)?.as_slice())
+    let line = ManuallyDrop::new(scan_line(alloc, scan)?);
+    lines_answer(alloc, line.as_slice())
 }
 
 fn scan_answer(alloc: Global, words: &[Word]) -> Result<Answer, CaseFault> {
-    let scan = scan_of(alloc, words)?;
-    let answer = shown_scan(alloc, &scan);
-    drop(scan);
-    answer
+    let scan = ManuallyDrop::new(scan_of(alloc, words)?);
+    shown_scan(alloc, &scan)
 }
 
 fn proper_answer(alloc: Global, words: &[Word]) -> Result<Answer, CaseFault> {
+    let line = ManuallyDrop::new(line_of(alloc, words)?);
+    Answer::yes_or_no(alloc, is_proper(&line))
+}
+
+/// Carries out a command on lines alone.
+fn line_command(alloc: Global, command: &Command) -> Result<Answer, CaseFault> {
+    let words = command.words();
+    match command.name() {
+        "record_line" => record_answer(alloc, words),
+        "drop_line" => drop_answer(alloc, words),
+        "scan_line" => scan_answer(alloc, words),
+        "is_digest" => Answer::yes_or_no(alloc, is_digest(only(words)?)),
+        "is_proper" => proper_answer(alloc, words),
+        _ => Err(CaseFault::UnknownCommand),
+    }
+}
+
+fn good(alloc: Global, log: &Log, words: &[Word]) -> Result<Answer, CaseFault> {
+    no_words(words)?;
+    Answer::number(alloc, log.good() as u64)
+}
+
+fn kept(alloc: Global, log: &Log, words: &[Word]) -> Result<Answer, CaseFault> {
+    no_words(words)?;
+    let lines = ManuallyDrop::new(log.kept()?);
+    lines_answer(alloc, lines.as_slice())
+}
+
+fn found(alloc: Global, log: &Log, words: &[Word]) -> Result<Answer, CaseFault> {
+    let outs = paths(alloc, words)?;
+    match log.find(outs.as_slice()) {
+        Some(record) => shown_record(alloc, record),
+        None => Answer::line(alloc, "none"),
+    }
+}
+
+fn scanned(alloc: Global, log: &Log, words: &[Word]) -> Result<Answer, CaseFault> {
+    let (name, time) = both(words)?;
+    let time = stamp(time)?;
+    let path = path(alloc, name)?;
+    match log.scan(&path, time) {
+        Some(scan) => shown_scan(alloc, scan),
+        None => Answer::line(alloc, "none"),
+    }
+}
+
+/// Carries out a command that looks at the log, or at what is read of bytes, or another one.
+fn look_command(alloc: Global, log: &Log, command: &Command) -> Result<Answer, CaseFault> {
+    let words = command.words();
+    match command.name() {
+        "good" => good(alloc, log, words),
+        "kept" => kept(alloc, log, words),
+        "find" => found(alloc, log, words),
+        "scan" => scanned(alloc, log, words),
+        "read_prefixes" => prefixes_answer(alloc, given(alloc, command)?.as_slice()),
+        _ => line_command(alloc, command),
+    }
+}
+
+/// Puts the log that is read from bytes in place of the one at hand.
+fn read(alloc: Global, log: &mut ManuallyDrop<Log>, bytes: &[u8]) -> Result<Answer, CaseFault> {
+    let read = read_log(alloc, bytes)?;
+    let good = read.good();
+    *log = ManuallyDrop::new(read);
+    let mut answer = Answer::new(alloc);
+    answer.put_number(good as u64);
+    answer.put(" of ");
+    answer.put_number(bytes.len() as u64);
+    answer.push_line(" bytes are good");
+    Ok(answer)
+}
+
+fn add(alloc: Global, log: &mut Log, words: &[Word]) -> Result<Answer, CaseFault> {
     let line = line_of(alloc, words)?;
-    let holds = is_proper(&line);
-    drop(line);
-    Answer::yes_or_no(alloc, holds)
+    if is_proper(&line) {
+        Answer::done(alloc, log.add(line))
+    } else {
+        drop(line);
+        Answer::line(alloc, "not proper")
+    }
 }
 
 impl LogAtHand {
@@ -83,80 +167,16 @@ impl LogAtHand {
         *self = LogAtHand::new(alloc);
         Ok(Answer::new(alloc))
     }
-
-    fn read(&mut self, alloc: Global, bytes: &[u8]) -> Result<Answer, CaseFault> {
-        self.log = ManuallyDrop::new(read_log(alloc, bytes)?);
-        let good = self.log.good();
-        let all = bytes.len();
-        let line = format!(in alloc; "{good} of {all} bytes are good")?;
-        Answer::from_string(alloc, line)
-    }
-
-    fn good(&self, alloc: Global, words: &[Word]) -> Result<Answer, CaseFault> {
-        no_words(words)?;
-        Answer::number(alloc, self.log.good() as u64)
-    }
-
-    fn kept(&self, alloc: Global, words: &[Word]) -> Result<Answer, CaseFault> {
-        no_words(words)?;
-        lines_answer(alloc, self.log.kept()?.as_slice())
-    }
-
-    fn add(&mut self, alloc: Global, words: &[Word]) -> Result<Answer, CaseFault> {
-        let line = line_of(alloc, words)?;
-        if is_proper(&line) {
-            Answer::done(alloc, self.log.add(line))
-        } else {
-            drop(line);
-            Answer::line(alloc, "not proper")
-        }
-    }
-
-    fn found(&self, alloc: Global, words: &[Word]) -> Result<Answer, CaseFault> {
-        let outs = paths(alloc, words)?;
-        match self.log.find(outs.as_slice()) {
-            Some(record) => shown_record(alloc, record),
-            None => Answer::line(alloc, "none"),
-        }
-    }
-
-    fn scanned(&self, alloc: Global, words: &[Word]) -> Result<Answer, CaseFault> {
-        let (name, time) = both(words)?;
-        let time = stamp(time)?;
-        let path = path(alloc, name)?;
-        match self.log.scan(&path, time) {
-            Some(scan) => shown_scan(alloc, scan),
-            None => Answer::line(alloc, "none"),
-        }
-    }
-
-    /// A command on the log at hand.
-    fn on_log(&mut self, alloc: Global, command: &Command) -> Result<Answer, CaseFault> {
-        let words = command.words();
-        match command.name() {
-            "new" => self.renew(alloc, words),
-            "read_log" => self.read(alloc, given(alloc, command)?.as_slice()),
-            "good" => self.good(alloc, words),
-            "kept" => self.kept(alloc, words),
-            "add" => self.add(alloc, words),
-            "find" => self.found(alloc, words),
-            "scan" => self.scanned(alloc, words),
-            _ => Err(CaseFault::UnknownCommand),
-        }
-    }
 }
 
 impl Session for LogAtHand {
     fn carry_out(&mut self, alloc: Global, command: &Command) -> Result<Answer, CaseFault> {
         let words = command.words();
         match command.name() {
-            "read_prefixes" => prefixes_answer(alloc, given(alloc, command)?.as_slice()),
-            "record_line" => record_answer(alloc, words),
-            "drop_line" => drop_answer(alloc, words),
-            "scan_line" => scan_answer(alloc, words),
-            "is_digest" => Answer::yes_or_no(alloc, is_digest(only(words)?)),
-            "is_proper" => proper_answer(alloc, words),
-            _ => self.on_log(alloc, command),
+            "new" => self.renew(alloc, words),
+            "read_log" => read(alloc, &mut self.log, given(alloc, command)?.as_slice()),
+            "add" => add(alloc, &mut self.log, words),
+            _ => look_command(alloc, &self.log, command),
         }
     }
 }

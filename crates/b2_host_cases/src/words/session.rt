@@ -4,6 +4,7 @@ use b2_base::text::Text;
 use b2_words::fault::WordsFault;
 use b2_words::reader::read_words;
 use std::alloc::Global;
+use std::mem::ManuallyDrop;
 use transcript::answer::Answer;
 use transcript::case_fault::CaseFault;
 use transcript::command::Command;
@@ -16,7 +17,10 @@ pub struct CommandLine;
 
 fn answer(alloc: Global, words: &[Text]) -> Result<Answer, CaseFault> {
     match read_words(alloc, words) {
-        Ok(words) => words_shown(alloc, &words),
+        Ok(words) => {
+            let words = ManuallyDrop::new(words);
+            words_shown(alloc, &words)
+        }
         Err(WordsFault::Usage) => Answer::line(alloc, "usage"),
         Err(WordsFault::OutOfMemory) => Err(CaseFault::OutOfMemory),
     }

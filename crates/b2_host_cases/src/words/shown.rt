@@ -1,46 +1,45 @@
 //! What the words of a command line ask for, as lines.
-use b2_base::text::Text;
 use b2_words::words::{BuildOptions, Command as Asked, View, Words};
 use std::alloc::Global;
 use transcript::answer::Answer;
 use transcript::case_fault::CaseFault;
 
-fn build_line(alloc: Global, options: BuildOptions) -> Result<String, CaseFault> {
-    let jobs = options.jobs;
-    let mut line = format!(in alloc; "build {jobs}")?;
+fn push_build(answer: &mut Answer, options: BuildOptions) {
+    answer.put("build ");
+    answer.put_number(options.jobs as u64);
     if options.all {
-        line.push_str(" all")?;
+        answer.put(" all");
     }
     if options.quit {
-        line.push_str(" quit")?;
+        answer.put(" quit");
     }
     if options.digest {
-        line.push_str(" digest")?;
+        answer.put(" digest");
     }
-    Ok(line)
+    answer.end_line();
 }
 
-fn command_line(alloc: Global, command: Asked) -> Result<String, CaseFault> {
+fn push_command(answer: &mut Answer, command: Asked) {
     match command {
-        Asked::Build(options) => build_line(alloc, options),
-        Asked::Look(View::Steps) => Ok(String::from_str(alloc, "look steps")?),
-        Asked::Look(View::Table) => Ok(String::from_str(alloc, "look table")?),
-        Asked::Drill { steps } => Ok(format!(in alloc; "drill {steps}")?),
+        Asked::Build(options) => push_build(answer, options),
+        Asked::Look(View::Steps) => answer.push_line("look steps"),
+        Asked::Look(View::Table) => answer.push_line("look table"),
+        Asked::Drill { steps } => {
+            answer.put("drill ");
+            answer.put_number(steps as u64);
+            answer.end_line();
+        }
     }
-}
-
-fn push_word(alloc: Global, answer: &mut Answer, word: &Text) -> Result<(), CaseFault> {
-    let word = word.as_str();
-    let line = format!(in alloc; "<{word}>")?;
-    answer.push_string(line)
 }
 
 /// What the words ask for, and below it each word that is no option.
 pub fn words_shown(alloc: Global, words: &Words) -> Result<Answer, CaseFault> {
-    let line = command_line(alloc, words.command)?;
-    let mut answer = Answer::from_string(alloc, line)?;
+    let mut answer = Answer::new(alloc);
+    push_command(&mut answer, words.command);
     for word in words.words.as_slice() {
-        push_word(alloc, &mut answer, word)?;
+        answer.put("<");
+        answer.put(word.as_str());
+        answer.push_line(">");
     }
     Ok(answer)
 }
