@@ -1,4 +1,4 @@
-//! Answers of more than one part.
+//! Answers, and lines of answers, of more than one part.
 use std::alloc::Global;
 use transcript::answer::Answer;
 use transcript::case_fault::CaseFault;
@@ -8,12 +8,15 @@ pub fn truth(alloc: Global, holds: bool) -> Result<Answer, CaseFault> {
     Answer::line(alloc, if holds { "true" } else { "false" })
 }
 
-/// What happened, and the text that it happened to.
-pub fn happened(alloc: Global, what: &str, text: &str) -> Result<Answer, CaseFault> {
-    Answer::from_string(alloc, format!(in alloc; "{what}: {text}")?)
+/// Adds what happened, and the text that it happened to.
+pub fn push_happened(answer: &mut Answer, what: &str, text: &str) {
+    answer.put(what);
+    answer.put(": ");
+    answer.push_line(text);
 }
 
-/// The number of steps that there would be.
-pub fn too_many(alloc: Global, count: u32) -> Result<Answer, CaseFault> {
-    Answer::from_string(alloc, format!(in alloc; "{count} steps")?)
+/// Adds the number of steps that there would be.
+pub fn push_too_many(answer: &mut Answer, count: u32) {
+    answer.put_number(u64::from(count));
+    answer.push_line(" steps");
 }

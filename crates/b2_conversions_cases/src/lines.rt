@@ -1,44 +1,35 @@
-//! What is added to a line. A space stands before each word, but at the start of the line.
-use b2_base::fault::OutOfMemory;
+//! What is added to the line at hand. A space stands before each word, but at the start of the line.
 use b2_base::path::Path;
 use b2_base::text::Text;
-
-fn push_space(line: &mut String) -> Result<(), OutOfMemory> {
-    if !line.is_empty() {
-        line.push(' ')?;
-    }
-    Ok(())
-}
+use transcript::answer::Answer;
 
 /// Adds a word, which is shown as `""` where it is empty.
-pub fn push_word(line: &mut String, word: &str) -> Result<(), OutOfMemory> {
-    push_space(line)?;
-    line.push_str(if word.is_empty() { "\"\"" } else { word })?;
-    Ok(())
+pub fn put_word(answer: &mut Answer, word: &str) {
+    answer.put_space();
+    answer.put(if word.is_empty() { "\"\"" } else { word });
 }
 
-pub fn push_words(line: &mut String, words: &[Text]) -> Result<(), OutOfMemory> {
+pub fn put_words(answer: &mut Answer, words: &[Text]) {
     for word in words {
-        push_word(line, word.as_str())?;
+        put_word(answer, word.as_str());
     }
-    Ok(())
 }
 
-pub fn push_paths(line: &mut String, paths: &[Path]) -> Result<(), OutOfMemory> {
+/// Adds paths, of which none is empty.
+pub fn put_paths(answer: &mut Answer, paths: &[Path]) {
     for path in paths {
-        push_word(line, path.as_str())?;
+        answer.put_space();
+        answer.put(path.as_str());
     }
-    Ok(())
 }
 
 /// Adds pairs as `<feature>value`.
-pub fn push_pairs(line: &mut String, pairs: &[(Text, Text)]) -> Result<(), OutOfMemory> {
+pub fn put_pairs(answer: &mut Answer, pairs: &[(Text, Text)]) {
     for pair in pairs {
-        push_space(line)?;
-        line.push('<')?;
-        line.push_str(pair.0.as_str())?;
-        line.push('>')?;
-        line.push_str(pair.1.as_str())?;
+        answer.put_space();
+        answer.put("<");
+        answer.put(pair.0.as_str());
+        answer.put(">");
+        answer.put(pair.1.as_str());
     }
-    Ok(())
 }

@@ -1,8 +1,7 @@
-//! The commands that make a main target.
+//! How a main target is made.
 use crate::conversions::session::Conversions;
 use crate::conversions::shown::made_answer;
 use crate::conversions::target::Needs;
-use b2_base::text::Text;
 use b2_conversions::make::make;
 use b2_conversions::setting::Setting;
 use b2_conversions::site::Site;
@@ -10,39 +9,21 @@ use b2_declarations::declaration::Kind;
 use b2_features::registry::Registry;
 use b2_props::refinement::set_of;
 use std::alloc::Global;
+use std::mem::ManuallyDrop;
 use transcript::answer::Answer;
 use transcript::case_fault::CaseFault;
-use transcript::command::Word;
-use transcript::words::{both, only, text};
+use transcript::words::text;
 
-/// The kind of this name.
-pub fn kind_of(name: &str) -> Option<Kind> {
-    match name {
-        "exe" => Some(Kind::Exe),
-        "lib" => Some(Kind::Lib),
-        "obj" => Some(Kind::Obj),
-        "alias" => Some(Kind::Alias),
-        "make" => Some(Kind::Make),
-        "install" => Some(Kind::Install),
-        _ => None,
-    }
-}
-
-/// The name and the rule of a main target; only a `make` has a rule.
-fn name_and_rule(kind: Kind, words: &[Word]) -> Result<(&str, &str), CaseFault> {
-    match kind {
-        Kind::Make => both(words),
-        _ => Ok((only(words)?, "")),
-    }
-}
-
-fn made(
+/// Makes a main target of a kind, a name and a rule; the rule is empty but for a `make`.
+pub fn made_target(
     alloc: Global,
     held: &mut Conversions,
     kind: Kind,
-    name: &Text,
-    rule: &Text,
+    name: &str,
+    rule: &str,
 ) -> Result<Answer, CaseFault> {
+    let name = text(alloc, name)?;
+    let rule = text(alloc, rule)?;
     let Some(project) = &*held.project else {
         return Err(CaseFault::WrongWords);
     };
@@ -57,8 +38,8 @@ fn made(
     };
     let site = Site {
         kind,
-        name,
-        rule,
+        name: &name,
+        rule: &rule,
         line: 1,
         dir: &project.dir,
         owner: &project.owner,
@@ -68,19 +49,6 @@ fn made(
         parts: needs.parts.as_slice(),
         order: needs.order.as_slice(),
     };
-    let supplied = make(&setting, &site, &mut *held.texts, &mut held.builder);
-    made_answer(alloc, supplied)
-}
-
-/// Makes a main target of a kind: its name, and of a `make` its rule.
-pub fn made_target(
-    alloc: Global,
-    held: &mut Conversions,
-    kind: Kind,
-    words: &[Word],
-) -> Result<Answer, CaseFault> {
-    let (name, rule) = name_and_rule(kind, words)?;
-    let name = text(alloc, name)?;
-    let rule = text(alloc, rule)?;
-    made(alloc, held, kind, &name, &rule)
+    let made = ManuallyDrop::new(make(&setting, &site, &mut *held.texts, &mut held.builder));
+    made_answer(alloc, &made)
 }

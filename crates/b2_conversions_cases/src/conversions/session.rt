@@ -1,10 +1,11 @@
 //! The commands by their names.
-use crate::conversions::kinds::{kind_of, made_target};
+use crate::conversions::kinds::made_target;
 use crate::conversions::shown::steps_answer;
 use crate::conversions::tables::declare;
 use crate::conversions::target::{Needs, Project, project_in};
 use crate::conversions::texts::Texts;
 use b2_base::path_list::PathList;
+use b2_declarations::declaration::Kind;
 use b2_features::registry::Registry;
 use b2_generators::types::Types;
 use b2_virtual::builder::Builder;
@@ -14,7 +15,7 @@ use transcript::answer::Answer;
 use transcript::case_fault::CaseFault;
 use transcript::command::{Command, Word};
 use transcript::session::Session;
-use transcript::words::{no_words, only, own_paths};
+use transcript::words::{both, no_words, only, own_paths};
 
 /// What is at hand.
 #[derive(Drop)]
@@ -41,6 +42,24 @@ fn put_project(
     let project = project_in(alloc, only(words)?)?;
     *held = ManuallyDrop::new(Some(project));
     Ok(Answer::new(alloc))
+}
+
+/// Carries out a command that supplies something to the main target at hand, or else one that declares.
+fn supply(
+    alloc: Global,
+    needs: &mut Needs,
+    registry: &mut Registry,
+    types: &mut Types,
+    name: &str,
+    words: &[Word],
+) -> Result<Answer, CaseFault> {
+    match name {
+        "properties" => needs.put_properties(alloc, words),
+        "source" => needs.add_files(alloc, types, words),
+        "source_target" => needs.add_source_target(alloc, types, words),
+        "library" => needs.add_part(alloc, types, words),
+        _ => declare(alloc, registry, types, name, words),
+    }
 }
 
 impl Conversions {
@@ -72,19 +91,36 @@ impl Conversions {
         steps_answer(alloc, self.builder.steps())
     }
 
-    /// Carries out a command that puts something in place, or one that declares.
+    /// Carries out a command that puts something in place, or else one that supplies or declares.
     fn put(&mut self, alloc: Global, name: &str, words: &[Word]) -> Result<Answer, CaseFault> {
         match name {
             "roots" => put_paths(alloc, &mut self.roots, words),
             "project" => put_project(alloc, &mut self.project, words),
-            "properties" => self.needs.put_properties(alloc, words),
-            "source" => self.needs.add_files(alloc, &self.types, words),
-            "source_target" => self.needs.add_source_target(alloc, &self.types, words),
-            "library" => self.needs.add_part(alloc, &self.types, words),
-            "order" => put_paths(alloc, &mut self.needs.order, words),
             "no_text" => self.texts.put_names(alloc, words),
             "notes" => put_paths(alloc, &mut self.texts.noted, words),
-            _ => declare(alloc, &mut self.registry, &mut self.types, name, words),
+            "order" => put_paths(alloc, &mut self.needs.order, words),
+            _ => supply(
+                alloc,
+                &mut self.needs,
+                &mut self.registry,
+                &mut self.types,
+                name,
+                words,
+            ),
+        }
+    }
+
+    /// Carries out a command that makes a main target by a rule, that renews, or that shows steps; or else one that puts
+    /// something in place.
+    fn other(&mut self, alloc: Global, name: &str, words: &[Word]) -> Result<Answer, CaseFault> {
+        match name {
+            "make" => {
+                let (target, rule) = both(words)?;
+                made_target(alloc, self, Kind::Make, target, rule)
+            }
+            "new" | "new_target" | "new_steps" => self.renew(alloc, name, words),
+            "steps" => self.steps(alloc, words),
+            _ => self.put(alloc, name, words),
         }
     }
 }
@@ -92,14 +128,13 @@ impl Conversions {
 impl Session for Conversions {
     fn carry_out(&mut self, alloc: Global, command: &Command) -> Result<Answer, CaseFault> {
         let words = command.words();
-        let name = command.name();
-        if let Some(kind) = kind_of(name) {
-            return made_target(alloc, self, kind, words);
-        }
-        match name {
-            "new" | "new_target" | "new_steps" => self.renew(alloc, name, words),
-            "steps" => self.steps(alloc, words),
-            _ => self.put(alloc, name, words),
+        match command.name() {
+            "exe" => made_target(alloc, self, Kind::Exe, only(words)?, ""),
+            "lib" => made_target(alloc, self, Kind::Lib, only(words)?, ""),
+            "obj" => made_target(alloc, self, Kind::Obj, only(words)?, ""),
+            "alias" => made_target(alloc, self, Kind::Alias, only(words)?, ""),
+            "install" => made_target(alloc, self, Kind::Install, only(words)?, ""),
+            name => self.other(alloc, name, words),
         }
     }
 }

@@ -10,7 +10,7 @@ use std::alloc::Global;
 use transcript::answer::Answer;
 use transcript::case_fault::CaseFault;
 use transcript::command::Word;
-use transcript::words::{first, halves, named, no_words, own_text, own_texts, texts};
+use transcript::words::{first, halves, no_words, own_text, own_texts, texts};
 
 /// No lines where a declaration was taken.
 fn taken(alloc: Global, is_taken: bool) -> Result<Answer, CaseFault> {
@@ -54,7 +54,8 @@ fn feature(alloc: Global, registry: &mut Registry, words: &[Word]) -> Result<Ans
 }
 
 fn file_type(alloc: Global, types: &mut Types, words: &[Word]) -> Result<Answer, CaseFault> {
-    let (name, suffixes) = named(alloc, words)?;
+    let (name, suffixes) = first(words)?;
+    let suffixes = texts(alloc, suffixes)?;
     taken(
         alloc,
         types.register_type(plain(name)?, suffixes.as_slice())?,

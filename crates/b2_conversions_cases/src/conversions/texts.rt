@@ -1,12 +1,13 @@
 //! Texts of steps that show their jobs.
-use crate::lines::{push_paths, push_words};
 use b2_base::fault::OutOfMemory;
+use b2_base::path::Path;
 use b2_base::path_list::{PathList, copy_paths};
 use b2_base::text::{Text, has_no_zero};
 use b2_base::text_list::TextList;
 use b2_evaluation::evaluate::Evaluate;
 use jam_eval::step::{StepJob, StepText};
 use std::alloc::Global;
+use std::mem::ManuallyDrop;
 use transcript::answer::Answer;
 use transcript::case_fault::CaseFault;
 use transcript::command::Word;
@@ -34,23 +35,42 @@ pub struct Texts {
     pub noted: PathList,
 }
 
-fn shown_job(alloc: Global, job: &StepJob) -> Result<String, OutOfMemory> {
+/// Adds the sign `|`, and after it each path.
+fn push_paths(shown: &mut String, paths: &[Path]) -> Result<(), OutOfMemory> {
+    shown.push_str(" |")?;
+    for path in paths {
+        shown.push(' ')?;
+        shown.push_str(path.as_str())?;
+    }
+    Ok(())
+}
+
+/// Adds the sign `|`, and after it each property.
+fn push_properties(shown: &mut String, properties: &[Text]) -> Result<(), OutOfMemory> {
+    shown.push_str(" |")?;
+    for property in properties {
+        shown.push(' ')?;
+        shown.push_str(property.as_str())?;
+    }
+    Ok(())
+}
+
+fn push_job(shown: &mut String, job: &StepJob) -> Result<(), OutOfMemory> {
     let module = job.module.as_str();
     let path = job.path.as_str();
     let line = job.line;
-    let mut shown = format!(in alloc; "{module} {path}:{line} |")?;
-    push_paths(&mut shown, job.outs.as_slice())?;
-    shown.push_str(" |")?;
-    push_paths(&mut shown, job.ins.as_slice())?;
-    shown.push_str(" |")?;
-    push_words(&mut shown, job.props.as_slice())?;
-    Ok(shown)
+    write!(shown, "{module} {path}:{line}")?;
+    push_paths(shown, job.outs.as_slice())?;
+    push_paths(shown, job.ins.as_slice())?;
+    push_properties(shown, job.props.as_slice())
 }
 
 fn job_text(alloc: Global, job: &StepJob) -> Result<Text, TextFault> {
-    let shown = shown_job(alloc, job)?;
-    if has_no_zero(shown.as_str()) {
-        return Ok(Text::new(alloc, shown.as_str())?);
+    let mut shown = ManuallyDrop::new(String::new(alloc));
+    push_job(&mut shown, job)?;
+    let text = shown.as_str();
+    if has_no_zero(text) {
+        return Ok(Text::new(alloc, text)?);
     }
     Err(TextFault::NoText(job.name.copy()?))
 }

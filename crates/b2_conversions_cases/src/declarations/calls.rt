@@ -1,11 +1,11 @@
 //! Calls of declaring rules, and what comes of them.
 use crate::answers::truth;
-use crate::declarations::shown::shown;
-use b2_base::path::Path;
+use crate::declarations::shown::push_declaration;
 use b2_declarations::declaration::Declaration;
 use b2_declarations::naming::named_directories;
 use b2_declarations::reading::{declaration, is_refused};
 use std::alloc::Global;
+use std::mem::ManuallyDrop;
 use transcript::answer::Answer;
 use transcript::case_fault::CaseFault;
 use transcript::command::{Command, Word};
@@ -13,52 +13,40 @@ use transcript::session::Session;
 use transcript::words::{first, lists, path};
 
 /// What the call of a rule with lists declares.
-fn called(alloc: Global, words: &[Word]) -> Result<Option<Declaration>, CaseFault> {
+fn called(alloc: Global, words: &[Word]) -> Result<ManuallyDrop<Option<Declaration>>, CaseFault> {
     let (rule, words) = first(words)?;
     let lists = lists(alloc, words)?;
-    Ok(declaration(alloc, rule, lists.as_slice())?)
+    Ok(ManuallyDrop::new(declaration(alloc, rule, lists.as_slice())?))
 }
 
 fn told(alloc: Global, question: &str, declaration: &Declaration) -> Result<Answer, CaseFault> {
     match question {
-        "declaration" => shown(alloc, declaration),
+        "declaration" => {
+            let mut answer = Answer::new(alloc);
+            push_declaration(&mut answer, declaration);
+            Ok(answer)
+        }
         _ => truth(alloc, is_refused(alloc, declaration)?),
     }
 }
 
 fn told_of_call(alloc: Global, question: &str, words: &[Word]) -> Result<Answer, CaseFault> {
-    match called(alloc, words)? {
+    let called = called(alloc, words)?;
+    match &*called {
         None => Answer::line(alloc, "none"),
-        Some(declaration) => {
-            let answer = told(alloc, question, &declaration);
-            drop(declaration);
-            answer
-        }
+        Some(declaration) => told(alloc, question, declaration),
     }
-}
-
-fn directories(
-    alloc: Global,
-    owner: &Path,
-    declaration: &Declaration,
-) -> Result<Answer, CaseFault> {
-    Answer::paths(
-        alloc,
-        named_directories(alloc, owner, declaration)?.as_slice(),
-    )
 }
 
 fn directories_of_call(alloc: Global, words: &[Word]) -> Result<Answer, CaseFault> {
     let (dir, call) = first(words)?;
     let owner = path(alloc, dir)?;
-    match called(alloc, call)? {
-        None => Answer::line(alloc, "none"),
-        Some(declaration) => {
-            let answer = directories(alloc, &owner, &declaration);
-            drop(declaration);
-            answer
-        }
-    }
+    let called = called(alloc, call)?;
+    let Some(declaration) = &*called else {
+        return Answer::line(alloc, "none");
+    };
+    let named = ManuallyDrop::new(named_directories(alloc, &owner, declaration)?);
+    Answer::paths(alloc, named.as_slice())
 }
 
 /// The part holds nothing.

@@ -1,50 +1,37 @@
 //! How declarations are shown.
-use crate::lines::{push_word, push_words};
+use crate::lines::{put_word, put_words};
 use b2_base::text::Text;
 use b2_declarations::declaration::{
     Attributes, Declaration, Kind, ListName, MainTarget, PropertyList,
 };
-use std::alloc::Global;
 use transcript::answer::Answer;
-use transcript::case_fault::CaseFault;
 
-/// A line of a name and a word.
-fn headed_line(alloc: Global, name: &str, word: &str) -> Result<String, CaseFault> {
-    let mut line = String::from_str(alloc, name)?;
-    push_word(&mut line, word)?;
-    Ok(line)
+/// Adds a line of a name and a word.
+fn push_headed(answer: &mut Answer, name: &str, word: &str) {
+    answer.put(name);
+    put_word(answer, word);
+    answer.end_line();
 }
 
-/// A line of a name and words.
-fn listed_line(alloc: Global, name: &str, words: &[Text]) -> Result<String, CaseFault> {
-    let mut line = String::from_str(alloc, name)?;
-    push_words(&mut line, words)?;
-    Ok(line)
+/// Adds a line of a name, and a word where there is one.
+fn push_maybe_headed(answer: &mut Answer, name: &str, word: Option<&Text>) {
+    match word {
+        None => answer.push_line(name),
+        Some(word) => push_headed(answer, name, word.as_str()),
+    }
+}
+
+/// Adds a line of a name and words.
+fn push_listed(answer: &mut Answer, name: &str, words: &[Text]) {
+    answer.put(name);
+    put_words(answer, words);
+    answer.end_line();
 }
 
 /// Adds a line of a name and words, where there are some.
-fn push_list(
-    alloc: Global,
-    answer: &mut Answer,
-    name: &str,
-    words: &[Text],
-) -> Result<(), CaseFault> {
-    if words.is_empty() {
-        return Ok(());
-    }
-    answer.push_string(listed_line(alloc, name, words)?)
-}
-
-/// An answer whose line is a name and a word.
-fn headed(alloc: Global, name: &str, word: &str) -> Result<Answer, CaseFault> {
-    Answer::from_string(alloc, headed_line(alloc, name, word)?)
-}
-
-/// An answer whose line is a name, and a word where there is one.
-fn maybe_headed(alloc: Global, name: &str, word: Option<&Text>) -> Result<Answer, CaseFault> {
-    match word {
-        None => Answer::line(alloc, name),
-        Some(word) => headed(alloc, name, word.as_str()),
+fn push_list(answer: &mut Answer, name: &str, words: &[Text]) {
+    if !words.is_empty() {
+        push_listed(answer, name, words);
     }
 }
 
@@ -59,13 +46,6 @@ fn kind_word(kind: Kind) -> &'static str {
     }
 }
 
-fn push_rule(alloc: Global, answer: &mut Answer, target: &MainTarget) -> Result<(), CaseFault> {
-    match target.kind {
-        Kind::Make => answer.push_string(headed_line(alloc, "rule", target.rule.as_str())?),
-        _ => Ok(()),
-    }
-}
-
 fn list_word(name: ListName) -> &'static str {
     match name {
         ListName::Requirements => "requirements",
@@ -75,72 +55,52 @@ fn list_word(name: ListName) -> &'static str {
 }
 
 /// Adds a line for each property list that is not empty, in order.
-fn push_lists(alloc: Global, answer: &mut Answer, lists: &[PropertyList]) -> Result<(), CaseFault> {
+fn push_lists(answer: &mut Answer, lists: &[PropertyList]) {
     for list in lists {
-        push_list(alloc, answer, list_word(list.name), list.texts.as_slice())?;
+        push_list(answer, list_word(list.name), list.texts.as_slice());
     }
-    Ok(())
 }
 
-fn main_target(alloc: Global, target: &MainTarget) -> Result<Answer, CaseFault> {
-    let mut answer = headed(alloc, kind_word(target.kind), target.name.as_str())?;
-    let shown = &mut answer;
-    push_list(alloc, shown, "sources", target.sources.as_slice())?;
-    push_rule(alloc, shown, target)?;
-    push_lists(alloc, shown, target.lists.as_slice())?;
-    Ok(answer)
-}
-
-fn project(alloc: Global, attributes: &Attributes) -> Result<Answer, CaseFault> {
-    let mut answer = maybe_headed(alloc, "project", attributes.id.as_ref())?;
-    push_lists(alloc, &mut answer, attributes.lists.as_slice())?;
-    Ok(answer)
-}
-
-fn used_project(alloc: Global, id: &Text, dir: &str) -> Result<Answer, CaseFault> {
-    let mut line = headed_line(alloc, "use-project", id.as_str())?;
-    push_word(&mut line, dir)?;
-    Answer::line(alloc, line.as_str())
-}
-
-/// A name, and below it each list that is not empty.
-fn listed(
-    alloc: Global,
-    kind: &str,
-    name: &Text,
-    lists: &[(&str, &[Text])],
-) -> Result<Answer, CaseFault> {
-    let mut answer = headed(alloc, kind, name.as_str())?;
-    for list in lists {
-        push_list(alloc, &mut answer, list.0, list.1)?;
+fn push_main_target(answer: &mut Answer, target: &MainTarget) {
+    push_headed(answer, kind_word(target.kind), target.name.as_str());
+    push_list(answer, "sources", target.sources.as_slice());
+    if matches!(target.kind, Kind::Make) {
+        push_headed(answer, "rule", target.rule.as_str());
     }
-    Ok(answer)
+    push_lists(answer, target.lists.as_slice());
 }
 
-/// A declaration of the tables in lines; the only other one is an import.
-fn registered(alloc: Global, declaration: &Declaration) -> Result<Answer, CaseFault> {
+fn push_project(answer: &mut Answer, attributes: &Attributes) {
+    push_maybe_headed(answer, "project", attributes.id.as_ref());
+    push_lists(answer, attributes.lists.as_slice());
+}
+
+fn push_used_project(answer: &mut Answer, id: &Text, dir: &str) {
+    answer.put("use-project");
+    put_word(answer, id.as_str());
+    put_word(answer, dir);
+    answer.end_line();
+}
+
+/// Adds a declaration of the tables in lines; the only other one is an import.
+fn push_registered(answer: &mut Answer, declaration: &Declaration) {
     match declaration {
         Declaration::Feature {
             name,
             values,
             attributes,
         } => {
-            let lists = [
-                ("values", values.as_slice()),
-                ("attributes", attributes.as_slice()),
-            ];
-            listed(alloc, "feature", name, &lists)
+            push_headed(answer, "feature", name.as_str());
+            push_list(answer, "values", values.as_slice());
+            push_list(answer, "attributes", attributes.as_slice());
         }
         Declaration::Compose { property, parts } => {
-            listed(
-                alloc,
-                "compose",
-                property,
-                &[("components", parts.as_slice())],
-            )
+            push_headed(answer, "compose", property.as_str());
+            push_list(answer, "components", parts.as_slice());
         }
         Declaration::FileType { name, suffixes } => {
-            listed(alloc, "type", name, &[("suffixes", suffixes.as_slice())])
+            push_headed(answer, "type", name.as_str());
+            push_list(answer, "suffixes", suffixes.as_slice());
         }
         Declaration::Generator {
             id,
@@ -148,30 +108,26 @@ fn registered(alloc: Global, declaration: &Declaration) -> Result<Answer, CaseFa
             targets,
             requirements,
         } => {
-            let lists = [
-                ("sources", sources.as_slice()),
-                ("targets", targets.as_slice()),
-                ("requirements", requirements.as_slice()),
-            ];
-            listed(alloc, "generator", id, &lists)
+            push_headed(answer, "generator", id.as_str());
+            push_list(answer, "sources", sources.as_slice());
+            push_list(answer, "targets", targets.as_slice());
+            push_list(answer, "requirements", requirements.as_slice());
         }
-        _ => Answer::line(alloc, "import"),
+        _ => answer.push_line("import"),
     }
 }
 
-fn names_line(alloc: Global, kind: &str, names: &[Text]) -> Result<Answer, CaseFault> {
-    Answer::from_string(alloc, listed_line(alloc, kind, names)?)
-}
-
-/// A declaration in lines.
-pub fn shown(alloc: Global, declaration: &Declaration) -> Result<Answer, CaseFault> {
+/// Adds a declaration in lines.
+pub fn push_declaration(answer: &mut Answer, declaration: &Declaration) {
     match declaration {
-        Declaration::Project(attributes) => project(alloc, attributes),
-        Declaration::Main(target) => main_target(alloc, target),
-        Declaration::Explicit(names) => names_line(alloc, "explicit", names.as_slice()),
-        Declaration::BuildProject(dir) => headed(alloc, "build-project", dir.as_str()),
-        Declaration::UseProject { id, dir } => used_project(alloc, id, dir.as_str()),
-        Declaration::Using { command } => maybe_headed(alloc, "using gcc", command.as_ref()),
-        _ => registered(alloc, declaration),
+        Declaration::Project(attributes) => push_project(answer, attributes),
+        Declaration::Main(target) => push_main_target(answer, target),
+        Declaration::Explicit(names) => push_listed(answer, "explicit", names.as_slice()),
+        Declaration::BuildProject(dir) => push_headed(answer, "build-project", dir.as_str()),
+        Declaration::UseProject { id, dir } => push_used_project(answer, id, dir.as_str()),
+        Declaration::Using { command } => {
+            push_maybe_headed(answer, "using gcc", command.as_ref());
+        }
+        _ => push_registered(answer, declaration),
     }
 }

@@ -1,13 +1,15 @@
 //! Commands that let steps join.
+use crate::outputs::paths::path_command;
 use crate::outputs::shown::{number_answer, refused};
 use b2_base::path_list::PathList;
 use b2_plan::step::Step;
 use b2_virtual::builder::Builder;
 use std::alloc::Global;
+use std::mem::ManuallyDrop;
 use transcript::answer::Answer;
 use transcript::case_fault::CaseFault;
-use transcript::command::Word;
-use transcript::words::{both, halves, number, own_path, own_paths, own_text};
+use transcript::command::{Command, Word};
+use transcript::words::{both, halves, number, only, own_path, own_paths, own_text};
 
 /// A step of a name and a text alone.
 fn bare(alloc: Global, name: &str, words: &str) -> Result<Step, CaseFault> {
@@ -57,9 +59,9 @@ fn step_of(alloc: Global, words: &[Word]) -> Result<Step, CaseFault> {
 }
 
 /// A step of its own.
-pub fn add(alloc: Global, builder: &mut Builder, words: &[Word]) -> Result<Answer, CaseFault> {
-    let step = step_of(alloc, words)?;
-    number_answer(alloc, builder.add(step))
+fn add(alloc: Global, builder: &mut Builder, words: &[Word]) -> Result<Answer, CaseFault> {
+    let added = ManuallyDrop::new(builder.add(step_of(alloc, words)?));
+    number_answer(alloc, &added)
 }
 
 /// A step that writes one path.
@@ -75,12 +77,13 @@ fn numbered_note(alloc: Global, number: u32) -> Result<Step, CaseFault> {
 }
 
 /// Numbered steps, up to the first that is refused.
-pub fn add_each(alloc: Global, builder: &mut Builder, words: &[Word]) -> Result<Answer, CaseFault> {
+fn add_each(alloc: Global, builder: &mut Builder, words: &[Word]) -> Result<Answer, CaseFault> {
     let (from, to) = both(words)?;
     let mut last = 0;
     for count in number(from)?..=number(to)? {
-        match builder.add(numbered_note(alloc, count)?) {
-            Ok(number) => last = number,
+        let added = ManuallyDrop::new(builder.add(numbered_note(alloc, count)?));
+        match &*added {
+            Ok(number) => last = *number,
             Err(fault) => return refused(alloc, fault),
         }
     }
@@ -96,7 +99,23 @@ fn deep_path(alloc: Global, segments: u32) -> Result<String, CaseFault> {
 }
 
 /// A step whose output has so many segments.
-pub fn add_deep(alloc: Global, builder: &mut Builder, count: &str) -> Result<Answer, CaseFault> {
-    let path = deep_path(alloc, number(count)?)?;
-    number_answer(alloc, builder.add(note(alloc, path.as_str())?))
+fn add_deep(alloc: Global, builder: &mut Builder, count: &str) -> Result<Answer, CaseFault> {
+    let path = ManuallyDrop::new(deep_path(alloc, number(count)?)?);
+    let added = ManuallyDrop::new(builder.add(note(alloc, path.as_str())?));
+    number_answer(alloc, &added)
+}
+
+/// Carries out a command that lets steps join, or else one on paths.
+pub fn adding_command(
+    alloc: Global,
+    builder: &mut Builder,
+    command: &Command,
+) -> Result<Answer, CaseFault> {
+    let words = command.words();
+    match command.name() {
+        "add" => add(alloc, builder, words),
+        "add_each" => add_each(alloc, builder, words),
+        "add_deep" => add_deep(alloc, builder, only(words)?),
+        _ => path_command(alloc, command),
+    }
 }

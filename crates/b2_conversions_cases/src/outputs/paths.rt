@@ -12,13 +12,15 @@ use b2_plan::roots::is_in_roots;
 use b2_virtual::paths::{location_path, named_tail, output_path};
 use b2_virtual::tails::{converted_tail, source_tail};
 use std::alloc::Global;
+use std::mem::ManuallyDrop;
 use transcript::answer::Answer;
 use transcript::case_fault::CaseFault;
 use transcript::command::{Command, Word};
 use transcript::words::{both, first, halves, only, path, paths};
 
 fn shown(alloc: Global, made: Result<Path, OutOfMemory>) -> Result<Answer, CaseFault> {
-    Answer::line(alloc, made?.as_str())
+    let made = ManuallyDrop::new(made?);
+    Answer::line(alloc, made.as_str())
 }
 
 fn show_converted(alloc: Global, tail: &str, suffix: Option<&str>) -> Result<Answer, CaseFault>
@@ -56,7 +58,8 @@ fn show_location(alloc: Global, roots: &[Path], words: &[Word]) -> Result<Answer
     let location = plain(location)?;
     let name = plain(name)?;
     let dir = path(alloc, dir)?;
-    path_answer(alloc, location_path(alloc, roots, &dir, location, name))
+    let made = ManuallyDrop::new(location_path(alloc, roots, &dir, location, name));
+    path_answer(alloc, &made)
 }
 
 fn show_location_path(alloc: Global, words: &[Word]) -> Result<Answer, CaseFault> {
@@ -72,7 +75,18 @@ fn show_is_in_roots(alloc: Global, words: &[Word]) -> Result<Answer, CaseFault> 
     truth(alloc, is_in_roots(roots.as_slice(), &path))
 }
 
-/// Carries out a command on paths.
+/// Carries out a command on the places of outputs.
+fn place_command(alloc: Global, command: &Command) -> Result<Answer, CaseFault> {
+    let words = command.words();
+    match command.name() {
+        "output_path" => show_output_path(alloc, words),
+        "location_path" => show_location_path(alloc, words),
+        "is_in_roots" => show_is_in_roots(alloc, words),
+        _ => Err(CaseFault::UnknownCommand),
+    }
+}
+
+/// Carries out a command on tails, or else one on the places of outputs.
 pub fn path_command(alloc: Global, command: &Command) -> Result<Answer, CaseFault> {
     let words = command.words();
     match command.name() {
@@ -82,9 +96,6 @@ pub fn path_command(alloc: Global, command: &Command) -> Result<Answer, CaseFaul
         }
         "converted_tail" => show_converted_tail(alloc, words),
         "named_tail" => show_named_tail(alloc, words),
-        "output_path" => show_output_path(alloc, words),
-        "location_path" => show_location_path(alloc, words),
-        "is_in_roots" => show_is_in_roots(alloc, words),
-        _ => Err(CaseFault::UnknownCommand),
+        _ => place_command(alloc, command),
     }
 }

@@ -11,7 +11,7 @@ use b2_metatargets::fault::DeclaringFault;
 use b2_metatargets::metatargets::declared;
 use b2_metatargets::whole::Declared;
 use b2_props::refinement::set_of;
-use b2_props::request::{PropsList, Request, read_request};
+use b2_props::request::{Request, read_request};
 use b2_props::request_fault::RequestFault;
 use b2_references::default_sets::sets_for;
 use b2_references::index::Index;
@@ -21,6 +21,7 @@ use b2_references::projects::project_meaning;
 use b2_references::references::{source_meaning, value_meaning, word_meaning};
 use b2_references::requests::asked;
 use std::alloc::Global;
+use std::mem::ManuallyDrop;
 use transcript::answer::Answer;
 use transcript::case_fault::CaseFault;
 use transcript::command::Word;
@@ -48,38 +49,19 @@ fn meaning_of_project(alloc: Global, index: &Index, words: &[Word]) -> Result<Me
     Ok(project_meaning(alloc, index, place(only(words)?)?)?)
 }
 
-/// What a text or a project names.
-fn named(alloc: Global, index: &Index, name: &str, words: &[Word]) -> Result<Answer, CaseFault> {
-    let found = match name {
-        "source_meaning" => meaning_of_source(alloc, index, words),
-        "value_meaning" => meaning_of_value(alloc, index, words),
-        "word_meaning" => meaning_of_word(alloc, index, words),
-        _ => meaning_of_project(alloc, index, words),
-    };
-    shown(alloc, index, found?)
-}
-
-fn shown(alloc: Global, index: &Index, found: Meaning) -> Result<Answer, CaseFault> {
-    let answer = meaning(alloc, index, &found);
-    drop(found);
-    answer
-}
-
-/// What the index tells of projects.
-fn told_of_projects(
+fn shown(
     alloc: Global,
     index: &Index,
-    name: &str,
-    words: &[Word],
+    found: Result<Meaning, CaseFault>,
 ) -> Result<Answer, CaseFault> {
-    match name {
-        "place_at" => {
-            let dir = path(alloc, only(words)?)?;
-            number_or_none(alloc, index.place_at(&dir))
-        }
-        "place_with" => number_or_none(alloc, index.place_with(only(words)?)),
-        _ => places(alloc, index.lineage(place(only(words)?)?)?.as_slice()),
-    }
+    let found = ManuallyDrop::new(found?);
+    meaning(alloc, index, &found)
+}
+
+/// The place and the name of a main target.
+fn target_at(alloc: Global, words: &[Word]) -> Result<(usize, ManuallyDrop<Text>), CaseFault> {
+    let (at, name) = both(words)?;
+    Ok((place(at)?, text(alloc, name)?))
 }
 
 /// What the index tells of a main target.
@@ -89,70 +71,95 @@ fn told_of_target(
     question: &str,
     words: &[Word],
 ) -> Result<Answer, CaseFault> {
-    let (at, name) = both(words)?;
-    let at = place(at)?;
-    let name = text(alloc, name)?;
     match question {
-        "numbers" => numbers(alloc, index.numbers(at, &name)),
-        "alternatives" => targets(alloc, index.alternatives(at, &name)?.as_slice()),
-        "default_build" => pairs_line(alloc, index.default_build(at, &name)?),
-        _ => Answer::line(alloc, index.target_text(at, &name)?.as_str()),
+        "numbers" => {
+            let (at, name) = target_at(alloc, words)?;
+            numbers(alloc, index.numbers(at, &name))
+        }
+        "alternatives" => {
+            let (at, name) = target_at(alloc, words)?;
+            let found = ManuallyDrop::new(index.alternatives(at, &name)?);
+            targets(alloc, found.as_slice())
+        }
+        "default_build" => {
+            let (at, name) = target_at(alloc, words)?;
+            pairs_line(alloc, index.default_build(at, &name)?)
+        }
+        "target_text" => {
+            let (at, name) = target_at(alloc, words)?;
+            let written = ManuallyDrop::new(index.target_text(at, &name)?);
+            Answer::line(alloc, written.as_str())
+        }
+        _ => Err(CaseFault::UnknownCommand),
     }
 }
 
-/// The sets that the set of pairs stands for.
-fn sets_of(
-    alloc: Global,
-    index: &Index,
-    name: &TargetName,
-    pairs: &[(Text, Text)],
-) -> Result<PropsList, CaseFault> {
-    let set = set_of(alloc, &index.declared().registry, pairs)?;
-    Ok(sets_for(alloc, index, &set, name)?)
-}
-
+/// The sets that a set stands for.
 fn sets_line(alloc: Global, index: &Index, words: &[Word]) -> Result<Answer, CaseFault> {
     let (at, words) = first(words)?;
     let at = place(at)?;
     let (name, words) = first(words)?;
-    let pairs = pairs(alloc, words)?;
-    let name = TargetName::new(at, own_text(alloc, name)?);
-    let found = sets_of(alloc, index, &name, pairs.as_slice())?;
+    let pairs = ManuallyDrop::new(pairs(alloc, words)?);
+    let name = ManuallyDrop::new(TargetName::new(at, own_text(alloc, name)?));
+    let registry = &index.declared().registry;
+    let set = ManuallyDrop::new(set_of(alloc, registry, pairs.as_slice())?);
+    let found = ManuallyDrop::new(sets_for(alloc, index, &set, &name)?);
     sets(alloc, &found)
 }
 
 /// What the sets and the targets of a request ask for.
 fn asked_of(alloc: Global, index: &Index, request: &Request) -> Result<Answer, CaseFault> {
-    let found = asked(
+    let found = ManuallyDrop::new(asked(
         alloc,
         index,
         request.sets.as_slice(),
         request.targets.as_slice(),
-    )?;
+    )?);
     pieces(alloc, index, found.as_slice())
 }
 
 fn asked_lines(alloc: Global, index: &Index, words: &[Word]) -> Result<Answer, CaseFault> {
     let words = texts(alloc, words)?;
-    match read_request(alloc, &index.declared().registry, words.as_slice()) {
-        Ok(request) => asked_of(alloc, index, &request),
+    let registry = &index.declared().registry;
+    let read = ManuallyDrop::new(read_request(alloc, registry, words.as_slice()));
+    match &*read {
+        Ok(request) => asked_of(alloc, index, request),
         Err(RequestFault::OutOfMemory) => Err(CaseFault::OutOfMemory),
         Err(_fault) => Answer::line(alloc, "refused"),
     }
 }
 
-fn told(alloc: Global, index: &Index, name: &str, words: &[Word]) -> Result<Answer, CaseFault> {
-    match name {
-        "source_meaning" | "value_meaning" | "word_meaning" | "project_meaning" => {
-            named(alloc, index, name, words)
+/// What the index tells of projects and requests, or else of a main target.
+fn told_of_index(
+    alloc: Global,
+    index: &Index,
+    question: &str,
+    words: &[Word],
+) -> Result<Answer, CaseFault> {
+    match question {
+        "place_at" => {
+            let dir = path(alloc, only(words)?)?;
+            number_or_none(alloc, index.place_at(&dir))
         }
-        "place_at" | "place_with" | "lineage" => told_of_projects(alloc, index, name, words),
-        "numbers" | "alternatives" | "default_build" | "target_text" => {
-            told_of_target(alloc, index, name, words)
+        "place_with" => number_or_none(alloc, index.place_with(only(words)?)),
+        "lineage" => {
+            let found = ManuallyDrop::new(index.lineage(place(only(words)?)?)?);
+            places(alloc, found.as_slice())
         }
         "sets_for" => sets_line(alloc, index, words),
         "asked" => asked_lines(alloc, index, words),
-        _ => Err(CaseFault::UnknownCommand),
+        _ => told_of_target(alloc, index, question, words),
+    }
+}
+
+/// What a text or a project names, or else what the index tells.
+fn told(alloc: Global, index: &Index, question: &str, words: &[Word]) -> Result<Answer, CaseFault> {
+    match question {
+        "source_meaning" => shown(alloc, index, meaning_of_source(alloc, index, words)),
+        "value_meaning" => shown(alloc, index, meaning_of_value(alloc, index, words)),
+        "word_meaning" => shown(alloc, index, meaning_of_word(alloc, index, words)),
+        "project_meaning" => shown(alloc, index, meaning_of_project(alloc, index, words)),
+        _ => told_of_index(alloc, index, question, words),
     }
 }
 
@@ -160,13 +167,13 @@ fn told(alloc: Global, index: &Index, name: &str, words: &[Word]) -> Result<Answ
 fn told_over(
     alloc: Global,
     declared: &Declared,
-    name: &str,
+    question: &str,
     words: &[Word],
 ) -> Result<Answer, CaseFault>
     requires { All (λ t. t.project < length declared.now.places) declared.now.targets }
 {
-    let index = Index::new(alloc, declared)?;
-    told(alloc, &index, name, words)
+    let index = ManuallyDrop::new(Index::new(alloc, declared)?);
+    told(alloc, &index, question, words)
 }
 
 fn refused(alloc: Global, fault: DeclaringFault) -> Result<Answer, CaseFault> {
@@ -183,7 +190,7 @@ fn refused(alloc: Global, fault: DeclaringFault) -> Result<Answer, CaseFault> {
 pub fn answered(
     alloc: Global,
     load: &Load,
-    name: &str,
+    question: &str,
     words: &[Word],
 ) -> Result<Answer, CaseFault> {
     if !are_placed(load.visits.as_slice(), load.calls.as_slice()) {
@@ -191,7 +198,7 @@ pub fn answered(
     }
     match declared(alloc, load.visits.as_slice(), load.calls.as_slice()) {
         Ok(declared) => {
-            let answer = told_over(alloc, &declared, name, words);
+            let answer = told_over(alloc, &declared, question, words);
             drop(declared);
             answer
         }

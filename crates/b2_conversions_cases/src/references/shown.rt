@@ -1,5 +1,5 @@
 //! How answers are shown.
-use crate::lines::{push_pairs, push_word, push_words};
+use crate::lines::{put_pairs, put_word, put_words};
 use b2_base::text::Text;
 use b2_metatargets::place::{Place, Target};
 use b2_props::request::PropsList;
@@ -8,6 +8,7 @@ use b2_references::index::Index;
 use b2_references::meaning::Meaning;
 use b2_references::name::TargetName;
 use std::alloc::Global;
+use std::mem::ManuallyDrop;
 use transcript::answer::Answer;
 use transcript::case_fault::CaseFault;
 
@@ -21,8 +22,8 @@ pub fn number_or_none(alloc: Global, found: Option<usize>) -> Result<Answer, Cas
 pub fn numbers(alloc: Global, numbers: &[usize]) -> Result<Answer, CaseFault> {
     let mut answer = Answer::new(alloc);
     for number in numbers {
-        let number = *number;
-        answer.push_string(format!(in alloc; "{number}")?)?;
+        answer.put_number(*number as u64);
+        answer.end_line();
     }
     Ok(answer)
 }
@@ -31,9 +32,8 @@ pub fn numbers(alloc: Global, numbers: &[usize]) -> Result<Answer, CaseFault> {
 pub fn targets(alloc: Global, targets: &[&Target]) -> Result<Answer, CaseFault> {
     let mut answer = Answer::new(alloc);
     for target in targets {
-        let mut line = String::new(alloc);
-        push_words(&mut line, target.sources.as_slice())?;
-        answer.push_line(line.as_str())?;
+        put_words(&mut answer, target.sources.as_slice());
+        answer.end_line();
     }
     Ok(answer)
 }
@@ -42,71 +42,77 @@ pub fn targets(alloc: Global, targets: &[&Target]) -> Result<Answer, CaseFault> 
 pub fn places(alloc: Global, places: &[&Place]) -> Result<Answer, CaseFault> {
     let mut answer = Answer::new(alloc);
     for place in places {
-        answer.push_line(place.dir.as_str())?;
+        answer.push_line(place.dir.as_str());
     }
     Ok(answer)
 }
 
 pub fn pairs(alloc: Global, pairs: &[(Text, Text)]) -> Result<Answer, CaseFault> {
-    let mut line = String::new(alloc);
-    push_pairs(&mut line, pairs)?;
-    Answer::line(alloc, line.as_str())
+    let mut answer = Answer::new(alloc);
+    put_pairs(&mut answer, pairs);
+    answer.end_line();
+    Ok(answer)
 }
 
 pub fn sets(alloc: Global, sets: &PropsList) -> Result<Answer, CaseFault> {
     let mut answer = Answer::new(alloc);
     for set in sets.as_slice() {
-        let mut line = String::new(alloc);
-        push_pairs(&mut line, set.pairs())?;
-        answer.push_line(line.as_str())?;
+        put_pairs(&mut answer, set.pairs());
+        answer.end_line();
     }
     Ok(answer)
 }
 
-fn names(alloc: Global, index: &Index, names: &[TargetName]) -> Result<Answer, CaseFault> {
+/// Adds a main target as it is written.
+fn put_target(answer: &mut Answer, index: &Index, name: &TargetName) {
+    let written = ManuallyDrop::new(index.target_text(name.project(), name.name()));
+    match &*written {
+        Ok(text) => answer.put(text.as_str()),
+        Err(_fault) => answer.cut(),
+    }
+}
+
+/// Adds a line for each main target, and one where there is none.
+fn push_targets(answer: &mut Answer, index: &Index, names: &[TargetName]) {
     if names.is_empty() {
-        return Answer::line(alloc, "no targets");
+        answer.push_line("no targets");
     }
-    let mut answer = Answer::new(alloc);
     for name in names {
-        answer.push_line(index.target_text(name.project(), name.name())?.as_str())?;
+        put_target(answer, index, name);
+        answer.end_line();
     }
-    Ok(answer)
 }
 
 /// What a text names.
 pub fn meaning(alloc: Global, index: &Index, meaning: &Meaning) -> Result<Answer, CaseFault> {
+    let mut answer = Answer::new(alloc);
     match meaning {
-        Meaning::File { path } => {
-            let path = path.as_str();
-            Answer::from_string(alloc, format!(in alloc; "file {path}")?)
-        }
-        Meaning::Targets { names: all } => names(alloc, index, all.as_slice()),
-        Meaning::Nothing => Answer::line(alloc, "nothing"),
+        Meaning::File { path } => answer.push_words("file", path.as_str()),
+        Meaning::Targets { names } => push_targets(&mut answer, index, names.as_slice()),
+        Meaning::Nothing => answer.push_line("nothing"),
     }
+    Ok(answer)
 }
 
-fn piece(alloc: Global, index: &Index, piece: &Asked) -> Result<String, CaseFault> {
+fn push_piece(answer: &mut Answer, index: &Index, piece: &Asked) {
     match piece {
         Asked::Main { name, set } => {
-            let target = index.target_text(name.project(), name.name())?;
-            let mut line = String::from_str(alloc, target.as_str())?;
-            push_pairs(&mut line, set.pairs())?;
-            Ok(line)
+            put_target(answer, index, name);
+            put_pairs(answer, set.pairs());
         }
         Asked::NoTarget { word } => {
-            let mut line = String::from_str(alloc, "no target")?;
-            push_word(&mut line, word.as_str())?;
-            Ok(line)
+            answer.put("no target");
+            put_word(answer, word.as_str());
         }
     }
+    answer.end_line();
 }
 
 /// What a request asks for.
 pub fn pieces(alloc: Global, index: &Index, pieces: &[Asked]) -> Result<Answer, CaseFault> {
     let mut answer = Answer::new(alloc);
-    for one in pieces {
-        answer.push_string(piece(alloc, index, one)?)?;
+    for piece in pieces {
+        push_piece(&mut answer, index, piece);
     }
     Ok(answer)
 }
