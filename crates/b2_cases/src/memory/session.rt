@@ -128,6 +128,42 @@ fn child_fails(alloc: Global, host: &mut CaseHost, words: &[Word]) -> Result<Ans
     Ok(Answer::new(alloc))
 }
 
+/// Carries out a command that prepares a host for a run. After `leave_nothing` child processes leave nothing at their outputs.
+fn prepare_command(
+    alloc: Global,
+    host: &mut CaseHost,
+    command: &Command,
+) -> Result<Answer, CaseFault> {
+    let words = command.words();
+    match command.name() {
+        "edit" => edit(alloc, host, command),
+        "delete" => change(alloc, host, only(words)?, None),
+        "fail_calls" => fail_calls(alloc, host, words),
+        "child_fails" => child_fails(alloc, host, words),
+        "leave_nothing" => {
+            host.leave_nothing();
+            Ok(Answer::new(alloc))
+        }
+        _ => Err(CaseFault::UnknownCommand),
+    }
+}
+
+/// Carries out a command that looks at what a run left, or else one that prepares a host for a run.
+fn look_command(
+    alloc: Global,
+    host: &mut CaseHost,
+    command: &Command,
+) -> Result<Answer, CaseFault> {
+    match command.name() {
+        "files" => files_shown(alloc, host.memory()),
+        "events" => events_shown(alloc, host.memory().events()),
+        "starts" => starts_shown(alloc, host.memory().given()),
+        "calls" => calls_shown(alloc, host.calls()),
+        "faults" => Answer::number(alloc, host.memory().fault_count()),
+        _ => prepare_command(alloc, host, command),
+    }
+}
+
 /// The write that is to fail by the words of `fail_at`.
 fn failing_write(words: &[Word]) -> Result<FailingWrite, CaseFault> {
     match words {
@@ -161,10 +197,8 @@ fn build(
         return child_left(alloc);
     }
     let mut out = take_sink(alloc, failing);
-    let ended = run_b2(alloc, words, host, &mut out);
-    let shown = end_shown(alloc, &ended, out.bytes());
-    drop(ended);
-    shown
+    let ended = ManuallyDrop::new(run_b2(alloc, words, host, &mut out));
+    end_shown(alloc, &ended, out.bytes())
 }
 
 /// A look with these words.
@@ -175,10 +209,8 @@ fn look(
     failing: &mut FailingWrite,
 ) -> Result<Answer, CaseFault> {
     let mut out = take_sink(alloc, failing);
-    let ended = show_b2(alloc, words, host, &mut out);
-    let shown = end_shown(alloc, &ended, out.bytes());
-    drop(ended);
-    shown
+    let ended = ManuallyDrop::new(show_b2(alloc, words, host, &mut out));
+    end_shown(alloc, &ended, out.bytes())
 }
 
 impl InMemory {
@@ -196,42 +228,10 @@ impl InMemory {
         Ok(Answer::new(alloc))
     }
 
-    /// `leave_nothing`: from now on child processes leave nothing at their outputs.
-    fn leave_nothing(&mut self, alloc: Global) -> Result<Answer, CaseFault> {
-        self.host.leave_nothing();
-        Ok(Answer::new(alloc))
-    }
-
     /// `fail_at N`: the N-th write of the next run fails and leaves nothing. `fail_at N BYTES`: it leaves so many bytes.
     fn fail_at(&mut self, alloc: Global, words: &[Word]) -> Result<Answer, CaseFault> {
         self.failing = failing_write(words)?;
         Ok(Answer::new(alloc))
-    }
-
-    /// Carries out a command that prepares a run.
-    fn prepare_command(&mut self, alloc: Global, command: &Command) -> Result<Answer, CaseFault> {
-        let words = command.words();
-        match command.name() {
-            "edit" => edit(alloc, &mut self.host, command),
-            "delete" => change(alloc, &mut self.host, only(words)?, None),
-            "fail_calls" => fail_calls(alloc, &mut self.host, words),
-            "child_fails" => child_fails(alloc, &mut self.host, words),
-            "leave_nothing" => self.leave_nothing(alloc),
-            "fail_at" => self.fail_at(alloc, words),
-            _ => Err(CaseFault::UnknownCommand),
-        }
-    }
-
-    /// Carries out a command that looks at what a run left, or else one that prepares a run.
-    fn look_command(&mut self, alloc: Global, command: &Command) -> Result<Answer, CaseFault> {
-        match command.name() {
-            "files" => files_shown(alloc, self.host.memory()),
-            "events" => events_shown(alloc, self.host.memory().events()),
-            "starts" => starts_shown(alloc, self.host.memory().given()),
-            "calls" => calls_shown(alloc, self.host.calls()),
-            "faults" => Answer::number(alloc, self.host.memory().fault_count()),
-            _ => self.prepare_command(alloc, command),
-        }
     }
 }
 
@@ -253,7 +253,8 @@ impl Session for InMemory {
                 &mut self.failing,
             ),
             "mode_of" => mode_shown(alloc, texts(alloc, words)?.as_slice()),
-            _ => self.look_command(alloc, command),
+            "fail_at" => self.fail_at(alloc, words),
+            _ => look_command(alloc, &mut self.host, command),
         }
     }
 }

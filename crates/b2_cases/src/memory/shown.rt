@@ -8,68 +8,71 @@ use b2_memory::memory::MemoryHost;
 use b2_top::answer::Answer as Ended;
 use b2_update::failed_lists::FailedLists;
 use std::alloc::Global;
+use std::mem::ManuallyDrop;
 use std::rc::Rc;
-use transcript::answer::{Answer, shown};
+use transcript::answer::Answer;
 use transcript::case_fault::CaseFault;
 
-/// Numbers with blanks between them.
-fn numbers_shown(alloc: Global, numbers: &[u32]) -> Result<String, CaseFault> {
-    let mut shown = String::new(alloc);
+/// Adds numbers, each after a space.
+fn put_numbers(answer: &mut Answer, numbers: &[u32]) {
     for number in numbers {
-        write!(shown, " {number}")?;
+        answer.put_space();
+        answer.put_number(u64::from(*number));
     }
-    Ok(shown)
 }
 
-/// Paths with blanks between them.
-fn paths_shown(alloc: Global, paths: &[Path]) -> Result<String, CaseFault> {
-    let mut shown = String::new(alloc);
+/// Adds paths, each after a space.
+fn put_paths(answer: &mut Answer, paths: &[Path]) {
     for path in paths {
-        shown.push(' ')?;
-        shown.push_str(path.as_str())?;
+        answer.put_space();
+        answer.put(path.as_str());
     }
-    Ok(shown)
 }
 
 /// Adds what an update that failed names.
-fn push_lists(alloc: Global, answer: &mut Answer, lists: &FailedLists) -> Result<(), CaseFault> {
-    let failed = numbers_shown(alloc, lists.failed.as_slice())?;
-    let skipped = numbers_shown(alloc, lists.skipped.as_slice())?;
-    let missing = paths_shown(alloc, lists.missing.as_slice())?;
-    let line = format!(in alloc; "Failed: failed{failed}, skipped{skipped}, missing{missing}")?;
-    answer.push_string(line)
+fn push_lists(answer: &mut Answer, lists: &FailedLists) {
+    answer.put("Failed: failed");
+    put_numbers(answer, lists.failed.as_slice());
+    answer.put(", skipped");
+    put_numbers(answer, lists.skipped.as_slice());
+    answer.put(", missing");
+    put_paths(answer, lists.missing.as_slice());
+    answer.end_line();
 }
 
 /// What was printed, and how the program ended.
 pub fn end_shown(alloc: Global, ended: &Ended, printed: &[u8]) -> Result<Answer, CaseFault> {
+    let printed = ManuallyDrop::new(String::from_utf8_lossy(alloc, printed)?);
     let mut answer = Answer::new(alloc);
-    let printed = String::from_utf8_lossy(alloc, printed)?;
-    answer.push_text(printed.as_str())?;
+    answer.push_text(printed.as_str());
     if !printed.is_empty() && !printed.ends_with('\n') {
-        answer.push_line("(without a line feed)")?;
+        answer.push_line("(without a line feed)");
     }
-    let status = ended.status();
-    answer.push_string(format!(in alloc; "status {status}")?)?;
+    answer.put("status ");
+    answer.put_number(u64::from(ended.status()));
+    answer.end_line();
     if let Ended::Failed(lists) = ended {
-        push_lists(alloc, &mut answer, lists)?;
+        push_lists(&mut answer, lists);
     }
     Ok(answer)
 }
 
-fn push_event(alloc: Global, answer: &mut Answer, event: ChildEvent) -> Result<(), CaseFault> {
-    let line = match event {
-        ChildEvent::Start(step) => format!(in alloc; "Start {step}")?,
-        ChildEvent::Done(step, true) => format!(in alloc; "Done {step}")?,
-        ChildEvent::Done(step, false) => format!(in alloc; "Done {step} badly")?,
+fn push_event(answer: &mut Answer, event: ChildEvent) {
+    let (word, step, end) = match event {
+        ChildEvent::Start(step) => ("Start ", step, ""),
+        ChildEvent::Done(step, true) => ("Done ", step, ""),
+        ChildEvent::Done(step, false) => ("Done ", step, " badly"),
     };
-    answer.push_line(line.as_str())
+    answer.put(word);
+    answer.put_number(u64::from(step));
+    answer.push_line(end);
 }
 
 /// What happened to child processes.
 pub fn events_shown(alloc: Global, events: &[ChildEvent]) -> Result<Answer, CaseFault> {
     let mut answer = Answer::new(alloc);
     for event in events {
-        push_event(alloc, &mut answer, *event)?;
+        push_event(&mut answer, *event);
     }
     Ok(answer)
 }
@@ -78,28 +81,25 @@ pub fn events_shown(alloc: Global, events: &[ChildEvent]) -> Result<Answer, Case
 pub fn starts_shown(alloc: Global, given: &[Rc<Job>]) -> Result<Answer, CaseFault> {
     let mut answer = Answer::new(alloc);
     for job in given {
-        let step = job.as_ref().step;
-        let text = job.as_ref().text.as_str();
-        answer.push_string(format!(in alloc; "{step}: {text}")?)?;
+        answer.put_number(u64::from(job.as_ref().step));
+        answer.put(": ");
+        answer.push_line(job.as_ref().text.as_str());
     }
     Ok(answer)
 }
 
 /// Adds a file that was written with a stamp, if it stands.
-fn push_file(
-    alloc: Global,
-    answer: &mut Answer,
-    host: &MemoryHost,
-    version: &Version,
-    stamp: u64,
-) -> Result<(), CaseFault> {
+fn push_file(answer: &mut Answer, host: &MemoryHost, version: &Version, stamp: u64) {
     match host.stamp_of(&version.path) {
         Some(standing) if standing == stamp => {
-            let path = version.path.as_str();
-            let bytes = shown(alloc, host.bytes_of(version))?;
-            answer.push_string(format!(in alloc; "{path}, stamp {stamp}: {bytes}")?)
+            answer.put(version.path.as_str());
+            answer.put(", stamp ");
+            answer.put_number(stamp);
+            answer.put(": ");
+            answer.put_bytes(host.bytes_of(version));
+            answer.end_line();
         }
-        _ => Ok(()),
+        _ => {}
     }
 }
 
@@ -108,25 +108,27 @@ pub fn files_shown(alloc: Global, host: &MemoryHost) -> Result<Answer, CaseFault
     let mut answer = Answer::new(alloc);
     for (place, version) in host.past().iter().enumerate() {
         let stamp = (place + 1) as u64;
-        push_file(alloc, &mut answer, host, version, stamp)?;
+        push_file(&mut answer, host, version, stamp);
     }
     Ok(answer)
 }
 
+fn put_count(answer: &mut Answer, word: &str, count: u64) {
+    answer.put(word);
+    answer.put_number(count);
+}
+
 /// How often each call was made.
 pub fn calls_shown(alloc: Global, calls: Calls) -> Result<Answer, CaseFault> {
-    let Calls {
-        stat,
-        read,
-        list,
-        append,
-        replace,
-        remove,
-        start,
-        wait,
-    } = calls;
-    let line = format!(in alloc;
-        "stat {stat}, read {read}, list {list}, append {append}, replace {replace}, remove {remove}, start {start}, wait {wait}"
-    )?;
-    Answer::from_string(alloc, line)
+    let mut answer = Answer::new(alloc);
+    put_count(&mut answer, "stat ", calls.stat);
+    put_count(&mut answer, ", read ", calls.read);
+    put_count(&mut answer, ", list ", calls.list);
+    put_count(&mut answer, ", append ", calls.append);
+    put_count(&mut answer, ", replace ", calls.replace);
+    put_count(&mut answer, ", remove ", calls.remove);
+    put_count(&mut answer, ", start ", calls.start);
+    put_count(&mut answer, ", wait ", calls.wait);
+    answer.end_line();
+    Ok(answer)
 }

@@ -52,8 +52,12 @@ fn wait_one<R: System>(
         return Answer::line(alloc, "no child runs");
     }
     match host.wait_one() {
-        Ok((step, true)) => Answer::from_string(alloc, format!(in alloc; "{step} well")?),
-        Ok((step, false)) => Answer::from_string(alloc, format!(in alloc; "{step} badly")?),
+        Ok((step, is_well)) => {
+            let mut answer = Answer::new(alloc);
+            answer.put_number(u64::from(step));
+            answer.push_line(if is_well { " well" } else { " badly" });
+            Ok(answer)
+        }
         Err(Failed) => Answer::line(alloc, "Failed"),
     }
 }
@@ -110,8 +114,12 @@ fn run_lines<R: System>(host: &mut RealHost<R>, jobs: usize, text: &str) -> Resu
 }
 
 fn count_shown(alloc: Global, ended: Ended) -> Result<Answer, CaseFault> {
-    let Ended { well, badly } = ended;
-    Answer::from_string(alloc, format!(in alloc; "{well} well, {badly} badly")?)
+    let mut answer = Answer::new(alloc);
+    answer.put_number(u64::from(ended.well));
+    answer.put(" well, ");
+    answer.put_number(u64::from(ended.badly));
+    answer.push_line(" badly");
+    Ok(answer)
 }
 
 /// `run JOBS` with texts below it, one a line: starts a child for each, so many at a time, and waits for all.

@@ -3,7 +3,8 @@ use crate::real::answers::{fault_answer, io_answer};
 use b2_host::fault::Failed;
 use b2_host::files::{Files, ReadAnswer};
 use std::alloc::Global;
-use transcript::answer::{Answer, shown};
+use std::mem::ManuallyDrop;
+use transcript::answer::Answer;
 use transcript::case_fault::CaseFault;
 use transcript::command::{Command, Word};
 use transcript::words::{both, number, only, path};
@@ -18,14 +19,18 @@ fn stat<H: Files>(alloc: Global, host: &mut H, words: &[Word]) -> Result<Answer,
     }
 }
 
-fn read_answer(alloc: Global, answer: &ReadAnswer) -> Result<Answer, CaseFault> {
-    match answer {
-        ReadAnswer::Bytes(bytes) => { Answer::from_string(alloc, shown(alloc, bytes.as_slice())?) }
-        ReadAnswer::Missing => Answer::line(alloc, "Missing"),
+fn read_answer(alloc: Global, read: &ReadAnswer) -> Result<Answer, CaseFault> {
+    let mut answer = Answer::new(alloc);
+    match read {
+        ReadAnswer::Bytes(bytes) => answer.put_bytes(bytes.as_slice()),
+        ReadAnswer::Missing => answer.put("Missing"),
         ReadAnswer::TooBig { size } => {
-            Answer::from_string(alloc, format!(in alloc; "TooBig {size}")?)
+            answer.put("TooBig ");
+            answer.put_number(*size);
         }
     }
+    answer.end_line();
+    Ok(answer)
 }
 
 /// `read PATH MOST`: the bytes of the file there, where it has no more than so many.
@@ -33,18 +38,20 @@ fn read<H: Files>(alloc: Global, host: &mut H, words: &[Word]) -> Result<Answer,
     let (name, most) = both(words)?;
     let most = number(most)? as u64;
     let path = path(alloc, name)?;
-    match host.read(&path, most) {
-        Ok(answer) => read_answer(alloc, &answer),
-        Err(fault) => fault_answer(alloc, fault),
+    let read = ManuallyDrop::new(host.read(&path, most));
+    match &*read {
+        Ok(read) => read_answer(alloc, read),
+        Err(fault) => fault_answer(alloc, *fault),
     }
 }
 
 /// `list DIR`: the names of the files in it, one a line.
 fn list<H: Files>(alloc: Global, host: &mut H, words: &[Word]) -> Result<Answer, CaseFault> {
     let path = path(alloc, only(words)?)?;
-    match host.list(&path) {
+    let listed = ManuallyDrop::new(host.list(&path));
+    match &*listed {
         Ok(names) => Answer::texts(alloc, names.as_slice()),
-        Err(fault) => fault_answer(alloc, fault),
+        Err(fault) => fault_answer(alloc, *fault),
     }
 }
 
@@ -75,7 +82,22 @@ fn remove<H: Files>(alloc: Global, host: &mut H, words: &[Word]) -> Result<Answe
     }
 }
 
-/// Carries out a command on files. It asks no more of the host than files.
+/// Carries out a command that changes files.
+fn changing_command<H: Files>(
+    alloc: Global,
+    host: &mut H,
+    command: &Command,
+) -> Result<Answer, CaseFault> {
+    let words = command.words();
+    match command.name() {
+        "append" => append(alloc, host, words),
+        "replace" => replace(alloc, host, words),
+        "remove" => remove(alloc, host, words),
+        _ => Err(CaseFault::UnknownCommand),
+    }
+}
+
+/// Carries out a command that looks at files, or else one that changes them. It asks no more of the host than files.
 pub fn file_command<H: Files>(
     alloc: Global,
     host: &mut H,
@@ -86,9 +108,6 @@ pub fn file_command<H: Files>(
         "stat" => stat(alloc, host, words),
         "read" => read(alloc, host, words),
         "list" => list(alloc, host, words),
-        "append" => append(alloc, host, words),
-        "replace" => replace(alloc, host, words),
-        "remove" => remove(alloc, host, words),
-        _ => Err(CaseFault::UnknownCommand),
+        _ => changing_command(alloc, host, command),
     }
 }

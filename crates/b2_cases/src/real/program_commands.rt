@@ -13,5 +13,9 @@ pub fn program<R: System>(alloc: Global, rt: R, words: &[Text]) -> Result<Answer
     let mut host = RealHost::new(rt);
     let mut out = RealSink::new(rt);
     let status = run_program(alloc, words, &mut host, &mut out);
-    Answer::from_string(alloc, format!(in alloc; "status {status}")?)
+    let mut answer = Answer::new(alloc);
+    answer.put("status ");
+    answer.put_number(u64::from(status));
+    answer.end_line();
+    Ok(answer)
 }
