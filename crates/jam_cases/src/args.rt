@@ -1,64 +1,61 @@
 //! How arguments are shown: a word in quotes, and a bracket value as `[call HEAD LISTS]`, `[on TARGET call HEAD LISTS]` or
 //! `[on TARGET return LIST]`. A list is shown as its arguments in parentheses, with blanks between all.
-use crate::shown::push_quoted;
+use crate::shown::put_quoted;
 use jam_grammar::tree::{Arg, Inner};
-use transcript::case_fault::CaseFault;
+use transcript::answer::Answer;
 
-/// Appends an argument.
+/// Puts an argument.
 #[cycle(args)]
-pub fn push_arg(line: &mut String, arg: &Arg) -> Result<(), CaseFault> {
+pub fn put_arg(answer: &mut Answer, arg: &Arg) {
     match arg {
-        Arg::Word(text) => push_quoted(line, text.as_str()),
+        Arg::Word(text) => put_quoted(answer, text.as_str()),
         Arg::Bracket(inner) => {
-            line.push('[')?;
-            push_inner(line, inner)?;
-            line.push(']')?;
-            Ok(())
+            answer.put("[");
+            put_inner(answer, inner);
+            answer.put("]");
         }
     }
 }
 
-/// Appends what stands in brackets.
+/// Puts what stands in brackets.
 #[cycle(args)]
-fn push_inner(line: &mut String, inner: &Inner) -> Result<(), CaseFault> {
+fn put_inner(answer: &mut Answer, inner: &Inner) {
     match inner {
         Inner::Call { head, lists } => {
-            line.push_str("call ")?;
-            push_arg(line, head)?;
-            push_lists(line, lists)
+            answer.put("call ");
+            put_arg(answer, head);
+            put_lists(answer, lists);
         }
         Inner::On { target, inner } => {
-            line.push_str("on ")?;
-            push_arg(line, target)?;
-            line.push(' ')?;
-            push_inner(line, inner)
+            answer.put("on ");
+            put_arg(answer, target);
+            answer.put(" ");
+            put_inner(answer, inner);
         }
         Inner::OnReturn { target, value } => {
-            line.push_str("on ")?;
-            push_arg(line, target)?;
-            line.push_str(" return")?;
-            push_args(line, value)
+            answer.put("on ");
+            put_arg(answer, target);
+            answer.put(" return");
+            put_args(answer, value);
         }
     }
 }
 
-/// Appends a blank and a list.
+/// Puts a blank and a list.
 #[cycle(args)]
-pub fn push_args(line: &mut String, args: &[Arg]) -> Result<(), CaseFault> {
-    line.push_str(" (")?;
+pub fn put_args(answer: &mut Answer, args: &[Arg]) {
+    answer.put(" (");
     for arg in args {
-        line.push(' ')?;
-        push_arg(line, arg)?;
+        answer.put(" ");
+        put_arg(answer, arg);
     }
-    line.push_str(" )")?;
-    Ok(())
+    answer.put(" )");
 }
 
-/// Appends lists, each after a blank.
+/// Puts lists, each after a blank.
 #[cycle(args)]
-pub fn push_lists(line: &mut String, lists: &[Vec<Arg>]) -> Result<(), CaseFault> {
+pub fn put_lists(answer: &mut Answer, lists: &[Vec<Arg>]) {
     for list in lists {
-        push_args(line, list)?;
+        put_args(answer, list);
     }
-    Ok(())
 }

@@ -15,10 +15,11 @@ use jam_expand::body::expand_body;
 use jam_expand::expand::expand;
 use std::alloc::Global;
 use std::collections::BTreeMap;
+use std::mem::ManuallyDrop;
 use transcript::answer::Answer;
 use transcript::case_fault::CaseFault;
 use transcript::command::{Command, Word};
-use transcript::words::{both, only, own_text, own_texts, text};
+use transcript::words::{both, only, own_texts, text};
 
 /// The variables that were set, each with its texts; every other one has none.
 #[derive(Drop)]
@@ -84,25 +85,25 @@ fn answer_set(
     Ok(Answer::new(alloc))
 }
 
-/// The text of a fault.
-fn fault_text(alloc: Global, fault: &ExpandFault) -> Result<String, CaseFault> {
+fn push_fault(answer: &mut Answer, fault: &ExpandFault) {
     match fault {
-        ExpandFault::BadIndex { text } => {
-            let text = text.as_str();
-            Ok(format!(in alloc; "bad index {text}")?)
+        ExpandFault::BadIndex { text } => answer.push_words("bad index", text.as_str()),
+        ExpandFault::BadModifier { text } => answer.push_words("bad modifier", text.as_str()),
+        ExpandFault::TooDeep => answer.push_line("expansion too deep"),
+        ExpandFault::TooLarge { bytes } => {
+            answer.put("expansion of ");
+            answer.put_number(*bytes);
+            answer.push_line(" bytes");
         }
-        ExpandFault::BadModifier { text } => {
-            let text = text.as_str();
-            Ok(format!(in alloc; "bad modifier {text}")?)
-        }
-        ExpandFault::TooDeep => Ok(String::from_str(alloc, "expansion too deep")?),
-        ExpandFault::TooLarge { bytes } => Ok(format!(in alloc; "expansion of {bytes} bytes")?),
-        ExpandFault::OutOfMemory => Err(CaseFault::OutOfMemory),
+        ExpandFault::OutOfMemory => answer.cut(),
     }
 }
 
-fn fault_answer(alloc: Global, fault: &ExpandFault) -> Result<Answer, CaseFault> {
-    Answer::from_string(alloc, fault_text(alloc, fault)?)
+fn fault_answer(alloc: Global, fault: ExpandFault) -> Result<Answer, CaseFault> {
+    let fault = ManuallyDrop::new(fault);
+    let mut answer = Answer::new(alloc);
+    push_fault(&mut answer, &fault);
+    Ok(answer)
 }
 
 fn answer_add_expansion(
@@ -117,7 +118,7 @@ fn answer_add_expansion(
             variables.add(alloc, name, elements.as_slice())?;
             Ok(Answer::new(alloc))
         }
-        Err(fault) => fault_answer(alloc, &fault),
+        Err(fault) => fault_answer(alloc, fault),
     }
 }
 
@@ -128,19 +129,26 @@ fn answer_expand(
 ) -> Result<Answer, CaseFault> {
     let word = text(alloc, only(words)?)?;
     match expand(alloc, word.as_str(), variables) {
-        Ok(elements) => Answer::texts(alloc, elements.as_slice()),
-        Err(fault) => fault_answer(alloc, &fault),
+        Ok(elements) => {
+            let elements = ManuallyDrop::new(elements);
+            Answer::texts(alloc, elements.as_slice())
+        }
+        Err(fault) => fault_answer(alloc, fault),
     }
 }
 
 fn size_answer(alloc: Global, elements: &[Text]) -> Result<Answer, CaseFault> {
-    let count = elements.len();
     let mut bytes = 0usize;
     for element in elements {
         bytes = bytes.saturating_add(element.as_str().len());
     }
-    let size = format!(in alloc; "elements {count}, bytes {bytes}")?;
-    Answer::from_string(alloc, size)
+    let mut answer = Answer::new(alloc);
+    answer.put("elements ");
+    answer.put_number(elements.len() as u64);
+    answer.put(", bytes ");
+    answer.put_number(bytes as u64);
+    answer.end_line();
+    Ok(answer)
 }
 
 fn answer_expand_size(
@@ -151,15 +159,15 @@ fn answer_expand_size(
     let word = text(alloc, only(words)?)?;
     match expand(alloc, word.as_str(), variables) {
         Ok(elements) => size_answer(alloc, elements.as_slice()),
-        Err(fault) => fault_answer(alloc, &fault),
+        Err(fault) => fault_answer(alloc, fault),
     }
 }
 
 /// The body that a command has: its one word, or its text.
-fn body_of(alloc: Global, command: &Command) -> Result<Text, CaseFault> {
+fn body_of(alloc: Global, command: &Command) -> Result<ManuallyDrop<Text>, CaseFault> {
     match command.words() {
-        [] => own_text(alloc, command.text()),
-        words => own_text(alloc, only(words)?),
+        [] => text(alloc, command.text()),
+        words => text(alloc, only(words)?),
     }
 }
 
@@ -170,9 +178,20 @@ fn answer_expand_body(
 ) -> Result<Answer, CaseFault> {
     let body = body_of(alloc, command)?;
     match expand_body(alloc, body.as_str(), variables) {
-        Ok(text) => Answer::line(alloc, text.as_str()),
-        Err(fault) => fault_answer(alloc, &fault),
+        Ok(text) => {
+            let text = ManuallyDrop::new(text);
+            Answer::line(alloc, text.as_str())
+        }
+        Err(fault) => fault_answer(alloc, fault),
     }
+}
+
+fn bytes_answer(alloc: Global, text: &str) -> Result<Answer, CaseFault> {
+    let mut answer = Answer::new(alloc);
+    answer.put("bytes ");
+    answer.put_number(text.len() as u64);
+    answer.end_line();
+    Ok(answer)
 }
 
 fn answer_expand_body_size(
@@ -182,11 +201,21 @@ fn answer_expand_body_size(
 ) -> Result<Answer, CaseFault> {
     let body = body_of(alloc, command)?;
     match expand_body(alloc, body.as_str(), variables) {
-        Ok(text) => {
-            let bytes = text.as_str().len();
-            Answer::from_string(alloc, format!(in alloc; "bytes {bytes}")?)
-        }
-        Err(fault) => fault_answer(alloc, &fault),
+        Ok(text) => bytes_answer(alloc, text.as_str()),
+        Err(fault) => fault_answer(alloc, fault),
+    }
+}
+
+/// Carries out a command on bodies of actions.
+fn body_command(
+    alloc: Global,
+    command: &Command,
+    variables: &Variables,
+) -> Result<Answer, CaseFault> {
+    match command.name() {
+        "expand_body" => answer_expand_body(alloc, variables, command),
+        "expand_body_size" => answer_expand_body_size(alloc, variables, command),
+        _ => Err(CaseFault::UnknownCommand),
     }
 }
 
@@ -202,8 +231,6 @@ pub fn expansion_command(
         "add_expansion" => answer_add_expansion(alloc, variables, words),
         "expand" => answer_expand(alloc, variables, words),
         "expand_size" => answer_expand_size(alloc, variables, words),
-        "expand_body" => answer_expand_body(alloc, variables, command),
-        "expand_body_size" => answer_expand_body_size(alloc, variables, command),
-        _ => Err(CaseFault::UnknownCommand),
+        _ => body_command(alloc, command, variables),
     }
 }

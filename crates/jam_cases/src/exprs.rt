@@ -1,60 +1,56 @@
 //! How conditions are shown: an argument as itself, and every other one in parentheses after a name, as `(or A B)`,
 //! `(and A B)`, `(not A)`, `(group A)`, `(equal A B)`, `(differ A B)` and `(within A LIST)`.
-use crate::args::{push_arg, push_args};
+use crate::args::{put_arg, put_args};
 use jam_grammar::tree::{Arg, Expr};
-use transcript::case_fault::CaseFault;
+use transcript::answer::Answer;
 
-/// Appends two arguments after a name.
-fn push_pair(line: &mut String, name: &str, left: &Arg, right: &Arg) -> Result<(), CaseFault> {
-    line.push_str(name)?;
-    push_arg(line, left)?;
-    line.push(' ')?;
-    push_arg(line, right)?;
-    line.push(')')?;
-    Ok(())
+/// Puts two arguments after a name.
+fn put_pair(answer: &mut Answer, name: &str, left: &Arg, right: &Arg) {
+    answer.put(name);
+    put_arg(answer, left);
+    answer.put(" ");
+    put_arg(answer, right);
+    answer.put(")");
 }
 
-/// Appends an argument and a list.
-fn push_within(line: &mut String, item: &Arg, list: &[Arg]) -> Result<(), CaseFault> {
-    line.push_str("(within ")?;
-    push_arg(line, item)?;
-    push_args(line, list)?;
-    line.push(')')?;
-    Ok(())
+/// Puts an argument and a list.
+fn put_within(answer: &mut Answer, item: &Arg, list: &[Arg]) {
+    answer.put("(within ");
+    put_arg(answer, item);
+    put_args(answer, list);
+    answer.put(")");
 }
 
-/// Appends a condition.
+/// Puts a condition.
 #[cycle(exprs)]
-pub fn push_expr(line: &mut String, expr: &Expr) -> Result<(), CaseFault> {
+pub fn put_expr(answer: &mut Answer, expr: &Expr) {
     match expr {
-        Expr::Or(members) => push_members(line, "(or", members),
-        Expr::And(members) => push_members(line, "(and", members),
-        Expr::Not(inner) => push_one(line, "(not ", inner),
-        Expr::Group(inner) => push_one(line, "(group ", inner),
-        Expr::Bare(arg) => push_arg(line, arg),
-        Expr::Equal(left, right) => push_pair(line, "(equal ", left, right),
-        Expr::Differ(left, right) => push_pair(line, "(differ ", left, right),
-        Expr::Within(item, list) => push_within(line, item, list),
+        Expr::Or(members) => put_members(answer, "(or", members),
+        Expr::And(members) => put_members(answer, "(and", members),
+        Expr::Not(inner) => put_one(answer, "(not ", inner),
+        Expr::Group(inner) => put_one(answer, "(group ", inner),
+        Expr::Bare(arg) => put_arg(answer, arg),
+        Expr::Equal(left, right) => put_pair(answer, "(equal ", left, right),
+        Expr::Differ(left, right) => put_pair(answer, "(differ ", left, right),
+        Expr::Within(item, list) => put_within(answer, item, list),
     }
 }
 
-/// Appends one condition after a name.
+/// Puts one condition after a name.
 #[cycle(exprs)]
-fn push_one(line: &mut String, name: &str, inner: &Expr) -> Result<(), CaseFault> {
-    line.push_str(name)?;
-    push_expr(line, inner)?;
-    line.push(')')?;
-    Ok(())
+fn put_one(answer: &mut Answer, name: &str, inner: &Expr) {
+    answer.put(name);
+    put_expr(answer, inner);
+    answer.put(")");
 }
 
-/// Appends conditions after a name.
+/// Puts conditions after a name.
 #[cycle(exprs)]
-fn push_members(line: &mut String, name: &str, members: &[Expr]) -> Result<(), CaseFault> {
-    line.push_str(name)?;
+fn put_members(answer: &mut Answer, name: &str, members: &[Expr]) {
+    answer.put(name);
     for member in members {
-        line.push(' ')?;
-        push_expr(line, member)?;
+        answer.put(" ");
+        put_expr(answer, member);
     }
-    line.push(')')?;
-    Ok(())
+    answer.put(")");
 }

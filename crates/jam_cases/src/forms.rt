@@ -1,10 +1,10 @@
 //! How the first line of a statement is shown: its name, and what it has before its blocks.
-use crate::args::{push_arg, push_args, push_lists};
-use crate::exprs::push_expr;
-use crate::shown::push_quoted;
+use crate::args::{put_arg, put_args, put_lists};
+use crate::exprs::put_expr;
+use crate::shown::{put_char, put_quoted};
 use b2_base::text::Text;
 use jam_grammar::tree::{Arg, Form, Param, Sign};
-use transcript::case_fault::CaseFault;
+use transcript::answer::Answer;
 
 fn sign_name(sign: Sign) -> &'static str {
     match sign {
@@ -14,78 +14,74 @@ fn sign_name(sign: Sign) -> &'static str {
     }
 }
 
-/// Appends a name and a list.
-fn push_named(line: &mut String, name: &str, list: &[Arg]) -> Result<(), CaseFault> {
-    line.push_str(name)?;
-    push_args(line, list)
+/// Puts a name and a list.
+fn put_named(answer: &mut Answer, name: &str, list: &[Arg]) {
+    answer.put(name);
+    put_args(answer, list);
 }
 
-/// Appends a name and a text.
-fn push_text(line: &mut String, name: &str, text: &Text) -> Result<(), CaseFault> {
-    line.push_str(name)?;
-    push_quoted(line, text.as_str())
+/// Puts a name and a text.
+fn put_text(answer: &mut Answer, name: &str, text: &Text) {
+    answer.put(name);
+    put_quoted(answer, text.as_str());
 }
 
-fn push_local(line: &mut String, names: &[Arg], value: Option<&Vec<Arg>>) -> Result<(), CaseFault> {
-    push_named(line, "local", names)?;
-    match value {
-        None => Ok(()),
-        Some(value) => push_named(line, " =", value),
+fn put_local(answer: &mut Answer, names: &[Arg], value: Option<&Vec<Arg>>) {
+    put_named(answer, "local", names);
+    if let Some(value) = value {
+        put_named(answer, " =", value);
     }
 }
 
-/// Appends a sign and a value.
-fn push_set(line: &mut String, sign: Sign, value: &[Arg]) -> Result<(), CaseFault> {
-    push_named(line, sign_name(sign), value)
+/// Puts a sign and a value.
+fn put_set(answer: &mut Answer, sign: Sign, value: &[Arg]) {
+    put_named(answer, sign_name(sign), value);
 }
 
-fn push_target(line: &mut String, name: &str, target: &Arg) -> Result<(), CaseFault> {
-    line.push_str(name)?;
-    push_arg(line, target)
+fn put_target(answer: &mut Answer, name: &str, target: &Arg) {
+    answer.put(name);
+    put_arg(answer, target);
 }
 
-fn push_for(line: &mut String, local: bool, name: &Text, items: &[Arg]) -> Result<(), CaseFault> {
-    push_text(line, if local { "for local " } else { "for " }, name)?;
-    push_named(line, " in", items)
+fn put_for(answer: &mut Answer, local: bool, name: &Text, items: &[Arg]) {
+    put_text(answer, if local { "for local " } else { "for " }, name);
+    put_named(answer, " in", items);
 }
 
-/// Appends a parameter: its name, and its mark.
-fn push_param(line: &mut String, param: &Param) -> Result<(), CaseFault> {
-    push_text(line, " ", &param.name)?;
+/// Puts a parameter: its name, and its mark.
+fn put_param(answer: &mut Answer, param: &Param) {
+    put_text(answer, " ", &param.name);
     if let Some(mark) = param.mark {
-        line.push(mark)?;
+        put_char(answer, mark);
     }
-    Ok(())
 }
 
-/// Appends a list of parameters.
-fn push_list(line: &mut String, params: &[Param]) -> Result<(), CaseFault> {
-    line.push_str(" (")?;
+/// Puts a list of parameters.
+fn put_params(answer: &mut Answer, params: &[Param]) {
+    answer.put(" (");
     for param in params {
-        push_param(line, param)?;
+        put_param(answer, param);
     }
-    line.push_str(" )")?;
-    Ok(())
+    answer.put(" )");
 }
 
-fn push_rule(line: &mut String, name: &Text, params: &[Vec<Param>]) -> Result<(), CaseFault> {
-    push_text(line, "rule ", name)?;
+fn put_rule(answer: &mut Answer, name: &Text, params: &[Vec<Param>]) {
+    put_text(answer, "rule ", name);
     for list in params {
-        push_list(line, list)?;
+        put_params(answer, list);
     }
-    Ok(())
 }
 
-/// Appends a form that sets or calls something.
-fn push_act(line: &mut String, form: &Form) -> Result<(), CaseFault> {
+/// Puts a form that sets or calls something.
+fn put_act(answer: &mut Answer, form: &Form) {
     match form {
         Form::Assign {
             target,
             sign,
             value,
         } => {
-            push_target(line, "assign ", target)?;
-            push_set(line, *sign, value)
+            put_target(answer, "assign ", target);
+            put_set(answer, *sign, value);
         }
         Form::AssignOn {
             target,
@@ -93,57 +89,54 @@ fn push_act(line: &mut String, form: &Form) -> Result<(), CaseFault> {
             sign,
             value,
         } => {
-            push_target(line, "assign ", target)?;
-            push_named(line, " on", on)?;
-            push_set(line, *sign, value)
+            put_target(answer, "assign ", target);
+            put_named(answer, " on", on);
+            put_set(answer, *sign, value);
         }
         Form::Call { head, lists } => {
-            push_target(line, "call ", head)?;
-            push_lists(line, lists)
+            put_target(answer, "call ", head);
+            put_lists(answer, lists);
         }
-        _ => Ok(()),
+        _ => {}
     }
 }
 
-/// Appends a form that has no block of its own.
-fn push_simple(line: &mut String, form: &Form) -> Result<(), CaseFault> {
+/// Puts a form that has no block of its own.
+fn put_simple(answer: &mut Answer, form: &Form) {
     match form {
-        Form::Local { names, value } => push_local(line, names, value.as_ref()),
-        Form::Include(names) => push_named(line, "include", names),
-        Form::Return(value) => push_named(line, "return", value),
+        Form::Local { names, value } => put_local(answer, names, value.as_ref()),
+        Form::Include(names) => put_named(answer, "include", names),
+        Form::Return(value) => put_named(answer, "return", value),
         Form::Actions { name, body } => {
-            push_text(line, "actions ", name)?;
-            push_text(line, " ", body)
+            put_text(answer, "actions ", name);
+            put_text(answer, " ", body);
         }
-        Form::On { target, .. } => push_target(line, "on ", target),
-        _ => push_act(line, form),
+        Form::On { target, .. } => put_target(answer, "on ", target),
+        _ => put_act(answer, form),
     }
 }
 
-/// Appends what a form has before its blocks.
-pub fn push_form(line: &mut String, form: &Form) -> Result<(), CaseFault> {
+/// Puts what a form has before its blocks.
+pub fn put_form(answer: &mut Answer, form: &Form) {
     match form {
-        Form::Braces(_) => {
-            line.push_str("braces")?;
-            Ok(())
-        }
+        Form::Braces(_) => answer.put("braces"),
         Form::If { test, .. } => {
-            line.push_str("if ")?;
-            push_expr(line, test)
+            answer.put("if ");
+            put_expr(answer, test);
         }
         Form::While { test, .. } => {
-            line.push_str("while ")?;
-            push_expr(line, test)
+            answer.put("while ");
+            put_expr(answer, test);
         }
         Form::For {
             local,
             name,
             items,
             ..
-        } => push_for(line, *local, name, items),
-        Form::Switch { value, .. } => push_named(line, "switch", value),
-        Form::Module { name, .. } => push_named(line, "module", name),
-        Form::Rule { name, params, .. } => push_rule(line, name, params),
-        _ => push_simple(line, form),
+        } => put_for(answer, *local, name, items),
+        Form::Switch { value, .. } => put_named(answer, "switch", value),
+        Form::Module { name, .. } => put_named(answer, "module", name),
+        Form::Rule { name, params, .. } => put_rule(answer, name, params),
+        _ => put_simple(answer, form),
     }
 }

@@ -1,10 +1,11 @@
 //! The command `spelled`.
 use crate::expansion::Variables;
 use crate::marks::mark_command;
-use crate::shown::{kind_named, push_quoted};
+use crate::shown::{as_text, kind_named, put_quoted};
 use jam_spelling::lexeme::Lexeme;
 use jam_spelling::spelled;
 use std::alloc::Global;
+use std::mem::ManuallyDrop;
 use transcript::answer::Answer;
 use transcript::case_fault::CaseFault;
 use transcript::command::{Command, Word};
@@ -30,12 +31,13 @@ fn lexemes_of(alloc: Global, words: &[Word]) -> Result<Vec<Lexeme>, CaseFault> {
 
 /// The text in quotes.
 fn spelled_answer(alloc: Global, words: &[Word]) -> Result<Answer, CaseFault> {
-    let lexemes = lexemes_of(alloc, words)?;
-    let bytes = spelled(alloc, lexemes.as_slice())?;
-    let text = String::from_utf8_lossy(alloc, bytes.as_slice())?;
-    let mut line = String::new(alloc);
-    push_quoted(&mut line, text.as_str())?;
-    Answer::line(alloc, line.as_str())
+    let lexemes = ManuallyDrop::new(lexemes_of(alloc, words)?);
+    let bytes = ManuallyDrop::new(spelled(alloc, lexemes.as_slice())?);
+    let text = as_text(bytes.as_slice())?;
+    let mut answer = Answer::new(alloc);
+    put_quoted(&mut answer, text);
+    answer.end_line();
+    Ok(answer)
 }
 
 /// Carries out `spelled`, or another command.

@@ -5,6 +5,7 @@ use crate::shown::kind_named;
 use b2_base::token::{Token, TokenKind};
 use jam_grammar::mark::{Mark, mark_of};
 use std::alloc::Global;
+use std::mem::ManuallyDrop;
 use transcript::answer::Answer;
 use transcript::case_fault::CaseFault;
 use transcript::command::{Command, Word};
@@ -59,13 +60,14 @@ fn mark_name(mark: Mark) -> &'static str {
 
 /// The name of the mark of a token of this kind and text.
 fn token_mark(alloc: Global, kind: TokenKind, text: &Word) -> Result<&'static str, CaseFault> {
-    Ok(mark_name(mark_of(&Token {
+    let token = ManuallyDrop::new(Token {
         kind,
         text: text.as_text(alloc)?,
         line: 1,
         start: 0,
         end: 0,
-    })))
+    });
+    Ok(mark_name(mark_of(&token)))
 }
 
 /// The names of the marks of texts of one kind.
@@ -74,12 +76,13 @@ fn marks_answer(alloc: Global, words: &[Word]) -> Result<Answer, CaseFault> {
         return Err(CaseFault::WrongWords);
     };
     let kind = kind_named(kind.as_str()?)?;
-    let mut line = String::new(alloc);
+    let mut answer = Answer::new(alloc);
     for text in texts {
-        line.push_str(token_mark(alloc, kind, text)?)?;
-        line.push(' ')?;
+        answer.put_space();
+        answer.put(token_mark(alloc, kind, text)?);
     }
-    Answer::line(alloc, line.as_str().trim_end())
+    answer.end_line();
+    Ok(answer)
 }
 
 /// Carries out `mark_of`, or another command.

@@ -10,39 +10,36 @@ use jam_path::glob::glob_match;
 use jam_path::name::{join, parts};
 use jam_path::name_parts::NameParts;
 use std::alloc::Global;
+use std::mem::ManuallyDrop;
 use transcript::answer::Answer;
 use transcript::case_fault::CaseFault;
 use transcript::command::{Command, Word};
 use transcript::words::{both, only, text};
 
 /// Adds a label and the part, which may be empty.
-fn push_part(
-    alloc: Global,
-    answer: &mut Answer,
-    label: &str,
-    part: &Text,
-) -> Result<(), CaseFault> {
-    let mut line = String::from_str(alloc, label)?;
+fn push_part(answer: &mut Answer, label: &str, part: &Text) {
+    answer.put(label);
     if !part.as_str().is_empty() {
-        line.push(' ')?;
-        line.push_str(part.as_str())?;
+        answer.put(" ");
+        answer.put(part.as_str());
     }
-    answer.push_line(line.as_str())
+    answer.end_line();
 }
 
-fn parts_answer(alloc: Global, name: &NameParts) -> Result<Answer, CaseFault> {
-    let mut answer = Answer::new(alloc);
-    push_part(alloc, &mut answer, "grist", &name.grist)?;
-    push_part(alloc, &mut answer, "dir", &name.dir)?;
-    push_part(alloc, &mut answer, "base", &name.base)?;
-    push_part(alloc, &mut answer, "suffix", &name.suffix)?;
-    push_part(alloc, &mut answer, "member", &name.member)?;
-    Ok(answer)
+fn push_parts(answer: &mut Answer, name: &NameParts) {
+    push_part(answer, "grist", &name.grist);
+    push_part(answer, "dir", &name.dir);
+    push_part(answer, "base", &name.base);
+    push_part(answer, "suffix", &name.suffix);
+    push_part(answer, "member", &name.member);
 }
 
 fn answer_parts(alloc: Global, words: &[Word]) -> Result<Answer, CaseFault> {
     let name = text(alloc, only(words)?)?;
-    parts_answer(alloc, &parts(alloc, name.as_str())?)
+    let name = ManuallyDrop::new(parts(alloc, name.as_str())?);
+    let mut answer = Answer::new(alloc);
+    push_parts(&mut answer, &name);
+    Ok(answer)
 }
 
 fn name_parts(alloc: Global, words: &[Word]) -> Result<NameParts, CaseFault> {
@@ -59,8 +56,9 @@ fn name_parts(alloc: Global, words: &[Word]) -> Result<NameParts, CaseFault> {
 }
 
 fn answer_join(alloc: Global, words: &[Word]) -> Result<Answer, CaseFault> {
-    let name = name_parts(alloc, words)?;
-    Answer::line(alloc, join(alloc, &name)?.as_str())
+    let name = ManuallyDrop::new(name_parts(alloc, words)?);
+    let joined = ManuallyDrop::new(join(alloc, &name)?);
+    Answer::line(alloc, joined.as_str())
 }
 
 fn answer_glob_match(alloc: Global, words: &[Word]) -> Result<Answer, CaseFault> {

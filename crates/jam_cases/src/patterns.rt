@@ -9,6 +9,7 @@ use b2_base::text_list::TextList;
 use jam_patterns::groups::groups;
 use jam_patterns::refusal::{PatternFault, Refusal};
 use std::alloc::Global;
+use std::mem::ManuallyDrop;
 use transcript::answer::Answer;
 use transcript::case_fault::CaseFault;
 use transcript::command::{Command, Word};
@@ -22,35 +23,29 @@ enum Shown {
 }
 
 fn refusal_answer(alloc: Global, refusal: &Refusal) -> Result<Answer, CaseFault> {
-    let text = refusal.text();
-    let mut answer = Answer::from_string(alloc, format!(in alloc; "bad pattern {text}")?)?;
+    let mut answer = Answer::new(alloc);
+    answer.push_words("bad pattern", refusal.text());
     answer.push_line(if refusal.syntax() {
         "syntax true"
     } else {
         "syntax false"
-    })?;
+    });
     Ok(answer)
 }
 
-fn push_group(
-    alloc: Global,
-    answer: &mut Answer,
-    group: &str,
-    shown: Shown,
-) -> Result<(), CaseFault> {
+fn push_group(answer: &mut Answer, group: &str, shown: Shown) {
     match shown {
-        Shown::Texts => answer.push_line(group),
-        Shown::Lengths => {
-            let len = group.len();
-            answer.push_string(format!(in alloc; "{len}")?)
-        }
+        Shown::Texts => answer.put(group),
+        Shown::Lengths => answer.put_number(group.len() as u64),
     }
+    answer.end_line();
 }
 
 fn groups_answer(alloc: Global, found: &TextList, shown: Shown) -> Result<Answer, CaseFault> {
-    let mut answer = Answer::line(alloc, "match")?;
+    let mut answer = Answer::new(alloc);
+    answer.push_line("match");
     for group in found.as_slice() {
-        push_group(alloc, &mut answer, group.as_str(), shown)?;
+        push_group(&mut answer, group.as_str(), shown);
     }
     Ok(answer)
 }
@@ -76,10 +71,8 @@ fn match_answer(
     shown: Shown,
 ) -> Result<Answer, CaseFault> {
     let pattern = text(alloc, pattern)?;
-    let found = groups(alloc, pattern.as_str(), within.as_str());
-    let answer = found_answer(alloc, &found, shown);
-    drop(found);
-    answer
+    let found = ManuallyDrop::new(groups(alloc, pattern.as_str(), within.as_str()));
+    found_answer(alloc, &found, shown)
 }
 
 fn answer_groups(alloc: Global, words: &[Word]) -> Result<Answer, CaseFault> {

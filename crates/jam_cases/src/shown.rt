@@ -1,18 +1,32 @@
-//! Texts in quotes.
+//! Texts in quotes, and the names of kinds.
 use b2_base::token::TokenKind;
+use transcript::answer::Answer;
 use transcript::case_fault::CaseFault;
 
-/// Appends a text in quotes, with a backslash before each quote and backslash.
-pub fn push_quoted(line: &mut String, text: &str) -> Result<(), CaseFault> {
-    line.push('"')?;
+/// Puts a character.
+pub fn put_char(answer: &mut Answer, letter: char) {
+    let mut bytes = [0u8; 4];
+    answer.put(letter.encode_utf8(&mut bytes));
+}
+
+/// Puts a text in quotes, with a backslash before each quote and backslash.
+pub fn put_quoted(answer: &mut Answer, text: &str) {
+    answer.put("\"");
     for letter in text.chars() {
         if letter == '"' || letter == '\\' {
-            line.push('\\')?;
+            answer.put("\\");
         }
-        line.push(letter)?;
+        put_char(answer, letter);
     }
-    line.push('"')?;
-    Ok(())
+    answer.put("\"");
+}
+
+/// Bytes as the text that they are.
+pub fn as_text(bytes: &[u8]) -> Result<&str, CaseFault> {
+    match str::from_utf8(bytes) {
+        Ok(text) => Ok(text),
+        Err(_error) => Err(CaseFault::WrongWords),
+    }
 }
 
 /// The name of a kind.

@@ -1,12 +1,13 @@
 //! The command `lex`.
 use crate::expansion::Variables;
 use crate::given::given;
-use crate::shown::{kind_name, push_quoted};
+use crate::shown::{kind_name, put_quoted};
 use crate::trees::tree_command;
 use b2_base::token::Token;
 use jam_lexer::fault::LexFault;
 use jam_lexer::lex;
 use std::alloc::Global;
+use std::mem::ManuallyDrop;
 use transcript::answer::Answer;
 use transcript::case_fault::CaseFault;
 use transcript::command::Command;
@@ -15,16 +16,25 @@ use transcript::command::Command;
 pub fn fault_answer(alloc: Global, fault: &LexFault) -> Result<Answer, CaseFault> {
     match fault {
         LexFault::OutOfMemory => Err(CaseFault::OutOfMemory),
-        _ => Answer::from_string(alloc, format!(in alloc; "{fault}")?),
+        _ => {
+            let text = ManuallyDrop::new(format!(in alloc; "{fault}")?);
+            Answer::line(alloc, text.as_str())
+        }
     }
 }
 
-/// A token as LINE START-END KIND "TEXT".
-fn token_line(alloc: Global, token: &Token) -> Result<String, CaseFault> {
-    let kind = kind_name(token.kind);
-    let mut line = format!(in alloc; "{} {}-{} {kind} ", token.line, token.start, token.end)?;
-    push_quoted(&mut line, token.text.as_str())?;
-    Ok(line)
+/// Adds a token as LINE START-END KIND "TEXT".
+fn push_token(answer: &mut Answer, token: &Token) {
+    answer.put_number(token.line as u64);
+    answer.put(" ");
+    answer.put_number(token.start as u64);
+    answer.put("-");
+    answer.put_number(token.end as u64);
+    answer.put(" ");
+    answer.put(kind_name(token.kind));
+    answer.put(" ");
+    put_quoted(answer, token.text.as_str());
+    answer.end_line();
 }
 
 /// Each token on a line of its own.
@@ -34,14 +44,17 @@ fn tokens_answer(alloc: Global, tokens: &[Token]) -> Result<Answer, CaseFault> {
     }
     let mut answer = Answer::new(alloc);
     for token in tokens {
-        answer.push_string(token_line(alloc, token)?)?;
+        push_token(&mut answer, token);
     }
     Ok(answer)
 }
 
 fn lex_answer(alloc: Global, command: &Command) -> Result<Answer, CaseFault> {
     match lex(alloc, given(command)?) {
-        Ok(tokens) => tokens_answer(alloc, tokens.as_slice()),
+        Ok(tokens) => {
+            let tokens = ManuallyDrop::new(tokens);
+            tokens_answer(alloc, tokens.as_slice())
+        }
         Err(fault) => fault_answer(alloc, &fault),
     }
 }

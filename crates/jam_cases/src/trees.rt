@@ -2,6 +2,7 @@
 use crate::expansion::Variables;
 use crate::given::{MAX_LEN, given};
 use crate::lexemes::lexeme_command;
+use crate::shown::as_text;
 use crate::stmts::push_stmts;
 use crate::tokens::fault_answer;
 use b2_base::token::Token;
@@ -11,23 +12,31 @@ use jam_parser::fault::SyntaxFault;
 use jam_parser::parse::parse;
 use jam_printer::print;
 use std::alloc::Global;
+use std::mem::ManuallyDrop;
 use transcript::answer::Answer;
 use transcript::case_fault::CaseFault;
 use transcript::command::Command;
+
+/// Adds a fault at a token, or at the end of the text where the token is empty.
+fn push_syntax(answer: &mut Answer, line: u32, found: &str) {
+    answer.put("line ");
+    answer.put_number(line as u64);
+    answer.put(": syntax error at ");
+    answer.push_line(if found.is_empty() {
+        "end of file"
+    } else {
+        found
+    });
+}
 
 /// The first fault on a line.
 fn syntax_answer(alloc: Global, fault: &SyntaxFault) -> Result<Answer, CaseFault> {
     match fault {
         SyntaxFault::OutOfMemory => Err(CaseFault::OutOfMemory),
         SyntaxFault::At { line, found } => {
-            let found = found.as_str();
-            if found.is_empty() {
-                let told = format!(in alloc; "line {line}: syntax error at end of file")?;
-                Answer::from_string(alloc, told)
-            } else {
-                let told = format!(in alloc; "line {line}: syntax error at {found}")?;
-                Answer::from_string(alloc, told)
-            }
+            let mut answer = Answer::new(alloc);
+            push_syntax(&mut answer, *line, found.as_str());
+            Ok(answer)
         }
     }
 }
@@ -38,36 +47,48 @@ fn tree_answer(alloc: Global, tree: &Tree) -> Result<Answer, CaseFault> {
         return Answer::line(alloc, "no statements");
     }
     let mut answer = Answer::new(alloc);
-    push_stmts(alloc, &mut answer, 0, &tree.block)?;
+    push_stmts(&mut answer, 0, &tree.block);
     Ok(answer)
 }
 
-/// The text of the printed tree of a text, and nothing where it has no tree.
-fn printed_again(alloc: Global, bytes: &[u8]) -> Result<Option<Vec<u8>>, CaseFault> {
-    if bytes.len() > MAX_LEN {
-        return Ok(None);
+/// Whether the tokens have a tree that is printed as these bytes.
+fn is_printed_as(alloc: Global, tokens: &[Token], bytes: &[u8]) -> Result<bool, CaseFault> {
+    match parse(alloc, tokens) {
+        Ok(tree) => {
+            let tree = ManuallyDrop::new(tree);
+            let printed = ManuallyDrop::new(print(alloc, &tree)?);
+            Ok(printed.as_slice() == bytes)
+        }
+        Err(_fault) => Ok(false),
     }
-    let Ok(tokens) = lex(alloc, bytes) else {
-        return Ok(None);
-    };
-    match parse(alloc, tokens.as_slice()) {
-        Ok(tree) => Ok(Some(print(alloc, &tree)?)),
-        Err(_fault) => Ok(None),
+}
+
+/// Whether a text has a tree that is printed as it stands.
+fn is_printed_again(alloc: Global, bytes: &[u8]) -> Result<bool, CaseFault> {
+    if bytes.len() > MAX_LEN {
+        return Ok(false);
+    }
+    match lex(alloc, bytes) {
+        Ok(tokens) => {
+            let tokens = ManuallyDrop::new(tokens);
+            is_printed_as(alloc, tokens.as_slice(), bytes)
+        }
+        Err(_fault) => Ok(false),
     }
 }
 
 /// The lines of the printed tree; a line more where its text is not printed as it stands.
 fn printed_answer(alloc: Global, tree: &Tree) -> Result<Answer, CaseFault> {
-    let bytes = print(alloc, tree)?;
-    let text = String::from_utf8_lossy(alloc, bytes.as_slice())?;
+    let bytes = ManuallyDrop::new(print(alloc, tree)?);
+    let text = as_text(bytes.as_slice())?;
+    let is_again = is_printed_again(alloc, bytes.as_slice())?;
     let mut answer = Answer::new(alloc);
     if text.is_empty() {
-        answer.push_line("no text")?;
+        answer.push_line("no text");
     }
-    answer.push_text(text.as_str())?;
-    match printed_again(alloc, bytes.as_slice())? {
-        Some(again) if again.as_slice() == bytes.as_slice() => {}
-        _ => answer.push_line("printed again otherwise")?,
+    answer.push_text(text);
+    if !is_again {
+        answer.push_line("printed again otherwise");
     }
     Ok(answer)
 }
@@ -80,21 +101,31 @@ enum Question {
     Printed,
 }
 
+fn told_of_tree(alloc: Global, tree: &Tree, question: Question) -> Result<Answer, CaseFault> {
+    match question {
+        Question::Tree => tree_answer(alloc, tree),
+        Question::Fault => Answer::line(alloc, "none"),
+        Question::Printed => printed_answer(alloc, tree),
+    }
+}
+
 /// What is told of the tree of the tokens, or their first fault.
 fn parse_answer(alloc: Global, tokens: &[Token], question: Question) -> Result<Answer, CaseFault> {
     match parse(alloc, tokens) {
-        Ok(tree) => match question {
-            Question::Tree => tree_answer(alloc, &tree),
-            Question::Fault => Answer::line(alloc, "none"),
-            Question::Printed => printed_answer(alloc, &tree),
-        },
+        Ok(tree) => {
+            let tree = ManuallyDrop::new(tree);
+            told_of_tree(alloc, &tree, question)
+        }
         Err(fault) => syntax_answer(alloc, &fault),
     }
 }
 
 fn text_answer(alloc: Global, command: &Command, question: Question) -> Result<Answer, CaseFault> {
     match lex(alloc, given(command)?) {
-        Ok(tokens) => parse_answer(alloc, tokens.as_slice(), question),
+        Ok(tokens) => {
+            let tokens = ManuallyDrop::new(tokens);
+            parse_answer(alloc, tokens.as_slice(), question)
+        }
         Err(fault) => fault_answer(alloc, &fault),
     }
 }
