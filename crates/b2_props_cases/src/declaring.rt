@@ -1,37 +1,40 @@
 //! Declarations of features, which both parts make, and refusals.
-use crate::pairs::{pair, pairs};
+use crate::pairs::{lent_pair, lent_pairs};
 use crate::shown::ok;
 use b2_base::text::Text;
 use b2_features::fault::FeatureFault;
 use b2_features::registry::Registry;
 use b2_gcc::features::declare_features;
 use std::alloc::Global;
+use std::mem::ManuallyDrop;
 use transcript::answer::Answer;
 use transcript::case_fault::CaseFault;
 use transcript::command::Word;
 use transcript::words::{first, halves, no_words, text, texts};
 
-/// A refusal with the word that it names.
-pub fn refusal(alloc: Global, kind: &str, word: &Text) -> Result<Answer, CaseFault> {
-    let word = word.as_str();
-    Answer::from_string(alloc, format!(in alloc; "{kind}: {word}")?)
+/// Adds a refusal with the word that it names.
+pub fn push_refusal(answer: &mut Answer, kind: &str, word: &Text) {
+    answer.put(kind);
+    answer.put(": ");
+    answer.push_line(word.as_str());
 }
 
-fn fault_line(alloc: Global, fault: &FeatureFault) -> Result<Answer, CaseFault> {
+fn push_fault(answer: &mut Answer, fault: &FeatureFault) {
     match fault {
-        FeatureFault::Twice { word } => refusal(alloc, "there twice", word),
-        FeatureFault::Unknown { word } => refusal(alloc, "unknown", word),
-        FeatureFault::BadValue { word } => refusal(alloc, "bad value", word),
-        FeatureFault::ComposeConflict { word } => refusal(alloc, "conflict", word),
-        FeatureFault::OutOfMemory => Err(CaseFault::OutOfMemory),
+        FeatureFault::Twice { word } => push_refusal(answer, "there twice", word),
+        FeatureFault::Unknown { word } => push_refusal(answer, "unknown", word),
+        FeatureFault::BadValue { word } => push_refusal(answer, "bad value", word),
+        FeatureFault::ComposeConflict { word } => push_refusal(answer, "conflict", word),
+        FeatureFault::OutOfMemory => answer.cut(),
     }
 }
 
-/// The answer to a fault, which it drops.
+/// The answer to a fault.
 pub fn refused(alloc: Global, fault: FeatureFault) -> Result<Answer, CaseFault> {
-    let answer = fault_line(alloc, &fault);
-    drop(fault);
-    answer
+    let fault = ManuallyDrop::new(fault);
+    let mut answer = Answer::new(alloc);
+    push_fault(&mut answer, &fault);
+    Ok(answer)
 }
 
 fn outcome(alloc: Global, outcome: Result<(), FeatureFault>) -> Result<Answer, CaseFault> {
@@ -65,11 +68,11 @@ pub fn compose(
     words: &[Word],
 ) -> Result<Answer, CaseFault> {
     let (composite, words) = first(words)?;
-    let (name, value) = pair(alloc, composite)?;
-    let parts = pairs(alloc, words)?;
+    let composite = lent_pair(alloc, composite)?;
+    let parts = lent_pairs(alloc, words)?;
     outcome(
         alloc,
-        registry.compose(name.as_str(), value.as_str(), parts.as_slice()),
+        registry.compose(composite.0.as_str(), composite.1.as_str(), parts.as_slice()),
     )
 }
 

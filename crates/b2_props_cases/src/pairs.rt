@@ -9,6 +9,7 @@ use b2_props::pair_list::PairList;
 use b2_props::props::Props;
 use b2_props::refinement::set_of;
 use std::alloc::Global;
+use std::mem::ManuallyDrop;
 use transcript::case_fault::CaseFault;
 use transcript::command::Word;
 use transcript::words::{own_text, property};
@@ -34,6 +35,16 @@ pub fn pairs(alloc: Global, words: &[Word]) -> Result<PairList, CaseFault> {
     Ok(made)
 }
 
+/// A word `<feature>value` as a pair, to lend.
+pub fn lent_pair(alloc: Global, word: &str) -> Result<ManuallyDrop<(Text, Text)>, CaseFault> {
+    Ok(ManuallyDrop::new(pair(alloc, word)?))
+}
+
+/// Words `<feature>value` as pairs, to lend.
+pub fn lent_pairs(alloc: Global, words: &[Word]) -> Result<ManuallyDrop<PairList>, CaseFault> {
+    Ok(ManuallyDrop::new(pairs(alloc, words)?))
+}
+
 /// The set that pairs make.
 pub fn made(
     alloc: Global,
@@ -49,6 +60,6 @@ pub fn made(
 pub fn given(alloc: Global, registry: &Registry, words: &[Word]) -> Result<Props, CaseFault>
     ensures { IfOk result (λ made. IsSet registry.now made) }
 {
-    let pairs = pairs(alloc, words)?;
+    let pairs = lent_pairs(alloc, words)?;
     Ok(made(alloc, registry, pairs.as_slice())?)
 }

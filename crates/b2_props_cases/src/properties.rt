@@ -24,7 +24,7 @@ mod texts;
 
 use crate::declaring::{compose, declare_toolset, feature};
 use crate::pairs::given;
-use crate::properties::sets::{contains, dir_of, expanded, handed, has_all, refined, request};
+use crate::properties::sets::{contains, dir_of, expanded, handed, has_all, refined};
 use crate::properties::shown::sets_lines;
 use crate::properties::texts::text_command;
 use crate::shown::{ok, set_line, truth_word};
@@ -90,7 +90,7 @@ impl Properties {
         no_words(words)?;
         let mut answer = Answer::new(alloc);
         for set in self.sets.as_slice() {
-            answer.push_line(truth_word(self.set.equals(set)))?;
+            answer.push_line(truth_word(self.set.equals(set)));
         }
         Ok(answer)
     }
@@ -104,7 +104,6 @@ impl Properties {
             "contains" => contains(alloc, &self.set, words),
             "equals" => self.equals(alloc, words),
             "has_all" => has_all(alloc, &self.set, words),
-            "read_request" => request(alloc, &self.registry, words),
             _ => text_command(alloc, &self.registry, command),
         }
     }

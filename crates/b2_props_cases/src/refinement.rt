@@ -45,6 +45,22 @@ use transcript::command::{Command, Word};
 use transcript::session::Session;
 use transcript::words::no_words;
 
+/// Adds a rule or a row of one, or carries out another command.
+fn rule_command(
+    alloc: Global,
+    rules: &mut Rules,
+    types: &mut Types,
+    command: &Command,
+) -> Result<Answer, CaseFault> {
+    let words = command.words();
+    match command.name() {
+        "rule" => add_rule(alloc, rules, words),
+        "row" => add_row(alloc, rules, row(alloc, words)?),
+        "fault" => add_row(alloc, rules, fault_row(alloc, words)?),
+        _ => gcc_command(alloc, types, command),
+    }
+}
+
 /// What is at hand.
 ///
 /// What is put in place of a table lets it be, until the process ends: a crate that takes it apart proves the drop of all
@@ -123,18 +139,15 @@ impl Refinement {
         chosen(alloc, self.conditions.as_slice(), &self.request)
     }
 
-    /// Adds a requirement, a rule or an alternative, or carries out another command.
+    /// Adds a requirement or an alternative, or carries out another command.
     fn add(&mut self, alloc: Global, command: &Command) -> Result<Answer, CaseFault> {
         let words = command.words();
         match command.name() {
             "require" => self.require(alloc, requirement(alloc, words)?),
             "require_rule" => self.require(alloc, indirect(words)?),
-            "rule" => add_rule(alloc, &mut self.rules, words),
-            "row" => add_row(alloc, &mut self.rules, row(alloc, words)?),
-            "fault" => add_row(alloc, &mut self.rules, fault_row(alloc, words)?),
             "alternative" => self.add_alternative(alloc, words),
             "chain" => found_chain(alloc, &self.registry, &self.types, words),
-            _ => gcc_command(alloc, &mut self.types, command),
+            _ => rule_command(alloc, &mut self.rules, &mut self.types, command),
         }
     }
 

@@ -33,39 +33,44 @@ pub fn text_or_none(alloc: Global, found: Option<&str>) -> Result<Answer, CaseFa
     }
 }
 
-/// Adds texts to a line, a blank before each.
-pub fn push_texts(line: &mut String, texts: &[Text]) -> Result<(), CaseFault> {
+/// Puts texts, a blank before each.
+pub fn put_texts(answer: &mut Answer, texts: &[Text]) {
     for text in texts {
-        line.push(' ')?;
-        line.push_str(text.as_str())?;
+        answer.put(" ");
+        answer.put(text.as_str());
     }
-    Ok(())
 }
 
-/// Adds a property to a line, after a blank where the line is not empty.
-pub fn push_pair(line: &mut String, pair: &(Text, Text)) -> Result<(), CaseFault> {
-    if !line.is_empty() {
-        line.push(' ')?;
-    }
-    line.push('<')?;
-    line.push_str(pair.0.as_str())?;
-    line.push('>')?;
-    line.push_str(pair.1.as_str())?;
-    Ok(())
+/// Puts a property, after a blank where something stands before it.
+pub fn put_pair(answer: &mut Answer, pair: &(Text, Text)) {
+    answer.put_space();
+    answer.put("<");
+    answer.put(pair.0.as_str());
+    answer.put(">");
+    answer.put(pair.1.as_str());
 }
 
-pub fn push_pairs(line: &mut String, pairs: &[(Text, Text)]) -> Result<(), CaseFault> {
+pub fn put_pairs(answer: &mut Answer, pairs: &[(Text, Text)]) {
     for pair in pairs {
-        push_pair(line, pair)?;
+        put_pair(answer, pair);
     }
-    Ok(())
+}
+
+/// Adds a line of two lists of texts with the sign `:` between them, after a name: `NAME TEXTS : TEXTS`.
+pub fn push_lists(answer: &mut Answer, name: &str, left: &[Text], right: &[Text]) {
+    answer.put(name);
+    put_texts(answer, left);
+    answer.put(" :");
+    put_texts(answer, right);
+    answer.end_line();
 }
 
 /// Properties on one line.
 pub fn pairs_line(alloc: Global, pairs: &[(Text, Text)]) -> Result<Answer, CaseFault> {
-    let mut line = String::new(alloc);
-    push_pairs(&mut line, pairs)?;
-    Answer::line(alloc, line.as_str())
+    let mut answer = Answer::new(alloc);
+    put_pairs(&mut answer, pairs);
+    answer.end_line();
+    Ok(answer)
 }
 
 pub fn set_line(alloc: Global, set: &Props) -> Result<Answer, CaseFault> {

@@ -1,5 +1,5 @@
 //! Commands that ask the table, its features and the attributes.
-use crate::pairs::pair;
+use crate::pairs::lent_pair;
 use crate::properties::shown::{declared, declared_or_none, pairs_or_none, place_or_none};
 use crate::shown::{text_or_none, truth};
 use b2_features::attribute::{Attribute, is_attribute_word};
@@ -58,9 +58,9 @@ fn default_value(alloc: Global, feature: &Feature) -> Result<Answer, CaseFault> 
 }
 
 fn parts_of(alloc: Global, registry: &Registry, words: &[Word]) -> Result<Answer, CaseFault> {
-    let (name, value) = pair(alloc, only(words)?)?;
-    match registry.find(name.as_str()) {
-        Some(feature) => pairs_or_none(alloc, feature.parts_of(value.as_str())),
+    let pair = lent_pair(alloc, only(words)?)?;
+    match registry.find(pair.0.as_str()) {
+        Some(feature) => pairs_or_none(alloc, feature.parts_of(pair.1.as_str())),
         None => Err(CaseFault::WrongWords),
     }
 }
@@ -72,7 +72,7 @@ fn stands_in(alloc: Global, words: &[Word]) -> Result<Answer, CaseFault> {
     truth(alloc, attribute.stands_in(words.as_slice()))
 }
 
-/// Asks a feature or an attribute.
+/// Asks an attribute.
 fn attribute_command(
     alloc: Global,
     registry: &Registry,
@@ -84,16 +84,30 @@ fn attribute_command(
             let (name, word) = both(words)?;
             truth(alloc, named(registry, name)?.is(attribute(word)?))
         }
+        "name" => Answer::line(alloc, attribute(only(words)?)?.name()),
+        "stands_in" => stands_in(alloc, words),
+        "is_attribute_word" => truth(alloc, is_attribute_word(only(words)?)),
+        _ => Err(CaseFault::UnknownCommand),
+    }
+}
+
+/// Asks for values of a feature, or an attribute.
+fn value_command(
+    alloc: Global,
+    registry: &Registry,
+    command: &Command,
+) -> Result<Answer, CaseFault> {
+    let words = command.words();
+    match command.name() {
+        "implicit_of" => text_or_none(alloc, registry.implicit_of(only(words)?)),
+        "default_of" => text_or_none(alloc, registry.default_of(only(words)?)),
         "lists" => {
             let (name, value) = both(words)?;
             truth(alloc, named(registry, name)?.lists(value))
         }
         "default_value" => default_value(alloc, named(registry, only(words)?)?),
         "parts_of" => parts_of(alloc, registry, words),
-        "name" => Answer::line(alloc, attribute(only(words)?)?.name()),
-        "stands_in" => stands_in(alloc, words),
-        "is_attribute_word" => truth(alloc, is_attribute_word(only(words)?)),
-        _ => Err(CaseFault::UnknownCommand),
+        _ => attribute_command(alloc, registry, command),
     }
 }
 
@@ -112,8 +126,6 @@ pub fn feature_command(
         "at" => at(alloc, registry, words),
         "place_of" => place_or_none(alloc, registry.place_of(only(words)?)),
         "find" => declared_or_none(alloc, registry.find(only(words)?)),
-        "implicit_of" => text_or_none(alloc, registry.implicit_of(only(words)?)),
-        "default_of" => text_or_none(alloc, registry.default_of(only(words)?)),
-        _ => attribute_command(alloc, registry, command),
+        _ => value_command(alloc, registry, command),
     }
 }

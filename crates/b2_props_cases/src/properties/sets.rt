@@ -1,6 +1,6 @@
 //! Commands to sets of properties. The set at hand is made again of its pairs, since the table may have changed.
-use crate::declaring::refusal;
-use crate::pairs::{made, pair, pairs};
+use crate::declaring::push_refusal;
+use crate::pairs::{lent_pair, lent_pairs, made};
 use crate::properties::shown::{push_sets, push_targets};
 use crate::shown::{set_line, truth};
 use b2_features::registry::Registry;
@@ -11,6 +11,7 @@ use b2_props::refinement::{expand, refine};
 use b2_props::request::{Request, read_request};
 use b2_props::request_fault::RequestFault;
 use std::alloc::Global;
+use std::mem::ManuallyDrop;
 use transcript::answer::Answer;
 use transcript::case_fault::CaseFault;
 use transcript::command::Word;
@@ -33,7 +34,7 @@ pub fn refined(
     set: &Props,
     words: &[Word],
 ) -> Result<Props, CaseFault> {
-    let required = pairs(alloc, words)?;
+    let required = lent_pairs(alloc, words)?;
     let own = made(alloc, registry, set.pairs())?;
     Ok(refine(alloc, registry, &own, required.as_slice())?)
 }
@@ -46,7 +47,7 @@ pub fn handed(
 ) -> Result<Answer, CaseFault> {
     no_words(words)?;
     let own = made(alloc, registry, set.pairs())?;
-    let handed = elements::propagated(alloc, registry, &own)?;
+    let handed = ManuallyDrop::new(elements::propagated(alloc, registry, &own)?);
     set_line(alloc, &handed)
 }
 
@@ -58,46 +59,45 @@ pub fn dir_of(
 ) -> Result<Answer, CaseFault> {
     no_words(words)?;
     let own = made(alloc, registry, set.pairs())?;
-    let dir = elements::dir_of(alloc, registry, &own)?;
+    let dir = ManuallyDrop::new(elements::dir_of(alloc, registry, &own)?);
     Answer::line(alloc, dir.as_str())
 }
 
 pub fn contains(alloc: Global, set: &Props, words: &[Word]) -> Result<Answer, CaseFault> {
-    let (feature, value) = pair(alloc, only(words)?)?;
-    truth(alloc, set.contains(feature.as_str(), value.as_str()))
+    let pair = lent_pair(alloc, only(words)?)?;
+    truth(alloc, set.contains(pair.0.as_str(), pair.1.as_str()))
 }
 
 /// Whether the index of the set at hand has all of some pairs.
 pub fn has_all(alloc: Global, set: &Props, words: &[Word]) -> Result<Answer, CaseFault> {
-    let others = pairs(alloc, words)?;
-    let index = PairIndex::new(alloc, set.pairs())?;
+    let others = lent_pairs(alloc, words)?;
+    let index = ManuallyDrop::new(PairIndex::new(alloc, set.pairs())?);
     truth(alloc, index.has_all(others.as_slice()))
 }
 
-fn refused(alloc: Global, fault: &RequestFault) -> Result<Answer, CaseFault> {
+fn push_fault(answer: &mut Answer, fault: &RequestFault) {
     match fault {
-        RequestFault::UnknownWord { word } => refusal(alloc, "unknown word", word),
-        RequestFault::UnknownValue { word } => refusal(alloc, "unknown value", word),
-        RequestFault::Conflict { word } => refusal(alloc, "conflict", word),
-        RequestFault::OutOfMemory => Err(CaseFault::OutOfMemory),
+        RequestFault::UnknownWord { word } => push_refusal(answer, "unknown word", word),
+        RequestFault::UnknownValue { word } => push_refusal(answer, "unknown value", word),
+        RequestFault::Conflict { word } => push_refusal(answer, "conflict", word),
+        RequestFault::OutOfMemory => answer.cut(),
     }
 }
 
-fn asked(alloc: Global, request: &Request) -> Result<Answer, CaseFault> {
-    let mut answer = Answer::new(alloc);
-    push_targets(&mut answer, alloc, request.targets.as_slice())?;
-    push_sets(&mut answer, alloc, &request.sets)?;
-    Ok(answer)
+fn push_read(answer: &mut Answer, read: &Result<Request, RequestFault>) {
+    match read {
+        Ok(request) => {
+            push_targets(answer, request.targets.as_slice());
+            push_sets(answer, &request.sets);
+        }
+        Err(fault) => push_fault(answer, fault),
+    }
 }
 
 pub fn request(alloc: Global, registry: &Registry, words: &[Word]) -> Result<Answer, CaseFault> {
     let words = texts(alloc, words)?;
-    match read_request(alloc, registry, words.as_slice()) {
-        Ok(request) => asked(alloc, &request),
-        Err(fault) => {
-            let answer = refused(alloc, &fault);
-            drop(fault);
-            answer
-        }
-    }
+    let read = ManuallyDrop::new(read_request(alloc, registry, words.as_slice()));
+    let mut answer = Answer::new(alloc);
+    push_read(&mut answer, &read);
+    Ok(answer)
 }

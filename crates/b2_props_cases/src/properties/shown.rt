@@ -1,5 +1,5 @@
 //! Answers of features, sets and requests.
-use crate::shown::{pairs_line, push_pairs, push_texts};
+use crate::shown::{pairs_line, push_lists, put_pairs};
 use b2_base::text::Text;
 use b2_features::feature::Feature;
 use b2_props::props::Props;
@@ -17,11 +17,14 @@ pub fn place_or_none(alloc: Global, found: Option<usize>) -> Result<Answer, Case
 
 /// A feature as it was declared: `NAME VALUES : ATTRIBUTES`.
 pub fn declared(alloc: Global, feature: &Feature) -> Result<Answer, CaseFault> {
-    let mut line = String::from_str(alloc, feature.name.as_str())?;
-    push_texts(&mut line, feature.values.as_slice())?;
-    line.push_str(" :")?;
-    push_texts(&mut line, feature.attributes.as_slice())?;
-    Answer::line(alloc, line.as_str())
+    let mut answer = Answer::new(alloc);
+    push_lists(
+        &mut answer,
+        feature.name.as_str(),
+        feature.values.as_slice(),
+        feature.attributes.as_slice(),
+    );
+    Ok(answer)
 }
 
 pub fn declared_or_none(alloc: Global, found: Option<&Feature>) -> Result<Answer, CaseFault> {
@@ -39,30 +42,27 @@ pub fn pairs_or_none(alloc: Global, found: Option<&[(Text, Text)]>) -> Result<An
 }
 
 /// Adds a line `target NAME` for each target.
-pub fn push_targets(answer: &mut Answer, alloc: Global, targets: &[Text]) -> Result<(), CaseFault> {
+pub fn push_targets(answer: &mut Answer, targets: &[Text]) {
     for target in targets {
-        let target = target.as_str();
-        answer.push_string(format!(in alloc; "target {target}")?)?;
+        answer.push_words("target", target.as_str());
     }
-    Ok(())
 }
 
-fn push_set(answer: &mut Answer, alloc: Global, set: &Props) -> Result<(), CaseFault> {
-    let mut line = String::from_str(alloc, "set")?;
-    push_pairs(&mut line, set.pairs())?;
-    answer.push_line(line.as_str())
+fn push_set(answer: &mut Answer, set: &Props) {
+    answer.put("set");
+    put_pairs(answer, set.pairs());
+    answer.end_line();
 }
 
 /// Adds a line `set PROPERTIES` for each set.
-pub fn push_sets(answer: &mut Answer, alloc: Global, sets: &PropsList) -> Result<(), CaseFault> {
+pub fn push_sets(answer: &mut Answer, sets: &PropsList) {
     for set in sets.as_slice() {
-        push_set(answer, alloc, set)?;
+        push_set(answer, set);
     }
-    Ok(())
 }
 
 pub fn sets_lines(alloc: Global, sets: &PropsList) -> Result<Answer, CaseFault> {
     let mut answer = Answer::new(alloc);
-    push_sets(&mut answer, alloc, sets)?;
+    push_sets(&mut answer, sets);
     Ok(answer)
 }

@@ -1,56 +1,59 @@
 //! The command that asks for a chain.
 use crate::pairs::given;
-use crate::shown::push_texts;
+use crate::shown::put_texts;
 use b2_base::text::Text;
 use b2_features::registry::Registry;
 use b2_generators::chain::{GenChain, chain};
 use b2_generators::fault::ChainFault;
 use b2_generators::types::Types;
 use std::alloc::Global;
+use std::mem::ManuallyDrop;
 use transcript::answer::Answer;
 use transcript::case_fault::CaseFault;
 use transcript::command::Word;
 use transcript::words::{first, text};
 
-fn chain_line(alloc: Global, chain: &GenChain) -> Result<Answer, CaseFault> {
-    let mut line = String::from_str(alloc, "chain")?;
-    push_texts(&mut line, chain.ids.as_slice())?;
-    Answer::line(alloc, line.as_str())
+/// Puts the types between which a chain was looked for, after words.
+fn put_ends(answer: &mut Answer, words: &str, from: &Text, to: &Text) {
+    answer.put(words);
+    answer.put(from.as_str());
+    answer.put(" to ");
+    answer.put(to.as_str());
 }
 
-fn no_chain(alloc: Global, from: &Text, to: &Text) -> Result<Answer, CaseFault> {
-    let from = from.as_str();
-    let to = to.as_str();
-    Answer::from_string(alloc, format!(in alloc; "no chain from {from} to {to}")?)
+/// Puts two chains of which neither is chosen.
+fn put_both(answer: &mut Answer, first: &[Text], second: &[Text]) {
+    answer.put(":");
+    put_texts(answer, first);
+    answer.put(";");
+    put_texts(answer, second);
 }
 
-fn two_chains(
-    alloc: Global,
-    from: &Text,
-    to: &Text,
-    first: &[Text],
-    second: &[Text],
-) -> Result<Answer, CaseFault> {
-    let from = from.as_str();
-    let to = to.as_str();
-    let mut line = format!(in alloc; "two chains from {from} to {to}:")?;
-    push_texts(&mut line, first)?;
-    line.push(';')?;
-    push_texts(&mut line, second)?;
-    Answer::from_string(alloc, line)
-}
-
-fn refused(alloc: Global, fault: &ChainFault) -> Result<Answer, CaseFault> {
+fn put_fault(answer: &mut Answer, fault: &ChainFault) {
     match fault {
-        ChainFault::NoChain { from, to } => no_chain(alloc, from, to),
+        ChainFault::NoChain { from, to } => put_ends(answer, "no chain from ", from, to),
         ChainFault::TwoChains {
             from,
             to,
             first,
             second,
-        } => two_chains(alloc, from, to, first.as_slice(), second.as_slice()),
-        ChainFault::OutOfMemory => Err(CaseFault::OutOfMemory),
+        } => {
+            put_ends(answer, "two chains from ", from, to);
+            put_both(answer, first.as_slice(), second.as_slice());
+        }
+        ChainFault::OutOfMemory => answer.cut(),
     }
+}
+
+fn push_found(answer: &mut Answer, found: &Result<GenChain, ChainFault>) {
+    match found {
+        Ok(chain) => {
+            answer.put("chain");
+            put_texts(answer, chain.ids.as_slice());
+        }
+        Err(fault) => put_fault(answer, fault),
+    }
+    answer.end_line();
 }
 
 /// Carries out `chain FROM TO SET`.
@@ -64,13 +67,9 @@ pub fn found_chain(
     let (to, words) = first(words)?;
     let from = text(alloc, from)?;
     let to = text(alloc, to)?;
-    let set = given(alloc, registry, words)?;
-    match chain(alloc, types, from.as_str(), to.as_str(), &set) {
-        Ok(chain) => chain_line(alloc, &chain),
-        Err(fault) => {
-            let answer = refused(alloc, &fault);
-            drop(fault);
-            answer
-        }
-    }
+    let set = ManuallyDrop::new(given(alloc, registry, words)?);
+    let found = ManuallyDrop::new(chain(alloc, types, from.as_str(), to.as_str(), &set));
+    let mut answer = Answer::new(alloc);
+    push_found(&mut answer, &found);
+    Ok(answer)
 }

@@ -6,17 +6,18 @@ use b2_gcc::text::gcc_text;
 use b2_gcc::types::{declare_generators, declare_types};
 use b2_generators::types::Types;
 use std::alloc::Global;
+use std::mem::ManuallyDrop;
 use transcript::answer::Answer;
 use transcript::case_fault::CaseFault;
 use transcript::command::{Command, Word};
 use transcript::words::no_words;
 
 fn text_lines(alloc: Global, command: Option<&Text>) -> Result<Answer, CaseFault> {
-    let bytes = gcc_text(alloc, command)?;
+    let bytes = ManuallyDrop::new(gcc_text(alloc, command)?);
     match str::from_utf8(bytes.as_slice()) {
         Ok(text) => {
             let mut answer = Answer::new(alloc);
-            answer.push_text(text)?;
+            answer.push_text(text);
             Ok(answer)
         }
         Err(_) => Err(CaseFault::WrongWords),
@@ -26,7 +27,10 @@ fn text_lines(alloc: Global, command: Option<&Text>) -> Result<Answer, CaseFault
 fn shown_text(alloc: Global, words: &[Word]) -> Result<Answer, CaseFault> {
     match words {
         [] => text_lines(alloc, None),
-        [word] => text_lines(alloc, Some(&word.as_text(alloc)?)),
+        [word] => {
+            let word = ManuallyDrop::new(word.as_text(alloc)?);
+            text_lines(alloc, Some(&word))
+        }
         _ => Err(CaseFault::WrongWords),
     }
 }

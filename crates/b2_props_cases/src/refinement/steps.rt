@@ -4,7 +4,7 @@ ghost use Rattle.b2_refine.specs.Answers.{AsksBelow};
 
 use crate::pairs::{given, made, pair, pairs};
 use crate::refinement::rules::{Row, Rule, RuleFault, Rules};
-use crate::shown::{ok, push_pairs, set_line};
+use crate::shown::{ok, put_pairs};
 use b2_features::registry::Registry;
 use b2_props::pair_list::PairList;
 use b2_props::props::Props;
@@ -14,6 +14,7 @@ use b2_refine::choice::{Choice, choose};
 use b2_refine::evaluate::evaluate;
 use b2_refine::fault::RefineFault;
 use std::alloc::Global;
+use std::mem::ManuallyDrop;
 use transcript::answer::Answer;
 use transcript::case_fault::CaseFault;
 use transcript::command::Word;
@@ -102,29 +103,29 @@ fn all_ask_below(required: &[Requirement], count: usize) -> bool
         .all(|requirement| asks_below(requirement, count))
 }
 
-fn push_set(answer: &mut Answer, alloc: Global, set: &Props) -> Result<(), CaseFault> {
-    let mut line = String::new(alloc);
-    push_pairs(&mut line, set.pairs())?;
-    answer.push_line(line.as_str())
+fn push_set(answer: &mut Answer, set: &Props) {
+    put_pairs(answer, set.pairs());
+    answer.end_line();
 }
 
-/// The two sets of which neither stays.
-fn unstable_lines(alloc: Global, first: &Props, second: &Props) -> Result<Answer, CaseFault> {
-    let mut answer = Answer::line(alloc, "unstable")?;
-    push_set(&mut answer, alloc, first)?;
-    push_set(&mut answer, alloc, second)?;
-    Ok(answer)
-}
-
-fn refused(alloc: Global, fault: &RefineFault<RuleFault>) -> Result<Answer, CaseFault> {
+fn push_fault(answer: &mut Answer, fault: &RefineFault<RuleFault>) {
     match fault {
-        RefineFault::Unstable { first, second } => unstable_lines(alloc, first, second),
-        RefineFault::Asked(RuleFault::Word(word)) => {
-            let word = word.as_str();
-            Answer::from_string(alloc, format!(in alloc; "asked {word}")?)
+        RefineFault::Unstable { first, second } => {
+            answer.push_line("unstable");
+            push_set(answer, first);
+            push_set(answer, second);
         }
-        RefineFault::Asked(RuleFault::OutOfMemory) => Err(CaseFault::OutOfMemory),
-        RefineFault::OutOfMemory => Err(CaseFault::OutOfMemory),
+        RefineFault::Asked(RuleFault::Word(word)) => answer.push_words("asked", word.as_str()),
+        RefineFault::Asked(RuleFault::OutOfMemory) => answer.cut(),
+        RefineFault::OutOfMemory => answer.cut(),
+    }
+}
+
+/// Adds the set that stays, or the two sets of which neither does, or the fault of a rule.
+fn push_evaluated(answer: &mut Answer, evaluated: &Result<Props, RefineFault<RuleFault>>) {
+    match evaluated {
+        Ok(set) => push_set(answer, set),
+        Err(fault) => push_fault(answer, fault),
     }
 }
 
@@ -139,22 +140,31 @@ pub fn evaluated(
     if !all_ask_below(required, rules.rules.len()) {
         return Err(CaseFault::WrongWords);
     }
-    match evaluate(alloc, registry, &request, required, rules) {
-        Ok(set) => set_line(alloc, &set),
-        Err(fault) => {
-            let answer = refused(alloc, &fault);
-            drop(fault);
-            answer
+    let evaluated = ManuallyDrop::new(evaluate(alloc, registry, &request, required, rules));
+    let mut answer = Answer::new(alloc);
+    push_evaluated(&mut answer, &evaluated);
+    Ok(answer)
+}
+
+fn put_choice(answer: &mut Answer, choice: Choice) {
+    match choice {
+        Choice::One(i) => {
+            answer.put("one ");
+            answer.put_number(i as u64);
+        }
+        Choice::None => answer.put("none"),
+        Choice::Ambiguous { i, k } => {
+            answer.put("ambiguous ");
+            answer.put_number(i as u64);
+            answer.put(" ");
+            answer.put_number(k as u64);
         }
     }
 }
 
 pub fn chosen(alloc: Global, conditions: &[PairList], full: &Props) -> Result<Answer, CaseFault> {
-    match choose(conditions, full) {
-        Choice::One(i) => Answer::from_string(alloc, format!(in alloc; "one {i}")?),
-        Choice::None => Answer::line(alloc, "none"),
-        Choice::Ambiguous { i, k } => {
-            Answer::from_string(alloc, format!(in alloc; "ambiguous {i} {k}")?)
-        }
-    }
+    let mut answer = Answer::new(alloc);
+    put_choice(&mut answer, choose(conditions, full));
+    answer.end_line();
+    Ok(answer)
 }

@@ -1,6 +1,6 @@
 //! The commands that call types and generators.
 use crate::pairs::pairs;
-use crate::shown::{push_texts, text_or_none, told};
+use crate::shown::{push_lists, text_or_none, told};
 use b2_generators::generator::Generator;
 use b2_generators::types::Types;
 use std::alloc::Global;
@@ -43,11 +43,14 @@ fn type_of(alloc: Global, types: &Types, words: &[Word]) -> Result<Answer, CaseF
 }
 
 fn generator_line(alloc: Global, generator: &Generator) -> Result<Answer, CaseFault> {
-    let mut line = String::from_str(alloc, generator.id.as_str())?;
-    push_texts(&mut line, generator.sources.as_slice())?;
-    line.push_str(" :")?;
-    push_texts(&mut line, generator.targets.as_slice())?;
-    Answer::line(alloc, line.as_str())
+    let mut answer = Answer::new(alloc);
+    push_lists(
+        &mut answer,
+        generator.id.as_str(),
+        generator.sources.as_slice(),
+        generator.targets.as_slice(),
+    );
+    Ok(answer)
 }
 
 fn found(alloc: Global, found: Option<&Generator>) -> Result<Answer, CaseFault> {
