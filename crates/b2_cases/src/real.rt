@@ -1,6 +1,5 @@
 //! The files and child processes of the system, and the program over them, in a folder of its own.
 
-mod answers;
 mod child_commands;
 mod file_commands;
 mod program_commands;

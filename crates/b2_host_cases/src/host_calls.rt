@@ -29,24 +29,20 @@ fn read<H: Files>(alloc: Global, host: &mut H, words: &[Word]) -> Result<Answer,
     let (name, most) = both(words)?;
     let most = number(most)? as u64;
     let path = path(alloc, name)?;
-    match host.read(&path, most) {
-        Ok(read) => {
-            let read = ManuallyDrop::new(read);
-            read_answer(alloc, &read)
-        }
-        Err(fault) => fault_answer(alloc, fault),
+    let read = ManuallyDrop::new(host.read(&path, most));
+    match &*read {
+        Ok(read) => read_answer(alloc, read),
+        Err(fault) => fault_answer(alloc, *fault),
     }
 }
 
 /// `list DIR`: the names of the files in it, one a line.
 fn list<H: Files>(alloc: Global, host: &mut H, words: &[Word]) -> Result<Answer, CaseFault> {
     let path = path(alloc, only(words)?)?;
-    match host.list(&path) {
-        Ok(names) => {
-            let names = ManuallyDrop::new(names);
-            Answer::texts(alloc, names.as_slice())
-        }
-        Err(fault) => fault_answer(alloc, fault),
+    let listed = ManuallyDrop::new(host.list(&path));
+    match &*listed {
+        Ok(names) => Answer::texts(alloc, names.as_slice()),
+        Err(fault) => fault_answer(alloc, *fault),
     }
 }
 
@@ -77,7 +73,7 @@ fn remove<H: Files>(alloc: Global, host: &mut H, words: &[Word]) -> Result<Answe
     }
 }
 
-/// Carries out a command on files.
+/// Carries out a command on files. It asks no more of the host than files.
 pub fn file_command<H: Files>(
     alloc: Global,
     host: &mut H,
@@ -94,7 +90,7 @@ pub fn file_command<H: Files>(
     }
 }
 
-/// `write BYTES`: writes a piece.
+/// `write BYTES`: writes a piece, which stands before the answer where the sink is the standard output.
 pub fn write<S: Sink>(alloc: Global, sink: &mut S, words: &[Word]) -> Result<Answer, CaseFault> {
     let [piece] = words else {
         return Err(CaseFault::WrongWords);

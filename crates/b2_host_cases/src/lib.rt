@@ -2,8 +2,8 @@
 //! sink in memory ([`host`]), the log of actions ([`log`]), and the words of the command line ([`words`]).
 #![tactic(auto)]
 
-mod answers;
+pub mod answers;
 pub mod host;
-mod host_calls;
+pub mod host_calls;
 pub mod log;
 pub mod words;

@@ -1,10 +1,10 @@
 //! Commands on the child processes of the system.
-use crate::real::answers::{fault_answer, io_answer};
 use crate::real::file_commands::file_command;
 use crate::real::system::System;
 use b2_base::path::Path;
 use b2_host::children::Children;
 use b2_host::fault::{Failed, IoFault};
+use b2_host_cases::answers::{ended_answer, fault_answer, io_answer};
 use b2_realhost::real_host::RealHost;
 use std::alloc::Global;
 use transcript::answer::Answer;
@@ -51,15 +51,7 @@ fn wait_one<R: System>(
     if host.running_count() == 0 {
         return Answer::line(alloc, "no child runs");
     }
-    match host.wait_one() {
-        Ok((step, is_well)) => {
-            let mut answer = Answer::new(alloc);
-            answer.put_number(u64::from(step));
-            answer.push_line(if is_well { " well" } else { " badly" });
-            Ok(answer)
-        }
-        Err(Failed) => Answer::line(alloc, "Failed"),
-    }
+    ended_answer(alloc, host.wait_one())
 }
 
 /// How many children ended well, and how many badly.

@@ -1,15 +1,14 @@
 //! Commands on the files of a host.
-use crate::real::answers::{fault_answer, io_answer};
 use b2_host::fault::Failed;
-use b2_host::files::{Files, ReadAnswer};
+use b2_host::files::Files;
+use b2_host_cases::host_calls;
 use std::alloc::Global;
-use std::mem::ManuallyDrop;
 use transcript::answer::Answer;
 use transcript::case_fault::CaseFault;
 use transcript::command::{Command, Word};
-use transcript::words::{both, number, only, path};
+use transcript::words::{only, path};
 
-/// `stat PATH`: whether a file stands there.
+/// `stat PATH`: whether a file stands there. Real time stamps are not the same in two runs.
 fn stat<H: Files>(alloc: Global, host: &mut H, words: &[Word]) -> Result<Answer, CaseFault> {
     let path = path(alloc, only(words)?)?;
     match host.stat(&path) {
@@ -19,95 +18,14 @@ fn stat<H: Files>(alloc: Global, host: &mut H, words: &[Word]) -> Result<Answer,
     }
 }
 
-fn read_answer(alloc: Global, read: &ReadAnswer) -> Result<Answer, CaseFault> {
-    let mut answer = Answer::new(alloc);
-    match read {
-        ReadAnswer::Bytes(bytes) => answer.put_bytes(bytes.as_slice()),
-        ReadAnswer::Missing => answer.put("Missing"),
-        ReadAnswer::TooBig { size } => {
-            answer.put("TooBig ");
-            answer.put_number(*size);
-        }
-    }
-    answer.end_line();
-    Ok(answer)
-}
-
-/// `read PATH MOST`: the bytes of the file there, where it has no more than so many.
-fn read<H: Files>(alloc: Global, host: &mut H, words: &[Word]) -> Result<Answer, CaseFault> {
-    let (name, most) = both(words)?;
-    let most = number(most)? as u64;
-    let path = path(alloc, name)?;
-    let read = ManuallyDrop::new(host.read(&path, most));
-    match &*read {
-        Ok(read) => read_answer(alloc, read),
-        Err(fault) => fault_answer(alloc, *fault),
-    }
-}
-
-/// `list DIR`: the names of the files in it, one a line.
-fn list<H: Files>(alloc: Global, host: &mut H, words: &[Word]) -> Result<Answer, CaseFault> {
-    let path = path(alloc, only(words)?)?;
-    let listed = ManuallyDrop::new(host.list(&path));
-    match &*listed {
-        Ok(names) => Answer::texts(alloc, names.as_slice()),
-        Err(fault) => fault_answer(alloc, *fault),
-    }
-}
-
-/// `append PATH BYTES`: adds bytes to a file.
-fn append<H: Files>(alloc: Global, host: &mut H, words: &[Word]) -> Result<Answer, CaseFault> {
-    let [name, piece] = words else {
-        return Err(CaseFault::WrongWords);
-    };
-    let path = path(alloc, name.as_str()?)?;
-    io_answer(alloc, host.append(&path, piece.bytes()))
-}
-
-/// `replace PATH BYTES`: puts bytes in place of a file.
-fn replace<H: Files>(alloc: Global, host: &mut H, words: &[Word]) -> Result<Answer, CaseFault> {
-    let [name, piece] = words else {
-        return Err(CaseFault::WrongWords);
-    };
-    let path = path(alloc, name.as_str()?)?;
-    io_answer(alloc, host.replace(&path, piece.bytes()))
-}
-
-/// `remove PATH`: leaves no file there.
-fn remove<H: Files>(alloc: Global, host: &mut H, words: &[Word]) -> Result<Answer, CaseFault> {
-    let path = path(alloc, only(words)?)?;
-    match host.remove(&path) {
-        Ok(()) => Answer::line(alloc, "Ok"),
-        Err(Failed) => Answer::line(alloc, "Failed"),
-    }
-}
-
-/// Carries out a command that changes files.
-fn changing_command<H: Files>(
-    alloc: Global,
-    host: &mut H,
-    command: &Command,
-) -> Result<Answer, CaseFault> {
-    let words = command.words();
-    match command.name() {
-        "append" => append(alloc, host, words),
-        "replace" => replace(alloc, host, words),
-        "remove" => remove(alloc, host, words),
-        _ => Err(CaseFault::UnknownCommand),
-    }
-}
-
-/// Carries out a command that looks at files, or else one that changes them. It asks no more of the host than files.
+/// Carries out a command on files. It asks no more of the host than files.
 pub fn file_command<H: Files>(
     alloc: Global,
     host: &mut H,
     command: &Command,
 ) -> Result<Answer, CaseFault> {
-    let words = command.words();
     match command.name() {
-        "stat" => stat(alloc, host, words),
-        "read" => read(alloc, host, words),
-        "list" => list(alloc, host, words),
-        _ => changing_command(alloc, host, command),
+        "stat" => stat(alloc, host, command.words()),
+        _ => host_calls::file_command(alloc, host, command),
     }
 }

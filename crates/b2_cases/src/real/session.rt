@@ -1,16 +1,15 @@
 //! The commands over the system.
-use crate::real::answers::io_answer;
 use crate::real::child_commands::child_command;
 use crate::real::program_commands::program;
 use crate::real::system::System;
-use b2_host::sink::Sink;
+use b2_host_cases::host_calls::write;
 use b2_realhost::real_host::RealHost;
 use b2_realhost::real_sink::RealSink;
 use std::alloc::Global;
 use std::mem::ManuallyDrop;
 use transcript::answer::Answer;
 use transcript::case_fault::CaseFault;
-use transcript::command::{Command, Word};
+use transcript::command::Command;
 use transcript::session::Session;
 use transcript::words::texts;
 
@@ -21,14 +20,6 @@ pub struct OnSystem<R: System> {
     rt: R,
     host: ManuallyDrop<RealHost<R>>,
     sink: RealSink<R>,
-}
-
-/// `write BYTES`: writes to the standard output, before the answer.
-fn write<S: Sink>(alloc: Global, sink: &mut S, words: &[Word]) -> Result<Answer, CaseFault> {
-    let [piece] = words else {
-        return Err(CaseFault::WrongWords);
-    };
-    io_answer(alloc, sink.write(piece.bytes()))
 }
 
 impl<R: System> OnSystem<R> {
