@@ -9,7 +9,6 @@
 mod answers;
 pub mod conversions;
 pub mod declarations;
-mod lines;
 pub mod outputs;
 pub mod references;
 mod words;

@@ -162,10 +162,55 @@ impl Answer {
         self.printed.push_number(number);
     }
 
-    /// Adds a space to the line at hand, but not at its start.
+    /// Adds a space to the line at hand, but not at its start. Whatever is said to stand after a space stands after this one.
     pub fn put_space(&mut self) {
         if self.is_open {
             self.printed.push(' ');
+        }
+    }
+
+    /// Adds a word after a space, an empty one as `""`.
+    pub fn put_word(&mut self, word: &str) {
+        self.put_space();
+        self.put(if word.is_empty() { "\"\"" } else { word });
+    }
+
+    /// Adds each text as `put_word` does.
+    pub fn put_words(&mut self, texts: &[Text]) {
+        for text in texts {
+            self.put_word(text.as_str());
+        }
+    }
+
+    /// Adds each text after a space, an empty one as nothing.
+    pub fn put_texts(&mut self, texts: &[Text]) {
+        for text in texts {
+            self.put_space();
+            self.put(text.as_str());
+        }
+    }
+
+    /// Adds each path after a space.
+    pub fn put_paths(&mut self, paths: &[Path]) {
+        for path in paths {
+            self.put_space();
+            self.put(path.as_str());
+        }
+    }
+
+    /// Adds a property as `<feature>value`, after a space.
+    pub fn put_property(&mut self, property: &(Text, Text)) {
+        self.put_space();
+        self.put("<");
+        self.put(property.0.as_str());
+        self.put(">");
+        self.put(property.1.as_str());
+    }
+
+    /// Adds each property as `put_property` does.
+    pub fn put_properties(&mut self, properties: &[(Text, Text)]) {
+        for property in properties {
+            self.put_property(property);
         }
     }
 

@@ -1,6 +1,5 @@
 //! Answers of the program and of its host, as lines.
 use crate::memory::case_host::Calls;
-use b2_base::path::Path;
 use b2_files::version::Version;
 use b2_host::children::ChildEvent;
 use b2_memory::job::Job;
@@ -21,14 +20,6 @@ fn put_numbers(answer: &mut Answer, numbers: &[u32]) {
     }
 }
 
-/// Adds paths, each after a space.
-fn put_paths(answer: &mut Answer, paths: &[Path]) {
-    for path in paths {
-        answer.put_space();
-        answer.put(path.as_str());
-    }
-}
-
 /// Adds what an update that failed names.
 fn push_lists(answer: &mut Answer, lists: &FailedLists) {
     answer.put("Failed: failed");
@@ -36,7 +27,7 @@ fn push_lists(answer: &mut Answer, lists: &FailedLists) {
     answer.put(", skipped");
     put_numbers(answer, lists.skipped.as_slice());
     answer.put(", missing");
-    put_paths(answer, lists.missing.as_slice());
+    answer.put_paths(lists.missing.as_slice());
     answer.end_line();
 }
 

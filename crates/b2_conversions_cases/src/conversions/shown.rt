@@ -1,7 +1,6 @@
 //! Answers as lines.
 use crate::answers::{push_happened, push_too_many};
 use crate::conversions::texts::TextFault;
-use crate::lines::{put_paths, put_words};
 use b2_base::text::Text;
 use b2_conversions::fault::MakingFault;
 use b2_plan::step::Step;
@@ -45,9 +44,9 @@ fn push_two_chains(answer: &mut Answer, from: &Text, to: &Text, first: &[Text], 
     answer.put(" to ");
     answer.put(to.as_str());
     answer.put(":");
-    put_words(answer, first);
+    answer.put_words(first);
     answer.put(";");
-    put_words(answer, second);
+    answer.put_words(second);
     answer.end_line();
 }
 
@@ -100,11 +99,11 @@ fn push_step(answer: &mut Answer, number: usize, step: &Step) {
     answer.put_space();
     answer.put(step.name.as_str());
     answer.put(" :");
-    put_paths(answer, step.outs.as_slice());
+    answer.put_paths(step.outs.as_slice());
     answer.put(" :");
-    put_paths(answer, step.ins.as_slice());
+    answer.put_paths(step.ins.as_slice());
     answer.put(" :");
-    put_paths(answer, step.dirs.as_slice());
+    answer.put_paths(step.dirs.as_slice());
     answer.end_line();
     answer.push_line(step.text.as_str());
 }

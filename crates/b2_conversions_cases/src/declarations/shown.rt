@@ -1,5 +1,4 @@
 //! How declarations are shown.
-use crate::lines::{put_word, put_words};
 use b2_base::text::Text;
 use b2_declarations::declaration::{
     Attributes, Declaration, Kind, ListName, MainTarget, PropertyList,
@@ -9,7 +8,7 @@ use transcript::answer::Answer;
 /// Adds a line of a name and a word.
 fn push_headed(answer: &mut Answer, name: &str, word: &str) {
     answer.put(name);
-    put_word(answer, word);
+    answer.put_word(word);
     answer.end_line();
 }
 
@@ -24,7 +23,7 @@ fn push_maybe_headed(answer: &mut Answer, name: &str, word: Option<&Text>) {
 /// Adds a line of a name and words.
 fn push_listed(answer: &mut Answer, name: &str, words: &[Text]) {
     answer.put(name);
-    put_words(answer, words);
+    answer.put_words(words);
     answer.end_line();
 }
 
@@ -77,8 +76,8 @@ fn push_project(answer: &mut Answer, attributes: &Attributes) {
 
 fn push_used_project(answer: &mut Answer, id: &Text, dir: &str) {
     answer.put("use-project");
-    put_word(answer, id.as_str());
-    put_word(answer, dir);
+    answer.put_word(id.as_str());
+    answer.put_word(dir);
     answer.end_line();
 }
 

@@ -1,6 +1,5 @@
 //! Answers as lines.
 use crate::answers::{push_happened, push_too_many};
-use crate::lines::put_paths;
 use b2_base::path::Path;
 use b2_plan::step::Step;
 use b2_virtual::fault::VirtualFault;
@@ -50,7 +49,7 @@ pub fn steps_answer(alloc: Global, steps: &[Step]) -> Result<Answer, CaseFault> 
         answer.put_number((place + 1) as u64);
         answer.put_space();
         answer.put(step.name.as_str());
-        put_paths(&mut answer, step.outs.as_slice());
+        answer.put_paths(step.outs.as_slice());
         answer.end_line();
     }
     Ok(answer)

@@ -1,5 +1,4 @@
 //! How answers are shown.
-use crate::lines::{put_pairs, put_word, put_words};
 use b2_base::text::Text;
 use b2_metatargets::place::{Place, Target};
 use b2_props::request::PropsList;
@@ -32,7 +31,7 @@ pub fn numbers(alloc: Global, numbers: &[usize]) -> Result<Answer, CaseFault> {
 pub fn targets(alloc: Global, targets: &[&Target]) -> Result<Answer, CaseFault> {
     let mut answer = Answer::new(alloc);
     for target in targets {
-        put_words(&mut answer, target.sources.as_slice());
+        answer.put_words(target.sources.as_slice());
         answer.end_line();
     }
     Ok(answer)
@@ -49,7 +48,7 @@ pub fn places(alloc: Global, places: &[&Place]) -> Result<Answer, CaseFault> {
 
 pub fn pairs(alloc: Global, pairs: &[(Text, Text)]) -> Result<Answer, CaseFault> {
     let mut answer = Answer::new(alloc);
-    put_pairs(&mut answer, pairs);
+    answer.put_properties(pairs);
     answer.end_line();
     Ok(answer)
 }
@@ -57,7 +56,7 @@ pub fn pairs(alloc: Global, pairs: &[(Text, Text)]) -> Result<Answer, CaseFault>
 pub fn sets(alloc: Global, sets: &PropsList) -> Result<Answer, CaseFault> {
     let mut answer = Answer::new(alloc);
     for set in sets.as_slice() {
-        put_pairs(&mut answer, set.pairs());
+        answer.put_properties(set.pairs());
         answer.end_line();
     }
     Ok(answer)
@@ -98,11 +97,11 @@ fn push_piece(answer: &mut Answer, index: &Index, piece: &Asked) {
     match piece {
         Asked::Main { name, set } => {
             put_target(answer, index, name);
-            put_pairs(answer, set.pairs());
+            answer.put_properties(set.pairs());
         }
         Asked::NoTarget { word } => {
             answer.put("no target");
-            put_word(answer, word.as_str());
+            answer.put_word(word.as_str());
         }
     }
     answer.end_line();

@@ -70,23 +70,15 @@ fn past(alloc: Global, host: &MemoryHost) -> Result<Answer, CaseFault> {
     Ok(answer)
 }
 
-/// Adds each path, with a space before it.
-fn put_paths(answer: &mut Answer, paths: &[Path]) {
-    for path in paths {
-        answer.put(" ");
-        answer.put(path.as_str());
-    }
-}
-
 /// Adds what a start gave, as the words of a `start`.
 fn put_job(answer: &mut Answer, job: &Job) {
     answer.put_number(job.step as u64);
     answer.put(" \"");
     answer.put(job.text.as_str());
     answer.put("\"");
-    put_paths(answer, job.ins.as_slice());
+    answer.put_paths(job.ins.as_slice());
     answer.put(" >");
-    put_paths(answer, job.outs.as_slice());
+    answer.put_paths(job.outs.as_slice());
 }
 
 /// `running`: the children that run, in order of start, each with how it is to end.
