@@ -1,4 +1,4 @@
-//! The texts of refusals.
+//! The texts of refusals, which are put to the line at hand.
 use b2_base::expand_fault::ExpandFault;
 use b2_features::fault::FeatureFault;
 use b2_walk::fault::LoadFault;
@@ -6,164 +6,159 @@ use jam_effects::fault::{EvalCause, EvalFault};
 use jam_lexer::fault::LexFault;
 use jam_parser::fault::SyntaxFault;
 use jam_patterns::native_fault::NativeFault;
-use std::alloc::Global;
-use transcript::case_fault::CaseFault;
+use transcript::answer::Answer;
 
-fn owned(alloc: Global, text: &str) -> Result<String, CaseFault> {
-    Ok(String::from_str(alloc, text)?)
+/// Puts words, and what they speak of after a space.
+fn put_said(answer: &mut Answer, words: &str, text: &str) {
+    answer.put(words);
+    answer.put(" ");
+    answer.put(text);
 }
 
-/// Words, and what they speak of after a space.
-pub fn said(alloc: Global, words: &str, text: &str) -> Result<String, CaseFault> {
-    Ok(format!(in alloc; "{words} {text}")?)
+/// Puts a number between two texts.
+fn put_counted(answer: &mut Answer, before: &str, number: u64, after: &str) {
+    answer.put(before);
+    answer.put_number(number);
+    answer.put(after);
 }
 
-fn expand_text(alloc: Global, fault: &ExpandFault) -> Result<String, CaseFault> {
+/// Puts the file and the line that a text after them speaks of.
+fn put_place(answer: &mut Answer, path: &str, line: u32) {
+    answer.put(path);
+    put_counted(answer, ":", line as u64, ": ");
+}
+
+fn put_expand_fault(answer: &mut Answer, fault: &ExpandFault) {
     match fault {
-        ExpandFault::BadIndex { text } => said(alloc, "bad index", text.as_str()),
-        ExpandFault::BadModifier { text } => said(alloc, "bad modifier", text.as_str()),
-        ExpandFault::TooDeep => owned(alloc, "expansion too deep"),
-        ExpandFault::TooLarge { bytes } => Ok(format!(in alloc; "expansion of {bytes} bytes")?),
-        ExpandFault::OutOfMemory => Err(CaseFault::OutOfMemory),
+        ExpandFault::BadIndex { text } => put_said(answer, "bad index", text.as_str()),
+        ExpandFault::BadModifier { text } => put_said(answer, "bad modifier", text.as_str()),
+        ExpandFault::TooDeep => answer.put("expansion too deep"),
+        ExpandFault::TooLarge { bytes } => put_counted(answer, "expansion of ", *bytes, " bytes"),
+        ExpandFault::OutOfMemory => answer.cut(),
     }
 }
 
-fn native_text(alloc: Global, fault: &NativeFault) -> Result<String, CaseFault> {
+fn put_native_fault(answer: &mut Answer, fault: &NativeFault) {
     match fault {
-        NativeFault::PatternRefused { refusal } => said(alloc, "bad pattern", refusal.text()),
+        NativeFault::PatternRefused { refusal } => put_said(answer, "bad pattern", refusal.text()),
         NativeFault::NoSuchRule { module, name } => {
-            let (module, name) = (module.as_str(), name.as_str());
-            Ok(format!(in alloc; "no rule {name} in module {module}")?)
+            put_said(answer, "no rule", name.as_str());
+            put_said(answer, " in module", module.as_str());
         }
         NativeFault::DependsElsewhere { rule, text } => {
-            let (rule, text) = (rule.as_str(), text.as_str());
-            Ok(format!(in alloc; "{rule} on a foreign target {text}")?)
+            answer.put(rule.as_str());
+            put_said(answer, " on a foreign target", text.as_str());
         }
     }
 }
 
-/// A text after its path and its line.
-fn at_line(alloc: Global, path: &str, line: u32, text: &str) -> Result<String, CaseFault> {
-    Ok(format!(in alloc; "{path}:{line}: {text}")?)
+fn put_syntax_fault(answer: &mut Answer, path: &str, line: u32, found: &str) {
+    put_place(answer, path, line);
+    let found = if found.is_empty() {
+        "end of file"
+    } else {
+        found
+    };
+    put_said(answer, "syntax error at", found);
 }
 
-fn syntax_text(alloc: Global, path: &str, line: u32, found: &str) -> Result<String, CaseFault> {
-    if found.is_empty() {
-        return at_line(alloc, path, line, "syntax error at end of file");
-    }
-    let text = said(alloc, "syntax error at", found)?;
-    at_line(alloc, path, line, text.as_str())
+fn put_at_line(answer: &mut Answer, path: &str, line: u32, text: &str) {
+    put_place(answer, path, line);
+    answer.put(text);
 }
 
-/// What the text of a fault of tokens says, with the line of the open quote or body.
-fn lex_text(alloc: Global, path: &str, fault: &LexFault) -> Result<String, CaseFault> {
+/// Puts what a fault of tokens says, with the line of the open quote or body.
+fn put_lex_fault(answer: &mut Answer, path: &str, fault: &LexFault) {
     match fault {
-        LexFault::NotUtf8 { at } => Ok(format!(in alloc; "{path}: byte {at} is not text")?),
-        LexFault::OpenQuote { line } => at_line(alloc, path, *line, "open quote"),
-        LexFault::OpenActions { line } => at_line(alloc, path, *line, "open actions"),
-        LexFault::OutOfMemory => Err(CaseFault::OutOfMemory),
-    }
-}
-
-fn size_text(alloc: Global, path: &str, size: u64) -> Result<String, CaseFault> {
-    Ok(format!(in alloc; "{path} has {size} bytes")?)
-}
-
-/// What a cause says that stands at a line of a file.
-fn cause_text(alloc: Global, cause: &EvalCause) -> Result<String, CaseFault> {
-    match cause {
-        EvalCause::UnknownRule { name } => said(alloc, "unknown rule", name.as_str()),
-        EvalCause::Arity { rule } => said(alloc, "wrong arguments for", rule.as_str()),
-        EvalCause::Turns { budget } => Ok(format!(in alloc; "more than {budget} turns")?),
-        EvalCause::Depth => owned(alloc, "more than 256 levels"),
-        EvalCause::Expand(fault) => expand_text(alloc, fault),
-        EvalCause::Exit { text } => owned(alloc, text.as_str()),
-        EvalCause::Include { path } => said(alloc, "no file", path.as_str()),
-        EvalCause::Native(fault) => native_text(alloc, fault),
-        EvalCause::Lex(_) | EvalCause::Syntax { .. } | EvalCause::TooBig { .. } => {
-            Err(CaseFault::WrongWords)
+        LexFault::NotUtf8 { at } => {
+            answer.put(path);
+            put_counted(answer, ": byte ", *at as u64, " is not text");
         }
+        LexFault::OpenQuote { line } => put_at_line(answer, path, *line, "open quote"),
+        LexFault::OpenActions { line } => put_at_line(answer, path, *line, "open actions"),
+        LexFault::OutOfMemory => answer.cut(),
     }
 }
 
-/// What a fault of evaluation says; a file that was included has faults like a project file's.
-fn caused(alloc: Global, path: &str, line: u32, cause: &EvalCause) -> Result<String, CaseFault> {
+fn put_size(answer: &mut Answer, path: &str, size: u64) {
+    answer.put(path);
+    put_counted(answer, " has ", size, " bytes");
+}
+
+/// Puts what a cause says that stands at a line of a file; the others say nothing here.
+fn put_cause(answer: &mut Answer, cause: &EvalCause) {
     match cause {
-        EvalCause::Lex(fault) => lex_text(alloc, path, fault),
-        EvalCause::Syntax { line, found } => syntax_text(alloc, path, *line, found.as_str()),
-        EvalCause::TooBig { path: _, size } => size_text(alloc, path, *size),
+        EvalCause::UnknownRule { name } => put_said(answer, "unknown rule", name.as_str()),
+        EvalCause::Arity { rule } => put_said(answer, "wrong arguments for", rule.as_str()),
+        EvalCause::Turns { budget } => put_counted(answer, "more than ", *budget as u64, " turns"),
+        EvalCause::Depth => answer.put("more than 256 levels"),
+        EvalCause::Expand(fault) => put_expand_fault(answer, fault),
+        EvalCause::Exit { text } => answer.put(text.as_str()),
+        EvalCause::Include { path } => put_said(answer, "no file", path.as_str()),
+        EvalCause::Native(fault) => put_native_fault(answer, fault),
+        _ => {}
+    }
+}
+
+/// Puts what a fault of evaluation says; a file that was included has faults like a project file's.
+fn put_caused(answer: &mut Answer, path: &str, line: u32, cause: &EvalCause) {
+    match cause {
+        EvalCause::Lex(fault) => put_lex_fault(answer, path, fault),
+        EvalCause::Syntax { line, found } => put_syntax_fault(answer, path, *line, found.as_str()),
+        EvalCause::TooBig { path: _, size } => put_size(answer, path, *size),
         _ => {
-            let text = cause_text(alloc, cause)?;
-            at_line(alloc, path, line, text.as_str())
+            put_place(answer, path, line);
+            put_cause(answer, cause);
         }
     }
 }
 
-fn eval_text(alloc: Global, fault: &EvalFault) -> Result<String, CaseFault> {
+fn put_eval_fault(answer: &mut Answer, fault: &EvalFault) {
     match fault {
-        EvalFault::Host => owned(alloc, "host fault"),
-        EvalFault::OutOfMemory => Err(CaseFault::OutOfMemory),
-        EvalFault::At { path, line, cause } => caused(alloc, path.as_str(), *line, cause),
+        EvalFault::Host => answer.put("host fault"),
+        EvalFault::OutOfMemory => answer.cut(),
+        EvalFault::At { path, line, cause } => put_caused(answer, path.as_str(), *line, cause),
     }
 }
 
-fn feature_text(alloc: Global, fault: &FeatureFault) -> Result<String, CaseFault> {
+fn put_feature_fault(answer: &mut Answer, fault: &FeatureFault) {
     match fault {
-        FeatureFault::Twice { word } => said(alloc, word.as_str(), "is there twice"),
-        FeatureFault::Unknown { word } => said(alloc, "unknown", word.as_str()),
-        FeatureFault::BadValue { word } => said(alloc, "bad value", word.as_str()),
-        FeatureFault::ComposeConflict { word } => said(alloc, "conflict in", word.as_str()),
-        FeatureFault::OutOfMemory => Err(CaseFault::OutOfMemory),
+        FeatureFault::Twice { word } => put_said(answer, word.as_str(), "is there twice"),
+        FeatureFault::Unknown { word } => put_said(answer, "unknown", word.as_str()),
+        FeatureFault::BadValue { word } => put_said(answer, "bad value", word.as_str()),
+        FeatureFault::ComposeConflict { word } => put_said(answer, "conflict in", word.as_str()),
+        FeatureFault::OutOfMemory => answer.cut(),
     }
 }
 
-fn declaring_text(
-    alloc: Global,
-    path: &str,
-    line: u32,
-    fault: &FeatureFault,
-) -> Result<String, CaseFault> {
-    let text = feature_text(alloc, fault)?;
-    at_line(alloc, path, line, text.as_str())
-}
-
-fn bad_rule(alloc: Global, path: &str, rule: &str, line: u32) -> Result<String, CaseFault> {
-    let text = said(alloc, "bad", rule)?;
-    at_line(alloc, path, line, text.as_str())
-}
-
-/// Why there is no project file, or no tree of one.
-fn file_text(alloc: Global, fault: &LoadFault) -> Result<String, CaseFault> {
+/// Puts why there is no project file, or no tree of one.
+fn put_file_fault(answer: &mut Answer, fault: &LoadFault) {
     match fault {
-        LoadFault::NoJamroot => owned(alloc, "no Jamroot"),
-        LoadFault::NoJamfile { dir } => said(alloc, "no Jamfile in", dir.as_str()),
-        LoadFault::TooBig { path, size } => size_text(alloc, path.as_str(), *size),
-        LoadFault::Lex { path, fault } => lex_text(alloc, path.as_str(), fault),
+        LoadFault::NoJamroot => answer.put("no Jamroot"),
+        LoadFault::NoJamfile { dir } => put_said(answer, "no Jamfile in", dir.as_str()),
+        LoadFault::TooBig { path, size } => put_size(answer, path.as_str(), *size),
+        LoadFault::Lex { path, fault } => put_lex_fault(answer, path.as_str(), fault),
         LoadFault::Syntax {
             path,
             fault: SyntaxFault::At { line, found },
-        } => syntax_text(alloc, path.as_str(), *line, found.as_str()),
-        _ => Err(CaseFault::OutOfMemory),
+        } => put_syntax_fault(answer, path.as_str(), *line, found.as_str()),
+        _ => answer.cut(),
     }
 }
 
-/// Why a load is refused, as the program prints it after its name.
-pub fn refusal_text(alloc: Global, fault: &LoadFault) -> Result<String, CaseFault> {
+/// Puts why a load is refused, as the program prints it after its name.
+pub fn put_refusal(answer: &mut Answer, fault: &LoadFault) {
     match fault {
-        LoadFault::Eval(fault) => eval_text(alloc, fault),
-        LoadFault::Declaration { path, rule, line } => bad_rule(
-            alloc,
-            path.as_str(),
-            rule.as_str(),
-            *line,
-        ),
-        LoadFault::Feature { path, line, fault } => declaring_text(
-            alloc,
-            path.as_str(),
-            *line,
-            fault,
-        ),
-        LoadFault::Host => owned(alloc, "host fault"),
-        _ => file_text(alloc, fault),
+        LoadFault::Eval(fault) => put_eval_fault(answer, fault),
+        LoadFault::Declaration { path, rule, line } => {
+            put_place(answer, path.as_str(), *line);
+            put_said(answer, "bad", rule.as_str());
+        }
+        LoadFault::Feature { path, line, fault } => {
+            put_place(answer, path.as_str(), *line);
+            put_feature_fault(answer, fault);
+        }
+        LoadFault::Host => answer.put("host fault"),
+        _ => put_file_fault(answer, fault),
     }
 }

@@ -1,15 +1,11 @@
 //! The files of a load, and which calls of their host fail.
 use b2_memory::memory::{CallKind, MemoryHost};
 use std::alloc::Global;
+use std::mem::ManuallyDrop;
 use transcript::answer::Answer;
 use transcript::case_fault::CaseFault;
 use transcript::command::{Command, Word};
 use transcript::words::{first, number, path};
-
-/// A text so many times.
-fn repeated(alloc: Global, text: &str, times: u32) -> Result<String, CaseFault> {
-    Ok(text.repeat(alloc, times as usize)?)
-}
 
 /// Makes bytes the file of a path, unless the host runs a child process.
 fn change(
@@ -31,8 +27,8 @@ pub fn edit(alloc: Global, host: &mut MemoryHost, command: &Command) -> Result<A
         [path] => change(alloc, host, path, command.text().as_bytes()),
         [path, bytes] => change(alloc, host, path, bytes.bytes()),
         [path, text, times] => {
-            let times = number(times.as_str()?)?;
-            let text = repeated(alloc, text.as_str()?, times)?;
+            let times = number(times.as_str()?)? as usize;
+            let text = ManuallyDrop::new(text.as_str()?.repeat(alloc, times)?);
             change(alloc, host, path, text.as_bytes())
         }
         _ => Err(CaseFault::WrongWords),

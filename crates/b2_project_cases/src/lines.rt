@@ -1,60 +1,43 @@
-//! What is added to a line. A space stands before each word, but at the start of the line.
-use b2_base::fault::OutOfMemory;
+//! What is put to a line. A space stands before each word, but at the start of the line.
 use b2_base::text::Text;
-
-fn push_space(line: &mut String) -> Result<(), OutOfMemory> {
-    if !line.is_empty() {
-        line.push(' ')?;
-    }
-    Ok(())
-}
+use transcript::answer::Answer;
 
 /// A word as it is shown: the empty word as `""`.
-pub fn shown_word(word: &str) -> &str {
+fn shown_word(word: &str) -> &str {
     if word.is_empty() { "\"\"" } else { word }
 }
 
-/// Adds a word as it is shown.
-pub fn push_word(line: &mut String, word: &str) -> Result<(), OutOfMemory> {
-    push_space(line)?;
-    line.push_str(shown_word(word))?;
-    Ok(())
+/// Puts a word as it is shown.
+pub fn put_word(answer: &mut Answer, word: &str) {
+    answer.put_space();
+    answer.put(shown_word(word));
 }
 
-pub fn push_words(line: &mut String, words: &[Text]) -> Result<(), OutOfMemory> {
+pub fn put_words(answer: &mut Answer, words: &[Text]) {
     for word in words {
-        push_word(line, word.as_str())?;
+        put_word(answer, word.as_str());
     }
-    Ok(())
 }
 
-/// Adds texts as they are, an empty one as nothing after its space.
-pub fn push_texts(line: &mut String, texts: &[Text]) -> Result<(), OutOfMemory> {
+/// Puts texts as they are, an empty one as nothing after its space.
+pub fn put_texts(answer: &mut Answer, texts: &[Text]) {
     for text in texts {
-        line.push(' ')?;
-        line.push_str(text.as_str())?;
+        answer.put(" ");
+        answer.put(text.as_str());
     }
-    Ok(())
 }
 
-/// Adds a property as `<feature>value`, with no space before it.
-pub fn push_property(line: &mut String, pair: &(Text, Text)) -> Result<(), OutOfMemory> {
-    line.push('<')?;
-    line.push_str(pair.0.as_str())?;
-    line.push('>')?;
-    line.push_str(pair.1.as_str())?;
-    Ok(())
+/// Puts a property as `<feature>value`, with no space before it.
+pub fn put_property(answer: &mut Answer, pair: &(Text, Text)) {
+    answer.put("<");
+    answer.put(pair.0.as_str());
+    answer.put(">");
+    answer.put(pair.1.as_str());
 }
 
-/// Adds a property.
-pub fn push_pair(line: &mut String, pair: &(Text, Text)) -> Result<(), OutOfMemory> {
-    push_space(line)?;
-    push_property(line, pair)
-}
-
-pub fn push_pairs(line: &mut String, pairs: &[(Text, Text)]) -> Result<(), OutOfMemory> {
+pub fn put_pairs(answer: &mut Answer, pairs: &[(Text, Text)]) {
     for pair in pairs {
-        push_pair(line, pair)?;
+        answer.put_space();
+        put_property(answer, pair);
     }
-    Ok(())
 }

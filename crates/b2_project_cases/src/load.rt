@@ -1,5 +1,5 @@
 //! Loading.
-use crate::faults::{refusal_text, said};
+use crate::faults::put_refusal;
 use b2_base::text::Text;
 use b2_memory::memory::MemoryHost;
 use b2_project::load::{LoadFault, Loaded, load as load_projects};
@@ -14,45 +14,44 @@ use transcript::case_fault::CaseFault;
 /// that it holds, which costs more than the proof of its commands.
 pub type Kept = ManuallyDrop<Project>;
 
-fn refusal_line(alloc: Global, fault: &LoadFault) -> Result<String, CaseFault> {
-    let text = refusal_text(alloc, fault)?;
-    said(alloc, "b2:", text.as_str())
+/// Keeps what was loaded, in place of what was loaded before.
+fn keep(alloc: Global, project: Project, last: &mut Option<Box<Kept>>) -> Result<(), CaseFault> {
+    *last = Some(Box::new(alloc, ManuallyDrop::new(project))?);
+    Ok(())
 }
 
-fn keep(
-    alloc: Global,
-    project: Project,
-    last: &mut Option<Box<Kept>>,
-) -> Result<String, CaseFault> {
-    let kept = ManuallyDrop::new(project);
-    *last = Some(Box::new(alloc, kept)?);
-    Ok(String::from_str(alloc, "ok")?)
-}
-
-fn refused(alloc: Global, fault: LoadFault) -> Result<String, CaseFault> {
-    let line = refusal_line(alloc, &fault);
-    drop(fault);
-    line
-}
-
-/// Keeps what was loaded; the last line of the answer.
-fn last_line(
-    alloc: Global,
-    ended: Result<Project, LoadFault>,
-    last: &mut Option<Box<Kept>>,
-) -> Result<String, CaseFault> {
-    match ended {
-        Ok(project) => keep(alloc, project, last),
-        Err(fault) => refused(alloc, fault),
-    }
-}
-
-fn answer_of(alloc: Global, echoes: &[Text], line: &str) -> Result<Answer, CaseFault> {
+/// The lines of ECHO.
+fn echoed(alloc: Global, echoes: &[Text]) -> Answer {
     let mut answer = Answer::new(alloc);
     for echo in echoes {
-        answer.push_line(echo.as_str())?;
+        answer.push_line(echo.as_str());
     }
-    answer.push_line(line)?;
+    answer
+}
+
+fn push_refusal(answer: &mut Answer, fault: &LoadFault) {
+    answer.put("b2: ");
+    put_refusal(answer, fault);
+    answer.end_line();
+}
+
+/// Keeps what was loaded, and adds the last line of the answer.
+fn end(
+    alloc: Global,
+    mut answer: Answer,
+    ended: Result<Project, LoadFault>,
+    last: &mut Option<Box<Kept>>,
+) -> Result<Answer, CaseFault> {
+    match ended {
+        Ok(project) => {
+            keep(alloc, project, last)?;
+            answer.push_line("ok");
+        }
+        Err(fault) => {
+            let fault = ManuallyDrop::new(fault);
+            push_refusal(&mut answer, &fault);
+        }
+    }
     Ok(answer)
 }
 
@@ -68,6 +67,6 @@ pub fn load(
         echoes,
         result: ended,
     } = load_projects(alloc, host, words, turns);
-    let line = last_line(alloc, ended, last)?;
-    answer_of(alloc, echoes.as_slice(), line.as_str())
+    let echoes = ManuallyDrop::new(echoes);
+    end(alloc, echoed(alloc, echoes.as_slice()), ended, last)
 }

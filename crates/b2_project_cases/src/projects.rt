@@ -1,7 +1,7 @@
 //! Projects and main targets.
-use crate::lines::{push_word, push_words, shown_word};
+use crate::lines::{put_word, put_words};
 use crate::shown::{push_list, push_pair_list, push_requirements};
-use b2_base::text_list::TextList;
+use b2_base::path::Path;
 use b2_declarations::declaration::Kind;
 use b2_metatargets::place::{IndirectRule, Place, Target};
 use jam_natives::decl::Decl;
@@ -9,45 +9,46 @@ use std::alloc::Global;
 use transcript::answer::Answer;
 use transcript::case_fault::CaseFault;
 
-fn place_line(alloc: Global, number: usize, place: &Place) -> Result<String, CaseFault> {
-    let (dir, file) = (place.dir.as_str(), place.file.as_str());
-    let module = shown_word(place.module.as_str());
-    match place.parent {
-        Some(parent) => Ok(format!(in alloc; "{number} {dir} {file} {module} in {parent}")?),
-        None => Ok(format!(in alloc; "{number} {dir} {file} {module}")?),
+/// Adds the line of a project: its number, directory, file, module and parent.
+fn push_head(answer: &mut Answer, number: usize, place: &Place) {
+    answer.put_number(number as u64);
+    answer.put(" ");
+    answer.put(place.dir.as_str());
+    answer.put(" ");
+    answer.put(place.file.as_str());
+    put_word(answer, place.module.as_str());
+    if let Some(parent) = place.parent {
+        answer.put(" in ");
+        answer.put_number(parent as u64);
     }
+    answer.end_line();
 }
 
-fn push_builds(alloc: Global, answer: &mut Answer, place: &Place) -> Result<(), CaseFault> {
-    if place.builds.as_slice().is_empty() {
-        return Ok(());
+fn push_builds(answer: &mut Answer, builds: &[Path]) {
+    if builds.is_empty() {
+        return;
     }
-    let mut line = String::from_str(alloc, "build-project")?;
-    for dir in place.builds.as_slice() {
-        push_word(&mut line, dir.as_str())?;
+    answer.put("build-project");
+    for dir in builds {
+        put_word(answer, dir.as_str());
     }
-    answer.push_line(line.as_str())
+    answer.end_line();
 }
 
-fn push_place(
-    alloc: Global,
-    answer: &mut Answer,
-    number: usize,
-    place: &Place,
-) -> Result<(), CaseFault> {
-    answer.push_string(place_line(alloc, number, place)?)?;
-    push_requirements(alloc, answer, "requirements", place.requirements.as_slice())?;
-    push_pair_list(alloc, answer, "default-build", place.defaults.as_slice())?;
-    push_requirements(alloc, answer, "usage-requirements", place.usage.as_slice())?;
-    push_builds(alloc, answer, place)?;
-    push_list(alloc, answer, "explicit", place.explicit.as_slice())
+fn push_place(answer: &mut Answer, number: usize, place: &Place) {
+    push_head(answer, number, place);
+    push_requirements(answer, "requirements", place.requirements.as_slice());
+    push_pair_list(answer, "default-build", place.defaults.as_slice());
+    push_requirements(answer, "usage-requirements", place.usage.as_slice());
+    push_builds(answer, place.builds.as_slice());
+    push_list(answer, "explicit", place.explicit.as_slice());
 }
 
 /// The projects in order of loading.
 pub fn projects(alloc: Global, places: &[Place]) -> Result<Answer, CaseFault> {
     let mut answer = Answer::new(alloc);
     for number in 0..places.len() {
-        push_place(alloc, &mut answer, number, &places[number])?;
+        push_place(&mut answer, number, &places[number]);
     }
     Ok(answer)
 }
@@ -63,78 +64,82 @@ fn kind_word(kind: Kind) -> &'static str {
     }
 }
 
-fn target_line(alloc: Global, target: &Target) -> Result<String, CaseFault> {
-    let (project, line) = (target.project, target.line);
-    let kind = kind_word(target.kind);
-    let name = shown_word(target.name.as_str());
-    Ok(format!(in alloc; "{project} {kind} {name} line {line}")?)
+/// Puts the line of a file at which something stands, which is shown last.
+fn put_source_line(answer: &mut Answer, line: u32) {
+    answer.put(" line ");
+    answer.put_number(line as u64);
 }
 
-fn push_rule(alloc: Global, answer: &mut Answer, target: &Target) -> Result<(), CaseFault> {
-    let rule = target.rule.as_str();
-    if rule.is_empty() {
-        return Ok(());
+/// Adds the line of a main target: the number of its project, its kind, name and line.
+fn push_target_head(answer: &mut Answer, target: &Target) {
+    answer.put_number(target.project as u64);
+    answer.put(" ");
+    answer.put(kind_word(target.kind));
+    put_word(answer, target.name.as_str());
+    put_source_line(answer, target.line);
+    answer.end_line();
+}
+
+fn push_rule(answer: &mut Answer, rule: &str) {
+    if !rule.is_empty() {
+        answer.push_words("rule", rule);
     }
-    answer.push_string(format!(in alloc; "rule {rule}")?)
 }
 
-fn push_target(alloc: Global, answer: &mut Answer, target: &Target) -> Result<(), CaseFault> {
-    answer.push_string(target_line(alloc, target)?)?;
-    push_list(alloc, answer, "sources", target.sources.as_slice())?;
-    push_rule(alloc, answer, target)?;
-    push_requirements(
-        alloc,
-        answer,
-        "requirements",
-        target.requirements.as_slice(),
-    )?;
-    push_pair_list(alloc, answer, "default-build", target.defaults.as_slice())?;
-    push_requirements(alloc, answer, "usage-requirements", target.usage.as_slice())
+fn push_target(answer: &mut Answer, target: &Target) {
+    push_target_head(answer, target);
+    push_list(answer, "sources", target.sources.as_slice());
+    push_rule(answer, target.rule.as_str());
+    push_requirements(answer, "requirements", target.requirements.as_slice());
+    push_pair_list(answer, "default-build", target.defaults.as_slice());
+    push_requirements(answer, "usage-requirements", target.usage.as_slice());
 }
 
 /// The main targets in order of recording.
 pub fn targets(alloc: Global, targets: &[Target]) -> Result<Answer, CaseFault> {
     let mut answer = Answer::new(alloc);
     for target in targets {
-        push_target(alloc, &mut answer, target)?;
+        push_target(&mut answer, target);
     }
     Ok(answer)
 }
 
-fn rule_line(alloc: Global, number: usize, rule: &IndirectRule) -> Result<String, CaseFault> {
-    let (project, name, line) = (rule.project, rule.rule.as_str(), rule.line);
-    Ok(format!(in alloc; "{number} {project} {name} line {line}")?)
+fn push_indirect(answer: &mut Answer, number: usize, rule: &IndirectRule) {
+    answer.put_number(number as u64);
+    answer.put(" ");
+    answer.put_number(rule.project as u64);
+    answer.put(" ");
+    answer.put(rule.rule.as_str());
+    put_source_line(answer, rule.line);
+    answer.end_line();
 }
 
 /// The rules of indirect requirements.
 pub fn indirect(alloc: Global, rules: &[IndirectRule]) -> Result<Answer, CaseFault> {
     let mut answer = Answer::new(alloc);
     for number in 0..rules.len() {
-        answer.push_string(rule_line(alloc, number, &rules[number])?)?;
+        push_indirect(&mut answer, number, &rules[number]);
     }
     Ok(answer)
 }
 
-fn lists_line(alloc: Global, head: &str, lists: &[TextList]) -> Result<String, CaseFault> {
-    let mut line = String::from_str(alloc, head)?;
-    for list in lists {
-        line.push_str(" :")?;
-        push_words(&mut line, list.as_slice())?;
+/// Adds a recorded call: its line, its rule, and its lists.
+fn push_decl(answer: &mut Answer, decl: &Decl) {
+    answer.put_number(decl.line as u64);
+    answer.put(": ");
+    answer.put(decl.rule.as_str());
+    for list in decl.lists.as_slice() {
+        answer.put(" :");
+        put_words(answer, list.as_slice());
     }
-    Ok(line)
-}
-
-fn decl_line(alloc: Global, decl: &Decl) -> Result<String, CaseFault> {
-    let (rule, line) = (decl.rule.as_str(), decl.line);
-    let head = format!(in alloc; "{line}: {rule}")?;
-    lists_line(alloc, head.as_str(), decl.lists.as_slice())
+    answer.end_line();
 }
 
 /// The recorded calls.
 pub fn decls(alloc: Global, decls: &[Decl]) -> Result<Answer, CaseFault> {
     let mut answer = Answer::new(alloc);
     for decl in decls {
-        answer.push_string(decl_line(alloc, decl)?)?;
+        push_decl(&mut answer, decl);
     }
     Ok(answer)
 }

@@ -25,6 +25,22 @@ pub struct Loads {
     last: Option<Box<Kept>>,
 }
 
+/// Shows something of the tables of features, types and generators.
+fn shown_of_tables(
+    alloc: Global,
+    declared: &Declared,
+    command: &str,
+    words: &[Word],
+) -> Result<Answer, CaseFault> {
+    match command {
+        "count" => Answer::number(alloc, declared.registry.count() as u64),
+        "find" => features(alloc, &declared.registry, words),
+        "parts_of" => parts_of(alloc, &declared.registry, words),
+        "type_of" | "suffix_of" | "generator" => look_up(alloc, &declared.types, command, words),
+        _ => Err(CaseFault::UnknownCommand),
+    }
+}
+
 /// Shows something of what is declared.
 fn shown_of_declared(
     alloc: Global,
@@ -37,11 +53,7 @@ fn shown_of_declared(
         "targets" => targets(alloc, declared.targets.as_slice()),
         "indirect" => indirect(alloc, declared.indirect.as_slice()),
         "dir_of" => dirs(alloc, &declared.ids, words),
-        "count" => Answer::number(alloc, declared.registry.count() as u64),
-        "find" => features(alloc, &declared.registry, words),
-        "parts_of" => parts_of(alloc, &declared.registry, words),
-        "type_of" | "suffix_of" | "generator" => look_up(alloc, &declared.types, command, words),
-        _ => Err(CaseFault::UnknownCommand),
+        _ => shown_of_tables(alloc, declared, command, words),
     }
 }
 
@@ -64,6 +76,19 @@ fn show(alloc: Global, last: &Option<Box<Kept>>, command: &Command) -> Result<An
     match last {
         Some(project) => shown(alloc, project, command.name(), command.words()),
         None => Err(CaseFault::WrongWords),
+    }
+}
+
+/// Shows the turns that the last load left, or something of what was loaded last.
+fn look(
+    alloc: Global,
+    left: u32,
+    last: &Option<Box<Kept>>,
+    command: &Command,
+) -> Result<Answer, CaseFault> {
+    match command.name() {
+        "left" => Answer::number(alloc, left as u64),
+        _ => show(alloc, last, command),
     }
 }
 
@@ -112,8 +137,7 @@ impl Session for Loads {
             "turns" => set_turns(alloc, &mut self.budget, words),
             "fail_calls" => fail_calls(alloc, &mut self.host, words),
             "load" => self.load(alloc, words),
-            "left" => Answer::number(alloc, self.left as u64),
-            _ => show(alloc, &self.last, command),
+            _ => look(alloc, self.left, &self.last, command),
         }
     }
 }

@@ -1,89 +1,66 @@
 //! Lines below a project or a main target.
-use crate::lines::{push_pairs, push_property, push_words};
+use crate::lines::{put_pairs, put_property, put_words};
 use b2_base::text::Text;
 use b2_props::requirement::Requirement;
-use std::alloc::Global;
 use transcript::answer::Answer;
-use transcript::case_fault::CaseFault;
 
 /// Adds a line of a name and words, where there are some.
-pub fn push_list(
-    alloc: Global,
-    answer: &mut Answer,
-    name: &str,
-    words: &[Text],
-) -> Result<(), CaseFault> {
+pub fn push_list(answer: &mut Answer, name: &str, words: &[Text]) {
     if words.is_empty() {
-        return Ok(());
+        return;
     }
-    let mut line = String::from_str(alloc, name)?;
-    push_words(&mut line, words)?;
-    answer.push_line(line.as_str())
+    answer.put(name);
+    put_words(answer, words);
+    answer.end_line();
 }
 
 /// Adds a line of a name and pairs, where there are some.
-pub fn push_pair_list(
-    alloc: Global,
-    answer: &mut Answer,
-    name: &str,
-    pairs: &[(Text, Text)],
-) -> Result<(), CaseFault> {
+pub fn push_pair_list(answer: &mut Answer, name: &str, pairs: &[(Text, Text)]) {
     if pairs.is_empty() {
-        return Ok(());
+        return;
     }
-    let mut line = String::from_str(alloc, name)?;
-    push_pairs(&mut line, pairs)?;
-    answer.push_line(line.as_str())
+    answer.put(name);
+    put_pairs(answer, pairs);
+    answer.end_line();
 }
 
-/// Adds conditions, each before a comma, the last one before a colon.
-fn push_conditions(line: &mut String, conditions: &[(Text, Text)]) -> Result<(), CaseFault> {
+/// Puts conditions, each before a comma, the last one before a colon.
+fn put_conditions(answer: &mut Answer, conditions: &[(Text, Text)]) {
     if let Some((last, others)) = conditions.split_last() {
         for condition in others {
-            push_property(line, condition)?;
-            line.push(',')?;
+            put_property(answer, condition);
+            answer.put(",");
         }
-        push_property(line, last)?;
-        line.push(':')?;
+        put_property(answer, last);
+        answer.put(":");
     }
-    Ok(())
 }
 
-fn push_requirement(
-    alloc: Global,
-    line: &mut String,
-    requirement: &Requirement,
-) -> Result<(), CaseFault> {
-    line.push(' ')?;
+fn put_requirement(answer: &mut Answer, requirement: &Requirement) {
+    answer.put(" ");
     match requirement {
         Requirement::Plain {
             conditions,
             property,
         } => {
-            push_conditions(line, conditions.as_slice())?;
-            push_property(line, property)?;
+            put_conditions(answer, conditions.as_slice());
+            put_property(answer, property);
         }
         Requirement::Indirect { rule } => {
-            let rule = *rule;
-            line.push_str(format!(in alloc; "@{rule}")?.as_str())?;
+            answer.put("@");
+            answer.put_number(*rule as u64);
         }
     }
-    Ok(())
 }
 
 /// Adds a line of a name and requirements, where there are some.
-pub fn push_requirements(
-    alloc: Global,
-    answer: &mut Answer,
-    name: &str,
-    requirements: &[Requirement],
-) -> Result<(), CaseFault> {
+pub fn push_requirements(answer: &mut Answer, name: &str, requirements: &[Requirement]) {
     if requirements.is_empty() {
-        return Ok(());
+        return;
     }
-    let mut line = String::from_str(alloc, name)?;
+    answer.put(name);
     for requirement in requirements {
-        push_requirement(alloc, &mut line, requirement)?;
+        put_requirement(answer, requirement);
     }
-    answer.push_line(line.as_str())
+    answer.end_line();
 }

@@ -1,5 +1,5 @@
 //! What a load declares in the tables of features, types and generators, and the directories of its ids.
-use crate::lines::{push_pairs, push_texts, push_words};
+use crate::lines::{put_pairs, put_texts, put_words};
 use crate::shown::push_pair_list;
 use b2_features::feature::Feature;
 use b2_features::registry::Registry;
@@ -12,7 +12,7 @@ use transcript::case_fault::CaseFault;
 use transcript::command::Word;
 use transcript::words::{both, path};
 
-fn push_dir(answer: &mut Answer, ids: &Ids, id: &str) -> Result<(), CaseFault> {
+fn push_dir(answer: &mut Answer, ids: &Ids, id: &str) {
     match ids.dir_of(id) {
         Some(dir) => answer.push_line(dir.as_str()),
         None => answer.push_line("none"),
@@ -23,28 +23,23 @@ fn push_dir(answer: &mut Answer, ids: &Ids, id: &str) -> Result<(), CaseFault> {
 pub fn dirs(alloc: Global, ids: &Ids, words: &[Word]) -> Result<Answer, CaseFault> {
     let mut answer = Answer::new(alloc);
     for word in words {
-        push_dir(&mut answer, ids, word.as_str()?)?;
+        push_dir(&mut answer, ids, word.as_str()?);
     }
     Ok(answer)
 }
 
-/// A feature as it was declared: `NAME VALUES : ATTRIBUTES`.
-fn feature_line(alloc: Global, feature: &Feature) -> Result<String, CaseFault> {
-    let mut line = String::from_str(alloc, feature.name.as_str())?;
-    push_texts(&mut line, feature.values.as_slice())?;
-    line.push_str(" :")?;
-    push_texts(&mut line, feature.attributes.as_slice())?;
-    Ok(line)
+/// Adds a feature as it was declared: `NAME VALUES : ATTRIBUTES`.
+fn push_declared(answer: &mut Answer, feature: &Feature) {
+    answer.put(feature.name.as_str());
+    put_texts(answer, feature.values.as_slice());
+    answer.put(" :");
+    put_texts(answer, feature.attributes.as_slice());
+    answer.end_line();
 }
 
-fn push_feature(
-    alloc: Global,
-    answer: &mut Answer,
-    registry: &Registry,
-    name: &str,
-) -> Result<(), CaseFault> {
+fn push_feature(answer: &mut Answer, registry: &Registry, name: &str) {
     match registry.find(name) {
-        Some(feature) => answer.push_string(feature_line(alloc, feature)?),
+        Some(feature) => push_declared(answer, feature),
         None => answer.push_line("none"),
     }
 }
@@ -53,31 +48,27 @@ fn push_feature(
 pub fn features(alloc: Global, registry: &Registry, words: &[Word]) -> Result<Answer, CaseFault> {
     let mut answer = Answer::new(alloc);
     for word in words {
-        push_feature(alloc, &mut answer, registry, word.as_str()?)?;
+        push_feature(&mut answer, registry, word.as_str()?);
     }
     Ok(answer)
 }
 
-fn parts_line(
-    alloc: Global,
-    registry: &Registry,
-    feature: &str,
-    value: &str,
-) -> Result<String, CaseFault> {
-    let mut line = String::from_str(alloc, "parts")?;
+fn push_parts(answer: &mut Answer, registry: &Registry, feature: &str, value: &str) {
+    answer.put("parts");
     if let Some(feature) = registry.find(feature) {
         if let Some(parts) = feature.parts_of(value) {
-            push_pairs(&mut line, parts)?;
+            put_pairs(answer, parts);
         }
     }
-    Ok(line)
+    answer.end_line();
 }
 
 /// What a value of a feature, which stand in two words, is composed of.
 pub fn parts_of(alloc: Global, registry: &Registry, words: &[Word]) -> Result<Answer, CaseFault> {
     let (feature, value) = both(words)?;
-    let line = parts_line(alloc, registry, feature, value)?;
-    Answer::from_string(alloc, line)
+    let mut answer = Answer::new(alloc);
+    push_parts(&mut answer, registry, feature, value);
+    Ok(answer)
 }
 
 fn push_type(
@@ -87,42 +78,30 @@ fn push_type(
     file: &str,
 ) -> Result<(), CaseFault> {
     let path = path(alloc, file)?;
-    answer.push_line(types.type_of(&path))
+    answer.push_line(types.type_of(&path));
+    Ok(())
 }
 
-fn push_suffix(answer: &mut Answer, types: &Types, name: &str) -> Result<(), CaseFault> {
+fn push_suffix(answer: &mut Answer, types: &Types, name: &str) {
     match types.suffix_of(name) {
         Some(suffix) => answer.push_line(suffix),
         None => answer.push_line("none"),
     }
 }
 
-/// A generator without what it requires: `ID SOURCES : TARGETS`.
-fn generator_line(alloc: Global, generator: &Generator) -> Result<String, CaseFault> {
-    let mut line = String::from_str(alloc, generator.id.as_str())?;
-    push_words(&mut line, generator.sources.as_slice())?;
-    line.push_str(" :")?;
-    push_words(&mut line, generator.targets.as_slice())?;
-    Ok(line)
+/// Adds a generator: `ID SOURCES : TARGETS`, and what it requires on a line of its own.
+fn push_generator_lines(answer: &mut Answer, generator: &Generator) {
+    answer.put(generator.id.as_str());
+    put_words(answer, generator.sources.as_slice());
+    answer.put(" :");
+    put_words(answer, generator.targets.as_slice());
+    answer.end_line();
+    push_pair_list(answer, "requirements", generator.required.as_slice());
 }
 
-fn push_generator_lines(
-    alloc: Global,
-    answer: &mut Answer,
-    generator: &Generator,
-) -> Result<(), CaseFault> {
-    answer.push_string(generator_line(alloc, generator)?)?;
-    push_pair_list(alloc, answer, "requirements", generator.required.as_slice())
-}
-
-fn push_generator(
-    alloc: Global,
-    answer: &mut Answer,
-    types: &Types,
-    id: &str,
-) -> Result<(), CaseFault> {
+fn push_generator(answer: &mut Answer, types: &Types, id: &str) {
     match types.generator(id) {
-        Some(generator) => push_generator_lines(alloc, answer, generator),
+        Some(generator) => push_generator_lines(answer, generator),
         None => answer.push_line("none"),
     }
 }
@@ -136,10 +115,11 @@ fn push_looked_up(
     word: &str,
 ) -> Result<(), CaseFault> {
     match command {
-        "type_of" => push_type(alloc, answer, types, word),
+        "type_of" => push_type(alloc, answer, types, word)?,
         "suffix_of" => push_suffix(answer, types, word),
-        _ => push_generator(alloc, answer, types, word),
+        _ => push_generator(answer, types, word),
     }
+    Ok(())
 }
 
 /// The types of files, the first suffixes of types, or the generators of ids.

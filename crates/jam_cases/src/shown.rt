@@ -3,7 +3,7 @@ use b2_base::token::TokenKind;
 use transcript::answer::Answer;
 use transcript::case_fault::CaseFault;
 
-/// Puts a character.
+/// Puts a character, which an answer takes as a text.
 pub fn put_char(answer: &mut Answer, letter: char) {
     let mut bytes = [0u8; 4];
     answer.put(letter.encode_utf8(&mut bytes));
