@@ -22,7 +22,6 @@
 
 mod faults;
 mod host;
-mod lines;
 mod load;
 mod projects;
 pub mod session;

@@ -1,5 +1,4 @@
 //! Projects and main targets.
-use crate::lines::{put_word, put_words};
 use crate::shown::{push_list, push_pair_list, push_requirements};
 use b2_base::path::Path;
 use b2_declarations::declaration::Kind;
@@ -16,7 +15,7 @@ fn push_head(answer: &mut Answer, number: usize, place: &Place) {
     answer.put(place.dir.as_str());
     answer.put(" ");
     answer.put(place.file.as_str());
-    put_word(answer, place.module.as_str());
+    answer.put_word(place.module.as_str());
     if let Some(parent) = place.parent {
         answer.put(" in ");
         answer.put_number(parent as u64);
@@ -30,7 +29,7 @@ fn push_builds(answer: &mut Answer, builds: &[Path]) {
     }
     answer.put("build-project");
     for dir in builds {
-        put_word(answer, dir.as_str());
+        answer.put_word(dir.as_str());
     }
     answer.end_line();
 }
@@ -75,7 +74,7 @@ fn push_target_head(answer: &mut Answer, target: &Target) {
     answer.put_number(target.project as u64);
     answer.put(" ");
     answer.put(kind_word(target.kind));
-    put_word(answer, target.name.as_str());
+    answer.put_word(target.name.as_str());
     put_source_line(answer, target.line);
     answer.end_line();
 }
@@ -130,7 +129,7 @@ fn push_decl(answer: &mut Answer, decl: &Decl) {
     answer.put(decl.rule.as_str());
     for list in decl.lists.as_slice() {
         answer.put(" :");
-        put_words(answer, list.as_slice());
+        answer.put_words(list.as_slice());
     }
     answer.end_line();
 }

@@ -1,5 +1,4 @@
 //! Lines below a project or a main target.
-use crate::lines::{put_pairs, put_property, put_words};
 use b2_base::text::Text;
 use b2_props::requirement::Requirement;
 use transcript::answer::Answer;
@@ -10,7 +9,7 @@ pub fn push_list(answer: &mut Answer, name: &str, words: &[Text]) {
         return;
     }
     answer.put(name);
-    put_words(answer, words);
+    answer.put_words(words);
     answer.end_line();
 }
 
@@ -20,18 +19,26 @@ pub fn push_pair_list(answer: &mut Answer, name: &str, pairs: &[(Text, Text)]) {
         return;
     }
     answer.put(name);
-    put_pairs(answer, pairs);
+    answer.put_properties(pairs);
     answer.end_line();
+}
+
+/// Puts a property as `<feature>value`, with no space before it.
+fn put_alone(answer: &mut Answer, property: &(Text, Text)) {
+    answer.put("<");
+    answer.put(property.0.as_str());
+    answer.put(">");
+    answer.put(property.1.as_str());
 }
 
 /// Puts conditions, each before a comma, the last one before a colon.
 fn put_conditions(answer: &mut Answer, conditions: &[(Text, Text)]) {
     if let Some((last, others)) = conditions.split_last() {
         for condition in others {
-            put_property(answer, condition);
+            put_alone(answer, condition);
             answer.put(",");
         }
-        put_property(answer, last);
+        put_alone(answer, last);
         answer.put(":");
     }
 }
@@ -44,7 +51,7 @@ fn put_requirement(answer: &mut Answer, requirement: &Requirement) {
             property,
         } => {
             put_conditions(answer, conditions.as_slice());
-            put_property(answer, property);
+            put_alone(answer, property);
         }
         Requirement::Indirect { rule } => {
             answer.put("@");

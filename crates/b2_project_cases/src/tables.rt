@@ -1,5 +1,4 @@
 //! What a load declares in the tables of features, types and generators, and the directories of its ids.
-use crate::lines::{put_pairs, put_texts, put_words};
 use crate::shown::push_pair_list;
 use b2_features::feature::Feature;
 use b2_features::registry::Registry;
@@ -31,9 +30,9 @@ pub fn dirs(alloc: Global, ids: &Ids, words: &[Word]) -> Result<Answer, CaseFaul
 /// Adds a feature as it was declared: `NAME VALUES : ATTRIBUTES`.
 fn push_declared(answer: &mut Answer, feature: &Feature) {
     answer.put(feature.name.as_str());
-    put_texts(answer, feature.values.as_slice());
+    answer.put_texts(feature.values.as_slice());
     answer.put(" :");
-    put_texts(answer, feature.attributes.as_slice());
+    answer.put_texts(feature.attributes.as_slice());
     answer.end_line();
 }
 
@@ -57,7 +56,7 @@ fn push_parts(answer: &mut Answer, registry: &Registry, feature: &str, value: &s
     answer.put("parts");
     if let Some(feature) = registry.find(feature) {
         if let Some(parts) = feature.parts_of(value) {
-            put_pairs(answer, parts);
+            answer.put_properties(parts);
         }
     }
     answer.end_line();
@@ -92,9 +91,9 @@ fn push_suffix(answer: &mut Answer, types: &Types, name: &str) {
 /// Adds a generator: `ID SOURCES : TARGETS`, and what it requires on a line of its own.
 fn push_generator_lines(answer: &mut Answer, generator: &Generator) {
     answer.put(generator.id.as_str());
-    put_words(answer, generator.sources.as_slice());
+    answer.put_words(generator.sources.as_slice());
     answer.put(" :");
-    put_words(answer, generator.targets.as_slice());
+    answer.put_words(generator.targets.as_slice());
     answer.end_line();
     push_pair_list(answer, "requirements", generator.required.as_slice());
 }

@@ -33,42 +33,19 @@ pub fn text_or_none(alloc: Global, found: Option<&str>) -> Result<Answer, CaseFa
     }
 }
 
-/// Puts texts, a blank before each.
-pub fn put_texts(answer: &mut Answer, texts: &[Text]) {
-    for text in texts {
-        answer.put(" ");
-        answer.put(text.as_str());
-    }
-}
-
-/// Puts a property, after a blank where something stands before it.
-pub fn put_pair(answer: &mut Answer, pair: &(Text, Text)) {
-    answer.put_space();
-    answer.put("<");
-    answer.put(pair.0.as_str());
-    answer.put(">");
-    answer.put(pair.1.as_str());
-}
-
-pub fn put_pairs(answer: &mut Answer, pairs: &[(Text, Text)]) {
-    for pair in pairs {
-        put_pair(answer, pair);
-    }
-}
-
 /// Adds a line of two lists of texts with the sign `:` between them, after a name: `NAME TEXTS : TEXTS`.
 pub fn push_lists(answer: &mut Answer, name: &str, left: &[Text], right: &[Text]) {
     answer.put(name);
-    put_texts(answer, left);
+    answer.put_texts(left);
     answer.put(" :");
-    put_texts(answer, right);
+    answer.put_texts(right);
     answer.end_line();
 }
 
 /// Properties on one line.
 pub fn pairs_line(alloc: Global, pairs: &[(Text, Text)]) -> Result<Answer, CaseFault> {
     let mut answer = Answer::new(alloc);
-    put_pairs(&mut answer, pairs);
+    answer.put_properties(pairs);
     answer.end_line();
     Ok(answer)
 }

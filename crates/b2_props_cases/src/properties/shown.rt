@@ -1,5 +1,5 @@
 //! Answers of features, sets and requests.
-use crate::shown::{pairs_line, push_lists, put_pairs};
+use crate::shown::{pairs_line, push_lists};
 use b2_base::text::Text;
 use b2_features::feature::Feature;
 use b2_props::props::Props;
@@ -50,7 +50,7 @@ pub fn push_targets(answer: &mut Answer, targets: &[Text]) {
 
 fn push_set(answer: &mut Answer, set: &Props) {
     answer.put("set");
-    put_pairs(answer, set.pairs());
+    answer.put_properties(set.pairs());
     answer.end_line();
 }
 

@@ -3,7 +3,7 @@ use crate::declaring::refused;
 use crate::pairs::lent_pairs;
 use crate::properties::features::feature_command;
 use crate::properties::sets::request;
-use crate::shown::{pairs_line, put_pair, put_pairs, told};
+use crate::shown::{pairs_line, told};
 use b2_base::path::Path;
 use b2_base::text::Text;
 use b2_base::text_list::TextList;
@@ -40,7 +40,7 @@ fn dir_and_texts(
 
 fn pair_line(alloc: Global, pair: &(Text, Text)) -> Result<Answer, CaseFault> {
     let mut answer = Answer::new(alloc);
-    put_pair(&mut answer, pair);
+    answer.put_property(pair);
     answer.end_line();
     Ok(answer)
 }
@@ -49,10 +49,10 @@ fn pair_line(alloc: Global, pair: &(Text, Text)) -> Result<Answer, CaseFault> {
 fn push_conditional(answer: &mut Answer, read: &Conditional) {
     let conditions = read.conditions.as_slice();
     if !conditions.is_empty() {
-        put_pairs(answer, conditions);
+        answer.put_properties(conditions);
         answer.put(" :");
     }
-    put_pair(answer, &read.property);
+    answer.put_property(&read.property);
     answer.end_line();
 }
 

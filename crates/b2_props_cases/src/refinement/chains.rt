@@ -1,6 +1,5 @@
 //! The command that asks for a chain.
 use crate::pairs::given;
-use crate::shown::put_texts;
 use b2_base::text::Text;
 use b2_features::registry::Registry;
 use b2_generators::chain::{GenChain, chain};
@@ -24,9 +23,9 @@ fn put_ends(answer: &mut Answer, words: &str, from: &Text, to: &Text) {
 /// Puts two chains of which neither is chosen.
 fn put_both(answer: &mut Answer, first: &[Text], second: &[Text]) {
     answer.put(":");
-    put_texts(answer, first);
+    answer.put_texts(first);
     answer.put(";");
-    put_texts(answer, second);
+    answer.put_texts(second);
 }
 
 fn put_fault(answer: &mut Answer, fault: &ChainFault) {
@@ -49,7 +48,7 @@ fn push_found(answer: &mut Answer, found: &Result<GenChain, ChainFault>) {
     match found {
         Ok(chain) => {
             answer.put("chain");
-            put_texts(answer, chain.ids.as_slice());
+            answer.put_texts(chain.ids.as_slice());
         }
         Err(fault) => put_fault(answer, fault),
     }

@@ -4,7 +4,7 @@ ghost use Rattle.b2_refine.specs.Answers.{AsksBelow};
 
 use crate::pairs::{given, made, pair, pairs};
 use crate::refinement::rules::{Row, Rule, RuleFault, Rules};
-use crate::shown::{ok, put_pairs};
+use crate::shown::ok;
 use b2_features::registry::Registry;
 use b2_props::pair_list::PairList;
 use b2_props::props::Props;
@@ -104,7 +104,7 @@ fn all_ask_below(required: &[Requirement], count: usize) -> bool
 }
 
 fn push_set(answer: &mut Answer, set: &Props) {
-    put_pairs(answer, set.pairs());
+    answer.put_properties(set.pairs());
     answer.end_line();
 }
 
