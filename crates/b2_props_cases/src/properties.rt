@@ -39,6 +39,65 @@ use transcript::command::{Command, Word};
 use transcript::session::Session;
 use transcript::words::no_words;
 
+fn renew_set(alloc: Global, at_hand: &mut Props, words: &[Word]) -> Result<Answer, CaseFault> {
+    no_words(words)?;
+    *at_hand = Props::new(alloc);
+    ok(alloc)
+}
+
+/// Puts a set in place and shows it.
+fn put(alloc: Global, at_hand: &mut Props, set: Props) -> Result<Answer, CaseFault> {
+    *at_hand = set;
+    set_line(alloc, at_hand)
+}
+
+/// Adds a copy of a set to a list, which it shows.
+fn copy(
+    alloc: Global,
+    set: &Props,
+    sets: &mut PropsList,
+    words: &[Word],
+) -> Result<Answer, CaseFault> {
+    no_words(words)?;
+    let set = set.copy(alloc)?;
+    sets.push(set)?;
+    sets_lines(alloc, sets)
+}
+
+/// Compares a set with each set of a list.
+fn equals(
+    alloc: Global,
+    set: &Props,
+    sets: &PropsList,
+    words: &[Word],
+) -> Result<Answer, CaseFault> {
+    no_words(words)?;
+    let mut answer = Answer::new(alloc);
+    for other in sets.as_slice() {
+        answer.push_line(truth_word(set.equals(other)));
+    }
+    Ok(answer)
+}
+
+/// Asks the set at hand or the table.
+fn ask(
+    alloc: Global,
+    registry: &Registry,
+    set: &Props,
+    sets: &PropsList,
+    command: &Command,
+) -> Result<Answer, CaseFault> {
+    let words = command.words();
+    match command.name() {
+        "propagated" => handed(alloc, registry, set, words),
+        "dir_of" => dir_of(alloc, registry, set, words),
+        "contains" => contains(alloc, set, words),
+        "equals" => equals(alloc, set, sets, words),
+        "has_all" => has_all(alloc, set, words),
+        _ => text_command(alloc, registry, command),
+    }
+}
+
 /// The table and the set at hand, and the sets that were copied.
 ///
 /// What is put in place of a table lets it be, until the process ends: a crate that takes it apart proves the drop of all
@@ -66,67 +125,25 @@ impl Properties {
         ok(alloc)
     }
 
-    fn renew_set(&mut self, alloc: Global, words: &[Word]) -> Result<Answer, CaseFault> {
-        no_words(words)?;
-        self.set = Props::new(alloc);
-        ok(alloc)
-    }
-
-    /// Puts a set in place and shows it.
-    fn put(&mut self, alloc: Global, set: Props) -> Result<Answer, CaseFault> {
-        self.set = set;
-        set_line(alloc, &self.set)
-    }
-
-    fn copy(&mut self, alloc: Global, words: &[Word]) -> Result<Answer, CaseFault> {
-        no_words(words)?;
-        let set = self.set.copy(alloc)?;
-        self.sets.push(set)?;
-        sets_lines(alloc, &self.sets)
-    }
-
-    /// Compares the set at hand with each set of the list.
-    fn equals(&self, alloc: Global, words: &[Word]) -> Result<Answer, CaseFault> {
-        no_words(words)?;
-        let mut answer = Answer::new(alloc);
-        for set in self.sets.as_slice() {
-            answer.push_line(truth_word(self.set.equals(set)));
-        }
-        Ok(answer)
-    }
-
-    /// Asks the set at hand or the table.
-    fn ask(&self, alloc: Global, command: &Command) -> Result<Answer, CaseFault> {
-        let words = command.words();
-        match command.name() {
-            "propagated" => handed(alloc, &self.registry, &self.set, words),
-            "dir_of" => dir_of(alloc, &self.registry, &self.set, words),
-            "contains" => contains(alloc, &self.set, words),
-            "equals" => self.equals(alloc, words),
-            "has_all" => has_all(alloc, &self.set, words),
-            _ => text_command(alloc, &self.registry, command),
-        }
-    }
-
     /// Puts a set in place, or carries out another command.
     fn set_command(&mut self, alloc: Global, command: &Command) -> Result<Answer, CaseFault> {
         let words = command.words();
         match command.name() {
             "set_of" => {
                 let set = given(alloc, &self.registry, words)?;
-                self.put(alloc, set)
+                put(alloc, &mut self.set, set)
             }
             "expand" => {
                 let set = expanded(alloc, &self.registry, &self.set, words)?;
-                self.put(alloc, set)
+                put(alloc, &mut self.set, set)
             }
             "refine" => {
                 let set = refined(alloc, &self.registry, &self.set, words)?;
-                self.put(alloc, set)
+                put(alloc, &mut self.set, set)
             }
-            "new_set" => self.renew_set(alloc, words),
-            "copy" => self.copy(alloc, words),
-            _ => self.ask(alloc, command),
+            "new_set" => renew_set(alloc, &mut self.set, words),
+            "copy" => copy(alloc, &self.set, &mut self.sets, words),
+            _ => ask(alloc, &self.registry, &self.set, &self.sets, command),
         }
     }
 }

@@ -45,6 +45,56 @@ use transcript::command::{Command, Word};
 use transcript::session::Session;
 use transcript::words::no_words;
 
+fn renew_requirements(
+    alloc: Global,
+    required: &mut Vec<Requirement>,
+    rules: &mut Rules,
+    words: &[Word],
+) -> Result<Answer, CaseFault> {
+    no_words(words)?;
+    required.clear();
+    rules.rules.clear();
+    ok(alloc)
+}
+
+fn renew_alternatives(
+    alloc: Global,
+    conditions: &mut Vec<PairList>,
+    words: &[Word],
+) -> Result<Answer, CaseFault> {
+    no_words(words)?;
+    conditions.clear();
+    ok(alloc)
+}
+
+fn put_request(
+    alloc: Global,
+    registry: &Registry,
+    request: &mut Props,
+    words: &[Word],
+) -> Result<Answer, CaseFault> {
+    *request = whole(alloc, registry, words)?;
+    set_line(alloc, request)
+}
+
+fn require(
+    alloc: Global,
+    required: &mut Vec<Requirement>,
+    requirement: Requirement,
+) -> Result<Answer, CaseFault> {
+    required.push(requirement)?;
+    ok(alloc)
+}
+
+fn add_alternative(
+    alloc: Global,
+    conditions: &mut Vec<PairList>,
+    words: &[Word],
+) -> Result<Answer, CaseFault> {
+    conditions.push(pairs(alloc, words)?)?;
+    ok(alloc)
+}
+
 /// Adds a rule or a row of one, or carries out another command.
 fn rule_command(
     alloc: Global,
@@ -94,58 +144,13 @@ impl Refinement {
         ok(alloc)
     }
 
-    fn renew_requirements(&mut self, alloc: Global, words: &[Word]) -> Result<Answer, CaseFault> {
-        no_words(words)?;
-        self.required.clear();
-        self.rules.rules.clear();
-        ok(alloc)
-    }
-
-    fn renew_alternatives(&mut self, alloc: Global, words: &[Word]) -> Result<Answer, CaseFault> {
-        no_words(words)?;
-        self.conditions.clear();
-        ok(alloc)
-    }
-
-    fn put_request(&mut self, alloc: Global, words: &[Word]) -> Result<Answer, CaseFault> {
-        self.request = whole(alloc, &self.registry, words)?;
-        set_line(alloc, &self.request)
-    }
-
-    fn require(&mut self, alloc: Global, requirement: Requirement) -> Result<Answer, CaseFault> {
-        self.required.push(requirement)?;
-        ok(alloc)
-    }
-
-    fn add_alternative(&mut self, alloc: Global, words: &[Word]) -> Result<Answer, CaseFault> {
-        let condition = pairs(alloc, words)?;
-        self.conditions.push(condition)?;
-        ok(alloc)
-    }
-
-    fn evaluate(&mut self, alloc: Global, words: &[Word]) -> Result<Answer, CaseFault> {
-        no_words(words)?;
-        evaluated(
-            alloc,
-            &self.registry,
-            &self.request,
-            self.required.as_slice(),
-            &mut self.rules,
-        )
-    }
-
-    fn choose(&self, alloc: Global, words: &[Word]) -> Result<Answer, CaseFault> {
-        no_words(words)?;
-        chosen(alloc, self.conditions.as_slice(), &self.request)
-    }
-
     /// Adds a requirement or an alternative, or carries out another command.
     fn add(&mut self, alloc: Global, command: &Command) -> Result<Answer, CaseFault> {
         let words = command.words();
         match command.name() {
-            "require" => self.require(alloc, requirement(alloc, words)?),
-            "require_rule" => self.require(alloc, indirect(words)?),
-            "alternative" => self.add_alternative(alloc, words),
+            "require" => require(alloc, &mut self.required, requirement(alloc, words)?),
+            "require_rule" => require(alloc, &mut self.required, indirect(words)?),
+            "alternative" => add_alternative(alloc, &mut self.conditions, words),
             "chain" => found_chain(alloc, &self.registry, &self.types, words),
             _ => rule_command(alloc, &mut self.rules, &mut self.types, command),
         }
@@ -155,10 +160,27 @@ impl Refinement {
     fn call(&mut self, alloc: Global, command: &Command) -> Result<Answer, CaseFault> {
         let words = command.words();
         match command.name() {
-            "evaluate" => self.evaluate(alloc, words),
-            "choose" => self.choose(alloc, words),
-            "new_requirements" => self.renew_requirements(alloc, words),
-            "new_alternatives" => self.renew_alternatives(alloc, words),
+            "evaluate" => {
+                no_words(words)?;
+                evaluated(
+                    alloc,
+                    &self.registry,
+                    &self.request,
+                    self.required.as_slice(),
+                    &mut self.rules,
+                )
+            }
+            "choose" => {
+                no_words(words)?;
+                chosen(alloc, self.conditions.as_slice(), &self.request)
+            }
+            "new_requirements" => renew_requirements(
+                alloc,
+                &mut self.required,
+                &mut self.rules,
+                words,
+            ),
+            "new_alternatives" => renew_alternatives(alloc, &mut self.conditions, words),
             _ => self.add(alloc, command),
         }
     }
@@ -172,7 +194,7 @@ impl Session for Refinement {
             "feature" => feature(alloc, &mut self.registry, words),
             "compose" => compose(alloc, &mut self.registry, words),
             "declare_features" => declare_toolset(alloc, &mut self.registry, words),
-            "request" => self.put_request(alloc, words),
+            "request" => put_request(alloc, &self.registry, &mut self.request, words),
             _ => self.call(alloc, command),
         }
     }

@@ -136,10 +136,10 @@ pub fn evaluated(
     required: &[Requirement],
     rules: &mut Rules,
 ) -> Result<Answer, CaseFault> {
-    let request = made(alloc, registry, request.pairs())?;
     if !all_ask_below(required, rules.rules.len()) {
         return Err(CaseFault::WrongWords);
     }
+    let request = made(alloc, registry, request.pairs())?;
     let evaluated = ManuallyDrop::new(evaluate(alloc, registry, &request, required, rules));
     let mut answer = Answer::new(alloc);
     push_evaluated(&mut answer, &evaluated);
