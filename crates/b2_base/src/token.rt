@@ -1,7 +1,7 @@
 //! The tokens of a text.
 use crate::text::Text;
 
-/// What a token is.
+/// Which of the three a token is; it decides how its text is written.
 #[derive(Clone, Copy, Debug, PartialEq, Eq)]
 pub enum TokenKind {
     /// A word of the text.

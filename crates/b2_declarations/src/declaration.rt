@@ -39,7 +39,7 @@ impl Drop for PropertyList {
     }
 }
 
-/// A main target.
+/// What a call of `exe`, `lib`, `obj`, `alias`, `make` or `install` declares.
 pub struct MainTarget {
     pub kind: Kind,
     /// The name as it is written.

@@ -25,7 +25,7 @@ pub fn names_stay_below()
     ensures { (t : MainTarget) → is_refused (Main t) ≡ false → IsUnder (normal_of t.name) (codes ".") }
 {}
 
-/// Ids begin with a slash.
+/// An id is told from a directory by its first sign: whatever declares or uses one has it with its slash.
 pub fn ids_begin_with_a_slash()
     ensures given { (name : List ℕ) (lists : List Texts) (a : Attributes) → Declares name lists (Project a) → IfSome a.id (λ id. is_rooted id ≡ true) }
     ensures used { (name : List ℕ) (lists : List Texts) (id dir : List ℕ) → Declares name lists (UseProject id dir) → is_rooted id ≡ true }

@@ -4,7 +4,7 @@ ghost use Rattle.b2_declarations.specs.Rules.{rule_in, rule_of};
 
 use crate::declaration::Kind;
 
-/// A declaring rule.
+/// Which declaring rule a name calls, with what its name says beside that.
 #[derive(Clone, Copy)]
 pub(crate) enum Rule {
     Project,

@@ -10,7 +10,7 @@ use crate::fault::{Failed, IoFault};
 use b2_base::path::Path;
 use b2_base::text_list::TextList;
 
-/// What a read answers.
+/// The bytes of a file, that there is none, or that it has more bytes than were asked for.
 #[derive(Drop)]
 pub enum ReadAnswer {
     /// The file's bytes.

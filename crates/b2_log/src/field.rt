@@ -58,7 +58,7 @@ fn bytes_at(alloc: Global, bytes: &[u8]) -> Result<(Vec<u8>, &[u8]), Refusal>
     Err(Refusal::NotGood)
 }
 
-/// The bytes as a text.
+/// Refused where they are no UTF-8 or have a zero byte, since no field that was written has these.
 fn text_of(bytes: Vec<u8>) -> Result<Text, Refusal>
     ensures found { IfOk result (λ text. (text ≡ bytes.items) × IsText bytes.items) }
     ensures refused { IsErrOf result Refusal.NotGood → ¬ IsText bytes.items }

@@ -79,7 +79,7 @@ impl Drop for ScanLine {
     }
 }
 
-/// A line of the log.
+/// What one line of the log says: the word at its start tells which of the three.
 pub enum LogLine {
     /// The step with these outputs was run.
     Record(Record),

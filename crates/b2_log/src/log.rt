@@ -98,7 +98,7 @@ fn push_kept(
     push_line(alloc, bytes, line)
 }
 
-/// The record that a line is.
+/// Only records tell of a step that was run; what is dropped and scanned is found otherwise.
 fn record_in(line: &LogLine) -> Option<&Record>
     ensures exact { option_copied result ≡ record_in line.now }
     ensures proper { IsProper line.now → IfSome result (λ rec. IsProper (lines.Record rec.now)) }

@@ -66,7 +66,7 @@ impl Drop for MemoryHost {
     }
 }
 
-/// The path of the log.
+/// The same path for every host, so that reads note what stamp the log had.
 fn path_of_log(alloc: Global) -> Result<Path, OutOfMemory>
     ensures { IfOk result (λ path. path ≡ log_path) }
 {

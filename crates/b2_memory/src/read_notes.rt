@@ -53,7 +53,7 @@ impl ReadNotes {
         Ok(())
     }
 
-    /// The paths of the reads.
+    /// In the order of the reads; a path that was read twice stands twice.
     #[tactic(auto, using(crate::proofs::Notes::paths_are))]
     pub fn paths(&self) -> &[Path]
         ensures { map (λ read. read.path) (noted_reads self.now) ≡ result.now }

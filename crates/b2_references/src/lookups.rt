@@ -11,7 +11,7 @@ use b2_metatargets::place::{Place, Target};
 use b2_texts::completion::reference_to;
 use std::alloc::Global;
 
-/// The folder.
+/// The directory in which the program runs, to which all paths are relative: `.`.
 pub(crate) fn folder(alloc: Global) -> Result<Path, OutOfMemory>
     ensures { IfOk result (λ path. path ≡ codes ".") }
 {

@@ -16,7 +16,7 @@ use b2_base::text::Text;
 use b2_base::text_map::TextMap;
 use std::alloc::Global;
 
-/// Some names as a set.
+/// With one look-up for each name that is asked for, however many there are.
 fn known_names(alloc: Global, names: &[Text]) -> Result<TextMap<()>, OutOfMemory>
     ensures { IfOk result (λ made. (name : List ℕ) → is_some (finite.get made name) ≡ list_any (bytes_eq name) names.now) }
 {

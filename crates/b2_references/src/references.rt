@@ -19,7 +19,7 @@ use std::alloc::Global;
 /// The place of Jamroot's project.
 pub const ROOT: usize = 0;
 
-/// One main target.
+/// What a reference means that names a main target by its project and its name.
 fn one_target(alloc: Global, project: usize, name: Text) -> Result<Meaning, OutOfMemory>
     ensures { IfOk result (λ made. made ≡ meanings.Targets ((project, name) ∷ [])) }
 {
@@ -84,7 +84,7 @@ fn reference_meaning(
     }
 }
 
-/// An id by itself.
+/// What an id means without a `//NAME` after it: the project that has it, as a whole.
 #[tactic(auto, unfolding(crate::specs::References::id_meaning))]
 fn id_meaning(alloc: Global, index: &Index, id: &str) -> Result<Meaning, OutOfMemory>
     ensures { IfOk result (λ made. made ≡ id_meaning index.now id.now) }
@@ -158,7 +158,7 @@ pub fn value_meaning(alloc: Global, index: &Index, text: &Text) -> Result<Meanin
     }
 }
 
-/// A directory of a project.
+/// What a word without `//` means as a directory: the project there, as a whole. The empty word means nothing.
 #[tactic(auto, unfolding(crate::specs::References::directory_meaning))]
 fn directory_meaning(alloc: Global, index: &Index, word: &Text) -> Result<Meaning, OutOfMemory>
     ensures { IfOk result (λ made. made ≡ directory_meaning index.now word.now) }

@@ -22,7 +22,7 @@ pub fn usage_line() -> &'static str
     "b2: usage: b2 [-jN] [-a] [-q] [--by=digest] [-n or --show] [word ..], or b2 --drill=N\n"
 }
 
-/// The line of a fault of the host.
+/// It takes no memory, so that it can be written after any fault, and does not say which call failed.
 pub fn host_fault_line() -> &'static str
     ensures { result.now ≡ host_fault_line }
 {

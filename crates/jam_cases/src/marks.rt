@@ -37,7 +37,7 @@ fn sign_name(mark: Mark) -> &'static str {
     }
 }
 
-/// The name of a mark.
+/// As the answers of `mark_of` show it.
 fn mark_name(mark: Mark) -> &'static str {
     match mark {
         Mark::Actions => "Actions",

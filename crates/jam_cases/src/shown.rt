@@ -29,7 +29,7 @@ pub fn as_text(bytes: &[u8]) -> Result<&str, CaseFault> {
     }
 }
 
-/// The name of a kind.
+/// As answers show it, and as [`kind_named`] reads it.
 pub fn kind_name(kind: TokenKind) -> &'static str {
     match kind {
         TokenKind::Word => "word",
@@ -38,7 +38,7 @@ pub fn kind_name(kind: TokenKind) -> &'static str {
     }
 }
 
-/// The kind of this name.
+/// `WrongWords` for any other name than those of [`kind_name`].
 pub fn kind_named(name: &str) -> Result<TokenKind, CaseFault> {
     match name {
         "word" => Ok(TokenKind::Word),

@@ -22,7 +22,7 @@ pub struct At<'a> {
 }
 
 impl At<'_> {
-    /// A fault there.
+    /// Out of memory where there is none for the path of the place.
     pub fn fault(&self, cause: EvalCause) -> EvalFault
         requires { IsWhole (cause_of cause) }
         ensures { IsFault (spot_of self.now) (cause_of cause) result }

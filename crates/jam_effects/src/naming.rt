@@ -128,7 +128,7 @@ fn put_name(
     world.set(name.as_str(), value)
 }
 
-/// Sets a name.
+/// Assigns, appends, or assigns where the name has no value yet, as the sign says.
 #[tactic(auto, using(crate::proofs::SameSteps::same_assigned, crate::proofs::SameSteps::same_equal))]
 fn set_name(
     alloc: Global,

@@ -19,7 +19,7 @@ use jam_eval::natives::Natives;
 use jam_scope::world::World;
 use std::alloc::Global;
 
-/// What a call answers.
+/// A struct of its own, since more may be told of a call than its value.
 #[derive(Drop)]
 pub struct CallAnswer {
     pub value: TextList,

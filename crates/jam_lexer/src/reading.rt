@@ -69,7 +69,7 @@ fn awaits_after(token: &Token, awaits: bool) -> bool
     is_the_key(token, "actions") || (!is_the_key(token, "{") && awaits)
 }
 
-/// The token of a word.
+/// A word or a key, from where it starts to where it ends, without its quotes and backslashes.
 fn word_token(
     alloc: Global,
     bytes: &[u8],
@@ -96,7 +96,7 @@ fn word_token(
     })
 }
 
-/// The token of a raw body.
+/// What stands between the braces of actions, as it stands there.
 fn body_token(
     alloc: Global,
     bytes: &[u8],

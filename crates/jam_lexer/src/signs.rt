@@ -30,7 +30,7 @@ fn is_one_of(text: &str, words: &[&str]) -> bool
     words.iter().any(|word| text == *word)
 }
 
-/// Whether the text is that of a key.
+/// A word that was written without quotes and backslashes is a key if so.
 pub fn is_key_text(text: &str) -> bool
     ensures { result ≡ is_key_text text.now }
 {

@@ -41,7 +41,7 @@ pub enum Noting {
     NotFile,
 }
 
-/// A native rule.
+/// Which native rule a name calls, by what it asks for and changes.
 #[derive(Clone, Copy)]
 pub enum Native {
     /// `ECHO`

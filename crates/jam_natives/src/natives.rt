@@ -118,7 +118,7 @@ impl JamNatives {
         self.echoes.as_slice()
     }
 
-    /// ECHO.
+    /// Keeps the texts as one line; whoever holds the natives prints it.
     fn echo(
         &mut self,
         alloc: Global,

@@ -32,7 +32,7 @@ fn module_list(alloc: Global, owner: &str) -> Result<TextList, OutOfMemory>
     Ok(made)
 }
 
-/// MATCH.
+/// The groups of each text that a pattern matches; the first pattern that is refused ends it.
 fn matched(alloc: Global, args: &[TextList]) -> Result<NativeStep, NativeError>
     ensures { IsRead result (λ refused. matched (matches_of refused (list_at 0 args.now) (list_at 1 args.now))) }
 {

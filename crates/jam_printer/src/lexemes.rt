@@ -11,7 +11,7 @@ use b2_base::token::TokenKind;
 use jam_grammar::mark::Mark;
 use jam_spelling::lexeme::Lexeme;
 
-/// The text of a key.
+/// Empty for marks that are no keys.
 fn key_text(mark: Mark) -> &'static str
     ensures text { result.now ≡ (mark_said mark).text }
     ensures no_zero { HasNoZero result.now }

@@ -12,7 +12,7 @@ use jam_grammar::mark::Mark;
 use jam_grammar::tree::{Arg, Sign};
 use jam_spelling::lexeme::Lexeme;
 
-/// The mark of a sign.
+/// What stands between a name and its new value.
 fn sign_mark(sign: Sign) -> Mark
     ensures { result ≡ sign_mark sign }
 {

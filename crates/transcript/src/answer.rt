@@ -86,7 +86,7 @@ impl Answer {
         }
     }
 
-    /// An answer of one line.
+    /// An answer whose only line is this text, shown as `put` does.
     pub fn line(alloc: Global, line: &str) -> Result<Answer, CaseFault> {
         let mut answer = Answer::new(alloc);
         answer.push_line(line);
@@ -108,7 +108,7 @@ impl Answer {
         }
     }
 
-    /// `yes` or `no`.
+    /// The answer to a question.
     pub fn yes_or_no(alloc: Global, holds: bool) -> Result<Answer, CaseFault> {
         Answer::line(alloc, if holds { "yes" } else { "no" })
     }

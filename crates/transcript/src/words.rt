@@ -54,7 +54,7 @@ pub fn halves(words: &[Word]) -> (&[Word], &[Word]) {
     (words, &[])
 }
 
-/// A word as a number.
+/// A number below 2^32; `WrongWords` for any other word.
 pub fn number(word: &str) -> Result<u32, CaseFault> {
     match word.parse::<u32>() {
         Ok(number) => Ok(number),
@@ -62,7 +62,7 @@ pub fn number(word: &str) -> Result<u32, CaseFault> {
     }
 }
 
-/// A word as a text.
+/// `WrongWords` where the word has a zero byte.
 pub fn own_text(alloc: Global, word: &str) -> Result<Text, CaseFault> {
     if has_no_zero(word) {
         Ok(Text::new(alloc, word)?)
