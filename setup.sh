@@ -22,7 +22,7 @@ crates_below() {
 
 crates=$(crates_below b2_cmd)
 count=$(echo "$crates" | wc -l)
-echo "b2 is $count crates, and each is proved before it is built. From nothing that takes two to three hours of processor"
+echo "b2 is $count crates, and each is proved before it is built. From nothing that takes some two to three hours of processor"
 echo "time, an hour or more on four processors, 4 GB of memory, and 5 to 10 GB of disk in crates/*/out; later runs prove only"
 echo "what has changed."
 mkdir -p "$logs"
