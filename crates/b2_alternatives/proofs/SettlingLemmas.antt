@@ -5,14 +5,14 @@ use Rattle.b2_features.specs.Table.{Declared as Feature}
 use Rattle.b2_props.specs.Sets.{Pair, IsSet}
 use Rattle.b2_props.specs.declared.requirement.Requirement.{Requirement}
 use Rattle.b2_refine.specs.Answers.{Answer}
-use Rattle.b2_refine.specs.Answers as refine
 use Rattle.b2_refine.specs.Conditions.{IsSettled, IsUnstable, IsAsked}
 use Rattle.b2_refine.specs.Faults.{IsUnstableBy, IsAskedBy, IsKnownFault, is_asked}
 use Rattle.b2_refine.specs.declared.fault.RefineFault.{RefineFault}
 use Rattle.b2_refine.specs.declared.fault.RefineFault.TheVariants as refused
 use Rattle.b2_metatargets.specs.declared.whole.Declared.{Declared}
 use Rattle.b2_references.specs.Names.{Name, features, target_text}
-use Rattle.b2_evaluation.specs.Answers.{Answers, IsCounted}
+use Rattle.b2_evaluation.specs.Answers.{Answers}
+use Rattle.b2_base.specs.Counts.{IsCounted}
 use Rattle.b2_alternatives.specs.declared.fault.ChoiceFault.{ChoiceFault}
 use Rattle.b2_alternatives.specs.declared.fault.ChoiceFault.TheVariants.{NoAlternative, AmbiguousAlternative, Unstable, BadAnswer, Eval, OutOfMemory}
 use Rattle.b2_alternatives.specs.declared.choosing.Selected.{Selected}
@@ -20,7 +20,7 @@ use Rattle.b2_alternatives.specs.Choosing.{answer, requirements}
 use Rattle.b2_alternatives.specs.Asking.{is_eval, is_memory, IsKnown, told_answer, HoldsOf, IsRefusal}
 use Rattle.b2_alternatives.specs.Picking.{IsSelection, IsUnpicked}
 use Rattle.b2_alternatives.specs.Settling.{Tells, IsSettling, IsChoosing}
-use Rattle.b2_alternatives.proofs.AskingLemmas.{told_is, counts_same}
+use Rattle.b2_alternatives.proofs.AskingLemmas.{told_is}
 use Rattle.b2_alternatives.proofs.PickLemmas.{target_at}
 use Rattle.b2_alternatives.proofs.ChoosingLemmas.{chooses_one, refuses_one}
 
@@ -43,13 +43,13 @@ module _ {S E K : Type 0} (answers : S → Option (Answers E)) (kept : S → K) 
       (unstable : (told : Answer (ChoiceFault E)) → told_answer d name (answers old) ≡ Some told → IfErr r (IsUnstableBy told table full required))
       (asked : (told : Answer (ChoiceFault E)) → told_answer d name (answers old) ≡ Some told → IfErr r (IsAskedBy (is_eval is_host) (is_memory is_out) told table full required))
       (set : IfOk r (IsSet table)) (known : IfErr r (IsKnownFault (IsKnown (CanFault (kept old)))))
-      (counted : refine.IsCounted (is_asked (is_eval is_host)) (is_asked (is_memory is_out)) (faults old) (faults new) r)
+      (counted : IsCounted (is_asked (is_eval is_host)) (is_asked (is_memory is_out)) (faults old) (faults new) r)
       (a : answers new ≡ answers old) (k : kept new ≡ kept old) (p : after ≡ d) where
     abbrev R : Type 0
     R = Result (List Pair) (RefineFault (ChoiceFault E))
 
-    count : (x : R) → r ≡ x → refine.IsCounted (is_asked (is_eval is_host)) (is_asked (is_memory is_out)) (faults old) (faults new) x
-    count x e = subst (λ (y : R). refine.IsCounted (is_asked (is_eval is_host)) (is_asked (is_memory is_out)) (faults old) (faults new) y) e counted
+    count : (x : R) → r ≡ x → IsCounted (is_asked (is_eval is_host)) (is_asked (is_memory is_out)) (faults old) (faults new) x
+    count x e = subst (λ (y : R). IsCounted (is_asked (is_eval is_host)) (is_asked (is_memory is_out)) (faults old) (faults new) y) e counted
 
     -- an evaluation that settles
     pub settle_ok : (s : List Pair) → r ≡ Ok s → IsSettling answers kept faults is_host is_out CanFault d after old new name full required (Ok s)
@@ -74,7 +74,7 @@ module _ {S E K : Type 0} (answers : S → Option (Answers E)) (kept : S → K) 
       leaves = record {
         same_answers = a;
         same_kept = k;
-        counted = counts_same (is_eval is_host f) (is_memory is_out f) (faults old) (faults new) (count (Err (refused.Asked f)) e);
+        counted = count (Err (refused.Asked f)) e;
         known = subst (λ (y : R). IfErr y (IsKnownFault (IsKnown (CanFault (kept old))))) e known;
       };
       project = p;

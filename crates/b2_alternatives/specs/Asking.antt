@@ -7,7 +7,8 @@ use Rattle.b2_features.specs.Table.{Declared as Feature}
 use Rattle.b2_props.specs.declared.requirement.Requirement.{Requirement}
 use Rattle.b2_refine.specs.Answers.{Answer}
 use Rattle.b2_refine.specs.Conditions.{IsUnstable, IsAsked}
-use Rattle.b2_evaluation.specs.Answers.{Answers, IsCounted}
+use Rattle.b2_evaluation.specs.Answers.{Answers}
+use Rattle.b2_base.specs.Counts.{IsCounted}
 use Rattle.b2_alternatives.specs.Choosing.{answer}
 use Rattle.b2_alternatives.specs.declared.fault.ChoiceFault.{ChoiceFault}
 use Rattle.b2_alternatives.specs.declared.fault.ChoiceFault.TheVariants.{NoAlternative, AmbiguousAlternative, Unstable, BadAnswer, Eval, OutOfMemory}

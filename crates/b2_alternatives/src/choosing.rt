@@ -89,7 +89,6 @@ fn pick<'a>(
     }
 }
 
-/// No alternative is viable.
 fn no_alternative<F: Drop>(
     index: &Index<'_>,
     name: &TargetName,

@@ -7,3 +7,4 @@ pub mod Below
 pub mod Steps
 pub mod Ends
 pub mod Decimals
+pub mod LastCuts

@@ -16,3 +16,4 @@ pub mod text;
 pub mod text_list;
 pub mod text_map;
 pub mod token;
+pub mod white;

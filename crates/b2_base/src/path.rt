@@ -1,14 +1,14 @@
 //! Paths in normal form.
 ghost use Rattle.std.specs.Prelude.{◌≡◌, ◌≢◌, ◌↔◌, ◌++◌, [], codes, IfOk, IsErrOf, IsTrue, string_bytes};
 ghost use Rattle.b2_base.specs.Bytes.{HasNoZero};
-ghost use Rattle.b2_base.specs.Segments.{normal_of, path_from, is_rooted, segments};
+ghost use Rattle.b2_base.specs.Segments.{normal_of, path_from, file_name, is_rooted, segments};
 ghost use Rattle.b2_base.specs.Normal.{IsNormal, IsUnder, parts};
 ghost use Rattle.b2_base.specs.Below.{is_below};
 ghost use Rattle.b2_base.specs.Simpler.{Reaches, IsSimplest, IsOnlyEnd};
 
 use crate::fault::OutOfMemory;
 use crate::rooted::is_rooted;
-use crate::segments::{cut, is_below, join, keep};
+use crate::segments::{cut, file_name, is_below, join, keep};
 use crate::text::{Text, has_no_zero};
 use std::alloc::Global;
 use std::cmp::Ordering;
@@ -65,7 +65,6 @@ impl Model for Path {
     ghost invariant = { λ p. IsNormal p.text };
 }
 
-/// The normal form as text.
 fn normal_text(alloc: Global, text: &str) -> Result<String, OutOfMemory>
     ensures { IfOk result (λ made. string_bytes made ≡ normal_of text.now) }
 {
@@ -173,6 +172,14 @@ impl Path {
         ensures no_zero { HasNoZero self.now }
     {
         self.text.as_str()
+    }
+
+    /// The file's name: what stands after the last slash. Takes no memory.
+    pub fn file_name(&self) -> &str
+        ensures name { result.now ≡ file_name self.now }
+        ensures no_zero { HasNoZero result.now }
+    {
+        file_name(self.as_str())
     }
 
     /// Whether the path lies below a folder: both are absolute or both relative, and the folder's segments are a proper

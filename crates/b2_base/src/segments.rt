@@ -1,7 +1,7 @@
 //! A path's segments: cut at slashes, brought into normal form, and joined again.
 ghost use Rattle.std.specs.Prelude.{◌≡◌, ◌↔◌, ℕ, List, ◌∷◌, ◌++◌, codes, IfOk, IsTrue, OnOk, string_bytes};
 ghost use Rattle.b2_base.specs.Normal.{IsNormal, IsUnder, first_part};
-ghost use Rattle.b2_base.specs.Segments.{segments, is_dropped, is_up, step, kept, written, texts, stack};
+ghost use Rattle.b2_base.specs.Segments.{segments, file_name, is_dropped, is_up, step, kept, written, texts, stack};
 
 use crate::fault::OutOfMemory;
 use crate::rooted::is_rooted;
@@ -80,6 +80,16 @@ pub(crate) fn join(alloc: Global, rooted: bool, found: &[&str]) -> Result<String
         return Ok(String::from_str(alloc, ".")?);
     }
     Ok(names)
+}
+
+/// The file's name in a path: what stands after the last slash. Takes no memory.
+pub(crate) fn file_name(path: &str) -> &str
+    ensures { result.now ≡ file_name path.now }
+{
+    match path.rsplit_once('/') {
+        None => path,
+        Some((_folder, name)) => name,
+    }
 }
 
 /// Whether a text in normal form begins with the segment `..`. Takes no memory.

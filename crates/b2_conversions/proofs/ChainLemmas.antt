@@ -17,7 +17,7 @@ use Rattle.b2_generators.specs.Table.{FileType, has_text, generator_named, HaveD
 use Rattle.b2_generators.specs.Chains.{makes, Leads, ids_of, IsOnlyShortest}
 use Rattle.b2_generators.specs.Faults.{IsBetween, IsNoChainBy, IsTwoChainsBy}
 use Rattle.b2_conversions.specs.declared.fault.MakingFault.{MakingFault}
-use Rattle.b2_supplies.specs.declared.entry.Entry.{Entry}
+use Rattle.b2_virtual.specs.declared.entry.Entry.{Entry}
 use Rattle.b2_conversions.specs.declared.output.Output.{Output}
 use Rattle.b2_conversions.specs.declared.setting.Setting.{Setting}
 use Rattle.b2_conversions.specs.declared.site.Site as code

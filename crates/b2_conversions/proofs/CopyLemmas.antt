@@ -5,19 +5,20 @@ use Rattle.b2_plan.specs.Sources.{IsInRoots}
 use Rattle.b2_evaluation.specs.Answers.{Answers}
 use Rattle.b2_virtual.specs.Joining.{stands_in, joined}
 use Rattle.b2_virtual.specs.Clashes.{Fits}
-use Rattle.b2_virtual.specs.Paths.{name_of, source_tail, located, IsPlaced}
+use Rattle.b2_virtual.specs.Paths.{source_tail, located, IsPlaced}
+use Rattle.b2_base.specs.Segments.{file_name}
 use Rattle.b2_virtual.specs.declared.fault.VirtualFault.{VirtualFault}
 use Rattle.b2_conversions.specs.declared.setting.Setting.{Setting}
 use Rattle.b2_conversions.specs.declared.site.Site as code
-use Rattle.b2_supplies.specs.declared.entry.Entry.{Entry}
-use Rattle.b2_supplies.specs.declared.entry.Supply.{Supply}
+use Rattle.b2_virtual.specs.declared.entry.Entry.{Entry}
+use Rattle.b2_virtual.specs.declared.entry.Supply.{Supply}
 use Rattle.b2_conversions.specs.declared.fault.MakingFault.{MakingFault}
 use Rattle.b2_conversions.specs.Faults.{Fault}
 use Rattle.b2_conversions.specs.Acts.{Outcome, for_each, InsideIf, Joins}
 use Rattle.b2_conversions.specs.Contexts.{context_of, site_of}
 use Rattle.b2_conversions.specs.Answers.{IsRefused, AreHoused, Grows}
 use Rattle.b2_conversions.specs.Doing.{of_virtual, IsCopiedTo, IsJoined, Alone}
-use Rattle.b2_supplies.specs.Supplies.{entries_of}
+use Rattle.b2_virtual.specs.Supplies.{entries_of}
 use Rattle.b2_conversions.specs.Steps.{location_of}
 use Rattle.b2_conversions.specs.Conversions.{copy_step, copies_at, makes_copies}
 use Rattle.b2_conversions.proofs.ActLemmas.{IsSoFar, refused_map, refused_first, for_each_next, so_far_next, so_far_end, so_far_refused}
@@ -35,32 +36,32 @@ copy_in setting site None name path is = subst (IsInRoots setting.roots.now) (sy
 copy_in setting site (Some location) name path is = subst (IsInRoots setting.roots.now) (sym is.1) is.0.1
 
 module _ {E : Type 0} (setting : Setting) (site : code.Site) (e : Entry) where
-  done_at : (told : Answers E) (o : Option (List ℕ)) (path : List ℕ) (step : Step) (made : Entry) (before after : List Step) → IsCopiedTo setting site o (name_of e.path) (Ok path)
+  done_at : (told : Answers E) (o : Option (List ℕ)) (path : List ℕ) (step : Step) (made : Entry) (before after : List Step) → IsCopiedTo setting site o (file_name e.path) (Ok path)
       → step ≡ copy_step (site_of site) e path → made ≡ record { path = path; file_type = e.file_type; tail = source_tail path; is_made = true } → Joins {E = E} nothing step before (Ok (nothing, after))
       → copies_at (context_of told setting) (site_of site) o e before (Ok (made, after))
   done_at told None path step made before after is same are joins = (Ok (path, before), (is.0, is.1, refl), joins_value E _ made step (copy_step (site_of site) e path) before after same are joins)
   done_at told (Some location) path step made before after is same are joins = (Ok (path, before), (is.0, is.1, refl), joins_value E _ made step (copy_step (site_of site) e path) before after same are joins)
 
-  refused_at : (told : Answers E) (o : Option (List ℕ)) (path : List ℕ) (step : Step) (before : List Step) (fault : Fault E) → IsCopiedTo setting site o (name_of e.path) (Ok path)
+  refused_at : (told : Answers E) (o : Option (List ℕ)) (path : List ℕ) (step : Step) (before : List Step) (fault : Fault E) → IsCopiedTo setting site o (file_name e.path) (Ok path)
       → step ≡ copy_step (site_of site) e path → Joins {E = E} nothing step before (Err fault) → copies_at (context_of told setting) (site_of site) o e before (Err fault)
   refused_at told None path step before fault is same joins =
       (Ok (path, before), (is.0, is.1, refl), subst (λ (x : Step). Joins (copy_value e path) x before (Err fault)) same (joins_fault nothing (copy_value e path) step before fault joins))
   refused_at told (Some location) path step before fault is same joins =
       (Ok (path, before), (is.0, is.1, refl), subst (λ (x : Step). Joins (copy_value e path) x before (Err fault)) same (joins_fault nothing (copy_value e path) step before fault joins))
 
-  outside_at : (told : Answers E) (is_host is_memory : E → Bool) (o : Option (List ℕ)) (f : VirtualFault) (before : List Step) → IsCopiedTo setting site o (name_of e.path) (Err f)
+  outside_at : (told : Answers E) (is_host is_memory : E → Bool) (o : Option (List ℕ)) (f : VirtualFault) (before : List Step) → IsCopiedTo setting site o (file_name e.path) (Err f)
       → IsRefused is_host is_memory (copies_at (context_of told setting) (site_of site) o e) before (of_virtual f)
   outside_at told is_host is_memory None f before is =
-      refused_first is_host is_memory (InsideIf (IsPlaced setting.roots.now site.dir.now site.name.now (name_of e.path)) (located site.dir.now site.name.now (name_of e.path)))
+      refused_first is_host is_memory (InsideIf (IsPlaced setting.roots.now site.dir.now site.name.now (file_name e.path)) (located site.dir.now site.name.now (file_name e.path)))
       (λ path. Joins (copy_value e path) (copy_step (site_of site) e path)) before (of_virtual f) (inside_err is_host is_memory _ _ before f is)
   outside_at told is_host is_memory (Some location) f before is =
-      refused_first is_host is_memory (InsideIf (IsPlaced setting.roots.now (codes ".") location (name_of e.path)) (located (codes ".") location (name_of e.path)))
+      refused_first is_host is_memory (InsideIf (IsPlaced setting.roots.now (codes ".") location (file_name e.path)) (located (codes ".") location (file_name e.path)))
       (λ path. Joins (copy_value e path) (copy_step (site_of site) e path)) before (of_virtual f) (inside_err is_host is_memory _ _ before f is)
 
-  pub copy_outside : (o : Option (List ℕ)) (f : VirtualFault) (before : List Step) → IsCopiedTo setting site o (name_of e.path) (Err f) → Alone {E = E} (λ c s. copies_at c s o e) setting site before before (Err (of_virtual f))
+  pub copy_outside : (o : Option (List ℕ)) (f : VirtualFault) (before : List Step) → IsCopiedTo setting site o (file_name e.path) (Err f) → Alone {E = E} (λ c s. copies_at c s o e) setting site before before (Err (of_virtual f))
   copy_outside o f before is = record { exact = λ told is_host is_memory. outside_at told is_host is_memory o f before is; no_eval = no_eval_of E f }
 
-  pub copy_refused : (o : Option (List ℕ)) (path : List ℕ) (step : Step) (f : MakingFault E) (before after : List Step) → IsCopiedTo setting site o (name_of e.path) (Ok path) → step ≡ copy_step (site_of site) e path
+  pub copy_refused : (o : Option (List ℕ)) (path : List ℕ) (step : Step) (f : MakingFault E) (before after : List Step) → IsCopiedTo setting site o (file_name e.path) (Ok path) → step ≡ copy_step (site_of site) e path
       → IsJoined step before after (Err f) → Alone {E = E} (λ c s. copies_at c s o e) setting site before after (Err f)
   copy_refused o path step f before after is same joins = record {
     exact = λ told is_host is_memory.
@@ -68,19 +69,19 @@ module _ {E : Type 0} (setting : Setting) (site : code.Site) (e : Entry) where
     no_eval = joins.no_eval;
   }
 
-  pub copy_done : (o : Option (List ℕ)) (path : List ℕ) (step : Step) (made : Entry) (before after : List Step) → IsCopiedTo setting site o (name_of e.path) (Ok path) → step ≡ copy_step (site_of site) e path
+  pub copy_done : (o : Option (List ℕ)) (path : List ℕ) (step : Step) (made : Entry) (before after : List Step) → IsCopiedTo setting site o (file_name e.path) (Ok path) → step ≡ copy_step (site_of site) e path
       → made ≡ record { path = path; file_type = e.file_type; tail = source_tail path; is_made = true } → IsJoined {E = E} step before after (Ok nothing) → Alone {E = E} (λ c s. copies_at c s o e) setting site before after (Ok made)
   copy_done o path step made before after is same are joins = record {
     exact = λ told is_host is_memory. done_at told o path step made before after is same are (joins.exact is_host is_memory);
     no_eval = tt;
   }
 
-  pub copy_grows : (o : Option (List ℕ)) (path : List ℕ) (step : Step) (before after : List Step) (r : Result (Unit {0}) (MakingFault E)) → IsCopiedTo setting site o (name_of e.path) (Ok path) → step ≡ copy_step (site_of site) e path
+  pub copy_grows : (o : Option (List ℕ)) (path : List ℕ) (step : Step) (before after : List Step) (r : Result (Unit {0}) (MakingFault E)) → IsCopiedTo setting site o (file_name e.path) (Ok path) → step ≡ copy_step (site_of site) e path
       → IsJoined step before after r → Grows setting.roots.now before after
   copy_grows o path step before after r is same joins =
       joins.grows setting.roots.now (subst (λ (x : Step). AreHoused setting.roots.now x.outs) (sym same) (record {
         some_out = λ none. let size : length (path ∷ []) ≡ 0 = ap length none in absurd (omega (arith, size));
-        under_root = (copy_in setting site o (name_of e.path) path is, tt);
+        under_root = (copy_in setting site o (file_name e.path) path is, tt);
       }))
 
 -- ---- all copies

@@ -9,14 +9,14 @@ use Rattle.b2_declarations.specs.declared.declaration.Kind.TheVariants.{Alias}
 use Rattle.b2_evaluation.specs.Answers.{Answers}
 use Rattle.b2_conversions.specs.declared.setting.Setting.{Setting}
 use Rattle.b2_conversions.specs.declared.site.Site as code
-use Rattle.b2_supplies.specs.declared.entry.Entry.{Entry}
-use Rattle.b2_supplies.specs.declared.entry.Supply.{Supply}
+use Rattle.b2_virtual.specs.declared.entry.Entry.{Entry}
+use Rattle.b2_virtual.specs.declared.entry.Supply.{Supply}
 use Rattle.b2_conversions.specs.declared.output.Output.{Output}
 use Rattle.b2_conversions.specs.declared.fault.MakingFault.{MakingFault}
 use Rattle.b2_conversions.specs.declared.fault.MakingFault.TheVariants.{OutOfMemory}
 use Rattle.b2_conversions.specs.Acts.{Outcome, Act, gives, and_then, for_all}
 use Rattle.b2_conversions.specs.Contexts.{Context, Site, context_of, site_of}
-use Rattle.b2_supplies.specs.Supplies.{is_of, is_header, entries_of, carried_of, libraries_of}
+use Rattle.b2_virtual.specs.Supplies.{is_of, is_header, entries_of, carried_of, libraries_of}
 use Rattle.b2_conversions.specs.Steps.{runs}
 use Rattle.b2_conversions.specs.Doing.{Alone, Did}
 use Rattle.b2_conversions.specs.Conversions.{chains, along, to_objects, linked, links, to_convert, program, library_file, is_shared, named_file, makes_objects, makes_program, makes_library, makes_file, makes_kind, makes}

@@ -12,7 +12,7 @@ use Rattle.b2_virtual.specs.declared.fault.VirtualFault.TheVariants as virtual
 use Rattle.b2_evaluation.specs.Answers.{Answers}
 use Rattle.b2_conversions.specs.declared.setting.Setting.{Setting}
 use Rattle.b2_conversions.specs.declared.site.Site as code
-use Rattle.b2_supplies.specs.declared.entry.Entry.{Entry}
+use Rattle.b2_virtual.specs.declared.entry.Entry.{Entry}
 use Rattle.b2_conversions.specs.declared.output.Output.{Output}
 use Rattle.b2_conversions.specs.Faults.{Fault, location_outside}
 use Rattle.b2_conversions.specs.Acts.{Outcome, gives, for_each, InsideIf, Joins}

@@ -8,7 +8,7 @@ use Rattle.jam_eval.specs.declared.step.StepText.{StepText}
 use Rattle.jam_eval.specs.StepJobs.{step_answer}
 use Rattle.b2_conversions.specs.declared.setting.Setting.{Setting}
 use Rattle.b2_conversions.specs.declared.site.Site as code
-use Rattle.b2_supplies.specs.declared.entry.Entry.{Entry}
+use Rattle.b2_virtual.specs.declared.entry.Entry.{Entry}
 use Rattle.b2_conversions.specs.declared.output.Output.{Output}
 use Rattle.b2_conversions.specs.declared.fault.MakingFault.{MakingFault}
 use Rattle.b2_conversions.specs.declared.fault.MakingFault.TheVariants.{NoChain, TwoChains, PathClash, LocationOutside, TooManySteps, Eval, OutOfMemory}

@@ -14,13 +14,13 @@ use Rattle.b2_virtual.proofs.JoiningLemmas.{number_own}
 use Rattle.b2_declarations.specs.declared.declaration.Kind.{Kind}
 use Rattle.b2_declarations.specs.declared.declaration.Kind.TheVariants.{Exe, Lib, Obj, Alias, Make, Install}
 use Rattle.jam_eval.specs.Rolled.{Job, StepAnswer}
-use Rattle.b2_supplies.specs.declared.entry.Entry.{Entry}
+use Rattle.b2_virtual.specs.declared.entry.Entry.{Entry}
 use Rattle.b2_conversions.specs.declared.output.Output.{Output}
 use Rattle.b2_conversions.specs.Faults.{Fault, eval}
 use Rattle.b2_conversions.specs.Acts.{Outcome, Act, gives, refuses, and_then, for_each, for_all, InsideIf, Joins}
 use Rattle.b2_conversions.specs.Contexts.{Context, Site}
 use Rattle.b2_conversions.specs.Steps.{location_of, paths_of, job, placed_at, places, texted, asks, runs}
-use Rattle.b2_supplies.specs.Supplies.{is_header, entries_of, carried_of}
+use Rattle.b2_virtual.specs.Supplies.{is_header, entries_of, carried_of}
 use Rattle.b2_conversions.specs.Conversions.{chains, along, to_objects, linked, links, program, library_file, is_shared, named_file, to_convert, copies_at, makes_kind}
 use Rattle.b2_conversions.specs.Laws.{StepsStay, IsRepeated}
 

@@ -3,7 +3,8 @@ use Rattle.std.specs.Prelude.{◌≡◌, ◌≢◌, ℕ, Bool, false, List, [], 
 use Rattle.std.specs.List.{AllByRecursion}
 use Rattle.b2_plan.specs.declared.step.Step.{Step}
 use Rattle.b2_plan.specs.Sources.{IsInRoots}
-use Rattle.b2_evaluation.specs.Answers.{Answers, IsTellable, IsCounted}
+use Rattle.b2_evaluation.specs.Answers.{Answers, IsTellable}
+use Rattle.b2_base.specs.Counts.{IsCounted}
 use Rattle.b2_conversions.specs.declared.fault.MakingFault.{MakingFault}
 use Rattle.b2_conversions.specs.declared.fault.MakingFault.TheVariants.{NoChain, TwoChains, PathClash, LocationOutside, TooManySteps, Eval, OutOfMemory}
 use Rattle.b2_conversions.specs.Faults.{no_chain, two_chains, path_clash, location_outside, too_many_steps, eval}

@@ -7,7 +7,7 @@ use Rattle.b2_generators.specs.declared.generator.Generator.{Generator}
 use Rattle.b2_declarations.specs.declared.declaration.Kind.{Kind}
 use Rattle.b2_evaluation.specs.Answers.{Answers}
 use Rattle.jam_eval.specs.Rolled.{Job, StepAnswer}
-use Rattle.b2_supplies.specs.declared.entry.Supply.{Supply}
+use Rattle.b2_virtual.specs.declared.entry.Supply.{Supply}
 use Rattle.b2_conversions.specs.declared.site.Site as code
 use Rattle.b2_conversions.specs.declared.setting.Setting.{Setting}
 

@@ -8,17 +8,18 @@ use Rattle.b2_generators.specs.declared.generator.Generator.{Generator}
 use Rattle.b2_generators.specs.Table.{FileType, type_of, first_suffix, generator_named}
 use Rattle.b2_generators.specs.Chains.{IsChain, IsOnlyShortest, AreFirstTwo}
 use Rattle.b2_plan.specs.declared.step.Step.{Step}
-use Rattle.b2_virtual.specs.Paths.{name_of as file_name, dotted, source_tail, converted_tail, named_tail, located, IsPlaced}
+use Rattle.b2_virtual.specs.Paths.{dotted, source_tail, converted_tail, named_tail, located, IsPlaced}
+use Rattle.b2_base.specs.Segments.{file_name}
 use Rattle.b2_declarations.specs.declared.declaration.Kind.{Kind}
 use Rattle.b2_declarations.specs.declared.declaration.Kind.TheVariants.{Exe, Lib, Obj, Alias, Make, Install}
-use Rattle.b2_supplies.specs.declared.entry.Entry.{Entry}
-use Rattle.b2_supplies.specs.declared.entry.Supply.{Supply}
+use Rattle.b2_virtual.specs.declared.entry.Entry.{Entry}
+use Rattle.b2_virtual.specs.declared.entry.Supply.{Supply}
 use Rattle.b2_conversions.specs.declared.output.Output.{Output}
 use Rattle.b2_conversions.specs.Faults.{no_chain, two_chains}
 use Rattle.b2_conversions.specs.Acts.{Act, gives, and_then, for_each, for_all, InsideIf, Joins}
 use Rattle.b2_conversions.specs.Contexts.{Context, Site}
 use Rattle.b2_conversions.specs.Steps.{include_dirs, location_of, is_moved, runs}
-use Rattle.b2_supplies.specs.Supplies.{is_of, is_header, is_library, entries_of, carried_of, libraries_of}
+use Rattle.b2_virtual.specs.Supplies.{is_of, is_header, is_library, entries_of, carried_of, libraries_of}
 
 -- ---- chains
 

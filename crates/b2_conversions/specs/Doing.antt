@@ -4,7 +4,8 @@ use Rattle.std.specs.Option.{option_copied, option_map_or}
 use Rattle.b2_plan.specs.declared.step.Step.{Step}
 use Rattle.b2_plan.specs.Sources.{IsInRoots}
 use Rattle.b2_props.specs.Elements.{dir_text}
-use Rattle.b2_virtual.specs.Paths.{name_of, output_path, located, IsPlaced}
+use Rattle.b2_virtual.specs.Paths.{output_path, located, IsPlaced}
+use Rattle.b2_base.specs.Segments.{file_name}
 use Rattle.b2_virtual.specs.declared.fault.VirtualFault.{VirtualFault}
 use Rattle.b2_virtual.specs.declared.fault.VirtualFault.TheVariants as virtual
 use Rattle.b2_generators.specs.declared.fault.ChainFault.{ChainFault}
@@ -17,8 +18,8 @@ use Rattle.jam_eval.specs.declared.step.StepText.{StepText}
 use Rattle.jam_eval.specs.Rolled.{Job, StepAnswer}
 use Rattle.jam_eval.specs.StepJobs.{step_answer}
 use Rattle.b2_conversions.specs.declared.along.Route.{Route}
-use Rattle.b2_supplies.specs.declared.entry.Entry.{Entry}
-use Rattle.b2_supplies.specs.declared.entry.Supply.{Supply}
+use Rattle.b2_virtual.specs.declared.entry.Entry.{Entry}
+use Rattle.b2_virtual.specs.declared.entry.Supply.{Supply}
 use Rattle.b2_conversions.specs.declared.output.Output.{Output}
 use Rattle.b2_conversions.specs.declared.setting.Setting.{Setting}
 use Rattle.b2_conversions.specs.declared.site.Site as code
@@ -72,7 +73,7 @@ bin_path setting site output = output_path (dir_text setting.registry.now site.s
 abbrev pub IsPlacedAt : Setting → code.Site → Output → Option (List ℕ) → Result (List ℕ) VirtualFault → Type 0
 IsPlacedAt setting site output None result = IsInside (IsInRoots setting.roots.now (bin_path setting site output)) (bin_path setting site output) result
 IsPlacedAt setting site output (Some location) result =
-    IsInside (IsPlaced setting.roots.now (codes ".") location (name_of output.tail)) (located (codes ".") location (name_of output.tail)) result
+    IsInside (IsPlaced setting.roots.now (codes ".") location (file_name output.tail)) (located (codes ".") location (file_name output.tail)) result
 
 -- a file of this name is copied to a location, or to the place of the target's name, or lies outside
 abbrev pub IsCopiedTo : Setting → code.Site → Option (List ℕ) → List ℕ → Result (List ℕ) VirtualFault → Type 0

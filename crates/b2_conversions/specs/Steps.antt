@@ -1,15 +1,15 @@
 -- A step: its outputs, its job and its text.
 use Rattle.std.specs.Prelude.{ℕ, Bool, true, ◌||◌, List, ◌++◌, Option, Some, None, Result, Ok, Err, filter, map, reverse, codes, if◌then◌else◌}
 use Rattle.std.specs.Str.{bytes_eq}
-use Rattle.b2_base.specs.Segments.{normal_of}
+use Rattle.b2_base.specs.Segments.{normal_of, file_name}
 use Rattle.b2_props.specs.Sets.{Pair, value_of}
 use Rattle.b2_props.specs.Elements.{dir_text}
 use Rattle.b2_props.specs.Texts.{property_text}
 use Rattle.b2_plan.specs.declared.step.Step.{Step}
 use Rattle.b2_plan.specs.Sources.{IsInRoots}
-use Rattle.b2_virtual.specs.Paths.{name_of as file_name, output_path, located, IsPlaced}
+use Rattle.b2_virtual.specs.Paths.{output_path, located, IsPlaced}
 use Rattle.jam_eval.specs.Rolled.{Job, StepAnswer}
-use Rattle.b2_supplies.specs.declared.entry.Entry.{Entry}
+use Rattle.b2_virtual.specs.declared.entry.Entry.{Entry}
 use Rattle.b2_conversions.specs.declared.output.Output.{Output}
 use Rattle.b2_conversions.specs.Faults.{eval}
 use Rattle.b2_conversions.specs.Acts.{Act, gives, refuses, and_then, for_each, InsideIf, Joins}

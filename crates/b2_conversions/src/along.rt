@@ -6,7 +6,7 @@ ghost use Rattle.b2_base.specs.Bytes.{HasNoZero};
 ghost use Rattle.b2_plan.specs.declared.step.Step.{Step as PlanStep};
 ghost use Rattle.b2_props.specs.Sets.{IsSet};
 ghost use Rattle.b2_conversions.specs.Acts.{for_all};
-ghost use Rattle.b2_supplies.specs.Supplies.{is_of};
+ghost use Rattle.b2_virtual.specs.Supplies.{is_of};
 ghost use Rattle.b2_conversions.specs.Doing.{GivesSome, if_last, Alone, Does, along_route};
 ghost use Rattle.b2_conversions.specs.Conversions.{chains, outputs_of, naming, first_tail, to_objects, linked};
 
@@ -21,8 +21,8 @@ use b2_base::text::Text;
 use b2_base::text_list::TextList;
 use b2_evaluation::evaluate::Evaluate;
 use b2_generators::chain::chain;
-use b2_supplies::entry::{Entry, EntryList, joined};
 use b2_virtual::builder::Builder;
+use b2_virtual::entry::{Entry, EntryList, joined};
 use std::alloc::Global;
 
 /// The ids of the generators that lead from a type to another. Each of them has an output.

@@ -18,12 +18,11 @@ use crate::step::{copy_step, location_of};
 use b2_base::fault::OutOfMemory;
 use b2_base::path::Path;
 use b2_base::text::Text;
-use b2_supplies::entry::{Entry, EntryList, Supply, only};
-use b2_supplies::paths::file_name;
-use b2_supplies::supplies::entries_of;
 use b2_virtual::builder::Builder;
+use b2_virtual::entry::{Entry, EntryList, Supply, only};
 use b2_virtual::fault::VirtualFault;
 use b2_virtual::paths::location_path;
+use b2_virtual::supplies::entries_of;
 use b2_virtual::tails::source_tail;
 use std::alloc::Global;
 
@@ -74,7 +73,7 @@ fn copy_one<F: Drop>(
     ensures copies { Alone (λ c s. copies_at c s (option_copied location.entry) entry.now) setting.now site.now builder.old builder.new result }
     ensures grows { Grows setting.now.roots.now builder.old builder.new }
 {
-    let path = copy_path(setting, site, location, file_name(&entry.path))?;
+    let path = copy_path(setting, site, location, entry.path.file_name())?;
     let step = copy_step(setting.alloc, site, entry, &path)?;
     let made = copied(setting.alloc, entry, path)?;
     join::<F>(step, builder)?;

@@ -1,9 +1,10 @@
 //! The steps of a main target.
 ghost use Rattle.std.specs.Prelude.{◌≡◌, [], not, filter, Some, IfOk, IfErr, if◌then◌else◌};
 ghost use Rattle.b2_props.specs.Sets.{IsSet};
-ghost use Rattle.b2_evaluation.specs.Answers.{Answers, IsCounted};
+ghost use Rattle.b2_evaluation.specs.Answers.{Answers};
+ghost use Rattle.b2_base.specs.Counts.{IsCounted};
 ghost use Rattle.b2_conversions.specs.Contexts.{site_of};
-ghost use Rattle.b2_supplies.specs.Supplies.{is_header, entries_of, carried_of, libraries_of};
+ghost use Rattle.b2_virtual.specs.Supplies.{is_header, entries_of, carried_of, libraries_of};
 ghost use Rattle.b2_conversions.specs.Conversions.{links, makes_objects, makes_program, makes_library, makes_file, makes, to_convert};
 ghost use Rattle.b2_conversions.specs.Answers.{IsKnownFault, is_of_eval, Grows};
 ghost use Rattle.b2_conversions.specs.Doing.{Does, Makes, RefusesToMake};
@@ -19,9 +20,9 @@ use crate::site::Site;
 use b2_base::fault::OutOfMemory;
 use b2_declarations::declaration::Kind;
 use b2_evaluation::evaluate::Evaluate;
-use b2_supplies::entry::{EntryList, Supply, joined, only};
-use b2_supplies::supplies::{carried_of, entries_of, libraries_of};
 use b2_virtual::builder::Builder;
+use b2_virtual::entry::{EntryList, Supply, joined, only};
+use b2_virtual::supplies::{carried_of, entries_of, libraries_of};
 use std::alloc::Global;
 
 /// The sources of an `obj` but the headers.

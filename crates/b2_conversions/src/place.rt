@@ -17,8 +17,7 @@ use crate::step::location_of;
 use b2_base::path::{Path, path_of};
 use b2_plan::roots::is_in_roots;
 use b2_props::elements::dir_of;
-use b2_supplies::entry::{Entry, EntryList};
-use b2_supplies::paths::file_name;
+use b2_virtual::entry::{Entry, EntryList};
 use b2_virtual::fault::VirtualFault;
 use b2_virtual::paths::{location_path, output_path};
 
@@ -60,7 +59,7 @@ fn path_for(setting: &Setting<'_>, site: &Site<'_>, output: &Output) -> Result<P
 {
     if output.moves {
         if let Some(location) = location_of(site.set) {
-            return path_at(setting, location.as_str(), file_name(&output.tail));
+            return path_at(setting, location.as_str(), output.tail.file_name());
         }
     }
     path_in_bin(setting, site, output)

@@ -17,8 +17,8 @@ use b2_base::fault::OutOfMemory;
 use b2_base::text::Text;
 use b2_evaluation::evaluate::Evaluate;
 use b2_plan::step::Step;
-use b2_supplies::entry::{Entry, EntryList};
 use b2_virtual::builder::Builder;
+use b2_virtual::entry::{Entry, EntryList};
 use jam_eval::step::{StepJob, StepText};
 use std::alloc::Global;
 

@@ -3,7 +3,7 @@ use b2_base::path::Path;
 use b2_base::text::Text;
 use b2_declarations::declaration::Kind;
 use b2_props::props::Props;
-use b2_supplies::entry::Supply;
+use b2_virtual::entry::Supply;
 
 /// A main target whose steps are made.
 #[derive(Clone, Copy)]

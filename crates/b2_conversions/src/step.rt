@@ -16,7 +16,7 @@ use b2_base::text_list::TextList;
 use b2_plan::step::Step;
 use b2_props::property_texts::property_texts;
 use b2_props::props::Props;
-use b2_supplies::entry::Entry;
+use b2_virtual::entry::Entry;
 use jam_eval::step::{StepJob, StepText};
 use std::alloc::Global;
 
@@ -143,7 +143,7 @@ pub(crate) fn job(
 
 // ---- steps
 
-/// What a step reads.
+/// The files that a step reads, and the directories where their includes are looked for.
 #[derive(Drop)]
 struct StepFiles {
     ins: PathList,

@@ -1,7 +1,8 @@
 //! A loaded project's own text, which is evaluated.
 ghost use Rattle.std.specs.Prelude.{◌≡◌, ℕ, Bool, Option, IfErr};
 ghost use Rattle.jam_eval.specs.StepJobs.{job_of, step_answer};
-ghost use Rattle.b2_evaluation.specs.Answers.{Answers, IsTold, IsCounted};
+ghost use Rattle.b2_evaluation.specs.Answers.{Answers, IsTold};
+ghost use Rattle.b2_base.specs.Counts.{IsCounted};
 
 use b2_base::text::Text;
 use b2_base::text_list::TextList;

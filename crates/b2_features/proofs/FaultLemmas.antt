@@ -6,7 +6,7 @@ use Rattle.b2_features.specs.declared.attribute.Attribute.TheVariants.{Implicit,
 use Rattle.b2_features.specs.declared.fault.FeatureFault.TheVariants.{Twice, BadValue}
 use Rattle.b2_features.specs.Attributes.{has}
 use Rattle.b2_features.specs.Table.{Declared, declared, is_implicit_in, is_whole}
-use Rattle.b2_features.specs.Faults.{is_name, is_bad_name, is_declared, is_taken, twice_value, twice_word, bad_word, feature_fault}
+use Rattle.b2_features.specs.Faults.{is_name, is_bad_name, is_declared, twice_value, twice_word, bad_word, feature_fault, is_implicit}
 use Rattle.b2_features.proofs.TextTests.{none_passes}
 
 first_none : {X Y : Type 0} (f : X → Y) (o : Option X) (p : Option Y) → option_or (option_map f o) p ≡ None → o ≡ None
@@ -14,23 +14,23 @@ first_none f None p e = refl
 first_none f (Some x) p e = cc
 
 -- where no value of some is there twice, none is taken
-none_taken : (table : List Declared) (before values : List (List ℕ)) → twice_value table before values ≡ None → find (is_taken table) values ≡ None
+none_taken : (table : List Declared) (before values : List (List ℕ)) → twice_value table before values ≡ None → find (is_implicit table) values ≡ None
 none_taken table before [] e = refl
-none_taken table before (x ∷ xs) e = go (is_taken table x) (list_any (bytes_eq x) before) e (none_taken table (before ++ x ∷ []) xs)
+none_taken table before (x ∷ xs) e = go (is_implicit table x) (list_any (bytes_eq x) before) e (none_taken table (before ++ x ∷ []) xs)
   where
-    go : (a b : Bool) → cond (a || b) (Some x) (twice_value table (before ++ x ∷ []) xs) ≡ None → (twice_value table (before ++ x ∷ []) xs ≡ None → find (is_taken table) xs ≡ None) → cond a (Some x) (find (is_taken table) xs) ≡ None
+    go : (a b : Bool) → cond (a || b) (Some x) (twice_value table (before ++ x ∷ []) xs) ≡ None → (twice_value table (before ++ x ∷ []) xs ≡ None → find (is_implicit table) xs ≡ None) → cond a (Some x) (find (is_implicit table) xs) ≡ None
     go true b h more = cc
     go false true h more = cc
     go false false h more = more h
 
 -- where a declaration has no fault, no implicit value of it is taken
-pub untaken : (table : List Declared) (name : List ℕ) (values attributes : List (List ℕ)) → feature_fault table name values attributes ≡ None → (q : List ℕ) → is_implicit_in q (declared name values attributes) ≡ true → is_taken table q ≡ false
+pub untaken : (table : List Declared) (name : List ℕ) (values attributes : List (List ℕ)) → feature_fault table name values attributes ≡ None → (q : List ℕ) → is_implicit_in q (declared name values attributes) ≡ true → is_implicit table q ≡ false
 untaken table name values attributes sound q here =
     go (is_declared table name) (has Implicit attributes) (first_none Twice (twice_word table name values attributes) _ sound) here
   where
-    go : (there implicit : Bool) → cond there (Some name) (cond implicit (twice_value table [] values) None) ≡ None → (implicit && list_any (λ listed. bytes_eq listed q) values) ≡ true → is_taken table q ≡ false
+    go : (there implicit : Bool) → cond there (Some name) (cond implicit (twice_value table [] values) None) ≡ None → (implicit && list_any (λ listed. bytes_eq listed q) values) ≡ true → is_implicit table q ≡ false
     go true implicit t h = cc
-    go false true t h = none_passes (is_taken table) values q (none_taken table [] values t) h
+    go false true t h = none_passes (is_implicit table) values q (none_taken table [] values t) h
     go false false t h = cc
 
 -- where a declaration has no fault, a feature that is neither free nor optional has a value

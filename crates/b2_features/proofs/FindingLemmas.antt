@@ -6,7 +6,7 @@ use Rattle.std.specs.Str.{bytes_eq}
 use Rattle.std.specs.Cmp.Lexicographic.{nat_list_eq_equiv}
 use Rattle.std.proofs.lemmas.Slice.Eq.{bytes_eq-Decides}
 use Rattle.b2_features.specs.Table.{Declared, is_named, feature_of, place_of, implicit_of, is_implicit_in, parts_of, with_parts, composed}
-use Rattle.b2_features.specs.Faults.{is_declared, is_taken, is_composed, unknown_in, unknown_word, bad_part, conflict_word, feature_fault, compose_fault, twice_word, bad_word}
+use Rattle.b2_features.specs.Faults.{is_declared, is_composed, unknown_in, unknown_word, bad_part, conflict_word, feature_fault, compose_fault, twice_word, bad_word, is_implicit}
 use Rattle.b2_features.specs.declared.fault.FeatureFault.TheVariants.{Twice, Unknown, BadValue, ComposeConflict}
 use Rattle.b2_features.specs.Finding.{FindsOneMore, FindsParts}
 use Rattle.b2_features.proofs.Lookups.{position-push, position-none}
@@ -41,7 +41,7 @@ implicit-push table f value = ap (option_map (λ g. g.name)) (find-push (is_impl
     go None false = refl
     go (Some g) b = refl
 
-pub finds_push : (table : List Declared) (f : Declared) → feature_of table f.name ≡ None → ((value : List ℕ) → is_implicit_in value f ≡ true → is_taken table value ≡ false) → FindsOneMore table (table ++ f ∷ []) f
+pub finds_push : (table : List Declared) (f : Declared) → feature_of table f.name ≡ None → ((value : List ℕ) → is_implicit_in value f ≡ true → is_implicit table value ≡ false) → FindsOneMore table (table ++ f ∷ []) f
 finds_push table f absent untaken = record {
   by_name = find-push (is_named f.name) table f ∙ ap (λ o. option_or o (cond (bytes_eq f.name f.name) (Some f) None)) absent ∙ ap (λ b. cond b (Some f) None) (text_itself f.name);
   place = position-push (is_named f.name) table f ∙ ap (λ o. option_or o (cond (bytes_eq f.name f.name) (Some (length table)) None)) (position-none (is_named f.name) table absent) ∙ ap (λ b. cond b (Some (length table)) None) (text_itself f.name);

@@ -11,7 +11,7 @@ use Rattle.std.proofs.lemmas.List.Folds.{list_all-append}
 use Rattle.b2_features.specs.declared.feature.Feature.{Feature}
 use Rattle.std.specs.Borrow.{Bor}
 use Rattle.b2_features.specs.Table.{Declared, HasDistinctNames, seen, is_whole, is_named, feature_of, place_of, implicit_of, is_implicit_in, with_parts, composed}
-use Rattle.b2_features.specs.Faults.{is_taken}
+use Rattle.b2_features.specs.Faults.{is_implicit}
 use Rattle.b2_features.specs.Index.{IsIndexed}
 use Rattle.b2_features.proofs.Lookups.{option_map-cond, position-map, find-at_position, find-none, position-push, position-none, keys-set_value, values-set_value}
 
@@ -151,7 +151,7 @@ or_none (Some x) = refl
 
 -- a feature with a new name, whose implicit values are not taken, keeps the table indexed
 pub indexed_push : (es : List (String Global × Feature)) (old new : List (List ℕ × ℕ)) (k : String Global) (f : Feature) (place : ℕ) → IsIndexed es old → string_bytes k ≡ f.name → place ≡ length (shown es)
-    → ((q : List ℕ) → is_implicit_in q (seen f) ≡ true → is_taken (shown es) q ≡ false)
+    → ((q : List ℕ) → is_implicit_in q (seen f) ≡ true → is_implicit (shown es) q ≡ false)
     → ((q : List ℕ) → lookup (bytes_eq q) new ≡ cond (is_implicit_in q (seen f)) (Some place) (lookup (bytes_eq q) old))
     → is_whole (seen f) ≡ true
     → IsIndexed (es ++ (k, f) ∷ []) new

@@ -10,7 +10,7 @@ use Rattle.std.proofs.lemmas.List.{take_more}
 use Rattle.std.proofs.lemmas.List.Folds.{list_any-append}
 use Rattle.std.proofs.Math.Seq.{drop-cons}
 use Rattle.b2_features.specs.Table.{Declared}
-use Rattle.b2_features.specs.Faults.{is_taken, twice_value}
+use Rattle.b2_features.specs.Faults.{twice_value, is_implicit}
 
 -- what a map has at a text after a text was given a value
 pub get_put : {V : Type 0} (m : FinMap (slice_cmp nat_cmp) V) (text : List ℕ) (value : V) (other : List ℕ) → get (insert m text value) other ≡ cond (bytes_eq other text) (Some value) (get m other)
@@ -38,14 +38,14 @@ next_take : (values : List (List ℕ)) (i : ℕ) (x : List ℕ) → i < length v
 next_take values i x within is = take_more values i x within ∙ ap (λ y. take i values ++ y ∷ []) (sym is)
 
 -- the value at a place decides, or the values after it
-decided : (table : List Declared) (values : List (List ℕ)) (i : ℕ) (x : List ℕ) (known : List ℕ → Bool) (b : Bool) → i < length values → x ≡ get_or values i x → AreApart table values i known → b ≡ (is_taken table x || known x)
+decided : (table : List Declared) (values : List (List ℕ)) (i : ℕ) (x : List ℕ) (known : List ℕ → Bool) (b : Bool) → i < length values → x ≡ get_or values i x → AreApart table values i known → b ≡ (is_implicit table x || known x)
     → cond b (Some x) (twice_value table (take i values ++ x ∷ []) (drop (i + 1) values)) ≡ twice_value table [] values
 decided table values i x known b within is apart e =
-    ap (λ t. cond t (Some x) (twice_value table (take i values ++ x ∷ []) (drop (i + 1) values))) (e ∙ ap (λ k. is_taken table x || k) (apart.earlier x))
+    ap (λ t. cond t (Some x) (twice_value table (take i values ++ x ∷ []) (drop (i + 1) values))) (e ∙ ap (λ k. is_implicit table x || k) (apart.earlier x))
     ∙ sym (ap (twice_value table (take i values)) (next_rest table values i x within is)) ∙ apart.rest
 
 -- one more value that is not there
-pub apart_next : (table : List Declared) (values : List (List ℕ)) (i : ℕ) (x : List ℕ) (known new : List ℕ → Bool) → i < length values → x ≡ get_or values i x → AreApart table values i known → false ≡ (is_taken table x || known x) → ((q : List ℕ) → new q ≡ (known q || bytes_eq q x))
+pub apart_next : (table : List Declared) (values : List (List ℕ)) (i : ℕ) (x : List ℕ) (known new : List ℕ → Bool) → i < length values → x ≡ get_or values i x → AreApart table values i known → false ≡ (is_implicit table x || known x) → ((q : List ℕ) → new q ≡ (known q || bytes_eq q x))
     → AreApart table values (i + 1) new
 apart_next table values i x known new within is apart e more = record {
   rest = ap (λ before. twice_value table before (drop (i + 1) values)) (next_take values i x within is) ∙ decided table values i x known false within is apart e;

@@ -25,13 +25,13 @@ abbrev pub is_declared : List Declared → List ℕ → Bool
 is_declared table name = is_some (feature_of table name)
 
 -- a value is an implicit one of a feature that is there
-abbrev pub is_taken : List Declared → List ℕ → Bool
-is_taken table value = is_some (implicit_of table value)
+abbrev pub is_implicit : List Declared → List ℕ → Bool
+is_implicit table value = is_some (implicit_of table value)
 
 -- the first of some values that is taken, or is one of those before it
 abbrev pub twice_value : List Declared → List (List ℕ) → List (List ℕ) → Option (List ℕ)
 twice_value table before [] = None
-twice_value table before (value ∷ more) = if is_taken table value || list_any (bytes_eq value) before then Some value else twice_value table (before ++ value ∷ []) more
+twice_value table before (value ∷ more) = if is_implicit table value || list_any (bytes_eq value) before then Some value else twice_value table (before ++ value ∷ []) more
 
 -- the name where it is declared, else the first value of an implicit feature that is there
 abbrev pub twice_word : List Declared → List ℕ → List (List ℕ) → List (List ℕ) → Option (List ℕ)

@@ -7,7 +7,7 @@ ghost use Rattle.std.specs.Option.{option_copied, option_or};
 ghost use Rattle.b2_base.specs.Bytes.{HasNoZero};
 ghost use Rattle.b2_features.specs.Table.{Declared, HasDistinctNames, is_whole, seen, declared, is_implicit_in, implicit_of, default_of, place_of, feature_of, composed};
 ghost use Rattle.b2_features.specs.Finding.{FindsOneMore, FindsParts};
-ghost use Rattle.b2_features.specs.Faults.{is_taken, is_conflict, twice_value, twice_word, unknown_in, unknown_word, is_with, bad_part, is_composed, conflict_word, feature_fault, compose_fault, IsBy};
+ghost use Rattle.b2_features.specs.Faults.{is_conflict, twice_value, twice_word, unknown_in, unknown_word, is_with, bad_part, is_composed, conflict_word, feature_fault, compose_fault, IsBy, is_implicit};
 
 use crate::attribute::Attribute;
 use crate::checks::{bad_word, contradicted};
@@ -118,14 +118,14 @@ impl Registry {
     }
 
     fn is_taken(&self, value: &str) -> bool
-        ensures { result ≡ is_taken self.now value.now }
+        ensures { result ≡ is_implicit self.now value.now }
     {
         self.implicit_of(value).is_some()
     }
 
     /// Puts a value among the earlier ones, and tells whether it was taken or among them.
     fn is_there(&self, earlier: &mut TextMap<()>, value: &Text) -> Result<bool, OutOfMemory>
-        ensures there { IfOk result (λ there. there ≡ (is_taken self.now value.now || is_some (map.get earlier.old value.now))) }
+        ensures there { IfOk result (λ there. there ≡ (is_implicit self.now value.now || is_some (map.get earlier.old value.now))) }
         ensures known { OnOk result ((q : List ℕ) → is_some (map.get earlier.new q) ≡ (is_some (map.get earlier.old q) || bytes_eq q value.now)) }
     {
         let before = earlier.insert(value.copy()?, ())?;
@@ -310,7 +310,7 @@ impl Registry {
         requires absent { feature_of self.old feature.name ≡ None }
         requires implicit { (q : List ℕ) → list_any (λ value. bytes_eq q (string_bytes value)) implicit.items ≡ is_implicit_in q (seen feature) }
         requires whole { is_whole (seen feature) ≡ true }
-        requires untaken { (q : List ℕ) → is_implicit_in q (seen feature) ≡ true → is_taken self.old q ≡ false }
+        requires untaken { (q : List ℕ) → is_implicit_in q (seen feature) ≡ true → is_implicit self.old q ≡ false }
         ensures ok { OnOk result (self.new ≡ self.old ++ seen feature ∷ []) }
         ensures err { OnErr result (self.new ≡ self.old) }
     {

@@ -65,7 +65,7 @@ impl Contents {
         &[]
     }
 
-    /// The bytes of a content.
+    /// The bytes of a content; takes no memory.
     pub fn bytes<'a>(&'a self, content: &'a Content) -> &'a [u8]
         ensures { result.now ≡ bytes_in (buffers_of self.now) content.now }
     {

@@ -15,7 +15,8 @@ use Rattle.b2_props.specs.Sets.{Pair}
 use Rattle.b2_props.specs.declared.request.Request.{Request}
 use Rattle.b2_metatargets.specs.declared.place.Place.{Place}
 use Rattle.b2_metatargets.specs.declared.whole.Declared.{Declared}
-use Rattle.b2_evaluation.specs.Answers.{Answers, IsCounted, CountsFault}
+use Rattle.b2_evaluation.specs.Answers.{Answers}
+use Rattle.b2_base.specs.Counts.{IsCounted, CountsFault}
 use Rattle.b2_alternatives.specs.declared.fault.ChoiceFault.{ChoiceFault}
 use Rattle.b2_alternatives.specs.declared.fault.ChoiceFault.TheVariants as choosing
 use Rattle.b2_conversions.specs.Faults.{eval}

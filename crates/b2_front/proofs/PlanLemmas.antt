@@ -16,7 +16,8 @@ use Rattle.b2_props.specs.Sets.{Pair}
 use Rattle.b2_props.specs.Words.{IsBy, target_words}
 use Rattle.b2_props.specs.Requests.{request_fault, request_sets}
 use Rattle.b2_metatargets.specs.declared.whole.Declared.{Declared}
-use Rattle.b2_evaluation.specs.Answers.{Answers, IsCounted}
+use Rattle.b2_evaluation.specs.Answers.{Answers}
+use Rattle.b2_base.specs.Counts.{IsCounted}
 use Rattle.b2_alternatives.specs.declared.fault.ChoiceFault.{ChoiceFault}
 use Rattle.b2_alternatives.specs.declared.fault.ChoiceFault.TheVariants as choosing
 use Rattle.b2_conversions.specs.declared.fault.MakingFault.{MakingFault}

@@ -13,7 +13,7 @@ use Rattle.b2_props.specs.declared.request_fault.RequestFault.TheVariants as ask
 use Rattle.b2_props.specs.Words.{IsBy}
 use Rattle.b2_props.specs.Requests.{request_fault}
 use Rattle.b2_props.specs.declared.request.Request.{Request}
-use Rattle.b2_evaluation.specs.Answers.{IsCounted, CountsFault}
+use Rattle.b2_base.specs.Counts.{IsCounted, CountsFault}
 use Rattle.b2_alternatives.specs.declared.fault.ChoiceFault.{ChoiceFault}
 use Rattle.b2_alternatives.specs.declared.fault.ChoiceFault.TheVariants as choosing
 use Rattle.b2_conversions.specs.Faults as conversions

@@ -30,7 +30,7 @@ pub enum Stop {
     OutOfMemory,
 }
 
-/// No project was loaded.
+/// A load that ended with a fault: one of the host and out of memory stay what they are, any other is a refusal.
 pub(crate) fn not_loaded(fault: LoadFault) -> Stop
     ensures { result ≡ stop_of_load fault }
 {
@@ -41,7 +41,7 @@ pub(crate) fn not_loaded(fault: LoadFault) -> Stop
     }
 }
 
-/// The request was not read.
+/// The same of a request.
 pub(crate) fn not_asked(fault: RequestFault) -> Stop
     ensures { result ≡ stop_of_request fault }
 {
@@ -51,7 +51,7 @@ pub(crate) fn not_asked(fault: RequestFault) -> Stop
     }
 }
 
-/// The call of the rule of an indirect requirement ended with a fault.
+/// The same of the call of an indirect requirement's rule.
 fn not_returned(fault: EvalFault) -> Stop
     ensures { result ≡ stop_of_choice (ChoiceFault.Eval fault) }
 {
@@ -62,7 +62,7 @@ fn not_returned(fault: EvalFault) -> Stop
     }
 }
 
-/// No alternative was settled on.
+/// The same of the choice of an alternative.
 fn not_chosen(fault: ChoiceFault<EvalFault>) -> Stop
     ensures { result ≡ stop_of_choice fault }
 {
@@ -73,7 +73,7 @@ fn not_chosen(fault: ChoiceFault<EvalFault>) -> Stop
     }
 }
 
-/// A step has no text.
+/// The same of the text of a step.
 fn not_written(fault: EvalFault) -> Stop
     ensures { result ≡ stop_of_making (MakingFault.Eval fault) }
 {
@@ -84,7 +84,7 @@ fn not_written(fault: EvalFault) -> Stop
     }
 }
 
-/// The steps of a main target were not made.
+/// The same of the steps of a main target.
 fn not_made(fault: MakingFault<EvalFault>) -> Stop
     ensures { result ≡ stop_of_making fault }
 {

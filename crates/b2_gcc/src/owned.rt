@@ -37,7 +37,7 @@ fn push_pair(
     made.push(feature, value)
 }
 
-/// Owns some properties.
+/// Copies of a table's properties, in order.
 pub(crate) fn owned_pairs(alloc: Global, rows: &[(&str, &str)]) -> Result<PairList, OutOfMemory>
     requires features { All (λ pair. HasNoZero pair.0.now) rows.now }
     requires values { All (λ pair. HasNoZero pair.1.now) rows.now }

@@ -8,7 +8,8 @@ use Rattle.b2_generate.specs.Answers.{Generated}
 use Rattle.b2_generate.specs.Loaded.{Loaded}
 use Rattle.b2_generate.specs.Generation.{Generates}
 use Rattle.b2_virtual.specs.Joining.{stands_in, is_same as is_same_step}
-use Rattle.b2_generate.specs.Laws.{StandIn, AreClosed, IsLawful}
+use Rattle.b2_generate.specs.Laws.{AreClosed, IsLawful}
+use Rattle.b2_conversions.specs.Laws.{StandIn}
 use Rattle.b2_generate.specs.declared.node.Node.{Node}
 use Rattle.b2_generate.specs.Nodes.{entry_in, given_by, node_in}
 use Rattle.b2_generate.specs.Remembered.{IsAskedAt, AreMade}

@@ -15,7 +15,7 @@ use Rattle.b2_conversions.specs.Answers.{Grows}
 use Rattle.b2_generate.specs.Answers.{Generated}
 use Rattle.b2_generate.specs.Faults.{usage_conflict}
 use Rattle.b2_generate.specs.Generation.{Generates, Finishes}
-use Rattle.b2_generate.specs.Laws.{StandIn}
+use Rattle.b2_conversions.specs.Laws.{StandIn}
 use Rattle.b2_generate.specs.Loaded.{Loaded}
 use Rattle.b2_generate.specs.Machine.{frame_of, standing_of, names_of, AreKept}
 use Rattle.b2_generate.specs.Making.{given_of}

@@ -7,8 +7,8 @@ use Rattle.std.proofs.lemmas.List.{append_assoc, map-append, take_all, reverse-r
 use Rattle.std.proofs.Math.Seq.{take-suc}
 use Rattle.b2_generators.specs.Table.{FileType}
 use Rattle.b2_references.specs.Names.{Name, is_same}
-use Rattle.b2_supplies.specs.declared.entry.Supply.{Supply}
-use Rattle.b2_supplies.specs.Supplies.{file_entry}
+use Rattle.b2_virtual.specs.declared.entry.Supply.{Supply}
+use Rattle.b2_virtual.specs.Supplies.{file_entry}
 use Rattle.b2_alternatives.specs.declared.need.Need.{Need}
 use Rattle.b2_alternatives.specs.Standing.{is_known, AreKnown}
 use Rattle.b2_generate.specs.Answers.{Generated}

@@ -9,13 +9,14 @@ use Rattle.b2_alternatives.proofs.ChoiceLaws.{names_itself}
 use Rattle.b2_alternatives.proofs.NeedLemmas.{due_new}
 use Rattle.b2_conversions.specs.Acts as making
 use Rattle.b2_conversions.specs.Conversions.{makes}
-use Rattle.b2_supplies.specs.declared.entry.Supply.{Supply}
+use Rattle.b2_virtual.specs.declared.entry.Supply.{Supply}
 use Rattle.b2_conversions.proofs.SteadyLemmas.{steady_kind}
 use Rattle.b2_metatargets.specs.declared.whole.Declared.{Declared}
 use Rattle.b2_generate.specs.Answers.{Generated}
 use Rattle.b2_generate.specs.Faults.{Fault}
 use Rattle.b2_generate.specs.Generation.{Finishes, finished_by, generated, site}
-use Rattle.b2_generate.specs.Laws.{IsLawful, StandIn}
+use Rattle.b2_generate.specs.Laws.{IsLawful}
+use Rattle.b2_conversions.specs.Laws.{StandIn}
 use Rattle.b2_generate.specs.Loaded.{Loaded, returned, context}
 use Rattle.b2_generate.specs.Measure.{done_names}
 use Rattle.b2_generate.specs.Standing.{Standing, next}

@@ -12,7 +12,7 @@ use Rattle.b2_conversions.specs.Answers.{IsRefused, Grows}
 use Rattle.b2_conversions.specs.Contexts.{Site}
 use Rattle.b2_conversions.specs.Conversions.{makes}
 use Rattle.b2_conversions.specs.Faults as made
-use Rattle.b2_supplies.specs.declared.entry.Supply.{Supply}
+use Rattle.b2_virtual.specs.declared.entry.Supply.{Supply}
 use Rattle.b2_conversions.specs.declared.fault.MakingFault.{MakingFault}
 use Rattle.b2_conversions.specs.declared.fault.MakingFault.TheVariants.{NoChain, TwoChains, PathClash, LocationOutside, TooManySteps, Eval, OutOfMemory}
 use Rattle.b2_generate.specs.Faults.{not_made}

@@ -9,8 +9,8 @@ use Rattle.b2_props.specs.Refinement.{refined}
 use Rattle.b2_references.specs.Names.{dir_of, features}
 use Rattle.b2_alternatives.specs.Picking.{seen}
 use Rattle.b2_alternatives.specs.declared.need.Need.{Need}
-use Rattle.b2_supplies.specs.declared.entry.Supply.{Supply}
-use Rattle.b2_supplies.specs.Supplies.{entries_of, header_directories}
+use Rattle.b2_virtual.specs.declared.entry.Supply.{Supply}
+use Rattle.b2_virtual.specs.Supplies.{entries_of, header_directories}
 use Rattle.b2_generate.specs.Gathering.{test_of, named_by}
 use Rattle.b2_generate.specs.Machine.{IsKept, standing_of}
 use Rattle.b2_generate.specs.Making.{AreSupplied}

@@ -9,7 +9,7 @@ use Rattle.b2_conversions.proofs.OneLemmas.{one_kind}
 use Rattle.b2_generate.specs.Answers.{Generated, Outcome}
 use Rattle.b2_generate.specs.Faults.{no_target}
 use Rattle.b2_generate.specs.Generation.{Generates, Finishes, finished_by, site}
-use Rattle.b2_generate.specs.Laws.{OnePlan, OneOutcome, StepsStay, OpensClosed, IsRememberedRightly}
+use Rattle.b2_generate.specs.Laws.{OnePlan, OneOutcome, StepsStay, OpensClosed, MayBeRemembered}
 use Rattle.b2_generate.specs.Loaded.{Loaded, returned, context}
 use Rattle.b2_generate.specs.Pieces.{after_these}
 use Rattle.b2_generate.specs.Planning.{planned_of, Answers as Answered, all_given, names_nothing, refused, refused_later, given as given_first}
@@ -74,5 +74,5 @@ steps_stay l above name set before after given generates = generated_stays l (la
 pub opens_closed : {E : Type 0} → OpensClosed E
 opens_closed l above name set before after given generates = generated_closed l (lawful l) above name set before after given generates
 
-pub again : {E : Type 0} → IsRememberedRightly E
+pub again : {E : Type 0} → MayBeRemembered E
 again l above others name set before after later given generates stand closed = generated_again l (lawful l) above others name set before after later given generates stand closed

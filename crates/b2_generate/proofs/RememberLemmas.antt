@@ -13,7 +13,8 @@ use Rattle.b2_props.specs.Sets.{Pair}
 use Rattle.b2_generate.specs.Standing.{Standing, with_target, at_first, hands_on}
 use Rattle.b2_plan.specs.declared.step.Step.{Step}
 use Rattle.b2_generate.specs.Generation.{Generates, Depends, finished, complete_now, goes_on}
-use Rattle.b2_generate.specs.Laws.{StandIn, AreClosed, rows_of, IsLawful}
+use Rattle.b2_generate.specs.Laws.{AreClosed, rows_of, IsLawful}
+use Rattle.b2_conversions.specs.Laws.{StandIn}
 
 -- ---- lists of rows
 

@@ -4,7 +4,8 @@ use Rattle.std.specs.FinMap as finite
 use Rattle.b2_plan.specs.declared.step.Step.{Step}
 use Rattle.b2_props.specs.Sets.{Pair}
 use Rattle.b2_metatargets.specs.declared.whole.Declared.{Declared}
-use Rattle.b2_evaluation.specs.Answers.{Answers, IsCounted}
+use Rattle.b2_evaluation.specs.Answers.{Answers}
+use Rattle.b2_base.specs.Counts.{IsCounted}
 use Rattle.b2_references.specs.Names.{Name}
 use Rattle.b2_alternatives.specs.Choosing.{Chooses}
 use Rattle.b2_alternatives.specs.Picking.{seen}

@@ -3,7 +3,7 @@ use Rattle.std.specs.Prelude.{ℕ, List, Result}
 use Rattle.b2_plan.specs.declared.step.Step.{Step}
 use Rattle.b2_props.specs.Sets.{Pair}
 use Rattle.b2_references.specs.Names.{Name}
-use Rattle.b2_supplies.specs.declared.entry.Supply.{Supply}
+use Rattle.b2_virtual.specs.declared.entry.Supply.{Supply}
 use Rattle.b2_generate.specs.Faults.{Fault}
 
 -- a main target that was opened: the number of its alternative, from 1, and the set of its properties

@@ -6,7 +6,7 @@ use Rattle.b2_references.specs.Names.{Name}
 use Rattle.b2_alternatives.specs.declared.need.Way.{Way}
 use Rattle.b2_alternatives.specs.declared.need.Need.{Need}
 use Rattle.b2_alternatives.specs.Standing.{AreKnown}
-use Rattle.b2_supplies.specs.declared.entry.Supply.{Supply}
+use Rattle.b2_virtual.specs.declared.entry.Supply.{Supply}
 use Rattle.b2_generate.specs.Answers.{Generated}
 use Rattle.b2_generate.specs.Nodes.{entry_in}
 use Rattle.b2_generate.specs.Supplies.{is_source, is_part, is_order, Part, parts_of, supplied}

@@ -10,11 +10,11 @@ use Rattle.b2_alternatives.specs.Choosing.{Chosen, Chooses}
 use Rattle.b2_alternatives.specs.declared.need.Next.TheVariants.{Complete, Missing, Due}
 use Rattle.b2_alternatives.specs.declared.conflict.Conflict.{Conflict}
 use Rattle.b2_alternatives.specs.Usage.{own_usage, passed_usage}
-use Rattle.b2_supplies.specs.declared.entry.Supply.{Supply}
+use Rattle.b2_virtual.specs.declared.entry.Supply.{Supply}
 use Rattle.b2_conversions.specs.Acts as making
 use Rattle.b2_conversions.specs.Contexts.{Site}
 use Rattle.b2_conversions.specs.Conversions.{makes}
-use Rattle.b2_supplies.specs.Supplies.{entries_of}
+use Rattle.b2_virtual.specs.Supplies.{entries_of}
 use Rattle.b2_generate.specs.Faults.{Fault, target_cycle, usage_conflict, no_target, not_chosen, not_made}
 use Rattle.b2_generate.specs.Loaded.{Loaded, returned, context}
 use Rattle.b2_generate.specs.Answers.{Row, Generated, Outcome}

@@ -1,9 +1,9 @@
 -- Laws of generation and of plans.
-use Rattle.std.specs.Prelude.{◌≡◌, ℕ, true, false, List, [], ◌∷◌, ◌++◌, Result, Ok}
-use Rattle.std.specs.List.{AllByRecursion, Contains, flat_map}
+use Rattle.std.specs.Prelude.{◌≡◌, ℕ, false, List, [], ◌∷◌, ◌++◌, Result, Ok}
+use Rattle.std.specs.List.{AllByRecursion, flat_map}
 use Rattle.b2_plan.specs.declared.step.Step.{Step}
 use Rattle.b2_props.specs.Sets.{Pair}
-use Rattle.b2_virtual.specs.Joining.{stands_in}
+use Rattle.b2_conversions.specs.Laws.{StandIn}
 use Rattle.b2_references.specs.Names.{Name, is_among}
 use Rattle.b2_alternatives.specs.Choosing.{Chosen, Chooses}
 use Rattle.b2_generate.specs.Faults.{Fault}
@@ -25,18 +25,14 @@ abbrev pub SameAnswer : Type 0 → Type 0
 SameAnswer E = (l : Loaded E) (above others : List Name) (name : Name) (set : List Pair) (before after earlier later : List Step) (a b : Generated) →
     Generates l above name set before (Ok (a, after)) → Generates l others name set earlier (Ok (b, later)) → a ≡ b
 
--- the steps stand among others
-abbrev pub StandIn : List Step → List Step → Type 0
-StandIn others steps = (step : Step) → Contains steps step → stands_in others step ≡ true
-
 -- none of the targets that were opened for an answer is open
 abbrev pub AreClosed : List Name → List Row → Type 0
 AreClosed above rows = AllByRecursion (λ row. is_among above row.name ≡ false) rows
 
 -- An answer may be remembered: where its steps stand, and none of the targets that were opened for it is open, the target gives
 -- the same with this set, and no step is new.
-abbrev pub IsRememberedRightly : Type 0 → Type 0
-IsRememberedRightly E = (l : Loaded E) (above others : List Name) (name : Name) (set : List Pair) (before after later : List Step) (given : Generated) →
+abbrev pub MayBeRemembered : Type 0 → Type 0
+MayBeRemembered E = (l : Loaded E) (above others : List Name) (name : Name) (set : List Pair) (before after later : List Step) (given : Generated) →
     Generates l above name set before (Ok (given, after)) → StandIn later after → AreClosed others given.rows →
     Generates l others name set later (Ok (given, later))
 

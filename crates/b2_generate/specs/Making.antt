@@ -10,9 +10,9 @@ use Rattle.b2_evaluation.specs.Answers.{Answers}
 use Rattle.b2_evaluation.specs.declared.evaluate.Evaluate.{Ghosts as Evaluate}
 use Rattle.b2_alternatives.specs.Choosing.{Chosen}
 use Rattle.b2_alternatives.specs.Picking.{seen}
-use Rattle.b2_supplies.specs.declared.entry.Supply.{Supply}
+use Rattle.b2_virtual.specs.declared.entry.Supply.{Supply}
 use Rattle.b2_conversions.specs.Conversions.{makes}
-use Rattle.b2_supplies.specs.Supplies.{entries_of}
+use Rattle.b2_virtual.specs.Supplies.{entries_of}
 use Rattle.b2_generate.specs.Standing.{Standing}
 use Rattle.b2_generate.specs.Supplies.{is_source, is_part, is_order, supplied_by, final_set}
 use Rattle.b2_generate.specs.Answers.{Generated}

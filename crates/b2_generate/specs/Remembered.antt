@@ -5,7 +5,7 @@ use Rattle.b2_props.specs.Sets.{Pair}
 use Rattle.b2_plan.specs.declared.step.Step.{Step}
 use Rattle.b2_generate.specs.Loaded.{Loaded}
 use Rattle.b2_generate.specs.Generation.{Generates}
-use Rattle.b2_generate.specs.Laws.{StandIn}
+use Rattle.b2_conversions.specs.Laws.{StandIn}
 use Rattle.b2_generate.specs.Nodes.{given_by, node_in}
 use Rattle.b2_generate.specs.declared.node.Node.{Node}
 

@@ -11,8 +11,8 @@ use Rattle.b2_alternatives.specs.Choosing.{Chosen}
 use Rattle.b2_alternatives.specs.declared.need.Way.{Way}
 use Rattle.b2_alternatives.specs.Needs.{needs}
 use Rattle.b2_alternatives.specs.declared.need.Way.TheVariants.{Source, Library, Order}
-use Rattle.b2_supplies.specs.declared.entry.Supply.{Supply}
-use Rattle.b2_supplies.specs.Supplies.{file_entry, entries_of, header_directories}
+use Rattle.b2_virtual.specs.declared.entry.Supply.{Supply}
+use Rattle.b2_virtual.specs.Supplies.{file_entry, entries_of, header_directories}
 use Rattle.b2_generate.specs.Answers.{Generated}
 use Rattle.b2_metatargets.specs.declared.whole.Declared.{Declared}
 use Rattle.b2_generate.specs.Standing.{Standing}

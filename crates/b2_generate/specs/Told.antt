@@ -1,7 +1,8 @@
 -- What the code answers, as outcomes of the definition, where the project's own text is told; and what is promised of the evaluation.
 use Rattle.std.specs.Prelude.{◌≡◌, ℕ, Bool, true, false, Option, Some, None, List, Result, IfErr}
 use Rattle.b2_metatargets.specs.declared.whole.Declared.{Declared}
-use Rattle.b2_evaluation.specs.Answers.{Answers, IsCounted}
+use Rattle.b2_evaluation.specs.Answers.{Answers}
+use Rattle.b2_base.specs.Counts.{IsCounted}
 use Rattle.b2_alternatives.specs.Asking as asking
 use Rattle.b2_alternatives.specs.declared.fault.ChoiceFault.{ChoiceFault}
 use Rattle.b2_alternatives.specs.declared.fault.ChoiceFault.TheVariants as choices

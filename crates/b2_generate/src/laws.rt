@@ -1,5 +1,5 @@
 //! Laws of generation and of plans, each the contract of a function that does nothing.
-ghost use Rattle.b2_generate.specs.Laws.{OneOutcome, StepsStay, OpensClosed, IsRememberedRightly, OnePlan};
+ghost use Rattle.b2_generate.specs.Laws.{OneOutcome, StepsStay, OpensClosed, MayBeRemembered, OnePlan};
 
 /// A main target that is asked for with a set has one outcome at most.
 pub fn one_outcome<E>()
@@ -18,7 +18,7 @@ pub fn opens_closed<E>()
 
 /// An answer may be remembered where its steps stand and none of the main targets that were opened for it is open.
 pub fn again<E>()
-    ensures { IsRememberedRightly E }
+    ensures { MayBeRemembered E }
 {}
 
 /// A request has one plan at most, or one first refusal.

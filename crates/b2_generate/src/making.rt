@@ -5,7 +5,7 @@ ghost use Rattle.b2_props.specs.Refinement.{refined};
 ghost use Rattle.b2_references.specs.Names.{dir_of, features};
 ghost use Rattle.b2_alternatives.specs.Usage.{own_usage, passed_usage};
 ghost use Rattle.b2_conversions.specs.Answers.{Grows};
-ghost use Rattle.b2_supplies.specs.Supplies.{entries_of, header_directories};
+ghost use Rattle.b2_virtual.specs.Supplies.{entries_of, header_directories};
 ghost use Rattle.b2_generate.specs.Gathering.{supplied_to};
 ghost use Rattle.b2_generate.specs.Machine.{IsKept, HasPlaces, standing_of};
 ghost use Rattle.b2_generate.specs.declared.supplies.Wanted.TheVariants.{Order};
@@ -32,9 +32,9 @@ use b2_props::pair_list::PairList;
 use b2_props::props::Props;
 use b2_props::refinement::refine;
 use b2_references::index::Index;
-use b2_supplies::entry::{Entry, Supply};
-use b2_supplies::supplies::{entries_of, header_directories};
 use b2_virtual::builder::Builder;
+use b2_virtual::entry::{Entry, Supply};
+use b2_virtual::supplies::{entries_of, header_directories};
 use std::alloc::Global;
 
 /// What is supplied to a main target, and the final set of its properties.

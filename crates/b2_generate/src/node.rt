@@ -3,7 +3,7 @@ use b2_base::list::List;
 use b2_props::pair_list::PairList;
 use b2_props::props::Props;
 use b2_references::name::TargetName;
-use b2_supplies::entry::Supply;
+use b2_virtual::entry::Supply;
 
 /// A main target that was generated. Nodes have places, from 0, in order of completion.
 #[derive(Drop)]

@@ -1,7 +1,7 @@
 //! What the needs of a main target supply to it.
 ghost use Rattle.std.specs.Prelude.{◌≡◌, ◌++◌, ◌∷◌, [], map, reverse, slice_get, option_map, IfOk, OnOk};
 ghost use Rattle.std.specs.Option.{option_copied};
-ghost use Rattle.b2_supplies.specs.Supplies.{file_entry};
+ghost use Rattle.b2_virtual.specs.Supplies.{file_entry};
 ghost use Rattle.b2_generate.specs.Nodes.{entry_in};
 ghost use Rattle.b2_generate.specs.Machine.{HasPlaces};
 ghost use Rattle.b2_generate.specs.Supplies.{of_target, parts_of, supply_of, supplied};
@@ -17,7 +17,7 @@ use b2_base::path::Path;
 use b2_generators::types::Types;
 use b2_references::meaning::Meaning;
 use b2_references::name::TargetName;
-use b2_supplies::entry::{EntryList, Supply, file_entry};
+use b2_virtual::entry::{EntryList, Supply, file_entry};
 use std::alloc::Global;
 
 /// Which needs are asked for.

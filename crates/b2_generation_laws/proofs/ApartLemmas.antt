@@ -5,7 +5,8 @@ use Rattle.std.specs.List.{Contains}
 use Rattle.std.proofs.lemmas.List.Elements.{All-contains, All-from_recursion}
 use Rattle.b2_base.specs.Normal.{IsUnder}
 use Rattle.b2_plan.specs.declared.step.Step.{Step}
-use Rattle.b2_plan.specs.Plans.{step_at, Makes, Apart, log_path}
+use Rattle.b2_plan.specs.Plans.{step_at, Makes, Apart}
+use Rattle.b2_host.specs.FileCalls.{log_path}
 use Rattle.b2_plan.specs.Sources.{IsInRoots}
 use Rattle.b2_virtual.specs.Joining.{stands_in, joined}
 use Rattle.b2_virtual.specs.Clashes.{Clashes, Fits, shared, beside, within, log, below_log}

@@ -4,7 +4,7 @@ use Rattle.b2_plan.specs.declared.step.Step.{Step}
 use Rattle.b2_props.specs.Sets.{Pair}
 use Rattle.b2_references.specs.Names.{Name}
 use Rattle.b2_alternatives.specs.Choosing.{Chosen, Chooses}
-use Rattle.b2_supplies.specs.declared.entry.Supply.{Supply}
+use Rattle.b2_virtual.specs.declared.entry.Supply.{Supply}
 use Rattle.b2_conversions.specs.Acts as making
 use Rattle.b2_conversions.specs.Conversions.{makes}
 use Rattle.b2_generate.specs.Answers.{Generated}

@@ -9,8 +9,8 @@ use Rattle.b2_generators.specs.Chains.{IsOnlyShortest, ids_of}
 use Rattle.b2_declarations.specs.declared.declaration.Kind.{Kind}
 use Rattle.b2_declarations.specs.declared.declaration.Kind.TheVariants.{Exe, Lib, Obj, Alias, Make, Install}
 use Rattle.jam_eval.specs.Rolled.{Job, StepAnswer}
-use Rattle.b2_supplies.specs.declared.entry.Entry.{Entry}
-use Rattle.b2_supplies.specs.Supplies.{is_header, entries_of, carried_of}
+use Rattle.b2_virtual.specs.declared.entry.Entry.{Entry}
+use Rattle.b2_virtual.specs.Supplies.{is_header, entries_of, carried_of}
 use Rattle.b2_conversions.specs.Faults.{Fault, eval}
 use Rattle.b2_conversions.specs.Acts.{Act, gives, refuses, and_then, for_each, for_all, InsideIf, Joins}
 use Rattle.b2_conversions.specs.Contexts.{Context, Site}

@@ -2,6 +2,7 @@ use Rattle.std.specs.Prelude.{◌≡◌, ℕ, ◌==◌, Bool, false, not, ◌||�
 use Rattle.std.specs.List.{AllPairs, list_any, list_all, after_last}
 use Rattle.std.specs.Option.{option_and_then}
 use Rattle.std.specs.Str.{bytes_eq}
+use Rattle.b2_base.specs.Segments.{file_name}
 use Rattle.b2_generators.specs.declared.generator.Generator.{Generator}
 
 -- a registered type, with its suffixes, each without the dot before it
@@ -46,10 +47,6 @@ abbrev pub first_suffix : List FileType → List ℕ → Option (List ℕ)
 first_suffix types name = option_and_then (λ t. slice_get t.suffixes 0) (type_named types name)
 
 -- ---- paths
-
--- the file's name in a path: what stands after the last slash, 47
-abbrev pub file_name : List ℕ → List ℕ
-file_name path = if list_any (λ byte. byte == 47) path then after_last (λ byte. byte == 47) path else path
 
 -- the last suffix of a file's name: what stands after its last dot, 46, where it has one
 abbrev pub last_suffix : List ℕ → Option (List ℕ)

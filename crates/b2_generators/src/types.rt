@@ -7,7 +7,7 @@ ghost use Rattle.b2_generators.specs.Table.{is_type, is_type_taken, is_generator
 
 use crate::generator::Generator;
 use crate::generator_table::GeneratorTable;
-use crate::paths::suffix_of_path;
+use crate::paths::last_suffix;
 use crate::type_table::TypeTable;
 use b2_base::fault::OutOfMemory;
 use b2_base::path::Path;
@@ -108,7 +108,7 @@ impl Types {
         ensures name { result.now ≡ type_of self.now.types path.now }
         ensures no_zero { HasNoZero result.now }
     {
-        match suffix_of_path(path.as_str()) {
+        match last_suffix(path.file_name()) {
             None => "FILE",
             Some(suffix) => self.types.type_with(suffix).unwrap_or("FILE"),
         }

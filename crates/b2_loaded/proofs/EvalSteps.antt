@@ -7,7 +7,8 @@ use Rattle.std.specs.Str.{chars}
 use Rattle.b2_host.specs.Disks.{Disk, IsConsistent}
 use Rattle.b2_host.specs.Outside.{Outside}
 use Rattle.b2_host.specs.OutsideLaws.{keeps_same, Keeps}
-use Rattle.b2_evaluation.specs.Answers.{Answers, IsTellable, Agrees, IsTold, CountsFault, IsCounted}
+use Rattle.b2_evaluation.specs.Answers.{Answers, IsTellable, Agrees, IsTold}
+use Rattle.b2_base.specs.Counts.{IsCounted, CountsFault}
 use Rattle.b2_metatargets.specs.declared.place.Place.{Place}
 use Rattle.b2_sights.proofs.DecidedMatches.{match_told}
 use Rattle.jam_journal.specs.Tables.{Text, Key}

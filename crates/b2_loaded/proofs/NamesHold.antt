@@ -9,48 +9,16 @@ use Rattle.std.specs.Cmp.Lexicographic.{slice_cmp}
 use Rattle.std.proofs.lemmas.Cmp.{nat_list_cmp_total}
 use Rattle.std.proofs.lemmas.Map.Lookups.{exact_bytes}
 use Rattle.std.proofs.lemmas.Slice.Eq.{bytes_eq-Decides}
+use Rattle.b2_base.specs.Bytes.{Before}
 use Rattle.b2_base.specs.Segments.{is_rooted, is_up}
 use Rattle.b2_base.specs.Normal.{parts}
 use Rattle.b2_host.specs.Disks.{File, Folder, Disk, Past, IsConsistent}
 use Rattle.b2_host.specs.Listings.{IsDirectlyIn, IsListed}
 use Rattle.jam_journal.specs.Tables.{Text}
+use Rattle.b2_sights.proofs.RisingLists.{Rises, here, there, here_or_there, none_there, rises_at}
 use Rattle.b2_loaded.specs.Names.{one_after, unless_up, are_same, name_in, put_by, put, put_if, names_of, names_in}
 
 -- ---- texts in byte order
-
-abbrev IsBelow : Text → Text → Type 0
-IsBelow x y = slice_cmp nat_cmp x y ≡ orders.Less
-
--- each text is below those after it
-abbrev Rises : List Text → Type 0
-Rises [] = Unit {0}
-Rises (x ∷ xs) = ((y : Text) → Contains xs y → IsBelow x y) × Rises xs
-
-here : {X : Type 0} (x : X) (xs : List X) → Contains (x ∷ xs) x
-here x xs = (zero, omega arith, refl)
-
-there : {X : Type 0} (x y : X) (xs : List X) → Contains xs y → Contains (x ∷ xs) y
-there x y xs (k, h, e) = (suc k, omega arith, e)
-
-here_or_there : {X : Type 0} (x y : X) (xs : List X) → Contains (x ∷ xs) y → (x ≡ y) ⊎ Contains xs y
-here_or_there x y xs (zero, h, e) = inl e
-here_or_there x y xs (suc k, h, e) = inr (k, omega arith, e)
-
-none_there : {X : Type 0} (y : X) → Contains {X = X} [] y → ⊥
-none_there y (k, h, e) = omega arith
-
--- the places of a list that rises
-rises_at : (xs : List Text) → Rises xs → (i j : ℕ) (d : Text) → i < j → j < length xs → IsBelow (get_or xs i d) (get_or xs j d)
-rises_at [] rises i j d less low = absurd (omega (arith, low))
-rises_at (x ∷ xs) rises zero zero d less low = absurd (omega (arith, less))
-rises_at (x ∷ xs) rises zero (suc j) d less low = rises.0 (get_or xs j d) (contained xs j d (omega (arith, low)))
-  where
-    contained : (xs : List Text) (j : ℕ) (d : Text) → j < length xs → Contains xs (get_or xs j d)
-    contained [] j d low = absurd (omega (arith, low))
-    contained (x ∷ xs) zero d low = here x xs
-    contained (x ∷ xs) (suc j) d low = there x (get_or xs j d) xs (contained xs j d (omega (arith, low)))
-rises_at (x ∷ xs) rises (suc i) zero d less low = absurd (omega (arith, less))
-rises_at (x ∷ xs) rises (suc i) (suc j) d less low = rises_at xs rises.1 i j d (omega (arith, less)) (omega (arith, low))
 
 -- these are the texts of a list that rises, with one more
 record IsPut (x : Text) (xs all : List Text) : Type 0 where
@@ -60,7 +28,7 @@ record IsPut (x : Text) (xs all : List Text) : Type 0 where
   old : (y : Text) → Contains xs y → Contains all y
 
 module _ (x y : Text) (ys : List Text) (rises : Rises (y ∷ ys)) where
-  put_before : IsBelow x y → IsPut x (y ∷ ys) (x ∷ y ∷ ys)
+  put_before : Before x y → IsPut x (y ∷ ys) (x ∷ y ∷ ys)
   put_before less = record {
     rises = (λ z c. below z (here_or_there y z ys c), rises);
     to = λ z c. here_or_there x z (y ∷ ys) c;
@@ -68,14 +36,14 @@ module _ (x y : Text) (ys : List Text) (rises : Rises (y ∷ ys)) where
     old = λ z c. there x z (y ∷ ys) c;
   }
     where
-      below : (z : Text) → (y ≡ z) ⊎ Contains ys z → IsBelow x z
-      below z (inl e) = subst (IsBelow x) e less
+      below : (z : Text) → (y ≡ z) ⊎ Contains ys z → Before x z
+      below z (inl e) = subst (Before x) e less
       below z (inr c) = nat_list_cmp_total.trans x y z less (rises.0 z c)
 
   put_same : x ≡ y → IsPut x (y ∷ ys) (y ∷ ys)
   put_same same = record { rises = rises; to = λ z c. inr c; new = subst (Contains (y ∷ ys)) (sym same) (here y ys); old = λ z c. c }
 
-  put_after : (all : List Text) → IsBelow y x → IsPut x ys all → IsPut x (y ∷ ys) (y ∷ all)
+  put_after : (all : List Text) → Before y x → IsPut x ys all → IsPut x (y ∷ ys) (y ∷ all)
   put_after all less is = record {
     rises = (λ z c. below z (is.to z c), is.rises);
     to = λ z c. found z (here_or_there y z all c);
@@ -83,8 +51,8 @@ module _ (x y : Text) (ys : List Text) (rises : Rises (y ∷ ys)) where
     old = λ z c. kept z (here_or_there y z ys c);
   }
     where
-      below : (z : Text) → (x ≡ z) ⊎ Contains ys z → IsBelow y z
-      below z (inl e) = subst (IsBelow y) e less
+      below : (z : Text) → (x ≡ z) ⊎ Contains ys z → Before y z
+      below z (inl e) = subst (Before y) e less
       below z (inr c) = rises.0 z c
 
       found : (z : Text) → (y ≡ z) ⊎ Contains all z → (x ≡ z) ⊎ Contains (y ∷ ys) z
@@ -99,7 +67,7 @@ module _ (x y : Text) (ys : List Text) (rises : Rises (y ∷ ys)) where
       kept z (inl e) = subst (Contains (y ∷ all)) e (here y all)
       kept z (inr c) = there y z all (is.old z c)
 
-  above : slice_cmp nat_cmp x y ≡ orders.Greater → IsBelow y x
+  above : slice_cmp nat_cmp x y ≡ orders.Greater → Before y x
   above e = nat_list_cmp_total.antisymm y x ∙ ap ordering_reverse e
 
   put_there : (later : List Text) → IsPut x ys later → (order : Ordering) → slice_cmp nat_cmp x y ≡ order → IsPut x (y ∷ ys) (put_by order x y ys later)

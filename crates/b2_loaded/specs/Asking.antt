@@ -2,7 +2,8 @@
 use Rattle.std.specs.Borrow.{MutBor}
 use Rattle.std.specs.Prelude.{◌≡◌, ℕ, List, Option, Some, None, Result, Ok, Err, IfErr}
 use Rattle.b2_host.specs.Outside.{Outside}
-use Rattle.b2_evaluation.specs.Answers.{Answers, IsTellable, IsTold, IsCounted}
+use Rattle.b2_evaluation.specs.Answers.{Answers, IsTellable, IsTold}
+use Rattle.b2_base.specs.Counts.{IsCounted}
 use Rattle.b2_metatargets.specs.declared.place.Place.{Place}
 use Rattle.jam_journal.specs.Tables.{Text}
 use Rattle.jam_scope.specs.Worlds.{Worlds}

@@ -3,7 +3,8 @@ use Rattle.std.specs.Prelude.{◌≡◌, ℕ, List, [], ◌∷◌, Some, Result,
 use Rattle.b2_host.specs.Disks.{Disk, IsConsistent}
 use Rattle.b2_host.specs.Outside.{Outside}
 use Rattle.b2_host.specs.OutsideLaws.{Keeps}
-use Rattle.b2_evaluation.specs.Answers.{Agrees, IsCounted}
+use Rattle.b2_evaluation.specs.Answers.{Agrees}
+use Rattle.b2_base.specs.Counts.{IsCounted}
 use Rattle.b2_metatargets.specs.declared.place.Place.{Place}
 use Rattle.jam_journal.specs.Tables.{Text}
 use Rattle.jam_journal.specs.Scopes.{Value, enter}

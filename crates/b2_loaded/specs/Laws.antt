@@ -13,7 +13,7 @@ abbrev pub IsRightlySeen : Type 0
 IsRightlySeen = (disk : Disk) → IsConsistent disk → IsSetting (setting_of disk) × ((setting_of disk).sight.folder ≡ disk.now)
 
 -- the question of which a fault is given ends with this fault, and every other one ends as before
-pub record OneIsForetold : Type 0 where
+pub record OneFaultIsGiven : Type 0 where
   pub own : (question : Question) (fault : EvalFault) (answers : Answers EvalFault) → EndsWith (with_fault question fault answers) question fault
   pub others : (question other : Question) (fault found : EvalFault) (answers : Answers EvalFault) → other ≢ question
       → EndsWith (with_fault question fault answers) other found ↔ EndsWith answers other found

@@ -26,7 +26,6 @@ use std::alloc::Global;
 /// How many turns each evaluation has.
 const TURNS: u32 = 100_000;
 
-/// The one list of a call.
 fn one_list(alloc: Global, properties: &[Text]) -> Result<TextLists, OutOfMemory>
     ensures { IfOk result (λ lists. lists ≡ properties.now ∷ []) }
 {

@@ -1,5 +1,5 @@
 //! Laws of answers.
-ghost use Rattle.b2_loaded.specs.Laws.{IsRightlySeen, OneIsForetold};
+ghost use Rattle.b2_loaded.specs.Laws.{IsRightlySeen, OneFaultIsGiven};
 
 /// Over each consistent disk the setting by which answers are told is a right one.
 pub fn rightly_seen()
@@ -7,6 +7,6 @@ pub fn rightly_seen()
 {}
 
 /// Where a fault is given of one question, that question ends with it, and every other one ends as before.
-pub fn one_is_foretold()
-    ensures { OneIsForetold }
+pub fn one_fault_is_given()
+    ensures { OneFaultIsGiven }
 {}

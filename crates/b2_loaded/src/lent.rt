@@ -81,7 +81,7 @@ impl<'a, F: Files, S: Entry> Lent<'a, F, S> {
         )
     }
 
-    /// The text of a step.
+    /// The text of a step, in the world that loading left.
     pub(crate) fn text_of(
         &mut self,
         alloc: Global,

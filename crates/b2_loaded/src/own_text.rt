@@ -47,7 +47,7 @@ pub struct OwnText<'a, F: Files, S: Entry> {
 impl<'a, F: Files, S: Entry> OwnText<'a, F, S> {
     ghost use Rattle.std.specs.Prelude.{◌≡◌, is_some, false, IfErr};
     ghost use Rattle.b2_host.specs.OutsideLaws.{Keeps};
-    ghost use Rattle.b2_evaluation.specs.Answers.{IsCounted};
+    ghost use Rattle.b2_base.specs.Counts.{IsCounted};
     ghost use Rattle.b2_loaded.specs.Asking.{AsksRule, AsksStep, EndsOn, IsAsked};
     ghost use Rattle.b2_loaded.specs.Faults.{is_host_fault, is_out_of_memory};
     ghost use Rattle.b2_loaded.specs.Worlds.{told_in};

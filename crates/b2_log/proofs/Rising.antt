@@ -4,7 +4,8 @@ use Rattle.std.specs.Prelude.{IsTrue, Bool}
 use Rattle.std.specs.List.{slice_index_or}
 use Rattle.std.proofs.lemmas.Cmp.{nat_list_cmp_total}
 use Rattle.std.proofs.lemmas.Bool.{cases_lt}
-use Rattle.b2_log.specs.Good.{IsRising, RisesAt, Before}
+use Rattle.b2_log.specs.Good.{IsRising, RisesAt}
+use Rattle.b2_base.specs.Bytes.{Before}
 
 -- where each stands before the next one, each stands before all later ones
 pub rising_from : (files : List (List ℕ × ℕ)) → ((k : ℕ) → k + 1 < length files → RisesAt files k) → IsRising files

@@ -2,10 +2,7 @@
 use Rattle.std.specs.Prelude.{◌≡◌, ℕ, ◌+◌, ◌^◌, ◌<◌, Bool, ◌&&◌, ◌||◌, nat_le, List, length, Option, Some, None, ⊤, IsTrue}
 use Rattle.std.specs.List.{All, AllByRecursion, AllPairs, slice_index_or}
 use Rattle.std.specs.Str.{IsUtf8}
-use Rattle.std.specs.Ordering.{nat_cmp}
-use Rattle.std.specs.Cmp.Lexicographic.{slice_cmp}
-use Rattle.std.specs.declared.cmp.Ordering.TheVariants.{Less}
-use Rattle.b2_base.specs.Bytes.{HasNoZero}
+use Rattle.b2_base.specs.Bytes.{HasNoZero, Before}
 use Rattle.b2_base.specs.Normal.{IsNormal}
 use Rattle.b2_log.specs.declared.line.Record.{Record}
 use Rattle.b2_log.specs.declared.line.Digests.{Digests}
@@ -58,10 +55,6 @@ pub record IsCounted {X : Type 0} (IsSo : X → Type 0) (xs : List X) : Type 0 w
   pub count : IsNumber (length xs)
 
 -- ---- what is asked of a line
-
--- the one path stands before the other in byte order
-abbrev pub Before : List ℕ → List ℕ → Type 0
-Before p q = slice_cmp nat_cmp p q ≡ Less
 
 -- in byte order of path, and no path twice
 abbrev pub IsRising : List (List ℕ × ℕ) → Type 0

@@ -2,6 +2,7 @@
 use Rattle.std.specs.Prelude.{ℕ, ◌==◌, Bool, List, [], ◌∷◌, ◌++◌, length, codes, Option, Some, None, if◌then◌else◌}
 use Rattle.std.specs.List.{flat_map, zip}
 use Rattle.std.specs.Fmt.{decimal}
+use Rattle.b2_base.specs.Bytes.{line_feed, backslash}
 use Rattle.b2_log.specs.declared.line.Record.{Record}
 use Rattle.b2_log.specs.declared.line.Digests.{Digests}
 use Rattle.b2_log.specs.declared.line.LogLine.{LogLine}
@@ -11,12 +12,6 @@ use Rattle.b2_log.specs.declared.tag.Tag.TheVariants as tags
 
 abbrev pub tab : ℕ
 tab = 9
-
-abbrev pub line_feed : ℕ
-line_feed = 10
-
-abbrev pub backslash : ℕ
-backslash = 92
 
 -- a byte within a field: a backslash, a tab and a line feed are written `\\`, `\t` and `\n`, every other byte as it is
 abbrev pub escaped : ℕ → List ℕ

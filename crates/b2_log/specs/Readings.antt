@@ -6,7 +6,8 @@ use Rattle.b2_log.specs.declared.line.LogLine.{LogLine}
 use Rattle.b2_log.specs.declared.line.LogLine.TheVariants as lines
 use Rattle.b2_log.specs.declared.tag.Tag.{Tag}
 use Rattle.b2_log.specs.declared.tag.Tag.TheVariants as tags
-use Rattle.b2_log.specs.Lines.{tab, backslash, next_bytes, mark, tag_text, tag_of, line_end, log_bytes}
+use Rattle.b2_log.specs.Lines.{tab, next_bytes, mark, tag_text, tag_of, line_end, log_bytes}
+use Rattle.b2_base.specs.Bytes.{backslash}
 use Rattle.b2_log.specs.Good.{IsText, IsPath, IsStamped, IsCounted, HasDigests, IsProper, IsGoodScan, IsGood}
 
 -- The bytes begin with the spelling of x, which is so, and the rest follows.

@@ -1,7 +1,8 @@
 //! Reads fields.
 ghost use Rattle.std.specs.Prelude.{◌≡◌, ◌≢◌, ℕ, ◌^◌, ◌<◌, List, [], ◌∷◌, ◌++◌, length, IfOk, IfSome, IsErrOf, IsTrue, MatchOption, ◌↔◌};
 ghost use Rattle.std.specs.Fmt.{decimal};
-ghost use Rattle.b2_log.specs.Lines.{backslash, escaped, next_bytes, field, number};
+ghost use Rattle.b2_log.specs.Lines.{escaped, next_bytes, field, number};
+ghost use Rattle.b2_base.specs.Bytes.{backslash};
 ghost use Rattle.b2_log.specs.Good.{IsText, IsPath, IsNumber, IsDigest};
 ghost use Rattle.b2_log.specs.Readings.{Begins, BeginsNone, HasNoNext, IsNoEscape, HasNoMark, mark_field, HasNoTag, tag_field};
 

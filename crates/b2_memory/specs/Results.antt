@@ -1,18 +1,15 @@
-use Rattle.std.specs.Prelude.{ℕ, ◌/◌, ◌%◌, ◌==◌, nat_le, Bool, false, not, ◌&&◌, ◌||◌, List, [], ◌∷◌, ◌++◌, codes, length, filter, fold, take_while, if◌then◌else◌}
+use Rattle.std.specs.Prelude.{ℕ, ◌/◌, ◌%◌, ◌==◌, Bool, false, not, List, [], ◌∷◌, ◌++◌, codes, length, filter, fold, take_while, if◌then◌else◌}
 use Rattle.std.specs.List.{flat_map, slice_split}
 use Rattle.std.specs.Str.{bytes_eq}
 use Rattle.std.specs.Ordering.{is_lt, nat_cmp}
 use Rattle.std.specs.Cmp.Lexicographic.{slice_cmp}
 use Rattle.std.specs.Fmt.{decimal, digit_glyph}
+use Rattle.b2_base.specs.Bytes.{is_white}
 use Rattle.sha2.specs.Sha256.{sha256}
-
--- white space: the bytes 9 to 13, and 32
-abbrev pub is_space : ℕ → Bool
-is_space byte = (nat_le 9 byte && nat_le byte 13) || byte == 32
 
 -- what stands between white space
 abbrev pub words_of : List ℕ → List (List ℕ)
-words_of text = filter (λ word. not (length word == 0)) (slice_split is_space text)
+words_of text = filter (λ word. not (length word == 0)) (slice_split is_white text)
 
 -- the bytes of the input with that name, the last where several have it, or none
 abbrev pub bytes_named : List (List ℕ × List ℕ) → List ℕ → List ℕ

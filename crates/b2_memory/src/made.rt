@@ -3,21 +3,16 @@ ghost use Rattle.std.specs.Prelude.{◌≡◌, ℕ, List, [], ◌∷◌, ◌++�
 ghost use Rattle.std.specs.List.{flat_map};
 ghost use Rattle.b2_base.specs.Segments.{texts};
 ghost use Rattle.b2_files.specs.Stores.{write_of, input_of};
-ghost use Rattle.b2_memory.specs.Results.{is_space, words_of, bytes_named, joined, hexadecimal, digest_line, input_text, by_path, whole_text, made_by, made_of};
+ghost use Rattle.b2_memory.specs.Results.{words_of, bytes_named, joined, hexadecimal, digest_line, input_text, by_path, whole_text, made_by, made_of};
 ghost use Rattle.b2_memory.specs.NamedBytes.{bytes_found};
 
 use b2_base::fault::OutOfMemory;
 use b2_base::path::Path;
+use b2_base::white::is_white;
 use b2_files::entry::Entry;
 use sha2::{Digest, Sha256};
 use std::alloc::Global;
 use std::collections::BTreeMap;
-
-fn is_space_byte(byte: u8) -> bool
-    ensures { result ≡ is_space byte }
-{
-    (9 <= byte && byte <= 13) || byte == 32
-}
 
 /// The words of a text, which white space divides.
 fn words(alloc: Global, text: &str) -> Result<Vec<&[u8]>, OutOfMemory>
@@ -25,7 +20,7 @@ fn words(alloc: Global, text: &str) -> Result<Vec<&[u8]>, OutOfMemory>
 {
     let found = text
         .as_bytes()
-        .split(|byte| is_space_byte(*byte))
+        .split(|byte| is_white(*byte))
         .filter(|word| !word.is_empty())
         .collect(alloc)?;
     Ok(found)

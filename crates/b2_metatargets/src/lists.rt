@@ -20,7 +20,7 @@ use b2_texts::lists::{read_properties, read_requirements, read_usages};
 use b2_texts::reading::{Conditional, RequirementText, read_property};
 use std::alloc::Global;
 
-/// Reads a property.
+/// The property that a text of a call says, or the refusal of the call.
 pub(crate) fn read_pair(
     alloc: Global,
     registry: &Registry,
@@ -66,7 +66,7 @@ fn clash(
     has_two_values(alloc, registry, pairs.as_slice())
 }
 
-/// Reads requirements in order.
+/// The requirements that the texts of a call say, in order, or the refusal of the call by the first text that says none.
 fn read_requirement_texts(
     alloc: Global,
     registry: &Registry,

@@ -2,7 +2,7 @@ use Rattle.std.specs.Prelude.{◌≡◌, ℕ, zero, suc, List, Option, Some, Non
 use Rattle.b2_plan.specs.declared.step.Step.{Step}
 use Rattle.b2_plan.specs.Plans.{Makes}
 use Rattle.b2_plan.specs.Sources.{Build, IsSource}
-use Rattle.b2_plan.specs.Closures.{Value, Values, IsClose, with_bytes}
+use Rattle.b2_plan.specs.Closures.{Value, Values, IsClosure, with_bytes}
 
 -- what a step with this closure gives its output
 abbrev pub value_of : Build → Step → List (List ℕ × Value) → List ℕ → Value
@@ -14,7 +14,7 @@ pub record IsBuilt (b : Build) (v : Values) (path : List ℕ) (value : Value) : 
   pub step : Step
   pub makes : Makes b.steps number step path
   pub members : List (List ℕ × Value)
-  pub close : IsClose b v step members
+  pub close : IsClosure b v step members
   pub is : value ≡ value_of b step members path
 
 -- the value of a source is its bytes

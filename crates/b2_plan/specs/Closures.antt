@@ -1,8 +1,6 @@
-use Rattle.std.specs.Prelude.{◌≡◌, ℕ, List, Option, Some, None}
+use Rattle.std.specs.Prelude.{ℕ, List, Option, Some, None}
 use Rattle.std.specs.List.{Contains, AllPairs, filter_map}
-use Rattle.std.specs.Ordering.{nat_cmp}
-use Rattle.std.specs.Cmp.Lexicographic.{slice_cmp}
-use Rattle.std.specs.declared.cmp.Ordering.TheVariants.{Less}
+use Rattle.b2_base.specs.Bytes.{Before}
 use Rattle.b2_plan.specs.declared.step.Step.{Step}
 use Rattle.b2_plan.specs.Sources.{Build, Includes}
 
@@ -19,12 +17,8 @@ pub data Known (b : Build) (v : Values) (step : Step) : List ℕ → Type 0 wher
   input : (path : List ℕ) → Contains step.ins path → Known b v step path
   include : (path bytes found : List ℕ) → Known b v step path → v path (Some bytes) → Includes b step path bytes found → Known b v step found
 
--- the one path stands before the other in byte order
-abbrev pub Before : List ℕ → List ℕ → Type 0
-Before p q = slice_cmp nat_cmp p q ≡ Less
-
 -- The closure of a step: the members of `Known` with their values, in byte order of path. So each member has a value.
-pub record IsClose (b : Build) (v : Values) (step : Step) (members : List (List ℕ × Value)) : Type 0 where
+pub record IsClosure (b : Build) (v : Values) (step : Step) (members : List (List ℕ × Value)) : Type 0 where
   pub ordered : AllPairs (λ x y. Before x.0 y.0) members
   pub each : (path : List ℕ) (value : Value) → Contains members (path, value) → Known b v step path × v path value
   pub whole : (path : List ℕ) → Known b v step path → (value : Value) × Contains members (path, value)

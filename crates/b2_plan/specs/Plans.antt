@@ -2,6 +2,7 @@ use Rattle.std.specs.Prelude.{◌≡◌, ◌≢◌, ℕ, zero, suc, ◌+◌, ◌
 use Rattle.std.specs.List.{Contains, list_any}
 use Rattle.std.specs.Str.{bytes_eq}
 use Rattle.b2_base.specs.Normal.{IsUnder}
+use Rattle.b2_host.specs.FileCalls.{log_path}
 use Rattle.b2_plan.specs.declared.step.Step.{Step}
 
 -- the step with a number: the first has the number 1
@@ -22,10 +23,6 @@ maker_from number (step ∷ steps) path = if list_any (bytes_eq path) step.outs 
 -- the first step that has the path among its outputs
 abbrev pub maker_of : List Step → List ℕ → Option ℕ
 maker_of = maker_from 1
-
--- the log of the program lies here
-abbrev pub log_path : List ℕ
-log_path = codes "bin/b2.log"
 
 -- The outputs of the plan are apart: each lies under an output root, no two steps share one, none is a folder of
 -- another, and none is the log or below it. Each step has an output, `bin` is a root, and there are at most 65,536 steps.

@@ -11,13 +11,14 @@ use Rattle.b2_plan.specs.Sources.{IsInRoots}
 use Rattle.b2_props.specs.declared.request.Request.{Request}
 use Rattle.b2_virtual.specs.Clashes.{AreInRoots, AreApart}
 use Rattle.b2_metatargets.specs.declared.whole.Declared.{Declared}
-use Rattle.b2_evaluation.specs.Answers.{Answers, IsCounted}
+use Rattle.b2_evaluation.specs.Answers.{Answers}
+use Rattle.b2_base.specs.Counts.{IsCounted}
 use Rattle.b2_references.specs.Requests.{asked}
 use Rattle.b2_references.specs.declared.asked.Asked.{Asked}
 use Rattle.b2_alternatives.specs.Picking.{IsNumbered}
 use Rattle.b2_alternatives.specs.declared.fault.ChoiceFault.TheVariants as choices
 use Rattle.b2_conversions.specs.Answers.{AreHoused, Grows}
-use Rattle.b2_supplies.specs.declared.entry.Supply.{Supply}
+use Rattle.b2_virtual.specs.declared.entry.Supply.{Supply}
 use Rattle.b2_conversions.specs.declared.fault.MakingFault.TheVariants as makings
 use Rattle.b2_generate.specs.Answers.{Generated}
 use Rattle.b2_generate.specs.Faults.{Fault}

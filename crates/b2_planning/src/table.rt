@@ -38,7 +38,6 @@ fn key_of<'a>(node: &'a Node) -> (usize, &'a str, usize, &'a [(Text, Text)])
     )
 }
 
-/// The node at a place.
 fn node_at(nodes: &[Node], place: usize) -> Option<&Node>
     ensures { option_copied result ≡ slice_get nodes.now place }
 {

@@ -20,7 +20,6 @@ use b2_walk::walk::Walk;
 use jam_effects::turns::Turns;
 use std::alloc::Global;
 
-/// The path of the build text.
 fn text_path(alloc: Global) -> Result<Path, OutOfMemory>
     ensures { IfOk result (λ path. path ≡ codes "gcc") }
 {

@@ -1,9 +1,10 @@
-use Rattle.std.specs.Prelude.{◌≡◌, ℕ, ◌==◌, Bool, true, not, ◌||◌, List, [], ◌∷◌, Option, Some, None, map, filter, is_some, option_map, if◌then◌else◌}
+use Rattle.std.specs.Prelude.{◌≡◌, ℕ, ◌==◌, Bool, true, not, ◌||◌, List, [], ◌∷◌, Option, Some, None, map, filter, option_map, if◌then◌else◌}
 use Rattle.std.specs.List.{list_any, list_all, filter_map, slice_split, before_first, after_first}
 use Rattle.std.specs.Option.{option_or, option_map_or}
 use Rattle.b2_base.specs.Bytes.{HasNoZero}
 use Rattle.b2_features.specs.declared.attribute.Attribute.TheVariants.{Free}
 use Rattle.b2_features.specs.Attributes.{has}
+use Rattle.b2_features.specs.Faults.{is_implicit}
 use Rattle.b2_features.specs.Table.{Declared, lists, feature_of, implicit_of}
 use Rattle.b2_props.specs.declared.request_fault.RequestFault.{RequestFault}
 use Rattle.b2_props.specs.declared.request_fault.RequestFault.TheVariants.{UnknownWord, UnknownValue, OutOfMemory}
@@ -30,10 +31,6 @@ pub record AreHalves (segment before after : List ℕ) : Type 0 where
   pub after_it : after ≡ after_first is_equals segment
   pub before_text : HasNoZero before
   pub after_text : HasNoZero after
-
--- whether a value stands for itself
-abbrev pub is_implicit : List Declared → List ℕ → Bool
-is_implicit table value = is_some (implicit_of table value)
 
 -- whether a segment gives properties: it has a `=`, or is implicit values with commas between them
 abbrev pub is_property : List Declared → List ℕ → Bool

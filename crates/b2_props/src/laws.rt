@@ -9,7 +9,7 @@ pub fn refining_twice()
     ensures { RefiningTwice }
 {}
 
-/// No pairs are a set.
+/// The empty list of pairs is a set, whatever is declared.
 pub fn no_pairs_are_set()
     ensures { NoPairsAreSet }
 {}

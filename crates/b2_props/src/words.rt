@@ -5,7 +5,8 @@ ghost use Rattle.std.specs.Option.{option_copied, option_to_list};
 ghost use Rattle.b2_base.specs.Bytes.{HasNoZero};
 ghost use Rattle.b2_base.specs.Segments.{texts};
 ghost use Rattle.b2_features.specs.Table.{implicit_of};
-ghost use Rattle.b2_props.specs.Words.{cut, first_of, is_named, AreHalves, is_implicit, is_property, implicit_pair, segment_pairs, pair_fault, segment_fault, IsBy};
+ghost use Rattle.b2_props.specs.Words.{cut, first_of, is_named, AreHalves, is_property, implicit_pair, segment_pairs, pair_fault, segment_fault, IsBy};
+ghost use Rattle.b2_features.specs.Faults.{is_implicit};
 
 use crate::pair_list::pair_with;
 use crate::request_fault::RequestFault;

@@ -3,7 +3,8 @@ use Rattle.b2_features.specs.Table.{Declared}
 use Rattle.b2_props.specs.Sets.{Pair}
 use Rattle.b2_props.specs.Membership.{has_all}
 use Rattle.b2_props.specs.declared.requirement.Requirement.{Requirement}
-use Rattle.b2_refine.specs.Answers.{Answer, IsCounted}
+use Rattle.b2_refine.specs.Answers.{Answer}
+use Rattle.b2_base.specs.Counts.{IsCounted}
 use Rattle.b2_refine.specs.Conditions.{round_set, last_round}
 use Rattle.b2_refine.specs.Faults.{IsKnownFault, is_asked}
 use Rattle.b2_refine.specs.declared.fault.RefineFault.{RefineFault}

@@ -1,6 +1,7 @@
 //! Rules that answer for a set.
 ghost use Rattle.std.specs.Prelude.{◌≡◌, ◌<◌, ℕ, Bool, Option, Some, Ok, IfOk, IfErr};
-ghost use Rattle.b2_refine.specs.Answers.{Answer, IsFaultOf, IsCounted};
+ghost use Rattle.b2_refine.specs.Answers.{Answer, IsFaultOf};
+ghost use Rattle.b2_base.specs.Counts.{IsCounted};
 
 use b2_props::pair_list::PairList;
 use b2_props::props::Props;

@@ -1,9 +1,8 @@
 -- Texts that are put together.
-use Rattle.std.proofs.Common.{◌≡◌, ◌≢◌, ℕ, ◌+◌, ◌<◌, ◌==◌, Bool, false, List, [], ◌∷◌, ◌++◌, length, get_or, take, codes, refl, sym, ap, ◌∙◌, append_assoc, append-nil}
+use Rattle.std.proofs.Common.{◌≡◌, ℕ, ◌+◌, ◌<◌, List, [], ◌∷◌, ◌++◌, length, get_or, take, codes, refl, sym, ap, ◌∙◌, append_assoc, append-nil}
 use Rattle.std.specs.List.{flat_map}
 use Rattle.std.proofs.lemmas.List.{take_more}
 use Rattle.std.proofs.lemmas.List.Concat.{flat_map-append}
-use Rattle.b2_runs.specs.Reports.{line, start_text}
 
 -- ---- lists
 
@@ -21,16 +20,6 @@ one_more_at f xs i x before now next low was adds =
 pub one_more : {X : Type 0} (f : X → List ℕ) (xs : List X) (i : ℕ) (x : X) (before now next : List ℕ) → i < length xs → x ≡ get_or xs i x
     → now ≡ before ++ flat_map f (take i xs) → next ≡ now ++ f x → next ≡ before ++ flat_map f (take (i + 1) xs)
 one_more f xs i x before now next low is was adds = one_more_at f xs i x before now next low was (adds ∙ ap (λ y. now ++ f y) is)
-
--- ---- names
-
-pub some_text : (text : List ℕ) (empty : Bool) → empty ≡ (length text == 0) → empty ≡ false → text ≢ []
-some_text [] empty e t = λ h. absurd cc
-some_text (x ∷ text) empty e t = λ h. cc
-
-pub start_some : (name out : List ℕ) → name ≢ [] → start_text name out ≡ line (name ++ codes " " ++ out)
-start_some [] out some = absurd (some refl)
-start_some (letter ∷ name) out some = refl
 
 -- ---- a conflict of usage requirements
 

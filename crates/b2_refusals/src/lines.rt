@@ -1,8 +1,8 @@
 //! The lines of refusals and of looks at a project.
 ghost use Rattle.std.specs.Prelude.{◌≡◌, IfOk, string_bytes};
-ghost use Rattle.b2_refusals.specs.Lines.{fault_text, refusal_line, usage_line, host_fault_line, table_line, text_line};
+ghost use Rattle.b2_refusals.specs.Lines.{fault_text, refusal_line, usage_line, table_line, text_line};
+ghost use Rattle.b2_runs.specs.Reports.{host_fault_line};
 ghost use Rattle.b2_refusals.specs.Wholes.{IsWhole};
-ghost use Rattle.b2_runs.specs.Reports.{start_line};
 
 use crate::fault::Fault;
 use crate::generations::{gen_text, request_text};
@@ -12,7 +12,6 @@ use crate::pieces::{at_line, concat, size_text};
 use b2_base::fault::OutOfMemory;
 use b2_plan::step::Step;
 use b2_props::props::Props;
-use b2_runs::steps::first_path;
 use std::alloc::Global;
 
 /// The line of words that are no command.
@@ -73,18 +72,6 @@ pub fn table_line(
     push_properties(alloc, &mut line, set.pairs())?;
     line.push_str("\n")?;
     Ok(line)
-}
-
-/// The line of a step's start: its name and its first output; the empty text where the name is empty.
-pub fn start_line(alloc: Global, step: &Step) -> Result<String, OutOfMemory>
-    ensures { IfOk result (λ line. string_bytes line ≡ start_line step.now) }
-{
-    let name = step.name.as_str();
-    if name.is_empty() {
-        return Ok(String::new(alloc));
-    }
-    let out = first_path(step);
-    Ok(format!(in alloc; "{name} {out}\n")?)
 }
 
 /// The line of a step's text, which may itself have several lines.

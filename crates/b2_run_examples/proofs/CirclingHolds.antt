@@ -4,7 +4,7 @@ use Rattle.b2_host.specs.declared.children.ChildEvent.TheVariants.{Start, Done}
 use Rattle.b2_plan.specs.declared.step.Step.{Step}
 use Rattle.b2_plan.specs.Plans.{step_at, Makes, Apart}
 use Rattle.b2_plan.specs.Sources.{IsMissing}
-use Rattle.b2_plan.specs.Closures.{Value, Values, Known, Known.input, Known.include, IsClose}
+use Rattle.b2_plan.specs.Closures.{Value, Values, Known, Known.input, Known.include, IsClosure}
 use Rattle.b2_plan.specs.Cleans.{Clean}
 use Rattle.b2_runs.specs.Runs.{Settled, Settled.source, Settled.done_well, Settled.fresh, on_settled, Needed, Needed.wanted, Needed.member, CanStart, IsRun}
 use Rattle.b2_runs.specs.Outcomes.{IsStuck, Skipped, Skipped.missing, Skipped.failed, Skipped.skipped, Skipped.quits}
@@ -25,7 +25,7 @@ known_out : (v : Values) (path : List ℕ) → Known circling.build v circle_ste
 known_out v path (input p c) = one_of out_path p c
 known_out v path (include p bytes found k says inc) = absurd (Contains_nil inc.include inc.listed)
 
-reads_itself : (v : Values) (i : ℕ) (step : Step) (members : List (List ℕ × Value)) → step_at circling.build.steps i ≡ Some step → IsClose circling.build v step members → (value : Value) × Contains members (out_path, value)
+reads_itself : (v : Values) (i : ℕ) (step : Step) (members : List (List ℕ × Value)) → step_at circling.build.steps i ≡ Some step → IsClosure circling.build v step members → (value : Value) × Contains members (out_path, value)
 reads_itself v i step members at close =
     let same : circle_step ≡ step = only_is (out_path ∷ []) i step at in
     close.whole out_path (subst (λ s. Known circling.build v s out_path) same (input out_path (Contains_here out_path [])))

@@ -8,7 +8,8 @@ use Rattle.b2_host.specs.declared.children.ChildEvent.TheVariants.{Start, Done}
 use Rattle.b2_host.specs.Limits.{greatest_count}
 use Rattle.b2_host.specs.Outside.{Read}
 use Rattle.b2_host.specs.Disks.{File, Folder, Past, Stood, IsOneEach, IsConsistent, bytes_at}
-use Rattle.b2_plan.specs.Plans.{log_path, step_at, Makes}
+use Rattle.b2_plan.specs.Plans.{step_at, Makes}
+use Rattle.b2_host.specs.FileCalls.{log_path}
 use Rattle.b2_plan.specs.Closures.{Value}
 use Rattle.b2_plan.specs.Cleans.{Clean}
 use Rattle.b2_log.specs.declared.line.LogLine.{LogLine}
@@ -16,7 +17,7 @@ use Rattle.b2_log.specs.Lines.{log_bytes}
 use Rattle.b2_runs.specs.Logs.{LogTrue}
 use Rattle.b2_runs.specs.LogFiles.{IsLogIn}
 use Rattle.b2_runs.specs.Staleness.{making, NoneOlder}
-use Rattle.b2_runs.specs.Runs.{IsBegun, IsFed}
+use Rattle.b2_runs.specs.Runs.{IsBegun, IsGivenClosure}
 use Rattle.b2_runs.specs.Outcomes.{HasCleanBytes, IsCleanBuild, OnlyOutputsChange}
 use Rattle.b2_runs.specs.Soundness.{AreAtWork}
 use Rattle.b2_runs.specs.LogCourses.{IsLogAfter, IsLogAfter.begins, IsLogAfter.starts, IsLogAfter.records, IsLogAfter.owes_none, IsLogAfter.drops, IsLogAfter.has_none, IsLogAfter.scans, IsLogAfter.migrates, left_file, IsLogCut, IsLogCut.untouched, IsLogCut.replacing, IsLogCut.between, IsLogCut.within}
@@ -128,8 +129,8 @@ ended = record {
 at_work : AreAtWork copying copied []
 at_work = record { each = λ child c. absurd (Contains_nil child c); once = λ i j d lt h. absurd (omega arith); whole = λ i o. absurd (run.none_open i o) }
 
-fed : IsFed copying 1 copy_given
-fed = record { step = copy_step; at = refl; members = in_members; close = close; step_is = refl; text = refl; ins = refl; outs = refl; held = refl }
+given_closure : IsGivenClosure copying 1 copy_given
+given_closure = record { step = copy_step; at = refl; members = in_members; close = close; step_is = refl; text = refl; ins = refl; outs = refl; held = refl }
 
 updated : HasUpdated copying all_went moment_before.host moment_after.host disk_before disk_logged
 updated = record {
@@ -138,7 +139,7 @@ updated = record {
   given = copy_given ∷ [];
   given_are = refl;
   begun = begun;
-  fed = (fed, tt);
+  given_closure = (given_closure, tt);
   at_work = at_work;
   changed = changed;
   done_well = λ i step path makes well. let (bytes, clean, at) = out_is_clean path (only_out (in_path ∷ []) i step path makes) in (Some bytes, clean, at);

@@ -9,7 +9,7 @@ use Rattle.b2_host.specs.Disks.{File, Past, Stood, IsConsistent, IsOneEach}
 use Rattle.b2_plan.specs.declared.step.Step.{Step}
 use Rattle.b2_plan.specs.Plans.{Makes, Apart}
 use Rattle.b2_plan.specs.Sources.{IsSource}
-use Rattle.b2_plan.specs.Closures.{Value, Known, Known.input, Known.include, IsClose}
+use Rattle.b2_plan.specs.Closures.{Value, Known, Known.input, Known.include, IsClosure}
 use Rattle.b2_plan.specs.Cleans.{Clean}
 use Rattle.b2_runs.specs.Logs.{LogTrue}
 use Rattle.b2_log.specs.declared.line.LogLine.TheVariants as lines
@@ -26,7 +26,7 @@ use Rattle.b2_runs.proofs.FirstElementOrLater.{Contains_here, Contains_there, Co
 use Rattle.b2_runs.proofs.TrueWithLine.{empty_is_true, true_with_line}
 use Rattle.b2_runs.proofs.CleanIsOne.{clean_is_made}
 use Rattle.b2_runs.proofs.SourcesAreKept.{source_clean}
-use Rattle.b2_runs.proofs.SettledStays.{close_on_settled}
+use Rattle.b2_runs.proofs.SettledStays.{closure_on_settled}
 use Rattle.b2_runs.proofs.DiskStaysSound.{sound_at_entry, sound_after_start, sound_after_change, sound_done}
 use Rattle.b2_runs.proofs.RecordIsTrue.{record_is_true}
 use Rattle.b2_runs.proofs.NotedAfterEachEvent.{noted_at_entry, noted_after_start, noted_after_change, noted_after_record}
@@ -49,7 +49,7 @@ known_in : (path : List ℕ) → Known copying.build (Clean copying.build) copy_
 known_in path (input p c) = one_of in_path p c
 known_in path (include p bytes found k says inc) = absurd (Contains_nil inc.include inc.listed)
 
-pub close : IsClose copying.build (Clean copying.build) copy_step members_in
+pub close : IsClosure copying.build (Clean copying.build) copy_step members_in
 close = record {
   ordered = λ i j d lt h. absurd (omega arith);
   each = λ path value c.
@@ -65,8 +65,8 @@ inside events member value c =
     let e : ◌≡◌ {A = List ℕ × Value} member_in (member, value) = one_of member_in (member, value) c in
     subst (λ (z : List ℕ × Value). Settled copying events z.0) e (source in_path (7 ∷ []) in_source)
 
-close_on : (events : List ChildEvent) → IsClose copying.build (on_settled copying events) copy_step members_in
-close_on events = (close_on_settled copying events copy_step members_in apart).1 close (inside events)
+close_on : (events : List ChildEvent) → IsClosure copying.build (on_settled copying events) copy_step members_in
+close_on events = (closure_on_settled copying events copy_step members_in apart).1 close (inside events)
 
 can : CanStart copying [] 1
 can = record {
@@ -132,7 +132,7 @@ child_at_work = record {
   is_open = opened;
   given = copy_given;
   told = refl;
-  fed = record { step = copy_step; at = refl; members = members_in; close = close; step_is = refl; text = refl; ins = refl; outs = refl; held = refl };
+  given_closure = record { step = copy_step; at = refl; members = members_in; close = close; step_is = refl; text = refl; ins = refl; outs = refl; held = refl };
   ins = refl;
   outs = refl;
 }

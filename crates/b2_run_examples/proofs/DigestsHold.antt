@@ -7,7 +7,7 @@ use Rattle.b2_host.specs.Disks.{File, Folder, bytes_at}
 use Rattle.b2_plan.specs.declared.step.Step.{Step}
 use Rattle.b2_plan.specs.Plans.{step_at, Makes, Apart}
 use Rattle.b2_plan.specs.Sources.{IsSource}
-use Rattle.b2_plan.specs.Closures.{Value, Values, Known, Known.input as input_of, Known.include, IsClose}
+use Rattle.b2_plan.specs.Closures.{Value, Values, Known, Known.input as input_of, Known.include, IsClosure}
 use Rattle.b2_plan.specs.Cleans.{Clean}
 use Rattle.b2_log.specs.declared.line.Record.{Record}
 use Rattle.b2_log.specs.declared.line.Digests.{Digests}
@@ -25,7 +25,7 @@ use Rattle.b2_runs.proofs.FirstElementOrLater.{Contains_here, Contains_cases, Co
 use Rattle.b2_runs.proofs.NumberHasOneStep.{one_step}
 use Rattle.b2_runs.proofs.CleanIsOne.{clean_is_made}
 use Rattle.b2_runs.proofs.SourcesAreKept.{source_clean}
-use Rattle.b2_runs.proofs.SettledStays.{close_on_settled, same_members}
+use Rattle.b2_runs.proofs.SettledStays.{closure_on_settled, same_members}
 use Rattle.b2_runs.proofs.NeededByNumbers.{cannot_start_fresh}
 use Rattle.b2_run_examples.proofs.OneStepPlan.{one_of, longer, different}
 use Rattle.b2_run_examples.proofs.ThreeCopies as copies
@@ -95,7 +95,7 @@ module _ (by_digest : Bool) (folder : Folder) (log : List LogLine) (v : List ℕ
   known_is w input output path (input_of p c) = one_of input p c
   known_is w input output path (include p bytes found k says inc) = absurd (Contains_nil inc.include inc.listed)
 
-  close_of : (events : List ChildEvent) (input output : List ℕ) (value : Value) → on_settled U events input value → IsClose (build_on folder) (on_settled U events) (copy_from input output) ((input, value) ∷ [])
+  close_of : (events : List ChildEvent) (input output : List ℕ) (value : Value) → on_settled U events input value → IsClosure (build_on folder) (on_settled U events) (copy_from input output) ((input, value) ∷ [])
   close_of events input output value has = record {
     ordered = λ i j d lt h. absurd (omega arith);
     each = λ path x c.
@@ -112,11 +112,11 @@ module _ (by_digest : Bool) (folder : Folder) (log : List LogLine) (v : List ℕ
   abbrev of_a : List (List ℕ × Value)
   of_a = (a_path, Some []) ∷ []
 
-  close_x : (events : List ChildEvent) → IsClose (build_on folder) (on_settled U events) (copy_from x_path a_path) of_x
+  close_x : (events : List ChildEvent) → IsClosure (build_on folder) (on_settled U events) (copy_from x_path a_path) of_x
   close_x events = close_of events x_path a_path (Some v) (x_settled events)
 
-  clean_x : IsClose (build_on folder) (Clean (build_on folder)) (copy_from x_path a_path) of_x
-  clean_x = ((close_on_settled U [] (copy_from x_path a_path) of_x apart).0 (close_x [])).0
+  clean_x : IsClosure (build_on folder) (Clean (build_on folder)) (copy_from x_path a_path) of_x
+  clean_x = ((closure_on_settled U [] (copy_from x_path a_path) of_x apart).0 (close_x [])).0
 
   a_clean : Clean (build_on folder) a_path (Some [])
   a_clean = clean_is_made (build_on folder) 1 (copy_from x_path a_path) a_path of_x apart makes_a clean_x
@@ -493,14 +493,14 @@ unchanged_all step members to = elim (needed_is true fifth_folder log_four (9 �
       (close_of true fifth_folder log_four (9 ∷ []) refl [] a_path b_path (Some []) (a_fresh true fifth_folder log_four (9 ∷ []) refl fifth_first)) noted_second
 ]
   where
-    same : (k : ℕ) (other : Step) (others : List (List ℕ × Value)) → to.number ≡ k → step_at (build_on fifth_folder).steps k ≡ Some other → IsClose (build_on fifth_folder) (on_settled (update_on true fifth_folder log_four) []) other others
+    same : (k : ℕ) (other : Step) (others : List (List ℕ × Value)) → to.number ≡ k → step_at (build_on fifth_folder).steps k ≡ Some other → IsClosure (build_on fifth_folder) (on_settled (update_on true fifth_folder log_four) []) other others
         → IsNotedStep (update_on true fifth_folder log_four) fifth_folder log_five other others → IsNotedStep (update_on true fifth_folder log_four) fifth_folder log_five step members
     same k other others e at_k close_k n =
         let u = update_on true fifth_folder log_four in
         let whole = apart true fifth_folder log_four (9 ∷ []) refl in
         let here : step_at (build_on fifth_folder).steps to.number ≡ Some other = subst (λ j. step_at (build_on fifth_folder).steps j ≡ Some other) (sym e) at_k in
         let is : other ≡ step = one_step (build_on fifth_folder).steps to.number other step here to.at in
-        let one : others ≡ members = same_members u whole to.number other step here to.at others members ((close_on_settled u [] other others whole).0 close_k).0 ((close_on_settled u [] step members whole).0 to.close).0 in
+        let one : others ≡ members = same_members u whole to.number other step here to.at others members ((closure_on_settled u [] other others whole).0 close_k).0 ((closure_on_settled u [] step members whole).0 to.close).0 in
         subst₂ (λ s ms. IsNotedStep u fifth_folder log_five s ms) is one n
 
 unchanged_not : ¬ AllMigrated (update_on true fifth_folder log_four) [] fifth_folder log_four

@@ -6,7 +6,7 @@ use Rattle.b2_host.specs.Disks.{Folder, bytes_at}
 use Rattle.b2_plan.specs.declared.step.Step.{Step}
 use Rattle.b2_plan.specs.Plans.{Apart, Makes, step_at}
 use Rattle.b2_plan.specs.Sources.{Build, IsSource}
-use Rattle.b2_plan.specs.Closures.{Value, Values, Known, Known.input as input_of, Known.include as include_of, IsClose}
+use Rattle.b2_plan.specs.Closures.{Value, Values, Known, Known.input as input_of, Known.include as include_of, IsClosure}
 use Rattle.b2_plan.specs.Cleans.{Clean}
 use Rattle.b2_log.specs.declared.line.LogLine.{LogLine}
 use Rattle.b2_runs.specs.Staleness.{Update, NoneDone, Agrees.by_stamps, IsFresh, IsStale}
@@ -75,7 +75,7 @@ module _ (always notfile : Bool) where
     known_in v path (input_of p c) = one_of in_path p c
     known_in v path (include_of p bytes found k says i) = absurd (Contains_nil i.include i.listed)
 
-    close_of : (v : Values) → v in_path (Some (7 ∷ [])) → IsClose B v S in_members
+    close_of : (v : Values) → v in_path (Some (7 ∷ [])) → IsClosure B v S in_members
     close_of v has = record {
       ordered = λ i j d lt h. absurd (omega arith);
       each = λ path x c.
@@ -84,7 +84,7 @@ module _ (always notfile : Bool) where
       whole = λ path k. (Some (7 ∷ []), subst (λ p. Contains in_members (p, Some (7 ∷ []))) (known_in v path k) (Contains_here (in_path, Some (7 ∷ [])) []));
     }
 
-    on : (events : List ChildEvent) → IsClose B (on_settled U events) S in_members
+    on : (events : List ChildEvent) → IsClosure B (on_settled U events) S in_members
     on events = close_of (on_settled U events) (source in_path (7 ∷ []) in_source, in_clean)
 
     first_open : IsOpen (Start 1 ∷ []) 1

@@ -9,7 +9,7 @@ use Rattle.b2_host.specs.declared.children.ChildEvent.TheVariants.{Start, Done}
 use Rattle.b2_plan.specs.declared.step.Step.{Step}
 use Rattle.b2_plan.specs.Plans.{step_at, Makes, Apart}
 use Rattle.b2_plan.specs.Sources.{Include, IsSource, IsGiven, IsMissing, IsFound, Includes}
-use Rattle.b2_plan.specs.Closures.{Value, Values, Known, Known.input as input_of, Known.include as include_of, IsClose}
+use Rattle.b2_plan.specs.Closures.{Value, Values, Known, Known.input as input_of, Known.include as include_of, IsClosure}
 use Rattle.b2_plan.specs.Cleans.{Clean}
 use Rattle.b2_runs.specs.Events.{is_start, is_done, IsOpen}
 use Rattle.b2_runs.specs.Runs.{Settled, Settled.source, Settled.done_well, Settled.fresh, on_settled, Needed, Needed.wanted, Needed.member, CanStart, IsRun}
@@ -20,7 +20,7 @@ use Rattle.b2_runs.proofs.FirstElementOrLater.{Contains_here, Contains_there, Co
 use Rattle.b2_runs.proofs.MakerIsOne.{source_not_made}
 use Rattle.b2_runs.proofs.CleanIsOne.{clean_is_made}
 use Rattle.b2_runs.proofs.SourcesAreKept.{source_clean}
-use Rattle.b2_runs.proofs.SettledStays.{close_on_settled}
+use Rattle.b2_runs.proofs.SettledStays.{closure_on_settled}
 use Rattle.b2_runs.proofs.OthersAreLeft.{pairs_first}
 use Rattle.b2_runs.proofs.ValuesCanBeGathered.{Sooner, pairs_cons}
 use Rattle.b2_run_examples.proofs.OneStepPlan.{one_of, longer, different}
@@ -116,7 +116,7 @@ known_c v path (include_of p bytes found k says inc) =
 
 -- ---- closures
 
-close_x : (events : List ChildEvent) (output : List ℕ) → IsClose with_header (on_settled header_update events) (copy_from x_path output) ((x_path, Some (7 ∷ [])) ∷ [])
+close_x : (events : List ChildEvent) (output : List ℕ) → IsClosure with_header (on_settled header_update events) (copy_from x_path output) ((x_path, Some (7 ∷ [])) ∷ [])
 close_x events output = record {
   ordered = λ i j d lt h. absurd (omega arith);
   each = λ path x c.
@@ -127,8 +127,8 @@ close_x events output = record {
   whole = λ path k. (Some (7 ∷ []), subst (λ p. Contains {X = List ℕ × Value} ((x_path, Some (7 ∷ [])) ∷ []) (p, Some (7 ∷ []))) (known_x (on_settled header_update events) output path k) (Contains_here (x_path, Some (7 ∷ [])) []));
 }
 
-pub clean_close : (output : List ℕ) → IsClose with_header (Clean with_header) (copy_from x_path output) ((x_path, Some (7 ∷ [])) ∷ [])
-clean_close output = ((close_on_settled header_update [] (copy_from x_path output) ((x_path, Some (7 ∷ [])) ∷ []) apart).0 (close_x [] output)).0
+pub clean_close : (output : List ℕ) → IsClosure with_header (Clean with_header) (copy_from x_path output) ((x_path, Some (7 ∷ [])) ∷ [])
+clean_close output = ((closure_on_settled header_update [] (copy_from x_path output) ((x_path, Some (7 ∷ [])) ∷ []) apart).0 (close_x [] output)).0
 
 a_on : (events : List ChildEvent) → Contains events (Done 1 true) → on_settled header_update events a_path (Some (7 ∷ []))
 a_on events done = (done_well 1 (copy_from x_path a_path) a_path makes_a done, clean_is_made with_header 1 (copy_from x_path a_path) a_path ((x_path, Some (7 ∷ [])) ∷ []) apart makes_a (clean_close a_path))
@@ -145,7 +145,7 @@ b_member = (b_path, Some (7 ∷ []))
 known_a : (events : List ChildEvent) → Contains events (Done 2 true) → Known with_header (on_settled header_update events) (copy_from b_path c_path) a_path
 known_a events done = include_of b_path (7 ∷ []) a_path (input_of b_path (Contains_here b_path [])) (b_on events done) (b_includes (copy_from b_path c_path) (7 ∷ []))
 
-close_c : (events : List ChildEvent) → Contains events (Done 1 true) → Contains events (Done 2 true) → IsClose with_header (on_settled header_update events) (copy_from b_path c_path) (a_member ∷ b_member ∷ [])
+close_c : (events : List ChildEvent) → Contains events (Done 1 true) → Contains events (Done 2 true) → IsClosure with_header (on_settled header_update events) (copy_from b_path c_path) (a_member ∷ b_member ∷ [])
 close_c events one two = record {
   ordered = pairs_cons a_member (b_member ∷ []) (λ n c. subst (Sooner a_member) (one_of b_member n c) refl) (λ i j d lt h. absurd (omega arith));
   each = λ path x c. elim (Contains_cases a_member (path, x) (b_member ∷ []) c) [
@@ -255,7 +255,7 @@ needed_then = record {
 
 -- ---- the run
 
-can : (events : List ChildEvent) (i : ℕ) (step : Step) (members : List (List ℕ × Value)) → step_at with_header.steps i ≡ Some step → Needed header_update events i → (Contains events (Start i) → ⊥) → IsClose with_header (on_settled header_update events) step members
+can : (events : List ChildEvent) (i : ℕ) (step : Step) (members : List (List ℕ × Value)) → step_at with_header.steps i ≡ Some step → Needed header_update events i → (Contains events (Start i) → ⊥) → IsClosure with_header (on_settled header_update events) step members
     → count_by is_start events < count_by is_done events + 1 → CanStart header_update events i
 can events i step members at needed not_started close room = record {
   step = step;

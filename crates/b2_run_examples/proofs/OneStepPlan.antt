@@ -4,7 +4,8 @@ use Rattle.std.specs.Str.{bytes_eq}
 use Rattle.std.proofs.lemmas.Slice.Eq.{bytes_eq-Decides}
 use Rattle.b2_base.specs.Normal.{IsUnder, parts}
 use Rattle.b2_plan.specs.declared.step.Step.{Step}
-use Rattle.b2_plan.specs.Plans.{log_path, step_at, Makes, Apart}
+use Rattle.b2_plan.specs.Plans.{step_at, Makes, Apart}
+use Rattle.b2_host.specs.FileCalls.{log_path}
 use Rattle.b2_plan.specs.Sources.{IsInRoots}
 use Rattle.b2_run_examples.specs.Examples.{in_path, out_path, step_from}
 use Rattle.b2_runs.proofs.FirstElementOrLater.{Contains_here, Contains_cases, Contains_nil}

@@ -6,7 +6,7 @@ use Rattle.b2_host.specs.declared.children.ChildEvent.TheVariants.{Start, Done}
 use Rattle.b2_plan.specs.declared.step.Step.{Step}
 use Rattle.b2_plan.specs.Plans.{step_at, Makes, Apart}
 use Rattle.b2_plan.specs.Sources.{IsSource}
-use Rattle.b2_plan.specs.Closures.{Value, Values, Known, Known.input as input_of, Known.include, IsClose}
+use Rattle.b2_plan.specs.Closures.{Value, Values, Known, Known.input as input_of, Known.include, IsClosure}
 use Rattle.b2_runs.specs.Events.{IsOpen, is_start, is_done}
 use Rattle.b2_runs.specs.Runs.{Settled, Settled.source, Settled.done_well, Settled.fresh, on_settled, Needed.wanted, CanStart, IsRun}
 use Rattle.b2_runs.specs.Outcomes.{AllWent, IsSettledStep, Skipped, Skipped.missing, Skipped.failed, Skipped.skipped, Skipped.quits}
@@ -15,7 +15,7 @@ use Rattle.b2_runs.proofs.FirstElementOrLater.{Contains_here, Contains_cases, Co
 use Rattle.b2_runs.proofs.MakerIsOne.{source_not_made}
 use Rattle.b2_runs.proofs.CleanIsOne.{clean_is_made}
 use Rattle.b2_runs.proofs.SourcesAreKept.{source_clean}
-use Rattle.b2_runs.proofs.SettledStays.{close_on_settled}
+use Rattle.b2_runs.proofs.SettledStays.{closure_on_settled}
 use Rattle.b2_run_examples.proofs.OneStepPlan.{one_of, longer}
 use Rattle.b2_run_examples.proofs.ThreeCopies as copies
 use Rattle.b2_run_examples.proofs.ThreeCopies.{number_of}
@@ -96,7 +96,7 @@ pub known_is : (v : Values) (input output path : List ℕ) → Known three_copie
 known_is v input output path (input_of p c) = one_of input p c
 known_is v input output path (include p bytes found k says inc) = absurd (Contains_nil inc.include inc.listed)
 
-close_of : (events : List ChildEvent) (input output : List ℕ) (value : Value) → on_settled two_at_once events input value → IsClose three_copies (on_settled two_at_once events) (copy_from input output) ((input, value) ∷ [])
+close_of : (events : List ChildEvent) (input output : List ℕ) (value : Value) → on_settled two_at_once events input value → IsClosure three_copies (on_settled two_at_once events) (copy_from input output) ((input, value) ∷ [])
 close_of events input output value has = record {
   ordered = λ i j d lt h. absurd (omega arith);
   each = λ path x c.
@@ -111,7 +111,7 @@ b_settled : (events : List ChildEvent) → Contains events (Done 2 true) → on_
 b_settled events done = (
   done_well 2 (copy_from x_path b_path) b_path makes_b done,
   clean_is_made three_copies 2 (copy_from x_path b_path) b_path ((x_path, Some (7 ∷ [])) ∷ []) apart makes_b
-      ((close_on_settled two_at_once events (copy_from x_path b_path) ((x_path, Some (7 ∷ [])) ∷ []) apart).0 (close_of events x_path b_path (Some (7 ∷ [])) (x_settled events))).0,
+      ((closure_on_settled two_at_once events (copy_from x_path b_path) ((x_path, Some (7 ∷ [])) ∷ []) apart).0 (close_of events x_path b_path (Some (7 ∷ [])) (x_settled events))).0,
 )
 
 -- a copy can start where what it reads is settled

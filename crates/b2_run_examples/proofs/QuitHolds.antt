@@ -5,7 +5,7 @@ use Rattle.b2_host.specs.declared.children.ChildEvent.TheVariants.{Start, Done}
 use Rattle.b2_plan.specs.declared.step.Step.{Step}
 use Rattle.b2_plan.specs.Plans.{Makes}
 use Rattle.b2_plan.specs.Sources.{IsGiven}
-use Rattle.b2_plan.specs.Closures.{Value, Known, IsClose, Known.input as input_of}
+use Rattle.b2_plan.specs.Closures.{Value, Known, IsClosure, Known.input as input_of}
 use Rattle.b2_runs.specs.Staleness.{Update}
 use Rattle.b2_runs.specs.Events.{is_start, is_done, IsOpen}
 use Rattle.b2_runs.specs.Runs.{Settled, Settled.source, Settled.done_well, Settled.fresh, on_settled, Needed, Needed.wanted, Needed.member, CanStart, IsRun}
@@ -27,7 +27,7 @@ module _ (quit : Bool) where
   x_settled : (events : List ChildEvent) → on_settled U events x_path (Some (7 ∷ []))
   x_settled events = (source x_path (7 ∷ []) x_source, source_clean three_copies apart x_path (7 ∷ []) x_source)
 
-  close_x : (events : List ChildEvent) (output : List ℕ) → IsClose three_copies (on_settled U events) (copy_from x_path output) ((x_path, Some (7 ∷ [])) ∷ [])
+  close_x : (events : List ChildEvent) (output : List ℕ) → IsClosure three_copies (on_settled U events) (copy_from x_path output) ((x_path, Some (7 ∷ [])) ∷ [])
   close_x events output = record {
     ordered = λ i j d lt h. absurd (omega arith);
     each = λ path x c.

@@ -4,7 +4,7 @@ use Rattle.std.proofs.lemmas.Slice.Eq.{bytes_eq-Decides}
 use Rattle.b2_host.specs.declared.children.ChildEvent.TheVariants.{Start, Done}
 use Rattle.b2_host.specs.Disks.{Folder}
 use Rattle.b2_host.specs.Outside.{Read}
-use Rattle.b2_plan.specs.Plans.{log_path}
+use Rattle.b2_host.specs.FileCalls.{log_path}
 use Rattle.b2_plan.specs.Closures.{Known.input as input_of}
 use Rattle.b2_log.specs.declared.line.LogLine.TheVariants as lines
 use Rattle.b2_log.specs.Finding.{find_scan}

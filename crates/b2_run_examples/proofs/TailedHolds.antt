@@ -4,7 +4,7 @@ use Rattle.std.proofs.lemmas.List.Kept.{AllPairs-from_increasing}
 use Rattle.b2_host.specs.declared.children.ChildEvent.TheVariants.{Start, Done}
 use Rattle.b2_plan.specs.declared.step.Step.{Step}
 use Rattle.b2_plan.specs.Plans.{step_at, Makes, Apart}
-use Rattle.b2_plan.specs.Closures.{Value, Values, Known, Known.input as input_of, Known.include, IsClose}
+use Rattle.b2_plan.specs.Closures.{Value, Values, Known, Known.input as input_of, Known.include, IsClosure}
 use Rattle.b2_plan.specs.Cleans.{Clean}
 use Rattle.b2_runs.specs.Runs.{Settled, Settled.source, Settled.done_well, Settled.fresh, on_settled, Needed, Needed.wanted, Needed.member, CanStart, IsRun}
 use Rattle.b2_runs.specs.Outcomes.{IsListOf, IsStuck, Skipped, Skipped.missing, Skipped.failed, Skipped.skipped, Skipped.quits}
@@ -65,13 +65,13 @@ record Read (v : Values) (members : List (List ℕ × Value)) : Type 0 where
   maker : Step
   makes : Makes tailed_copies.steps number maker path
 
-read_at : (v : Values) (input output : List ℕ) (step : Step) (members : List (List ℕ × Value)) (k : ℕ) (other : Step) → copy_from input output ≡ step → Makes tailed_copies.steps k other input → IsClose tailed_copies v step members → Read v members
+read_at : (v : Values) (input output : List ℕ) (step : Step) (members : List (List ℕ × Value)) (k : ℕ) (other : Step) → copy_from input output ≡ step → Makes tailed_copies.steps k other input → IsClosure tailed_copies v step members → Read v members
 read_at v input output step members k other same makes close =
     let (value, c) = close.whole input (subst (λ s. Known tailed_copies v s input) same (reads v input output)) in
     record { path = input; value = value; inside = c; number = k; maker = other; makes = makes }
 
 -- each closure has an output
-read_of : (v : Values) (i : ℕ) (step : Step) (members : List (List ℕ × Value)) → step_at tailed_copies.steps i ≡ Some step → IsClose tailed_copies v step members → Read v members
+read_of : (v : Values) (i : ℕ) (step : Step) (members : List (List ℕ × Value)) → step_at tailed_copies.steps i ≡ Some step → IsClosure tailed_copies v step members → Read v members
 read_of v i step members at close = elim (which i step at) [
   | inl (e, s) ↦ read_at v b_path a_path step members 2 second_step s makes_b close
   | inr (inl (e, s)) ↦ read_at v c_path b_path step members 3 third_step s makes_c close

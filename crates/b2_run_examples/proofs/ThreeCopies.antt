@@ -3,7 +3,8 @@ use Rattle.std.specs.List.{Contains}
 use Rattle.std.specs.Str.{bytes_eq}
 use Rattle.b2_base.specs.Normal.{IsUnder, parts}
 use Rattle.b2_plan.specs.declared.step.Step.{Step}
-use Rattle.b2_plan.specs.Plans.{log_path, step_at, Makes, Apart}
+use Rattle.b2_plan.specs.Plans.{step_at, Makes, Apart}
+use Rattle.b2_host.specs.FileCalls.{log_path}
 use Rattle.b2_run_examples.specs.Overlap.{copy_from, a_path, b_path, c_path}
 use Rattle.b2_runs.proofs.FirstElementOrLater.{Contains_here, Contains_nil}
 use Rattle.b2_run_examples.proofs.OneStepPlan.{one_of, longer, different}

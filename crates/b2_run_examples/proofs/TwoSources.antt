@@ -5,7 +5,8 @@ use Rattle.b2_host.specs.declared.children.ChildEvent.TheVariants.{Start, Done}
 use Rattle.b2_host.specs.Disks.{Folder}
 use Rattle.b2_plan.specs.Plans.{Apart}
 use Rattle.b2_plan.specs.Sources.{Build, Include, IsSource}
-use Rattle.b2_plan.specs.Closures.{Value, Values, Known, Before, IsClose}
+use Rattle.b2_plan.specs.Closures.{Value, Values, Known, IsClosure}
+use Rattle.b2_base.specs.Bytes.{Before}
 use Rattle.b2_plan.specs.Cleans.{Clean}
 use Rattle.b2_log.specs.declared.line.LogLine.{LogLine}
 use Rattle.b2_runs.specs.Staleness.{Update, IsFresh, IsStale}
@@ -36,7 +37,7 @@ module _ (folder : Folder) (inc : List ℕ → List ℕ → List Include) (looks
   apart : Apart B.steps B.roots
   apart = is_apart (in_path ∷ [])
 
-  close_of : (v : Values) → v p (Some x) → v q (Some y) → IsClose B v copy_step members
+  close_of : (v : Values) → v p (Some x) → v q (Some y) → IsClosure B v copy_step members
   close_of v has_p has_q = record {
     ordered = pairs_cons (p, Some x) ((q, Some y) ∷ []) (λ n c. subst (Sooner (p, Some x)) (one_of (q, Some y) n c) before) (λ i j d lt h. absurd (omega arith));
     each = λ path value c. elim (Contains_cases (p, Some x) (path, value) ((q, Some y) ∷ []) c) [
@@ -49,10 +50,10 @@ module _ (folder : Folder) (inc : List ℕ → List ℕ → List Include) (looks
     ];
   }
 
-  pub close : IsClose B (Clean B) copy_step members
+  pub close : IsClosure B (Clean B) copy_step members
   close = close_of (Clean B) (source_clean B apart p x p_source) (source_clean B apart q y q_source)
 
-  on : (events : List ChildEvent) → IsClose B (on_settled U events) copy_step members
+  on : (events : List ChildEvent) → IsClosure B (on_settled U events) copy_step members
   on events = close_of (on_settled U events) (source p x p_source, source_clean B apart p x p_source) (source q y q_source, source_clean B apart q y q_source)
 
   needed : (events : List ChildEvent) → Needed U events 1

@@ -3,7 +3,7 @@ use Rattle.b2_host.specs.declared.children.ChildEvent.TheVariants.{Start}
 use Rattle.b2_host.specs.Disks.{Disk, Past}
 use Rattle.b2_host.specs.ChildProcesses.{Family}
 use Rattle.b2_host.specs.Outside.{Read}
-use Rattle.b2_plan.specs.Plans.{log_path}
+use Rattle.b2_host.specs.FileCalls.{log_path}
 use Rattle.b2_runs.specs.LogCourses.{IsLogCut}
 use Rattle.b2_runs.specs.Reports.{no_lists, report}
 use Rattle.b2_runs.specs.Moments.{Moment}

@@ -6,7 +6,8 @@ use Rattle.b2_host.specs.declared.children.ChildEvent.TheVariants.{Start, Done}
 use Rattle.b2_host.specs.Disks.{File, Folder, Disk, Past, put}
 use Rattle.b2_host.specs.ChildProcesses.{Given, Child, Family, Ends}
 use Rattle.b2_plan.specs.declared.step.Step.{Step}
-use Rattle.b2_plan.specs.Plans.{Apart, log_path}
+use Rattle.b2_plan.specs.Plans.{Apart}
+use Rattle.b2_host.specs.FileCalls.{log_path}
 use Rattle.b2_plan.specs.Sources.{Build}
 use Rattle.b2_plan.specs.Closures.{Value}
 use Rattle.b2_log.specs.declared.line.Record.{Record}

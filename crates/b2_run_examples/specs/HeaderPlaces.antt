@@ -3,7 +3,7 @@ use Rattle.std.specs.Str.{bytes_eq}
 use Rattle.b2_host.specs.Disks.{File, Folder}
 use Rattle.b2_plan.specs.Plans.{Apart}
 use Rattle.b2_plan.specs.Sources.{Build, Include}
-use Rattle.b2_plan.specs.Closures.{Value, IsClose}
+use Rattle.b2_plan.specs.Closures.{Value, IsClosure}
 use Rattle.b2_plan.specs.Cleans.{Clean}
 use Rattle.b2_log.specs.declared.line.Record.{Record}
 use Rattle.b2_log.specs.declared.line.LogLine.{LogLine}
@@ -75,10 +75,10 @@ members_second = (in_path, Some (7 ∷ [])) ∷ (second_place, Some (9 ∷ [])) 
 -- lost there, the closure has that in the second place, and though no stamp rose the step is stale, and runs.
 pub record HeaderLostHolds : Type 0 where
   pub apart : Apart (including in_both in_includes two_places).steps (including in_both in_includes two_places).roots
-  pub close_both : IsClose (including in_both in_includes two_places) (Clean (including in_both in_includes two_places)) copy_step members_both
+  pub close_both : IsClosure (including in_both in_includes two_places) (Clean (including in_both in_includes two_places)) copy_step members_both
   pub fresh_both : IsFresh (update_with in_both in_includes two_places log_both) [] copy_step members_both
   pub idle : IsRun (update_with in_both in_includes two_places log_both) []
-  pub close_second : IsClose (including in_second in_includes two_places) (Clean (including in_second in_includes two_places)) copy_step members_second
+  pub close_second : IsClosure (including in_second in_includes two_places) (Clean (including in_second in_includes two_places)) copy_step members_second
   pub stale_second : IsStale (update_with in_second in_includes two_places log_both) [] copy_step members_second
   pub runs : IsRun (update_with in_second in_includes two_places log_both) copied
 
@@ -101,5 +101,5 @@ circle_stands path = if bytes_eq path in_path then file_with 1 7 else (if bytes_
 -- The closure of the step has both, in byte order, and the step runs once.
 pub record HeaderCircleHolds : Type 0 where
   pub apart : Apart (including circle_stands circle_includes by_name).steps (including circle_stands circle_includes by_name).roots
-  pub close : IsClose (including circle_stands circle_includes by_name) (Clean (including circle_stands circle_includes by_name)) copy_step ((header_path, Some (8 ∷ [])) ∷ (in_path, Some (7 ∷ [])) ∷ [])
+  pub close : IsClosure (including circle_stands circle_includes by_name) (Clean (including circle_stands circle_includes by_name)) copy_step ((header_path, Some (8 ∷ [])) ∷ (in_path, Some (7 ∷ [])) ∷ [])
   pub run : IsRun (update_with circle_stands circle_includes by_name []) copied

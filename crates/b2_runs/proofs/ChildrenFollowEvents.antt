@@ -7,15 +7,15 @@ use Rattle.b2_host.specs.Disks.{Disk}
 use Rattle.b2_host.specs.ChildProcesses.{Child}
 use Rattle.b2_runs.specs.Staleness.{Update, paths_with_bytes}
 use Rattle.b2_runs.specs.Events.{IsOpen, started}
-use Rattle.b2_runs.specs.Runs.{CanStart, IsFed}
+use Rattle.b2_runs.specs.Runs.{CanStart, IsGivenClosure}
 use Rattle.b2_runs.specs.Soundness.{IsAtWork}
-use Rattle.b2_runs.specs.ChildLaws.{start_gives, AtWorkAtEntry, AtWorkAfterStart, AtWorkAfterEnd, EndIsOpen, FedAfterStart, FedAfterEnd}
+use Rattle.b2_runs.specs.ChildLaws.{start_gives, AtWorkAtEntry, AtWorkAfterStart, AtWorkAfterEnd, EndIsOpen, GivenAfterStart, GivenAfterEnd}
 use Rattle.b2_runs.proofs.FirstElementOrLater.{Contains_nil}
 use Rattle.b2_runs.proofs.OneEventMore.{start_in_start, done_in_start, start_in_done, done_in_done}
 use Rattle.b2_runs.proofs.RunGoesOn.{done_was_started}
 use Rattle.b2_runs.proofs.DiskStaysSound.{contains_at}
 use Rattle.b2_runs.proofs.OthersAreLeft.{pairs_append, TakenOut, removed_at}
-use Rattle.b2_runs.proofs.StartMayBegin.{start_is_fed}
+use Rattle.b2_runs.proofs.StartMayBegin.{start_gives_closure}
 
 pub at_work_at_entry : AtWorkAtEntry
 at_work_at_entry u = record {
@@ -26,7 +26,7 @@ at_work_at_entry u = record {
 
 -- a child stays at work while its step is open
 still_at_work : (u : Update) (events more : List ChildEvent) (child : Child) → IsAtWork u events child → IsOpen more child.step → IsAtWork u more child
-still_at_work u events more child a opened = record { is_open = opened; given = a.given; told = a.told; fed = a.fed; ins = a.ins; outs = a.outs }
+still_at_work u events more child a opened = record { is_open = opened; given = a.given; told = a.told; given_closure = a.given_closure; ins = a.ins; outs = a.outs }
 
 -- the child of a step that can start
 abbrev new_child : (u : Update) (events : List ChildEvent) (i : ℕ) → CanStart u events i → Disk → Child
@@ -45,7 +45,7 @@ at_work_after_start u events disk family i can apart run sound at_work = record 
           is_open = (Contains-push events (Start i), λ w d. can.not_started (done_was_started u events i w run (done_in_start events i i w d)));
           given = start_gives u events i can disk;
           told = refl;
-          fed = start_is_fed u events disk i can apart sound;
+          given_closure = start_gives_closure u events disk i can apart sound;
           ins = refl;
           outs = refl;
         })
@@ -104,8 +104,8 @@ zip_push R [] (b ∷ ys) x y z r = absurd z
 zip_push R (a ∷ xs) [] x y z r = absurd z
 zip_push R (a ∷ xs) (b ∷ ys) x y (h, t) r = (h, zip_push R xs ys x y t r)
 
-pub fed_after_start : FedAfterStart
-fed_after_start u events given i new fed is = subst (λ l. AllZip (IsFed u) l (given ++ new ∷ [])) (sym (filter_map-append started events (Start i ∷ []))) (zip_push (IsFed u) (filter_map started events) given i new fed is)
+pub given_after_start : GivenAfterStart
+given_after_start u events given i new given_closure is = subst (λ l. AllZip (IsGivenClosure u) l (given ++ new ∷ [])) (sym (filter_map-append started events (Start i ∷ []))) (zip_push (IsGivenClosure u) (filter_map started events) given i new given_closure is)
 
-pub fed_after_end : FedAfterEnd
-fed_after_end u events given i well fed = subst (λ l. AllZip (IsFed u) l given) (sym (filter_map-append started events (Done i well ∷ []) ∙ append-nil (filter_map started events))) fed
+pub given_after_end : GivenAfterEnd
+given_after_end u events given i well given_closure = subst (λ l. AllZip (IsGivenClosure u) l given) (sym (filter_map-append started events (Done i well ∷ []) ∙ append-nil (filter_map started events))) given_closure

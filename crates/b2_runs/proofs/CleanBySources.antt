@@ -3,7 +3,7 @@ use Rattle.std.specs.List.{AllByRecursion}
 use Rattle.b2_host.specs.Disks.{File, Folder}
 use Rattle.b2_plan.specs.declared.step.Step.{Step}
 use Rattle.b2_plan.specs.Sources.{Build, IsInRoots, IsSource, IsGiven, IsMissing, Includes}
-use Rattle.b2_plan.specs.Closures.{Value, Values, Known, Known.input, Known.include, IsClose}
+use Rattle.b2_plan.specs.Closures.{Value, Values, Known, Known.input, Known.include, IsClosure}
 use Rattle.b2_plan.specs.Cleans.{IsSourceValue, IsBuilt, Val, Clean}
 use Rattle.b2_runs.specs.ClosureLaws.{Extends}
 use Rattle.b2_runs.specs.AfterLaws.{CleanBySources}
@@ -46,7 +46,7 @@ known_to b now same v w extends step path (input p c) = input p c
 known_to b now same v w extends step path (include p bytes found k says inc) =
     include p bytes found (known_to b now same v w extends step p k) (extends p (Some bytes) says) (includes_to b now same step p bytes found inc)
 
-pub close_to : (b : Build) (now : Folder) → SameSources b now → (v w : Values) → Extends v w → Extends w v → (step : Step) (members : List (List ℕ × Value)) → IsClose b v step members → IsClose (moved b now) w step members
+pub close_to : (b : Build) (now : Folder) → SameSources b now → (v w : Values) → Extends v w → Extends w v → (step : Step) (members : List (List ℕ × Value)) → IsClosure b v step members → IsClosure (moved b now) w step members
 close_to b now same v w there here step members close = record {
   ordered = close.ordered;
   each = λ path value c. let (k, x) = close.each path value c in (known_to b now same v w there step path k, there path value x);
@@ -84,7 +84,7 @@ pub clean_by_sources : CleanBySources
 clean_by_sources b now path value same = (clean_to b now same path value, clean_from b now same path value)
 
 -- so do closures by the clean build
-pub clean_close_to : (b : Build) (now : Folder) → SameSources b now → (step : Step) (members : List (List ℕ × Value)) → IsClose b (Clean b) step members → IsClose (moved b now) (Clean (moved b now)) step members
+pub clean_close_to : (b : Build) (now : Folder) → SameSources b now → (step : Step) (members : List (List ℕ × Value)) → IsClosure b (Clean b) step members → IsClosure (moved b now) (Clean (moved b now)) step members
 clean_close_to b now same step members close = close_to b now same (Clean b) (Clean (moved b now)) (clean_to b now same) (clean_from b now same) step members close
 
 -- what is known by fewer values of the other build

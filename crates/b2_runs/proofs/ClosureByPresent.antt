@@ -14,7 +14,7 @@ use Rattle.b2_runs.proofs.MakerIsOne.{source_not_made, maker_is_one}
 use Rattle.b2_runs.proofs.CleanIsOne.{clean_is_one, clean_is_made}
 use Rattle.b2_runs.proofs.SourcesAreKept.{source_clean, source_kept}
 use Rattle.b2_runs.proofs.OutputsAreClean.{settled_holds}
-use Rattle.b2_runs.proofs.SettledStays.{close_on_settled}
+use Rattle.b2_runs.proofs.SettledStays.{closure_on_settled}
 use Rattle.b2_runs.proofs.RunGoesOn.{started_has_closure, done_was_started, settled_has_value}
 use Rattle.b2_runs.proofs.CleanBySources.{known_to, close_to}
 use Rattle.b2_runs.proofs.SettledAfterwards.{same_sources}
@@ -32,7 +32,7 @@ origin : (u : Update) (events : List ChildEvent) (path : List ℕ) → Apart u.b
 origin u events path apart run (source p bytes s) = inl (bytes, s)
 origin u events path apart run (done_well i step p makes done) =
     let (members, close) = started_has_closure u events i step apart run (done_was_started u events i true run done) makes.at in
-    inr (record { number = i; step = step; makes = makes; members = members; clean = clean_is_made u.build i step p members apart makes ((close_on_settled u events step members apart).0 close).0 })
+    inr (record { number = i; step = step; makes = makes; members = members; clean = clean_is_made u.build i step p members apart makes ((closure_on_settled u events step members apart).0 close).0 })
 origin u events path apart run (fresh i step p members makes not_started close inside f) =
     inr (record { number = i; step = step; makes = makes; members = members; clean = clean_is_made u.build i step p members apart makes close })
 

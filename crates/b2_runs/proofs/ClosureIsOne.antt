@@ -1,8 +1,9 @@
 use Rattle.std.proofs.Common.{◌≡◌, ℕ, List, subst, arith, Less, nat_cmp}
 use Rattle.std.specs.List.{Contains}
 use Rattle.std.specs.Cmp.Lexicographic.{slice_cmp, nat_list_cmp_total}
-use Rattle.b2_plan.specs.Closures.{Value, Values, Before, IsClose}
-use Rattle.b2_runs.specs.ClosureLaws.{CloseIsOne}
+use Rattle.b2_plan.specs.Closures.{Value, Values, IsClosure}
+use Rattle.b2_base.specs.Bytes.{Before}
+use Rattle.b2_runs.specs.ClosureLaws.{ClosureIsOne}
 use Rattle.b2_runs.proofs.FirstElementOrLater.{same_ordered}
 
 pub Before_irrefl : (p : List ℕ) → Before p p → ⊥
@@ -12,12 +13,12 @@ pub Before_trans : (p q r : List ℕ) → Before p q → Before q r → Before p
 Before_trans p q r = nat_list_cmp_total.trans p q r
 
 -- the closure is one list
-pub close_is_one : (v : Values) → CloseIsOne v
-close_is_one v b step xs ys one p q =
+pub closure_is_one : (v : Values) → ClosureIsOne v
+closure_is_one v b step xs ys one p q =
     same_ordered (λ x y. Before x.0 y.0) (λ x. Before_irrefl x.0) (λ x y z. Before_trans x.0 y.0 z.0) xs ys p.ordered q.ordered
     (λ m c. moves xs ys p q m.0 m.1 c) (λ m c. moves ys xs q p m.0 m.1 c)
   where
-    moves : (xs ys : List (List ℕ × Value)) → IsClose b v step xs → IsClose b v step ys → (path : List ℕ) (x : Value) → Contains xs (path, x) → Contains ys (path, x)
+    moves : (xs ys : List (List ℕ × Value)) → IsClosure b v step xs → IsClosure b v step ys → (path : List ℕ) (x : Value) → Contains xs (path, x) → Contains ys (path, x)
     moves xs ys p q path x c =
         let (k, h) = p.each path x c in
         let (y, d) = q.whole path k in

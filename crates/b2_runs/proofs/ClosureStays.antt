@@ -2,8 +2,8 @@ use Rattle.std.proofs.Common.{ℕ, List, subst, Some}
 use Rattle.std.specs.List.{Contains}
 use Rattle.b2_plan.specs.declared.step.Step.{Step}
 use Rattle.b2_plan.specs.Sources.{Build}
-use Rattle.b2_plan.specs.Closures.{Value, Values, Known, Known.input, Known.include, IsClose}
-use Rattle.b2_runs.specs.ClosureLaws.{Extends, IsMap, KnownGrows, CloseStays, KnownIsLocal, CloseIsLocal}
+use Rattle.b2_plan.specs.Closures.{Value, Values, Known, Known.input, Known.include, IsClosure}
+use Rattle.b2_runs.specs.ClosureLaws.{Extends, IsMap, KnownGrows, ClosureStays, KnownIsLocal, ClosureIsLocal}
 
 -- more known values leave no less known
 pub known_grows : (v more : Values) → KnownGrows v more
@@ -19,21 +19,21 @@ known_stays b v more step extends one has path (include p bytes found k says inc
     include p bytes found before (subst (v p) (one p x (Some bytes) (extends p x here) says) here) inc
 
 -- each member of a closure has a value
-pub close_has : (b : Build) (v : Values) (step : Step) (members : List (List ℕ × Value)) → IsClose b v step members → (path : List ℕ) → Known b v step path → (x : Value) × v path x
+pub close_has : (b : Build) (v : Values) (step : Step) (members : List (List ℕ × Value)) → IsClosure b v step members → (path : List ℕ) → Known b v step path → (x : Value) × v path x
 close_has b v step members close path k =
     let (x, c) = close.whole path k in
     (x, (close.each path x c).1)
 
 -- a closure stays the same where more values are known
-pub close_stays : (v more : Values) → CloseStays v more
-close_stays v more b step members extends one close = record {
+pub closure_stays : (v more : Values) → ClosureStays v more
+closure_stays v more b step members extends one close = record {
   ordered = close.ordered;
   each = λ path x c. let (k, h) = close.each path x c in (known_grows v more b step path extends k, extends path x h);
   whole = λ path k. close.whole path (known_stays b v more step extends one (close_has b v step members close) path k);
 }
 
 -- a closure by more values is one by fewer, where its members have them
-pub close_back : (b : Build) (v more : Values) (step : Step) (members : List (List ℕ × Value)) → Extends v more → IsMap more → IsClose b more step members → ((path : List ℕ) (x : Value) → Contains members (path, x) → v path x) → IsClose b v step members
+pub close_back : (b : Build) (v more : Values) (step : Step) (members : List (List ℕ × Value)) → Extends v more → IsMap more → IsClosure b more step members → ((path : List ℕ) (x : Value) → Contains members (path, x) → v path x) → IsClosure b v step members
 close_back b v more step members extends one close low =
     let up : (path : List ℕ) → Known b v step path → Known b more step path = λ path k. known_grows v more b step path extends k in
     let down : (path : List ℕ) → Known b more step path → Known b v step path =
@@ -57,8 +57,8 @@ known_here v other b step here path (include p bytes found k says inc) = let kno
 pub known_is_local : (v other : Values) → KnownIsLocal v other
 known_is_local v other b step path agree = (known_there v other b step (λ p x k. (agree p x k).0) path, known_here v other b step (λ p x k. (agree p x k).1) path)
 
-pub close_is_local : (v other : Values) → CloseIsLocal v other
-close_is_local v other b step members agree = (
+pub closure_is_local : (v other : Values) → ClosureIsLocal v other
+closure_is_local v other b step members agree = (
   λ close. record {
     ordered = close.ordered;
     each = λ path x c. let (k, h) = close.each path x c in (known_there v other b step (λ p y j. (agree p y j).0) path k, (agree path x k).0 h);

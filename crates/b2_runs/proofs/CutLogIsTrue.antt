@@ -17,7 +17,7 @@ use Rattle.b2_runs.specs.Staleness.{Update, making}
 use Rattle.b2_runs.specs.Runs.{OpenEnds, IsBegun}
 use Rattle.b2_runs.specs.Afterwards.{IsNoted}
 use Rattle.b2_runs.specs.LogCourses.{FirstLines, FirstLines.as_it_is, IsLogAfter, held_bytes, log_file, left_file, IsLogCut, IsLogCut.untouched, IsLogCut.replacing, IsLogCut.between, IsLogCut.within}
-use Rattle.b2_runs.specs.LogCourseLaws.{WholeLogCounts, WholeIsCut, HealthyGrows, CutLogIsTrue, CutLogIsNoted, FinishedIsKept, FinishedIsNotStarted}
+use Rattle.b2_runs.specs.LogCourseLaws.{WholeLogCounts, WholeIsCut, WholeLogIsAppendedTo, CutLogIsTrue, CutLogIsNoted, FinishedIsKept, FinishedIsNotStarted}
 use Rattle.b2_runs.proofs.TrueWithLine.{true_with_fewer}
 use Rattle.b2_runs.proofs.RunGoesOn.{run_has_begun}
 use Rattle.b2_runs.proofs.BegunUpToStart.{sound_before_ends, begun_holds_earlier}
@@ -101,7 +101,7 @@ ends_later before (e ∷ more) rest (first, ends) = subst (λ es. OpenEnds es re
 grown : (u : Update) (now : Folder) (first log : List LogLine) (events : List ChildEvent) → IsLogAfter u now first events log → (more : List ℕ) × (log_bytes log ≡ log_bytes first ++ more)
 grown u now first log events c = let (more, e) = log_grows u now first log events c in (log_bytes more, ap log_bytes e ∙ flat_map-append spelling first more)
 
-pub healthy_grows : HealthyGrows
+pub healthy_grows : WholeLogIsAppendedTo
 healthy_grows u events now bytes log at fits_in r short cut = go cut
   where
     same : log_bytes log ≡ bytes

@@ -10,7 +10,7 @@ use Rattle.b2_host.specs.ChildProcesses.{Child, HasMade}
 use Rattle.b2_plan.specs.declared.step.Step.{Step}
 use Rattle.b2_plan.specs.Plans.{Apart, Makes}
 use Rattle.b2_plan.specs.Sources.{Build}
-use Rattle.b2_plan.specs.Closures.{Value, IsClose, with_bytes}
+use Rattle.b2_plan.specs.Closures.{Value, IsClosure, with_bytes}
 use Rattle.b2_plan.specs.Cleans.{Clean, value_of}
 use Rattle.b2_runs.specs.Staleness.{Update, making}
 use Rattle.b2_runs.specs.Soundness.{Holds, IsSound, IsAtWork}
@@ -76,7 +76,7 @@ sound_done u events disk i well s new = record {
 }
 
 -- what a step made of its closure by the clean build is the clean build's
-pub made_clean : (b : Build) → Apart b.steps b.roots → (now : Folder) (i : ℕ) (step : Step) (members : List (List ℕ × Value)) (path : List ℕ) → Makes b.steps i step path → IsClose b (Clean b) step members
+pub made_clean : (b : Build) → Apart b.steps b.roots → (now : Folder) (i : ℕ) (step : Step) (members : List (List ℕ × Value)) (path : List ℕ) → Makes b.steps i step path → IsClosure b (Clean b) step members
     → Holds now path (Some (b.made step.text (with_bytes members) path)) → (value : Value) × Clean b path value × Holds now path value
 made_clean b apart now i step members path makes close holds =
     (value_of b step members path, clean_is_made b i step path members apart makes close, go step.notfile)
@@ -91,8 +91,8 @@ work_is_allowed u events running before after at_work keeps worked = record {
   keeps = keeps;
   others = λ path not_log none. worked.others path (λ w.
       let a = at_work.each w.child w.runs in
-      none w.child.step a.fed.step
-      (record { at = a.fed.at; among = subst (λ outs. Contains outs path) (a.outs ∙ a.fed.outs) w.out })
+      none w.child.step a.given_closure.step
+      (record { at = a.given_closure.at; among = subst (λ outs. Contains outs path) (a.outs ∙ a.given_closure.outs) w.out })
       (a.is_open.0, λ d. a.is_open.1 true d));
   grows = λ old c. subst (λ past. Contains past old) (sym worked.past) (Contains-append_left before.past worked.more old c);
 }
@@ -126,12 +126,12 @@ contains_at (y ∷ ys) (suc place) x e = Contains_there y x ys (contains_at ys p
 end_clean : (u : Update) (events : List ChildEvent) → Apart u.build.steps u.build.roots → (child : Child) (before after : Disk) → IsAtWork u events child → HasMade u.build.made child before after
     → (step : Step) (path : List ℕ) → Makes u.build.steps child.step step path → (value : Value) × Clean u.build path value × Holds after.now path value
 end_clean u events apart child before after a made step path makes =
-    let same : step ≡ a.fed.step = one_step u.build.steps child.step step a.fed.step makes.at a.fed.at in
-    let out : Contains child.outs path = subst (λ outs. Contains outs path) (ap (λ (s : Step). s.outs) same ∙ sym a.fed.outs ∙ sym a.outs) makes.among in
+    let same : step ≡ a.given_closure.step = one_step u.build.steps child.step step a.given_closure.step makes.at a.given_closure.at in
+    let out : Contains child.outs path = subst (λ outs. Contains outs path) (ap (λ (s : Step). s.outs) same ∙ sym a.given_closure.outs ∙ sym a.outs) makes.among in
     let (file, at, bytes, above) = made a.given a.told path out in
-    let what : bytes_at after.now path ≡ Some (u.build.made a.fed.step.text (with_bytes a.fed.members) path) =
-    ap (option_map (λ (x : File). x.bytes)) at ∙ (λ i. Some (bytes i)) ∙ (λ i. Some (u.build.made (a.fed.text i) (a.fed.held i) path)) in
-    made_clean u.build apart after.now child.step a.fed.step a.fed.members path (subst (λ s. Makes u.build.steps child.step s path) same makes) a.fed.close what
+    let what : bytes_at after.now path ≡ Some (u.build.made a.given_closure.step.text (with_bytes a.given_closure.members) path) =
+    ap (option_map (λ (x : File). x.bytes)) at ∙ (λ i. Some (bytes i)) ∙ (λ i. Some (u.build.made (a.given_closure.text i) (a.given_closure.held i) path)) in
+    made_clean u.build apart after.now child.step a.given_closure.step a.given_closure.members path (subst (λ s. Makes u.build.steps child.step s path) same makes) a.given_closure.close what
 
 -- an end leaves the disk sound
 pub sound_after_end : SoundAfterEnd

@@ -45,7 +45,7 @@ nothing_left_through_work u events running before after log apart at_work worked
   files = λ k step path bad makes.
       worked.others path (λ w.
       let a = at_work.each w.child w.runs in
-      let e = apart.one_maker w.child.step k a.fed.step step path (record { at = a.fed.at; among = subst (λ outs. Contains outs path) (a.outs ∙ a.fed.outs) w.out }) makes in
+      let e = apart.one_maker w.child.step k a.given_closure.step step path (record { at = a.given_closure.at; among = subst (λ outs. Contains outs path) (a.outs ∙ a.given_closure.outs) w.out }) makes in
       a.is_open.1 false (subst (λ j. Contains events (Done j false)) (sym e) bad))
       ∙ l.files k step path bad makes;
   records = l.records;

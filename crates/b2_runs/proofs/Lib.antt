@@ -69,3 +69,4 @@ pub mod AllWentStartsNothing
 pub mod TrueThroughSession
 pub mod SessionEndsClean
 pub mod StopLeavesNone
+pub mod NamedStartIsLine

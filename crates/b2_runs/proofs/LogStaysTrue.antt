@@ -6,7 +6,7 @@ use Rattle.b2_host.specs.declared.children.ChildEvent.TheVariants.{Start, Done}
 use Rattle.b2_host.specs.Disks.{File, Folder, Disk, Stood}
 use Rattle.b2_plan.specs.declared.step.Step.{Step}
 use Rattle.b2_plan.specs.Plans.{Apart, step_at}
-use Rattle.b2_plan.specs.Closures.{Value, IsClose, with_bytes}
+use Rattle.b2_plan.specs.Closures.{Value, IsClosure, with_bytes}
 use Rattle.b2_plan.specs.Cleans.{Clean}
 use Rattle.b2_log.specs.declared.line.Record.{Record}
 use Rattle.b2_log.specs.declared.line.Digests.{Digests}
@@ -24,7 +24,7 @@ use Rattle.b2_runs.proofs.TrueWithLine.{true_with_line}
 use Rattle.b2_runs.proofs.SameByStamp.{whole_file, stamped_move, path_in_back, with_bytes_in}
 use Rattle.b2_runs.proofs.SameByDigest.{digested_move}
 use Rattle.b2_runs.proofs.OutputsAreClean.{settled_holds}
-use Rattle.b2_runs.proofs.SettledStays.{settled_grows, close_on_settled}
+use Rattle.b2_runs.proofs.SettledStays.{settled_grows, closure_on_settled}
 use Rattle.b2_runs.proofs.RunGoesOn.{run_has_begun, done_was_started}
 use Rattle.b2_runs.proofs.RecordIsTrue.{record_is_true}
 use Rattle.b2_runs.proofs.NotedAfterEachEvent.{settled_still, done_inside}
@@ -45,7 +45,7 @@ pub settled_on : (u : Update) (events : List ChildEvent) → Apart u.build.steps
 settled_on u events apart e r path s = settled_grows u events apart e (last_may u events e r) path s
 
 -- the members and the outputs of a step that was done well are settled
-done_members : (u : Update) (events : List ChildEvent) → Apart u.build.steps u.build.roots → (i : ℕ) (step : Step) (members : List (List ℕ × Value)) → IsRunSoFar u (events ++ Done i true ∷ []) → step_at u.build.steps i ≡ Some step → IsClose u.build (Clean u.build) step members
+done_members : (u : Update) (events : List ChildEvent) → Apart u.build.steps u.build.roots → (i : ℕ) (step : Step) (members : List (List ℕ × Value)) → IsRunSoFar u (events ++ Done i true ∷ []) → step_at u.build.steps i ≡ Some step → IsClosure u.build (Clean u.build) step members
     → (member : List ℕ) (value : Value) → Contains members (member, value) → Settled u (events ++ Done i true ∷ []) member
 done_members u events apart i step members run at close =
     done_inside u (events ++ Done i true ∷ []) apart run i step members at (done_was_started u (events ++ Done i true ∷ []) i true run (Contains-push events (Done i true))) close
@@ -55,8 +55,8 @@ done_outs u events i step at out c = done_well i step out (record { at = at; amo
 
 -- so are those of a step that is to get a record with digests
 pub migrated_close : (u : Update) (events : List ChildEvent) (step : Step) (members : List (List ℕ × Value)) → Apart u.build.steps u.build.roots → IsToMigrate u events step members
-    → IsClose u.build (Clean u.build) step members × ((member : List ℕ) (value : Value) → Contains members (member, value) → Settled u events member)
-migrated_close u events step members apart to = (close_on_settled u events step members apart).0 to.close
+    → IsClosure u.build (Clean u.build) step members × ((member : List ℕ) (value : Value) → Contains members (member, value) → Settled u events member)
+migrated_close u events step members apart to = (closure_on_settled u events step members apart).0 to.close
 
 migrated_outs : (u : Update) (events : List ChildEvent) (step : Step) (members : List (List ℕ × Value)) → Apart u.build.steps u.build.roots → IsToMigrate u events step members → (out : List ℕ) → Contains step.outs out → Settled u events out
 migrated_outs u events step members apart to out c =

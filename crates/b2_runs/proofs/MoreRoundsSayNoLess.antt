@@ -3,19 +3,19 @@ use Rattle.std.specs.List.{Contains}
 use Rattle.b2_plan.specs.declared.step.Step.{Step}
 use Rattle.b2_plan.specs.Plans.{Apart}
 use Rattle.b2_plan.specs.Sources.{Build}
-use Rattle.b2_plan.specs.Closures.{Value, Values, IsClose}
+use Rattle.b2_plan.specs.Closures.{Value, Values, IsClosure}
 use Rattle.b2_plan.specs.Cleans.{value_of, IsBuilt, IsSourceValue, Val}
 use Rattle.b2_runs.specs.ClosureLaws.{Extends, IsMap}
-use Rattle.b2_runs.proofs.ClosureStays.{close_stays, close_back}
-use Rattle.b2_runs.proofs.ClosureIsOne.{close_is_one}
+use Rattle.b2_runs.proofs.ClosureStays.{closure_stays, close_back}
+use Rattle.b2_runs.proofs.ClosureIsOne.{closure_is_one}
 use Rattle.b2_runs.proofs.MakerIsOne.{source_not_made, maker_is_one}
 
 source_is_one : (b : Build) (path : List ℕ) (x y : Value) → IsSourceValue b path x → IsSourceValue b path y → x ≡ y
 source_is_one b path x y (p, s, e) (q, t, f) = e ∙ sym s.stands ∙ t.stands ∙ sym f
 
-values_are_one : (b : Build) (v : Values) (s t : Step) (xs ys : List (List ℕ × Value)) (path : List ℕ) → IsMap v → s ≡ t → IsClose b v s xs → IsClose b v t ys → value_of b s xs path ≡ value_of b t ys path
+values_are_one : (b : Build) (v : Values) (s t : Step) (xs ys : List (List ℕ × Value)) (path : List ℕ) → IsMap v → s ≡ t → IsClosure b v s xs → IsClosure b v t ys → value_of b s xs path ≡ value_of b t ys path
 values_are_one b v s t xs ys path one e p q =
-    let f : xs ≡ ys = close_is_one v b s xs ys one p (subst (λ z. IsClose b v z ys) (sym e) q) in
+    let f : xs ≡ ys = closure_is_one v b s xs ys one p (subst (λ z. IsClosure b v z ys) (sym e) q) in
     λ i. value_of b (e i) (f i) path
 
 built_is_one : (b : Build) (v : Values) → Apart b.steps b.roots → IsMap v → (path : List ℕ) (x y : Value) → IsBuilt b v path x → IsBuilt b v path y → x ≡ y
@@ -31,7 +31,7 @@ val_is_one b apart (suc n) path x y (inr s) (inl t) = absurd (source_not_made b 
 val_is_one b apart (suc n) path x y (inr s) (inr t) = built_is_one b (Val b n) apart (val_is_one b apart n) path x y s t
 
 built_stays : (b : Build) (v more : Values) → Extends v more → IsMap more → (path : List ℕ) (x : Value) → IsBuilt b v path x → IsBuilt b more path x
-built_stays b v more extends one path x s = record { number = s.number; step = s.step; makes = s.makes; members = s.members; close = close_stays v more b s.step s.members extends one s.close; is = s.is }
+built_stays b v more extends one path x s = record { number = s.number; step = s.step; makes = s.makes; members = s.members; close = closure_stays v more b s.step s.members extends one s.close; is = s.is }
 
 -- one round more says no less
 val_step : (b : Build) → Apart b.steps b.roots → (n : ℕ) → Extends (Val b n) (Val b (suc n))
@@ -51,8 +51,8 @@ val_up b apart n (suc m) h path x s = elim (split_le n m h) [
 ]
 
 -- a closure by some rounds is one by others, where its members have values by them
-pub close_at : (b : Build) → Apart b.steps b.roots → (n r : ℕ) (step : Step) (members : List (List ℕ × Value)) → IsClose b (Val b n) step members → ((path : List ℕ) (x : Value) → Contains members (path, x) → Val b r path x) → IsClose b (Val b r) step members
+pub close_at : (b : Build) → Apart b.steps b.roots → (n r : ℕ) (step : Step) (members : List (List ℕ × Value)) → IsClosure b (Val b n) step members → ((path : List ℕ) (x : Value) → Contains members (path, x) → Val b r path x) → IsClosure b (Val b r) step members
 close_at b apart n r step members close low =
     let top = max r n in
-    let wide : IsClose b (Val b top) step members = close_stays (Val b n) (Val b top) b step members (val_up b apart n top (omega arith)) (val_is_one b apart top) close in
+    let wide : IsClosure b (Val b top) step members = closure_stays (Val b n) (Val b top) b step members (val_up b apart n top (omega arith)) (val_is_one b apart top) close in
     close_back b (Val b r) (Val b top) step members (val_up b apart r top (omega arith)) (val_is_one b apart top) wide low

@@ -3,7 +3,8 @@ use Rattle.std.specs.List.{Contains, AllPairs}
 use Rattle.b2_host.specs.declared.children.ChildEvent.{ChildEvent}
 use Rattle.b2_plan.specs.declared.step.Step.{Step}
 use Rattle.b2_plan.specs.Plans.{Apart, step_at}
-use Rattle.b2_plan.specs.Closures.{Value, Known, Before, IsClose}
+use Rattle.b2_plan.specs.Closures.{Value, Known, IsClosure}
+use Rattle.b2_base.specs.Bytes.{Before}
 use Rattle.b2_runs.specs.Staleness.{Update, IsFresh}
 use Rattle.b2_runs.specs.Runs.{Settled, on_settled, Needed, Needed.wanted, Needed.member, IsRunSoFar}
 use Rattle.b2_runs.specs.Outcomes.{IsFailed, IsLeft, Skipped, Skipped.missing, Skipped.failed, Skipped.skipped, Skipped.quits}
@@ -11,7 +12,7 @@ use Rattle.b2_runs.specs.Numbers.{MakesWanted, NeedsStep, LacksSource, NeededOf,
 use Rattle.b2_runs.specs.NumberLaws.{NeededByNumbers, CanStartByNumbers, SkippedByNumbers, StuckByNumbers, ClosedByNumbers, CannotStartByNeed, CannotStartWithout, CannotStartFresh, ClosedBySettled}
 use Rattle.b2_runs.proofs.FirstElementOrLater.{AllPairs_head, AllPairs_tail, Contains_here, Contains_there, Contains_cases, Contains_nil}
 use Rattle.b2_runs.proofs.NumberHasOneStep.{one_step}
-use Rattle.b2_runs.proofs.SettledStays.{same_members, close_on_settled}
+use Rattle.b2_runs.proofs.SettledStays.{same_members, closure_on_settled}
 use Rattle.b2_runs.proofs.RunGoesOn.{settled_has_value}
 use Rattle.b2_runs.proofs.ValuesCanBeGathered.{Sooner, pairs_cons}
 use Rattle.b2_runs.proofs.SkippedExactly.{settled_given, outputs_settle_together}
@@ -74,7 +75,7 @@ stuck_by_numbers u events i k = (
 )
 
 -- what a step with a closure is known to read is settled
-known_settled : (u : Update) (events : List ChildEvent) (i : ℕ) (step other : Step) (members : List (List ℕ × Value)) (path : List ℕ) → step_at u.build.steps i ≡ Some step → step_at u.build.steps i ≡ Some other → IsClose u.build (on_settled u events) step members
+known_settled : (u : Update) (events : List ChildEvent) (i : ℕ) (step other : Step) (members : List (List ℕ × Value)) (path : List ℕ) → step_at u.build.steps i ≡ Some step → step_at u.build.steps i ≡ Some other → IsClosure u.build (on_settled u events) step members
     → Known u.build (on_settled u events) other path → Settled u events path
 known_settled u events i step other members path at at_other close known =
     let same : step ≡ other = one_step u.build.steps i step other at at_other in
@@ -96,7 +97,7 @@ cannot_start_without u events i apart l can = (closed_by_numbers u events i can.
 pub cannot_start_fresh : CannotStartFresh
 cannot_start_fresh u events i step members apart at close f can =
     let same : step ≡ can.step = one_step u.build.steps i step can.step at can.at in
-    let one : members ≡ can.members = same_members u apart i step can.step at can.at members can.members ((close_on_settled u events step members apart).0 close).0 ((close_on_settled u events can.step can.members apart).0 can.close).0 in
+    let one : members ≡ can.members = same_members u apart i step can.step at can.at members can.members ((closure_on_settled u events step members apart).0 close).0 ((closure_on_settled u events can.step can.members apart).0 can.close).0 in
     can.stale (subst (λ ms. IsFresh u events can.step ms) one (subst (λ s. IsFresh u events s members) same f))
 
 -- Settled paths, with their values.

@@ -1,7 +1,7 @@
 use Rattle.std.proofs.Common.{◌≡◌, ℕ, ◌<◌, List, [], ◌∷◌, inl, inr, refl, arith}
 use Rattle.std.specs.List.{Contains}
 use Rattle.b2_host.specs.declared.children.ChildEvent.{ChildEvent}
-use Rattle.b2_plan.specs.Closures.{Before}
+use Rattle.b2_base.specs.Bytes.{Before}
 use Rattle.b2_runs.specs.Staleness.{Update}
 use Rattle.b2_runs.specs.Outcomes.{IsListOf, ArePathsOf, NoneStuck}
 use Rattle.b2_runs.specs.Cycles.{IsStepCycle}

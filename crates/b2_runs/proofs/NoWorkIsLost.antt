@@ -15,7 +15,7 @@ use Rattle.b2_runs.specs.StopLaws.{FinishedIsRecorded, FreshThoughStopped, NotSt
 use Rattle.b2_runs.proofs.FirstElementOrLater.{Contains_nil}
 use Rattle.b2_runs.proofs.NumberHasOneStep.{one_step}
 use Rattle.b2_runs.proofs.OneEventMore.{start_in_start, done_in_start, start_in_done, done_in_done}
-use Rattle.b2_runs.proofs.SettledStays.{fresh_events, close_on_settled, same_members}
+use Rattle.b2_runs.proofs.SettledStays.{fresh_events, closure_on_settled, same_members}
 use Rattle.b2_runs.proofs.CleanBySources.{clean_close_to}
 use Rattle.b2_runs.proofs.SettledAfterwards.{same_sources, recorded_next, judge_next, fresh_afterwards}
 use Rattle.b2_runs.proofs.BegunUpToStart.{sound_before_ends}
@@ -47,7 +47,7 @@ rests u events later disk log quit jobs i step path apart run sound noted begun 
     fresh_events next [] later step j.members (λ was m y k other well c makes_m d. none k other m makes_m (j.inside m y c) (λ r. calm (through i step path j.members m y makes j.close c r)) (begun k well d)) j.is_fresh in
     let same : step ≡ can.step = one_step u.build.steps i step can.step makes.at can.at in
     let close = clean_close_to u.build disk.now (same_sources u events disk apart sound) step j.members j.close in
-    let close_can = (close_on_settled next later can.step can.members apart).0 can.close in
+    let close_can = (closure_on_settled next later can.step can.members apart).0 can.close in
     let one : j.members ≡ can.members = same_members next apart i step can.step makes.at can.at j.members can.members close close_can.0 in
     can.stale (subst₂ (λ s ms. IsFresh next later s ms) same one f)
 

@@ -6,8 +6,9 @@ use Rattle.b2_host.specs.declared.children.ChildEvent.{ChildEvent}
 use Rattle.b2_host.specs.declared.children.ChildEvent.TheVariants.{Start, Done}
 use Rattle.b2_host.specs.Disks.{Folder, Disk}
 use Rattle.b2_plan.specs.declared.step.Step.{Step}
-use Rattle.b2_plan.specs.Plans.{log_path, Apart, Makes, step_at}
-use Rattle.b2_plan.specs.Closures.{Value, IsClose, with_bytes}
+use Rattle.b2_plan.specs.Plans.{Apart, Makes, step_at}
+use Rattle.b2_host.specs.FileCalls.{log_path}
+use Rattle.b2_plan.specs.Closures.{Value, IsClosure, with_bytes}
 use Rattle.b2_plan.specs.Cleans.{Clean}
 use Rattle.b2_log.specs.declared.line.LogLine.{LogLine}
 use Rattle.b2_log.specs.declared.line.LogLine.TheVariants as lines
@@ -29,7 +30,7 @@ use Rattle.b2_runs.proofs.SameByStamp.{stamped_paths, stamped_move, path_in_back
 use Rattle.b2_runs.proofs.SameByDigest.{digested_move}
 use Rattle.b2_runs.proofs.SourcesAreKept.{source_not_log, out_not_log}
 use Rattle.b2_runs.proofs.OneEventMore.{done_in_start, done_in_done}
-use Rattle.b2_runs.proofs.SettledStays.{settled_after_start, settled_after_end, close_on_settled, same_members}
+use Rattle.b2_runs.proofs.SettledStays.{settled_after_start, settled_after_end, closure_on_settled, same_members}
 use Rattle.b2_runs.proofs.RunGoesOn.{started_has_closure, done_was_started}
 use Rattle.b2_runs.proofs.JudgedByPresent.{none_older_move}
 
@@ -74,11 +75,11 @@ pub settled_still : (u : Update) (events : List ChildEvent) (before after : Disk
 settled_still u events before after apart d path s = d.others path (settled_not_log u events apart path s) (λ i step makes loose. loose_not_settled u events apart i loose step path makes s)
 
 -- the members of a step that is done well are settled
-pub done_inside : (u : Update) (events : List ChildEvent) → Apart u.build.steps u.build.roots → IsRunSoFar u events → (i : ℕ) (step : Step) (members : List (List ℕ × Value)) → step_at u.build.steps i ≡ Some step → Contains events (Start i) → IsClose u.build (Clean u.build) step members
+pub done_inside : (u : Update) (events : List ChildEvent) → Apart u.build.steps u.build.roots → IsRunSoFar u events → (i : ℕ) (step : Step) (members : List (List ℕ × Value)) → step_at u.build.steps i ≡ Some step → Contains events (Start i) → IsClosure u.build (Clean u.build) step members
     → (member : List ℕ) (value : Value) → Contains members (member, value) → Settled u events member
 done_inside u events apart run i step members at started close m y c =
     let (others, on) = started_has_closure u events i step apart run started at in
-    let (close_other, inside) = (close_on_settled u events step others apart).0 on in
+    let (close_other, inside) = (closure_on_settled u events step others apart).0 on in
     inside m y (subst (λ ms. Contains ms (m, y)) (same_members u apart i step step at at members others close close_other) c)
 
 -- the record of a step stays that of the files, where its outputs and members stand as before
@@ -122,7 +123,7 @@ noted_after_change u events before after log apart run d n = record {
     outs : (i : ℕ) (step : Step) → step_at u.build.steps i ≡ Some step → Contains events (Done i true) → (out : List ℕ) → Contains step.outs out → after.now out ≡ before.now out
     outs i step at done out c = settled_still u events before after apart d out (done_well i step out (record { at = at; among = c }) done)
 
-    ins : (i : ℕ) (step : Step) (members : List (List ℕ × Value)) → step_at u.build.steps i ≡ Some step → Contains events (Done i true) → IsClose u.build (Clean u.build) step members → (m : List ℕ) (y : Value) → Contains members (m, y) → after.now m ≡ before.now m
+    ins : (i : ℕ) (step : Step) (members : List (List ℕ × Value)) → step_at u.build.steps i ≡ Some step → Contains events (Done i true) → IsClosure u.build (Clean u.build) step members → (m : List ℕ) (y : Value) → Contains members (m, y) → after.now m ≡ before.now m
     ins i step members at done close m y c = settled_still u events before after apart d m (done_inside u events apart run i step members at (done_was_started u events i true run done) close m y c)
 
     unstarted : (i : ℕ) (step : Step) → step_at u.build.steps i ≡ Some step → (Contains events (Start i) → ⊥) → (out : List ℕ) → Contains step.outs out → after.now out ≡ before.now out

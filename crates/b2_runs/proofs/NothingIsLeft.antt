@@ -5,7 +5,7 @@ use Rattle.b2_host.specs.declared.children.ChildEvent.TheVariants.{Start, Done}
 use Rattle.b2_plan.specs.declared.step.Step.{Step}
 use Rattle.b2_plan.specs.Plans.{Apart, Makes, step_at}
 use Rattle.b2_plan.specs.Sources.{Build, IsMissing}
-use Rattle.b2_plan.specs.Closures.{Value, Known, Known.input, Known.include, IsClose}
+use Rattle.b2_plan.specs.Closures.{Value, Known, Known.input, Known.include, IsClosure}
 use Rattle.b2_plan.specs.Cleans.{Val, Clean}
 use Rattle.b2_runs.specs.Staleness.{Update}
 use Rattle.b2_runs.specs.Runs.{Settled, Settled.source, Settled.done_well, Settled.fresh, on_settled, Needed, Needed.member, IsRun}
@@ -16,7 +16,7 @@ use Rattle.b2_runs.proofs.NumberHasOneStep.{one_step}
 use Rattle.b2_runs.proofs.MakerIsOne.{source_not_made, maker_is_one}
 use Rattle.b2_runs.proofs.MoreRoundsSayNoLess.{close_at}
 use Rattle.b2_runs.proofs.RoundsAreEnough.{rounds_enough}
-use Rattle.b2_runs.proofs.SettledStays.{close_on_settled}
+use Rattle.b2_runs.proofs.SettledStays.{closure_on_settled}
 use Rattle.b2_runs.proofs.StartsAreDone.{starts_are_done}
 
 -- what cannot be false of each cannot be false of all
@@ -29,7 +29,7 @@ all_at_once P (y ∷ ys) each none =
 
 -- a needed step whose closure is settled cannot but be settled, where a run has ended and nothing failed
 ready_settled : (u : Update) (events : List ChildEvent) → Apart u.build.steps u.build.roots → 1 ≤ u.jobs → IsRun u events → ((i : ℕ) → IsFailed events i → ⊥)
-    → (i : ℕ) (step : Step) (members : List (List ℕ × Value)) → step_at u.build.steps i ≡ Some step → Needed u events i → IsClose u.build (on_settled u events) step members → (IsSettledStep u events i → ⊥) → ⊥
+    → (i : ℕ) (step : Step) (members : List (List ℕ × Value)) → step_at u.build.steps i ≡ Some step → Needed u events i → IsClosure u.build (on_settled u events) step members → (IsSettledStep u events i → ⊥) → ⊥
 ready_settled u events apart jobs run none_failed i step members at needed close not_settled =
     run.none_left i (record {
       step = step;
@@ -40,7 +40,7 @@ ready_settled u events apart jobs run none_failed i step members at needed close
       close = close;
       stale = λ f. not_settled (λ other path makes.
           let same : step ≡ other = one_step u.build.steps i step other at makes.at in
-          let (by_clean, inside) = (close_on_settled u events step members apart).0 close in
+          let (by_clean, inside) = (closure_on_settled u events step members apart).0 close in
           fresh i step path members (subst (λ s. Makes u.build.steps i s path) (sym same) makes) not_started by_clean inside f);
       room = (let e = starts_are_done u events run.each run.none_open in omega arith);
       goes_on = λ quit k bad. none_failed k bad;
@@ -79,8 +79,8 @@ value_settled u events apart jobs run none_failed zero i step path x needed make
 value_settled u events apart jobs run none_failed (suc n) i step path x needed makes (inl (bytes, s, e)) not_settled = source_not_made u.build apart path bytes s i step makes
 value_settled u events apart jobs run none_failed (suc n) i step path x needed makes (inr b) not_settled =
     let same : b.step ≡ step = maker_is_one u.build apart b.number i b.step step path b.makes makes in
-    let close : IsClose u.build (Val u.build n) step b.members = subst (λ s. IsClose u.build (Val u.build n) s b.members) same b.close in
-    let wide : IsClose u.build (Clean u.build) step b.members =
+    let close : IsClosure u.build (Val u.build n) step b.members = subst (λ s. IsClosure u.build (Val u.build n) s b.members) same b.close in
+    let wide : IsClosure u.build (Clean u.build) step b.members =
     close_at u.build apart n (length u.build.steps) step b.members close (λ p y c. rounds_enough u.build apart n p y (close.each p y c).1) in
     all_at_once (λ (m : List ℕ × Value). Settled u events m.0) b.members
     (λ m c not_m.
@@ -88,7 +88,7 @@ value_settled u events apart jobs run none_failed (suc n) i step path x needed m
     known_on u events apart n (value_settled u events apart jobs run none_failed n) i step makes.at needed m.0 known (λ on.
     known_settled u events n (value_settled u events apart jobs run none_failed n) i step makes.at needed m.0 m.1 on value not_m))
     (λ inside. ready_settled u events apart jobs run none_failed i step b.members makes.at needed
-    ((close_on_settled u events step b.members apart).1 wide (λ p y c. inside (p, y) c)) not_settled)
+    ((closure_on_settled u events step b.members apart).1 wide (λ p y c. inside (p, y) c)) not_settled)
 
 -- so no needed step is left
 pub nothing_is_left : NothingIsLeft

@@ -7,7 +7,7 @@ use Rattle.b2_host.specs.Disks.{Disk}
 use Rattle.b2_plan.specs.declared.step.Step.{Step}
 use Rattle.b2_plan.specs.Plans.{Makes, Apart}
 use Rattle.b2_plan.specs.Sources.{Build}
-use Rattle.b2_plan.specs.Closures.{Value, Known, IsClose}
+use Rattle.b2_plan.specs.Closures.{Value, Known, IsClosure}
 use Rattle.b2_plan.specs.Cleans.{Clean}
 use Rattle.b2_log.specs.declared.line.LogLine.{LogLine}
 use Rattle.b2_runs.specs.Staleness.{Update, IsFresh}
@@ -22,20 +22,20 @@ use Rattle.b2_runs.proofs.ClosureStays.{known_stays, close_has}
 use Rattle.b2_runs.proofs.MakerIsOne.{source_not_made, maker_is_one}
 use Rattle.b2_runs.proofs.CleanIsOne.{clean_is_one}
 use Rattle.b2_runs.proofs.OneEventMore.{start_in_start, done_in_start, start_in_done, done_in_done}
-use Rattle.b2_runs.proofs.SettledStays.{fresh_events, close_on_settled, same_members}
+use Rattle.b2_runs.proofs.SettledStays.{fresh_events, closure_on_settled, same_members}
 use Rattle.b2_runs.proofs.RunGoesOn.{started_has_closure, done_was_started}
 use Rattle.b2_runs.proofs.CleanBySources.{clean_close_to, clean_from, known_from}
 use Rattle.b2_runs.proofs.SettledAfterwards.{same_sources, judge_next}
 
 -- a settled output has its step's closure on what is settled
 pub settled_closure : (u : Update) (events : List ChildEvent) → Apart u.build.steps u.build.roots → IsRunSoFar u events → (i : ℕ) (step : Step) (path : List ℕ) → Makes u.build.steps i step path → Settled u events path
-    → (members : List (List ℕ × Value)) × IsClose u.build (on_settled u events) step members
+    → (members : List (List ℕ × Value)) × IsClosure u.build (on_settled u events) step members
 settled_closure u events apart run i step path makes (source p bytes s) = absurd (source_not_made u.build apart p bytes s i step makes)
 settled_closure u events apart run i step path makes (done_well k s p makes_k done) =
     let (members, close) = started_has_closure u events k s apart run (done_was_started u events k true run done) makes_k.at in
-    (members, subst (λ z. IsClose u.build (on_settled u events) z members) (maker_is_one u.build apart k i s step p makes_k makes) close)
+    (members, subst (λ z. IsClosure u.build (on_settled u events) z members) (maker_is_one u.build apart k i s step p makes_k makes) close)
 settled_closure u events apart run i step path makes (fresh k s p members makes_k not_started close inside f) =
-    (members, subst (λ z. IsClose u.build (on_settled u events) z members) (maker_is_one u.build apart k i s step p makes_k makes) ((close_on_settled u events s members apart).1 close inside))
+    (members, subst (λ z. IsClosure u.build (on_settled u events) z members) (maker_is_one u.build apart k i s step p makes_k makes) ((closure_on_settled u events s members apart).1 close inside))
 
 -- where all went well, a needed step is settled
 pub needed_settled : (u : Update) (events : List ChildEvent) → AllWent u events → (i : ℕ) → Needed u events i → IsSettledStep u events i
@@ -84,7 +84,7 @@ calm_waits u events later disk log quit jobs i step path apart run sound noted w
     let f : IsFresh next later step j.members = fresh_later next u.build later i step path j.members begun none calm_members j.is_fresh in
     let same : step ≡ can.step = one_step u.build.steps i step can.step makes.at can.at in
     let close = clean_close_to u.build disk.now (same_sources u events disk apart sound) step j.members j.close in
-    let close_can = (close_on_settled next later can.step can.members apart).0 can.close in
+    let close_can = (closure_on_settled next later can.step can.members apart).0 can.close in
     let one : j.members ≡ can.members = same_members next apart i step can.step makes.at can.at j.members can.members close close_can.0 in
     can.stale (subst₂ (λ s ms. IsFresh next later s ms) same one f)
 

@@ -21,13 +21,13 @@ pub outputs_are_newer : OutputsAreNewer
 outputs_are_newer u events old new before after i step members apart run at_work keeps ends at close out member value written read c_out c_member at_out at_member =
     let a : IsAtWork u events ends.child = at_work.each ends.child (contains_at old.running ends.place ends.child ends.ran) in
     let at_step : step_at u.build.steps ends.child.step ≡ Some step = subst (λ j. step_at u.build.steps j ≡ Some step) (sym ends.step_is) at in
-    let same : step ≡ a.fed.step = one_step u.build.steps ends.child.step step a.fed.step at_step a.fed.at in
-    let among : Contains ends.child.outs out = subst (λ outs. Contains outs out) (ap (λ (s : Step). s.outs) same ∙ sym a.fed.outs ∙ sym a.outs) c_out in
+    let same : step ≡ a.given_closure.step = one_step u.build.steps ends.child.step step a.given_closure.step at_step a.given_closure.at in
+    let among : Contains ends.child.outs out = subst (λ outs. Contains outs out) (ap (λ (s : Step). s.outs) same ∙ sym a.given_closure.outs ∙ sym a.outs) c_out in
     let (file, at_file, bytes, above) = ends.made_all refl a.given a.told out among in
     let settled : Settled u events member = done_inside u events apart run ends.child.step step members at_step a.is_open.0 close member value c_member in
     let still : after.now member ≡ before.now member = ends.worked.others member (λ w.
     let b = at_work.each w.child w.runs in
-    open_not_settled u events apart w.child.step b.is_open b.fed.step member (record { at = b.fed.at; among = subst (λ outs. Contains outs member) (b.outs ∙ b.fed.outs) w.out }) settled) in
+    open_not_settled u events apart w.child.step b.is_open b.given_closure.step member (record { at = b.given_closure.at; among = subst (λ outs. Contains outs member) (b.outs ∙ b.given_closure.outs) w.out }) settled) in
     let older : read.stamp < file.stamp = above _ (keeps.stands member read (sym still ∙ at_member)) in
     let one : file ≡ written = (let f : Some file ≡ Some written = sym at_file ∙ at_out in cc) in
     let e : file.stamp ≡ written.stamp = ap (λ (f : File). f.stamp) one in

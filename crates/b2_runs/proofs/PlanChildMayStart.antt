@@ -45,11 +45,11 @@ pub at_work_is_planned : AtWorkIsPlanned
 at_work_is_planned u events settled running apart run at_work tells not_open child c =
     let a = at_work.each child c in
     record {
-      step = a.fed.step;
-      at = a.fed.at;
+      step = a.given_closure.step;
+      at = a.given_closure.at;
       not_settled = not_open child.step a.is_open;
-      outs = a.outs ∙ a.fed.outs;
+      outs = a.outs ∙ a.given_closure.outs;
       ins = λ path k other read makes.
-          let (bytes, named) = path_in_back (with_bytes a.fed.members) path (subst (λ l. Contains l path) (a.ins ∙ a.fed.ins) read) in
-          tells k (outputs_settle_together u events k other path apart makes (open_inside u events apart run child a path (Some bytes) (with_bytes_in a.fed.members path bytes named)));
+          let (bytes, named) = path_in_back (with_bytes a.given_closure.members) path (subst (λ l. Contains l path) (a.ins ∙ a.given_closure.ins) read) in
+          tells k (outputs_settle_together u events k other path apart makes (open_inside u events apart run child a path (Some bytes) (with_bytes_in a.given_closure.members path bytes named)));
     }

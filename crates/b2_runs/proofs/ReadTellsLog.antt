@@ -2,7 +2,7 @@ use Rattle.std.proofs.Common.{◌≡◌, ℕ, [], sym, ap, subst, arith, None}
 use Rattle.std.specs.Prelude.{option_map}
 use Rattle.b2_host.specs.declared.files.ReadAnswer.TheVariants as answers
 use Rattle.b2_host.specs.Disks.{File, bytes_at}
-use Rattle.b2_plan.specs.Plans.{log_path}
+use Rattle.b2_host.specs.FileCalls.{log_path}
 use Rattle.b2_log.specs.Readings.{IsReading}
 use Rattle.b2_log.specs.Finding.{told}
 use Rattle.b2_runs.specs.LogFiles.{IsLogOf, IsLogOf.is_read, IsLogOf.is_large, IsLogHeld}

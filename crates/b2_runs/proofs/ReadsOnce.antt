@@ -4,7 +4,8 @@ use Rattle.std.proofs.lemmas.List.Elements.{Contains-push_cases}
 use Rattle.b2_host.specs.declared.children.ChildEvent.{ChildEvent}
 use Rattle.b2_host.specs.Disks.{Past, IsOneEach}
 use Rattle.b2_host.specs.Outside.{Read}
-use Rattle.b2_plan.specs.Plans.{log_path, Apart}
+use Rattle.b2_plan.specs.Plans.{Apart}
+use Rattle.b2_host.specs.FileCalls.{log_path}
 use Rattle.b2_log.specs.declared.line.LogLine.{LogLine}
 use Rattle.b2_log.specs.Readings.{IsReading}
 use Rattle.b2_log.specs.Finding.{find_scan}

@@ -1,7 +1,8 @@
 use Rattle.std.proofs.Common.{◌≡◌, ◌≢◌, ℕ, suc, ◌<◌, List, [], ◌∷◌, length, refl, sym, ap, subst, ◌∙◌, arith, Option, Some, None}
 use Rattle.std.specs.List.{AllPairs, AllByRecursion}
 use Rattle.b2_host.specs.Disks.{Folder}
-use Rattle.b2_plan.specs.Closures.{Value, Before, with_bytes}
+use Rattle.b2_plan.specs.Closures.{Value, with_bytes}
+use Rattle.b2_base.specs.Bytes.{Before}
 use Rattle.b2_plan.specs.declared.step.Step.{Step}
 use Rattle.b2_log.specs.declared.line.Record.{Record}
 use Rattle.b2_log.specs.declared.line.Digests.{Digests}

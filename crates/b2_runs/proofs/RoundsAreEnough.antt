@@ -5,7 +5,7 @@ use Rattle.std.proofs.lemmas.Option.{slice_get_within}
 use Rattle.b2_plan.specs.declared.step.Step.{Step}
 use Rattle.b2_plan.specs.Plans.{Apart}
 use Rattle.b2_plan.specs.Sources.{Build}
-use Rattle.b2_plan.specs.Closures.{Value, IsClose}
+use Rattle.b2_plan.specs.Closures.{Value, IsClosure}
 use Rattle.b2_plan.specs.Cleans.{value_of, Val}
 use Rattle.b2_runs.specs.CleanLaws.{RoundsAreEnough}
 use Rattle.b2_runs.proofs.FirstElementOrLater.{Contains_here, Contains_there, Contains_cases, Contains_nil}
@@ -17,7 +17,7 @@ record At (b : Build) (n place : ℕ) : Type 0 where
   step : Step
   at : slice_get b.steps place ≡ Some step
   members : List (List ℕ × Value)
-  close : IsClose b (Val b n) step members
+  close : IsClosure b (Val b n) step members
 
 -- the same by few rounds, where those of the list are not among them
 record Low (b : Build) (tower : List ℕ) (place : ℕ) : Type 0 where
@@ -71,7 +71,7 @@ value_low b apart (suc n) ih tower distinct within path x (inr s) =
       | inl low ↦
           let same : low.known.step ≡ s.step = (let p : slice_get b.steps place ≡ Some low.known.step = low.known.at in let q : slice_get b.steps place ≡ Some s.step = at in cc) in
           let new : Val b (suc low.r) path (value_of b s.step low.known.members path) =
-          inr (record { number = s.number; step = s.step; makes = s.makes; members = low.known.members; close = subst (λ z. IsClose b (Val b low.r) z low.known.members) same low.known.close; is = refl }) in
+          inr (record { number = s.number; step = s.step; makes = s.makes; members = low.known.members; close = subst (λ z. IsClosure b (Val b low.r) z low.known.members) same low.known.close; is = refl }) in
           let top = max (suc low.r) (suc n) in
           let one : value_of b s.step low.known.members path ≡ x = val_is_one b apart top path _ x (val_up b apart (suc low.r) top (omega arith) path _ new) (val_up b apart (suc n) top (omega arith) path x (inr s)) in
           let few = low.few in

@@ -6,7 +6,7 @@ use Rattle.b2_host.specs.Disks.{Folder, Disk}
 use Rattle.b2_plan.specs.declared.step.Step.{Step}
 use Rattle.b2_plan.specs.Plans.{Makes, Apart}
 use Rattle.b2_plan.specs.Sources.{Build, IsInRoots}
-use Rattle.b2_plan.specs.Closures.{Value, IsClose}
+use Rattle.b2_plan.specs.Closures.{Value, IsClosure}
 use Rattle.b2_plan.specs.Cleans.{Val, Clean}
 use Rattle.b2_log.specs.declared.line.LogLine.{LogLine}
 use Rattle.b2_log.specs.Finding.{find_record}
@@ -16,14 +16,14 @@ use Rattle.b2_runs.specs.Soundness.{IsSound}
 use Rattle.b2_runs.specs.Afterwards.{at_present, next_update, IsMadeEachTime, IsMadeEachTime.always, IsMadeEachTime.notfile, IsMadeEachTime.through, IsNotedStep, IsMigrated, IsNoted}
 use Rattle.b2_runs.specs.AfterLaws.{SettledAfterwards, FreshAfterwards}
 use Rattle.b2_runs.proofs.FirstElementOrLater.{Contains_nil}
-use Rattle.b2_runs.proofs.ClosureIsOne.{close_is_one}
+use Rattle.b2_runs.proofs.ClosureIsOne.{closure_is_one}
 use Rattle.b2_runs.proofs.MakerIsOne.{source_not_made, maker_is_one}
 use Rattle.b2_runs.proofs.MoreRoundsSayNoLess.{close_at}
 use Rattle.b2_runs.proofs.RoundsAreEnough.{rounds_enough}
 use Rattle.b2_runs.proofs.CleanIsOne.{clean_is_one}
 use Rattle.b2_runs.proofs.SameByStamp.{stamp_of, stamped_file}
 use Rattle.b2_runs.proofs.SourcesAreKept.{log_in_roots, unstarted_kept}
-use Rattle.b2_runs.proofs.SettledStays.{fresh_events, close_on_settled}
+use Rattle.b2_runs.proofs.SettledStays.{fresh_events, closure_on_settled}
 use Rattle.b2_runs.proofs.RunGoesOn.{started_has_closure, done_was_started, settled_has_value}
 use Rattle.b2_runs.proofs.CleanBySources.{SameSources, source_to, clean_close_to}
 use Rattle.b2_runs.proofs.JudgedByPresent.{fresh_move, settled_kept}
@@ -38,20 +38,20 @@ same_sources u events disk apart sound path outside =
     sound.only_outputs path (λ e. outside (subst (IsInRoots u.build.roots) (sym e) (log_in_roots u.build apart))) (λ i step started makes. outside (apart.under_root i step path makes))
 
 -- a value by some rounds has its closure's members by one round fewer
-below : (b : Build) → Apart b.steps b.roots → (n i : ℕ) (step : Step) (path : List ℕ) (x : Value) (members : List (List ℕ × Value)) → Makes b.steps i step path → IsClose b (Clean b) step members → Val b n path x
+below : (b : Build) → Apart b.steps b.roots → (n i : ℕ) (step : Step) (path : List ℕ) (x : Value) (members : List (List ℕ × Value)) → Makes b.steps i step path → IsClosure b (Clean b) step members → Val b n path x
     → (k : ℕ) × (n ≡ suc k) × ((member : List ℕ) (value : Value) → Contains members (member, value) → Val b k member value)
 below b apart zero i step path x members makes close (bytes, s, e) = absurd (source_not_made b apart path bytes s i step makes)
 below b apart (suc n) i step path x members makes close (inl (bytes, s, e)) = absurd (source_not_made b apart path bytes s i step makes)
 below b apart (suc n) i step path x members makes close (inr s) =
     let same : s.step ≡ step = maker_is_one b apart s.number i s.step step path s.makes makes in
-    let wide : IsClose b (Clean b) s.step s.members = close_at b apart n (length b.steps) s.step s.members s.close (λ p y c. rounds_enough b apart n p y (s.close.each p y c).1) in
-    let one : s.members ≡ members = close_is_one (Clean b) b step s.members members (clean_is_one b apart) (subst (λ z. IsClose b (Clean b) z s.members) same wide) close in
+    let wide : IsClosure b (Clean b) s.step s.members = close_at b apart n (length b.steps) s.step s.members s.close (λ p y c. rounds_enough b apart n p y (s.close.each p y c).1) in
+    let one : s.members ≡ members = closure_is_one (Clean b) b step s.members members (clean_is_one b apart) (subst (λ z. IsClosure b (Clean b) z s.members) same wide) close in
     (n, refl, subst (λ ms. (member : List ℕ) (value : Value) → Contains ms (member, value) → Val b n member value) one (λ m y c. (s.close.each m y c).1))
 
 -- What the next update judges of a step whose outputs were settled.
 pub record Judged (u : Update) (events : List ChildEvent) (next : Update) (step : Step) : Type 0 where
   pub members : List (List ℕ × Value)
-  pub close : IsClose u.build (Clean u.build) step members
+  pub close : IsClosure u.build (Clean u.build) step members
   pub inside : (member : List ℕ) (value : Value) → Contains members (member, value) → Settled u events member
   pub is_fresh : IsFresh next [] step members
 
@@ -68,7 +68,7 @@ judge_done : (u : Update) (events : List ChildEvent) (disk : Disk) (log : List L
     → (i : ℕ) (step : Step) (path : List ℕ) → Makes u.build.steps i step path → Contains events (Done i true) → (IsMadeEachTime u.build path → ⊥) → Judged u events (next_update u disk.now log quit jobs) step
 judge_done u events disk log quit jobs apart run noted i step path makes done calm =
     let (members, on) = started_has_closure u events i step apart run (done_was_started u events i true run done) makes.at in
-    let (close, inside) = (close_on_settled u events step members apart).0 on in
+    let (close, inside) = (closure_on_settled u events step members apart).0 on in
     let file : step.notfile ≡ false = is_false step.notfile (λ e. calm (notfile i step path makes e)) in
     let n = noted.recorded i step members makes.at done file close in
     record {
@@ -110,7 +110,7 @@ fresh_next u now log quit jobs step members f = record {
 
 -- a step that was fresh is fresh as before, or by the record with digests that it got
 judge_fresh : (u : Update) (events : List ChildEvent) (disk : Disk) (log : List LogLine) (quit : Bool) (jobs : ℕ) → Apart u.build.steps u.build.roots → IsSound u events disk → IsNoted u events disk.now log
-    → (i : ℕ) (step : Step) (path : List ℕ) (members : List (List ℕ × Value)) → Makes u.build.steps i step path → (Contains events (Start i) → ⊥) → IsClose u.build (Clean u.build) step members
+    → (i : ℕ) (step : Step) (path : List ℕ) (members : List (List ℕ × Value)) → Makes u.build.steps i step path → (Contains events (Start i) → ⊥) → IsClosure u.build (Clean u.build) step members
     → ((member : List ℕ) (value : Value) → Contains members (member, value) → Settled u events member) → IsFresh u events step members → Judged u events (next_update u disk.now log quit jobs) step
 judge_fresh u events disk log quit jobs apart sound noted i step path members makes not_started close inside f =
     record { members = members; close = close; inside = inside; is_fresh = go (noted.not_started i step makes.at not_started) }
@@ -123,7 +123,7 @@ judge_fresh u events disk log quit jobs apart sound noted i step path members ma
         (fresh_move u events disk.now log step members out_same
         (λ none m y c. settled_kept u events disk apart sound m (inside m y c) (λ k s well makes_m done. none m y k s well c makes_m done)) says f))
     go (inr g) =
-        let one : g.members ≡ members = close_is_one (Clean u.build) u.build step g.members members (clean_is_one u.build apart) g.close close in
+        let one : g.members ≡ members = closure_is_one (Clean u.build) u.build step g.members members (clean_is_one u.build apart) g.close close in
         record {
           not_all = refl;
           not_always = f.not_always;
@@ -183,6 +183,6 @@ fresh_afterwards u events disk log quit jobs i step path apart run sound noted m
     settled_afterwards u events disk log quit jobs m apart run sound noted (j.inside m y c) (λ r. calm (through i step path j.members m y makes j.close c r)) in
     record {
       members = j.members;
-      close = (close_on_settled (next_update u disk.now log quit jobs) [] step j.members apart).1 (clean_close_to u.build disk.now (same_sources u events disk apart sound) step j.members j.close) inside;
+      close = (closure_on_settled (next_update u disk.now log quit jobs) [] step j.members apart).1 (clean_close_to u.build disk.now (same_sources u events disk apart sound) step j.members j.close) inside;
       is_fresh = j.is_fresh;
     }

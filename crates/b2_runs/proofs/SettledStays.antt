@@ -5,32 +5,32 @@ use Rattle.b2_host.specs.declared.children.ChildEvent.{ChildEvent}
 use Rattle.b2_host.specs.declared.children.ChildEvent.TheVariants.{Start, Done}
 use Rattle.b2_plan.specs.declared.step.Step.{Step}
 use Rattle.b2_plan.specs.Plans.{Makes, Apart, step_at}
-use Rattle.b2_plan.specs.Closures.{Value, IsClose}
+use Rattle.b2_plan.specs.Closures.{Value, IsClosure}
 use Rattle.b2_plan.specs.Cleans.{Clean}
 use Rattle.b2_runs.specs.Staleness.{Update, NoneDone, Agrees, Agrees.by_stamps, Agrees.by_digests, IsFresh}
 use Rattle.b2_runs.specs.Events.{IsOpen}
 use Rattle.b2_runs.specs.Runs.{Settled, Settled.source, Settled.done_well, Settled.fresh, on_settled, Needed, Needed.wanted, Needed.member, MayCome}
-use Rattle.b2_runs.specs.RunLaws.{SettledAfterStart, SettledAfterEnd, NeededGrows, CloseOnSettled, VerdictStays, CloseOnSettledStays}
+use Rattle.b2_runs.specs.RunLaws.{SettledAfterStart, SettledAfterEnd, NeededGrows, ClosureOnSettled, VerdictStays, ClosureOnSettledStays}
 use Rattle.b2_runs.proofs.NumberHasOneStep.{one_step}
-use Rattle.b2_runs.proofs.ClosureStays.{known_grows, close_stays, close_back}
-use Rattle.b2_runs.proofs.ClosureIsOne.{close_is_one}
+use Rattle.b2_runs.proofs.ClosureStays.{known_grows, closure_stays, close_back}
+use Rattle.b2_runs.proofs.ClosureIsOne.{closure_is_one}
 use Rattle.b2_runs.proofs.MakerIsOne.{source_not_made}
 use Rattle.b2_runs.proofs.CleanIsOne.{clean_is_one}
 use Rattle.b2_runs.proofs.OneEventMore.{done_in_start, start_in_start, start_in_done, done_in_done}
 
 -- a closure by what is settled is one by the clean build, all of it settled
-pub close_on_settled : CloseOnSettled
-close_on_settled u events step members apart = (
-  λ close. (close_stays (on_settled u events) (Clean u.build) u.build step members (λ p x s. s.1) (clean_is_one u.build apart) close, λ p x c. (close.each p x c).1.0),
+pub closure_on_settled : ClosureOnSettled
+closure_on_settled u events step members apart = (
+  λ close. (closure_stays (on_settled u events) (Clean u.build) u.build step members (λ p x s. s.1) (clean_is_one u.build apart) close, λ p x c. (close.each p x c).1.0),
   λ close all. close_back u.build (on_settled u events) (Clean u.build) step members (λ p x s. s.1) (clean_is_one u.build apart) close (λ p x c. (all p x c, (close.each p x c).1)),
 )
 
 -- two closures of one step by the clean build are the same
 pub same_members : (u : Update) → Apart u.build.steps u.build.roots → (i : ℕ) (step other : Step) → step_at u.build.steps i ≡ Some step → step_at u.build.steps i ≡ Some other → (members others : List (List ℕ × Value))
-    → IsClose u.build (Clean u.build) step members → IsClose u.build (Clean u.build) other others → members ≡ others
+    → IsClosure u.build (Clean u.build) step members → IsClosure u.build (Clean u.build) other others → members ≡ others
 same_members u apart i step other at at_other members others close close_other =
-    close_is_one (Clean u.build) u.build step members others (clean_is_one u.build apart) close
-    (subst (λ s. IsClose u.build (Clean u.build) s others) (sym (one_step u.build.steps i step other at at_other)) close_other)
+    closure_is_one (Clean u.build) u.build step members others (clean_is_one u.build apart) close
+    (subst (λ s. IsClosure u.build (Clean u.build) s others) (sym (one_step u.build.steps i step other at at_other)) close_other)
 
 -- an output of a step that runs is not settled
 pub open_not_settled : (u : Update) (events : List ChildEvent) → Apart u.build.steps u.build.roots → (i : ℕ) → IsOpen events i → (step : Step) (path : List ℕ) → Makes u.build.steps i step path → Settled u events path → ⊥
@@ -86,7 +86,7 @@ settled_after_start u events i path apart can (fresh k s p members makes not_sta
     other e =
         let at : step_at u.build.steps k ≡ Some can.step = subst (λ n. step_at u.build.steps n ≡ Some can.step) e can.at in
         let same : can.step ≡ s = one_step u.build.steps k can.step s at makes.at in
-        let one : can.members ≡ members = same_members u apart k can.step s at makes.at can.members members ((close_on_settled u events can.step can.members apart).0 can.close).0 close in
+        let one : can.members ≡ members = same_members u apart k can.step s at makes.at can.members members ((closure_on_settled u events can.step can.members apart).0 can.close).0 close in
         can.stale (subst₂ (λ t ms. IsFresh u events t ms) (sym same) (sym one) f)
 
 -- and as a step ends
@@ -123,6 +123,6 @@ verdict_stays u events (Done i well) step members apart may inside = (
 )
 
 -- and so does its closure
-pub close_on_settled_stays : CloseOnSettledStays
-close_on_settled_stays u events event step members apart may close =
-    close_stays (on_settled u events) (on_settled u (events ++ event ∷ [])) u.build step members (λ p x s. (settled_grows u events apart event may p s.0, s.1)) (λ p x y s t. clean_is_one u.build apart p x y s.1 t.1) close
+pub closure_on_settled_stays : ClosureOnSettledStays
+closure_on_settled_stays u events event step members apart may close =
+    closure_stays (on_settled u events) (on_settled u (events ++ event ∷ [])) u.build step members (λ p x s. (settled_grows u events apart event may p s.0, s.1)) (λ p x y s t. clean_is_one u.build apart p x y s.1 t.1) close

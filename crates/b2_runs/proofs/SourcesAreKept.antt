@@ -4,7 +4,8 @@ use Rattle.b2_host.specs.declared.children.ChildEvent.{ChildEvent}
 use Rattle.b2_host.specs.declared.children.ChildEvent.TheVariants.{Start}
 use Rattle.b2_host.specs.Disks.{Disk}
 use Rattle.b2_plan.specs.declared.step.Step.{Step}
-use Rattle.b2_plan.specs.Plans.{log_path, Makes, Apart}
+use Rattle.b2_plan.specs.Plans.{Makes, Apart}
+use Rattle.b2_host.specs.FileCalls.{log_path}
 use Rattle.b2_plan.specs.Sources.{Build, IsSource, IsInRoots}
 use Rattle.b2_plan.specs.Closures.{Value, with_bytes}
 use Rattle.b2_plan.specs.Cleans.{Clean, value_of}

@@ -4,7 +4,7 @@ use Rattle.b2_runs.specs.Runs.{Settled.fresh, on_settled}
 use Rattle.b2_runs.specs.NumberLaws.{NeedsGrow, LacksGrow, StaleStepStays, FreshStepStays, FreshStepSettles}
 use Rattle.b2_runs.proofs.NumberHasOneStep.{one_step}
 use Rattle.b2_runs.proofs.ClosureStays.{known_grows}
-use Rattle.b2_runs.proofs.SettledStays.{close_on_settled, settled_grows, verdict_stays, close_on_settled_stays}
+use Rattle.b2_runs.proofs.SettledStays.{closure_on_settled, settled_grows, verdict_stays, closure_on_settled_stays}
 
 pub needs_grow : NeedsGrow
 needs_grow u events event i k apart may r = record {
@@ -30,19 +30,19 @@ stale_step_stays u events event i apart may s = record {
   step = s.step;
   at = s.at;
   members = s.members;
-  close = close_on_settled_stays u events event s.step s.members apart may s.close;
-  stale = λ f. s.stale ((verdict_stays u events event s.step s.members apart may ((close_on_settled u events s.step s.members apart).0 s.close).1).1 f);
+  close = closure_on_settled_stays u events event s.step s.members apart may s.close;
+  stale = λ f. s.stale ((verdict_stays u events event s.step s.members apart may ((closure_on_settled u events s.step s.members apart).0 s.close).1).1 f);
 }
 
 pub fresh_step_stays : FreshStepStays
 fresh_step_stays u events event step apart may f = record {
   members = f.members;
-  close = close_on_settled_stays u events event step f.members apart may f.close;
-  is_fresh = (verdict_stays u events event step f.members apart may ((close_on_settled u events step f.members apart).0 f.close).1).0 f.is_fresh;
+  close = closure_on_settled_stays u events event step f.members apart may f.close;
+  is_fresh = (verdict_stays u events event step f.members apart may ((closure_on_settled u events step f.members apart).0 f.close).1).0 f.is_fresh;
 }
 
 pub fresh_step_settles : FreshStepSettles
 fresh_step_settles u events i step apart at not_started f = λ other path makes.
     let same : other ≡ step = one_step u.build.steps i other step makes.at at in
-    let (close, inside) = (close_on_settled u events step f.members apart).0 f.close in
+    let (close, inside) = (closure_on_settled u events step f.members apart).0 f.close in
     fresh i step path f.members (subst (λ s. Makes u.build.steps i s path) same makes) not_started close inside f.is_fresh

@@ -15,7 +15,7 @@ pub noted_through_reopen : NotedThroughReopen
 noted_through_reopen u answer old before now between after log apart shows h r is fits =
     let running = between.host.children.running in
     let worked : ChangesOnlyOutputs running now r.new = subst (λ d. ChangesOnlyOutputs running d r.new) (sym (shown_is_one between now r.old shows r.shows)) r.worked in
-    let still = work_leaves_log u.build.steps u.build.roots running now r.new apart (λ child c. let a = h.at_work.each child c in (a.fed.step, a.fed.at, a.outs ∙ a.fed.outs)) worked in
+    let still = work_leaves_log u.build.steps u.build.roots running now r.new apart (λ child c. let a = h.at_work.each child c in (a.given_closure.step, a.given_closure.at, a.outs ∙ a.given_closure.outs)) worked in
     elim (h.noted log (subst (λ o. IsLogHeld o log) still is) (subst (λ (o : Option (List ℕ)). length (held_bytes o) ≤ log_limit) still fits)) [
       | inl none ↦ inl none
       | inr (b, n) ↦ inr (b, noted_through_ends u h.events now r.new log b apart (work_is_allowed u h.events running now r.new h.at_work r.keeps worked) n)

@@ -4,14 +4,14 @@ use Rattle.b2_host.specs.declared.children.ChildEvent.{ChildEvent}
 use Rattle.b2_host.specs.declared.children.ChildEvent.TheVariants.{Start, Done}
 use Rattle.b2_plan.specs.declared.step.Step.{Step}
 use Rattle.b2_plan.specs.Plans.{Apart, Makes, step_at}
-use Rattle.b2_plan.specs.Closures.{Value, Known, IsClose}
+use Rattle.b2_plan.specs.Closures.{Value, Known, IsClosure}
 use Rattle.b2_runs.specs.Staleness.{Update}
 use Rattle.b2_runs.specs.Runs.{Settled, Settled.source, Settled.done_well, Settled.fresh, on_settled, Needed.member, CanStart, IsRun}
 use Rattle.b2_runs.specs.Outcomes.{IsStuck, Skipped.missing, Skipped.failed, Skipped.skipped, Skipped.quits}
 use Rattle.b2_runs.specs.StuckLaws.{StuckByStuck, StuckNeedsStuck}
 use Rattle.b2_runs.proofs.NumberHasOneStep.{one_step}
 use Rattle.b2_runs.proofs.SourcesAreKept.{source_clean}
-use Rattle.b2_runs.proofs.SettledStays.{close_on_settled}
+use Rattle.b2_runs.proofs.SettledStays.{closure_on_settled}
 use Rattle.b2_runs.proofs.RunGoesOn.{settled_has_value}
 use Rattle.b2_runs.proofs.StartsAreDone.{starts_are_done}
 use Rattle.b2_runs.proofs.ValuesCanBeGathered.{gather}
@@ -37,10 +37,10 @@ stuck_not_started u events i run stuck started = run.none_open i (started, λ we
 
 -- a step that is stuck could start, if all of its closure were settled
 stuck_could_start : (u : Update) (events : List ChildEvent) (i : ℕ) (step : Step) (members : List (List ℕ × Value)) → Apart u.build.steps u.build.roots → 1 ≤ u.jobs → IsRun u events → IsStuck u events i → step_at u.build.steps i ≡ Some step
-    → IsClose u.build (on_settled u events) step members → CanStart u events i
+    → IsClosure u.build (on_settled u events) step members → CanStart u events i
 stuck_could_start u events i step members apart jobs run stuck at close =
     let not_started : Contains events (Start i) → ⊥ = stuck_not_started u events i run stuck in
-    let (by_clean, inside) = (close_on_settled u events step members apart).0 close in
+    let (by_clean, inside) = (closure_on_settled u events step members apart).0 close in
     record {
       step = step;
       at = at;

@@ -11,7 +11,7 @@ use Rattle.b2_runs.specs.Runs.{Settled, Settled.done_well, on_settled}
 use Rattle.b2_runs.specs.Soundness.{Holds, IsSound}
 use Rattle.b2_runs.specs.FileReads.{scan_limit, digest_limit, IsInput, IsNeededOut, IsToDigest, IsToDigest.input, IsToDigest.output, IsTooBig, IsTooBig.to_scan, IsTooBig.to_digest}
 use Rattle.b2_runs.specs.ReadLaws.{LargeIsTooBig, TooBigIsLarge, NothingTooBig, TooBigThroughEnd, TooBigThroughChange}
-use Rattle.b2_runs.proofs.ClosureStays.{known_grows, close_stays}
+use Rattle.b2_runs.proofs.ClosureStays.{known_grows, closure_stays}
 use Rattle.b2_runs.proofs.CleanIsOne.{clean_is_one}
 use Rattle.b2_runs.proofs.SourcesAreKept.{unstarted_kept, out_not_log}
 use Rattle.b2_runs.proofs.OutputsAreClean.{settled_holds, out_bytes}
@@ -71,7 +71,7 @@ too_big_through_end u events now path size i well apart opened big = go big
     digested bytes (input on read s) = input on (input_up u events (events ++ Done i well ∷ []) path grows read) (grows path s.0, s.1)
     digested bytes (output out members on owes close still stands) =
         output (out_up u events (events ++ Done i well ∷ []) path grows out) members on owes
-        (close_stays (on_settled u events) (on_settled u (events ++ Done i well ∷ [])) u.build out.step members (λ p x s. (grows p s.0, s.1)) (λ p x y s t. clean_is_one u.build apart p x y s.1 t.1) close)
+        (closure_stays (on_settled u events) (on_settled u (events ++ Done i well ∷ [])) u.build out.step members (λ p x s. (grows p s.0, s.1)) (λ p x y s t. clean_is_one u.build apart p x y s.1 t.1) close)
         (elim still [ inl not_started ↦ inl (λ c. not_started (start_in_done events i out.number well c)) | inr done ↦ inr (Contains-append_left events (Done i well ∷ []) (Done out.number true) done) ])
         stands
 

@@ -6,7 +6,8 @@ use Rattle.std.proofs.lemmas.List.Elements.{Contains-append_left}
 use Rattle.std.proofs.lemmas.Slice.Eq.{bytes_eq-Decides}
 use Rattle.b2_host.specs.Disks.{File, without}
 use Rattle.b2_host.specs.ChildProcesses.{IsWritten}
-use Rattle.b2_plan.specs.Plans.{log_path, Makes}
+use Rattle.b2_plan.specs.Plans.{Makes}
+use Rattle.b2_host.specs.FileCalls.{log_path}
 use Rattle.b2_runs.specs.LogFiles.{IsLogHeld}
 use Rattle.b2_runs.specs.LogFileLaws.{TrueByFile, TrueWhereMissing, TrueWhereStill, TrueThroughWork, TrueThroughRemoval}
 use Rattle.b2_runs.specs.Staleness.{making}
@@ -31,7 +32,7 @@ true_through_work u events running before after apart at_work w t =
     untouched : IsWritten running log_path → ⊥
     untouched written =
         let a = at_work.each written.child written.runs in
-        apart.not_log written.child.step a.fed.step (record { at = a.fed.at; among = subst (λ outs. Contains outs log_path) (a.outs ∙ a.fed.outs) written.out })
+        apart.not_log written.child.step a.given_closure.step (record { at = a.given_closure.at; among = subst (λ outs. Contains outs log_path) (a.outs ∙ a.given_closure.outs) written.out })
 
 -- an output is not the log
 pub true_through_removal : TrueThroughRemoval

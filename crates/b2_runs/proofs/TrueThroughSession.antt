@@ -7,7 +7,8 @@ use Rattle.std.proofs.lemmas.List.Elements.{Contains-append_left}
 use Rattle.b2_host.specs.Disks.{File, Folder, Disk, Past, bytes_at}
 use Rattle.b2_host.specs.ChildProcesses.{Child, ChangesOnlyOutputs}
 use Rattle.b2_plan.specs.declared.step.Step.{Step}
-use Rattle.b2_plan.specs.Plans.{log_path, Apart, step_at}
+use Rattle.b2_plan.specs.Plans.{Apart, step_at}
+use Rattle.b2_host.specs.FileCalls.{log_path}
 use Rattle.b2_runs.specs.Logs.{Making}
 use Rattle.b2_runs.specs.LogFiles.{IsTrueOn}
 use Rattle.b2_runs.specs.Staleness.{Update, making}

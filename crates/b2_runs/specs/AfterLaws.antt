@@ -6,7 +6,7 @@ use Rattle.b2_host.specs.Disks.{Folder, Disk, bytes_at}
 use Rattle.b2_plan.specs.declared.step.Step.{Step}
 use Rattle.b2_plan.specs.Plans.{Apart, Makes, step_at}
 use Rattle.b2_plan.specs.Sources.{Build, IsInRoots}
-use Rattle.b2_plan.specs.Closures.{Value, Values, Known, IsClose}
+use Rattle.b2_plan.specs.Closures.{Value, Values, Known, IsClosure}
 use Rattle.b2_plan.specs.Cleans.{Clean}
 use Rattle.b2_log.specs.declared.line.LogLine.{LogLine}
 use Rattle.b2_log.specs.Finding.{find_record}
@@ -43,7 +43,7 @@ SeenIsClean = (u : Update) (events : List ChildEvent) (disk : Disk) (path : List
 -- so the closure of a step that the present disk shows on what is settled is its closure by the clean build there
 abbrev pub ClosureByPresent : Type 0
 ClosureByPresent = (u : Update) (events : List ChildEvent) (disk : Disk) (step : Step) (members : List (List ℕ × Value)) → Apart u.build.steps u.build.roots → IsRunSoFar u events → IsSound u events disk
-    → IsClose (record u.build { folder = disk.now }) (seen_settled u events disk.now) step members ↔ IsClose u.build (on_settled u events) step members
+    → IsClosure (record u.build { folder = disk.now }) (seen_settled u events disk.now) step members ↔ IsClosure u.build (on_settled u events) step members
 
 -- what a step is known to read is the same
 abbrev pub KnownByPresent : Type 0

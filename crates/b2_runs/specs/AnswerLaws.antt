@@ -6,7 +6,8 @@ use Rattle.b2_host.specs.Limits.{greatest_count}
 use Rattle.b2_host.specs.Disks.{Folder, Disk, IsOneEach, bytes_at}
 use Rattle.b2_host.specs.Outside.{Read, Outside}
 use Rattle.b2_plan.specs.declared.step.Step.{Step}
-use Rattle.b2_plan.specs.Plans.{log_path, Apart, Makes}
+use Rattle.b2_plan.specs.Plans.{Apart, Makes}
+use Rattle.b2_host.specs.FileCalls.{log_path}
 use Rattle.b2_plan.specs.Sources.{IsGiven}
 use Rattle.b2_log.specs.declared.line.ScanLine.{ScanLine}
 use Rattle.b2_log.specs.declared.line.LogLine.{LogLine}

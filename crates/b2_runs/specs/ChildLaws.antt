@@ -8,7 +8,7 @@ use Rattle.b2_plan.specs.declared.step.Step.{Step}
 use Rattle.b2_plan.specs.Plans.{Apart, step_at}
 use Rattle.b2_runs.specs.Staleness.{Update, paths_with_bytes}
 use Rattle.b2_runs.specs.Events.{IsOpen}
-use Rattle.b2_runs.specs.Runs.{CanStart, IsRunSoFar, IsFed, AreFed}
+use Rattle.b2_runs.specs.Runs.{CanStart, IsRunSoFar, IsGivenClosure, AreGivenClosures}
 use Rattle.b2_runs.specs.Outcomes.{IsSettledStep}
 use Rattle.b2_runs.specs.Soundness.{IsSound, AreAtWork}
 use Rattle.b2_runs.specs.PlanChildren.{MadeBySettled, ArePlanChildren}
@@ -17,9 +17,9 @@ use Rattle.b2_runs.specs.PlanChildren.{MadeBySettled, ArePlanChildren}
 abbrev pub start_gives : (u : Update) (events : List ChildEvent) (i : ℕ) → CanStart u events i → Disk → Given
 start_gives u events i can disk = given_at i can.step.text (paths_with_bytes can.members) can.step.outs disk
 
--- a step that can start is fed, where it is handed the members of its closure that have bytes
-abbrev pub StartIsFed : Type 0
-StartIsFed = (u : Update) (events : List ChildEvent) (disk : Disk) (i : ℕ) (can : CanStart u events i) → Apart u.build.steps u.build.roots → IsSound u events disk → IsFed u i (start_gives u events i can disk)
+-- the child of a step that can start is given its closure, where it is handed the members that have bytes
+abbrev pub StartGivesClosure : Type 0
+StartGivesClosure = (u : Update) (events : List ChildEvent) (disk : Disk) (i : ℕ) (can : CanStart u events i) → Apart u.build.steps u.build.roots → IsSound u events disk → IsGivenClosure u i (start_gives u events i can disk)
 
 -- a step that can start may start while the others are at work
 abbrev pub StartMayBegin : Type 0
@@ -43,12 +43,12 @@ abbrev pub EndIsOpen : Type 0
 EndIsOpen = (u : Update) (events : List ChildEvent) (old new : Family) (before after : Disk) (i : ℕ) (well : Bool) → AreAtWork u events old.running → Ends u.build.made old (Some before) i well new (Some after) → IsOpen events i
 
 -- each start has its entry, as one more starts
-abbrev pub FedAfterStart : Type 0
-FedAfterStart = (u : Update) (events : List ChildEvent) (given : List Given) (i : ℕ) (new : Given) → AreFed u events given → IsFed u i new → AreFed u (events ++ Start i ∷ []) (given ++ new ∷ [])
+abbrev pub GivenAfterStart : Type 0
+GivenAfterStart = (u : Update) (events : List ChildEvent) (given : List Given) (i : ℕ) (new : Given) → AreGivenClosures u events given → IsGivenClosure u i new → AreGivenClosures u (events ++ Start i ∷ []) (given ++ new ∷ [])
 
 -- each start has its entry, as one ends
-abbrev pub FedAfterEnd : Type 0
-FedAfterEnd = (u : Update) (events : List ChildEvent) (given : List Given) (i : ℕ) (well : Bool) → AreFed u events given → AreFed u (events ++ Done i well ∷ []) given
+abbrev pub GivenAfterEnd : Type 0
+GivenAfterEnd = (u : Update) (events : List ChildEvent) (given : List Given) (i : ℕ) (well : Bool) → AreGivenClosures u events given → AreGivenClosures u (events ++ Done i well ∷ []) given
 
 -- ---- over every host
 

@@ -1,7 +1,7 @@
 use Rattle.std.specs.Prelude.{◌≡◌, ◌↔◌, ℕ, List}
 use Rattle.b2_plan.specs.declared.step.Step.{Step}
 use Rattle.b2_plan.specs.Sources.{Build}
-use Rattle.b2_plan.specs.Closures.{Value, Values, Known, IsClose}
+use Rattle.b2_plan.specs.Closures.{Value, Values, Known, IsClosure}
 
 -- the one says of values all that the other says
 abbrev pub Extends : Values → Values → Type 0
@@ -16,17 +16,17 @@ abbrev pub KnownGrows : Values → Values → Type 0
 KnownGrows v more = (b : Build) (step : Step) (path : List ℕ) → Extends v more → Known b v step path → Known b more step path
 
 -- a closure that is defined stays the same, where more is known of values
-abbrev pub CloseStays : Values → Values → Type 0
-CloseStays v more = (b : Build) (step : Step) (members : List (List ℕ × Value)) → Extends v more → IsMap more → IsClose b v step members → IsClose b more step members
+abbrev pub ClosureStays : Values → Values → Type 0
+ClosureStays v more = (b : Build) (step : Step) (members : List (List ℕ × Value)) → Extends v more → IsMap more → IsClosure b v step members → IsClosure b more step members
 
 -- the closure is one list
-abbrev pub CloseIsOne : Values → Type 0
-CloseIsOne v = (b : Build) (step : Step) (members others : List (List ℕ × Value)) → IsMap v → IsClose b v step members → IsClose b v step others → members ≡ others
+abbrev pub ClosureIsOne : Values → Type 0
+ClosureIsOne v = (b : Build) (step : Step) (members others : List (List ℕ × Value)) → IsMap v → IsClosure b v step members → IsClosure b v step others → members ≡ others
 
 -- what a step is known to read depends on the values of what it is known to read alone
 abbrev pub KnownIsLocal : Values → Values → Type 0
 KnownIsLocal v other = (b : Build) (step : Step) (path : List ℕ) → ((p : List ℕ) (value : Value) → Known b v step p → v p value ↔ other p value) → Known b v step path ↔ Known b other step path
 
 -- so does its closure
-abbrev pub CloseIsLocal : Values → Values → Type 0
-CloseIsLocal v other = (b : Build) (step : Step) (members : List (List ℕ × Value)) → ((p : List ℕ) (value : Value) → Known b v step p → v p value ↔ other p value) → IsClose b v step members ↔ IsClose b other step members
+abbrev pub ClosureIsLocal : Values → Values → Type 0
+ClosureIsLocal v other = (b : Build) (step : Step) (members : List (List ℕ × Value)) → ((p : List ℕ) (value : Value) → Known b v step p → v p value ↔ other p value) → IsClosure b v step members ↔ IsClosure b other step members

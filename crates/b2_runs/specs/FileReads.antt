@@ -5,8 +5,9 @@ use Rattle.b2_host.specs.declared.children.ChildEvent.TheVariants.{Start, Done}
 use Rattle.b2_host.specs.Disks.{File, Past, Stood, bytes_at}
 use Rattle.b2_host.specs.Outside.{Read}
 use Rattle.b2_plan.specs.declared.step.Step.{Step}
-use Rattle.b2_plan.specs.Plans.{log_path, step_at, Makes}
-use Rattle.b2_plan.specs.Closures.{Value, Known, IsClose}
+use Rattle.b2_plan.specs.Plans.{step_at, Makes}
+use Rattle.b2_host.specs.FileCalls.{log_path}
+use Rattle.b2_plan.specs.Closures.{Value, Known, IsClosure}
 use Rattle.b2_log.specs.declared.line.LogLine.{LogLine}
 use Rattle.b2_log.specs.Readings.{IsReading}
 use Rattle.b2_log.specs.Finding.{find_scan}
@@ -49,7 +50,7 @@ pub record IsToScan (u : Update) (events : List ChildEvent) (path bytes : List �
 -- it is an output that a needed step owes, all of whose closure is settled, and it stands as at entry or was made well.
 pub data IsToDigest (u : Update) (events : List ChildEvent) (now : List ℕ → Option File) (path bytes : List ℕ) : Type 0 where
   input : u.by_digest ≡ true → IsInput u events path → on_settled u events path (Some bytes) → IsToDigest u events now path bytes
-  output : (out : IsNeededOut u events path) (members : List (List ℕ × Value)) → u.by_digest ≡ true → out.step.notfile ≡ false → IsClose u.build (on_settled u events) out.step members → (Contains events (Start out.number) → ⊥) ⊎ Contains events (Done out.number true) → bytes_at now path ≡ Some bytes → IsToDigest u events now path bytes
+  output : (out : IsNeededOut u events path) (members : List (List ℕ × Value)) → u.by_digest ≡ true → out.step.notfile ≡ false → IsClosure u.build (on_settled u events) out.step members → (Contains events (Start out.number) → ⊥) ⊎ Contains events (Done out.number true) → bytes_at now path ≡ Some bytes → IsToDigest u events now path bytes
 
 -- A file is too big: it is to be scanned and has more bytes than are scanned, or to be digested and has more than are digested.
 pub data IsTooBig (u : Update) (events : List ChildEvent) (now : List ℕ → Option File) (path : List ℕ) (size : ℕ) : Type 0 where

@@ -5,7 +5,7 @@ use Rattle.b2_host.specs.declared.children.ChildEvent.TheVariants.{Start, Done}
 use Rattle.b2_host.specs.Disks.{Folder, Disk}
 use Rattle.b2_plan.specs.declared.step.Step.{Step}
 use Rattle.b2_plan.specs.Plans.{Apart, Makes, step_at}
-use Rattle.b2_plan.specs.Closures.{Value, IsClose}
+use Rattle.b2_plan.specs.Closures.{Value, IsClosure}
 use Rattle.b2_plan.specs.Cleans.{Clean}
 use Rattle.b2_log.specs.declared.line.Record.{Record}
 use Rattle.b2_log.specs.declared.line.ScanLine.{ScanLine}
@@ -97,13 +97,13 @@ LogIsNoted = (u : Update) (now : Folder) (first log : List LogLine) (events : Li
 -- so the record of a step that was done well and owes files is what is found for its outputs
 abbrev pub LogHasRecords : Type 0
 LogHasRecords = (u : Update) (now : Folder) (first log : List LogLine) (events : List ChildEvent) (i : ℕ) (step : Step) (members : List (List ℕ × Value)) → Apart u.build.steps u.build.roots → AreInOrder u.build.steps u.jobs events → IsLogAfter u now first events log
-    → Contains events (Done i true) → step_at u.build.steps i ≡ Some step → step.notfile ≡ false → IsClose u.build (Clean u.build) step members → IsNotedStep u now log step members
+    → Contains events (Done i true) → step_at u.build.steps i ≡ Some step → step.notfile ≡ false → IsClosure u.build (Clean u.build) step members → IsNotedStep u now log step members
 
 -- ---- the file
 
 -- Each line that an update may append is good: so are the texts, paths and stamps that it has.
 pub record AppendsGood (u : Update) (now : Folder) : Type 0 where
-  pub good_records : (i : ℕ) (step : Step) (members : List (List ℕ × Value)) (r : Record) → step_at u.build.steps i ≡ Some step → IsClose u.build (Clean u.build) step members → IsRecordOf u now step members r → IsGood (lines.Record r)
+  pub good_records : (i : ℕ) (step : Step) (members : List (List ℕ × Value)) (r : Record) → step_at u.build.steps i ≡ Some step → IsClosure u.build (Clean u.build) step members → IsRecordOf u now step members r → IsGood (lines.Record r)
   pub good_drops : (i : ℕ) (step : Step) → step_at u.build.steps i ≡ Some step → IsGood (lines.Drop step.outs)
   pub good_scans : (events : List ChildEvent) (path bytes : List ℕ) (s : ScanLine) → IsToScan u events path bytes → IsScanOf u now path bytes s → IsGood (lines.Scan s)
 
@@ -120,8 +120,8 @@ abbrev pub WholeIsCut : Type 0
 WholeIsCut = (u : Update) (events : List ChildEvent) (now : Folder) → IsRunSoFar u events → IsLogWhole u events now → IsLogCut u events now
 
 -- a log that has no torn tail and is neither long nor too large is only appended to
-abbrev pub HealthyGrows : Type 0
-HealthyGrows = (u : Update) (events : List ChildEvent) (now : Folder) (bytes : List ℕ) (log : List LogLine) → log_file u.build.folder ≡ Some bytes → length bytes ≤ log_limit → IsReading bytes log (length bytes) → (IsLong log → ⊥) → IsLogCut u events now
+abbrev pub WholeLogIsAppendedTo : Type 0
+WholeLogIsAppendedTo = (u : Update) (events : List ChildEvent) (now : Folder) (bytes : List ℕ) (log : List LogLine) → log_file u.build.folder ≡ Some bytes → length bytes ≤ log_limit → IsReading bytes log (length bytes) → (IsLong log → ⊥) → IsLogCut u events now
     → (more : List ℕ) × (log_file now ≡ Some (bytes ++ more))
 
 -- wherever an update was cut off its log is true, where the log at entry was
@@ -140,7 +140,7 @@ CutLogIsNoted = (u : Update) (events : List ChildEvent) (now : Folder) (log : Li
 abbrev pub FinishedIsKept : Type 0
 FinishedIsKept = (u : Update) (events before after : List ChildEvent) (now : Folder) (log : List LogLine) (quit : Bool) (jobs k i : ℕ) (step : Step) (members : List (List ℕ × Value)) → Apart u.build.steps u.build.roots → AppendsGood u now
     → ((front rest : List ChildEvent) → events ≡ front ++ rest → IsRunSoFar u front → NoneDoneOlder u front now) → IsLogIn u.build.folder u.log → IsLogCut u events now → length (held_bytes (log_file now)) ≤ log_limit → IsLogIn now log
-    → events ≡ before ++ Start k ∷ after → Contains before (Done i true) → step_at u.build.steps i ≡ Some step → step.notfile ≡ false → IsClose u.build (Clean u.build) step members → IsRecorded (next_update u now log quit jobs) [] step members
+    → events ≡ before ++ Start k ∷ after → Contains before (Done i true) → step_at u.build.steps i ≡ Some step → step.notfile ≡ false → IsClosure u.build (Clean u.build) step members → IsRecorded (next_update u now log quit jobs) [] step members
 
 -- so the run of the next update holds no start of it, unless an always-step or a notfile step reaches it
 abbrev pub FinishedIsNotStarted : Type 0

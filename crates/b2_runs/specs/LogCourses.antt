@@ -4,8 +4,9 @@ use Rattle.b2_host.specs.declared.children.ChildEvent.{ChildEvent}
 use Rattle.b2_host.specs.declared.children.ChildEvent.TheVariants.{Start, Done}
 use Rattle.b2_host.specs.Disks.{File, Folder, bytes_at}
 use Rattle.b2_plan.specs.declared.step.Step.{Step}
-use Rattle.b2_plan.specs.Plans.{log_path, step_at}
-use Rattle.b2_plan.specs.Closures.{Value, IsClose}
+use Rattle.b2_plan.specs.Plans.{step_at}
+use Rattle.b2_host.specs.FileCalls.{log_path}
+use Rattle.b2_plan.specs.Closures.{Value, IsClosure}
 use Rattle.b2_plan.specs.Cleans.{Clean}
 use Rattle.b2_log.specs.declared.line.Record.{Record}
 use Rattle.b2_log.specs.declared.line.Digests.{Digests}
@@ -53,7 +54,7 @@ pub record IsToMigrate (u : Update) (events : List ChildEvent) (step : Step) (me
   pub at : step_at u.build.steps number ≡ Some step
   pub needed : Needed u events number
   pub not_started : Contains events (Start number) → ⊥
-  pub close : IsClose u.build (on_settled u events) step members
+  pub close : IsClosure u.build (on_settled u events) step members
   pub is_fresh : IsFresh u events step members
 
 -- The lines of the log after events, from those that the update began with, by the files as they stand. A step that is done
@@ -64,7 +65,7 @@ pub data IsLogAfter (u : Update) (now : Folder) (first : List LogLine) : List Ch
   begins : IsLogAfter u now first [] first
   starts : (events : List ChildEvent) (log : List LogLine) (i : ℕ) → IsLogAfter u now first events log → IsLogAfter u now first (events ++ Start i ∷ []) log
   records : (events : List ChildEvent) (log : List LogLine) (i : ℕ) (step : Step) (members : List (List ℕ × Value)) (r : Record) → IsLogAfter u now first events log → step_at u.build.steps i ≡ Some step → step.notfile ≡ false
-      → IsClose u.build (Clean u.build) step members → IsRecordOf u now step members r → IsLogAfter u now first (events ++ Done i true ∷ []) (log ++ lines.Record r ∷ [])
+      → IsClosure u.build (Clean u.build) step members → IsRecordOf u now step members r → IsLogAfter u now first (events ++ Done i true ∷ []) (log ++ lines.Record r ∷ [])
   owes_none : (events : List ChildEvent) (log : List LogLine) (i : ℕ) (step : Step) → IsLogAfter u now first events log → step_at u.build.steps i ≡ Some step → step.notfile ≡ true → IsLogAfter u now first (events ++ Done i true ∷ []) log
   drops : (events : List ChildEvent) (log : List LogLine) (i : ℕ) (step : Step) (r : Record) → IsLogAfter u now first events log → step_at u.build.steps i ≡ Some step → find_record step.outs log ≡ Some r
       → IsLogAfter u now first (events ++ Done i false ∷ []) (log ++ lines.Drop step.outs ∷ [])

@@ -5,9 +5,10 @@ use Rattle.b2_host.specs.declared.children.ChildEvent.{ChildEvent}
 use Rattle.b2_host.specs.Disks.{Folder, Disk, Past, bytes_at, ReadTold, without}
 use Rattle.b2_host.specs.ChildProcesses.{Child, ChangesOnlyOutputs}
 use Rattle.b2_plan.specs.declared.step.Step.{Step}
-use Rattle.b2_plan.specs.Plans.{log_path, Apart, Makes, step_at}
+use Rattle.b2_plan.specs.Plans.{Apart, Makes, step_at}
+use Rattle.b2_host.specs.FileCalls.{log_path}
 use Rattle.b2_plan.specs.Sources.{Build}
-use Rattle.b2_plan.specs.Closures.{Value, IsClose}
+use Rattle.b2_plan.specs.Closures.{Value, IsClosure}
 use Rattle.b2_plan.specs.Cleans.{Clean}
 use Rattle.b2_log.specs.declared.line.Record.{Record}
 use Rattle.b2_log.specs.declared.line.LogLine.{LogLine}
@@ -86,7 +87,7 @@ KeptTellsSame = (bytes : List ℕ) (log : List LogLine) (outs : List (List ℕ))
 -- the record that an update appends is one whose line can be read back, where digests have their form, and so is a line that
 -- drops a record
 abbrev pub RecordIsProper : Type 0
-RecordIsProper = (u : Update) (now : Folder) (i : ℕ) (step : Step) (members : List (List ℕ × Value)) (r : Record) → Apart u.build.steps u.build.roots → step_at u.build.steps i ≡ Some step → IsClose u.build (Clean u.build) step members
+RecordIsProper = (u : Update) (now : Folder) (i : ℕ) (step : Step) (members : List (List ℕ × Value)) (r : Record) → Apart u.build.steps u.build.roots → step_at u.build.steps i ≡ Some step → IsClosure u.build (Clean u.build) step members
     → ((bytes : List ℕ) → IsDigest (u.digest bytes)) → IsRecordOf u now step members r → IsProper (lines.Record r)
 
 abbrev pub DropIsProper : Type 0

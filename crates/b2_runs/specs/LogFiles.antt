@@ -2,7 +2,7 @@ use Rattle.std.specs.Prelude.{◌≡◌, ℕ, ◌<◌, ◌≤◌, List, [], leng
 use Rattle.b2_host.specs.declared.files.ReadAnswer.{ReadAnswer}
 use Rattle.b2_host.specs.declared.files.ReadAnswer.TheVariants as answers
 use Rattle.b2_host.specs.Disks.{Folder, Disk, Past, bytes_at}
-use Rattle.b2_plan.specs.Plans.{log_path}
+use Rattle.b2_host.specs.FileCalls.{log_path}
 use Rattle.b2_log.specs.declared.line.Record.{Record}
 use Rattle.b2_log.specs.declared.line.LogLine.{LogLine}
 use Rattle.b2_log.specs.Finding.{find_record}

@@ -6,7 +6,7 @@ use Rattle.b2_host.specs.Disks.{Folder, Disk, IsConsistent}
 use Rattle.b2_host.specs.ChildProcesses.{Family, Ends}
 use Rattle.b2_plan.specs.declared.step.Step.{Step}
 use Rattle.b2_plan.specs.Plans.{Apart, step_at}
-use Rattle.b2_plan.specs.Closures.{Value, IsClose}
+use Rattle.b2_plan.specs.Closures.{Value, IsClosure}
 use Rattle.b2_plan.specs.Cleans.{Clean}
 use Rattle.b2_log.specs.declared.line.Record.{Record}
 use Rattle.b2_log.specs.declared.line.LogLine.{LogLine}
@@ -45,7 +45,7 @@ NotedAfterLine = (u : Update) (events : List ChildEvent) (now : Folder) (log : L
 -- it stays right as a step is done well and its record is appended
 abbrev pub NotedAfterRecord : Type 0
 NotedAfterRecord = (u : Update) (events : List ChildEvent) (now : Folder) (log : List LogLine) (i : ℕ) (step : Step) (members : List (List ℕ × Value)) (r : Record) → Apart u.build.steps u.build.roots → IsNoted u events now log → IsOpen events i
-    → step_at u.build.steps i ≡ Some step → IsClose u.build (Clean u.build) step members → IsRecordOf u now step members r → NoneOlder now step members
+    → step_at u.build.steps i ≡ Some step → IsClosure u.build (Clean u.build) step members → IsRecordOf u now step members r → NoneOlder now step members
     → IsNoted u (events ++ Done i true ∷ []) now (log ++ lines.Record r ∷ [])
 
 -- it stays right as a scan line is appended
@@ -55,13 +55,13 @@ NotedAfterScan = (u : Update) (events : List ChildEvent) (now : Folder) (log : L
 -- it stays right as a record with digests is appended of a step that was not started, all of whose closure is settled
 abbrev pub NotedAfterMigration : Type 0
 NotedAfterMigration = (u : Update) (events : List ChildEvent) (now : Folder) (log : List LogLine) (i : ℕ) (step : Step) (members : List (List ℕ × Value)) (r : Record) → Apart u.build.steps u.build.roots → IsNoted u events now log → u.by_digest ≡ true
-    → step_at u.build.steps i ≡ Some step → (Contains events (Start i) → ⊥) → (Contains events (Done i true) → ⊥) → IsClose u.build (Clean u.build) step members → ((member : List ℕ) (value : Value) → Contains members (member, value) → Settled u events member) → IsRecordOf u now step members r
+    → step_at u.build.steps i ≡ Some step → (Contains events (Start i) → ⊥) → (Contains events (Done i true) → ⊥) → IsClosure u.build (Clean u.build) step members → ((member : List ℕ) (value : Value) → Contains members (member, value) → Settled u events member) → IsRecordOf u now step members r
     → IsNoted u events now (log ++ lines.Record r ∷ [])
 
 -- a child that ends well leaves no output older than a member of its step's closure
 abbrev pub OutputsAreNewer : Type 0
 OutputsAreNewer = (u : Update) (events : List ChildEvent) (old new : Family) (before after : Disk) (i : ℕ) (step : Step) (members : List (List ℕ × Value)) → Apart u.build.steps u.build.roots → IsRunSoFar u events → AreAtWork u events old.running → IsConsistent before
-    → Ends u.build.made old (Some before) i true new (Some after) → step_at u.build.steps i ≡ Some step → IsClose u.build (Clean u.build) step members → NoneOlder after.now step members
+    → Ends u.build.made old (Some before) i true new (Some after) → step_at u.build.steps i ≡ Some step → IsClosure u.build (Clean u.build) step members → NoneOlder after.now step members
 
 -- a failed step is stale to the next update, since its outputs do not stand
 abbrev pub FailedIsStale : Type 0
@@ -81,7 +81,7 @@ NoneOlderAfterStart = (u : Update) (events : List ChildEvent) (now : Folder) (i 
 -- it stays so as a step ends, where its own outputs are not older, if it ended well and owes files
 abbrev pub NoneOlderAfterEnd : Type 0
 NoneOlderAfterEnd = (u : Update) (events : List ChildEvent) (now : Folder) (i : ℕ) (well : Bool) → NoneDoneOlder u events now
-    → (well ≡ true → (step : Step) (members : List (List ℕ × Value)) → step_at u.build.steps i ≡ Some step → step.notfile ≡ false → IsClose u.build (Clean u.build) step members → NoneOlder now step members)
+    → (well ≡ true → (step : Step) (members : List (List ℕ × Value)) → step_at u.build.steps i ≡ Some step → step.notfile ≡ false → IsClosure u.build (Clean u.build) step members → NoneOlder now step members)
     → NoneDoneOlder u (events ++ Done i well ∷ []) now
 
 -- it stays so as steps that run or failed change their outputs

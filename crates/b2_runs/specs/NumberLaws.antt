@@ -4,7 +4,8 @@ use Rattle.b2_host.specs.declared.children.ChildEvent.{ChildEvent}
 use Rattle.b2_host.specs.declared.children.ChildEvent.TheVariants.{Start}
 use Rattle.b2_plan.specs.declared.step.Step.{Step}
 use Rattle.b2_plan.specs.Plans.{Apart, step_at}
-use Rattle.b2_plan.specs.Closures.{Value, Known, Before, IsClose}
+use Rattle.b2_plan.specs.Closures.{Value, Known, IsClosure}
+use Rattle.b2_base.specs.Bytes.{Before}
 use Rattle.b2_runs.specs.Staleness.{Update, IsFresh}
 use Rattle.b2_runs.specs.Runs.{Settled, on_settled, Needed, CanStart, MayCome, IsRunSoFar}
 use Rattle.b2_runs.specs.Outcomes.{IsSettledStep, IsFailed, IsLeft, Skipped, IsStuck}
@@ -30,7 +31,7 @@ StuckByNumbers = (u : Update) (events : List ChildEvent) (i k : ℕ) → NeedsSt
 
 -- where the closure of a step is defined on what is settled, it lacks no source and each step that it needs is settled
 abbrev pub ClosedByNumbers : Type 0
-ClosedByNumbers = (u : Update) (events : List ChildEvent) (i : ℕ) (step : Step) (members : List (List ℕ × Value)) → Apart u.build.steps u.build.roots → step_at u.build.steps i ≡ Some step → IsClose u.build (on_settled u events) step members
+ClosedByNumbers = (u : Update) (events : List ChildEvent) (i : ℕ) (step : Step) (members : List (List ℕ × Value)) → Apart u.build.steps u.build.roots → step_at u.build.steps i ≡ Some step → IsClosure u.build (on_settled u events) step members
     → (LacksSource u events i → ⊥) × ((k : ℕ) → NeedsStep u events i k → IsSettledStep u events k)
 
 -- so a step that lacks a source, or needs a step that is not settled, cannot start
@@ -42,14 +43,14 @@ CannotStartWithout = (u : Update) (events : List ChildEvent) (i : ℕ) → Apart
 
 -- nor can one that is fresh
 abbrev pub CannotStartFresh : Type 0
-CannotStartFresh = (u : Update) (events : List ChildEvent) (i : ℕ) (step : Step) (members : List (List ℕ × Value)) → Apart u.build.steps u.build.roots → step_at u.build.steps i ≡ Some step → IsClose u.build (on_settled u events) step members → IsFresh u events step members → CanStart u events i → ⊥
+CannotStartFresh = (u : Update) (events : List ChildEvent) (i : ℕ) (step : Step) (members : List (List ℕ × Value)) → Apart u.build.steps u.build.roots → step_at u.build.steps i ≡ Some step → IsClosure u.build (on_settled u events) step members → IsFresh u events step members → CanStart u events i → ⊥
 
 -- Where all that a step is known to read is listed in byte order, and each of it is settled, the closure is defined, and has
 -- these very paths.
 abbrev pub ClosedBySettled : Type 0
 ClosedBySettled = (u : Update) (events : List ChildEvent) (step : Step) (names : List (List ℕ)) → Apart u.build.steps u.build.roots → IsRunSoFar u events → AllPairs Before names
     → ((path : List ℕ) → Contains names path → Known u.build (on_settled u events) step path × Settled u events path) → ((path : List ℕ) → Known u.build (on_settled u events) step path → Contains names path)
-    → (members : List (List ℕ × Value)) × IsClose u.build (on_settled u events) step members
+    → (members : List (List ℕ × Value)) × IsClosure u.build (on_settled u events) step members
 
 -- what a step needs it needs as a run goes on
 abbrev pub NeedsGrow : Type 0

@@ -5,7 +5,7 @@ use Rattle.b2_host.specs.declared.children.ChildEvent.TheVariants.{Start, Done}
 use Rattle.b2_plan.specs.declared.step.Step.{Step}
 use Rattle.b2_plan.specs.Plans.{step_at, Makes}
 use Rattle.b2_plan.specs.Sources.{IsMissing}
-use Rattle.b2_plan.specs.Closures.{Value, Known, IsClose}
+use Rattle.b2_plan.specs.Closures.{Value, Known, IsClosure}
 use Rattle.b2_runs.specs.Staleness.{Update, IsStale}
 use Rattle.b2_runs.specs.Events.{is_start, is_done}
 use Rattle.b2_runs.specs.Runs.{on_settled}
@@ -41,7 +41,7 @@ pub record IsStaleStep (u : Update) (events : List ChildEvent) (i : ℕ) : Type 
   pub step : Step
   pub at : step_at u.build.steps i ≡ Some step
   pub members : List (List ℕ × Value)
-  pub close : IsClose u.build (on_settled u events) step members
+  pub close : IsClosure u.build (on_settled u events) step members
   pub stale : IsStale u events step members
 
 -- the least set of numbers with the first ones and with all that those in it need

@@ -4,9 +4,11 @@ use Rattle.b2_host.specs.declared.children.ChildEvent.{ChildEvent}
 use Rattle.b2_host.specs.declared.children.ChildEvent.TheVariants.{Start, Done}
 use Rattle.b2_host.specs.Disks.{Folder, bytes_at}
 use Rattle.b2_plan.specs.declared.step.Step.{Step}
-use Rattle.b2_plan.specs.Plans.{log_path, step_at, Makes}
+use Rattle.b2_plan.specs.Plans.{step_at, Makes}
+use Rattle.b2_host.specs.FileCalls.{log_path}
 use Rattle.b2_plan.specs.Sources.{Build, IsGiven, IsMissing}
-use Rattle.b2_plan.specs.Closures.{Known, Before}
+use Rattle.b2_plan.specs.Closures.{Known}
+use Rattle.b2_base.specs.Bytes.{Before}
 use Rattle.b2_plan.specs.Cleans.{Clean}
 use Rattle.b2_log.specs.declared.line.LogLine.{LogLine}
 use Rattle.b2_log.specs.Finding.{find_record}

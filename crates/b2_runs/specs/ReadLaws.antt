@@ -4,7 +4,8 @@ use Rattle.b2_host.specs.declared.children.ChildEvent.{ChildEvent}
 use Rattle.b2_host.specs.declared.children.ChildEvent.TheVariants.{Done}
 use Rattle.b2_host.specs.Disks.{Folder, Disk, Past, IsOneEach, bytes_at}
 use Rattle.b2_host.specs.Outside.{Read}
-use Rattle.b2_plan.specs.Plans.{log_path, Apart}
+use Rattle.b2_plan.specs.Plans.{Apart}
+use Rattle.b2_host.specs.FileCalls.{log_path}
 use Rattle.b2_plan.specs.Cleans.{Clean}
 use Rattle.b2_log.specs.declared.line.ScanLine.{ScanLine}
 use Rattle.b2_log.specs.declared.line.LogLine.{LogLine}

@@ -4,7 +4,7 @@ use Rattle.b2_host.specs.declared.children.ChildEvent.{ChildEvent}
 use Rattle.b2_host.specs.declared.children.ChildEvent.TheVariants.{Start, Done}
 use Rattle.b2_plan.specs.declared.step.Step.{Step}
 use Rattle.b2_plan.specs.Plans.{Apart, step_at}
-use Rattle.b2_plan.specs.Closures.{Value, IsClose}
+use Rattle.b2_plan.specs.Closures.{Value, IsClosure}
 use Rattle.b2_plan.specs.Cleans.{Clean}
 use Rattle.b2_runs.specs.Staleness.{Update, IsFresh}
 use Rattle.b2_runs.specs.Events.{IsOpen, AreOnce}
@@ -31,15 +31,15 @@ abbrev pub NeededGrows : Type 0
 NeededGrows = (u : Update) (events : List ChildEvent) (event : ChildEvent) (i : ℕ) → Apart u.build.steps u.build.roots → MayCome u events event → Needed u events i → Needed u (events ++ event ∷ []) i
 
 -- a closure by what is settled is one by the clean build with all members settled, and the other way round
-abbrev pub CloseOnSettled : Type 0
-CloseOnSettled = (u : Update) (events : List ChildEvent) (step : Step) (members : List (List ℕ × Value)) → Apart u.build.steps u.build.roots
-    → (IsClose u.build (on_settled u events) step members → IsClose u.build (Clean u.build) step members × ((member : List ℕ) (value : Value) → Contains members (member, value) → Settled u events member))
-    × (IsClose u.build (Clean u.build) step members → ((member : List ℕ) (value : Value) → Contains members (member, value) → Settled u events member) → IsClose u.build (on_settled u events) step members)
+abbrev pub ClosureOnSettled : Type 0
+ClosureOnSettled = (u : Update) (events : List ChildEvent) (step : Step) (members : List (List ℕ × Value)) → Apart u.build.steps u.build.roots
+    → (IsClosure u.build (on_settled u events) step members → IsClosure u.build (Clean u.build) step members × ((member : List ℕ) (value : Value) → Contains members (member, value) → Settled u events member))
+    × (IsClosure u.build (Clean u.build) step members → ((member : List ℕ) (value : Value) → Contains members (member, value) → Settled u events member) → IsClosure u.build (on_settled u events) step members)
 
 -- a step that was started has its closure on what is settled
 abbrev pub StartedHasClosure : Type 0
 StartedHasClosure = (u : Update) (events : List ChildEvent) (i : ℕ) (step : Step) → Apart u.build.steps u.build.roots → IsRunSoFar u events → Contains events (Start i) → step_at u.build.steps i ≡ Some step
-    → (members : List (List ℕ × Value)) × IsClose u.build (on_settled u events) step members
+    → (members : List (List ℕ × Value)) × IsClosure u.build (on_settled u events) step members
 
 -- a step that is done was started
 abbrev pub DoneWasStarted : Type 0
@@ -63,8 +63,8 @@ VerdictStays = (u : Update) (events : List ChildEvent) (event : ChildEvent) (ste
     → IsFresh u events step members ↔ IsFresh u (events ++ event ∷ []) step members
 
 -- the closure of a step on what is settled stays as it is
-abbrev pub CloseOnSettledStays : Type 0
-CloseOnSettledStays = (u : Update) (events : List ChildEvent) (event : ChildEvent) (step : Step) (members : List (List ℕ × Value)) → Apart u.build.steps u.build.roots → MayCome u events event → IsClose u.build (on_settled u events) step members → IsClose u.build (on_settled u (events ++ event ∷ [])) step members
+abbrev pub ClosureOnSettledStays : Type 0
+ClosureOnSettledStays = (u : Update) (events : List ChildEvent) (event : ChildEvent) (step : Step) (members : List (List ℕ × Value)) → Apart u.build.steps u.build.roots → MayCome u events event → IsClosure u.build (on_settled u events) step members → IsClosure u.build (on_settled u (events ++ event ∷ [])) step members
 
 -- each run so far is a prefix of a run
 abbrev pub RunIsPrefix : Type 0

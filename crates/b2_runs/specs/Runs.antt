@@ -6,7 +6,7 @@ use Rattle.b2_host.specs.ChildProcesses.{Given}
 use Rattle.b2_plan.specs.declared.step.Step.{Step}
 use Rattle.b2_plan.specs.Plans.{step_at, Makes}
 use Rattle.b2_plan.specs.Sources.{IsSource}
-use Rattle.b2_plan.specs.Closures.{Value, Values, Known, IsClose, with_bytes}
+use Rattle.b2_plan.specs.Closures.{Value, Values, Known, IsClosure, with_bytes}
 use Rattle.b2_plan.specs.Cleans.{Clean}
 use Rattle.b2_runs.specs.Staleness.{Update, IsFresh, IsStale, paths_with_bytes}
 use Rattle.b2_runs.specs.Events.{is_start, is_done, started, IsOpen}
@@ -18,7 +18,7 @@ use Rattle.b2_runs.specs.Events.{is_start, is_done, started, IsOpen}
 pub data Settled (u : Update) (events : List ChildEvent) : List ℕ → Type 0 where
   source : (path bytes : List ℕ) → IsSource u.build path bytes → Settled u events path
   done_well : (i : ℕ) (step : Step) (path : List ℕ) → Makes u.build.steps i step path → Contains events (Done i true) → Settled u events path
-  fresh : (i : ℕ) (step : Step) (path : List ℕ) (members : List (List ℕ × Value)) → Makes u.build.steps i step path → (Contains events (Start i) → ⊥) → IsClose u.build (Clean u.build) step members → ((member : List ℕ) (value : Value) → Contains members (member, value) → Settled u events member) → IsFresh u events step members → Settled u events path
+  fresh : (i : ℕ) (step : Step) (path : List ℕ) (members : List (List ℕ × Value)) → Makes u.build.steps i step path → (Contains events (Start i) → ⊥) → IsClosure u.build (Clean u.build) step members → ((member : List ℕ) (value : Value) → Contains members (member, value) → Settled u events member) → IsFresh u events step members → Settled u events path
 
 -- the values of the clean build on what is settled
 abbrev pub on_settled : Update → List ChildEvent → Values
@@ -37,7 +37,7 @@ pub record CanStart (u : Update) (events : List ChildEvent) (i : ℕ) : Type 0 w
   pub needed : Needed u events i
   pub not_started : Contains events (Start i) → ⊥
   pub members : List (List ℕ × Value)
-  pub close : IsClose u.build (on_settled u events) step members
+  pub close : IsClosure u.build (on_settled u events) step members
   pub stale : IsStale u events step members
   pub room : count_by is_start events < count_by is_done events + u.jobs
   pub goes_on : u.quit ≡ true → (k : ℕ) → Contains events (Done k false) → ⊥
@@ -83,11 +83,11 @@ pub record IsBegun (u : Update) (events : List ChildEvent) : Type 0 where
 
 -- The child of this step was given the step's text, the members of its closure that have bytes, in byte order, with the
 -- bytes of the clean build, and the step's outputs.
-pub record IsFed (u : Update) (i : ℕ) (given : Given) : Type 0 where
+pub record IsGivenClosure (u : Update) (i : ℕ) (given : Given) : Type 0 where
   pub step : Step
   pub at : step_at u.build.steps i ≡ Some step
   pub members : List (List ℕ × Value)
-  pub close : IsClose u.build (Clean u.build) step members
+  pub close : IsClosure u.build (Clean u.build) step members
   pub step_is : given.step ≡ i
   pub text : given.text ≡ step.text
   pub ins : given.ins ≡ paths_with_bytes members
@@ -95,5 +95,5 @@ pub record IsFed (u : Update) (i : ℕ) (given : Given) : Type 0 where
   pub held : given.held ≡ with_bytes members
 
 -- each start, in order, has its entry in what was given
-abbrev pub AreFed : Update → List ChildEvent → List Given → Type 0
-AreFed u events given = AllZip (IsFed u) (filter_map started events) given
+abbrev pub AreGivenClosures : Update → List ChildEvent → List Given → Type 0
+AreGivenClosures u events given = AllZip (IsGivenClosure u) (filter_map started events) given

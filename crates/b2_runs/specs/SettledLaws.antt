@@ -5,7 +5,7 @@ use Rattle.b2_host.specs.declared.children.ChildEvent.TheVariants.{Start}
 use Rattle.b2_host.specs.Disks.{Disk}
 use Rattle.b2_plan.specs.declared.step.Step.{Step}
 use Rattle.b2_plan.specs.Plans.{Apart, Makes}
-use Rattle.b2_plan.specs.Closures.{Value, IsClose}
+use Rattle.b2_plan.specs.Closures.{Value, IsClosure}
 use Rattle.b2_plan.specs.Cleans.{Clean, value_of}
 use Rattle.b2_runs.specs.Staleness.{Update, IsFresh}
 use Rattle.b2_runs.specs.Runs.{Settled}
@@ -20,7 +20,7 @@ SettledIsClean = (u : Update) (events : List ChildEvent) (disk : Disk) (path : L
 -- the outputs of a fresh step whose closure is settled stand with the clean build's bytes
 abbrev pub FreshIsClean : Type 0
 FreshIsClean = (u : Update) (events : List ChildEvent) (disk : Disk) (i : ℕ) (step : Step) (path : List ℕ) (members : List (List ℕ × Value)) → Apart u.build.steps u.build.roots → IsSound u events disk
-    → Makes u.build.steps i step path → (Contains events (Start i) → ⊥) → IsClose u.build (Clean u.build) step members → ((member : List ℕ) (value : Value) → Contains members (member, value) → Settled u events member)
+    → Makes u.build.steps i step path → (Contains events (Start i) → ⊥) → IsClosure u.build (Clean u.build) step members → ((member : List ℕ) (value : Value) → Contains members (member, value) → Settled u events member)
     → IsFresh u events step members → Clean u.build path (value_of u.build step members path) × Holds disk.now path (value_of u.build step members path)
 
 -- each settled output of a needed step that makes a file stands with the clean build's bytes

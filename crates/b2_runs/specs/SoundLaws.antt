@@ -5,8 +5,9 @@ use Rattle.b2_host.specs.declared.children.ChildEvent.TheVariants.{Start, Done}
 use Rattle.b2_host.specs.Disks.{Disk, Past, IsConsistent, without}
 use Rattle.b2_host.specs.ChildProcesses.{Family, Child, ChangesOnlyOutputs, Ends}
 use Rattle.b2_plan.specs.declared.step.Step.{Step}
-use Rattle.b2_plan.specs.Plans.{Apart, Makes, log_path, step_at}
-use Rattle.b2_plan.specs.Closures.{Value, IsClose}
+use Rattle.b2_plan.specs.Plans.{Apart, Makes, step_at}
+use Rattle.b2_host.specs.FileCalls.{log_path}
+use Rattle.b2_plan.specs.Closures.{Value, IsClosure}
 use Rattle.b2_plan.specs.Cleans.{Clean}
 use Rattle.b2_log.specs.declared.line.Record.{Record}
 use Rattle.b2_runs.specs.Logs.{RecordsTrue, IsTrueRecord}
@@ -53,5 +54,5 @@ DistinguishesLess = (u : Update) (past more : List Past) → ((old : Past) → C
 abbrev pub RecordIsTrue : Type 0
 RecordIsTrue = (u : Update) (events : List ChildEvent) (disk : Disk) (i : ℕ) (step : Step) (members : List (List ℕ × Value)) (r : Record) → Apart u.build.steps u.build.roots → IsSound u events disk
     → step_at u.build.steps i ≡ Some step → step.notfile ≡ false → ((path : List ℕ) → Contains step.outs path → Settled u events path)
-    → IsClose u.build (Clean u.build) step members → ((member : List ℕ) (value : Value) → Contains members (member, value) → Settled u events member)
+    → IsClosure u.build (Clean u.build) step members → ((member : List ℕ) (value : Value) → Contains members (member, value) → Settled u events member)
     → IsRecordOf u disk.now step members r → IsTrueRecord (making u) disk.past r

@@ -5,13 +5,14 @@ use Rattle.b2_host.specs.declared.children.ChildEvent.TheVariants.{Start, Done}
 use Rattle.b2_host.specs.Disks.{File, Folder, Disk, Past, Stood, IsConsistent, bytes_at}
 use Rattle.b2_host.specs.ChildProcesses.{Given, Child}
 use Rattle.b2_plan.specs.declared.step.Step.{Step}
-use Rattle.b2_plan.specs.Plans.{log_path, Makes}
+use Rattle.b2_plan.specs.Plans.{Makes}
+use Rattle.b2_host.specs.FileCalls.{log_path}
 use Rattle.b2_plan.specs.Closures.{Value}
 use Rattle.b2_plan.specs.Cleans.{Clean}
 use Rattle.b2_runs.specs.Logs.{RecordsTrue, NoCollision}
 use Rattle.b2_runs.specs.Staleness.{Update, making}
 use Rattle.b2_runs.specs.Events.{IsOpen}
-use Rattle.b2_runs.specs.Runs.{IsFed}
+use Rattle.b2_runs.specs.Runs.{IsGivenClosure}
 use Rattle.b2_runs.specs.Outcomes.{OnlyOutputsChange}
 
 -- where the value is bytes, a file with these bytes stands there
@@ -49,7 +50,7 @@ pub record IsAtWork (u : Update) (events : List ChildEvent) (child : Child) : Ty
   pub is_open : IsOpen events child.step
   pub given : Given
   pub told : child.given ≡ Some given
-  pub fed : IsFed u child.step given
+  pub given_closure : IsGivenClosure u child.step given
   pub ins : child.ins ≡ given.ins
   pub outs : child.outs ≡ given.outs
 

@@ -5,7 +5,7 @@ use Rattle.b2_host.specs.declared.children.ChildEvent.TheVariants.{Start, Done}
 use Rattle.b2_host.specs.Disks.{Folder, Disk}
 use Rattle.b2_plan.specs.declared.step.Step.{Step}
 use Rattle.b2_plan.specs.Plans.{Apart, Makes, step_at}
-use Rattle.b2_plan.specs.Closures.{Value, IsClose}
+use Rattle.b2_plan.specs.Closures.{Value, IsClosure}
 use Rattle.b2_plan.specs.Cleans.{Clean}
 use Rattle.b2_log.specs.declared.line.LogLine.{LogLine}
 use Rattle.b2_runs.specs.Staleness.{Update, IsRecorded}
@@ -45,7 +45,7 @@ NotedThoughTorn = (u : Update) (events : List ChildEvent) (now : Folder) (log af
 -- of a finished step the log has a record that agrees with the files, judged as the next update judges it before any event
 abbrev pub FinishedIsRecorded : Type 0
 FinishedIsRecorded = (u : Update) (events : List ChildEvent) (now : Folder) (log : List LogLine) (quit : Bool) (jobs : ℕ) (i : ℕ) (step : Step) (members : List (List ℕ × Value)) → IsNoted u events now log → step_at u.build.steps i ≡ Some step
-    → Contains events (Done i true) → step.notfile ≡ false → IsClose u.build (Clean u.build) step members → IsRecorded (next_update u now log quit jobs) [] step members
+    → Contains events (Done i true) → step.notfile ≡ false → IsClosure u.build (Clean u.build) step members → IsRecorded (next_update u now log quit jobs) [] step members
 
 -- so a step whose outputs were settled by then is fresh to the next update, wherever this one stopped, but for those that
 -- an always-step or a notfile step reaches

@@ -14,7 +14,7 @@ use Rattle.b2_log.specs.declared.line.LogLine.{LogLine}
 use Rattle.b2_runs.specs.LogFiles.{log_limit, IsLogIn}
 use Rattle.b2_runs.specs.Staleness.{Update}
 use Rattle.b2_runs.specs.Events.{AreInOrder, as_counted, AreShort, ShortTold}
-use Rattle.b2_runs.specs.Runs.{IsRun, IsBegun, AreFed}
+use Rattle.b2_runs.specs.Runs.{IsRun, IsBegun, AreGivenClosures}
 use Rattle.b2_runs.specs.Outcomes.{NoneStuck, AllWent, HasCleanBytes, IsCleanBuild, LeavesNothing, OnlyOutputsChange}
 use Rattle.b2_runs.specs.Cycles.{IsStepCycle}
 use Rattle.b2_runs.specs.Soundness.{AreAtWork, Holds}
@@ -127,7 +127,7 @@ pub record HasUpdated (u : Update) (answer : UpdateAnswer) (old new : Outside) (
   pub given : List Given
   pub given_are : IfSome old.children.given (λ list. new.children.given ≡ Some (list ++ given))
   pub begun : IsBegun u events
-  pub fed : AreFed u events given
+  pub given_closure : AreGivenClosures u events given
   pub at_work : AreAtWork u events new.children.running
   pub changed : OnlyOutputsChange u events before.now after.now
   pub done_well : (i : ℕ) (step : Step) (path : List ℕ) → Makes u.build.steps i step path → Contains events (Done i true) → (value : Value) × Clean u.build path value × Holds after.now path value

@@ -1,9 +1,9 @@
 //! Laws of children beside a run: what they are given, and which of them are at work.
-ghost use Rattle.b2_runs.specs.ChildLaws.{StartIsFed, StartMayBegin, AtWorkAtEntry, AtWorkAfterStart, AtWorkAfterEnd, EndIsOpen, FedAfterStart, FedAfterEnd, PlanChildrenAtEntry, PlanChildMayStart, PlanChildrenAfterStart, PlanChildrenAfterEnd, AtWorkIsPlanned};
+ghost use Rattle.b2_runs.specs.ChildLaws.{StartGivesClosure, StartMayBegin, AtWorkAtEntry, AtWorkAfterStart, AtWorkAfterEnd, EndIsOpen, GivenAfterStart, GivenAfterEnd, PlanChildrenAtEntry, PlanChildMayStart, PlanChildrenAfterStart, PlanChildrenAfterEnd, AtWorkIsPlanned};
 
-/// A step that can start is fed, where it is handed the members of its closure that have bytes.
-pub fn start_is_fed()
-    ensures { StartIsFed }
+/// The child of a step that can start is given its closure, where it is handed the members that have bytes.
+pub fn start_gives_closure()
+    ensures { StartGivesClosure }
 {}
 
 /// A step that can start may start beside the children that are at work.
@@ -32,13 +32,13 @@ pub fn end_is_open()
 {}
 
 /// Each start has its entry in what was given, as one more starts.
-pub fn fed_after_start()
-    ensures { FedAfterStart }
+pub fn given_after_start()
+    ensures { GivenAfterStart }
 {}
 
 /// Each start has its entry in what was given, as one ends.
-pub fn fed_after_end()
-    ensures { FedAfterEnd }
+pub fn given_after_end()
+    ensures { GivenAfterEnd }
 {}
 
 /// Over every host: before any start no child runs.

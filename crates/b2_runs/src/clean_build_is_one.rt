@@ -1,6 +1,6 @@
 //! Laws of closures and of the clean build.
 ghost use Rattle.std.specs.Prelude.{ℕ, List, Option};
-ghost use Rattle.b2_runs.specs.ClosureLaws.{KnownGrows, CloseStays, CloseIsOne, KnownIsLocal, CloseIsLocal};
+ghost use Rattle.b2_runs.specs.ClosureLaws.{KnownGrows, ClosureStays, ClosureIsOne, KnownIsLocal, ClosureIsLocal};
 ghost use Rattle.b2_runs.specs.CleanLaws.{CleanIsOne, RoundsAreEnough, CleanIsMade};
 
 use std::marker::Brand;
@@ -20,13 +20,13 @@ pub fn known_grows<V: Worth, W: Worth>()
 {}
 
 /// A closure that is defined stays the same, where more is known of values.
-pub fn close_stays<V: Worth, W: Worth>()
-    ensures { CloseStays V.worth W.worth }
+pub fn closure_stays<V: Worth, W: Worth>()
+    ensures { ClosureStays V.worth W.worth }
 {}
 
 /// The closure of a step is one list.
-pub fn close_is_one<V: Worth>()
-    ensures { CloseIsOne V.worth }
+pub fn closure_is_one<V: Worth>()
+    ensures { ClosureIsOne V.worth }
 {}
 
 /// What a step is known to read depends on the values of what it is known to read alone.
@@ -35,8 +35,8 @@ pub fn known_is_local<V: Worth, W: Worth>()
 {}
 
 /// So does its closure.
-pub fn close_is_local<V: Worth, W: Worth>()
-    ensures { CloseIsLocal V.worth W.worth }
+pub fn closure_is_local<V: Worth, W: Worth>()
+    ensures { ClosureIsLocal V.worth W.worth }
 {}
 
 /// A path has at most one value in the clean build.

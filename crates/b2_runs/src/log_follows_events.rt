@@ -1,5 +1,5 @@
 //! Laws of the log over a whole update: what it begins with, and what the events add.
-ghost use Rattle.b2_runs.specs.LogCourseLaws.{FirstLinesAreOne, BeginTellsRecords, BeginTellsScans, BeginIsRead, LinesAreRead, LogGrows, LogTellsOthers, LogDropsFailed, LogHasRecords, WholeLogCounts, LogTellsOtherScans, ScansOnce, MigratesOnce, LogIsProper, LogMoves, LogStaysTrue, LogIsNoted, LogStaysGood, WholeIsCut, HealthyGrows, CutLogIsTrue, CutLogIsNoted, FinishedIsKept, FinishedIsNotStarted};
+ghost use Rattle.b2_runs.specs.LogCourseLaws.{FirstLinesAreOne, BeginTellsRecords, BeginTellsScans, BeginIsRead, LinesAreRead, LogGrows, LogTellsOthers, LogDropsFailed, LogHasRecords, WholeLogCounts, LogTellsOtherScans, ScansOnce, MigratesOnce, LogIsProper, LogMoves, LogStaysTrue, LogIsNoted, LogStaysGood, WholeIsCut, WholeLogIsAppendedTo, CutLogIsTrue, CutLogIsNoted, FinishedIsKept, FinishedIsNotStarted};
 
 /// An update begins with one list of lines.
 pub fn begins_with_one()
@@ -98,7 +98,7 @@ pub fn whole_is_cut()
 
 /// A log that has no torn tail and is neither long nor too large is only appended to.
 pub fn healthy_grows()
-    ensures { HealthyGrows }
+    ensures { WholeLogIsAppendedTo }
 {}
 
 /// Wherever an update was cut off its log is true, where the log at entry was.

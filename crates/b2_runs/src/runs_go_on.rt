@@ -1,5 +1,5 @@
 //! Laws of runs: how they go on, and what stays as they do.
-ghost use Rattle.b2_runs.specs.RunLaws.{RunGoesOn, RunHasBegun, SettledAfterStart, SettledAfterEnd, NeededGrows, CloseOnSettled, StartedHasClosure, DoneWasStarted, DoneOnce, EachEventOnce, SettledHasValue, VerdictStays, CloseOnSettledStays, RunIsPrefix};
+ghost use Rattle.b2_runs.specs.RunLaws.{RunGoesOn, RunHasBegun, SettledAfterStart, SettledAfterEnd, NeededGrows, ClosureOnSettled, StartedHasClosure, DoneWasStarted, DoneOnce, EachEventOnce, SettledHasValue, VerdictStays, ClosureOnSettledStays, RunIsPrefix};
 
 /// A run goes on by each event that may come.
 pub fn run_goes_on()
@@ -27,8 +27,8 @@ pub fn needed_grows()
 {}
 
 /// A closure by what is settled is one by the clean build with all members settled, and the other way round.
-pub fn close_on_settled()
-    ensures { CloseOnSettled }
+pub fn closure_on_settled()
+    ensures { ClosureOnSettled }
 {}
 
 /// A step that was started has its closure on what is settled.
@@ -62,8 +62,8 @@ pub fn verdict_stays()
 {}
 
 /// A closure that is defined on what is settled stays as events come.
-pub fn close_on_settled_stays()
-    ensures { CloseOnSettledStays }
+pub fn closure_on_settled_stays()
+    ensures { ClosureOnSettledStays }
 {}
 
 /// Each run so far is a prefix of a run.

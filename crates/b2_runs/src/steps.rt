@@ -1,10 +1,12 @@
 //! Steps of a plan by their numbers, and what a report names them by.
-ghost use Rattle.std.specs.Prelude.{◌≡◌};
+ghost use Rattle.std.specs.Prelude.{◌≡◌, IfOk, string_bytes};
 ghost use Rattle.std.specs.Option.{option_copied};
 ghost use Rattle.b2_plan.specs.Plans.{step_at};
-ghost use Rattle.b2_runs.specs.Reports.{first_path};
+ghost use Rattle.b2_runs.specs.Reports.{first_path, start_line};
 
+use b2_base::fault::OutOfMemory;
 use b2_plan::step::Step;
+use std::alloc::Global;
 
 /// The step with a number, counted from 1, where there is one.
 pub fn find_step(steps: &[Step], number: u32) -> Option<&Step>
@@ -24,4 +26,16 @@ pub fn first_path(step: &Step) -> &str
         None => "",
         Some(out) => out.as_str(),
     }
+}
+
+/// The line of a step's start: its name and its first output; the empty text where the name is empty.
+pub fn start_line(alloc: Global, step: &Step) -> Result<String, OutOfMemory>
+    ensures { IfOk result (λ line. string_bytes line ≡ start_line step.now) }
+{
+    let name = step.name.as_str();
+    if name.is_empty() {
+        return Ok(String::new(alloc));
+    }
+    let out = first_path(step);
+    Ok(format!(in alloc; "{name} {out}\n")?)
 }

@@ -50,7 +50,6 @@ pub fn failed_of(alloc: Global, states: &[State]) -> Result<Vec<u32>, OutOfMemor
     Ok(numbers)
 }
 
-/// Whether some step failed.
 fn has_failed(states: &[State]) -> bool
     ensures { IsTrue result ↔ ((i : ℕ) × (slice_index_or states.now i Settled ≡ Failed)) }
 {

@@ -7,20 +7,18 @@ use Rattle.std.specs.declared.cmp.Ordering.TheVariants as orders
 use Rattle.std.specs.Cmp.Lexicographic.{slice_cmp}
 use Rattle.std.proofs.lemmas.Cmp.{nat_list_cmp_total}
 use Rattle.std.proofs.lemmas.Map.Lookups.{exact_bytes}
+use Rattle.b2_base.specs.Bytes.{Before}
 use Rattle.jam_journal.specs.Tables.{Text}
-
-abbrev IsBelow : Text → Text → Type 0
-IsBelow x y = slice_cmp nat_cmp x y ≡ orders.Less
 
 -- each text is below those after it
 abbrev pub Rises : List Text → Type 0
 Rises [] = Unit {0}
-Rises (x ∷ xs) = ((y : Text) → Contains xs y → IsBelow x y) × Rises xs
+Rises (x ∷ xs) = ((y : Text) → Contains xs y → Before x y) × Rises xs
 
-here : {X : Type 0} (x : X) (xs : List X) → Contains (x ∷ xs) x
+pub here : {X : Type 0} (x : X) (xs : List X) → Contains (x ∷ xs) x
 here x xs = (zero, omega arith, refl)
 
-there : {X : Type 0} (x y : X) (xs : List X) → Contains xs y → Contains (x ∷ xs) y
+pub there : {X : Type 0} (x y : X) (xs : List X) → Contains xs y → Contains (x ∷ xs) y
 there x y xs (k, h, e) = (suc k, omega arith, e)
 
 pub here_or_there : {X : Type 0} (x y : X) (xs : List X) → Contains (x ∷ xs) y → (x ≡ y) ⊎ Contains xs y
@@ -31,7 +29,7 @@ pub none_there : {X : Type 0} (y : X) → Contains {X = X} [] y → ⊥
 none_there y (k, h, e) = omega arith
 
 -- the places of a list that rises
-pub rises_at : (xs : List Text) → Rises xs → (i j : ℕ) (d : Text) → i < j → j < length xs → IsBelow (get_or xs i d) (get_or xs j d)
+pub rises_at : (xs : List Text) → Rises xs → (i j : ℕ) (d : Text) → i < j → j < length xs → Before (get_or xs i d) (get_or xs j d)
 rises_at [] rises i j d less low = absurd (omega (arith, low))
 rises_at (x ∷ xs) rises zero zero d less low = absurd (omega (arith, less))
 rises_at (x ∷ xs) rises zero (suc j) d less low = rises.0 (get_or xs j d) (contained xs j d (omega (arith, low)))
@@ -51,11 +49,11 @@ pub record Placed (x : Text) (xs : List Text) : Type 0 where
   pub new : Contains all x
   pub old : (y : Text) → Contains xs y → Contains all y
 
-above : (x y : Text) → slice_cmp nat_cmp x y ≡ orders.Greater → IsBelow y x
+above : (x y : Text) → slice_cmp nat_cmp x y ≡ orders.Greater → Before y x
 above x y e = nat_list_cmp_total.antisymm y x ∙ ap ordering_reverse e
 
 module _ (x y : Text) (ys : List Text) (rises : Rises (y ∷ ys)) where
-  put_before : IsBelow x y → Placed x (y ∷ ys)
+  put_before : Before x y → Placed x (y ∷ ys)
   put_before less = record {
     all = x ∷ y ∷ ys;
     rises = (λ z c. below z (here_or_there y z ys c), rises);
@@ -64,8 +62,8 @@ module _ (x y : Text) (ys : List Text) (rises : Rises (y ∷ ys)) where
     old = λ z c. there x z (y ∷ ys) c;
   }
     where
-      below : (z : Text) → (y ≡ z) ⊎ Contains ys z → IsBelow x z
-      below z (inl e) = subst (IsBelow x) e less
+      below : (z : Text) → (y ≡ z) ⊎ Contains ys z → Before x z
+      below z (inl e) = subst (Before x) e less
       below z (inr c) = nat_list_cmp_total.trans x y z less (rises.0 z c)
 
   put_at : x ≡ y → Placed x (y ∷ ys)
@@ -77,7 +75,7 @@ module _ (x y : Text) (ys : List Text) (rises : Rises (y ∷ ys)) where
     old = λ z c. c;
   }
 
-  put_after : IsBelow y x → Placed x ys → Placed x (y ∷ ys)
+  put_after : Before y x → Placed x ys → Placed x (y ∷ ys)
   put_after less placed = record {
     all = y ∷ placed.all;
     rises = (λ z c. below z (placed.to z c), placed.rises);
@@ -86,8 +84,8 @@ module _ (x y : Text) (ys : List Text) (rises : Rises (y ∷ ys)) where
     old = λ z c. kept z (here_or_there y z ys c);
   }
     where
-      below : (z : Text) → (x ≡ z) ⊎ Contains ys z → IsBelow y z
-      below z (inl e) = subst (IsBelow y) e less
+      below : (z : Text) → (x ≡ z) ⊎ Contains ys z → Before y z
+      below z (inl e) = subst (Before y) e less
       below z (inr c) = rises.0 z c
 
       found : (z : Text) → (y ≡ z) ⊎ Contains placed.all z → (x ≡ z) ⊎ Contains (y ∷ ys) z

@@ -5,10 +5,9 @@ use Rattle.b2_host.specs.Listings.{IsListed}
 use Rattle.b2_host.specs.Outside.{Outside}
 use Rattle.jam_journal.specs.Tables.{Text}
 use Rattle.jam_eval.specs.Refused.{Refuses}
-use Rattle.jam_eval.specs.Settings.{Sight, IsSight, Meaning, Reading, Setting, IsSetting}
+use Rattle.jam_eval.specs.Settings.{Sight, IsSight, Meaning, Reading, Setting, IsSetting, IsMatching}
 use Rattle.jam_effects.specs.Machines.{Machine, IsSettingOf}
 use Rattle.jam_natives.specs.Keeping.{Kept}
-use Rattle.jam_natives.specs.Sights.{IsMatching}
 use Rattle.b2_walk.specs.Walking.{IsSettingFor}
 
 -- a test is the matching of patterns

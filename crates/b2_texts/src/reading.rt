@@ -34,7 +34,6 @@ pub enum RequirementText {
     Indirect(Text),
 }
 
-/// A word is unknown.
 fn unknown(alloc: Global, word: &str) -> Result<FeatureFault, OutOfMemory>
     requires { HasNoZero word.now }
     ensures { IfOk result (λ fault. fault ≡ faults.Unknown word.now) }

@@ -26,10 +26,10 @@ use Rattle.b2_host.specs.declared.children.ChildEvent.{ChildEvent}
 use Rattle.b2_host.specs.declared.children.ChildEvent.TheVariants.{Done}
 use Rattle.b2_plan.specs.Plans.{Apart}
 use Rattle.b2_plan.specs.declared.step.Step.{Step}
-use Rattle.b2_refusals.specs.Lines.{refusal_line, host_fault_line}
+use Rattle.b2_refusals.specs.Lines.{refusal_line}
 use Rattle.b2_refusals.specs.declared.fault.Fault.TheVariants as faults
 use Rattle.b2_runs.specs.CompleteLaws.{CleanIsDefined, NothingIsLeft, NothingIsMissed}
-use Rattle.b2_runs.specs.Reports.{IsFrontOf, TellsStarts, event_lines}
+use Rattle.b2_runs.specs.Reports.{IsFrontOf, TellsStarts, event_lines, host_fault_line}
 use Rattle.b2_runs.specs.Staleness.{Update}
 use Rattle.b2_runs.specs.UpdateAnswers.{UpdateAnswer as RunAnswer, CausedBy, IsQuietHost, HasHappened, failed_of}
 use Rattle.b2_runs.specs.UpdateAnswers.UpdateAnswer.{all_went, failed as some_failed, step_cycle, host_fault, sink_fault, out_of_memory}

@@ -18,12 +18,12 @@ use Rattle.b2_host.specs.Faults.{Rose}
 use Rattle.b2_host.specs.Outside.{Outside}
 use Rattle.b2_host.specs.Output.{Output, with_written}
 use Rattle.b2_host.specs.declared.children.ChildEvent.{ChildEvent}
-use Rattle.b2_refusals.specs.Lines.{host_fault_line, usage_line}
+use Rattle.b2_refusals.specs.Lines.{usage_line}
 use Rattle.b2_refusals.specs.Wholes.{IsWhole}
 use Rattle.b2_refusals.specs.declared.fault.Fault.{Fault}
 use Rattle.b2_refusals.specs.declared.fault.Fault.TheVariants as faults
 use Rattle.b2_runs.specs.Events.{ShortTold}
-use Rattle.b2_runs.specs.Reports.{IsFrontOf}
+use Rattle.b2_runs.specs.Reports.{IsFrontOf, host_fault_line}
 use Rattle.b2_runs.specs.UpdateAnswers.{UpdateAnswer.all_went, failed_of}
 use Rattle.b2_update.specs.Moments.{moment}
 use Rattle.b2_update.specs.Plain.{Made}

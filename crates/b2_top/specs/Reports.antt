@@ -3,8 +3,8 @@ use Rattle.std.specs.Prelude.{ℕ, List, ◌++◌}
 use Rattle.std.specs.List.{flat_map}
 use Rattle.b2_plan.specs.declared.step.Step.{Step}
 use Rattle.b2_refusals.specs.declared.fault.Fault.{Fault}
-use Rattle.b2_refusals.specs.Lines.{refusal_line, host_fault_line}
-use Rattle.b2_runs.specs.Reports.{line}
+use Rattle.b2_refusals.specs.Lines.{refusal_line}
+use Rattle.b2_runs.specs.Reports.{line, host_fault_line}
 
 abbrev pub echo_lines : List (List ℕ) → List ℕ
 echo_lines echoes = flat_map line echoes

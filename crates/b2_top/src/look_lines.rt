@@ -10,7 +10,8 @@ use b2_host::fault::IoFault;
 use b2_host::sink::Sink;
 use b2_plan::step::Step;
 use b2_planning::planned::{Built, Planned};
-use b2_refusals::lines::{start_line, table_line, text_line};
+use b2_refusals::lines::{table_line, text_line};
+use b2_runs::steps::start_line;
 use b2_words::words::View;
 use std::alloc::Global;
 

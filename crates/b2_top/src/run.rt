@@ -74,13 +74,13 @@ pub fn run_b2<H: Children, S: Sink>(
     ensures clean { result ≡ Answer.Ok → CleanTold H.made words.now (H.outside host.old) (H.outside host.new) }
     // What happened, by the answer: an update that has ended with it, nothing, or the beginning of an update.
     ensures happened { HappenedTold H.made words.now (H.outside host.old) (H.outside host.new) result }
-    // Ok, Failed, Refused and Usage come only where nothing failed; a fault comes only where its count rose.
+    // Ok, Failed, Refused and Usage come only where both counts of faults are as at entry; a fault comes only where its count rose.
     ensures counts { CountsTold (moment (H.outside host.old) (S.output out.old)) (moment (H.outside host.new) (S.output out.new)) result }
-    // Words that are no build ask for the usage line, and the host is not called; nothing else does.
+    // Words that are no build ask for the usage line, and nothing else does; all that the host is to its callers stays as it is.
     ensures usage { free_words words.now ≡ None → IsUsageOrCutShort result }
     ensures alone { free_words words.now ≡ None → H.outside host.new ≡ H.outside host.old }
     ensures no_usage { result ≡ Answer.Usage → free_words words.now ≡ None }
-    // Nor is it called where an option is not carried out yet, and the first such option of a build is refused by its name.
+    // It stays so too where an option is not carried out yet, and the first such option of a build is refused by its name.
     ensures without { (name : Word) → unbuilt_option words.now ≡ Some name → H.outside host.new ≡ H.outside host.old }
     ensures not_yet { (free : List Word) (name : Word) → free_words words.now ≡ Some free → unbuilt_option words.now ≡ Some name → IsNotYetOrCutShort name result }
     // A call that is refused for another reason than a step cycle has started nothing and changed no file.

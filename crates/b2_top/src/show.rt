@@ -19,7 +19,7 @@ use b2_host::sink::Sink;
 use b2_words::fault::WordsFault;
 use std::alloc::Global;
 
-/// Shows what is asked for.
+/// Prepares what the words of a look name, and tells it in the look's view.
 fn show<H: Files, S: Sink>(alloc: Global, look: &Look, host: &mut H, out: &mut S) -> Answer
     ensures shows { Shows look.now (moment (H.outside host.old) (S.output out.old)) (moment (H.outside host.new) (S.output out.new)) result }
     ensures disk { (H.outside host.new).disk ≡ (H.outside host.old).disk }
@@ -62,9 +62,9 @@ pub fn show_b2<H: Files, S: Sink>(
     ensures children { (H.outside host.new).children ≡ (H.outside host.old).children }
     // No count falls, and visible files stay visible.
     ensures keeps { Keeps (H.outside host.old) (H.outside host.new) }
-    // Ok, Refused and Usage come only where nothing failed; a fault comes only where its count rose.
+    // Ok, Refused and Usage come only where both counts of faults are as at entry; a fault comes only where its count rose.
     ensures counts { CountsTold (moment (H.outside host.old) (S.output out.old)) (moment (H.outside host.new) (S.output out.new)) result }
-    // Words that are no look ask for the usage line, and the host is not called; nothing else does.
+    // Words that are no look ask for the usage line, and nothing else does; all that the host is to its callers stays as it is.
     ensures usage { look_of words.now ≡ None → IsUsageOrCutShort result }
     ensures alone { look_of words.now ≡ None → H.outside host.new ≡ H.outside host.old }
     ensures no_usage { result ≡ Answer.Usage → look_of words.now ≡ None }

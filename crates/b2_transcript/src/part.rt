@@ -1,7 +1,7 @@
 //! The parts by their names.
 use transcript::case_fault::CaseFault;
 
-/// A part of the transcript.
+/// Which library carries out the commands.
 #[derive(Clone, Copy)]
 pub enum Part {
     Host,

@@ -5,7 +5,7 @@ use Rattle.b2_host.specs.Disks.{Folder}
 use Rattle.b2_host.specs.Outside.{Outside}
 use Rattle.b2_host.specs.OutsideLaws.{keeps_same}
 use Rattle.b2_host.specs.Output.{Output, with_written}
-use Rattle.b2_plan.specs.Closures.{Before}
+use Rattle.b2_base.specs.Bytes.{Before}
 use Rattle.b2_plan.specs.declared.plan.Plan.{Plan}
 use Rattle.b2_runs.specs.Staleness.{Update}
 use Rattle.b2_runs.specs.Outcomes.{IsListOf}

@@ -4,7 +4,7 @@ use Rattle.b2_host.specs.declared.children.ChildEvent.{ChildEvent}
 use Rattle.b2_host.specs.declared.children.ChildEvent.TheVariants.{Start, Done}
 use Rattle.b2_host.specs.Disks.{Disk, IsConsistent}
 use Rattle.b2_host.specs.ChildProcesses.{Family, Given, one_more, after_start, ChangesOnlyOutputs, Ends}
-use Rattle.b2_plan.specs.Plans.{log_path}
+use Rattle.b2_host.specs.FileCalls.{log_path}
 use Rattle.b2_runs.specs.Staleness.{Update, paths_with_bytes}
 use Rattle.b2_runs.specs.Events.{is_start, is_done}
 use Rattle.b2_runs.specs.Runs.{CanStart}
@@ -12,8 +12,8 @@ use Rattle.b2_runs.specs.Soundness.{IsAllowedChange, IsAtWork}
 use Rattle.b2_runs.specs.ChildLaws.{start_gives}
 use Rattle.b2_runs.proofs.RunGoesOn.{run_goes_on}
 use Rattle.b2_runs.proofs.DiskStaysSound.{sound_after_start, sound_after_change, sound_after_end, work_is_allowed}
-use Rattle.b2_runs.proofs.StartMayBegin.{start_is_fed}
-use Rattle.b2_runs.proofs.ChildrenFollowEvents.{at_work_after_start, at_work_after_end, end_is_open, fed_after_start, fed_after_end}
+use Rattle.b2_runs.proofs.StartMayBegin.{start_gives_closure}
+use Rattle.b2_runs.proofs.ChildrenFollowEvents.{at_work_after_start, at_work_after_end, end_is_open, given_after_start, given_after_end}
 use Rattle.b2_update.specs.Progress.{IsWhole, IsUnderWay}
 use Rattle.b2_update.proofs.WholeLemmas.{by_stamp}
 
@@ -33,7 +33,7 @@ under_start u w old events fam disk i core can lowest = record {
   given = core.given ++ start_gives u events i can disk ∷ [];
   given_are = given_more old.given fam.given core.given (start_gives u events i can disk) core.given_are;
   run = run_goes_on u events (Start i) core.run (can, lowest);
-  fed = fed_after_start u events core.given i (start_gives u events i can disk) core.fed (start_is_fed u events disk i can w.apart core.sound);
+  given_closure = given_after_start u events core.given i (start_gives u events i can disk) core.given_closure (start_gives_closure u events disk i can w.apart core.sound);
   at_work = at_work_after_start u events disk fam i can w.apart core.run core.sound core.at_work;
   sound = sound_after_start u events disk i core.sound;
   log = core.log;
@@ -47,7 +47,7 @@ under_change u w old events fam before after change log core = record {
   given = core.given;
   given_are = core.given_are;
   run = core.run;
-  fed = core.fed;
+  given_closure = core.given_closure;
   at_work = core.at_work;
   sound = sound_after_change u events before after w.apart core.sound change (by_stamp u w after);
   log = log ∙ core.log;
@@ -57,7 +57,7 @@ under_change u w old events fam before after change log core = record {
 log_stays : (u : Update) → IsWhole u → (old : Family) (events : List ChildEvent) (fam : Family) (before after : Disk) → IsUnderWay u old events fam before → ChangesOnlyOutputs fam.running before after → after.now log_path ≡ before.now log_path
 log_stays u w old events fam before after core worked = worked.others log_path (λ x.
     let a : IsAtWork u events x.child = core.at_work.each x.child x.runs in
-    w.apart.not_log x.child.step a.fed.step (record { at = a.fed.at; among = subst (λ outs. Contains outs log_path) (a.outs ∙ a.fed.outs) x.out }))
+    w.apart.not_log x.child.step a.given_closure.step (record { at = a.given_closure.at; among = subst (λ outs. Contains outs log_path) (a.outs ∙ a.given_closure.outs) x.out }))
 
 -- children have worked
 pub under_work : (u : Update) → IsWhole u → (old : Family) (events : List ChildEvent) (fam : Family) (before after : Disk) → IsConsistent after → IsUnderWay u old events fam before
@@ -73,7 +73,7 @@ under_done u w old events fam new before after i well consistent core odd ends =
   given = core.given;
   given_are = subst (λ z. IfSome old.given (λ list. z ≡ Some (list ++ core.given))) (sym ends.given) core.given_are;
   run = run_goes_on u events (Done i well) core.run (end_is_open u events fam new before after i well core.at_work ends, none_starts u w events odd);
-  fed = fed_after_end u events core.given i well core.fed;
+  given_closure = given_after_end u events core.given i well core.given_closure;
   at_work = at_work_after_end u events fam new before after i well core.at_work ends;
   sound = sound_after_end u events fam new before after i well w.apart core.at_work core.sound consistent ends (by_stamp u w after);
   log = log_stays u w old events fam before after core ends.worked ∙ core.log;

@@ -1,5 +1,5 @@
 use Rattle.std.proofs.Common.{◌≡◌, ◌≢◌, ℕ, ◌==◌, Bool, true, false, List, [], ◌∷◌, ◌++◌, length, codes, refl, sym, ap, ◌∙◌, arith}
-use Rattle.b2_runs.specs.Reports.{line, named, start_text}
+use Rattle.b2_runs.specs.Reports.{named}
 
 -- a text is empty exactly where its length is told to be zero
 pub empty_text : (text : List ℕ) (empty : Bool) → empty ≡ (length text == 0) → empty ≡ true → text ≡ []
@@ -17,8 +17,3 @@ named_some (x ∷ name) path some = refl
 
 pub named_none : (name path : List ℕ) → name ≡ [] → named name path ≡ path
 named_none name path none = ap (λ n. named n path) none
-
--- the line of a start
-pub start_some : (name path : List ℕ) → name ≢ [] → start_text name path ≡ line (named name path)
-start_some [] path some = absurd (some refl)
-start_some (x ∷ name) path some = refl

@@ -1,7 +1,7 @@
 -- What is missing at the end.
 use Rattle.std.proofs.Common.{◌↔◌, inl, inr, ℕ, Bool, true, false, List}
 use Rattle.std.specs.List.{Contains, AllPairs}
-use Rattle.b2_plan.specs.Closures.{Before}
+use Rattle.b2_base.specs.Bytes.{Before}
 use Rattle.b2_plan.specs.Sources.{IsGiven, IsMissing}
 use Rattle.b2_runs.specs.Staleness.{Update}
 use Rattle.b2_sched.specs.Schedules.{IsNeeded}

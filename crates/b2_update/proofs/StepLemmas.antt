@@ -9,8 +9,10 @@ use Rattle.b2_host.specs.Outside.{Outside}
 use Rattle.b2_host.specs.OutsideLaws.{Keeps, BeginsPast}
 use Rattle.b2_host.specs.Output.{Output}
 use Rattle.b2_plan.specs.declared.step.Step.{Step}
-use Rattle.b2_plan.specs.Plans.{log_path, step_at}
-use Rattle.b2_plan.specs.Closures.{Value, Before}
+use Rattle.b2_plan.specs.Plans.{step_at}
+use Rattle.b2_host.specs.FileCalls.{log_path}
+use Rattle.b2_plan.specs.Closures.{Value}
+use Rattle.b2_base.specs.Bytes.{Before}
 use Rattle.b2_runs.specs.Staleness.{Update, paths_with_bytes}
 use Rattle.b2_runs.specs.Events.{is_start, is_done}
 use Rattle.b2_runs.specs.Runs.{on_settled, CanStart}

@@ -7,7 +7,8 @@ use Rattle.b2_host.specs.Output.{Output, with_written}
 use Rattle.b2_host.specs.Faults.{Rose}
 use Rattle.b2_host.specs.OutsideLaws.{Keeps, keeps_same, keeps_fails}
 use Rattle.b2_plan.specs.declared.plan.Plan.{Plan}
-use Rattle.b2_plan.specs.Plans.{log_path, Apart}
+use Rattle.b2_plan.specs.Plans.{Apart}
+use Rattle.b2_host.specs.FileCalls.{log_path}
 use Rattle.b2_runs.specs.Staleness.{Update}
 use Rattle.b2_runs.specs.Moments.{Moment}
 use Rattle.b2_runs.specs.UpdateAnswers.{CountsStay, IsQuietHost, CausedBy, LeavesNone}
@@ -21,7 +22,7 @@ use Rattle.b2_update.specs.declared.update_answer.UpdateAnswer.{UpdateAnswer}
 use Rattle.b2_update.specs.declared.update_answer.UpdateAnswer.TheVariants as answers
 use Rattle.b2_update.specs.Answers.{answer_of, stop_answer, IsEnd}
 use Rattle.b2_update.specs.Plain.{Made, update_of}
-use Rattle.b2_update.specs.Stops.{Says, HostTold, StopLooks, ChangesFiles, FaultsTold, StopCausedBy, IsCalm, Halts, Proceeds}
+use Rattle.b2_update.specs.Stops.{Says, HostTold, StopLooks, ChangesFiles, FaultsTold, StopCausedBy, WentWell, Halts, Proceeds}
 use Rattle.b2_update.specs.Progress.{IsWhole, Stands, Stopped, GoesOn}
 use Rattle.b2_update.specs.Moments.{moment}
 use Rattle.b2_update.proofs.WholeLemmas.{by_stamp}
@@ -41,7 +42,7 @@ stands_begin u w entry before now_is folder idle consistent = record {
     given = [];
     given_are = given_none entry.host.children.given;
     run = tt;
-    fed = tt;
+    given_closure = tt;
     at_work = subst (AreAtWork u []) (sym idle) (at_work_at_entry u);
     sound = sound_at_entry u before (subst (λ d. IfSome d IsConsistent) now_is consistent) (λ off. absurd (let e : true ≡ false = sym w.all ∙ off in cc)) (λ path. ap (λ f. f path) folder) (by_stamp u w before);
     log = ap (λ f. f log_path) (sym folder);
@@ -131,11 +132,11 @@ look_halts before after out stop idle looked = record {
 }
 
 -- no child runs, and nothing happens
-pub calm_here : (here : Moment) → here.host.children.running ≡ [] → IsCalm here here
+pub calm_here : (here : Moment) → here.host.children.running ≡ [] → WentWell here here
 calm_here here idle = record { counts = record { host = refl; waits = refl; sink = refl }; idle = idle }
 
 -- all went well, and then again
-pub calm_again : (x y z : Moment) → IsCalm x y → IsCalm y z → IsCalm x z
+pub calm_again : (x y z : Moment) → WentWell x y → WentWell y z → WentWell x z
 calm_again x y z a b = record {
   counts = record { host = b.counts.host ∙ a.counts.host; waits = b.counts.waits ∙ a.counts.waits; sink = b.counts.sink ∙ a.counts.sink };
   idle = b.idle;
@@ -151,21 +152,21 @@ caused_later x y z stops.Host stay (rose, same) = (subst (λ n. Rose n z.host.fa
 caused_later x y z stops.Sink stay (rose, quiet) = (subst (λ n. Rose n z.out.faults) stay.sink rose, quiet_later x y z stay quiet)
 caused_later x y z stops.OutOfMemory stay (same, quiet) = (same ∙ stay.sink, quiet_later x y z stay quiet)
 
-pub calm_halts : (x y z : Moment) (stop : Stop) → IsCalm x y → Halts y z stop → Halts x z stop
+pub calm_halts : (x y z : Moment) (stop : Stop) → WentWell x y → Halts y z stop → Halts x z stop
 calm_halts x y z stop calm halts = record { counts = caused_later x y z stop calm.counts halts.counts; none_left = left halts.none_left }
   where
     left : LeavesNone y.host z.host → LeavesNone x.host z.host
     left (inl none) = inl none
     left (inr failed) = inr (record { faults = subst (λ n. Rose n z.host.faults) calm.counts.host failed.faults; waits = subst (λ n. Rose n z.host.failed_waits) calm.counts.waits failed.waits })
 
-calm_stopped : (x y z : Moment) (stop : Stop) → IsCalm x y → FaultsTold {T = Unit {0}} y z (Err stop) → ChangesFiles y.host z.host → Halts x z stop
+calm_stopped : (x y z : Moment) (stop : Stop) → WentWell x y → FaultsTold {T = Unit {0}} y z (Err stop) → ChangesFiles y.host z.host → Halts x z stop
 calm_stopped x y z stop calm told files = record {
   counts = caused_later x y z stop calm.counts (caused y z stop told (ap (λ (o : Outside). o.failed_waits) files));
   none_left = inl (ap (λ (o : Outside). o.children.running) files ∙ calm.idle);
 }
 
 -- all went well, and then something that changes the files alone
-pub calm_then : {T : Type 0} (x y z : Moment) (r : Result T Stop) → IsCalm x y → FaultsTold y z r → ChangesFiles y.host z.host → Proceeds x z r
+pub calm_then : {T : Type 0} (x y z : Moment) (r : Result T Stop) → WentWell x y → FaultsTold y z r → ChangesFiles y.host z.host → Proceeds x z r
 calm_then x y z (Ok v) calm told files = record {
   counts = record { host = told.0 ∙ calm.counts.host; waits = ap (λ (o : Outside). o.failed_waits) files ∙ calm.counts.waits; sink = told.1 ∙ calm.counts.sink };
   idle = ap (λ (o : Outside). o.children.running) files ∙ calm.idle;
@@ -175,11 +176,11 @@ calm_then x y z (Err stops.Sink) calm told files = calm_stopped x y z stops.Sink
 calm_then x y z (Err stops.OutOfMemory) calm told files = calm_stopped x y z stops.OutOfMemory calm told files
 
 -- all went well, and then no memory was left
-pub calm_memory : (x y : Moment) (stop : Stop) → stop ≡ stops.OutOfMemory → IsCalm x y → Halts x y stop
+pub calm_memory : (x y : Moment) (stop : Stop) → stop ≡ stops.OutOfMemory → WentWell x y → Halts x y stop
 calm_memory x y stop e calm = subst (λ z. Halts x y z) (sym e) (record { counts = (calm.counts.sink, inl (calm.counts.host, calm.counts.waits)); none_left = inl calm.idle })
 
 -- all went well, and then a text was written, or its writing stopped
-pub calm_says : (x y : Moment) (out : Output) (text : List ℕ) (stop : Stop) → IsCalm x y → Says {T = Unit {0}} text y.out out (Err stop) → Halts x (moment y.host out) stop
+pub calm_says : (x y : Moment) (out : Output) (text : List ℕ) (stop : Stop) → WentWell x y → Says {T = Unit {0}} text y.out out (Err stop) → Halts x (moment y.host out) stop
 calm_says x y out text stop calm says = record { counts = told stop says; none_left = inl calm.idle }
   where
     told : (stop : Stop) → Says {T = Unit {0}} text y.out out (Err stop) → StopCausedBy x (moment y.host out) stop
@@ -187,14 +188,14 @@ calm_says x y out text stop calm says = record { counts = told stop says; none_l
     told stops.Sink t = (subst (λ n. Rose n out.faults) calm.counts.sink t.0, inl (calm.counts.host, calm.counts.waits))
     told stops.OutOfMemory t = (t.0 ∙ calm.counts.sink, inl (calm.counts.host, calm.counts.waits))
 
-pub calm_said : (x y : Moment) (out : Output) (text : List ℕ) → IsCalm x y → out ≡ with_written text y.out → IsCalm x (moment y.host out)
+pub calm_said : (x y : Moment) (out : Output) (text : List ℕ) → WentWell x y → out ≡ with_written text y.out → WentWell x (moment y.host out)
 calm_said x y out text calm said = record {
   counts = record { host = calm.counts.host; waits = calm.counts.waits; sink = ap (λ (o : Output). o.faults) said ∙ calm.counts.sink };
   idle = calm.idle;
 }
 
 -- how the counts stand to the answer of an update
-pub ended_counts : (before after : Moment) (answer : UpdateAnswer) → IsEnd answer → IsCalm before after → CausedBy before after (answer_of answer)
+pub ended_counts : (before after : Moment) (answer : UpdateAnswer) → IsEnd answer → WentWell before after → CausedBy before after (answer_of answer)
 ended_counts before after answers.Done end calm = calm.counts
 ended_counts before after (answers.Failed lists) end calm = calm.counts
 ended_counts before after (answers.StepCycle list) end calm = calm.counts

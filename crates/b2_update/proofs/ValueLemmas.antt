@@ -7,7 +7,8 @@ use Rattle.b2_host.specs.Disks.{Folder, Disk, bytes_at}
 use Rattle.b2_plan.specs.declared.step.Step.{Step}
 use Rattle.b2_plan.specs.Plans.{Apart, Makes, step_at, maker_of}
 use Rattle.b2_plan.specs.Sources.{Build, IsSource}
-use Rattle.b2_plan.specs.Closures.{Value, Values, Known.input, Before, IsClose, named, with_bytes}
+use Rattle.b2_plan.specs.Closures.{Value, Values, Known.input, IsClosure, named, with_bytes}
+use Rattle.b2_base.specs.Bytes.{Before}
 use Rattle.b2_plan.specs.Cleans.{Val, Clean}
 use Rattle.b2_runs.specs.Staleness.{Update, paths_with_bytes}
 use Rattle.b2_runs.specs.Runs.{Settled, Settled.source}
@@ -54,7 +55,7 @@ in_members f (x ∷ xs) path c = elim (Contains_cases x path xs c) [
 
 -- the inputs in byte order are the closure, with any values that they have
 pub close_by : (u : Update) → IsWhole u → (v : Values) (step : Step) (f : List ℕ → Value) (ins : List (List ℕ)) → AllPairs Before ins → ((path : List ℕ) → Contains ins path ↔ Contains step.ins path)
-    → ((path : List ℕ) → Contains step.ins path → v path (f path)) → IsClose u.build v step (members_by f ins)
+    → ((path : List ℕ) → Contains step.ins path → v path (f path)) → IsClosure u.build v step (members_by f ins)
 close_by u w v step f ins rising same holds = record {
   ordered = members_ordered f ins rising;
   each = λ path value c.

@@ -9,10 +9,11 @@ use Rattle.b2_host.specs.Outside.{Outside}
 use Rattle.b2_host.specs.OutsideLaws.{Keeps}
 use Rattle.b2_plan.specs.declared.plan.Plan.{Plan}
 use Rattle.b2_plan.specs.declared.step.Step.{Step}
-use Rattle.b2_plan.specs.Plans.{log_path, step_at, Apart}
+use Rattle.b2_plan.specs.Plans.{step_at, Apart}
+use Rattle.b2_host.specs.FileCalls.{log_path}
 use Rattle.b2_runs.specs.Staleness.{Update}
 use Rattle.b2_runs.specs.Events.{is_start, is_done}
-use Rattle.b2_runs.specs.Runs.{Settled, Needed, CanStart, IsRunSoFar, AreFed}
+use Rattle.b2_runs.specs.Runs.{Settled, Needed, CanStart, IsRunSoFar, AreGivenClosures}
 use Rattle.b2_runs.specs.Outcomes.{LeavesNothing}
 use Rattle.b2_runs.specs.Soundness.{IsSound, AreAtWork}
 use Rattle.b2_runs.specs.Reports.{event_lines, is_good_end, TellsStarts}
@@ -48,7 +49,7 @@ pub record IsUnderWay (u : Update) (old : Family) (events : List ChildEvent) (ne
   pub given : List Given
   pub given_are : IfSome old.given (λ before. new.given ≡ Some (before ++ given))
   pub run : IsRunSoFar u events
-  pub fed : AreFed u events given
+  pub given_closure : AreGivenClosures u events given
   pub at_work : AreAtWork u events new.running
   pub sound : IsSound u events disk
   pub log : disk.now log_path ≡ u.build.folder log_path

@@ -59,7 +59,7 @@ abbrev pub StopCausedBy : Moment → Moment → Stop → Type 0
 StopCausedBy before after stop = CausedBy before after (answer_of (stop_answer stop))
 
 -- all went well: no count has changed, and no child is left
-pub record IsCalm (before after : Moment) : Type 0 where
+pub record WentWell (before after : Moment) : Type 0 where
   pub counts : CountsStay before after
   pub idle : after.host.children.running ≡ []
 
@@ -70,5 +70,5 @@ pub record Halts (before after : Moment) (stop : Stop) : Type 0 where
 
 -- all went well, or it stopped
 abbrev pub Proceeds : {T : Type 0} → Moment → Moment → Result T Stop → Type 0
-Proceeds before after (Ok x) = IsCalm before after
+Proceeds before after (Ok x) = WentWell before after
 Proceeds before after (Err stop) = Halts before after stop

@@ -8,11 +8,12 @@ use Rattle.b2_host.specs.ChildProcesses.{Family, Given, BothTold}
 use Rattle.b2_host.specs.Outside.{Outside}
 use Rattle.b2_plan.specs.declared.plan.Plan.{Plan}
 use Rattle.b2_plan.specs.declared.step.Step.{Step}
-use Rattle.b2_plan.specs.Plans.{log_path, Makes}
+use Rattle.b2_plan.specs.Plans.{Makes}
+use Rattle.b2_host.specs.FileCalls.{log_path}
 use Rattle.b2_plan.specs.Closures.{Value}
 use Rattle.b2_plan.specs.Cleans.{Clean}
 use Rattle.b2_runs.specs.Staleness.{Update}
-use Rattle.b2_runs.specs.Runs.{IsRun, IsBegun, AreFed}
+use Rattle.b2_runs.specs.Runs.{IsRun, IsBegun, AreGivenClosures}
 use Rattle.b2_runs.specs.Outcomes.{NoneStuck, AllWent, HasCleanBytes, IsCleanBuild, LeavesNothing, OnlyOutputsChange}
 use Rattle.b2_runs.specs.Cycles.{IsStepCycle}
 use Rattle.b2_runs.specs.Soundness.{Holds, AreAtWork}
@@ -49,7 +50,7 @@ pub record HasRun (u : Update) (events : List ChildEvent) (old new : Family) (be
   pub given : List Given
   pub given_are : IfSome old.given (λ list. new.given ≡ Some (list ++ given))
   pub begun : IsBegun u events
-  pub fed : AreFed u events given
+  pub given_closure : AreGivenClosures u events given
   pub at_work : AreAtWork u events new.running
   pub changed : OnlyOutputsChange u events before after
   pub log : after log_path ≡ before log_path

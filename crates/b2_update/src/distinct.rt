@@ -1,7 +1,7 @@
 //! Distinct paths in byte order.
 ghost use Rattle.std.specs.Prelude.{IfOk, ◌↔◌, ℕ, List};
 ghost use Rattle.std.specs.List.{AllPairs, Contains};
-ghost use Rattle.b2_plan.specs.Closures.{Before};
+ghost use Rattle.b2_base.specs.Bytes.{Before};
 
 use b2_base::fault::OutOfMemory;
 use b2_base::path::Path;

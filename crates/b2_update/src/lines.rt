@@ -1,6 +1,6 @@
 //! The lines of the report.
 ghost use Rattle.std.specs.Prelude.{◌≡◌, IfOk, string_bytes};
-ghost use Rattle.b2_runs.specs.Reports.{first_path, named, start_line, failed_line, missing_line, skipped_line, summary_line};
+ghost use Rattle.b2_runs.specs.Reports.{first_path, named, failed_line, missing_line, skipped_line, summary_line};
 ghost use Rattle.b2_update.specs.Answers.{lists_of};
 
 use crate::failed_lists::FailedLists;
@@ -20,17 +20,6 @@ fn title(alloc: Global, step: &Step) -> Result<String, OutOfMemory>
         return Ok(format!(in alloc; "{out}")?);
     }
     Ok(format!(in alloc; "{name} {out}")?)
-}
-
-/// What is written when a step starts: nothing where its name is empty.
-pub fn start_text(alloc: Global, step: &Step) -> Result<String, OutOfMemory>
-    ensures { IfOk result (λ text. string_bytes text ≡ start_line step.now) }
-{
-    if step.name.as_str().is_empty() {
-        return Ok(String::new(alloc));
-    }
-    let text = title(alloc, step)?;
-    Ok(format!(in alloc; "{text}\n")?)
 }
 
 /// What is written when a step has failed.

@@ -18,7 +18,7 @@ use b2_plan::step::Step;
 use b2_runs::steps::find_step;
 use std::alloc::Global;
 
-/// Writes what is missing.
+/// Writes a line for each missing file.
 fn tell_missing<S: Sink>(alloc: Global, out: &mut S, paths: &[Path]) -> Result<(), Stop>
     ensures { Says (flat_map missing_line paths.now) (S.output out.old) (S.output out.new) result }
 {

@@ -11,13 +11,14 @@ ghost use Rattle.b2_update.specs.Turns.{EndedAs, TurnTold};
 use crate::child::{run_child, write_line};
 use crate::distinct::distinct;
 use crate::input_files::input_files;
-use crate::lines::{failed_text, start_text};
+use crate::lines::failed_text;
 use crate::outputs::{all_stand, remove_all};
 use crate::stop::Stop;
 use b2_host::children::Children;
 use b2_host::sink::Sink;
 use b2_plan::plan::Plan;
 use b2_plan::step::Step;
+use b2_runs::steps::start_line;
 use std::alloc::Global;
 
 /// Removes the outputs of a step that has failed, and writes its line.
@@ -90,7 +91,7 @@ pub fn run_step<H: Children, S: Sink>(
 {
     let names = distinct(alloc, step.ins.as_slice())?;
     let ins = input_files(alloc, plan, names.as_slice())?;
-    let line = start_text(alloc, step)?;
+    let line = start_line(alloc, step)?;
     let well = run_child(host, out, number, step, ins.as_slice(), line.as_str())?;
     finish_step(alloc, host, out, step, well)
 }

@@ -45,13 +45,6 @@ impl Waiting {
         Waiting { numbers }
     }
 
-    /// The numbers.
-    pub fn as_slice(&self) -> &[u32]
-        ensures { result.now ≡ self.now }
-    {
-        &self.numbers
-    }
-
     /// Takes settled steps off the end, until one is not settled, and says whether none is left.
     pub fn is_over(&mut self, sched: &Sched) -> bool
         requires { (k : ℕ) → Contains self.old k → IsStep sched.now k }

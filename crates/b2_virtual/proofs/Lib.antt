@@ -8,3 +8,4 @@ pub mod Cuts
 pub mod LogLemmas
 pub mod RangeLemmas
 pub mod ClashLemmas
+pub mod RepeatsAreLeftOut

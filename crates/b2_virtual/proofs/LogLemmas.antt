@@ -1,7 +1,7 @@
 -- The log's path.
 use Rattle.std.proofs.Common.{◌≢◌, List, [], ◌∷◌, codes, false, refl, arith}
 use Rattle.b2_base.specs.Normal.{IsName, IsNormal}
-use Rattle.b2_plan.specs.Plans.{log_path}
+use Rattle.b2_host.specs.FileCalls.{log_path}
 
 name_bin : IsName (codes "bin")
 name_bin = record { shown = refl; name = refl; whole = ((λ e. absurd (omega (arith, e))), ((λ e. absurd (omega (arith, e))), ((λ e. absurd (omega (arith, e))), tt))) }

@@ -12,7 +12,8 @@ use Rattle.std.proofs.lemmas.List.Elements.{All-contains, All-from_recursion}
 use Rattle.std.proofs.lemmas.Slice.Eq.{bytes_eq-Decides}
 use Rattle.b2_base.specs.Normal.{IsNormal, IsUnder}
 use Rattle.b2_plan.specs.declared.step.Step.{Step}
-use Rattle.b2_plan.specs.Plans.{step_at, Makes, Apart, log_path}
+use Rattle.b2_plan.specs.Plans.{step_at, Makes, Apart}
+use Rattle.b2_host.specs.FileCalls.{log_path}
 use Rattle.b2_virtual.specs.Joining.{is_same, stands_in, number_in, number_of}
 use Rattle.b2_virtual.specs.Clashes.{AreNested, Clashes, shared, beside, within, log, below_log, Fits, AreInRoots, AreApart}
 use Rattle.b2_virtual.specs.Spots.{spot, Begins, Numbers, GoesOn, ComesBefore, IsFlat}

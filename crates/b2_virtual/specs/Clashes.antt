@@ -3,7 +3,8 @@ use Rattle.std.specs.Prelude.{◌≡◌, ◌≢◌, ℕ, List, [], ◌∷◌, �
 use Rattle.std.specs.List.{Contains, AllByRecursion}
 use Rattle.b2_base.specs.Normal.{IsUnder}
 use Rattle.b2_plan.specs.declared.step.Step.{Step}
-use Rattle.b2_plan.specs.Plans.{step_at, Makes, Apart, log_path}
+use Rattle.b2_plan.specs.Plans.{step_at, Makes, Apart}
+use Rattle.b2_host.specs.FileCalls.{log_path}
 use Rattle.b2_plan.specs.Sources.{IsInRoots}
 
 -- one of the paths is a folder of the other

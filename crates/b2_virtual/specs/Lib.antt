@@ -5,3 +5,5 @@ pub mod Paths
 pub mod Laws
 pub mod Spots
 pub mod Ready
+pub mod Supplies
+pub mod Repeats

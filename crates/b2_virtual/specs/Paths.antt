@@ -1,7 +1,7 @@
 -- The paths of outputs. A slash is the byte 47, a dot the byte 46.
 use Rattle.std.specs.Prelude.{ℕ, ◌==◌, List, [], ◌∷◌, ◌++◌, ◌⊎◌, Option, Some, None, map, codes, if◌then◌else◌}
-use Rattle.std.specs.List.{Contains, list_any, before_last, after_last, join_with_byte}
-use Rattle.b2_base.specs.Segments.{normal_of, path_from, segments, is_rooted, is_up}
+use Rattle.std.specs.List.{Contains, list_any, before_last, join_with_byte}
+use Rattle.b2_base.specs.Segments.{normal_of, path_from, file_name, segments, is_rooted, is_up}
 use Rattle.b2_plan.specs.Sources.{IsInRoots}
 
 -- ---- tails
@@ -14,10 +14,7 @@ up_shown segment = if is_up segment then codes "up" else segment
 abbrev pub source_tail : List ℕ → List ℕ
 source_tail path = normal_of ((if is_rooted path then codes "root" else []) ++ join_with_byte 47 (map up_shown (segments path)))
 
--- the file's name in a path, and what stands before it, with the slash
-abbrev pub name_of : List ℕ → List ℕ
-name_of path = if list_any (λ byte. byte == 47) path then after_last (λ byte. byte == 47) path else path
-
+-- what stands before the file's name in a path, with the slash
 abbrev pub folder_of : List ℕ → List ℕ
 folder_of path = if list_any (λ byte. byte == 47) path then before_last (λ byte. byte == 47) path ++ codes "/" else []
 
@@ -32,7 +29,7 @@ dotted (Some suffix) = 46 ∷ suffix
 
 -- The tail of a converted file: that of its input, with another suffix or none.
 abbrev pub converted_tail : List ℕ → Option (List ℕ) → List ℕ
-converted_tail tail suffix = normal_of (folder_of tail ++ stem_of (name_of tail) ++ dotted suffix)
+converted_tail tail suffix = normal_of (folder_of tail ++ stem_of (file_name tail) ++ dotted suffix)
 
 -- the tail of an output that has a name in a project's directory
 abbrev pub named_tail : List ℕ → List ℕ → List ℕ

@@ -3,7 +3,8 @@ use Rattle.std.specs.Prelude.{◌≡◌, ℕ, ◌≤◌, List, ◌⊎◌, Some, 
 use Rattle.std.specs.FinMap as map
 use Rattle.b2_base.specs.Normal.{IsNormal, IsUnder}
 use Rattle.b2_plan.specs.declared.step.Step.{Step}
-use Rattle.b2_plan.specs.Plans.{Makes, log_path}
+use Rattle.b2_plan.specs.Plans.{Makes}
+use Rattle.b2_host.specs.FileCalls.{log_path}
 use Rattle.b2_virtual.specs.Joining.{AreDistinct}
 use Rattle.b2_virtual.specs.Spots.{Numbers, spot}
 

@@ -3,7 +3,7 @@ ghost use Rattle.std.specs.Prelude.{◌≡◌, ◌↔◌, ℕ, suc, List, [], �
 ghost use Rattle.std.specs.List.{Contains, AllByRecursion};
 ghost use Rattle.std.specs.Option.{option_copied};
 ghost use Rattle.b2_base.specs.Normal.{IsNormal, IsUnder};
-ghost use Rattle.b2_plan.specs.Plans.{log_path};
+ghost use Rattle.b2_host.specs.FileCalls.{log_path};
 ghost use Rattle.b2_virtual.specs.Joining.{stands_in, number_in, number_of, joined, AreDistinct};
 ghost use Rattle.b2_virtual.specs.Clashes.{AreNested, Clashes, IsFirstClash, Fits, AreApart};
 ghost use Rattle.b2_virtual.specs.Refusals.{IsOfNew, IsClashBy, IsTooManyBy, IsOfStep};

@@ -46,7 +46,7 @@ impl Walk {
         }
     }
 
-    /// Runs what a text reads as.
+    /// Runs the statements that a text reads as, or tells why it reads as none.
     fn run_reading<F: Files>(
         &mut self,
         alloc: Global,

@@ -44,7 +44,6 @@ pub struct Walk {
     pub(crate) named: Queue,
 }
 
-/// Adds calls at the end.
 fn add_calls(calls: &mut Vec<Call>, more: Vec<Call>) -> Result<(), OutOfMemory>
     ensures { OnOk result (calls.new.items ≡ calls.old.items ++ more.items) }
 {
@@ -227,7 +226,6 @@ impl Walk {
         Err(LoadFault::NoJamfile { dir: dir.copy()? })
     }
 
-    /// Loads Jamroot.
     fn load_root<F: Files>(
         &mut self,
         alloc: Global,

@@ -6,7 +6,7 @@ ghost use Rattle.b2_words.specs.Parser.{short_app, build_app};
 use clap::{Arg, ArgAction, Command};
 use std::alloc::{AllocError, Global};
 
-/// The options of one letter.
+/// clap's command with the options of one letter.
 fn short_options<'a>(alloc: Global) -> Result<Command<'a>, AllocError>
     ensures { IfOk result (λ c. app_of c ≡ short_app) }
 {

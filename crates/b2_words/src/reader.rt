@@ -66,7 +66,7 @@ fn words_in(alloc: Global, matches: &ArgMatches<'_>) -> Result<TextList, OutOfMe
     }
 }
 
-/// What the matches ask for.
+/// What clap's matches say that the words ask for.
 fn asked_in(alloc: Global, matches: &ArgMatches<'_>) -> Result<Words, WordsFault>
     requires { All HasNoZero (words_found (found_of matches.now)) }
     ensures ok { IfOk result (λ asked. asked_in (found_of matches.now) ≡ Some asked) }

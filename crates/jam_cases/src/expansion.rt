@@ -7,6 +7,7 @@
 //! - `expand_body BODY`: the text of the body, on one line; without a word the body is the text below the command.
 //! - `expand_body_size BODY`: how many bytes that text has.
 
+use crate::faults::put_expand_fault;
 use b2_base::expand_fault::ExpandFault;
 use b2_base::look::Look;
 use b2_base::text::Text;
@@ -85,24 +86,11 @@ fn answer_set(
     Ok(Answer::new(alloc))
 }
 
-fn push_fault(answer: &mut Answer, fault: &ExpandFault) {
-    match fault {
-        ExpandFault::BadIndex { text } => answer.push_words("bad index", text.as_str()),
-        ExpandFault::BadModifier { text } => answer.push_words("bad modifier", text.as_str()),
-        ExpandFault::TooDeep => answer.push_line("expansion too deep"),
-        ExpandFault::TooLarge { bytes } => {
-            answer.put("expansion of ");
-            answer.put_number(*bytes);
-            answer.push_line(" bytes");
-        }
-        ExpandFault::OutOfMemory => answer.cut(),
-    }
-}
-
 fn fault_answer(alloc: Global, fault: ExpandFault) -> Result<Answer, CaseFault> {
     let fault = ManuallyDrop::new(fault);
     let mut answer = Answer::new(alloc);
-    push_fault(&mut answer, &fault);
+    put_expand_fault(&mut answer, &fault);
+    answer.end_line();
     Ok(answer)
 }
 

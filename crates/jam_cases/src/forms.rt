@@ -14,13 +14,11 @@ fn sign_name(sign: Sign) -> &'static str {
     }
 }
 
-/// Puts a name and a list.
 fn put_named(answer: &mut Answer, name: &str, list: &[Arg]) {
     answer.put(name);
     put_args(answer, list);
 }
 
-/// Puts a name and a text.
 fn put_text(answer: &mut Answer, name: &str, text: &Text) {
     answer.put(name);
     put_quoted(answer, text.as_str());

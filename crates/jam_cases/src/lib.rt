@@ -16,6 +16,7 @@
 mod args;
 mod expansion;
 mod exprs;
+pub mod faults;
 mod forms;
 mod given;
 mod lexemes;

@@ -12,7 +12,7 @@ use transcript::answer::Answer;
 use transcript::case_fault::CaseFault;
 use transcript::command::Command;
 
-/// The fault on a line.
+/// Why a text has no tokens, on a line.
 pub fn fault_answer(alloc: Global, fault: &LexFault) -> Result<Answer, CaseFault> {
     match fault {
         LexFault::OutOfMemory => Err(CaseFault::OutOfMemory),

@@ -41,7 +41,6 @@ fn syntax_answer(alloc: Global, fault: &SyntaxFault) -> Result<Answer, CaseFault
     }
 }
 
-/// The statements of the tree.
 fn tree_answer(alloc: Global, tree: &Tree) -> Result<Answer, CaseFault> {
     if tree.block.stmts.is_empty() {
         return Answer::line(alloc, "no statements");

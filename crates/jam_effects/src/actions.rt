@@ -75,7 +75,6 @@ impl Look for StepNames<'_> {
     }
 }
 
-/// Paths as texts.
 fn texts_of(alloc: Global, paths: &[Path]) -> Result<TextList, OutOfMemory>
     ensures { IfOk result (λ made. made ≡ paths.now) }
 {

@@ -1,6 +1,6 @@
 //! Opening frames. After an error the world is as before.
 ghost use Rattle.std.specs.Prelude.{◌≡◌, ◌<◌, ◌≢◌, [], List, length, OnOk, OnErr};
-ghost use Rattle.jam_journal.specs.Scopes.{Binding, enter, bind_each};
+ghost use Rattle.jam_journal.specs.Scopes.{Binding, enter, enter_call, bind_each};
 ghost use Rattle.jam_scope.specs.Changes.{rescoped, frames_at_mark};
 ghost use Rattle.jam_values.specs.Bindings.{bindings_of};
 ghost use Rattle.jam_effects.specs.Framing.{entered, on_entered, loop_entered, call_entered};
@@ -79,6 +79,16 @@ fn bind_all(alloc: Global, world: &mut World, bindings: &[Bound]) -> Result<(), 
     Ok(())
 }
 
+/// Opens the frame of a call of a rule that is at home in a module. The frames below it stay, so that a called rule sees what
+/// is local in its callers.
+fn open_call(world: &mut World, home: &str) -> Result<(), OutOfMemory>
+    ensures ok { OnOk result (world.new ≡ rescoped (enter_call home.now) world.old) }
+    ensures newer { OnOk result (frames_at_mark world.new.marked < length world.new.now.scopes.frames) }
+    ensures err { OnErr result (world.new ≡ world.old) }
+{
+    world.enter_call(home)
+}
+
 /// Opens the frame of a call of a rule that is at home in a module, with these bindings.
 pub fn enter_call(
     alloc: Global,
@@ -90,7 +100,7 @@ pub fn enter_call(
     ensures newer { OnOk result (frames_at_mark world.new.marked < length world.new.now.scopes.frames) }
     ensures err { OnErr result (world.new ≡ world.old) }
 {
-    world.enter_call(home)?;
+    open_call(world, home)?;
     match bind_all(alloc, world, bindings) {
         Ok(()) => Ok(()),
         Err(fault) => {

@@ -30,7 +30,7 @@ pub fn expand_fault(fault: ExpandFault, at: &At<'_>) -> EvalFault
     }
 }
 
-/// The elements of a word.
+/// The elements of a word in a world, or the fault at its line.
 pub fn word(alloc: Global, world: &World, text: &Text, at: &At<'_>) -> Result<TextList, EvalFault>
     ensures { IsAnswered value (expansion (look world.now.now.scopes) text.now) (spot_of at.now) result }
 {

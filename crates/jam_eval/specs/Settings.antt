@@ -23,10 +23,14 @@ pub record Sight : Type 0 where
   pub names : Text → List Text
   pub matching : Text → Text → Bool
 
+-- this test is the matching of patterns
+abbrev pub IsMatching : (Text → Text → Bool) → Type 0
+IsMatching matching = (pattern text : Text) → IsTrue (matching pattern text) ↔ Match (chars pattern) (chars text)
+
 -- it says of files and patterns what is so
 pub record IsSight (sight : Sight) : Type 0 where
   pub lists : (dir : Text) → IsListed sight.folder dir (sight.names dir)
-  pub matches : (pattern text : Text) → IsTrue (sight.matching pattern text) ↔ Match (chars pattern) (chars text)
+  pub matches : IsMatching sight.matching
 
 -- why a native rule has no step
 pub data NativeCause : Type 0 where

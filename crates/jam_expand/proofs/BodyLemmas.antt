@@ -8,12 +8,12 @@ use Rattle.std.proofs.lemmas.List.Sums.{split_at_first, fails_before_first, pass
 use Rattle.std.specs.Str.{IsUtf8, IsCharBoundary}
 use Rattle.std.proofs.lemmas.Str.{IsUtf8-drop, IsCharBoundary-after_ascii, IsCharBoundary-before_ascii}
 use Rattle.std.proofs.lemmas.Bool.Decides.{nat_tests}
-use Rattle.b2_base.specs.Bytes.{HasNoZero}
+use Rattle.b2_base.specs.Bytes.{HasNoZero, is_white}
 use Rattle.b2_base.specs.declared.expand_fault.ExpandFault.{ExpandFault}
 use Rattle.b2_base.specs.declared.expand_fault.ExpandFault.TheVariants as faults
 use Rattle.jam_expand.specs.Limits.{Answer, and_then, within}
 use Rattle.jam_expand.specs.Expansions.{expansion}
-use Rattle.jam_expand.specs.Bodies.{is_white, words, spaces, interleaved, body_texts}
+use Rattle.jam_expand.specs.Bodies.{words, spaces, interleaved, body_texts}
 use Rattle.jam_expand.specs.BodyCuts.{IsCut}
 use Rattle.jam_expand.proofs.LimitLemmas.{and_then_more}
 

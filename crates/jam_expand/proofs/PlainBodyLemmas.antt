@@ -7,7 +7,8 @@ use Rattle.std.proofs.lemmas.List.Splits.{length-slice_split}
 use Rattle.std.proofs.lemmas.Bool.{ltb-false, le-ltb}
 use Rattle.jam_expand.specs.Limits.{and_then, limit, first_above, unless_above, within, total}
 use Rattle.jam_expand.specs.Expansions.{expansion}
-use Rattle.jam_expand.specs.Bodies.{is_white, words, spaces, interleaved, trimmed, body_texts, body_expansion}
+use Rattle.jam_expand.specs.Bodies.{words, spaces, interleaved, trimmed, body_texts, body_expansion}
+use Rattle.b2_base.specs.Bytes.{is_white}
 use Rattle.jam_expand.proofs.LimitLemmas.{above_after, above_stays}
 use Rattle.jam_expand.proofs.BodyLemmas.{opened}
 use Rattle.jam_expand.proofs.PlainWordLemmas.{plain_expansion}

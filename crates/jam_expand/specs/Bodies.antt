@@ -1,14 +1,10 @@
 -- The body of an action, and the text that it stands for.
-use Rattle.std.specs.Prelude.{ℕ, ◌-◌, ◌==◌, Bool, ◌||◌, List, [], ◌∷◌, ◌++◌, filter, length, take, drop, Result, Ok}
-use Rattle.std.specs.Int.{is_in_range}
+use Rattle.std.specs.Prelude.{ℕ, ◌-◌, List, [], ◌∷◌, ◌++◌, filter, length, take, drop, Result, Ok}
 use Rattle.std.specs.List.{slice_split, join_with_byte, prefix_len, suffix_len}
+use Rattle.b2_base.specs.Bytes.{is_white}
 use Rattle.b2_base.specs.declared.expand_fault.ExpandFault.{ExpandFault}
 use Rattle.jam_expand.specs.Limits.{Answer, and_then, within}
 use Rattle.jam_expand.specs.Expansions.{expansion}
-
--- white space is the bytes 9 to 13 and 32
-abbrev pub is_white : ℕ → Bool
-is_white byte = is_in_range 9 13 byte || byte == 32
 
 -- The body's words: it is cut at each byte of white space. A word is empty where two of them meet.
 abbrev pub words : List ℕ → List (List ℕ)

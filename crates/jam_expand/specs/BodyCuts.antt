@@ -1,6 +1,6 @@
 -- A text that is cut at its first white space.
 use Rattle.std.specs.Prelude.{◌≡◌, ℕ, true, false, List, ◌∷◌, ◌++◌, All}
-use Rattle.jam_expand.specs.Bodies.{is_white}
+use Rattle.b2_base.specs.Bytes.{is_white}
 
 -- a word, the white space after it, and the rest
 pub record IsCut (text word : List ℕ) (white : ℕ) (rest : List ℕ) : Type 0 where

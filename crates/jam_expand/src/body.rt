@@ -1,8 +1,8 @@
 //! What the body of an action stands for.
 ghost use Rattle.std.specs.Prelude.{◌≡◌, ◌≢◌, ◌-◌, true, false, [], ◌∷◌, ◌++◌, MatchOption, OnOk, All, Ok, IfOk, length, string_bytes};
 ghost use Rattle.std.specs.List.{join_with_byte, position_or_len, prefix_len, suffix_len};
-ghost use Rattle.b2_base.specs.Bytes.{HasNoZero};
-ghost use Rattle.jam_expand.specs.Bodies.{is_white, words, spaces, interleaved, trimmed, body_texts, body_expansion};
+ghost use Rattle.b2_base.specs.Bytes.{HasNoZero, is_white};
+ghost use Rattle.jam_expand.specs.Bodies.{words, spaces, interleaved, trimmed, body_texts, body_expansion};
 ghost use Rattle.jam_expand.specs.BodyCuts.{IsCut};
 ghost use Rattle.jam_expand.specs.Expansions.{expansion};
 ghost use Rattle.jam_expand.specs.Limits.{and_then, within, IsGivenBy, IsLeftBy};
@@ -14,20 +14,15 @@ use b2_base::fault::OutOfMemory;
 use b2_base::look::Look;
 use b2_base::text::Text;
 use b2_base::text_list::TextList;
+use b2_base::white::is_white;
 use std::alloc::Global;
-
-fn is_white_byte(byte: u8) -> bool
-    ensures { result ≡ is_white byte }
-{
-    (9 <= byte && byte <= 13) || byte == 32
-}
 
 /// The first place of white space, or the length.
 fn end_of_word(bytes: &[u8]) -> usize
     ensures { result ≡ position_or_len is_white bytes.now }
 {
     for (place, byte) in bytes.iter().enumerate() {
-        if is_white_byte(*byte) {
+        if is_white(*byte) {
             return place;
         }
     }
@@ -137,7 +132,7 @@ fn white_before(bytes: &[u8]) -> usize
     ensures { result ≡ prefix_len is_white bytes.now }
 {
     for (place, byte) in bytes.iter().enumerate() {
-        if !is_white_byte(*byte) {
+        if !is_white(*byte) {
             return place;
         }
     }
@@ -149,7 +144,7 @@ fn length_without_end(bytes: &[u8]) -> usize
     ensures { result ≡ length bytes.now - suffix_len is_white bytes.now }
 {
     let mut end = bytes.len();
-    while end > 0 && is_white_byte(bytes[end - 1]) {
+    while end > 0 && is_white(bytes[end - 1]) {
         end -= 1;
     }
     end

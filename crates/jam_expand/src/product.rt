@@ -114,7 +114,7 @@ pub fn single(alloc: Global, text: &str) -> Result<TextList, OutOfMemory>
     Ok(list)
 }
 
-/// Whether one of the lists is empty.
+/// Whether the product of the lists is empty, since one of them is.
 fn any_empty(lists: &[TextList]) -> bool
     ensures { result ≡ list_any (λ list. length list == 0) lists.now }
 {

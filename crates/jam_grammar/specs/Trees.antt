@@ -192,3 +192,7 @@ stmts_tree (first ∷ rest) = StmtAnd first.line (form_tree first.form) (stmts_t
 -- a whole file of the code
 abbrev pub whole_tree : Tree → StmtTrees
 whole_tree tree = block_tree tree.block
+
+-- the lists of parameters of the code, as data
+abbrev pub lists_of : List (Vec Param Global) → List (List Param)
+lists_of = map (λ list. list.items)

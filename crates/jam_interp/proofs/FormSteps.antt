@@ -18,11 +18,11 @@ use Rattle.jam_scope.specs.Worlds.{Worlds}
 use Rattle.jam_scope.specs.Changes.{rescoped, module_in}
 use Rattle.jam_eval.specs.Faults.{depth, turns}
 use Rattle.jam_eval.specs.States.{State, with_scopes}
-use Rattle.jam_eval.specs.Settings.{Setting}
+use Rattle.jam_eval.specs.Settings.{Setting, IsMatching}
 use Rattle.jam_eval.specs.Outcomes.{gives, Flow, returns, then_do, then_go, either, in_module, close_frame, on_target, own_bindings}
 use Rattle.jam_eval.specs.Levels.{Levels}
 use Rattle.jam_eval.specs.Forms.{block, done, form, stmts, other, for_all, set_name, first_case}
-use Rattle.jam_values.specs.Choosing.{Matches, chosen}
+use Rattle.jam_values.specs.Choosing.{chosen}
 use Rattle.jam_eval.specs.Eval.{levels}
 use Rattle.jam_effects.specs.declared.at.At.{At}
 use Rattle.jam_effects.specs.declared.flow.Flow.{Flow as Way}
@@ -272,7 +272,7 @@ module _ {R : Type 0} where
   switch_leads : (list : List Arg) (cases : List Case) (at : At) (a b : Machine R) (texts : Value) → Does value (args_at list at) a b (Ok texts) → Leads (switch_at list cases at) (λ setting s. first_case setting (deep at setting) (first_of texts) (cases_tree cases) (spot_of at) s) a b
   switch_leads list cases at a b texts h = ok_then value (args_at list at) (λ setting us s. first_case setting (deep at setting) (first_of us) (cases_tree cases) (spot_of at) s) a b texts h
 
-  pub switch_none : (list : List Arg) (cases : List Case) (at : At) (a b : Machine R) (texts : Value) → ((matching : Text → Text → Bool) → Matches matching → chosen matching (first_of texts) (cases_tree cases) ≡ None) → Does value (args_at list at) a b (Ok texts)
+  pub switch_none : (list : List Arg) (cases : List Case) (at : At) (a b : Machine R) (texts : Value) → ((matching : Text → Text → Bool) → IsMatching matching → chosen matching (first_of texts) (cases_tree cases) ≡ None) → Does value (args_at list at) a b (Ok texts)
       → Does flow_of (switch_at list cases at) a b (Ok ways.GoesOn)
   switch_none list cases at a b texts none h =
       led flow_of (switch_at list cases at) (λ setting s. first_case setting (deep at setting) (first_of texts) (cases_tree cases) (spot_of at) s) a b b (Ok ways.GoesOn) (switch_leads list cases at a b texts h)
@@ -280,7 +280,7 @@ module _ {R : Type 0} where
       (λ setting right. picked_is setting (first_of texts) (cases_tree cases) at (state_of b) ∙ ap (λ o. picked o at setting (state_of b)) (none setting.sight.matching right.right.sees.matches)))
 
   pub switch_picks : (list : List Arg) (cases : List Case) (inner : Block) (at : At) (a b c : Machine R) (texts : Value) (result : Result Way EvalFault)
-      → ((matching : Text → Text → Bool) → Matches matching → chosen matching (first_of texts) (cases_tree cases) ≡ Some (block_tree inner)) → Does value (args_at list at) a b (Ok texts)
+      → ((matching : Text → Text → Bool) → IsMatching matching → chosen matching (first_of texts) (cases_tree cases) ≡ Some (block_tree inner)) → Does value (args_at list at) a b (Ok texts)
       → Does flow_of (block_at inner at) b c result → Does flow_of (switch_at list cases at) a c result
   switch_picks list cases inner at a b c texts result some one two =
       led flow_of (switch_at list cases at) (λ setting s. first_case setting (deep at setting) (first_of texts) (cases_tree cases) (spot_of at) s) a b c result (switch_leads list cases at a b texts one)

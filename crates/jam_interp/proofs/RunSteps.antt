@@ -6,7 +6,7 @@ use Rattle.std.specs.declared.alloc.Global.{Global}
 use Rattle.jam_grammar.specs.declared.tree.Param.{Param}
 use Rattle.jam_grammar.specs.declared.tree.Block.{Block, out-Block, roll-out-Block}
 use Rattle.jam_grammar.specs.declared.tree.Stmt.{Stmt}
-use Rattle.jam_grammar.specs.Trees.{block_tree, stmts_tree}
+use Rattle.jam_grammar.specs.Trees.{block_tree, stmts_tree, lists_of}
 use Rattle.jam_grammar.proofs.RowTrees.{block_is}
 use Rattle.jam_journal.specs.Tables.{Text}
 use Rattle.jam_journal.specs.Scopes.{Value, leave}
@@ -15,7 +15,7 @@ use Rattle.jam_scope.specs.Worlds.{Worlds}
 use Rattle.jam_scope.specs.Changes.{rescoped}
 use Rattle.jam_eval.specs.Params.{call_binds}
 use Rattle.jam_values.specs.declared.bindings.Bound.{Bound}
-use Rattle.jam_values.specs.Bindings.{bindings_of, lists_of}
+use Rattle.jam_values.specs.Bindings.{bindings_of}
 use Rattle.jam_effects.specs.declared.at.At.{At}
 use Rattle.jam_effects.specs.declared.flow.Flow.{Flow as Way}
 use Rattle.jam_effects.specs.declared.fault.EvalFault.{EvalFault}

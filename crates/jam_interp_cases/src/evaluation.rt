@@ -11,7 +11,7 @@
 //!   that the last run left, and `decls` the recorded calls.
 
 mod calls;
-mod faults;
+pub mod faults;
 mod looks;
 mod machine;
 mod running;

@@ -5,7 +5,7 @@ use Rattle.std.specs.Int.{is_in_range}
 use Rattle.std.specs.Str.{IsUtf8, IsCharBoundary}
 use Rattle.std.proofs.lemmas.Bool.{cases_lt, eqb-true, or_cases, and_parts, leb-true}
 use Rattle.std.proofs.lemmas.Str.{IsCharBoundary-end, IsCharBoundary-before_ascii, IsCharBoundary-after_ascii}
-use Rattle.jam_lexer.specs.Signs.{is_white}
+use Rattle.b2_base.specs.Bytes.{is_white}
 use Rattle.jam_lexer.specs.Gap.{IsInComment, BeginsWord}
 use Rattle.jam_lexer.specs.Word.{IsWord, letters, is_lone}
 

@@ -4,7 +4,8 @@ use Rattle.std.specs.List.{list_any}
 use Rattle.std.proofs.lemmas.Bool.{cases_lt, cases_order, true≢false, ne_eqb}
 use Rattle.std.proofs.lemmas.List.{take_at, get_or_at}
 use Rattle.b2_base.specs.declared.token.Token.{Token}
-use Rattle.jam_lexer.specs.Signs.{is_white, line_of}
+use Rattle.jam_lexer.specs.Signs.{line_of}
+use Rattle.b2_base.specs.Bytes.{is_white}
 use Rattle.jam_lexer.specs.Gap.{IsGap, IsInComment, BeginsWord}
 use Rattle.jam_lexer.specs.Word.{Letter, Plain, Lone, letters, is_lone, is_space, in_quotes, IsUnbroken, IsWord, IsOpenWord, text_of, kind_of}
 use Rattle.jam_lexer.specs.Body.{IsMatched, IsBody}

@@ -7,7 +7,8 @@ use Rattle.b2_base.specs.declared.token.TokenKind.TheVariants as kinds
 use Rattle.std.proofs.lemmas.Str.{IsCharBoundary-after_ascii, IsCharBoundary-start}
 use Rattle.b2_base.specs.declared.token.Token.{Token}
 use Rattle.jam_lexer.specs.declared.reading.Place.{Place}
-use Rattle.jam_lexer.specs.Signs.{is_white, line_of}
+use Rattle.jam_lexer.specs.Signs.{line_of}
+use Rattle.b2_base.specs.Bytes.{is_white}
 use Rattle.jam_lexer.specs.Tokens.{NextWord, NextBody, NextBrace, place_after, awaits_brace, is_the_key, is_body, IsNextToken, IsWordToken, IsBodyToken, Follows, Stand, IsEnd}
 use Rattle.jam_lexer.specs.Gap.{IsGap, BeginsWord}
 use Rattle.jam_lexer.specs.Word.{IsWord, IsOpenWord, letters, is_lone, text_of, kind_of, is_bare, is_key_text}

@@ -4,12 +4,12 @@ use Rattle.std.specs.Str.{IsUtf8, is_utf8}
 use Rattle.std.proofs.lemmas.Bool.{cases_lt, cases_eq, cases_Bool, true≢false}
 use Rattle.std.proofs.lemmas.List.{take_all, get_or_default}
 use Rattle.std.proofs.lemmas.Str.{IsUtf8-nil, IsUtf8-from_is_utf8, is_utf8-from_IsUtf8}
-use Rattle.b2_base.specs.Bytes.{HasNoZero}
+use Rattle.b2_base.specs.Bytes.{HasNoZero, is_white}
 use Rattle.b2_base.specs.declared.token.Token.{Token}
 use Rattle.jam_lexer.specs.declared.fault.LexFault.{LexFault}
 use Rattle.jam_lexer.specs.declared.fault.LexFault.TheVariants as faults
 use Rattle.jam_lexer.specs.declared.reading.Place.{Place}
-use Rattle.jam_lexer.specs.Signs.{is_white, line_of}
+use Rattle.jam_lexer.specs.Signs.{line_of}
 use Rattle.jam_lexer.specs.Gap.{IsGap, IsInComment, BeginsWord}
 use Rattle.jam_lexer.specs.Word.{IsWord, IsOpenWord}
 use Rattle.jam_lexer.specs.Body.{IsMatched, IsBody}

@@ -3,7 +3,7 @@ use Rattle.std.proofs.Common.{◌≡◌, ℕ, ◌+◌, ◌<◌, ◌≤◌, Bool,
 use Rattle.std.specs.List.{list_any}
 use Rattle.std.proofs.lemmas.Bool.{cases_lt, cases_order, true≢false, false≢true, or_parts, eq-eqb, ne_eqb}
 use Rattle.std.proofs.lemmas.List.{append_assoc, get_or_append_left, get_or_past, get_or_push, take-append-le, take_at, length_push}
-use Rattle.jam_lexer.specs.Signs.{is_white}
+use Rattle.b2_base.specs.Bytes.{is_white}
 use Rattle.jam_lexer.specs.Word.{Letter, Plain, Literal, Lone, letters, is_quote, is_space, is_lone, in_quotes, IsUnbroken, IsWord, IsOpenWord}
 use Rattle.jam_lexer.proofs.Slices.{slice_none, slice_more}
 

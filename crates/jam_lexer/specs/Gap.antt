@@ -1,6 +1,7 @@
 -- What may stand between two tokens: white space and comments.
 use Rattle.std.specs.Prelude.{◌≡◌, ◌≢◌, ℕ, suc, ◌<◌, ◌≤◌, false, ◌⊎◌, List, length, slice_index, IsTrue}
-use Rattle.jam_lexer.specs.Signs.{line_feed, hash, is_white}
+use Rattle.jam_lexer.specs.Signs.{hash}
+use Rattle.b2_base.specs.Bytes.{is_white, line_feed}
 
 -- A `#` stands between the two places with no line feed after it: its comment goes on at the second place.
 pub record IsInComment (bytes : List ℕ) (from to : ℕ) : Type 0 where

@@ -2,7 +2,8 @@
 use Rattle.std.specs.Prelude.{◌≡◌, ℕ, ◌≤◌, ◌==◌, Bool, true, false, not, ◌&&◌, ◌||◌, ◌⊎◌, List, [], ◌∷◌, length, take, codes, slice_index, slice_index_or, slice_range, if◌then◌else◌, IsTrue}
 use Rattle.std.specs.List.{flat_map, list_any, list_all}
 use Rattle.std.specs.Str.{bytes_eq}
-use Rattle.jam_lexer.specs.Signs.{quote, backslash, is_white}
+use Rattle.jam_lexer.specs.Signs.{quote}
+use Rattle.b2_base.specs.Bytes.{is_white, backslash}
 use Rattle.b2_base.specs.declared.token.TokenKind.{TokenKind}
 use Rattle.b2_base.specs.declared.token.TokenKind.TheVariants.{Word, Key}
 

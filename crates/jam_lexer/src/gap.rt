@@ -1,9 +1,9 @@
 //! White space and comments between tokens.
 ghost use Rattle.std.specs.Prelude.{◌≡◌, ◌≢◌, ℕ, ◌<◌, ◌≤◌, length, slice_index, IfSome, IfNone};
-ghost use Rattle.jam_lexer.specs.Signs.{line_feed};
+ghost use Rattle.b2_base.specs.Bytes.{line_feed};
 ghost use Rattle.jam_lexer.specs.Gap.{IsGap, BeginsWord};
 
-use crate::signs::is_white;
+use b2_base::white::is_white;
 
 /// Where the comment that begins here ends: before the next line feed, or with the text.
 fn comment_end(bytes: &[u8], hash: usize) -> usize

@@ -2,7 +2,8 @@
 ghost use Rattle.std.specs.Prelude.{◌≡◌, ◌<◌, ◌≤◌, ◌+◌, ◌==◌, not, ◌&&◌, ◌||◌, [], length, codes, count_by, slice_range, IfOk, IfErr};
 ghost use Rattle.std.specs.Str.{IsCharBoundary};
 ghost use Rattle.b2_base.specs.declared.token.TokenKind.TheVariants as kinds;
-ghost use Rattle.jam_lexer.specs.Signs.{line_feed, line_of};
+ghost use Rattle.jam_lexer.specs.Signs.{line_of};
+ghost use Rattle.b2_base.specs.Bytes.{line_feed};
 ghost use Rattle.jam_lexer.specs.Gap.{BeginsWord};
 ghost use Rattle.jam_lexer.specs.Word.{IsWord, text_of, kind_of};
 ghost use Rattle.jam_lexer.specs.Body.{IsBody};

@@ -1,8 +1,7 @@
-//! White space, and the texts of keys.
+//! The texts of keys.
 ghost use Rattle.std.specs.Prelude.{◌≡◌};
 ghost use Rattle.std.specs.List.{list_any};
 ghost use Rattle.std.specs.Str.{bytes_eq};
-ghost use Rattle.jam_lexer.specs.Signs.{is_white};
 ghost use Rattle.jam_lexer.specs.Word.{is_key_text};
 
 /// The signs of the language.
@@ -15,13 +14,6 @@ static RESERVED: [&str; 14] = [
     "actions", "case", "else", "for", "if", "in", "include", "local", "module", "on", "return",
     "rule", "switch", "while",
 ];
-
-/// Whether the byte is white space: 9 to 13, or 32.
-pub fn is_white(byte: u8) -> bool
-    ensures { result ≡ is_white byte }
-{
-    (9 <= byte && byte <= 13) || byte == b' '
-}
 
 /// Whether the text is one of the words.
 fn is_one_of(text: &str, words: &[&str]) -> bool

@@ -3,10 +3,11 @@ ghost use Rattle.std.specs.Prelude.{◌≡◌, ◌+◌, ◌^◌, ◌<◌, ◌≤
 ghost use Rattle.jam_lexer.specs.Word.{IsWord, IsOpenWord, text_of, is_bare, kind_of};
 ghost use Rattle.jam_lexer.specs.Tokens.{IsText};
 
-use crate::signs::{is_key_text, is_white};
+use crate::signs::is_key_text;
 use b2_base::fault::OutOfMemory;
 use b2_base::text::Text;
 use b2_base::token::TokenKind;
+use b2_base::white::is_white;
 use std::alloc::Global;
 
 /// The place after a backslash and the byte that it makes literal, if there is one.

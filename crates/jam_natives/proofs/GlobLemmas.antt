@@ -11,8 +11,8 @@ use Rattle.b2_host.specs.Disks.{Folder, Disk}
 use Rattle.b2_host.specs.Listings.{IsListed}
 use Rattle.b2_host.specs.Outside.{Outside}
 use Rattle.jam_path.specs.Patterns.{Match}
-use Rattle.jam_eval.specs.Settings.{Sight}
-use Rattle.jam_natives.specs.Sights.{IsMatching, ForMatching, WhereSeen}
+use Rattle.jam_eval.specs.Settings.{Sight, IsMatching}
+use Rattle.jam_natives.specs.Sights.{ForMatching, WhereSeen}
 use Rattle.jam_natives.specs.Globs.{path_in, is_output_dir, is_matched, picked, found_in, globbed, found_by, project_globbed}
 use Rattle.jam_natives.specs.Texts.{without_repeats}
 use Rattle.jam_natives.specs.Searches.{picks, finds}

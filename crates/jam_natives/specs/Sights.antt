@@ -1,14 +1,8 @@
 -- What is said of the files that native rules see.
-use Rattle.std.specs.Prelude.{◌≡◌, ◌↔◌, Bool, IsTrue, Option, IfSome}
-use Rattle.std.specs.Str.{chars}
+use Rattle.std.specs.Prelude.{◌≡◌, Bool, Option, IfSome}
 use Rattle.b2_host.specs.Disks.{Disk}
-use Rattle.jam_path.specs.Patterns.{Match}
 use Rattle.jam_journal.specs.Tables.{Text}
-use Rattle.jam_eval.specs.Settings.{Sight, IsSight}
-
--- this test is the matching of patterns
-abbrev pub IsMatching : (Text → Text → Bool) → Type 0
-IsMatching matching = (pattern text : Text) → IsTrue (matching pattern text) ↔ Match (chars pattern) (chars text)
+use Rattle.jam_eval.specs.Settings.{Sight, IsSight, IsMatching}
 
 -- what holds of the one test that is the matching of patterns
 abbrev pub ForMatching : ((Text → Text → Bool) → Type 0) → Type 0

@@ -13,7 +13,6 @@ use jam_journal::name::Name;
 use jam_scope::world::World;
 use std::alloc::Global;
 
-/// The same lists.
 fn copy_lists(alloc: Global, lists: &[TextList]) -> Result<List<TextList>, OutOfMemory>
     ensures { IfOk result (λ made. made ≡ lists.now) }
 {

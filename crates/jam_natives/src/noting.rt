@@ -91,7 +91,7 @@ fn add_each(alloc: Global, sources: &[Text], world: &mut World) -> Result<(), Ou
     Ok(())
 }
 
-/// Notes what a rule notes.
+/// Adds what a rule notes to the open step.
 fn put_note(
     alloc: Global,
     rule: Noting,

@@ -12,7 +12,8 @@ use Rattle.jam_grammar.specs.Marks.{mark_of_token}
 use Rattle.jam_grammar.specs.Grammar.{Params, MoreParams, Names, NameTail}
 use Rattle.jam_grammar.specs.Spelling.{Key, Named, Spells, param_syms, takes_all, no_mark, plist_syms, further_params, params_syms}
 use Rattle.jam_parser.specs.Parts.{least, ComesTo}
-use Rattle.jam_parser.specs.Params.{after_name, after_list, lists_of, params_read}
+use Rattle.jam_parser.specs.Params.{after_name, after_list, params_read}
+use Rattle.jam_grammar.specs.Trees.{lists_of}
 use Rattle.jam_parser.specs.Starts.{StandsAfter}
 use Rattle.jam_parser.proofs.Sequences.{takes, takes_past}
 use Rattle.jam_parser.proofs.ReadArgs.{never}

@@ -1,7 +1,5 @@
 -- What may come after a part of the parameters, and how they are spelled between parentheses.
-use Rattle.std.specs.Prelude.{List, [], ◌∷◌, ◌++◌, Bool, true, false, map}
-use Rattle.std.specs.declared.vec.Vec.{Vec}
-use Rattle.std.specs.declared.alloc.Global.{Global}
+use Rattle.std.specs.Prelude.{List, [], ◌∷◌, ◌++◌, Bool, true, false}
 use Rattle.jam_grammar.specs.declared.tree.Param.{Param}
 use Rattle.jam_grammar.specs.Grammar.{Part, Names, MoreParams}
 use Rattle.jam_grammar.specs.Spelling.{Sym, Never, plist_syms, further_params}
@@ -15,9 +13,6 @@ after_name false = []
 abbrev pub after_list : Bool → List Part
 after_list true = []
 after_list false = MoreParams ∷ []
-
-abbrev pub lists_of : List (Vec Param Global) → List (List Param)
-lists_of lists = map (λ list. list.items) lists
 
 -- one list or more, with colons between them
 abbrev pub params_read : List (List Param) → List Sym

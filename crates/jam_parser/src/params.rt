@@ -6,7 +6,8 @@ ghost use Rattle.jam_grammar.specs.Marks.{mark_of_token};
 ghost use Rattle.jam_grammar.specs.declared.mark.Mark.TheVariants as marks;
 ghost use Rattle.jam_parser.specs.Starts.{starts_with, StandsAfter};
 ghost use Rattle.jam_parser.specs.Parts.{IsRead, ComesTo, EndsBy};
-ghost use Rattle.jam_parser.specs.Params.{after_name, after_list, lists_of, params_read};
+ghost use Rattle.jam_parser.specs.Params.{after_name, after_list, params_read};
+ghost use Rattle.jam_grammar.specs.Trees.{lists_of};
 
 use crate::reading::{Fault, next_of, past};
 use b2_base::fault::OutOfMemory;

@@ -121,7 +121,6 @@ fn push_else_if(lexemes: &mut Vec<Lexeme>, stmt: &Stmt) -> Result<(), OutOfMemor
     }
 }
 
-/// Appends a `for`.
 #[cycle(stmts)]
 fn push_for(
     lexemes: &mut Vec<Lexeme>,
@@ -142,7 +141,6 @@ fn push_for(
     push_block(lexemes, block)
 }
 
-/// Appends a `while`.
 #[cycle(stmts)]
 fn push_while(lexemes: &mut Vec<Lexeme>, test: &Expr, block: &Block) -> Result<(), OutOfMemory>
     ensures { IfOk result (λ _. lexemes.new.items ≡ lexemes.old.items ++ written_as (while_syms test.now block.now)) }
@@ -152,7 +150,6 @@ fn push_while(lexemes: &mut Vec<Lexeme>, test: &Expr, block: &Block) -> Result<(
     push_block(lexemes, block)
 }
 
-/// Appends a `switch`.
 #[cycle(stmts)]
 fn push_switch(lexemes: &mut Vec<Lexeme>, value: &[Arg], cases: &[Case]) -> Result<(), OutOfMemory>
     ensures { IfOk result (λ _. lexemes.new.items ≡ lexemes.old.items ++ written_as (Key marks.Switch ∷ (args_syms value.now ++ braced (cases_syms cases.now)))) }
@@ -186,7 +183,6 @@ fn push_case(lexemes: &mut Vec<Lexeme>, case: &Case) -> Result<(), OutOfMemory>
     push_stmts(lexemes, &case.block)
 }
 
-/// Appends a `module`.
 #[cycle(stmts)]
 fn push_module(lexemes: &mut Vec<Lexeme>, name: &[Arg], block: &Block) -> Result<(), OutOfMemory>
     ensures { IfOk result (λ _. lexemes.new.items ≡ lexemes.old.items ++ written_as (Key marks.Module ∷ (args_syms name.now ++ braced (block_syms block.now)))) }
@@ -196,7 +192,6 @@ fn push_module(lexemes: &mut Vec<Lexeme>, name: &[Arg], block: &Block) -> Result
     push_block(lexemes, block)
 }
 
-/// Appends a `rule`.
 #[cycle(stmts)]
 fn push_rule(
     lexemes: &mut Vec<Lexeme>,

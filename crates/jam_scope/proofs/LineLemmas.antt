@@ -12,7 +12,7 @@ use Rattle.std.proofs.lemmas.Slice.Eq.{bytes_eq-Decides}
 use Rattle.jam_journal.specs.Tables.{Text, Key, Table, key_cmp, put}
 use Rattle.jam_journal.proofs.TableLemmas.{elsewhere, there, by_both, key_order}
 use Rattle.jam_scope.specs.Lines.{upward, line_by, line, AreAbove, AreLines, may_be_above, in_each, first_at, is_dot}
-use Rattle.jam_scope.specs.Heights.{HasLine, AreLined, height, AllLined}
+use Rattle.jam_scope.specs.Heights.{HasLine, AllHaveLines, height, AllLined}
 
 same_some : (x y : Text) → Some x ≡ Some y → x ≡ y
 same_some x y e = ap (λ o. unwrap_or o x) e
@@ -112,7 +112,7 @@ line_is (suc n) (a ∷ more) t m b h =
 whole : (t : Table Text) (m : Text) (above : List Text) → AreAbove t m above → line t m ≡ above
 whole t m above h = line_is (map.len t) above t m (bounded above t m h) h
 
-pub lines : (t : Table Text) → AreLined t → AreLines t
+pub lines : (t : Table Text) → AllHaveLines t → AreLines t
 lines t lined m = subst (AreAbove t m) (sym (whole t m (lined m).line (lined m).are)) (lined m).are
 
 pub line_next : (t : Table Text) (m a : Text) → AreLines t → get t (m, []) ≡ Some a → line t m ≡ a ∷ line t a
@@ -157,7 +157,7 @@ lower_by (b ∷ more) t m a h e =
     omega arith
 
 -- the module above a module has fewer above it
-pub lower : (t : Table Text) (m a : Text) → AreLined t → get t (m, []) ≡ Some a → height t a < height t m
+pub lower : (t : Table Text) (m a : Text) → AllHaveLines t → get t (m, []) ≡ Some a → height t a < height t m
 lower t m a lined e = lower_by (lined m).line t m a (lined m).are e
 
 line_with : (t : Table Text) (m p : Text) → HasLine t p → MayBeAbove t p m → (above : List Text) (x : Text) → AreAbove t x above → HasLine (insert t (m, []) p) x
@@ -179,7 +179,7 @@ line_with t m p below may (a ∷ more) x h = by (bytes_eq m x) refl (line_with t
     by false f again = record { line = a ∷ again.line; are = (elsewhere t (m, []) (x, []) (Some p) (keys_differ m x f) ∙ h.0, again.are) }
 
 -- the modules above each module still end
-pub lined_with : (t : Table Text) (m p : Text) → AreLined t → MayBeAbove t p m → AreLined (insert t (m, []) p)
+pub lined_with : (t : Table Text) (m p : Text) → AllHaveLines t → MayBeAbove t p m → AllHaveLines (insert t (m, []) p)
 lined_with t m p lined may x = line_with t m p (lined p) may (lined x).line x (lined x).are
 
 -- ---- looking

@@ -9,17 +9,17 @@ pub record HasLine (parents : Table Text) (owner : Text) : Type 0 where
   pub line : List Text
   pub are : AreAbove parents owner line
 
-abbrev pub AreLined : Table Text → Type 0
-AreLined parents = (owner : Text) → HasLine parents owner
+abbrev pub AllHaveLines : Table Text → Type 0
+AllHaveLines parents = (owner : Text) → HasLine parents owner
 
 -- how many modules are above a module
 abbrev pub height : Table Text → Text → ℕ
 height parents owner = length (line parents owner)
 
-abbrev pub AllLinedIn : List (Table Text) → Type 0
-AllLinedIn [] = Unit {0}
-AllLinedIn (parents ∷ more) = AreLined parents × AllLinedIn more
+abbrev pub HaveLinesIn : List (Table Text) → Type 0
+HaveLinesIn [] = Unit {0}
+HaveLinesIn (parents ∷ more) = AllHaveLines parents × HaveLinesIn more
 
 -- now and at each mark
 abbrev pub AllLined : Marked (Table Text) → Type 0
-AllLined p = AreLined p.0 × AllLinedIn p.1
+AllLined p = AllHaveLines p.0 × HaveLinesIn p.1

@@ -6,7 +6,7 @@ use Rattle.std.proofs.lemmas.Bool.{true≢false, false≢true, or_parts, or_case
 use Rattle.std.proofs.lemmas.Slice.Eq.{bytes_eq-Decides}
 use Rattle.b2_base.specs.declared.token.TokenKind.{TokenKind}
 use Rattle.b2_base.specs.declared.token.TokenKind.TheVariants as kinds
-use Rattle.jam_lexer.specs.Signs.{is_white}
+use Rattle.b2_base.specs.Bytes.{is_white}
 use Rattle.jam_lexer.specs.Word.{Letter, Plain, Lone, letters, is_quote, is_space, is_lone, in_quotes, IsUnbroken, text_of, text_of_letter, is_bare, is_key_text, kind_of, signs, reserved_words}
 use Rattle.jam_lexer.proofs.Words.{letters_plain}
 use Rattle.jam_spelling.specs.Spelling.{is_escaped, is_special}

@@ -7,7 +7,7 @@ use Rattle.std.proofs.lemmas.List.{take-take, take_all, get_or-take, get_or-drop
 use Rattle.std.proofs.lemmas.List.Elements.{All-nil, All-cons}
 use Rattle.b2_base.specs.declared.token.TokenKind.TheVariants as kinds
 use Rattle.b2_base.specs.declared.token.Token.{Token}
-use Rattle.jam_lexer.specs.Signs.{is_white}
+use Rattle.b2_base.specs.Bytes.{is_white}
 use Rattle.jam_lexer.specs.Word.{letters, is_lone, text_of, is_bare, is_key_text, kind_of}
 use Rattle.jam_lexer.specs.Body.{IsBody}
 use Rattle.jam_lexer.specs.Tokens.{Next, NextWord, NextBody, NextBrace, next_after, place_after, awaits_brace, is_the_key, is_key, is_body, IsNextToken, IsWordToken, IsBodyToken, IsBraceToken, Follows, Stand, IsEnd, AreTokens}

@@ -6,7 +6,8 @@ use Rattle.std.proofs.lemmas.List.{drop-drop, drop_at, take_at, take-append-le, 
 use Rattle.b2_base.specs.declared.token.TokenKind.{TokenKind}
 use Rattle.b2_base.specs.declared.token.TokenKind.TheVariants as kinds
 use Rattle.b2_base.specs.declared.token.Token.{Token}
-use Rattle.jam_lexer.specs.Signs.{is_white, line_of}
+use Rattle.jam_lexer.specs.Signs.{line_of}
+use Rattle.b2_base.specs.Bytes.{is_white}
 use Rattle.jam_lexer.specs.Gap.{IsGap, IsInComment}
 use Rattle.jam_lexer.specs.Word.{letters, is_lone, in_quotes, IsUnbroken, text_of, kind_of}
 use Rattle.jam_lexer.specs.Body.{count_of}

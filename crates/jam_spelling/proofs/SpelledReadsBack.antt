@@ -5,7 +5,7 @@ use Rattle.std.proofs.lemmas.Bool.{false≢true, ne_eqb, and_right, or_from, fal
 use Rattle.std.proofs.lemmas.List.{append_assoc, append-nil, get_or_append_left}
 use Rattle.std.proofs.lemmas.Slice.Eq.{bytes_eq-Decides}
 use Rattle.b2_base.specs.declared.token.Token.{Token}
-use Rattle.jam_lexer.specs.Signs.{is_white}
+use Rattle.b2_base.specs.Bytes.{is_white}
 use Rattle.jam_lexer.specs.Gap.{IsGap}
 use Rattle.jam_lexer.specs.Answers.{IsAnswer}
 use Rattle.jam_lexer.specs.declared.fault.LexFault.{LexFault}

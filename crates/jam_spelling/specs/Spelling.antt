@@ -4,7 +4,8 @@ use Rattle.std.specs.List.{list_any, flat_map}
 use Rattle.std.specs.Str.{bytes_eq}
 use Rattle.b2_base.specs.declared.token.TokenKind.{TokenKind}
 use Rattle.b2_base.specs.declared.token.TokenKind.TheVariants.{Word, Key, Body}
-use Rattle.jam_lexer.specs.Signs.{line_feed, quote, hash, backslash, is_white}
+use Rattle.jam_lexer.specs.Signs.{quote, hash}
+use Rattle.b2_base.specs.Bytes.{is_white, line_feed, backslash}
 use Rattle.jam_lexer.specs.Word.{is_key_text}
 use Rattle.jam_lexer.specs.Tokens.{is_key, is_body}
 use Rattle.jam_spelling.specs.declared.lexeme.Lexeme.{Lexeme}

@@ -1,7 +1,8 @@
 -- Lists of lexemes that can stand in a text.
 use Rattle.std.specs.Prelude.{◌≡◌, ◌≢◌, ℕ, ◌≤◌, ◌==◌, List, [], ◌∷◌, ◌++◌, take, map, codes, count_by, slice_index, IsTrue}
 use Rattle.b2_base.specs.declared.token.TokenKind.TheVariants.{Word, Key, Body}
-use Rattle.jam_lexer.specs.Signs.{left_brace, right_brace, is_white}
+use Rattle.jam_lexer.specs.Signs.{left_brace, right_brace}
+use Rattle.b2_base.specs.Bytes.{is_white}
 use Rattle.jam_lexer.specs.Word.{is_key_text}
 use Rattle.jam_spelling.specs.declared.lexeme.Lexeme.{Lexeme}
 

@@ -4,7 +4,8 @@ ghost use Rattle.std.specs.List.{list_any};
 ghost use Rattle.jam_lexer.specs.Signs.{hash};
 ghost use Rattle.jam_spelling.specs.Spelling.{is_escaped, is_special, needs_quotes};
 
-use jam_lexer::signs::{is_key_text, is_white};
+use b2_base::white::is_white;
+use jam_lexer::signs::is_key_text;
 
 /// Whether the byte means something within quotes: a quote or a backslash.
 pub fn is_escaped(byte: u8) -> bool
@@ -27,7 +28,6 @@ fn has_special(text: &[u8]) -> bool
     text.iter().any(|byte| is_special(*byte))
 }
 
-/// Whether the text begins with `#`.
 fn begins_comment(text: &[u8]) -> bool
     ensures { result ≡ (slice_index text.now 0 == hash) }
 {

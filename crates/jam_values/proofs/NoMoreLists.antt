@@ -6,7 +6,7 @@ use Rattle.std.specs.declared.alloc.Global.{Global}
 use Rattle.jam_grammar.specs.declared.tree.Param.{Param}
 use Rattle.jam_journal.specs.Scopes.{Value, Binding}
 use Rattle.jam_eval.specs.Params.{nothing_left, lists_taken}
-use Rattle.jam_values.specs.Bindings.{lists_of}
+use Rattle.jam_grammar.specs.Trees.{lists_of}
 use Rattle.jam_values.specs.Taking.{IsTaken}
 
 none_added : (bs : List Binding) → IsTaken bs bs true (Some [])

@@ -2,7 +2,8 @@
 ghost use Rattle.std.specs.Prelude.{◌≡◌, ◌<◌, ◌+◌, [], ◌∷◌, ◌++◌, IfOk, OnOk, option_map};
 ghost use Rattle.b2_base.specs.Lists.{list_at};
 ghost use Rattle.jam_eval.specs.Params.{numbered, special, call_binds};
-ghost use Rattle.jam_values.specs.Bindings.{bindings_of, lists_of};
+ghost use Rattle.jam_values.specs.Bindings.{bindings_of};
+ghost use Rattle.jam_grammar.specs.Trees.{lists_of};
 
 use crate::params::take_params;
 use b2_base::fault::OutOfMemory;

@@ -52,7 +52,6 @@ fn are_among(texts: &[Text], among: &[Text]) -> bool
     texts.iter().all(|text| is_among(text, among))
 }
 
-/// The set of some texts.
 fn set_of(alloc: Global, texts: &[Text]) -> Result<Names<()>, OutOfMemory>
     ensures { IfOk result (λ set. (name : List ℕ) → is_some (map.get set name) ≡ list_any (bytes_eq name) texts.now) }
 {

@@ -2,7 +2,8 @@
 ghost use Rattle.std.specs.Prelude.{◌≡◌, ◌==◌, IfOk, is_some};
 ghost use Rattle.jam_grammar.specs.Spelling.{takes_all};
 ghost use Rattle.jam_eval.specs.Params.{list_taken, lists_taken, nothing_left, params_bind};
-ghost use Rattle.jam_values.specs.Bindings.{bindings_of, lists_of};
+ghost use Rattle.jam_values.specs.Bindings.{bindings_of};
+ghost use Rattle.jam_grammar.specs.Trees.{lists_of};
 ghost use Rattle.jam_values.specs.Taking.{count_taken, IsTaken};
 
 use crate::bindings::{Bound, add};

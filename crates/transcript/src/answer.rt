@@ -169,6 +169,20 @@ impl Answer {
         }
     }
 
+    /// Adds two texts with a space between them.
+    pub fn put_two(&mut self, text: &str, other: &str) {
+        self.put(text);
+        self.put(" ");
+        self.put(other);
+    }
+
+    /// Adds a number between two texts.
+    pub fn put_between(&mut self, before: &str, number: u64, after: &str) {
+        self.put(before);
+        self.put_number(number);
+        self.put(after);
+    }
+
     /// Adds a word after a space, an empty one as `""`.
     pub fn put_word(&mut self, word: &str) {
         self.put_space();
@@ -248,9 +262,7 @@ impl Answer {
 
     /// Adds two words with a space between them, and ends the line.
     pub fn push_words(&mut self, word: &str, other: &str) {
-        self.put(word);
-        self.put(" ");
-        self.put(other);
+        self.put_two(word, other);
         self.end_line();
     }
 

@@ -35,7 +35,6 @@ pub struct CaseHost {
     left_out: Vec<Path>,
 }
 
-/// Adds copies of the paths.
 fn add_copies(found: &mut Vec<Path>, paths: &[Path]) -> Result<(), OutOfMemory> {
     for path in paths {
         found.push(path.copy()?)?;
@@ -129,7 +128,7 @@ impl CaseHost {
         self.leaves_nothing = true;
     }
 
-    /// The host in memory.
+    /// The host that answers the calls.
     pub fn memory(&self) -> &MemoryHost {
         &self.memory
     }

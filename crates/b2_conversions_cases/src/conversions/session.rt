@@ -17,7 +17,7 @@ use transcript::command::{Command, Word};
 use transcript::session::Session;
 use transcript::words::{both, no_words, only, own_paths};
 
-/// What is at hand.
+/// What the commands of the part have put together.
 #[derive(Drop)]
 pub struct Conversions {
     pub registry: ManuallyDrop<Registry>,

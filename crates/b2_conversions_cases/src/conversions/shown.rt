@@ -4,7 +4,7 @@ use crate::conversions::texts::TextFault;
 use b2_base::text::Text;
 use b2_conversions::fault::MakingFault;
 use b2_plan::step::Step;
-use b2_supplies::entry::{Entry, Supply};
+use b2_virtual::entry::{Entry, Supply};
 use std::alloc::Global;
 use transcript::answer::Answer;
 use transcript::case_fault::CaseFault;

@@ -5,7 +5,7 @@ use b2_base::path_list::PathList;
 use b2_base::text::Text;
 use b2_generators::types::Types;
 use b2_props::pair_list::PairList;
-use b2_supplies::entry::{Entry, EntryList, Supply, file_entry};
+use b2_virtual::entry::{Entry, EntryList, Supply, file_entry};
 use b2_virtual::tails::source_tail;
 use std::alloc::Global;
 use transcript::answer::Answer;

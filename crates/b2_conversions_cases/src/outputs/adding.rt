@@ -26,7 +26,6 @@ fn bare(alloc: Global, name: &str, words: &str) -> Result<Step, CaseFault> {
     })
 }
 
-/// Whether one of the words is this one.
 fn has(words: &[Word], name: &str) -> bool {
     for word in words {
         if word.bytes() == name.as_bytes() {

@@ -64,7 +64,7 @@ impl Load {
         Answer::number(alloc, number as u64)
     }
 
-    /// Adds a project.
+    /// Adds a project in a directory, with the place of its parent where it has one.
     pub fn project(&mut self, alloc: Global, words: &[Word]) -> Result<Answer, CaseFault> {
         match words {
             [dir] => self.add_project(alloc, dir.as_str()?, None),

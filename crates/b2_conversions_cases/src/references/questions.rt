@@ -27,7 +27,6 @@ use transcript::case_fault::CaseFault;
 use transcript::command::Word;
 use transcript::words::{both, first, only, own_text, path, text, texts};
 
-/// What a source names.
 fn meaning_of_source(alloc: Global, index: &Index, words: &[Word]) -> Result<Meaning, CaseFault> {
     let (at, source) = both(words)?;
     let at = place(at)?;

@@ -23,7 +23,6 @@ static ATTRIBUTES: [Attribute; 9] = [
     Attribute::Dependency,
 ];
 
-/// The attribute of a name.
 fn attribute(name: &str) -> Result<Attribute, CaseFault> {
     for attribute in &ATTRIBUTES {
         if attribute.name() == name {
@@ -33,7 +32,6 @@ fn attribute(name: &str) -> Result<Attribute, CaseFault> {
     Err(CaseFault::WrongWords)
 }
 
-/// The feature of a name.
 fn named<'a>(registry: &'a Registry, name: &str) -> Result<&'a Feature, CaseFault> {
     match registry.find(name) {
         Some(feature) => Ok(feature),
@@ -72,7 +70,6 @@ fn stands_in(alloc: Global, words: &[Word]) -> Result<Answer, CaseFault> {
     truth(alloc, attribute.stands_in(words.as_slice()))
 }
 
-/// Asks an attribute.
 fn attribute_command(
     alloc: Global,
     registry: &Registry,

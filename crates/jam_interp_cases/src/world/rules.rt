@@ -50,7 +50,6 @@ fn import_rule(alloc: Global, world: &mut World, words: &[Word]) -> Result<Answe
     Answer::line(alloc, if found { "imported" } else { "none" })
 }
 
-/// Shows a rule.
 fn push_rule(answer: &mut Answer, rule: &Rule) {
     let body = rule.body();
     put_home(answer, rule.home());

@@ -28,7 +28,6 @@ fn push_name(alloc: Global, names: &mut TextList, name: &str) -> Result<(), OutO
     Ok(())
 }
 
-/// The names that are texts.
 fn texts_of(alloc: Global, names: &[&String]) -> Result<TextList, OutOfMemory>
     ensures { IfOk result (λ texts. texts ≡ filter is_text (map (λ name. string_bytes name.now) names.now)) }
 {

@@ -1,6 +1,6 @@
 use Rattle.std.proofs.Common.{◌≡◌, drop}
 use Rattle.std.specs.List.{find}
-use Rattle.b2_supplies.specs.Supplies.{is_of}
+use Rattle.b2_virtual.specs.Supplies.{is_of}
 use Rattle.b2_conversions.proofs.along.first_of.Given as goal
 
 abbrev pub invariant-loop-entry : goal.invariant-loop-entry

@@ -2,8 +2,8 @@ use Rattle.std.proofs.Common.{◌∙◌, ◌∷◌, [], List, ℕ, Ok, Err, refl
 use Rattle.std.specs.Prelude.{codes}
 use Rattle.std.specs.List.{find}
 use Rattle.std.specs.Option.{option_map_or}
-use Rattle.b2_supplies.specs.declared.entry.Entry.{Entry}
-use Rattle.b2_supplies.specs.Supplies.{is_of}
+use Rattle.b2_virtual.specs.declared.entry.Entry.{Entry}
+use Rattle.b2_virtual.specs.Supplies.{is_of}
 use Rattle.std.proofs.lemmas.Result.{err_from_is_err_and}
 use Rattle.b2_conversions.proofs.ChainLemmas.{chain_read}
 use Rattle.b2_conversions.proofs.Exits.{exit, exit_after}

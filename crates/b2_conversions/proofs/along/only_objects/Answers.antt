@@ -2,7 +2,7 @@ use Rattle.std.proofs.Common.{rules, ◌∙◌, ap}
 use Rattle.std.specs.Prelude.{codes}
 use Rattle.std.specs.List.{filter}
 use Rattle.std.proofs.lemmas.Fn.{filter_same}
-use Rattle.b2_supplies.specs.Supplies.{is_of}
+use Rattle.b2_virtual.specs.Supplies.{is_of}
 use Rattle.b2_conversions.proofs.along.only_objects.Goals as goal
 
 pub returns : goal.returns

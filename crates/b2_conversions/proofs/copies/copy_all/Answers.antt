@@ -1,7 +1,7 @@
 use Rattle.std.proofs.lemmas.Result.{err_from_is_err_and}
 use Rattle.std.proofs.Common.{◌+◌, List, sym, subst}
 use Rattle.std.specs.Option.{option_copied}
-use Rattle.b2_supplies.specs.declared.entry.Entry.{Entry}
+use Rattle.b2_virtual.specs.declared.entry.Entry.{Entry}
 use Rattle.b2_conversions.specs.Acts.{for_each}
 use Rattle.b2_conversions.specs.Contexts.{context_of, site_of}
 use Rattle.b2_conversions.specs.Steps.{location_of}

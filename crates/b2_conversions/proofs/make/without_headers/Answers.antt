@@ -1,7 +1,7 @@
 use Rattle.std.proofs.Common.{rules, ◌∙◌, not, ap}
 use Rattle.std.specs.List.{filter}
 use Rattle.std.proofs.lemmas.Fn.{filter_same}
-use Rattle.b2_supplies.specs.Supplies.{is_header}
+use Rattle.b2_virtual.specs.Supplies.{is_header}
 use Rattle.b2_conversions.proofs.make.without_headers.Goals as goal
 
 pub returns : goal.returns

@@ -1,6 +1,6 @@
 use Rattle.std.proofs.lemmas.Result.{err_from_is_err_and}
 use Rattle.std.proofs.Common.{◌∷◌, ◌+◌, [], List, Err, false, refl, sym, subst, drop}
-use Rattle.b2_supplies.specs.declared.entry.Entry.{Entry}
+use Rattle.b2_virtual.specs.declared.entry.Entry.{Entry}
 use Rattle.b2_conversions.specs.Acts.{for_each}
 use Rattle.b2_conversions.specs.Contexts.{context_of, site_of}
 use Rattle.b2_conversions.specs.Steps.{places}

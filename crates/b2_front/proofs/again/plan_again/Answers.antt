@@ -1,6 +1,6 @@
 use Rattle.std.proofs.Common.{Err, sym, ap, subst, ◌∙◌}
 use Rattle.b2_host.specs.Outside.{Outside}
-use Rattle.b2_evaluation.specs.Answers.{CountsFault}
+use Rattle.b2_base.specs.Counts.{CountsFault}
 use Rattle.b2_loaded.specs.Faults.{is_host_fault, is_out_of_memory}
 use Rattle.b2_front.specs.Again.{AnswersAgain}
 use Rattle.b2_front.proofs.AgainLemmas.{text_same, answers_again_after, answers_again_text}

@@ -1,7 +1,7 @@
 use Rattle.std.proofs.Common.{ap, ◌∙◌}
 use Rattle.std.proofs.lemmas.Result.{IfOk-weaker}
 use Rattle.b2_props.specs.Refinement.{refined}
-use Rattle.b2_supplies.specs.Supplies.{header_directories}
+use Rattle.b2_virtual.specs.Supplies.{header_directories}
 use Rattle.b2_generate.proofs.making.final_set.Goals as goal
 
 pub returns-clause-value : goal.returns-clause-value

@@ -1,5 +1,5 @@
 use Rattle.std.proofs.Common.{◌++◌, map, ap, ap₂, ◌∙◌}
-use Rattle.b2_supplies.specs.Supplies.{entries_of}
+use Rattle.b2_virtual.specs.Supplies.{entries_of}
 use Rattle.b2_generate.proofs.making.order_of.Goals as goal
 
 pub returns : goal.returns

@@ -3,7 +3,8 @@ use Rattle.std.proofs.lemmas.Iterator.Consumers.{map_from_collect, YieldsList-fr
 use Rattle.std.proofs.lemmas.Iterator.Splits.{YieldsList-from_slice_split}
 use Rattle.std.proofs.lemmas.Result.{IfOk-at_ok}
 use Rattle.b2_base.specs.Segments.{texts}
-use Rattle.b2_memory.specs.Results.{is_space, words_of}
+use Rattle.b2_memory.specs.Results.{words_of}
+use Rattle.b2_base.specs.Bytes.{is_white}
 use Rattle.b2_memory.proofs.made.words.Goals as goal
 
 pub returns : goal.returns
@@ -11,5 +12,5 @@ returns c =
     IfOk-at_ok (λ found. texts found.items ≡ words_of c.args.text.now) c.in_ok-found.was
     (map_from_collect _ c.collect.ensures.ran
     (YieldsList-from_filter _ (λ word. not (eqb (length word) 0))
-    (YieldsList-at c.filter.ensures.source (YieldsList-from_slice_split _ is_space c.args.text.now (c.split.ensures.rest ∙ c.as_bytes.ensures.value) c.split.ensures.done c.split.ensures.closure (λ x b q h. search rules)))
+    (YieldsList-at c.filter.ensures.source (YieldsList-from_slice_split _ is_white c.args.text.now (c.split.ensures.rest ∙ c.as_bytes.ensures.value) c.split.ensures.done c.split.ensures.closure (λ x b q h. search rules)))
     c.filter.ensures.closure (λ x b q h. search rules)))

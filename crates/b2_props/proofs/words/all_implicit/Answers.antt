@@ -1,7 +1,8 @@
 use Rattle.std.proofs.Common.{◌≡◌, true, false, lit<, rules, tests}
 use Rattle.std.proofs.lemmas.Iterator.{cases_from_all}
 use Rattle.std.proofs.lemmas.Iterator.Splits.{YieldsList-from_str_split}
-use Rattle.b2_props.specs.Words.{cut, is_implicit}
+use Rattle.b2_props.specs.Words.{cut}
+use Rattle.b2_features.specs.Faults.{is_implicit}
 use Rattle.b2_props.proofs.Reading.{all_is}
 use Rattle.b2_props.proofs.words.all_implicit.Goals as goal
 

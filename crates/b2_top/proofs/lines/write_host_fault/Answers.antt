@@ -1,6 +1,6 @@
 use Rattle.std.proofs.Common.{Err, sym, subst}
 use Rattle.std.proofs.lemmas.Result.{err_from_is_err_and}
-use Rattle.b2_refusals.specs.Lines.{host_fault_line}
+use Rattle.b2_runs.specs.Reports.{host_fault_line}
 use Rattle.b2_top.specs.Reports.{echo_lines, fault_report}
 use Rattle.b2_top.specs.Writing.{Writes}
 use Rattle.b2_top.proofs.WritingLemmas.{writes_err, writes_stop, writes_then}

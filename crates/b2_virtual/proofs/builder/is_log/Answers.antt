@@ -4,7 +4,7 @@ use Rattle.std.proofs.lemmas.Bool.Decides.{Decides-eqb}
 use Rattle.std.proofs.lemmas.Slice.Eq.{bytes_eq-Decides, starts_is}
 use Rattle.std.proofs.lemmas.Str.Pattern.{starts_text}
 use Rattle.b2_base.specs.Normal.{IsNormal, IsUnder}
-use Rattle.b2_plan.specs.Plans.{log_path}
+use Rattle.b2_host.specs.FileCalls.{log_path}
 use Rattle.b2_base.proofs.Under.{under_on, on_under}
 use Rattle.b2_virtual.proofs.LogLemmas.{normal_log, log_not_here, log_not_root}
 use Rattle.b2_virtual.proofs.builder.is_log.Goals as goal

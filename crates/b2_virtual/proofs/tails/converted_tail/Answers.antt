@@ -2,10 +2,11 @@ use Rattle.std.proofs.Common.{◌≡◌, ◌∙◌, ◌++◌, ◌∷◌, List, �
 use Rattle.std.specs.Prelude.{codes}
 use Rattle.std.specs.Option.{option_copied}
 use Rattle.b2_base.specs.Bytes.{HasNoZero}
-use Rattle.b2_base.specs.Segments.{normal_of}
-use Rattle.b2_virtual.specs.Paths.{folder_of, name_of, stem_of, dotted}
+use Rattle.b2_base.specs.Segments.{normal_of, file_name}
+use Rattle.b2_virtual.specs.Paths.{folder_of, stem_of, dotted}
 use Rattle.b2_virtual.proofs.PieceLemmas.{clean_both, clean_slash, clean_parts, clean_stem, clean_dotted}
-use Rattle.b2_virtual.proofs.Cuts.{rsplit_parts, name_at, name_whole, folder_at, folder_none}
+use Rattle.b2_base.proofs.LastCuts.{rsplit_parts, file_name_at, file_name_whole}
+use Rattle.b2_virtual.proofs.Cuts.{folder_at, folder_none}
 use Rattle.b2_virtual.proofs.tails.converted_tail.Goals as goal
 
 pub returns-in_ok-name-in-None : goal.returns-in_ok-name-in-None
@@ -13,10 +14,10 @@ returns-in_ok-name-in-None c =
     let text : List ℕ = c.as_str-text.result.now in
     let suffix : List ℕ = dotted (option_copied c.args.suffix) in
     let lacks = rsplit_parts 47 text None c.in-None.ensures.cases (lit< tt) in
-    let whole : c.as_str.result.now ≡ (folder_of c.args.tail.now ++ stem_of (name_of c.args.tail.now)) ++ suffix =
+    let whole : c.as_str.result.now ≡ (folder_of c.args.tail.now ++ stem_of (file_name c.args.tail.now)) ++ suffix =
     c.as_str.ensures.value ∙ c.in_ok-name-in-None.ensures
-    ∙ sym (ap₂ (λ (a b : List ℕ). (a ++ stem_of b) ++ suffix) (folder_none text lacks) (name_whole text lacks))
-    ∙ ap (λ (t : List ℕ). (folder_of t ++ stem_of (name_of t)) ++ suffix) c.as_str-text.ensures.value in
+    ∙ sym (ap₂ (λ (a b : List ℕ). (a ++ stem_of b) ++ suffix) (folder_none text lacks) (file_name_whole text lacks))
+    ∙ ap (λ (t : List ℕ). (folder_of t ++ stem_of (file_name t)) ++ suffix) c.as_str-text.ensures.value in
     subst (λ (t : List ℕ). IfOk c.path_of.result (λ made. made ≡ normal_of t)) whole c.path_of.ensures
 
 pub returns-in_ok-text-in-Some : goal.returns-in_ok-text-in-Some
@@ -26,13 +27,13 @@ returns-in_ok-text-in-Some c =
     let name : List ℕ = c.in-Some.name.now in
     let suffix : List ℕ = dotted (option_copied c.args.suffix) in
     let p = rsplit_parts 47 text (Some (c.in-Some.folder, c.in-Some.name)) c.in-Some.ensures.cases (lit< tt) in
-    let whole : c.as_str-in-Some.result.now ≡ (folder_of c.args.tail.now ++ stem_of (name_of c.args.tail.now)) ++ suffix =
+    let whole : c.as_str-in-Some.result.now ≡ (folder_of c.args.tail.now ++ stem_of (file_name c.args.tail.now)) ++ suffix =
     c.as_str-in-Some.ensures.value ∙ c.in_ok-text-in-Some.ensures.ok
     ∙ ap (λ (n : List ℕ). folder ++ (codes "/" ++ n)) c.in_ok-name-in-Some.ensures
     ∙ sym (append_assoc folder (codes "/") (stem_of name ++ suffix))
     ∙ sym (append_assoc (folder ++ codes "/") (stem_of name) suffix)
-    ∙ sym (ap₂ (λ (a b : List ℕ). (a ++ stem_of b) ++ suffix) (folder_at text folder name p.0 p.1) (name_at text folder name p.0 p.1))
-    ∙ ap (λ (t : List ℕ). (folder_of t ++ stem_of (name_of t)) ++ suffix) c.as_str-text.ensures.value in
+    ∙ sym (ap₂ (λ (a b : List ℕ). (a ++ stem_of b) ++ suffix) (folder_at text folder name p.0 p.1) (file_name_at text folder name p.0 p.1))
+    ∙ ap (λ (t : List ℕ). (folder_of t ++ stem_of (file_name t)) ++ suffix) c.as_str-text.ensures.value in
     subst (λ (t : List ℕ). IfOk c.path_of-in-Some.result (λ made. made ≡ normal_of t)) whole c.path_of-in-Some.ensures
 
 pub path_of-requires-in-Some : goal.path_of-requires-in-Some

@@ -1,5 +1,6 @@
 use Rattle.std.proofs.Common.{lit<, sym, Some, None}
-use Rattle.b2_virtual.proofs.Cuts.{rsplit_parts, stem_at, stem_whole}
+use Rattle.b2_base.proofs.LastCuts.{rsplit_parts}
+use Rattle.b2_virtual.proofs.Cuts.{stem_at, stem_whole}
 use Rattle.b2_virtual.proofs.tails.stem_of.Goals as goal
 
 pub returns-in-None : goal.returns-in-None

@@ -1,5 +1,5 @@
 use Rattle.std.proofs.Common.{◌≡◌, take}
-use Rattle.jam_values.specs.Bindings.{lists_of}
+use Rattle.jam_grammar.specs.Trees.{lists_of}
 use Rattle.jam_effects.proofs.naming.copy_params.Given as goal
 
 abbrev pub invariant-loop-list : goal.invariant-loop-list

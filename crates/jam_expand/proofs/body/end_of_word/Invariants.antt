@@ -1,6 +1,6 @@
 use Rattle.std.proofs.Common.{◌≡◌, ◌+◌, drop}
 use Rattle.std.specs.List.{position_or_len}
-use Rattle.jam_expand.specs.Bodies.{is_white}
+use Rattle.b2_base.specs.Bytes.{is_white}
 use Rattle.jam_expand.proofs.body.end_of_word.Given as goal
 
 -- the bytes before this place are no white space

@@ -1,6 +1,6 @@
 use Rattle.std.proofs.Common.{◌≡◌, ◌+◌, ◌≤◌, length, take}
 use Rattle.std.specs.List.{suffix_len}
-use Rattle.jam_expand.specs.Bodies.{is_white}
+use Rattle.b2_base.specs.Bytes.{is_white}
 use Rattle.jam_expand.proofs.body.length_without_end.Given as goal
 
 -- the bytes from this place on are white space

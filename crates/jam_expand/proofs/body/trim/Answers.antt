@@ -1,7 +1,7 @@
 use Rattle.std.proofs.Common.{◌≡◌, ◌<◌, ◌-◌, length, ap, sym, ◌∙◌, subst}
 use Rattle.std.specs.List.{prefix_len, suffix_len}
 use Rattle.std.specs.Str.{IsCharBoundary}
-use Rattle.jam_expand.specs.Bodies.{is_white}
+use Rattle.b2_base.specs.Bytes.{is_white}
 use Rattle.jam_expand.proofs.BodyLemmas.{front_boundary, end_boundary}
 use Rattle.jam_expand.proofs.body.trim.Goals as goal
 

@@ -1,6 +1,6 @@
 use Rattle.std.proofs.Common.{◌≡◌, ◌+◌, drop}
 use Rattle.std.specs.List.{prefix_len}
-use Rattle.jam_expand.specs.Bodies.{is_white}
+use Rattle.b2_base.specs.Bytes.{is_white}
 use Rattle.jam_expand.proofs.body.white_before.Given as goal
 
 -- the bytes before this place are white space

@@ -8,7 +8,7 @@ use Rattle.indexmap.proofs.CallerLemmas.{insert_entry-new}
 use Rattle.std.proofs.lemmas.List.{length-map}
 use Rattle.std.proofs.lemmas.Result.{IfOk-at_ok}
 use Rattle.b2_features.specs.Table.{seen, feature_of}
-use Rattle.b2_features.specs.Faults.{is_taken}
+use Rattle.b2_features.specs.Faults.{is_implicit}
 use Rattle.b2_features.specs.Index.{IsIndexed}
 use Rattle.b2_features.proofs.TableLemmas.{shown, absent_key, indexed_push, shown_push}
 use Rattle.b2_features.proofs.registry.Registry.put.Goals as goal
@@ -26,7 +26,7 @@ invariant_of-self-2 c =
     let end : c.len-place.result ≡ length (shown es) = c.len-place.ensures.len ∙ ap length c.in_ok-reserve.ensures.entries ∙ sym (length-map es (λ e. seen e.1)) in
     subst (λ xs. IsIndexed xs c.add.new.self) (sym pushed)
     (indexed_push es c.self.inside.implicit c.add.new.self key c.args.feature c.len-place.result c.self.invariant named end
-    (λ q here. ap (λ table. is_taken table q) c.self.view_is ∙ c.requires.untaken q here)
+    (λ q here. ap (λ table. is_implicit table q) c.self.view_is ∙ c.requires.untaken q here)
     (λ q. c.in_ok-add.ensures.ok q ∙ ap (λ b. cond b (Some c.len-place.result) (lookup (bytes_eq q) c.self.inside.implicit)) (c.requires.implicit q)) c.requires.whole)
 
 pub returns-clause-ok : goal.returns-clause-ok

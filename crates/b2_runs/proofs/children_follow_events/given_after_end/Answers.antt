@@ -1,0 +1,5 @@
+use Rattle.b2_runs.proofs.ChildrenFollowEvents.{given_after_end}
+use Rattle.b2_runs.proofs.children_follow_events.given_after_end.Goals as goal
+
+pub returns : goal.returns
+returns c = given_after_end

@@ -1,5 +1,0 @@
-use Rattle.b2_runs.proofs.ClosureStays.{close_is_local}
-use Rattle.b2_runs.proofs.clean_build_is_one.close_is_local.Goals as goal
-
-pub returns : goal.returns
-returns g c = close_is_local g.V.Worth.worth g.W.Worth.worth

@@ -1,5 +1,0 @@
-use Rattle.b2_runs.proofs.SettledStays.{close_on_settled}
-use Rattle.b2_runs.proofs.runs_go_on.close_on_settled.Goals as goal
-
-pub returns : goal.returns
-returns c = close_on_settled

@@ -1,2 +1,0 @@
-pub mod RepeatsAreLeftOut
-pub mod CleanName
