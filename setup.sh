@@ -1,53 +1,65 @@
 #!/bin/sh
 # Proves and builds b2 with the libraries below it, leaves the program at ./b2, builds the project in examples/hello, and shows the one
-# in examples/demo.
+# in examples/demo. The proofs are those of `rt ci`, over the crates that the program needs alone and without their wrong bodies: as many
+# crates side by side as there are processors and memory, and none that this machine has proved before.
 set -eu
 cd "$(dirname "$0")"
 top=$(pwd)
-logs=$top/out/setup
+house=$(mktemp -d)
+log=$house/log
 
-# The libraries of the repository that a crate stands on, in topological order, and then the crate.
-crates_below() {
+# The lines of crates.txt of a crate and of those that it stands on.
+lines_below() {
     awk -F: -v crate="$1" '
         function visit(name,    needed, count, i) {
             if (!(name in needs) || (name in seen)) return
             seen[name] = 1
             count = split(needs[name], needed, " ")
             for (i = 1; i <= count; i++) visit(needed[i])
-            print name
+            print name ":" needs[name]
         }
         { sub(/#.*/, ""); if (NF > 1) needs[$1] = $2 }
         END { visit(crate) }' crates.txt
 }
 
-crates=$(crates_below b2_cmd)
-count=$(echo "$crates" | wc -l)
-echo "b2 is $count crates, and each is proved before it is built. From nothing that takes some two to three hours of processor"
-echo "time, an hour or more on four processors, 4 GB of memory, and 5 to 10 GB of disk in crates/*/out; later runs prove only"
-echo "what has changed."
-mkdir -p "$logs"
-number=0
-for crate in $crates; do
-    number=$((number + 1))
-    echo "$number of $count: $crate"
-    if ! (cd "crates/$crate" && rt check) >"$logs/$crate.log" 2>&1; then
-        echo "$crate is not proved; the end of $logs/$crate.log:" >&2
-        tail -n 20 "$logs/$crate.log" >&2
-        exit 1
-    fi
+# A copy of these crates, without what earlier runs left in them; it stands apart, since `rt ci` proves all of a repository.
+mkdir "$house/crates"
+cp HANDLES "$house"
+lines_below b2_cmd >"$house/crates.txt"
+for crate in $(cut -d: -f1 "$house/crates.txt"); do
+    mkdir "$house/crates/$crate"
+    for part in "crates/$crate"/*; do
+        case $part in
+        */out | */must-fail) ;;
+        *) cp -R "$part" "$house/crates/$crate" ;;
+        esac
+    done
 done
 
-built=crates/b2_cmd/out/b2_cmd
-rm -f "$built"
-echo "All are proved; now the program is compiled."
-# It is run once here, where it finds no Jamroot: its status says nothing.
-(cd crates/b2_cmd && rt run) >"$logs/build.log" 2>&1 || true
-if [ ! -x "$built" ]; then
-    echo "b2 is not built; the end of $logs/build.log:" >&2
-    tail -n 20 "$logs/build.log" >&2
+count=$(wc -l <"$house/crates.txt" | tr -d ' ')
+echo "b2 is $count crates, and each is proved before it is built. From nothing that takes some two hours of processor time, most of an"
+echo "hour on four processors, up to 5 GB of memory for each crate that is being proved, and 10 GB of disk; what is proved is kept on"
+echo "this machine, and later runs prove only what has changed. What fails is told in $log."
+{ (cd "$house" && rt ci) 2>&1 || true; } | {
+    number=0
+    while read -r line; do
+        printf '%s\n' "$line" >>"$log"
+        case $line in
+        'rt: '*' proved' | 'rt: '*' is kept: '*)
+            number=$((number + 1))
+            line=${line#rt: }
+            echo "$number of $count: ${line%% *}"
+            ;;
+        esac
+    done
+}
+if ! tail -n 1 "$log" | grep -q ' passed, 0 failed'; then
+    echo "b2 is not proved; the end of $log:" >&2
+    tail -n 20 "$log" >&2
     exit 1
 fi
-cp "$built" b2
+cp "$house/crates/b2_cmd/out/b2_cmd" b2
+rm -rf "$house"
 echo "The program is $top/b2. It builds examples/hello:"
 rm -rf examples/hello/bin
 (cd examples/hello && "$top/b2")
