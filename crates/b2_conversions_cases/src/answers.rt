@@ -3,11 +3,6 @@ use std::alloc::Global;
 use transcript::answer::Answer;
 use transcript::case_fault::CaseFault;
 
-/// `true` or `false`.
-pub fn truth(alloc: Global, holds: bool) -> Result<Answer, CaseFault> {
-    Answer::line(alloc, if holds { "true" } else { "false" })
-}
-
 /// Adds what happened, and the text that it happened to.
 pub fn push_happened(answer: &mut Answer, what: &str, text: &str) {
     answer.put(what);

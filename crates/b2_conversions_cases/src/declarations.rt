@@ -9,4 +9,4 @@
 //! Words of one line have one space between them, and `""` is the empty word.
 
 pub mod calls;
-mod shown;
+pub mod shown;

@@ -4,11 +4,6 @@ use std::alloc::Global;
 use transcript::answer::Answer;
 use transcript::case_fault::CaseFault;
 
-/// `true` or `false`.
-pub fn truth(alloc: Global, holds: bool) -> Result<Answer, CaseFault> {
-    Answer::line(alloc, if holds { "true" } else { "false" })
-}
-
 /// The answer to a call that failed; out of memory is no answer.
 pub fn fault_answer(alloc: Global, fault: IoFault) -> Result<Answer, CaseFault> {
     match fault {

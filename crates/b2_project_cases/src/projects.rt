@@ -1,7 +1,7 @@
 //! Projects and main targets.
 use crate::shown::{push_list, push_pair_list, push_requirements};
 use b2_base::path::Path;
-use b2_declarations::declaration::Kind;
+use b2_conversions_cases::declarations::shown::kind_word;
 use b2_metatargets::place::{IndirectRule, Place, Target};
 use jam_natives::decl::Decl;
 use std::alloc::Global;
@@ -50,17 +50,6 @@ pub fn projects(alloc: Global, places: &[Place]) -> Result<Answer, CaseFault> {
         push_place(&mut answer, number, &places[number]);
     }
     Ok(answer)
-}
-
-fn kind_word(kind: Kind) -> &'static str {
-    match kind {
-        Kind::Exe => "exe",
-        Kind::Lib => "lib",
-        Kind::Obj => "obj",
-        Kind::Alias => "alias",
-        Kind::Make => "make",
-        Kind::Install => "install",
-    }
 }
 
 /// Puts the line of a file at which something stands, which is shown last.

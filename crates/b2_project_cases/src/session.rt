@@ -8,13 +8,14 @@ use b2_memory::memory::MemoryHost;
 use b2_metatargets::whole::Declared;
 use b2_project::project::Project;
 use jam_effects::turns::Turns;
+use jam_interp_cases::evaluation::session::set_turns;
 use std::alloc::Global;
 use std::mem::ManuallyDrop;
 use transcript::answer::Answer;
 use transcript::case_fault::CaseFault;
 use transcript::command::{Command, Word};
 use transcript::session::Session;
-use transcript::words::{number, only, texts};
+use transcript::words::{number, texts};
 
 /// The files, how many turns each load has, how many the last one left, and what was loaded last.
 #[derive(Drop)]
@@ -90,11 +91,6 @@ fn look(
         "left" => Answer::number(alloc, left as u64),
         _ => show(alloc, last, command),
     }
-}
-
-fn set_turns(alloc: Global, budget: &mut u32, words: &[Word]) -> Result<Answer, CaseFault> {
-    *budget = number(only(words)?)?;
-    Ok(Answer::new(alloc))
 }
 
 impl Loads {

@@ -42,14 +42,6 @@ pub fn push_lists(answer: &mut Answer, name: &str, left: &[Text], right: &[Text]
     answer.end_line();
 }
 
-/// Properties on one line.
-pub fn pairs_line(alloc: Global, pairs: &[(Text, Text)]) -> Result<Answer, CaseFault> {
-    let mut answer = Answer::new(alloc);
-    answer.put_properties(pairs);
-    answer.end_line();
-    Ok(answer)
-}
-
 pub fn set_line(alloc: Global, set: &Props) -> Result<Answer, CaseFault> {
-    pairs_line(alloc, set.pairs())
+    Answer::properties(alloc, set.pairs())
 }

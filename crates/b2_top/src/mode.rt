@@ -1,9 +1,10 @@
 //! What the program is called for.
-ghost use Rattle.std.specs.Prelude.{◌≡◌, option_map};
-ghost use Rattle.b2_words.specs.Words.{after_lead};
+ghost use Rattle.std.specs.Prelude.{◌≡◌};
+ghost use Rattle.b2_base.specs.Bytes.{HasNoZero};
 ghost use Rattle.b2_top.specs.Modes.{is_drill, is_view, has_view, mode_of};
 
 use b2_base::text::Text;
+use b2_words::lead::after_lead;
 
 /// What the program is called for, by its words alone. The words may still not be of that command's grammar.
 #[derive(Clone, Copy)]
@@ -16,17 +17,11 @@ pub enum Mode {
     Drill,
 }
 
-/// What follows a lead in a text that begins with it.
-fn after<'a>(text: &'a str, lead: &str) -> Option<&'a str>
-    ensures { option_map (λ rest. rest.now) result ≡ after_lead lead.now text.now }
-{
-    text.strip_prefix(lead)
-}
-
 fn is_drill(word: &str) -> bool
+    requires { HasNoZero word.now }
     ensures { result ≡ is_drill word.now }
 {
-    after(word, "--drill=").is_some()
+    after_lead(word, "--drill=").is_some()
 }
 
 fn is_view(word: &str) -> bool

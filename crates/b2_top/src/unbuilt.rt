@@ -1,7 +1,7 @@
 //! What is not carried out yet: some options of a build, and plans with files that are scanned for includes.
-ghost use Rattle.std.specs.Prelude.{◌≡◌, ◌++◌, true, IfOk, IfSome, option_map, map, is_some};
+ghost use Rattle.std.specs.Prelude.{◌≡◌, ◌++◌, true, IfOk, option_map, map, is_some};
 ghost use Rattle.b2_base.specs.Bytes.{HasNoZero};
-ghost use Rattle.b2_words.specs.Words.{items, by_shape, after_lead};
+ghost use Rattle.b2_words.specs.Words.{items, by_shape};
 ghost use Rattle.b2_top.specs.Unbuilt.{unbuilt_option, is_scanned, first_scanned, unbuilt_file, has_suffix, has_one};
 ghost use Rattle.b2_top.specs.Found.{named, in_value, in_jobs, past_all, in_letters, in_word, in_next, first_found, from_start};
 
@@ -9,6 +9,7 @@ use b2_base::fault::OutOfMemory;
 use b2_base::path::Path;
 use b2_base::text::Text;
 use b2_plan::step::Step;
+use b2_words::lead::after_lead;
 use std::alloc::Global;
 
 /// How the next word is read.
@@ -31,15 +32,6 @@ enum Found {
     Nothing(Next),
     /// Neither the word nor those after it give one.
     End,
-}
-
-/// What follows a lead in a text that begins with it.
-fn after<'a>(text: &'a str, lead: &str) -> Option<&'a str>
-    requires { HasNoZero text.now }
-    ensures rest { option_map (λ rest. rest.now) result ≡ after_lead lead.now text.now }
-    ensures no_zero { IfSome result (λ rest. HasNoZero rest.now) }
-{
-    text.strip_prefix(lead)
 }
 
 /// An option whose name is a lead with its value.
@@ -73,7 +65,7 @@ fn in_jobs(alloc: Global, rest: &str) -> Result<Found, OutOfMemory>
     if rest.is_empty() {
         return Ok(Found::Nothing(Next::JobsValue));
     }
-    match after(rest, "=") {
+    match after_lead(rest, "=") {
         Some(value) => in_value(alloc, value),
         None => in_value(alloc, rest),
     }
@@ -94,10 +86,10 @@ fn in_letters(alloc: Global, letters: &str) -> Result<Found, OutOfMemory>
     requires { HasNoZero letters.now }
     ensures { IfOk result (λ found. found ≡ in_letters letters.now) }
 {
-    if after(letters, "q").is_some() {
+    if after_lead(letters, "q").is_some() {
         return named(alloc, "-q", "");
     }
-    match after(letters, "j") {
+    match after_lead(letters, "j") {
         Some(rest) => in_jobs(alloc, rest),
         None => Ok(Found::Nothing(Next::ByShape)),
     }
@@ -115,13 +107,13 @@ fn in_word(alloc: Global, word: &str) -> Result<Found, OutOfMemory>
     if word == "--by" {
         return Ok(Found::Nothing(Next::ByValue));
     }
-    if let Some(value) = after(word, "--by=") {
+    if let Some(value) = after_lead(word, "--by=") {
         return named(alloc, "--by=", value);
     }
-    if after(word, "--").is_some() {
+    if after_lead(word, "--").is_some() {
         return Ok(Found::Nothing(Next::ByShape));
     }
-    match after(word, "-") {
+    match after_lead(word, "-") {
         Some(group) => in_letters(alloc, past_all(group)),
         None => Ok(Found::Nothing(Next::ByShape)),
     }

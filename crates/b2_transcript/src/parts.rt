@@ -8,8 +8,8 @@ use b2_conversions_cases::conversions::session::Conversions;
 use b2_conversions_cases::declarations::calls::Declarations;
 use b2_conversions_cases::outputs::session::Outputs;
 use b2_conversions_cases::references::session::References;
-use b2_host_cases::host::session::HostAtHand;
-use b2_host_cases::log::session::LogAtHand;
+use b2_host_cases::host::session::HostSession;
+use b2_host_cases::log::session::LogSession;
 use b2_host_cases::words::session::CommandLine;
 use b2_project_cases::session::Loads;
 use b2_props_cases::properties::Properties;
@@ -30,8 +30,8 @@ use transcript::words::only;
 #[derive(Drop)]
 pub struct Parts<R: System> {
     at_hand: Part,
-    host: ManuallyDrop<HostAtHand>,
-    log: ManuallyDrop<LogAtHand>,
+    host: ManuallyDrop<HostSession>,
+    log: ManuallyDrop<LogSession>,
     language: ManuallyDrop<Language>,
     world: ManuallyDrop<Scene>,
     evaluation: ManuallyDrop<Evaluation>,
@@ -51,8 +51,8 @@ impl<R: System> Parts<R> {
         let alloc = rt.alloc();
         Ok(Parts {
             at_hand: Part::Host,
-            host: ManuallyDrop::new(HostAtHand::new(alloc)?),
-            log: ManuallyDrop::new(LogAtHand::new(alloc)),
+            host: ManuallyDrop::new(HostSession::new(alloc)?),
+            log: ManuallyDrop::new(LogSession::new(alloc)),
             language: ManuallyDrop::new(Language::new(alloc)),
             world: ManuallyDrop::new(Scene::new(alloc)?),
             evaluation: ManuallyDrop::new(Evaluation::new(alloc)?),

@@ -6,6 +6,7 @@
 
 pub mod fault;
 mod grouped;
+pub mod lead;
 mod number;
 mod parser;
 pub mod reader;

@@ -1,13 +1,14 @@
 //! The words of the command line.
-ghost use Rattle.std.specs.Prelude.{◌≡◌, false, Some, None, option_map, All, IsUtf8, IfOk, IsErrOf, map};
+ghost use Rattle.std.specs.Prelude.{◌≡◌, false, Some, None, All, IsUtf8, IfOk, IsErrOf, map};
 ghost use Rattle.clap.specs.Words.{first_value, found_of};
 ghost use Rattle.b2_base.specs.Bytes.{HasNoZero};
-ghost use Rattle.b2_words.specs.Words.{reading, build_reading, drill_reading, after_lead};
+ghost use Rattle.b2_words.specs.Words.{reading, build_reading, drill_reading};
 ghost use Rattle.b2_words.specs.Grouped.{any_grouped};
 ghost use Rattle.b2_words.specs.Parser.{is_true, words_found, asked_in, command_in};
 
 use crate::fault::WordsFault;
 use crate::grouped::any_grouped;
+use crate::lead::after_lead;
 use crate::number::number_of;
 use crate::parser::build_command;
 use crate::values::{command_of, options_of};
@@ -143,13 +144,6 @@ fn read_drill(alloc: Global, count: &str, rest: &[Text]) -> Result<Words, WordsF
     }
 }
 
-/// What follows a lead in a text that begins with it.
-fn after<'a>(text: &'a str, lead: &str) -> Option<&'a str>
-    ensures { option_map (λ rest. rest.now) result ≡ after_lead lead.now text.now }
-{
-    text.strip_prefix(lead)
-}
-
 /// Reads the words of the command line, without the program's own name.
 ///
 /// A build: `[-jN] [-a] [-q] [--by=digest] [word ..]`, N from 1 to 64. A look: the same with exactly one of `-n` and
@@ -162,7 +156,7 @@ pub fn read_words(alloc: Global, words: &[Text]) -> Result<Words, WordsFault>
 {
     match words {
         [] => read_build(alloc, words),
-        [first, rest @ ..] => match after(first.as_str(), "--drill=") {
+        [first, rest @ ..] => match after_lead(first.as_str(), "--drill=") {
             Some(count) => read_drill(alloc, count, rest),
             None => read_build(alloc, words),
         },

@@ -113,6 +113,19 @@ impl Answer {
         Answer::line(alloc, if holds { "yes" } else { "no" })
     }
 
+    /// `true` or `false`.
+    pub fn truth(alloc: Global, holds: bool) -> Result<Answer, CaseFault> {
+        Answer::line(alloc, if holds { "true" } else { "false" })
+    }
+
+    /// Properties on one line.
+    pub fn properties(alloc: Global, properties: &[(Text, Text)]) -> Result<Answer, CaseFault> {
+        let mut answer = Answer::new(alloc);
+        answer.put_properties(properties);
+        answer.end_line();
+        Ok(answer)
+    }
+
     /// A number in decimal.
     pub fn number(alloc: Global, number: u64) -> Result<Answer, CaseFault> {
         let mut answer = Answer::new(alloc);

@@ -1,5 +1,4 @@
 //! Calls of declaring rules, and what comes of them.
-use crate::answers::truth;
 use crate::declarations::shown::push_declaration;
 use b2_declarations::declaration::Declaration;
 use b2_declarations::naming::named_directories;
@@ -26,7 +25,7 @@ fn told(alloc: Global, question: &str, declaration: &Declaration) -> Result<Answ
             push_declaration(&mut answer, declaration);
             Ok(answer)
         }
-        _ => truth(alloc, is_refused(alloc, declaration)?),
+        _ => Answer::truth(alloc, is_refused(alloc, declaration)?),
     }
 }
 

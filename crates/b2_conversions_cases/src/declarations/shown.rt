@@ -34,7 +34,8 @@ fn push_list(answer: &mut Answer, name: &str, words: &[Text]) {
     }
 }
 
-fn kind_word(kind: Kind) -> &'static str {
+/// A kind of main target as the rule that declares it.
+pub fn kind_word(kind: Kind) -> &'static str {
     match kind {
         Kind::Exe => "exe",
         Kind::Lib => "lib",

@@ -3,7 +3,6 @@ ghost use Rattle.std.specs.Prelude.{IfSome};
 ghost use Rattle.std.specs.Option.{option_copied};
 ghost use Rattle.b2_base.specs.Bytes.{HasNoZero};
 
-use crate::answers::truth;
 use crate::outputs::shown::path_answer;
 use crate::words::plain;
 use b2_base::fault::OutOfMemory;
@@ -72,7 +71,7 @@ fn show_is_in_roots(alloc: Global, words: &[Word]) -> Result<Answer, CaseFault> 
     let (words, roots) = halves(words);
     let path = path(alloc, only(words)?)?;
     let roots = paths(alloc, roots)?;
-    truth(alloc, is_in_roots(roots.as_slice(), &path))
+    Answer::truth(alloc, is_in_roots(roots.as_slice(), &path))
 }
 
 /// Carries out a command on the places of outputs.

@@ -2,9 +2,7 @@
 ghost use Rattle.std.specs.Prelude.{◌<◌, All, length};
 
 use crate::references::loads::{Load, are_placed, place};
-use crate::references::shown::{
-    meaning, number_or_none, numbers, pairs as pairs_line, pieces, places, sets, targets,
-};
+use crate::references::shown::{meaning, number_or_none, numbers, pieces, places, sets, targets};
 use crate::words::pairs;
 use b2_base::text::Text;
 use b2_metatargets::fault::DeclaringFault;
@@ -82,7 +80,7 @@ fn told_of_target(
         }
         "default_build" => {
             let (at, name) = target_at(alloc, words)?;
-            pairs_line(alloc, index.default_build(at, &name)?)
+            Answer::properties(alloc, index.default_build(at, &name)?)
         }
         "target_text" => {
             let (at, name) = target_at(alloc, words)?;

@@ -46,13 +46,6 @@ pub fn places(alloc: Global, places: &[&Place]) -> Result<Answer, CaseFault> {
     Ok(answer)
 }
 
-pub fn pairs(alloc: Global, pairs: &[(Text, Text)]) -> Result<Answer, CaseFault> {
-    let mut answer = Answer::new(alloc);
-    answer.put_properties(pairs);
-    answer.end_line();
-    Ok(answer)
-}
-
 pub fn sets(alloc: Global, sets: &PropsList) -> Result<Answer, CaseFault> {
     let mut answer = Answer::new(alloc);
     for set in sets.as_slice() {

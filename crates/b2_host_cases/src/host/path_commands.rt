@@ -1,5 +1,4 @@
 //! Commands on paths.
-use crate::answers::truth;
 use crate::host::plan_commands::plan_command;
 use b2_base::path::{Path, PathFault};
 use b2_base::path_list::{PathList, copy_paths};
@@ -29,7 +28,7 @@ fn normal(alloc: Global, words: &[Word]) -> Result<Answer, CaseFault> {
 fn under(alloc: Global, words: &[Word]) -> Result<Answer, CaseFault> {
     let (one, dir) = both(words)?;
     let (path, dir) = (path(alloc, one)?, path(alloc, dir)?);
-    truth(alloc, path.under(&dir))
+    Answer::truth(alloc, path.under(&dir))
 }
 
 fn order_name(order: Ordering) -> &'static str {

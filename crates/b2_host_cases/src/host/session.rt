@@ -18,7 +18,7 @@ use transcript::words::{both, no_words, number, only, own_text, text};
 /// A map, a host and a sink, each as it was made. A map or a host that another one takes the place of stays until the process
 /// ends, so that none is taken apart.
 #[derive(Drop)]
-pub struct HostAtHand {
+pub struct HostSession {
     map: ManuallyDrop<TextMap<Text>>,
     host: ManuallyDrop<MemoryHost>,
     sink: MemorySink,
@@ -51,10 +51,10 @@ fn fail_at(alloc: Global, sink: &mut MemorySink, words: &[Word]) -> Result<Answe
     Ok(Answer::new(alloc))
 }
 
-impl HostAtHand {
+impl HostSession {
     /// An empty map, a host without files or children, and a sink without bytes.
-    pub fn new(alloc: Global) -> Result<HostAtHand, OutOfMemory> {
-        Ok(HostAtHand {
+    pub fn new(alloc: Global) -> Result<HostSession, OutOfMemory> {
+        Ok(HostSession {
             map: ManuallyDrop::new(TextMap::new(alloc)),
             host: ManuallyDrop::new(MemoryHost::new(alloc)?),
             sink: MemorySink::new(alloc),
@@ -63,7 +63,7 @@ impl HostAtHand {
 
     fn renew(&mut self, alloc: Global, words: &[Word]) -> Result<Answer, CaseFault> {
         no_words(words)?;
-        *self = HostAtHand::new(alloc)?;
+        *self = HostSession::new(alloc)?;
         Ok(Answer::new(alloc))
     }
 }
@@ -85,7 +85,7 @@ fn sink_command(
     }
 }
 
-impl Session for HostAtHand {
+impl Session for HostSession {
     fn carry_out(&mut self, alloc: Global, command: &Command) -> Result<Answer, CaseFault> {
         match command.name() {
             "new" => self.renew(alloc, command.words()),

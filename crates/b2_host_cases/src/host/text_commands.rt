@@ -1,5 +1,4 @@
 //! Commands on texts and lists of them.
-use crate::answers::truth;
 use crate::host::path_commands::path_command;
 use b2_base::text::has_no_zero;
 use b2_base::text_list::TextList;
@@ -13,7 +12,7 @@ use transcript::words::{only, own_texts};
 
 /// `has_no_zero TEXT`: whether no byte is zero.
 fn no_zero(alloc: Global, words: &[Word]) -> Result<Answer, CaseFault> {
-    truth(alloc, has_no_zero(only(words)?))
+    Answer::truth(alloc, has_no_zero(only(words)?))
 }
 
 /// `texts TEXT ..`: a list of texts, made of a vector of them again.

@@ -17,7 +17,7 @@ use transcript::words::{both, no_words, only, path, paths};
 
 /// The log that the commands speak of. The one that it takes the place of stays until the process ends.
 #[derive(Drop)]
-pub struct LogAtHand {
+pub struct LogSession {
     log: ManuallyDrop<Log>,
 }
 
@@ -154,22 +154,22 @@ fn add(alloc: Global, log: &mut Log, words: &[Word]) -> Result<Answer, CaseFault
     }
 }
 
-impl LogAtHand {
+impl LogSession {
     /// The log without a line, which takes no memory.
-    pub fn new(alloc: Global) -> LogAtHand {
-        LogAtHand {
+    pub fn new(alloc: Global) -> LogSession {
+        LogSession {
             log: ManuallyDrop::new(Log::new(alloc)),
         }
     }
 
     fn renew(&mut self, alloc: Global, words: &[Word]) -> Result<Answer, CaseFault> {
         no_words(words)?;
-        *self = LogAtHand::new(alloc);
+        *self = LogSession::new(alloc);
         Ok(Answer::new(alloc))
     }
 }
 
-impl Session for LogAtHand {
+impl Session for LogSession {
     fn carry_out(&mut self, alloc: Global, command: &Command) -> Result<Answer, CaseFault> {
         let words = command.words();
         match command.name() {

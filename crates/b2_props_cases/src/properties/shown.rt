@@ -1,5 +1,5 @@
 //! Answers of features, sets and requests.
-use crate::shown::{pairs_line, push_lists};
+use crate::shown::push_lists;
 use b2_base::text::Text;
 use b2_features::feature::Feature;
 use b2_props::props::Props;
@@ -36,7 +36,7 @@ pub fn declared_or_none(alloc: Global, found: Option<&Feature>) -> Result<Answer
 
 pub fn pairs_or_none(alloc: Global, found: Option<&[(Text, Text)]>) -> Result<Answer, CaseFault> {
     match found {
-        Some(pairs) => pairs_line(alloc, pairs),
+        Some(pairs) => Answer::properties(alloc, pairs),
         None => Answer::line(alloc, "none"),
     }
 }

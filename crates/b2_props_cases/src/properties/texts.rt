@@ -3,7 +3,7 @@ use crate::declaring::refused;
 use crate::pairs::lent_pairs;
 use crate::properties::features::feature_command;
 use crate::properties::sets::request;
-use crate::shown::{pairs_line, told};
+use crate::shown::told;
 use b2_base::path::Path;
 use b2_base::text::Text;
 use b2_base::text_list::TextList;
@@ -80,7 +80,7 @@ fn requirement_line(alloc: Global, read: &RequirementText) -> Result<Answer, Cas
 /// The properties of requirements without conditions.
 fn unconditional_line(alloc: Global, read: &[RequirementText]) -> Result<Answer, CaseFault> {
     let pairs = ManuallyDrop::new(unconditional_pairs(alloc, read)?);
-    pairs_line(alloc, pairs.as_slice())
+    Answer::properties(alloc, pairs.as_slice())
 }
 
 fn property(alloc: Global, registry: &Registry, words: &[Word]) -> Result<Answer, CaseFault> {
@@ -121,7 +121,7 @@ fn properties(alloc: Global, registry: &Registry, words: &[Word]) -> Result<Answ
     match read_properties(alloc, registry, &dir, texts.as_slice()) {
         Ok(read) => {
             let read = ManuallyDrop::new(read);
-            pairs_line(alloc, read.as_slice())
+            Answer::properties(alloc, read.as_slice())
         }
         Err(fault) => refused(alloc, fault),
     }

@@ -23,7 +23,8 @@ pub struct Evaluation {
     left: u32,
 }
 
-fn set_turns(alloc: Global, budget: &mut u32, words: &[Word]) -> Result<Answer, CaseFault> {
+/// Gives each run so many turns.
+pub fn set_turns(alloc: Global, budget: &mut u32, words: &[Word]) -> Result<Answer, CaseFault> {
     *budget = number(only(words)?)?;
     Ok(Answer::new(alloc))
 }

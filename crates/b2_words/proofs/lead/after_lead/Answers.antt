@@ -1,5 +1,5 @@
 use Rattle.b2_words.proofs.Leads.{stripped}
-use Rattle.b2_top.proofs.unbuilt.after.Goals as goal
+use Rattle.b2_words.proofs.lead.after_lead.Goals as goal
 
 pub returns-clause-rest : goal.returns-clause-rest
 returns-clause-rest c = stripped c.args.lead.now c.args.text.now c.strip_prefix.result c.strip_prefix.ensures.cases
