@@ -37,9 +37,9 @@ for crate in $(cut -d: -f1 "$house/crates.txt"); do
 done
 
 count=$(wc -l <"$house/crates.txt" | tr -d ' ')
-echo "b2 is $count crates, and each is proved before it is built. From nothing that takes some two hours of processor time, most of an"
-echo "hour on four processors, up to 5 GB of memory for each crate that is being proved, and 10 GB of disk; what is proved is kept on"
-echo "this machine, and later runs prove only what has changed. What fails is told in $log."
+echo "b2 is $count crates, and each is proved before it is built. By estimate that takes two hours of processor time from nothing, most"
+echo "of an hour on four processors, up to 5 GB of memory for each crate that is being proved, and 10 GB of disk; what is proved is kept"
+echo "on this machine, and later runs prove only what has changed. What fails is told in $log."
 { (cd "$house" && rt ci) 2>&1 || true; } | {
     number=0
     while read -r line; do
