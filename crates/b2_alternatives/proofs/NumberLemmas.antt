@@ -9,11 +9,11 @@ use Rattle.b2_props.specs.declared.requirement.Requirement.TheVariants.{Plain, I
 use Rattle.b2_metatargets.specs.declared.place.Place.{Place}
 use Rattle.b2_metatargets.specs.declared.place.Target.{Target}
 use Rattle.b2_metatargets.specs.declared.whole.Declared.{Declared}
-use Rattle.b2_metatargets.specs.Laws.{NamesBelow, AreNumbered}
+use Rattle.b2_metatargets.specs.Laws.{AreNumbered}
+use Rattle.b2_metatargets.specs.Numbered.{IsNumbered}
 use Rattle.b2_references.specs.Names.{Name, is_same, name_of, lineage_in, lineage, alternatives}
-use Rattle.b2_refine.specs.Answers.{AsksBelow}
+use Rattle.b2_props.specs.Requirements.{AsksBelow}
 use Rattle.b2_alternatives.specs.Choosing.{requirements}
-use Rattle.b2_alternatives.specs.Picking.{IsNumbered}
 
 -- what holds of all holds of one
 at_place : {X : Type 0} (P : X → Type 0) (xs : List X) (k : ℕ) (x : X) → All P xs → slice_get xs k ≡ Some x → P x

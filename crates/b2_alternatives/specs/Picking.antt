@@ -50,7 +50,3 @@ IsUnpicked d name set OutOfMemory = Unit {0}
 abbrev pub IsSelected : {E : Type 0} → Declared → Name → List Pair → Result Selected (ChoiceFault E) → Type 0
 IsSelected d name set (Ok s) = IsSelection d name set s
 IsSelected d name set (Err fault) = IsUnpicked d name set fault
-
--- each number in what is declared is a place in the list that it leads to
-abbrev pub IsNumbered : Declared → Type 0
-IsNumbered d = IsSound (length d.places) d.places d.targets d.indirect

@@ -1,13 +1,14 @@
 //! The alternative of a main target, and what its requirements make of a set.
 ghost use Rattle.std.specs.Prelude.{◌≡◌, true, Some, All, length, IfOk};
 ghost use Rattle.b2_props.specs.Sets.{IsSet};
+ghost use Rattle.b2_props.specs.Requirements.{AsksBelow};
 ghost use Rattle.b2_references.specs.Names.{features, is_target, target_text};
-ghost use Rattle.b2_refine.specs.Answers.{AsksBelow};
 ghost use Rattle.b2_evaluation.specs.Answers.{Answers};
 ghost use Rattle.b2_alternatives.specs.declared.fault.ChoiceFault.TheVariants as faults;
 ghost use Rattle.b2_alternatives.specs.Choosing.{full_set, requirements};
 ghost use Rattle.b2_alternatives.specs.Asking.{Leaves};
-ghost use Rattle.b2_alternatives.specs.Picking.{IsPicked, IsSelection, IsSelected, IsNumbered};
+ghost use Rattle.b2_alternatives.specs.Picking.{IsPicked, IsSelection, IsSelected};
+ghost use Rattle.b2_metatargets.specs.Numbered.{IsNumbered};
 ghost use Rattle.b2_alternatives.specs.Settling.{Settles, SettlesFor, ChoosesBy, GivesBy, RefusesBy};
 
 use crate::asker::Asker;

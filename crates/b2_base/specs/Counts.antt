@@ -1,16 +1,20 @@
 -- How a count of the host's faults goes on.
 use Rattle.std.specs.Prelude.{◌≡◌, ℕ, ◌<◌, ◌≤◌, Bool, true, false, Result, Ok, Err}
 
--- a count of faults rose: it never falls, and stops at the largest number of 64 bits
-pub record Rises (before after : ℕ) : Type 0 where
+-- the largest count of faults; a count that stands there rises no more
+abbrev pub greatest_count : ℕ
+greatest_count = 18446744073709551615
+
+-- a count of faults went up, or stands at the greatest
+pub record Rose (before after : ℕ) : Type 0 where
   pub kept : before ≤ after
-  pub more : before < 18446744073709551615 → before < after
+  pub more : before < greatest_count → before < after
 
 -- A count of faults of the host before and after a call: it rises where the call's fault is one of the host, and stays with
 -- every other answer; nothing is said of out of memory, which may stand in place of any fault. A fault that is both is a
 -- pattern that was refused though it reads as one: no call of the host failed.
 abbrev pub CountsFault : (is_host is_memory : Bool) → ℕ → ℕ → Type 0
-CountsFault true false before after = Rises before after
+CountsFault true false before after = Rose before after
 CountsFault true true before after = after ≡ before
 CountsFault false true before after = Unit {0}
 CountsFault false false before after = after ≡ before

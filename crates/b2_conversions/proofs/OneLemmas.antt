@@ -6,7 +6,8 @@ use Rattle.std.proofs.lemmas.Cmp.{nat_list_cmp_total}
 use Rattle.b2_plan.specs.declared.step.Step.{Step}
 use Rattle.b2_props.specs.Sets.{Pair}
 use Rattle.b2_generators.specs.declared.generator.Generator.{Generator}
-use Rattle.b2_generators.specs.Chains.{ComesBefore, ids_of, IsOnlyShortest, AreFirstTwo}
+use Rattle.b2_generators.specs.Chains.{ids_of, IsOnlyShortest, AreFirstTwo}
+use Rattle.b2_base.specs.Bytes.{Before}
 use Rattle.b2_generators.proofs.Ordering.{not_before_itself}
 use Rattle.b2_generators.proofs.ChainLaws.{none_is_not_one, none_is_not_two, one_is_not_two}
 use Rattle.b2_virtual.specs.Joining.{stands_in}
@@ -102,10 +103,10 @@ one_joins value step before (Err (eval why)) other x y = absurd x
 -- ---- chains
 
 module _ (gs : List Generator) (set : List Pair) (from to : List ℕ) where
-  before_then : (xs ys zs : List ℕ) → ComesBefore xs ys → ComesBefore ys zs → ComesBefore xs zs
+  before_then : (xs ys zs : List ℕ) → Before xs ys → Before ys zs → Before xs zs
   before_then xs ys zs a b = nat_list_cmp_total.trans xs ys zs a b
 
-  circle : (xs ys : List ℕ) → ComesBefore xs ys → ComesBefore ys xs → ⊥
+  circle : (xs ys : List ℕ) → Before xs ys → Before ys xs → ⊥
   circle xs ys a b = not_before_itself xs (before_then xs ys xs a b)
 
   only_one : (ids others : List (List ℕ)) → IsOnlyShortest gs set from to ids → IsOnlyShortest gs set from to others → ids ≡ others
@@ -114,21 +115,21 @@ module _ (gs : List Generator) (set : List Pair) (from to : List ℕ) where
   first_one : (a b c d : List (List ℕ)) (x : AreFirstTwo gs set from to a b) (y : AreFirstTwo gs set from to c d) → x.one ≡ y.one
   first_one a b c d x y = go (y.others x.one x.one_shortest) (x.others y.one y.one_shortest)
     where
-      go : (x.one ≡ y.one) ⊎ ((x.one ≡ y.two) ⊎ ComesBefore y.two x.one) → (y.one ≡ x.one) ⊎ ((y.one ≡ x.two) ⊎ ComesBefore x.two y.one) → x.one ≡ y.one
+      go : (x.one ≡ y.one) ⊎ ((x.one ≡ y.two) ⊎ Before y.two x.one) → (y.one ≡ x.one) ⊎ ((y.one ≡ x.two) ⊎ Before x.two y.one) → x.one ≡ y.one
       go (inl e) other = e
       go (inr later) (inl e) = sym e
-      go (inr (inl e)) (inr (inl f)) = absurd (circle x.one x.two x.order (subst (λ (o : List ℕ). ComesBefore x.two o) (sym e) (subst (λ (o : List ℕ). ComesBefore o y.two) f y.order)))
-      go (inr (inl e)) (inr (inr f)) = absurd (circle x.one y.one (before_then x.one x.two y.one x.order f) (subst (λ (o : List ℕ). ComesBefore y.one o) (sym e) y.order))
-      go (inr (inr e)) (inr (inl f)) = absurd (circle x.one x.two x.order (subst (λ (o : List ℕ). ComesBefore o x.one) f (before_then y.one y.two x.one y.order e)))
+      go (inr (inl e)) (inr (inl f)) = absurd (circle x.one x.two x.order (subst (λ (o : List ℕ). Before x.two o) (sym e) (subst (λ (o : List ℕ). Before o y.two) f y.order)))
+      go (inr (inl e)) (inr (inr f)) = absurd (circle x.one y.one (before_then x.one x.two y.one x.order f) (subst (λ (o : List ℕ). Before y.one o) (sym e) y.order))
+      go (inr (inr e)) (inr (inl f)) = absurd (circle x.one x.two x.order (subst (λ (o : List ℕ). Before o x.one) f (before_then y.one y.two x.one y.order e)))
       go (inr (inr e)) (inr (inr f)) = absurd (circle x.one y.one (before_then x.one x.two y.one x.order f) (before_then y.one y.two x.one y.order e))
 
   second_one : (a b c d : List (List ℕ)) (x : AreFirstTwo gs set from to a b) (y : AreFirstTwo gs set from to c d) → x.one ≡ y.one → x.two ≡ y.two
   second_one a b c d x y same = go (y.others x.two x.two_shortest) (x.others y.two y.two_shortest)
     where
-      go : (x.two ≡ y.one) ⊎ ((x.two ≡ y.two) ⊎ ComesBefore y.two x.two) → (y.two ≡ x.one) ⊎ ((y.two ≡ x.two) ⊎ ComesBefore x.two y.two) → x.two ≡ y.two
-      go (inl e) other = absurd (not_before_itself x.one (subst (λ (o : List ℕ). ComesBefore x.one o) (e ∙ sym same) x.order))
+      go : (x.two ≡ y.one) ⊎ ((x.two ≡ y.two) ⊎ Before y.two x.two) → (y.two ≡ x.one) ⊎ ((y.two ≡ x.two) ⊎ Before x.two y.two) → x.two ≡ y.two
+      go (inl e) other = absurd (not_before_itself x.one (subst (λ (o : List ℕ). Before x.one o) (e ∙ sym same) x.order))
       go (inr (inl e)) other = e
-      go (inr (inr e)) (inl f) = absurd (not_before_itself y.one (subst (λ (o : List ℕ). ComesBefore y.one o) (f ∙ same) y.order))
+      go (inr (inr e)) (inl f) = absurd (not_before_itself y.one (subst (λ (o : List ℕ). Before y.one o) (f ∙ same) y.order))
       go (inr (inr e)) (inr (inl f)) = sym f
       go (inr (inr e)) (inr (inr f)) = absurd (circle x.two y.two f e)
 

@@ -19,7 +19,8 @@ use Rattle.b2_walk.specs.Finding.{CountsFault as CountsLoad, Counts as CountsLoa
 use Rattle.b2_walk.specs.Walking.{IsSettingFor}
 use Rattle.b2_walk.specs.Walks.{Walk, Refusal as LoadRefusal}
 use Rattle.b2_project.specs.declared.project.Project.{Project}
-use Rattle.b2_project.specs.Loading.{HasPlaces, IsProject, IsRefused, IsLoaded, TellsLoad}
+use Rattle.b2_project.specs.Loading.{IsProject, IsRefused, IsLoaded, TellsLoad}
+use Rattle.b2_metatargets.specs.Numbered.{IsNumbered}
 use Rattle.b2_project.specs.Loads.{Loads, loaded}
 use Rattle.b2_planning.specs.declared.planned.Planned.{Planned as Made}
 use Rattle.b2_generate.specs.Loaded.{Loaded}
@@ -119,7 +120,7 @@ module _ (words lines : List Text) (from mid to : Outside) (first last : Turns) 
 -- ---- over every host
 
 -- what a load promises of its project
-pub ready_load : (ended : Result Project LoadFault) → IfOk ended (λ project. HasPlaces project.declared) → IfOk ended (λ project. is_some project.world.now.step ≡ false) → IfOk ended IsReady
+pub ready_load : (ended : Result Project LoadFault) → IfOk ended (λ project. IsNumbered project.declared) → IfOk ended (λ project. is_some project.world.now.step ≡ false) → IfOk ended IsReady
 ready_load (Ok project) places step = record { places = places; step = step }
 ready_load (Err fault) places step = tt
 

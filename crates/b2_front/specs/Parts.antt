@@ -16,7 +16,7 @@ use Rattle.b2_metatargets.specs.declared.whole.Declared.{Declared}
 use Rattle.b2_evaluation.specs.Answers.{Answers}
 use Rattle.b2_walk.specs.declared.fault.LoadFault.{LoadFault}
 use Rattle.b2_project.specs.declared.project.Project.{Project}
-use Rattle.b2_project.specs.Loading.{HasPlaces}
+use Rattle.b2_metatargets.specs.Numbered.{IsNumbered}
 use Rattle.b2_generate.specs.declared.fault.GenFault.{GenFault}
 use Rattle.b2_planning.specs.declared.planned.Planned.{Planned as Made}
 use Rattle.b2_generate.specs.Loaded.{Loaded}
@@ -29,7 +29,7 @@ use Rattle.b2_front.specs.Preparing.{Tells, IsWhole, Counts}
 
 -- a project that was loaded
 pub record IsReady (project : Project) : Type 0 where
-  pub places : HasPlaces project.declared
+  pub places : IsNumbered project.declared
   pub step : is_some project.world.now.step ≡ false
 
 -- a fault of generation as the answer

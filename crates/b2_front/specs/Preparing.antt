@@ -2,7 +2,7 @@
 use Rattle.std.specs.Prelude.{◌≡◌, ℕ, List, Option, Some, None, Result, Ok, Err}
 use Rattle.std.specs.Option.{option_map}
 use Rattle.b2_host.specs.Disks.{Disk}
-use Rattle.b2_host.specs.Faults.{Rose}
+use Rattle.b2_base.specs.Counts.{Rose}
 use Rattle.b2_host.specs.Outside.{Outside}
 use Rattle.jam_journal.specs.Tables.{Text}
 use Rattle.jam_effects.specs.declared.fault.EvalFault.{EvalFault}

@@ -1,6 +1,6 @@
 //! Generation once more, after a pattern was refused in it although it reads as one.
 ghost use Rattle.std.specs.Prelude.{◌≡◌};
-ghost use Rattle.b2_alternatives.specs.Picking.{IsNumbered};
+ghost use Rattle.b2_metatargets.specs.Numbered.{IsNumbered};
 ghost use Rattle.b2_loaded.specs.Asking.{EndsOn};
 ghost use Rattle.b2_front.specs.Parts.{planned_or_stop};
 ghost use Rattle.b2_front.specs.Again.{is_refusal, is_refused_answer, stop_of_text, host_or_memory, refusal_or_stop, AnswersAgainOn, SettlesOn};

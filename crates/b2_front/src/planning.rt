@@ -2,7 +2,7 @@
 ghost use Rattle.std.specs.Prelude.{IfOk, codes};
 ghost use Rattle.std.specs.List.{Contains};
 ghost use Rattle.b2_plan.specs.Plans.{Apart};
-ghost use Rattle.b2_alternatives.specs.Picking.{IsNumbered};
+ghost use Rattle.b2_metatargets.specs.Numbered.{IsNumbered};
 ghost use Rattle.b2_generate.specs.Told.{Leaves};
 ghost use Rattle.b2_front.specs.Parts.{IsPlanIn};
 

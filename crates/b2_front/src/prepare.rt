@@ -3,7 +3,7 @@ ghost use Rattle.std.specs.Prelude.{◌≡◌, IfOk, IfErr, is_some, false};
 ghost use Rattle.std.specs.Option.{IfSome};
 ghost use Rattle.b2_host.specs.OutsideLaws.{Keeps};
 ghost use Rattle.b2_plan.specs.Plans.{Apart};
-ghost use Rattle.b2_alternatives.specs.Picking.{IsNumbered};
+ghost use Rattle.b2_metatargets.specs.Numbered.{IsNumbered};
 ghost use Rattle.b2_front.specs.Preparing.{IsPrepared, IsWhole, Counts};
 ghost use Rattle.b2_front.specs.Parts.{PlansRequest, Asks, IsReady, GoesOn};
 

@@ -8,7 +8,8 @@ use Rattle.b2_evaluation.specs.Answers.{Answers}
 use Rattle.b2_evaluation.specs.declared.evaluate.Evaluate.{Ghosts as Evaluate}
 use Rattle.b2_alternatives.specs.Choosing.{Chooses, Returned}
 use Rattle.b2_alternatives.specs.Needs.{at_first}
-use Rattle.b2_alternatives.specs.Picking.{seen, IsNumbered}
+use Rattle.b2_alternatives.specs.Picking.{seen}
+use Rattle.b2_metatargets.specs.Numbered.{IsNumbered}
 use Rattle.b2_alternatives.specs.Standing.{StandAt}
 use Rattle.b2_alternatives.specs.declared.asker.Asker.{Asker}
 use Rattle.b2_alternatives.specs.declared.conflict.Conflict.{Conflict}

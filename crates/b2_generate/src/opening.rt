@@ -3,7 +3,7 @@ ghost use Rattle.std.specs.Prelude.{◌≡◌, ◌==◌, ◌||◌, not, length, 
 ghost use Rattle.b2_props.specs.Sets.{IsSet};
 ghost use Rattle.b2_evaluation.specs.Answers.{Answers};
 ghost use Rattle.b2_references.specs.Names.{features, is_target, is_same, is_among};
-ghost use Rattle.b2_alternatives.specs.Picking.{IsNumbered};
+ghost use Rattle.b2_metatargets.specs.Numbered.{IsNumbered};
 ghost use Rattle.b2_alternatives.specs.Settling.{GivesBy};
 ghost use Rattle.b2_generate.specs.Machine.{names_of};
 ghost use Rattle.b2_generate.specs.Opening.{frames, IsOpened, OpensBy, RefusesBy, texts_from, AddsFrom};

@@ -2,7 +2,8 @@ use Rattle.std.proofs.Common.{◌≡◌, ℕ, true, List, [], ◌∷◌, refl, s
 use Rattle.std.proofs.lemmas.Bool.{both_ways, or_left, or_right}
 use Rattle.b2_props.proofs.Pairs.{text_itself}
 use Rattle.b2_generators.specs.Table.{has_text}
-use Rattle.b2_generators.specs.Chains.{Leads, last_type, HasNoRepeat, ComesBefore}
+use Rattle.b2_generators.specs.Chains.{Leads, last_type, HasNoRepeat}
+use Rattle.b2_base.specs.Bytes.{Before}
 use Rattle.b2_generators.specs.Laws.{SameTypeIsEmpty, EmptyIsChain, NoneIsNotOne, NoneIsNotTwo, OneIsNotTwo}
 use Rattle.b2_generators.proofs.Ordering.{not_before_itself}
 
@@ -31,4 +32,4 @@ none_is_not_two generators set from to first second none two = none two.one two.
 pub one_is_not_two : OneIsNotTwo
 one_is_not_two generators set from to ids first second only two =
     let same : two.one ≡ two.two = only.only two.one two.one_shortest ∙ sym (only.only two.two two.two_shortest) in
-    not_before_itself two.two (subst (λ (places : List ℕ). ComesBefore places two.two) same two.order)
+    not_before_itself two.two (subst (λ (places : List ℕ). Before places two.two) same two.order)

@@ -3,7 +3,7 @@ use Rattle.std.specs.Ordering.{nat_cmp, ordering_then}
 use Rattle.std.specs.Cmp.{nat_cmp_is}
 use Rattle.std.specs.Cmp.Lexicographic.{slice_cmp}
 use Rattle.std.specs.declared.cmp.Ordering.TheVariants.{Less, Equal}
-use Rattle.b2_generators.specs.Chains.{ComesBefore}
+use Rattle.b2_base.specs.Bytes.{Before}
 use Rattle.b2_generators.specs.Descents.{IsFirst, IsOnly, AreFirst}
 
 -- Which lists come first: one place more in front.
@@ -25,13 +25,13 @@ itself n = sym (nat_cmp_is n n Equal refl)
 below : (m n : ℕ) → m < n → nat_cmp m n ≡ Less
 below m n lt = sym (nat_cmp_is m n Less lt)
 
-before_same : (n : ℕ) (xs ys : List ℕ) → ComesBefore xs ys → ComesBefore (n ∷ xs) (n ∷ ys)
+before_same : (n : ℕ) (xs ys : List ℕ) → Before xs ys → Before (n ∷ xs) (n ∷ ys)
 before_same n xs ys e = ap (λ o. ordering_then o (slice_cmp nat_cmp xs ys)) (itself n) ∙ e
 
-before_lower : (m n : ℕ) (xs ys : List ℕ) → m < n → ComesBefore (m ∷ xs) (n ∷ ys)
+before_lower : (m n : ℕ) (xs ys : List ℕ) → m < n → Before (m ∷ xs) (n ∷ ys)
 before_lower m n xs ys lt = ap (λ o. ordering_then o (slice_cmp nat_cmp xs ys)) (below m n lt)
 
-pub not_before_itself : (xs : List ℕ) → ComesBefore xs xs → ⊥
+pub not_before_itself : (xs : List ℕ) → Before xs xs → ⊥
 not_before_itself [] e = cc
 not_before_itself (x ∷ xs) e = not_before_itself xs (sym (ap (λ o. ordering_then o (slice_cmp nat_cmp xs xs)) (itself x)) ∙ e)
 
@@ -52,15 +52,15 @@ module _ (Has After : List ℕ → Type 0) (count place : ℕ) (follows : Follow
     first = go;
   }
     where
-      same : (p : ℕ) (rest : List ℕ) → p ≡ place → (rest ≡ one) ⊎ ComesBefore one rest → ((p ∷ rest) ≡ (place ∷ one)) ⊎ ComesBefore (place ∷ one) (p ∷ rest)
+      same : (p : ℕ) (rest : List ℕ) → p ≡ place → (rest ≡ one) ⊎ Before one rest → ((p ∷ rest) ≡ (place ∷ one)) ⊎ Before (place ∷ one) (p ∷ rest)
       same p rest e (inl f) = inl (same_first p place rest one e f)
-      same p rest e (inr b) = inr (subst (λ n. ComesBefore (place ∷ one) (n ∷ rest)) (sym e) (before_same place one rest b))
+      same p rest e (inr b) = inr (subst (λ n. Before (place ∷ one) (n ∷ rest)) (sym e) (before_same place one rest b))
 
-      at : (p : ℕ) (rest : List ℕ) → Has (p ∷ rest) → length rest ≡ count → (p ≡ place) ⊎ (place < p) → ((p ∷ rest) ≡ (place ∷ one)) ⊎ ComesBefore (place ∷ one) (p ∷ rest)
+      at : (p : ℕ) (rest : List ℕ) → Has (p ∷ rest) → length rest ≡ count → (p ≡ place) ⊎ (place < p) → ((p ∷ rest) ≡ (place ∷ one)) ⊎ Before (place ∷ one) (p ∷ rest)
       at p rest leads size (inr lt) = inr (before_lower place p one rest lt)
       at p rest leads size (inl e) = same p rest e (is.first rest (after_place p rest leads size e) size)
 
-      go : (other : List ℕ) → Has other → length other ≡ suc count → (other ≡ (place ∷ one)) ⊎ ComesBefore (place ∷ one) other
+      go : (other : List ℕ) → Has other → length other ≡ suc count → (other ≡ (place ∷ one)) ⊎ Before (place ∷ one) other
       go [] leads size = absurd (omega arith)
       go (p ∷ rest) leads size = let less : length rest ≡ count = omega arith in at p rest leads less (lowest p (rest, less, leads))
 
@@ -90,16 +90,16 @@ module _ (Has After : List ℕ → Type 0) (count place : ℕ) (follows : Follow
     others = go;
   }
     where
-      same : (p : ℕ) (rest : List ℕ) → p ≡ place → (rest ≡ one) ⊎ ((rest ≡ two) ⊎ ComesBefore two rest) → ((p ∷ rest) ≡ (place ∷ one)) ⊎ (((p ∷ rest) ≡ (place ∷ two)) ⊎ ComesBefore (place ∷ two) (p ∷ rest))
+      same : (p : ℕ) (rest : List ℕ) → p ≡ place → (rest ≡ one) ⊎ ((rest ≡ two) ⊎ Before two rest) → ((p ∷ rest) ≡ (place ∷ one)) ⊎ (((p ∷ rest) ≡ (place ∷ two)) ⊎ Before (place ∷ two) (p ∷ rest))
       same p rest e (inl f) = inl (same_first p place rest one e f)
       same p rest e (inr (inl f)) = inr (inl (same_first p place rest two e f))
-      same p rest e (inr (inr b)) = inr (inr (subst (λ n. ComesBefore (place ∷ two) (n ∷ rest)) (sym e) (before_same place two rest b)))
+      same p rest e (inr (inr b)) = inr (inr (subst (λ n. Before (place ∷ two) (n ∷ rest)) (sym e) (before_same place two rest b)))
 
-      at : (p : ℕ) (rest : List ℕ) → Has (p ∷ rest) → length rest ≡ count → (p ≡ place) ⊎ (place < p) → ((p ∷ rest) ≡ (place ∷ one)) ⊎ (((p ∷ rest) ≡ (place ∷ two)) ⊎ ComesBefore (place ∷ two) (p ∷ rest))
+      at : (p : ℕ) (rest : List ℕ) → Has (p ∷ rest) → length rest ≡ count → (p ≡ place) ⊎ (place < p) → ((p ∷ rest) ≡ (place ∷ one)) ⊎ (((p ∷ rest) ≡ (place ∷ two)) ⊎ Before (place ∷ two) (p ∷ rest))
       at p rest leads size (inr lt) = inr (inr (before_lower place p two rest lt))
       at p rest leads size (inl e) = same p rest e (are.others rest (after_place p rest leads size e) size)
 
-      go : (other : List ℕ) → Has other → length other ≡ suc count → (other ≡ (place ∷ one)) ⊎ ((other ≡ (place ∷ two)) ⊎ ComesBefore (place ∷ two) other)
+      go : (other : List ℕ) → Has other → length other ≡ suc count → (other ≡ (place ∷ one)) ⊎ ((other ≡ (place ∷ two)) ⊎ Before (place ∷ two) other)
       go [] leads size = absurd (omega arith)
       go (p ∷ rest) leads size = let less : length rest ≡ count = omega arith in at p rest leads less (lowest p (rest, less, leads))
 
@@ -115,16 +115,16 @@ module _ (Has After Later : List ℕ → Type 0) (count place next : ℕ) (follo
     others = go;
   }
     where
-      second : (p : ℕ) (rest : List ℕ) → p ≡ next → (rest ≡ two) ⊎ ComesBefore two rest → ((p ∷ rest) ≡ (next ∷ two)) ⊎ ComesBefore (next ∷ two) (p ∷ rest)
+      second : (p : ℕ) (rest : List ℕ) → p ≡ next → (rest ≡ two) ⊎ Before two rest → ((p ∷ rest) ≡ (next ∷ two)) ⊎ Before (next ∷ two) (p ∷ rest)
       second p rest e (inl f) = inl (same_first p next rest two e f)
-      second p rest e (inr b) = inr (subst (λ n. ComesBefore (next ∷ two) (n ∷ rest)) (sym e) (before_same next two rest b))
+      second p rest e (inr b) = inr (subst (λ n. Before (next ∷ two) (n ∷ rest)) (sym e) (before_same next two rest b))
 
-      at : (p : ℕ) (rest : List ℕ) → Has (p ∷ rest) → length rest ≡ count → (p ≡ place) ⊎ ((p ≡ next) ⊎ (next < p)) → ((p ∷ rest) ≡ (place ∷ one)) ⊎ (((p ∷ rest) ≡ (next ∷ two)) ⊎ ComesBefore (next ∷ two) (p ∷ rest))
+      at : (p : ℕ) (rest : List ℕ) → Has (p ∷ rest) → length rest ≡ count → (p ≡ place) ⊎ ((p ≡ next) ⊎ (next < p)) → ((p ∷ rest) ≡ (place ∷ one)) ⊎ (((p ∷ rest) ≡ (next ∷ two)) ⊎ Before (next ∷ two) (p ∷ rest))
       at p rest leads size (inl e) = inl (same_first p place rest one e (is.only rest (after_place Has After count place follows p rest leads size e) size))
       at p rest leads size (inr (inl e)) = inr (second p rest e (first.first rest (after_place Has Later count next later p rest leads size e) size))
       at p rest leads size (inr (inr lt)) = inr (inr (before_lower next p two rest lt))
 
-      go : (other : List ℕ) → Has other → length other ≡ suc count → (other ≡ (place ∷ one)) ⊎ ((other ≡ (next ∷ two)) ⊎ ComesBefore (next ∷ two) other)
+      go : (other : List ℕ) → Has other → length other ≡ suc count → (other ≡ (place ∷ one)) ⊎ ((other ≡ (next ∷ two)) ⊎ Before (next ∷ two) other)
       go [] leads size = absurd (omega arith)
       go (p ∷ rest) leads size = let less : length rest ≡ count = omega arith in at p rest leads less (places p (rest, less, leads))
 

@@ -49,10 +49,6 @@ pub record IsShortest (generators : List Generator) (set : List Pair) (from to :
   pub chain : IsChain generators set from to places
   pub least : (other : List ℕ) → IsChain generators set from to other → length places ≤ length other
 
--- a list of generators comes before another by registration: the first in which they differ was registered earlier
-abbrev pub ComesBefore : List ℕ → List ℕ → Type 0
-ComesBefore places other = slice_cmp nat_cmp places other ≡ Less
-
 -- the ids of some generators
 abbrev pub ids_of : List Generator → List ℕ → List (List ℕ)
 ids_of generators places = filter_map (λ place. option_map (λ g. g.id) (slice_get generators place)) places
@@ -70,7 +66,7 @@ pub record AreFirstTwo (generators : List Generator) (set : List Pair) (from to 
   pub two : List ℕ
   pub one_shortest : IsShortest generators set from to one
   pub two_shortest : IsShortest generators set from to two
-  pub order : ComesBefore one two
-  pub others : (other : List ℕ) → IsShortest generators set from to other → (other ≡ one) ⊎ ((other ≡ two) ⊎ ComesBefore two other)
+  pub order : Before one two
+  pub others : (other : List ℕ) → IsShortest generators set from to other → (other ≡ one) ⊎ ((other ≡ two) ⊎ Before two other)
   pub first_named : first ≡ ids_of generators one
   pub second_named : second ≡ ids_of generators two

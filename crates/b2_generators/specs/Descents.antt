@@ -1,7 +1,8 @@
 use Rattle.std.specs.Prelude.{◌≡◌, ℕ, suc, ◌<◌, ◌≤◌, nat_lt, Bool, true, false, List, [], ◌∷◌, ◌++◌, length, take, Option, None, Some, MatchOption, ◌⊎◌}
 use Rattle.b2_generators.specs.declared.generator.Generator.{Generator}
 use Rattle.b2_generators.specs.declared.walk.Branch.{Branch}
-use Rattle.b2_generators.specs.Chains.{ComesBefore, ids_of}
+use Rattle.b2_generators.specs.Chains.{ids_of}
+use Rattle.b2_base.specs.Bytes.{Before}
 use Rattle.b2_generators.specs.Places.{has_place, targets_at, takes_any_at, layer_at}
 
 -- Lists of places that go down the layers, and which of them come first.
@@ -18,7 +19,7 @@ Descends generators layers types (place ∷ places) = (has_place (layer_at layer
 pub record IsFirst (Has : List ℕ → Type 0) (count : ℕ) (one : List ℕ) : Type 0 where
   pub has : Has one
   pub size : length one ≡ count
-  pub first : (other : List ℕ) → Has other → length other ≡ count → (other ≡ one) ⊎ ComesBefore one other
+  pub first : (other : List ℕ) → Has other → length other ≡ count → (other ≡ one) ⊎ Before one other
 
 -- this is the only one
 pub record IsOnly (Has : List ℕ → Type 0) (count : ℕ) (one : List ℕ) : Type 0 where
@@ -32,8 +33,8 @@ pub record AreFirst (Has : List ℕ → Type 0) (count : ℕ) (one two : List �
   pub also : Has two
   pub size : length one ≡ count
   pub same_size : length two ≡ count
-  pub order : ComesBefore one two
-  pub others : (other : List ℕ) → Has other → length other ≡ count → (other ≡ one) ⊎ ((other ≡ two) ⊎ ComesBefore two other)
+  pub order : Before one two
+  pub others : (other : List ℕ) → Has other → length other ≡ count → (other ≡ one) ⊎ ((other ≡ two) ⊎ Before two other)
 
 -- whether a place is above a bound, if there is one
 abbrev pub is_above : Option ℕ → ℕ → Bool

@@ -2,7 +2,7 @@ use Rattle.std.specs.Prelude.{◌≡◌, ℕ, List, Bool, Result, Ok, Err}
 use Rattle.b2_host.specs.declared.fault.Failed.{Failed}
 use Rattle.b2_host.specs.declared.fault.IoFault.{IoFault}
 use Rattle.b2_host.specs.declared.fault.IoFault.TheVariants as faults
-use Rattle.b2_host.specs.Faults.{Rose}
+use Rattle.b2_base.specs.Counts.{Rose}
 use Rattle.b2_host.specs.ChildProcesses.{ChangesOnlyOutputs, BothTold, Ends, after_start}
 use Rattle.b2_host.specs.Outside.{Outside, Fails}
 

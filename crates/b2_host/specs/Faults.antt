@@ -1,13 +1,8 @@
-use Rattle.std.specs.Prelude.{◌≡◌, ℕ, ◌<◌, ◌≤◌, Result, Ok, Err}
-use Rattle.b2_host.specs.Limits.{greatest_count}
+use Rattle.std.specs.Prelude.{◌≡◌, ℕ, Result, Ok, Err}
+use Rattle.b2_base.specs.Counts.{Rose}
 use Rattle.b2_host.specs.declared.fault.Failed.{Failed}
 use Rattle.b2_host.specs.declared.fault.IoFault.{IoFault}
 use Rattle.b2_host.specs.declared.fault.IoFault.TheVariants as faults
-
--- A count of faults went up, or stands at the greatest.
-pub record Rose (before after : ℕ) : Type 0 where
-  pub kept : before ≤ after
-  pub more : before < greatest_count → before < after
 
 -- a call that failed counted a fault, and no other call did
 abbrev pub FaultTold : {T : Type 0} → ℕ → ℕ → Result T Failed → Type 0

@@ -7,4 +7,3 @@ pub mod FileCalls
 pub mod Listings
 pub mod ChildCalls
 pub mod Output
-pub mod Limits

@@ -5,7 +5,7 @@ use Rattle.std.proofs.Common.{refl, sym, ap, ◌∙◌, subst, inl, inr, append_
 use Rattle.b2_host.specs.declared.fault.Failed.{Failed}
 use Rattle.b2_host.specs.declared.fault.IoFault.{IoFault}
 use Rattle.b2_host.specs.declared.fault.IoFault.TheVariants as faults
-use Rattle.b2_host.specs.Faults.{Rose}
+use Rattle.b2_base.specs.Counts.{Rose}
 use Rattle.b2_host.specs.Disks.{File, Disk, Past, without}
 use Rattle.b2_host.specs.ChildProcesses.{ChangesOnlyOutputs, BothTold}
 use Rattle.b2_host.specs.Outside.{Outside, Fails, Looks, IoLooks}

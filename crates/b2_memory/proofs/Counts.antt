@@ -1,5 +1,5 @@
 use Rattle.std.proofs.Common.{◌≡◌, ℕ, ◌+◌, ◌-◌, ◌^◌, ◌<◌, min, arith}
-use Rattle.b2_host.specs.Faults.{Rose}
+use Rattle.b2_base.specs.Counts.{Rose}
 use Rattle.b2_memory.specs.Scripts.{raised}
 
 pub raised_is : (count : ℕ) → count < 2 ^ 64 → min (count + 1) (2 ^ 64 - 1) ≡ raised count

@@ -1,6 +1,6 @@
 use Rattle.std.specs.Prelude.{ℕ, ◌+◌, ◌-◌, ◌==◌, nat_lt, min, Bool, false, ◌&&◌, ◌||◌, List, [], ◌∷◌, ◌++◌, map, take, drop, Option, Some, None, if◌then◌else◌}
 use Rattle.std.specs.List.{list_any}
-use Rattle.b2_host.specs.Limits.{greatest_count}
+use Rattle.b2_base.specs.Counts.{greatest_count}
 use Rattle.b2_memory.specs.declared.script.CallKind.{CallKind}
 use Rattle.b2_memory.specs.declared.script.CallKind.TheVariants as kinds
 

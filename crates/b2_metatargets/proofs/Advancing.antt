@@ -19,7 +19,8 @@ use Rattle.b2_metatargets.specs.declared.place.IndirectRule.{IndirectRule}
 use Rattle.b2_metatargets.specs.Outcomes.{and_then}
 use Rattle.b2_metatargets.specs.Calls.{visit_of}
 use Rattle.b2_metatargets.specs.Gathering.{Gathered, lists_in, numbered, rules_in, plain, with_place, attributed, with_own_id, bare, target_with, one_target_more, with_attributes, with_target, with_explicit, with_build, with_use, gathered_of, gathering, nothing_gathered, gathered_by}
-use Rattle.b2_metatargets.specs.Laws.{visited, main_in, mains, named, NamesBelow, AreNumbered, IsSound}
+use Rattle.b2_metatargets.specs.Laws.{visited, main_in, mains, named, AreNumbered, IsSound}
+use Rattle.b2_props.specs.Requirements.{AsksBelow}
 use Rattle.b2_metatargets.proofs.Soundness.{numbered_below, usage_plain, rules_of_project, numbers_stay, length_changed, all_changed, map_changed}
 use Rattle.b2_metatargets.proofs.Stepping.{all_steps_keep, all_steps_add}
 
@@ -46,7 +47,7 @@ module _ (projects : ℕ) (c : Call) (g : Gathered) (l : Lists) where
   lists_numbered : AreNumbered (length rules) (numbered (length g.indirect) l.requirements) (map plain l.usage)
   unfolding rules
   lists_numbered = record {
-    below = subst (λ n. All (NamesBelow n) (numbered (length g.indirect) l.requirements)) (sym (length-append g.indirect (rules_in c l.requirements))) (numbered_below c (length g.indirect) l.requirements);
+    below = subst (λ n. All (AsksBelow n) (numbered (length g.indirect) l.requirements)) (sym (length-append g.indirect (rules_in c l.requirements))) (numbered_below c (length g.indirect) l.requirements);
     plain = usage_plain l.usage;
   }
 
@@ -181,7 +182,7 @@ module _ (features : List Declared) (visits : List Visit) (calls : List Call) (g
         all_places = length-map visits bare;
         of_targets = All-nil (λ (t : Target). t.project < length visits);
         of_rules = All-nil (λ (r : IndirectRule). r.project < length visits);
-        in_places = All-map (λ (p : Place). AreNumbered 0 p.requirements p.usage) bare visits (λ k d within. record { below = All-nil (NamesBelow 0); plain = All-nil (NamesBelow 0) });
+        in_places = All-map (λ (p : Place). AreNumbered 0 p.requirements p.usage) bare visits (λ k d within. record { below = All-nil (AsksBelow 0); plain = All-nil (AsksBelow 0) });
         in_targets = All-nil (λ (t : Target). AreNumbered 0 t.requirements t.usage);
       }
 

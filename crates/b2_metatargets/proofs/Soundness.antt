@@ -15,29 +15,30 @@ use Rattle.b2_metatargets.specs.declared.visit.Call.{Call}
 use Rattle.b2_metatargets.specs.declared.place.Place.{Place}
 use Rattle.b2_metatargets.specs.declared.place.IndirectRule.{IndirectRule}
 use Rattle.b2_metatargets.specs.Gathering.{numbered, rule_of, rules_in, plain, with_place}
-use Rattle.b2_metatargets.specs.Laws.{NamesBelow, AreNumbered}
+use Rattle.b2_metatargets.specs.Laws.{AreNumbered}
+use Rattle.b2_props.specs.Requirements.{AsksBelow}
 
 -- ---- requirements
 
-more_rules : (m n : ℕ) → m ≤ n → (r : Requirement) → NamesBelow m r → NamesBelow n r
+more_rules : (m n : ℕ) → m ≤ n → (r : Requirement) → AsksBelow m r → AsksBelow n r
 more_rules m n le (requirements.Plain conditions property) below = tt
 more_rules m n le (requirements.Indirect rule) below = omega arith
 
 -- the numbers of a list lie below the number of rules that stand after it
-pub numbered_below : (c : Call) (first : ℕ) (xs : List RequirementText) → All (NamesBelow (first + length (rules_in c xs))) (numbered first xs)
+pub numbered_below : (c : Call) (first : ℕ) (xs : List RequirementText) → All (AsksBelow (first + length (rules_in c xs))) (numbered first xs)
 unfolding numbered rules_in
-numbered_below c first [] = All-nil (NamesBelow (first + 0))
-numbered_below c first (Plain p ∷ xs) = All-cons (NamesBelow (first + length (filter_map (rule_of c) xs))) (requirements.Plain p.conditions p.property) (numbered first xs) tt (numbered_below c first xs)
+numbered_below c first [] = All-nil (AsksBelow (first + 0))
+numbered_below c first (Plain p ∷ xs) = All-cons (AsksBelow (first + length (filter_map (rule_of c) xs))) (requirements.Plain p.conditions p.property) (numbered first xs) tt (numbered_below c first xs)
 numbered_below c first (Indirect rule ∷ xs) =
     let rest : ℕ = length (filter_map (rule_of c) xs) in
     let e : (first + 1) + rest ≡ first + length (filter_map (rule_of c) (Indirect rule ∷ xs)) = omega arith in
     let here : first < first + length (filter_map (rule_of c) (Indirect rule ∷ xs)) = omega arith in
-    All-cons (NamesBelow (first + length (filter_map (rule_of c) (Indirect rule ∷ xs)))) (requirements.Indirect first) (numbered (first + 1) xs) here
-    (subst (λ n. All (NamesBelow n) (numbered (first + 1) xs)) e (numbered_below c (first + 1) xs))
+    All-cons (AsksBelow (first + length (filter_map (rule_of c) (Indirect rule ∷ xs)))) (requirements.Indirect first) (numbered (first + 1) xs) here
+    (subst (λ n. All (AsksBelow n) (numbered (first + 1) xs)) e (numbered_below c (first + 1) xs))
 
 -- usage requirements name no rule
-pub usage_plain : (us : List Conditional) → All (NamesBelow 0) (map plain us)
-usage_plain us = All-map (NamesBelow 0) plain us (λ k d within. tt)
+pub usage_plain : (us : List Conditional) → All (AsksBelow 0) (map plain us)
+usage_plain us = All-map (AsksBelow 0) plain us (λ k d within. tt)
 
 -- the rules of a call are those of its project
 pub rules_of_project : (c : Call) (projects : ℕ) (xs : List RequirementText) → c.project < projects → All (λ r. r.project < projects) (rules_in c xs)
@@ -49,7 +50,7 @@ rules_of_project c projects (Indirect rule ∷ xs) within =
 
 -- numbers stay below a greater number of rules
 pub numbers_stay : (m n : ℕ) (rs us : List Requirement) → m ≤ n → AreNumbered m rs us → AreNumbered n rs us
-numbers_stay m n rs us le are = record { below = All-weaker (NamesBelow m) (NamesBelow n) (more_rules m n le) rs are.below; plain = are.plain }
+numbers_stay m n rs us le are = record { below = All-weaker (AsksBelow m) (AsksBelow n) (more_rules m n le) rs are.below; plain = are.plain }
 
 -- ---- a changed project
 

@@ -4,7 +4,7 @@ use Rattle.std.specs.List.{filter_map}
 use Rattle.b2_features.specs.Table.{Declared}
 use Rattle.b2_gcc.specs.Tables.{features}
 use Rattle.b2_props.specs.declared.requirement.Requirement.{Requirement}
-use Rattle.b2_props.specs.declared.requirement.Requirement.TheVariants.{Plain, Indirect}
+use Rattle.b2_props.specs.Requirements.{AsksBelow}
 use Rattle.b2_declarations.specs.declared.declaration.Declaration.{Declaration}
 use Rattle.b2_declarations.specs.declared.declaration.Declaration.TheVariants.{Main, Using, Feature}
 use Rattle.b2_metatargets.specs.declared.visit.Visit.{Visit}
@@ -34,15 +34,10 @@ named targets = map (λ t. (t.project, t.name)) targets
 
 -- ---- numbers
 
--- a requirement names none but the rules below a number
-abbrev pub NamesBelow : ℕ → Requirement → Type 0
-NamesBelow rules (Plain conditions property) = Unit {0}
-NamesBelow rules (Indirect rule) = rule < rules
-
 -- requirements and usage requirements, of which the latter name no rule
 pub record AreNumbered (rules : ℕ) (requirements usage : List Requirement) : Type 0 where
-  pub below : All (NamesBelow rules) requirements
-  pub plain : All (NamesBelow 0) usage
+  pub below : All (AsksBelow rules) requirements
+  pub plain : All (AsksBelow 0) usage
 
 -- each number is a place in the list that it leads to
 pub record IsSound (projects : ℕ) (places : List Place) (targets : List Target) (rules : List IndirectRule) : Type 0 where

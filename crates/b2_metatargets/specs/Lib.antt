@@ -5,3 +5,4 @@ pub mod Gathering
 pub mod Views
 pub mod Declaring
 pub mod Laws
+pub mod Numbered

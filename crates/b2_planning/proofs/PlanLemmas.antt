@@ -15,7 +15,7 @@ use Rattle.b2_evaluation.specs.Answers.{Answers}
 use Rattle.b2_base.specs.Counts.{IsCounted}
 use Rattle.b2_references.specs.Requests.{asked}
 use Rattle.b2_references.specs.declared.asked.Asked.{Asked}
-use Rattle.b2_alternatives.specs.Picking.{IsNumbered}
+use Rattle.b2_metatargets.specs.Numbered.{IsNumbered}
 use Rattle.b2_alternatives.specs.declared.fault.ChoiceFault.TheVariants as choices
 use Rattle.b2_conversions.specs.Answers.{AreHoused, Grows}
 use Rattle.b2_virtual.specs.declared.entry.Supply.{Supply}

@@ -4,7 +4,7 @@ ghost use Rattle.std.specs.List.{Contains, flat_map};
 ghost use Rattle.std.specs.FinMap as finite;
 ghost use Rattle.b2_plan.specs.Plans.{Apart};
 ghost use Rattle.b2_virtual.specs.Clashes.{AreInRoots};
-ghost use Rattle.b2_alternatives.specs.Picking.{IsNumbered};
+ghost use Rattle.b2_metatargets.specs.Numbered.{IsNumbered};
 ghost use Rattle.b2_generate.specs.Planning.{first_rows, line};
 ghost use Rattle.b2_generate.specs.Places.{rows_at};
 ghost use Rattle.b2_planning.specs.TableRows.{lines_of};

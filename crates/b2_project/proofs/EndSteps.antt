@@ -3,6 +3,7 @@ use Rattle.std.specs.Prelude.{◌⊎◌, map as each}
 use Rattle.std.proofs.Common.{◌≡◌, ℕ, List, Option, Some, None, Result, Ok, Err, refl, ap, subst}
 use Rattle.b2_metatargets.specs.Declaring.{declared}
 use Rattle.b2_metatargets.specs.Laws.{visited}
+use Rattle.b2_metatargets.specs.Numbered.{IsNumbered}
 use Rattle.jam_journal.specs.Tables.{Text}
 use Rattle.jam_eval.specs.Settings.{Setting}
 use Rattle.jam_natives.specs.Keeping.{Kept}
@@ -16,7 +17,7 @@ use Rattle.b2_walk.specs.Walks.{Walk, Refusal, declaring, Course, goes_on, refus
 use Rattle.b2_project.specs.declared.project.Project.{Project}
 use Rattle.b2_project.specs.Loads.{Ending, loaded, fails, with_declared, declare, then_declare, Loads}
 use Rattle.b2_project.specs.declared.load.Loaded.{Loaded}
-use Rattle.b2_project.specs.Loading.{IsRefused, IsLoaded, HasPlaces, HasParentsBefore}
+use Rattle.b2_project.specs.Loading.{IsRefused, IsLoaded, HasParentsBefore}
 use Rattle.b2_project.specs.Parts.{IsRefusalOf, ThroughComesTo}
 use Rattle.b2_project.proofs.ToolsetSteps.{refusal_says}
 
@@ -28,7 +29,7 @@ pub record IsMadeOf (w : Walking) (project : Project) : Type 0 where
 
 -- the project that a walk's calls declare, or the fault of the first one that is refused
 abbrev pub IsProjectOf : Walking → Result Project LoadFault → Type 0
-IsProjectOf w (Ok project) = IsMadeOf w project × HasPlaces project.declared × HasParentsBefore project.declared × (each visited project.declared.places ≡ w.visits)
+IsProjectOf w (Ok project) = IsMadeOf w project × IsNumbered project.declared × HasParentsBefore project.declared × (each visited project.declared.places ≡ w.visits)
 IsProjectOf w (Err fault) = IsRefusalOf (declared w.visits w.calls.items) fault
 
 -- after a walk that is whole, that project; else the fault

@@ -24,7 +24,8 @@ use Rattle.b2_walk.specs.Walking.{walk_of, IsSettingFor, IsRefusedBy, WalkComesT
 use Rattle.b2_walk.specs.Walks.{Refusal, goes_on, refused}
 use Rattle.b2_project.specs.declared.load.Loaded.{Loaded}
 use Rattle.b2_project.specs.declared.project.Project.{Project}
-use Rattle.b2_project.specs.Loading.{HasPlaces, HasParentsBefore, IsLoaded, TellsLoad, IsDeclaredBy, IsOfCalls, AreRecordedIn}
+use Rattle.b2_project.specs.Loading.{HasParentsBefore, IsLoaded, TellsLoad, IsDeclaredBy, IsOfCalls, AreRecordedIn}
+use Rattle.b2_metatargets.specs.Numbered.{IsNumbered}
 use Rattle.b2_project.specs.Parts.{IsOfThese, IsOfTheseIf, equipped, RunsToolset, ThroughComesTo, IsClosed, AreOwned, AreAll, GoesThrough}
 use Rattle.b2_project.proofs.EndSteps.{IsProjectOf, IsResultOf, IsEnded, declared_so, stopped_so}
 use Rattle.b2_project.proofs.ToolsetSteps.{plain_refusal, refusal_of_these, follows_from}
@@ -167,7 +168,7 @@ module _ (words : List Text) (w : Walking) (first last : Turns) (from to : Outsi
 
 -- what is known of a loaded project over every host
 pub record IsReady (project : Project) : Type 0 where
-  pub places : HasPlaces project.declared
+  pub places : IsNumbered project.declared
   pub parents : HasParentsBefore project.declared
   pub closed : (project.world.now.scopes.frames ≡ []) × (is_some project.world.now.step ≡ false) × (project.world.marked ≡ [])
 

@@ -53,10 +53,6 @@ TellsLoad outside words before after echoes result =
 
 -- ---- over every host
 
--- each number is a place in the list that it leads to
-abbrev pub HasPlaces : Declared → Type 0
-HasPlaces found = IsSound (length found.places) found.places found.targets found.indirect
-
 -- the parent of each project stands before it
 abbrev pub HasParentsBefore : Declared → Type 0
 HasParentsBefore found = HaveParentsBefore (each visited found.places)

@@ -15,6 +15,7 @@ use Rattle.b2_metatargets.specs.Outcomes.{IsFaultOf}
 use Rattle.b2_metatargets.specs.Carrying.{tables_of}
 use Rattle.b2_metatargets.specs.Declaring.{declared}
 use Rattle.b2_metatargets.specs.Laws.{visited}
+use Rattle.b2_metatargets.specs.Numbered.{IsNumbered}
 use Rattle.jam_journal.specs.Tables.{Text}
 use Rattle.jam_eval.specs.Refused.{Refuses, TookTurn}
 use Rattle.jam_eval.specs.Settings.{Setting}
@@ -30,7 +31,7 @@ use Rattle.b2_walk.specs.Walking.{walk_of, IsSettingFor, Follows, WalkComesTo, A
 use Rattle.b2_walk.specs.Walks.{Walk, Course}
 use Rattle.b2_project.specs.declared.project.Project.{Project}
 use Rattle.b2_project.specs.declared.load.Told.{Told}
-use Rattle.b2_project.specs.Loading.{HasPlaces, HasParentsBefore, IsOfCalls}
+use Rattle.b2_project.specs.Loading.{HasParentsBefore, IsOfCalls}
 use Rattle.b2_project.specs.Loads.{toolset_of, up_to_toolset, IsEquipped, IsAfterWalk}
 
 -- ---- faults of declaring, as those of a load
@@ -149,7 +150,7 @@ pub record GoesThrough (words : List Text) (w : Walking) (first last : Turns) (f
 
 -- what a walk's calls declare, or the fault of the first one that is refused
 abbrev pub IsDeclaredOf : Walking → Result Declared LoadFault → Type 0
-IsDeclaredOf w (Ok found) = (declared w.visits w.calls.items ≡ Ok found) × HasPlaces found × HasParentsBefore found × (each visited found.places ≡ w.visits)
+IsDeclaredOf w (Ok found) = (declared w.visits w.calls.items ≡ Ok found) × IsNumbered found × HasParentsBefore found × (each visited found.places ≡ w.visits)
 IsDeclaredOf w (Err fault) = IsRefusalOf (declared w.visits w.calls.items) fault
 
 -- after a walk that is whole, what its calls declare; else the fault

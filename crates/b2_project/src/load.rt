@@ -5,7 +5,8 @@ ghost use Rattle.jam_natives.specs.Seeing.{kept_of};
 ghost use Rattle.b2_walk.specs.Faults.{IsWhole};
 ghost use Rattle.b2_walk.specs.Finding.{Counts};
 ghost use Rattle.b2_walk.specs.Walking.{IsNew, AreOfProjects};
-ghost use Rattle.b2_project.specs.Loading.{TellsLoad, HasPlaces, HasParentsBefore, IsDeclaredBy, IsOfCalls, AreRecordedIn};
+ghost use Rattle.b2_project.specs.Loading.{TellsLoad, HasParentsBefore, IsDeclaredBy, IsOfCalls, AreRecordedIn};
+ghost use Rattle.b2_metatargets.specs.Numbered.{IsNumbered};
 ghost use Rattle.b2_project.specs.Parts.{AreOwned, GoesThrough, IsDeclaredOf, IsFoundOf, IsToldOf, project_of, project_in};
 
 use crate::project::Project;
@@ -151,7 +152,7 @@ pub fn load<F: Files>(alloc: Global, files: &mut F, words: &[Text], turns: &mut 
     ensures declares { IfOk result.result (λ project. IsDeclaredBy words.now project.declared) }
     ensures refused { IfErr result.result (IsOfCalls words.now) }
     ensures lines { IfOk result.result (λ project. AreRecordedIn project result.echoes) }
-    ensures sound { IfOk result.result (λ project. HasPlaces project.declared) }
+    ensures sound { IfOk result.result (λ project. IsNumbered project.declared) }
     ensures parents { IfOk result.result (λ project. HasParentsBefore project.declared) }
     ensures step { IfOk result.result (λ project. is_some project.world.now.step ≡ false) }
     ensures frames { IfOk result.result (λ project. project.world.now.scopes.frames ≡ []) }

@@ -11,3 +11,4 @@ pub mod Requests
 pub mod Ways
 pub mod Meeting
 pub mod Texts
+pub mod Requirements

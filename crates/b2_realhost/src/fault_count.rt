@@ -1,6 +1,6 @@
 //! How often the system failed.
 ghost use Rattle.std.specs.Prelude.{◌≡◌};
-ghost use Rattle.b2_host.specs.Faults.{Rose};
+ghost use Rattle.b2_base.specs.Counts.{Rose};
 ghost use Rattle.b2_realhost.specs.Failures.{FaultCounted};
 
 use b2_host::fault::{Failed, IoFault};

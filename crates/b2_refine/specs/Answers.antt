@@ -1,7 +1,5 @@
-use Rattle.std.specs.Prelude.{◌≡◌, ℕ, ◌<◌, Bool, false, List, Result, Err}
+use Rattle.std.specs.Prelude.{◌≡◌, ℕ, Bool, false, List, Result, Err}
 use Rattle.b2_props.specs.Sets.{Pair}
-use Rattle.b2_props.specs.declared.requirement.Requirement.{Requirement}
-use Rattle.b2_props.specs.declared.requirement.Requirement.TheVariants.{Plain, Indirect}
 
 -- how rules, named by their numbers, answer for a set: with properties or with a fault
 abbrev pub Answer : Type 0 → Type 0
@@ -10,8 +8,3 @@ Answer F = ℕ → List Pair → Result (List Pair) F
 -- a fault is the one of an answer, unless it is one of the host or out of memory
 abbrev pub IsFaultOf : {F T : Type 0} → (F → Bool) → (F → Bool) → Result T F → F → Type 0
 IsFaultOf is_host is_memory answer fault = is_host fault ≡ false → is_memory fault ≡ false → answer ≡ Err fault
-
--- a requirement asks none but the rules below a number
-abbrev pub AsksBelow : ℕ → Requirement → Type 0
-AsksBelow rules (Plain conditions property) = Unit {0}
-AsksBelow rules (Indirect rule) = rule < rules

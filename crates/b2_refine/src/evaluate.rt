@@ -1,7 +1,8 @@
 //! Requirements evaluated.
 ghost use Rattle.std.specs.Prelude.{◌≡◌, ◌++◌, Some, All, IfOk, IfErr, OnOk, count_by};
 ghost use Rattle.b2_props.specs.Sets.{IsSet};
-ghost use Rattle.b2_refine.specs.Answers.{Answer, AsksBelow};
+ghost use Rattle.b2_props.specs.Requirements.{AsksBelow};
+ghost use Rattle.b2_refine.specs.Answers.{Answer};
 ghost use Rattle.b2_base.specs.Counts.{IsCounted};
 ghost use Rattle.b2_refine.specs.Conditions.{own_pairs, unconditional, is_other, first_set, next_set, IsSettled};
 ghost use Rattle.b2_refine.specs.Faults.{IsUnstableBy, IsAskedBy, IsKnownFault, is_asked};

@@ -1,8 +1,9 @@
 //! What requirements give in a set.
 ghost use Rattle.std.specs.Prelude.{◌≡◌, ◌<◌, [], ◌∷◌, List, Some, All, IfOk, IfErr};
 ghost use Rattle.b2_props.specs.Sets.{Pair};
+ghost use Rattle.b2_props.specs.Requirements.{AsksBelow};
 ghost use Rattle.b2_props.specs.Indexing.{IsIndexOf};
-ghost use Rattle.b2_refine.specs.Answers.{Answer, AsksBelow};
+ghost use Rattle.b2_refine.specs.Answers.{Answer};
 ghost use Rattle.b2_refine.specs.Conditions.{others, given};
 ghost use Rattle.b2_refine.specs.Evaluating.{IsOutcome, LeavesAsker, IsNotUnstable, is_given, plain_pairs};
 

@@ -5,7 +5,7 @@ use Rattle.std.proofs.lemmas.Slice.Eq.{bytes_eq-Decides}
 use Rattle.std.proofs.lemmas.List.Elements.{Contains-append_left, Contains-push, Contains-push_cases}
 use Rattle.b2_host.specs.declared.children.ChildEvent.{ChildEvent}
 use Rattle.b2_host.specs.declared.children.ChildEvent.TheVariants.{Start, Done}
-use Rattle.b2_host.specs.Limits.{greatest_count}
+use Rattle.b2_base.specs.Counts.{greatest_count}
 use Rattle.b2_host.specs.Outside.{Read}
 use Rattle.b2_host.specs.Disks.{File, Folder, Past, Stood, IsOneEach, IsConsistent, bytes_at}
 use Rattle.b2_plan.specs.Plans.{step_at, Makes}

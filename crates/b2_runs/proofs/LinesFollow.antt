@@ -2,11 +2,12 @@ use Rattle.std.proofs.Common.{ℕ, Bool, List, [], ◌∷◌, ◌++◌, refl, sy
 use Rattle.std.proofs.lemmas.List.Concat.{flat_map-append}
 use Rattle.b2_host.specs.declared.children.ChildEvent.{ChildEvent}
 use Rattle.b2_host.specs.declared.children.ChildEvent.TheVariants.{Done}
-use Rattle.b2_runs.specs.Reports.{first_path, start_text, event_line, AreEnds}
+use Rattle.b2_runs.specs.Reports.{start_text, event_line, AreEnds}
+use Rattle.b2_base.specs.Lists.{first_of}
 use Rattle.b2_runs.specs.ReportLaws.{UnnamedStartsSilently, LinesFollow, AllIsTold, ToldThroughEnds, StoppedAtLine, StoppedThroughEnds}
 
 pub unnamed_starts_silently : UnnamedStartsSilently
-unnamed_starts_silently step none = ap (λ (name : List ℕ). start_text name (first_path step.outs)) none
+unnamed_starts_silently step none = ap (λ (name : List ℕ). start_text name (first_of step.outs)) none
 
 pub lines_follow : LinesFollow
 lines_follow steps front rest = flat_map-append (event_line steps) front rest

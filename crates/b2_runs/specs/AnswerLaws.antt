@@ -2,7 +2,7 @@ use Rattle.std.specs.Prelude.{◌≡◌, ◌≢◌, ℕ, ◌<◌, ◌≤◌, Boo
 use Rattle.std.specs.List.{Contains}
 use Rattle.b2_host.specs.declared.children.ChildEvent.{ChildEvent}
 use Rattle.b2_host.specs.declared.children.ChildEvent.TheVariants.{Start, Done}
-use Rattle.b2_host.specs.Limits.{greatest_count}
+use Rattle.b2_base.specs.Counts.{greatest_count}
 use Rattle.b2_host.specs.Disks.{Folder, Disk, IsOneEach, bytes_at}
 use Rattle.b2_host.specs.Outside.{Read, Outside}
 use Rattle.b2_plan.specs.declared.step.Step.{Step}

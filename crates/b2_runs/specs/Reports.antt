@@ -1,6 +1,7 @@
 use Rattle.std.specs.Prelude.{◌≡◌, ◌≢◌, ℕ, Bool, true, false, List, [], ◌∷◌, ◌++◌, Option, Some, None, codes, length, count_by}
 use Rattle.std.specs.List.{flat_map, AllByRecursion}
 use Rattle.std.specs.Fmt.{decimal}
+use Rattle.b2_base.specs.Lists.{first_of}
 use Rattle.b2_host.specs.declared.children.ChildEvent.{ChildEvent}
 use Rattle.b2_host.specs.declared.children.ChildEvent.TheVariants.{Start, Done}
 use Rattle.b2_plan.specs.declared.step.Step.{Step}
@@ -30,11 +31,6 @@ pub record AreLists (u : Update) (events : List ChildEvent) (lists : Lists) : Ty
 
 -- ---- lines
 
--- the first of some paths
-abbrev pub first_path : List (List ℕ) → List ℕ
-first_path [] = []
-first_path (path ∷ more) = path
-
 -- a line feed after the line
 abbrev pub line : List ℕ → List ℕ
 line text = text ++ 10 ∷ []
@@ -50,16 +46,16 @@ start_text [] out = []
 start_text (letter ∷ name) out = line (named (letter ∷ name) out)
 
 abbrev pub start_line : Step → List ℕ
-start_line step = start_text step.name (first_path step.outs)
+start_line step = start_text step.name (first_of step.outs)
 
 abbrev pub failed_line : Step → List ℕ
-failed_line step = line (codes "...failed " ++ named step.name (first_path step.outs) ++ codes "...")
+failed_line step = line (codes "...failed " ++ named step.name (first_of step.outs) ++ codes "...")
 
 abbrev pub missing_line : List ℕ → List ℕ
 missing_line path = line (codes "...missing " ++ path ++ codes "...")
 
 abbrev pub skipped_line : Step → List ℕ
-skipped_line step = line (codes "...skipped " ++ first_path step.outs ++ codes "...")
+skipped_line step = line (codes "...skipped " ++ first_of step.outs ++ codes "...")
 
 -- what is said of the step with a number, or nothing where there is none
 abbrev pub said_of : (Step → List ℕ) → Option Step → List ℕ
@@ -96,7 +92,7 @@ report steps events lists = event_lines steps events ++ end_lines steps (count_b
 
 -- the first output of the step with a number
 abbrev pub first_out : List Step → ℕ → List ℕ
-first_out steps i = said_of (λ step. first_path step.outs) (step_at steps i)
+first_out steps i = said_of (λ step. first_of step.outs) (step_at steps i)
 
 -- the first outputs of the steps of a cycle, an arrow between each two, the first again last
 abbrev pub cycle_text : List Step → List ℕ → List ℕ

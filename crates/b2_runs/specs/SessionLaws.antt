@@ -1,5 +1,5 @@
 use Rattle.std.specs.Prelude.{◌≡◌, ℕ, ◌<◌, ◌≤◌, List, [], ◌∷◌, ◌++◌, length, Option, ◌⊎◌, IfSome}
-use Rattle.b2_host.specs.Limits.{greatest_count}
+use Rattle.b2_base.specs.Counts.{greatest_count}
 use Rattle.b2_host.specs.Disks.{Disk}
 use Rattle.b2_host.specs.Outside.{Outside}
 use Rattle.b2_plan.specs.Plans.{Apart}

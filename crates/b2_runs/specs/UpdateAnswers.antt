@@ -5,7 +5,7 @@ use Rattle.b2_host.specs.declared.children.ChildEvent.TheVariants.{Done}
 use Rattle.b2_host.specs.Disks.{File, Folder, Disk}
 use Rattle.b2_host.specs.ChildProcesses.{Given}
 use Rattle.b2_host.specs.Outside.{Read, Outside}
-use Rattle.b2_host.specs.Faults.{Rose}
+use Rattle.b2_base.specs.Counts.{Rose}
 use Rattle.b2_plan.specs.declared.step.Step.{Step}
 use Rattle.b2_plan.specs.Plans.{Makes}
 use Rattle.b2_plan.specs.Closures.{Value}

@@ -2,7 +2,8 @@
 ghost use Rattle.std.specs.Prelude.{◌≡◌, IfOk, string_bytes};
 ghost use Rattle.std.specs.Option.{option_copied};
 ghost use Rattle.b2_plan.specs.Plans.{step_at};
-ghost use Rattle.b2_runs.specs.Reports.{first_path, start_line};
+ghost use Rattle.b2_runs.specs.Reports.{start_line};
+ghost use Rattle.b2_base.specs.Lists.{first_of};
 
 use b2_base::fault::OutOfMemory;
 use b2_plan::step::Step;
@@ -20,7 +21,7 @@ pub fn find_step(steps: &[Step], number: u32) -> Option<&Step>
 
 /// The step's first output, or the empty text where it has none.
 pub fn first_path(step: &Step) -> &str
-    ensures { result.now ≡ first_path step.now.outs }
+    ensures { result.now ≡ first_of step.now.outs }
 {
     match step.outs.as_slice().first() {
         None => "",

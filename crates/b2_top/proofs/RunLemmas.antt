@@ -18,7 +18,7 @@ use Rattle.b2_planning.specs.Plans.{seen}
 use Rattle.b2_planning.specs.declared.planned.Planned.{Planned}
 use Rattle.b2_host.specs.ChildProcesses.{Family, BothTold}
 use Rattle.b2_host.specs.Disks.{Disk}
-use Rattle.b2_host.specs.Faults.{Rose}
+use Rattle.b2_base.specs.Counts.{Rose}
 use Rattle.b2_host.specs.Outside.{Outside}
 use Rattle.b2_host.specs.OutsideLaws.{Keeps, then_rose}
 use Rattle.b2_host.specs.Output.{Output, with_written}

@@ -4,7 +4,7 @@ use Rattle.b2_top.specs.Reports.{echo_lines, refusal_report}
 use Rattle.b2_top.specs.declared.answer.Answer.{Answer}
 use Rattle.b2_top.specs.declared.answer.Answer.TheVariants as answers
 use Rattle.b2_host.specs.Disks.{Disk}
-use Rattle.b2_host.specs.Faults.{Rose}
+use Rattle.b2_base.specs.Counts.{Rose}
 use Rattle.b2_host.specs.declared.children.ChildEvent.{ChildEvent}
 use Rattle.b2_plan.specs.declared.step.Step.{Step}
 use Rattle.b2_refusals.specs.Lines.{refusal_line, usage_line}

@@ -2,7 +2,7 @@
 -- and `ReportTold` speak of visible files and of a sink that tells what was written, `CompleteTold` of visible files.
 use Rattle.std.specs.Prelude.{◌≡◌, ℕ, List, [], Some, None, Ok, IfSome, ◌⊎◌, ⊤}
 use Rattle.b2_host.specs.Disks.{Disk}
-use Rattle.b2_host.specs.Faults.{Rose}
+use Rattle.b2_base.specs.Counts.{Rose}
 use Rattle.b2_host.specs.Outside.{Outside}
 use Rattle.b2_words.specs.Words.{Word}
 use Rattle.b2_generate.specs.Planning.{Planned}

@@ -18,7 +18,8 @@ use Rattle.b2_runs.specs.Events.{is_start, is_done}
 use Rattle.b2_runs.specs.Runs.{on_settled, CanStart}
 use Rattle.b2_runs.specs.Outcomes.{LeavesNothing}
 use Rattle.b2_runs.specs.Soundness.{IsAllowedChange, IsLoose}
-use Rattle.b2_runs.specs.Reports.{event_line, event_lines, start_line, failed_line, said_of, line as line_of, named, first_path, AreEnds, StopsAtEvent}
+use Rattle.b2_runs.specs.Reports.{event_line, event_lines, start_line, failed_line, said_of, line as line_of, named, AreEnds, StopsAtEvent}
+use Rattle.b2_base.specs.Lists.{first_of}
 use Rattle.b2_runs.specs.Moments.{Moment}
 use Rattle.b2_runs.proofs.NumberHasOneStep.{one_step}
 use Rattle.b2_runs.proofs.OneEventMore.{count_one}
@@ -323,7 +324,7 @@ ended_part u entry front i step here out stop at h other line line_is part =
         rest = [];
         whole = refl;
         only_ends = tt;
-        has_line = λ e. some_line (codes "...failed " ++ named step.name (first_path step.outs) ++ codes "...") (sym line_is ∙ sym said ∙ e);
+        has_line = λ e. some_line (codes "...failed " ++ named step.name (first_of step.outs) ++ codes "...") (sym line_is ∙ sym said ∙ e);
         part = part.part;
         begins = (part.rest, said ∙ part.whole);
         lines = refl;

@@ -4,7 +4,7 @@ use Rattle.b2_host.specs.Disks.{Disk, Folder, IsConsistent}
 use Rattle.b2_host.specs.ChildProcesses.{Family, Given}
 use Rattle.b2_host.specs.Outside.{Outside}
 use Rattle.b2_host.specs.Output.{Output, with_written}
-use Rattle.b2_host.specs.Faults.{Rose}
+use Rattle.b2_base.specs.Counts.{Rose}
 use Rattle.b2_host.specs.OutsideLaws.{Keeps, keeps_same, keeps_fails}
 use Rattle.b2_plan.specs.declared.plan.Plan.{Plan}
 use Rattle.b2_plan.specs.Plans.{Apart}

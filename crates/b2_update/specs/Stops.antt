@@ -2,7 +2,7 @@
 use Rattle.std.specs.Prelude.{◌≡◌, ℕ, List, [], Result, Ok, Err}
 use Rattle.b2_host.specs.declared.fault.IoFault.{IoFault}
 use Rattle.b2_host.specs.declared.fault.IoFault.TheVariants as faults
-use Rattle.b2_host.specs.Faults.{Rose}
+use Rattle.b2_base.specs.Counts.{Rose}
 use Rattle.b2_host.specs.Outside.{Outside, Fails}
 use Rattle.b2_host.specs.Output.{Output, with_written}
 use Rattle.b2_runs.specs.Moments.{Moment}

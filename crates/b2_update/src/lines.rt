@@ -1,6 +1,7 @@
 //! The lines of the report.
 ghost use Rattle.std.specs.Prelude.{◌≡◌, IfOk, string_bytes};
-ghost use Rattle.b2_runs.specs.Reports.{first_path, named, failed_line, missing_line, skipped_line, summary_line};
+ghost use Rattle.b2_runs.specs.Reports.{named, failed_line, missing_line, skipped_line, summary_line};
+ghost use Rattle.b2_base.specs.Lists.{first_of};
 ghost use Rattle.b2_update.specs.Answers.{lists_of};
 
 use crate::failed_lists::FailedLists;
@@ -12,7 +13,7 @@ use std::alloc::Global;
 
 /// A step's name and its first output, or the output alone where the name is empty.
 fn title(alloc: Global, step: &Step) -> Result<String, OutOfMemory>
-    ensures { IfOk result (λ text. string_bytes text ≡ named step.now.name (first_path step.now.outs)) }
+    ensures { IfOk result (λ text. string_bytes text ≡ named step.now.name (first_of step.now.outs)) }
 {
     let name = step.name.as_str();
     let out = first_path(step);

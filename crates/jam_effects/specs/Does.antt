@@ -1,6 +1,6 @@
 -- What the code's calls do.
 use Rattle.std.specs.Prelude.{◌≡◌, ◌≤◌, suc, is_some, List, drop, map as each, Option, Result, Ok, Err, IfErr}
-use Rattle.b2_host.specs.Faults.{Rose}
+use Rattle.b2_base.specs.Counts.{Rose}
 use Rattle.b2_host.specs.Outside.{Outside}
 use Rattle.b2_host.specs.OutsideLaws.{Keeps}
 use Rattle.jam_journal.specs.Tables.{Text}

@@ -7,7 +7,8 @@ use Rattle.b2_base.specs.declared.expand_fault.ExpandFault.{ExpandFault}
 use Rattle.b2_base.specs.declared.expand_fault.ExpandFault.TheVariants as faults
 use Rattle.jam_expand.specs.Limits.{limit, first_above, unless_above, within, IsWithin}
 use Rattle.jam_expand.specs.Products.{cross, product}
-use Rattle.jam_expand.specs.Heads.{head_of, heads}
+use Rattle.jam_expand.specs.Heads.{heads}
+use Rattle.b2_base.specs.Lists.{first_of}
 use Rattle.jam_expand.proofs.GatherLemmas.{fault_stays}
 
 pub cross_append : (xs ys zs : List (List ℕ)) → cross (xs ++ ys) zs ≡ cross xs zs ++ cross ys zs
@@ -81,11 +82,11 @@ product_begins ((text ∷ texts) ∷ lists) h =
     let tail : Begins lists = product_begins lists more in
     record { rest = map (λ other. text ++ other) tail.rest ++ cross texts (product lists); is = ap (λ s. map (λ other. text ++ other) s ++ cross texts (product lists)) tail.is }
 
-pub heads_last : (lists : List (List (List ℕ))) (texts : List (List ℕ)) → length (heads (lists ++ texts ∷ [])) ≡ length (heads lists) + length (head_of texts)
-heads_last [] texts = ap length (append-nil (head_of texts)) ∙ omega arith
+pub heads_last : (lists : List (List (List ℕ))) (texts : List (List ℕ)) → length (heads (lists ++ texts ∷ [])) ≡ length (heads lists) + length (first_of texts)
+heads_last [] texts = ap length (append-nil (first_of texts)) ∙ omega arith
 heads_last (list ∷ lists) texts =
-    length-append (head_of list) (heads (lists ++ texts ∷ [])) ∙ ap (λ n. length (head_of list) + n) (heads_last lists texts)
-    ∙ omega (arith, length-append (head_of list) (heads lists))
+    length-append (first_of list) (heads (lists ++ texts ∷ [])) ∙ ap (λ n. length (first_of list) + n) (heads_last lists texts)
+    ∙ omega (arith, length-append (first_of list) (heads lists))
 
 any_front : (lists : List (List (List ℕ))) (texts : List (List ℕ)) → list_any (λ list. eqb (length list) 0) (lists ++ texts ∷ []) ≡ false → list_any (λ list. eqb (length list) 0) lists ≡ false
 any_front [] texts h = refl
@@ -120,7 +121,7 @@ pub made_nothing : (lists : List (List (List ℕ))) (before : ℕ) → list_any 
 made_nothing lists before filled is = record { so_far = sym (cross_right (product lists)); filled = filled; before_is = is; small = refl }
 
 -- the length before the last list
-pub before_last : (all lists whole : List (List (List ℕ))) (texts made : List (List ℕ)) (before : ℕ) → HasMade all whole made before → whole ≡ lists ++ texts ∷ [] → before ≡ length (heads lists) + length (head_of texts)
+pub before_last : (all lists whole : List (List (List ℕ))) (texts made : List (List ℕ)) (before : ℕ) → HasMade all whole made before → whole ≡ lists ++ texts ∷ [] → before ≡ length (heads lists) + length (first_of texts)
 before_last all lists whole texts made before h e = h.before_is ∙ ap (λ s. length (heads s)) e ∙ heads_last lists texts
 
 pub made_fault : (all lists whole : List (List (List ℕ))) (texts made : List (List ℕ)) (before : ℕ) (fault : ExpandFault) → HasMade all whole made before → whole ≡ lists ++ texts ∷ []
@@ -133,17 +134,17 @@ made_fault all lists whole texts made before fault h e (inr f) =
     inr (ap within whole_is ∙ fault_stays (map (λ other. heads lists ++ other) (cross texts made)) (cross front.rest (cross texts made)) fault f)
 
 pub made_more : (all lists whole : List (List (List ℕ))) (texts made : List (List ℕ)) (before sum : ℕ) → HasMade all whole made before → whole ≡ lists ++ texts ∷ []
-    → IsWithin (map (λ other. heads lists ++ other) (cross texts made)) sum → HasMade all lists (cross texts made) (before - length (head_of texts))
+    → IsWithin (map (λ other. heads lists ++ other) (cross texts made)) sum → HasMade all lists (cross texts made) (before - length (first_of texts))
 made_more all lists whole texts made before sum h e w = record {
   so_far = h.so_far ∙ ap (λ s. cross (product s) made) e ∙ product_last lists texts made;
   filled = any_front lists texts (ap (λ s. list_any (λ list. eqb (length list) 0) s) (sym e) ∙ h.filled);
-  before_is = let b : before ≡ length (heads lists) + length (head_of texts) = before_last all lists whole texts made before h e in omega (arith, b);
+  before_is = let b : before ≡ length (heads lists) + length (first_of texts) = before_last all lists whole texts made before h e in omega (arith, b);
   small = ap (unless_above (cross texts made)) (above_shorter 0 0 (heads lists) (cross texts made) (omega arith) w.small);
 }
 
 pub made_all : (all lists : List (List (List ℕ))) (made : List (List ℕ)) (before : ℕ) → HasMade all lists made before → lists ≡ [] → within (product all) ≡ Ok made
 made_all all lists made before h e = ap within (h.so_far ∙ ap (λ s. cross (product s) made) e ∙ cross_left made) ∙ h.small
 
-pub heads_more : (lists : List (List (List ℕ))) (place : ℕ) (list : List (List ℕ)) → place < length lists → list ≡ get_or lists place list → length (heads (take place lists)) + length (head_of list) ≡ length (heads (take (place + 1) lists))
+pub heads_more : (lists : List (List (List ℕ))) (place : ℕ) (list : List (List ℕ)) → place < length lists → list ≡ get_or lists place list → length (heads (take place lists)) + length (first_of list) ≡ length (heads (take (place + 1) lists))
 heads_more lists place list inside here =
-    sym (ap (λ s. length (heads s)) (take_more lists place list inside) ∙ heads_last (take place lists) (get_or lists place list) ∙ ap (λ s. length (heads (take place lists)) + length (head_of s)) (sym here))
+    sym (ap (λ s. length (heads s)) (take_more lists place list inside) ∙ heads_last (take place lists) (get_or lists place list) ∙ ap (λ s. length (heads (take place lists)) + length (first_of s)) (sym here))

@@ -2,7 +2,8 @@
 ghost use Rattle.std.specs.Prelude.{◌≡◌, ℕ, ◌≤◌, ◌==◌, ◌++◌, [], ◌∷◌, List, false, length, map, string_bytes, IfOk, OnOk};
 ghost use Rattle.std.specs.List.{list_any};
 ghost use Rattle.b2_base.specs.Bytes.{HasNoZero};
-ghost use Rattle.jam_expand.specs.Heads.{head_of, heads, IsSumOf};
+ghost use Rattle.jam_expand.specs.Heads.{heads, IsSumOf};
+ghost use Rattle.b2_base.specs.Lists.{first_of};
 ghost use Rattle.jam_expand.specs.Limits.{limit, within, IsWithin, IsGivenBy};
 ghost use Rattle.jam_expand.specs.Merged.{merged_after};
 ghost use Rattle.jam_expand.specs.Products.{cross, product};
@@ -82,7 +83,7 @@ fn sum_of_cross(len: usize, texts: &[Text], others: &[Text]) -> Result<u64, Expa
 
 /// The length of the first text of a list.
 fn head_len(list: &TextList) -> usize
-    ensures { result ≡ length (head_of list.now) }
+    ensures { result ≡ length (first_of list.now) }
 {
     match list.as_slice().first() {
         None => 0,

@@ -12,7 +12,7 @@ use Rattle.std.proofs.lemmas.Slice.Eq.{bytes_eq-Decides}
 use Rattle.jam_journal.specs.Tables.{Text, Key, Table, key_cmp, put}
 use Rattle.jam_journal.proofs.TableLemmas.{elsewhere, there, by_both, key_order}
 use Rattle.jam_scope.specs.Lines.{upward, line_by, line, AreAbove, AreLines, may_be_above, in_each, first_at, is_dot}
-use Rattle.jam_scope.specs.Heights.{HasLine, AllHaveLines, height, AllLined}
+use Rattle.jam_scope.specs.Heights.{HasLine, AllHaveLines, height, AllHaveLinesAtMarks}
 
 same_some : (x y : Text) → Some x ≡ Some y → x ≡ y
 same_some x y e = ap (λ o. unwrap_or o x) e
@@ -239,7 +239,7 @@ pub found_later : {X : Type 0} (table : Table X) (ks ls : List Key) (o : Option 
 found_later table ks ls o e f = f ∙ ap (λ x. option_or x (first_at table ls)) e ∙ sym (first_append table ks ls)
 
 -- without a module above any, each line is empty
-pub first_lined : AllLined (map.empty, [])
+pub first_lined : AllHaveLinesAtMarks (map.empty, [])
 first_lined = ((λ owner. record { line = []; are = map.get-empty key_cmp (owner, []) }), tt)
 
 -- ---- the first dot

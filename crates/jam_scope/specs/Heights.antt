@@ -21,5 +21,5 @@ HaveLinesIn [] = Unit {0}
 HaveLinesIn (parents ∷ more) = AllHaveLines parents × HaveLinesIn more
 
 -- now and at each mark
-abbrev pub AllLined : Marked (Table Text) → Type 0
-AllLined p = AllHaveLines p.0 × HaveLinesIn p.1
+abbrev pub AllHaveLinesAtMarks : Marked (Table Text) → Type 0
+AllHaveLinesAtMarks p = AllHaveLines p.0 × HaveLinesIn p.1

@@ -24,7 +24,7 @@ impl Model for Parents {
     ghost use Rattle.jam_journal.specs.Tables.{Table as Pairs, Text};
     ghost use Rattle.jam_journal.specs.Marks.{Marked};
     ghost use Rattle.jam_journal.specs.ScopeCodes.{text_code, key_code};
-    ghost use Rattle.jam_scope.specs.Heights.{AllLined};
+    ghost use Rattle.jam_scope.specs.Heights.{AllHaveLinesAtMarks};
 
     ghost Value = { Marked (Pairs Text) };
 
@@ -32,7 +32,7 @@ impl Model for Parents {
 
     ghost view = { λ p. p.past };
 
-    ghost invariant = { λ p. AllLined p.past };
+    ghost invariant = { λ p. AllHaveLinesAtMarks p.past };
 }
 
 impl Parents {

@@ -1,6 +1,6 @@
 //! The commands that make calls.
 ghost use Rattle.std.specs.Prelude.{◌↔◌, All, IsTrue};
-ghost use Rattle.b2_refine.specs.Answers.{AsksBelow};
+ghost use Rattle.b2_props.specs.Requirements.{AsksBelow};
 
 use crate::pairs::{given, made, pair, pairs};
 use crate::refinement::rules::{Row, Rule, RuleFault, Rules};

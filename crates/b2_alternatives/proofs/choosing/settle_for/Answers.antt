@@ -1,7 +1,7 @@
 use Rattle.std.proofs.Common.{◌∙◌, List, All, Err, length, refl, sym, ap, subst}
 use Rattle.std.proofs.lemmas.Result.{err_from_is_err_and}
 use Rattle.b2_props.specs.declared.requirement.Requirement.{Requirement}
-use Rattle.b2_refine.specs.Answers.{AsksBelow}
+use Rattle.b2_props.specs.Requirements.{AsksBelow}
 use Rattle.b2_references.specs.Names.{Name}
 use Rattle.b2_alternatives.specs.Choosing.{requirements}
 use Rattle.b2_alternatives.specs.Settling.{IsSettling}

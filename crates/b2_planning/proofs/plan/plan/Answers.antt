@@ -1,5 +1,5 @@
 use Rattle.std.proofs.Common.{sym, subst}
-use Rattle.b2_alternatives.specs.Picking.{IsNumbered}
+use Rattle.b2_metatargets.specs.Numbered.{IsNumbered}
 use Rattle.b2_planning.proofs.PlanLemmas.{answered_at}
 use Rattle.b2_planning.proofs.plan.plan.Goals as goal
 

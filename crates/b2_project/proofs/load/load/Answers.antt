@@ -1,5 +1,6 @@
 use Rattle.std.proofs.Common.{◌≡◌, [], is_some, false}
-use Rattle.b2_project.specs.Loading.{HasPlaces, HasParentsBefore}
+use Rattle.b2_project.specs.Loading.{HasParentsBefore}
+use Rattle.b2_metatargets.specs.Numbered.{IsNumbered}
 use Rattle.b2_project.proofs.AnswerLemmas.{ended_by}
 use Rattle.b2_project.proofs.LoadSteps.{told_load, whole_load, counts_load, ready_load, ready_as, declares_load, refuses_load, lines_load}
 use Rattle.b2_project.proofs.load.load.Goals as goal
@@ -24,7 +25,7 @@ returns-clause-counts g c =
 
 pub returns-clause-sound : goal.returns-clause-sound
 returns-clause-sound g c =
-    ready_as (λ project. HasPlaces project.declared) c.answer.result.result (λ project ready. ready.places)
+    ready_as (λ project. IsNumbered project.declared) c.answer.result.result (λ project ready. ready.places)
     (ready_load c.go_through-ended.new.walk c.go_through-ended.result c.answer.result c.go_through-ended.ensures.closed (ended_by c.go_through-ended.new.walk c.go_through-ended.result c.told_of-told.result c.answer.result c.told_of-told.ensures c.answer.ensures.echoes c.answer.ensures.result))
 
 pub returns-clause-parents : goal.returns-clause-parents
