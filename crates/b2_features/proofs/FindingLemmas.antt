@@ -1,4 +1,4 @@
-use Rattle.std.proofs.Common.{◌≡◌, ℕ, Bool, true, false, cond, List, [], ◌∷◌, ◌++◌, length, Option, Some, None, is_some, refl, sym, ◌∙◌, ap}
+use Rattle.std.proofs.Common.{◌≡◌, ℕ, Bool, true, false, cond, List, [], ◌∷◌, ◌++◌, map, length, position, Option, Some, None, is_some, refl, sym, ◌∙◌, ap}
 use Rattle.std.specs.Option.{option_or, option_map, option_map_or, option_and_then}
 use Rattle.std.specs.List.{find}
 use Rattle.std.specs.Map.{lookup}
@@ -8,8 +8,8 @@ use Rattle.std.proofs.lemmas.Slice.Eq.{bytes_eq-Decides}
 use Rattle.b2_features.specs.Table.{Declared, is_named, feature_of, place_of, implicit_of, is_implicit_in, parts_of, with_parts, composed}
 use Rattle.b2_features.specs.Faults.{is_declared, is_composed, unknown_in, unknown_word, bad_part, conflict_word, feature_fault, compose_fault, twice_word, bad_word, is_implicit}
 use Rattle.b2_features.specs.declared.fault.FeatureFault.TheVariants.{Twice, Unknown, BadValue, ComposeConflict}
-use Rattle.b2_features.specs.Finding.{FindsOneMore, FindsParts}
-use Rattle.b2_features.proofs.Lookups.{position-push, position-none}
+use Rattle.b2_features.specs.Finding.{words_of, FindsOneMore, FindsParts}
+use Rattle.b2_features.proofs.Lookups.{position-map, position-push, position-none}
 
 text_itself : (x : List ℕ) → bytes_eq x x ≡ true
 text_itself x = nat_list_eq_equiv.refl x
@@ -91,6 +91,39 @@ composed_other (f ∷ more) name value parts other apart = go (bytes_eq name f.n
         ap (λ b. cond b (Some (with_parts f value parts)) (feature_of more other)) same ∙ sym (ap (λ b. cond b (Some f) (feature_of more other)) same)
     go false e later = ap (cond (bytes_eq other f.name) (Some f)) later
 
+-- a feature with further components keeps its name, its values and its attributes, so that it stands where it stood
+composed_names : (table : List Declared) (name value : List ℕ) (parts : List (List ℕ × List ℕ)) → map (λ f. f.name) (composed table name value parts) ≡ map (λ f. f.name) table
+composed_names [] name value parts = refl
+composed_names (f ∷ more) name value parts = go (bytes_eq name f.name) (composed_names more name value parts)
+  where
+    go : (b : Bool) → map (λ g. g.name) (composed more name value parts) ≡ map (λ g. g.name) more → map (λ g. g.name) (cond b (with_parts f value parts ∷ more) (f ∷ composed more name value parts)) ≡ f.name ∷ map (λ g. g.name) more
+    go true later = refl
+    go false later = ap (λ names. f.name ∷ names) later
+
+composed_place : (table : List Declared) (name value : List ℕ) (parts : List (List ℕ × List ℕ)) (other : List ℕ) → place_of (composed table name value parts) other ≡ place_of table other
+composed_place table name value parts other =
+    sym (position-map (bytes_eq other) (λ f. f.name) (composed table name value parts)) ∙ ap (position (bytes_eq other)) (composed_names table name value parts)
+    ∙ position-map (bytes_eq other) (λ f. f.name) table
+
+composed_implicit : (table : List Declared) (name value : List ℕ) (parts : List (List ℕ × List ℕ)) (word : List ℕ) → implicit_of (composed table name value parts) word ≡ implicit_of table word
+composed_implicit [] name value parts word = refl
+composed_implicit (f ∷ more) name value parts word = go (bytes_eq name f.name) (is_implicit_in word f) refl (composed_implicit more name value parts word)
+  where
+    go : (b here : Bool) → is_implicit_in word f ≡ here → implicit_of (composed more name value parts) word ≡ implicit_of more word
+        → implicit_of (cond b (with_parts f value parts ∷ more) (f ∷ composed more name value parts)) word ≡ implicit_of (f ∷ more) word
+    go true true e later =
+        ap (λ c. option_map (λ g. g.name) (cond c (Some (with_parts f value parts)) (find (is_implicit_in word) more))) e
+        ∙ sym (ap (λ c. option_map (λ g. g.name) (cond c (Some f) (find (is_implicit_in word) more))) e)
+    go true false e later =
+        ap (λ c. option_map (λ g. g.name) (cond c (Some (with_parts f value parts)) (find (is_implicit_in word) more))) e
+        ∙ sym (ap (λ c. option_map (λ g. g.name) (cond c (Some f) (find (is_implicit_in word) more))) e)
+    go false true e later =
+        ap (λ c. option_map (λ g. g.name) (cond c (Some f) (find (is_implicit_in word) (composed more name value parts)))) e
+        ∙ sym (ap (λ c. option_map (λ g. g.name) (cond c (Some f) (find (is_implicit_in word) more))) e)
+    go false false e later =
+        ap (λ c. option_map (λ g. g.name) (cond c (Some f) (find (is_implicit_in word) (composed more name value parts)))) e
+        ∙ later ∙ sym (ap (λ c. option_map (λ g. g.name) (cond c (Some f) (find (is_implicit_in word) more))) e)
+
 lookup-push : {X : Type 0} (p : List ℕ → Bool) (es : List (List ℕ × X)) (k : List ℕ) (x : X) → lookup p (es ++ (k, x) ∷ []) ≡ option_or (lookup p es) (cond (p k) (Some x) None)
 lookup-push p [] k x = refl
 lookup-push {X} p (e ∷ es) k x = go (p e.0) (lookup-push p es k x)
@@ -133,9 +166,16 @@ pub finds_parts : (table : List Declared) (name value : List ℕ) (parts : List 
 finds_parts table name value parts sound = record {
   by_value = ap (option_and_then (λ f. parts_of f value)) (composed_here table name value parts) ∙ here (feature_of table name) refl (known table name value parts sound (feature_of table name) refl);
   other_values = λ other apart. ap (option_and_then (λ f. parts_of f other)) (composed_here table name value parts) ∙ beside other apart (feature_of table name);
+  words = ap (option_map words_of) (composed_here table name value parts) ∙ same_words (feature_of table name);
   others = λ other apart. composed_other table name value parts other apart;
+  places = composed_place table name value parts;
+  implicit = composed_implicit table name value parts;
 }
   where
+    same_words : (o : Option Declared) → option_map words_of (option_map (λ f. with_parts f value parts) o) ≡ option_map words_of o
+    same_words None = refl
+    same_words (Some f) = refl
+
     here : (o : Option Declared) → feature_of table name ≡ o → is_some o ≡ true → option_and_then (λ f. parts_of f value) (option_map (λ f. with_parts f value parts) o) ≡ Some parts
     here None found there = cc
     here (Some f) found there =

@@ -11,7 +11,7 @@ use Rattle.b2_features.specs.Table.{Declared, HasDistinctNames, is_whole, featur
 use Rattle.b2_features.specs.Faults.{is_with}
 use Rattle.b2_props.specs.Sets.{Pair, same, value_of, firsts, free_of, written, IsSet}
 use Rattle.b2_props.specs.Refinement.{names, parts_in, components, brought, completed_from, completed, default_pair, defaults, expanded, refined}
-use Rattle.b2_props.specs.Laws.{is_single, HasRequired, KeepsOthers, KeepsValues, HasAllValues, KeepsFree}
+use Rattle.b2_props.specs.Laws.{is_single, HasRequired, KeepsOthers, KeepsValues, HasAllValues, is_among, KeepsFree}
 use Rattle.b2_props.proofs.Pairs.{value_of-append, option_or-none}
 use Rattle.b2_props.proofs.Completing.{names-append}
 use Rattle.b2_props.proofs.Reading.{name_of_found}
@@ -218,38 +218,50 @@ expanded_all table set distinct all_whole = λ f found free optional.
 
 -- ---- free pairs
 
--- the pairs at their first places begin with those of the first list
-record Begins (xs all : List Pair) : Type 0 where
-  others : List Pair
-  is : all ≡ xs ++ others
+filter_all : (xs : List Pair) → filter (λ x. true) xs ≡ xs
+filter_all [] = refl
+filter_all (x ∷ xs) = ap (λ ys. x ∷ ys) (filter_all xs)
 
-firsts_begin : (xs ys : List Pair) → Begins (firsts xs) (firsts (xs ++ ys))
-firsts_begin [] ys = record { others = firsts ys; is = refl }
-firsts_begin (x ∷ xs) ys =
-    let more = firsts_begin xs ys in record {
-      others = filter (λ q. not (same x q)) more.others;
-      is = ap (λ zs. x ∷ filter (λ q. not (same x q)) zs) more.is ∙ ap (λ zs. x ∷ zs) (filter-append (λ q. not (same x q)) (firsts xs) more.others);
-    }
+filter_neither : (p q : Pair → Bool) (xs : List Pair) → filter (λ x. not (p x)) (filter (λ x. not (q x)) xs) ≡ filter (λ x. not (p x || q x)) xs
+filter_neither p q [] = refl
+filter_neither p q (x ∷ xs) = go (p x) (q x) refl (filter_neither p q xs)
+  where
+    once : List Pair
+    once = filter (λ y. not (q y)) xs
+
+    both : List Pair
+    both = filter (λ y. not (p y || q y)) xs
+
+    go : (a b : Bool) → p x ≡ a → filter (λ y. not (p y)) once ≡ both → filter (λ y. not (p y)) (cond (not b) (x ∷ once) once) ≡ cond (not (a || b)) (x ∷ both) both
+    go true true e more = more
+    go false true e more = more
+    go true false e more = ap (λ c. cond (not c) (x ∷ filter (λ y. not (p y)) once) (filter (λ y. not (p y)) once)) e ∙ more
+    go false false e more = ap (λ c. cond (not c) (x ∷ filter (λ y. not (p y)) once) (filter (λ y. not (p y)) once)) e ∙ ap (λ ys. x ∷ ys) more
+
+-- the first places of two lists are those of the one, then those of the other that are not in it
+firsts-append : (xs ys : List Pair) → firsts (xs ++ ys) ≡ firsts xs ++ filter (λ q. not (is_among xs q)) (firsts ys)
+firsts-append [] ys = sym (filter_all (firsts ys))
+firsts-append (x ∷ xs) ys =
+    ap (λ zs. x ∷ filter (λ q. not (same x q)) zs) (firsts-append xs ys)
+    ∙ ap (λ zs. x ∷ zs) (filter-append (λ q. not (same x q)) (firsts xs) (filter (λ q. not (is_among xs q)) (firsts ys)))
+    ∙ ap (λ zs. x ∷ filter (λ q. not (same x q)) (firsts xs) ++ zs) (filter_neither (same x) (is_among xs) (firsts ys))
 
 -- the free pairs of a set stand once
 free_once : (table : List Declared) (set : List Pair) → HasDistinctNames table → IsSet table set → firsts (free_of table set) ≡ free_of table set
 free_once table set distinct is = sym (free_written table (value_of set) (firsts (free_of table set)) distinct (once_free table set)) ∙ ap (free_of table) is
 
-pub written_free : (table : List Declared) (v : List ℕ → Option (List ℕ)) (set more : List Pair) → HasDistinctNames table → IsSet table set → KeepsFree table set (written table v (firsts (free_of table (set ++ more))))
+pub written_free : (table : List Declared) (v : List ℕ → Option (List ℕ)) (set more : List Pair) → HasDistinctNames table → IsSet table set → KeepsFree table set more (written table v (firsts (free_of table (set ++ more))))
 written_free table v set more distinct is =
-    let begin = firsts_begin (free_of table set) (free_of table more) in record {
-      others = begin.others;
-      free =
-          free_written table v (firsts (free_of table (set ++ more))) distinct (once_free table (set ++ more))
-          ∙ ap firsts (filter-append (λ p. is_with Free table p.0) set more) ∙ begin.is ∙ ap (λ (ps : List Pair). ps ++ begin.others) (free_once table set distinct is);
-    }
+    free_written table v (firsts (free_of table (set ++ more))) distinct (once_free table (set ++ more))
+    ∙ ap firsts (filter-append (λ p. is_with Free table p.0) set more) ∙ firsts-append (free_of table set) (free_of table more)
+    ∙ ap (λ (ps : List Pair). ps ++ filter (λ p. not (is_among (free_of table set) p)) (firsts (free_of table more))) (free_once table set distinct is)
 
-pub refined_free : (table : List Declared) (set required : List Pair) → HasDistinctNames table → IsSet table set → KeepsFree table set (refined table set required)
+pub refined_free : (table : List Declared) (set required : List Pair) → HasDistinctNames table → IsSet table set → KeepsFree table set (completed table required) (refined table set required)
 refined_free table set required distinct is = written_free table (λ feature. option_or (last_of (completed table required) feature) (value_of set feature)) set (completed table required) distinct is
 
-pub expanded_free : (table : List Declared) (set : List Pair) → HasDistinctNames table → IsSet table set → KeepsFree table set (expanded table set)
+pub expanded_free : (table : List Declared) (set : List Pair) → HasDistinctNames table → IsSet table set → KeepsFree table set (components table set ++ defaults table) (expanded table set)
 expanded_free table set distinct is =
-    subst (λ whole. KeepsFree table set (written table (value_of whole) (firsts (free_of table whole)))) (sym (append_assoc set (components table set) (defaults table)))
+    subst (λ whole. KeepsFree table set (components table set ++ defaults table) (written table (value_of whole) (firsts (free_of table whole)))) (sym (append_assoc set (components table set) (defaults table)))
     (written_free table (value_of (set ++ (components table set ++ defaults table))) set (components table set ++ defaults table) distinct is)
 
 -- ---- answers

@@ -1,9 +1,10 @@
-use Rattle.std.specs.Prelude.{◌≡◌, Bool, true, false, not, ℕ, List, [], ◌++◌, reverse, Some}
+use Rattle.std.specs.Prelude.{◌≡◌, Bool, true, false, not, ℕ, List, [], ◌++◌, filter, reverse, Some}
+use Rattle.std.specs.List.{list_any}
 use Rattle.std.specs.Option.{option_map_or}
 use Rattle.b2_features.specs.declared.attribute.Attribute.TheVariants.{Free, Optional}
 use Rattle.b2_features.specs.Attributes.{has}
 use Rattle.b2_features.specs.Table.{Declared, HasDistinctNames, feature_of}
-use Rattle.b2_props.specs.Sets.{Pair, IsSet, value_of, free_of}
+use Rattle.b2_props.specs.Sets.{Pair, IsSet, same, value_of, firsts, free_of}
 use Rattle.b2_props.specs.Refinement.{names, components, refined}
 
 -- in a table with distinct names, a set that is refined twice by the same list is as it is after the first time
@@ -35,7 +36,10 @@ KeepsValues table set made = (feature : List ℕ) → is_single table feature �
 abbrev pub HasAllValues : List Declared → List Pair → Type 0
 HasAllValues table made = (f : Declared) → feature_of table f.name ≡ Some f → has Free f.attributes ≡ false → has Optional f.attributes ≡ false → names made f.name ≡ true
 
--- the free pairs are as before, with others after them
-pub record KeepsFree (table : List Declared) (set made : List Pair) : Type 0 where
-  pub others : List Pair
-  pub free : free_of table made ≡ free_of table set ++ others
+-- whether a pair is among some
+abbrev pub is_among : List Pair → Pair → Bool
+is_among pairs pair = list_any (λ p. same p pair) pairs
+
+-- the free pairs are as before; after them stand those that were added and were not there, in order, each once
+abbrev pub KeepsFree : List Declared → List Pair → List Pair → List Pair → Type 0
+KeepsFree table set added made = free_of table made ≡ free_of table set ++ filter (λ p. not (is_among (free_of table set) p)) (firsts (free_of table added))

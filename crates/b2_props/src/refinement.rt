@@ -6,7 +6,7 @@ ghost use Rattle.b2_features.specs.declared.attribute.Attribute.TheVariants.{Fre
 ghost use Rattle.b2_features.specs.Table.{HasDistinctNames, is_whole};
 ghost use Rattle.b2_features.specs.Faults.{is_with};
 ghost use Rattle.b2_props.specs.Sets.{set_of, IsSet};
-ghost use Rattle.b2_props.specs.Refinement.{names, expanded, completed, refined};
+ghost use Rattle.b2_props.specs.Refinement.{names, components, defaults, expanded, completed, refined};
 ghost use Rattle.b2_props.specs.Laws.{HasRequired, KeepsOthers, KeepsValues, HasAllValues, KeepsFree};
 
 use crate::draft::Draft;
@@ -57,7 +57,7 @@ pub fn expand(alloc: Global, registry: &Registry, set: &Props) -> Result<Props, 
     // What follows of the value, in other words.
     ensures kept { IfOk result (KeepsValues registry.now set.now) }
     ensures all { IfOk result (HasAllValues registry.now) }
-    ensures free { IfOk result (KeepsFree registry.now set.now) }
+    ensures free { IfOk result (KeepsFree registry.now set.now (components registry.now set.now ++ defaults registry.now)) }
 {
     completed_set(alloc, registry, set)
 }
@@ -143,7 +143,7 @@ pub fn refine(
     // What follows of the value, in other words.
     ensures required { IfOk result (HasRequired registry.now required.now) }
     ensures others { IfOk result (KeepsOthers registry.now set.now required.now) }
-    ensures free { IfOk result (KeepsFree registry.now set.now) }
+    ensures free { IfOk result (KeepsFree registry.now set.now (completed registry.now required.now)) }
 {
     refined_set(alloc, registry, set, required)
 }

@@ -27,4 +27,4 @@ returns-clause-all c =
 pub returns-clause-free : goal.returns-clause-free
 returns-clause-free c =
     let table = c.args.registry.now in
-    if_both c.completed_set.result c.completed_set.ensures.distinct c.completed_set.ensures.value (λ made distinct is. subst (KeepsFree table c.args.set.now) (sym is) (expanded_free table c.args.set.now distinct c.requires))
+    if_both c.completed_set.result c.completed_set.ensures.distinct c.completed_set.ensures.value (λ made distinct is. subst (KeepsFree table c.args.set.now (components table c.args.set.now ++ defaults table)) (sym is) (expanded_free table c.args.set.now distinct c.requires))

@@ -30,4 +30,4 @@ returns-clause-others c =
 pub returns-clause-free : goal.returns-clause-free
 returns-clause-free c =
     let table = c.args.registry.now in
-    if_both c.refined_set.result c.refined_set.ensures.distinct c.refined_set.ensures.value (λ made distinct is. subst (KeepsFree table c.args.set.now) (sym is) (refined_free table c.args.set.now c.args.required.now distinct c.requires))
+    if_both c.refined_set.result c.refined_set.ensures.distinct c.refined_set.ensures.value (λ made distinct is. subst (KeepsFree table c.args.set.now (completed table c.args.required.now)) (sym is) (refined_free table c.args.set.now c.args.required.now distinct c.requires))
