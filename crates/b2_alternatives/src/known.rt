@@ -65,7 +65,7 @@ impl KnownNames {
             .any(|project| own == *project)
     }
 
-    /// Adds a name.
+    /// Adds a name, which may be known already.
     pub fn add(&mut self, name: &TargetName) -> Result<(), OutOfMemory>
         ensures { (names : List Name) → AreKnown names self.old → OnOk result (AreKnown (names ++ name.now ∷ []) self.new) }
     {

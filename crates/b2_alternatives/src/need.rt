@@ -32,7 +32,7 @@ pub struct Need {
     pub meaning: Meaning,
 }
 
-/// What comes next.
+/// What the walk over the needs of an alternative does next.
 #[derive(Drop)]
 pub enum Next {
     /// Nothing more.

@@ -15,7 +15,7 @@ pub enum TokenKind {
 /// A token with its place in the source.
 #[derive(Debug, Drop)]
 pub struct Token {
-    /// What it is.
+    /// Whether a word, a sign or a body of an action.
     pub kind: TokenKind,
     /// What it says, which for a word with quotes or escapes is not its spelling.
     pub text: Text,

@@ -5,7 +5,7 @@ use b2_declarations::declaration::Kind;
 use b2_props::props::Props;
 use b2_virtual::entry::Supply;
 
-/// A main target whose steps are made.
+/// What the steps of a main target are made from; all parts are borrowed.
 #[derive(Clone, Copy)]
 pub struct Site<'a> {
     pub kind: Kind,

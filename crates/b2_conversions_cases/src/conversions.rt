@@ -1,4 +1,4 @@
-//! What main targets make. There are tables of features, types and generators at hand, a project, a set of
+//! What main targets make. There are current tables of features, types and generators, a project, a set of
 //! properties, what sources and libraries supply, and the steps so far; all are empty at first.
 //!
 //! - `new` empties all, `new_target` the properties and what is supplied, `new_steps` the steps.

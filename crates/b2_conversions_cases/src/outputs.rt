@@ -1,4 +1,4 @@
-//! Joined steps, and the paths of outputs. There are steps at hand, none at first.
+//! Joined steps, and the paths of outputs. There are current steps, none at first.
 //!
 //! - `add NAME TEXT : OUTS : INS : DIRS : FLAGS` lets a step join the others and shows its number, or the path that clashes,
 //!   or how many steps there would be. A flag is `always` or `notfile`; lists at the end may be left out.

@@ -1,4 +1,4 @@
-//! What texts name in a loaded project. There is a load at hand, at first empty: projects and their calls.
+//! What texts name in a loaded project. There is a current load, at first empty: projects and their calls.
 //!
 //! - `new` begins a load. `project DIR` adds a project without a parent, `project DIR PLACE` one whose parent is the project
 //!   at a place; places count from 0. They answer the place of the project.

@@ -83,7 +83,7 @@ impl Store {
         }
     }
 
-    /// The bytes at a path.
+    /// The bytes of the file at a path; none where a folder is there or nothing.
     pub fn bytes(&self, path: &Path) -> Option<&[u8]>
         ensures { option_copied result ≡ bytes_at (told self.now).now path.now }
     {

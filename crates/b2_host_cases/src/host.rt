@@ -1,5 +1,5 @@
-//! Texts, paths and makers of a plan, and the host and the sink in memory. A map from texts, a host and a sink are at hand; `new`
-//! makes all three anew. The other commands stand each with their words in the files of host/: the map and the sink (`session`),
+//! Texts, paths and makers of a plan, and the host and the sink in memory. There are a current map from texts, host and sink; `new`
+//! makes all three new. The other commands stand each with their words in the files of host/: the map and the sink (`session`),
 //! texts, paths, plans, files of the host, child processes, what is told to the host of calls to come (`script_commands`), and
 //! looks at it; those that make one call of a host or a sink in `host_calls.rt`.
 

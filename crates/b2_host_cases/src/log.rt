@@ -1,4 +1,4 @@
-//! The log of actions. A log is at hand, at first the one without a line.
+//! The log of actions. There is a current log, at first the one without a line.
 //!
 //! In a text line and in an answer `␉` stands for a tab, and in an answer `␊` for a line feed, since a backslash with a
 //! letter is what a field of the log may hold.

@@ -96,7 +96,7 @@ impl<'a, F: Files, S: Entry> OwnText<'a, F, S> {
             .returned(self.alloc, loaded, project, rule, line, texts)
     }
 
-    /// The text of a step.
+    /// Asks the own text of the projects for the command of a step.
     fn text_of(&mut self, job: &StepJob) -> Result<StepText, EvalFault>
         ensures asks { AsksStep F.outside job.now self.old.projects.now self.old.loaded.world self.old.host.files self.new.host.files result }
         ensures projects { self.new.projects.now ≡ self.old.projects.now }

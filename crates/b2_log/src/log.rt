@@ -189,7 +189,7 @@ impl Log {
     }
 }
 
-/// The longest prefix of the bytes that is made of good lines, as a log. What follows it is left out, be it a line without
+/// The longest prefix of the bytes that is made of good lines, as a log. What follows it is left out, also a line without
 /// its end or of another form; so its only error is out of memory. Takes time in proportion to the length, times its
 /// logarithm for the look-ups.
 pub fn read_log(alloc: Global, bytes: &[u8]) -> Result<Log, OutOfMemory>

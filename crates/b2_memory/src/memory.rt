@@ -29,7 +29,7 @@ use std::rc::Rc;
 
 /// Files and children in memory.
 ///
-/// Stamps count from 1. Each write takes the next one, be it an edit, an append, a replacement or an output of a child, and
+/// Stamps count from 1. Each write takes the next one, for an edit, an append, a replacement or an output of a child, and
 /// so does a write that fails, after which the file has what was left of the piece, for an append after its old bytes. A
 /// deletion takes none. What a child writes is decided when it starts, by the bytes that its inputs have then, and stands
 /// when it ends. `stat`, `remove`, `wait_one` and `reopen` take no memory.

@@ -118,7 +118,7 @@ carried_out v c (Some d) t = with_accepted v c d t
 abbrev pub fresh_tables : ℕ → Tables
 fresh_tables projects = record { features = []; registered = record { types = []; generators = [] }; has_gcc = false; begun = replicate projects false }
 
--- no tables
+-- the tables before anything was declared, for as many projects as were visited
 abbrev pub no_tables : List Visit → Tables
 no_tables visits = fresh_tables (length visits)
 

@@ -1,4 +1,4 @@
-//! The texts of refusals, which are put to the line at hand.
+//! The texts of refusals, which are put to the current line.
 use b2_features::fault::FeatureFault;
 use b2_walk::fault::LoadFault;
 use jam_effects::fault::{EvalCause, EvalFault};

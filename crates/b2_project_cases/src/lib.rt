@@ -1,7 +1,7 @@
-//! The commands of the part `loads` of a transcript: loading, over files in memory. Files are at hand, none at first, and what was
+//! The commands of the part `loads` of a transcript: loading, over files in memory. There are files, none at first, and what was
 //! loaded last.
 //!
-//! - `new` begins anew: no files, nothing loaded, 1,000,000 turns for each load.
+//! - `new` starts over: no files, nothing loaded, 1,000,000 turns for each load.
 //! - `edit PATH` makes the text lines of the command the file, `edit PATH BYTES` those bytes, `edit PATH TEXT TIMES` a text, so
 //!   many times.
 //! - `turns N` gives each load so many turns; `fail_calls KIND N ..` lets the N-th calls of a kind (`read`, `stat`, `list`)

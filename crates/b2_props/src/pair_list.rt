@@ -56,7 +56,7 @@ impl Model for PairList {
 }
 
 impl PairList {
-    /// No pairs.
+    /// No pairs; takes no memory.
     pub fn new(alloc: Global) -> PairList
         ensures { result ≡ [] }
     {

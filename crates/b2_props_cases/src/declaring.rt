@@ -29,7 +29,7 @@ fn push_fault(answer: &mut Answer, fault: &FeatureFault) {
     }
 }
 
-/// The answer to a fault.
+/// The line of a fault of the registry: its kind, then its word.
 pub fn refused(alloc: Global, fault: FeatureFault) -> Result<Answer, CaseFault> {
     let fault = ManuallyDrop::new(fault);
     let mut answer = Answer::new(alloc);

@@ -1,4 +1,4 @@
-//! The cases of features, sets of properties and requests. There is a table of features at hand, at first empty, and a set
+//! The cases of features, sets of properties and requests. There is a current table of features, at first empty, and a set
 //! of properties, at first empty too. Each command has the name of the call that it makes.
 //!
 //! - `new` puts an empty table, an empty set and an empty list of sets in place, `new_set` an empty set alone.
@@ -8,9 +8,9 @@
 //! - `count`, `at PLACE`, `place_of NAME`, `find NAME`, `implicit_of VALUE`, `default_of NAME`, `is NAME ATTRIBUTE`,
 //!   `lists NAME VALUE`, `default_value NAME`, `parts_of PROPERTY`, `name ATTRIBUTE`, `stands_in ATTRIBUTE WORDS` and
 //!   `is_attribute_word WORD` ask the table, its features and the attributes.
-//! - `set_of PROPERTIES`, `expand` and `refine PROPERTIES` put a set in place and show it; the last two make it of the set
-//!   at hand. `propagated`, `dir_of` and `contains PROPERTY` ask the set at hand, `has_all PROPERTIES` its `PairIndex`.
-//! - `copy` adds a copy of the set at hand to a list of sets, which it shows; `equals` compares the set at hand with each
+//! - `set_of PROPERTIES`, `expand` and `refine PROPERTIES` put a set in place and show it; the last two make it of the
+//!   current set. `propagated`, `dir_of` and `contains PROPERTY` ask the current set, `has_all PROPERTIES` its `PairIndex`.
+//! - `copy` adds a copy of the current set to a list of sets, which it shows; `equals` compares the current set with each
 //!   set of that list.
 //! - `read_request WORDS` shows the targets and the sets of a request, or its refusal.
 //! - `read_property DIR TEXT`, `read_usage DIR TEXT` and `read_requirement DIR TEXT` read a property text of the project of
@@ -79,7 +79,7 @@ fn equals(
     Ok(answer)
 }
 
-/// Asks the set at hand or the table.
+/// Asks the current set or the table.
 fn ask(
     alloc: Global,
     registry: &Registry,
@@ -98,7 +98,7 @@ fn ask(
     }
 }
 
-/// The table and the set at hand, and the sets that were copied.
+/// The current table and set, and the sets that were copied.
 ///
 /// What is put in place of a table lets it be, until the process ends: a crate that takes it apart proves the drop of all
 /// that it holds.

@@ -1,4 +1,4 @@
-//! The cases of requirements, of alternatives, and of types and generators. There is a table of features at hand, a request,
+//! The cases of requirements, of alternatives, and of types and generators. There is a current table of features, a request,
 //! a list of requirements, rules for the indirect ones, the conditions of alternatives, and a table of types and generators;
 //! all are empty at first. Each command that makes a call has its name.
 //!
@@ -10,7 +10,7 @@
 //! - `rule` adds a rule, numbered from 0. `row CONDITIONS : PROPERTIES` lets the newest rule answer with the properties too
 //!   where a set has the conditions; `fault CONDITIONS : WORD` lets it answer there with a fault.
 //! - `evaluate` shows the set, or the two sets of which neither stays, or the fault of a rule.
-//! - `alternative CONDITION` adds an alternative; `choose` shows which one is chosen for the set at hand.
+//! - `alternative CONDITION` adds an alternative; `choose` shows which one is chosen for the current set.
 //! - `register_type NAME SUFFIXES` and `register ID SOURCES : TARGETS : REQUIRED` answer whether they registered it.
 //!   `type_of PATH`, `suffix_of NAME` and `generator ID` ask the table. `chain FROM TO PROPERTIES` shows the ids of the
 //!   chain in the set that the properties make, or why there is none.
@@ -111,7 +111,7 @@ fn rule_command(
     }
 }
 
-/// What is at hand.
+/// The table and what was declared and made in it.
 ///
 /// What is put in place of a table lets it be, until the process ends: a crate that takes it apart proves the drop of all
 /// that it holds.

@@ -154,7 +154,7 @@ in_members = (in_path, Some (7 ∷ [])) ∷ []
 abbrev pub after_copying : Folder → List LogLine → Update
 after_copying now log = next_update copying now log true 4
 
--- a file that was written anew
+-- a file that was written again
 abbrev pub new_file : File
 new_file = record { stamp = 3; bytes = 8 ∷ [] }
 

@@ -61,7 +61,7 @@ TrueWithLine = (m : Making) (past : List Past) (log : List LogLine) (line : LogL
 abbrev pub TruePrefix : Type 0
 TruePrefix = (m : Making) (past : List Past) (front rest : List LogLine) → LogTrue m past (front ++ rest) → LogTrue m past front
 
--- so is what an append leaves that was torn, be it of a true line
+-- so is what an append leaves that was torn, also one of a true line
 abbrev pub TrueAfterTornAppend : Type 0
 TrueAfterTornAppend = (m : Making) (past : List Past) (log front rest : List LogLine) (line : LogLine) → LogTrue m past log → IsTrueLine m past line → log ++ line ∷ [] ≡ front ++ rest → LogTrue m past front
 

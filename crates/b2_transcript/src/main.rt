@@ -1,6 +1,6 @@
 //! The transcript of b2, from texts, paths and the host in memory over the language of project files to the whole program.
 //! `part NAME` says which part carries out the commands that follow; at first it is `host`. A part keeps what it holds while another
-//! one is at hand; the crate that carries out the commands of a part tells them.
+//! one is current; the crate that carries out the commands of a part tells them.
 //!
 //! - `host`, `log`, `words`: b2_host_cases.
 //! - `language`: jam_cases.

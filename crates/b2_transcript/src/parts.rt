@@ -1,4 +1,4 @@
-//! What the parts of the transcript hold, and which of them is at hand.
+//! What the parts of the transcript hold, and which of them is current.
 use crate::part::Part;
 use b2_base::fault::OutOfMemory;
 use b2_cases::memory::session::InMemory;

@@ -4,7 +4,7 @@ ghost use Rattle.b2_plan.specs.Plans.{step_at};
 
 use b2_plan::step::Step;
 
-/// The step with a number.
+/// The step with a number, which counts from 1.
 pub fn step_of(steps: &[Step], number: u32) -> &Step
     requires some { 0 < number }
     requires within { number ≤ length steps.now }

@@ -49,7 +49,7 @@ fn spot_of_name(alloc: Global, text: &str) -> Result<Text, OutOfMemory>
     slashed_here(alloc, text)
 }
 
-/// The spot of a path.
+/// The spot of a path: a text that begins the spot of each path inside, and of no other one.
 pub fn spot(alloc: Global, path: &Path) -> Result<Text, OutOfMemory>
     ensures { IfOk result (λ made. made ≡ spot path.now) }
 {

@@ -207,7 +207,7 @@ leads_on_from words a old new turns outside same known h =
     (leads_passed (walked words) (walked words) a (stand old turns outside) new.named.passed
     (subst (λ (w : Walk). ArePassed w.visits new.named.passed w.named) (same turns.left) known) h)
 
--- the directory that is due, where those of the words are at hand
+-- the directory that is due, where those of the words are known
 pub due_told : (words : List Text) (old new : Walking) (left : ℕ) (last : List Text) (found : Option Text) → ((n : ℕ) → walk_of new n ≡ walk_of old n) → last ≡ directories here words
     → found ≡ first_new old.visits (old.named.dirs.items ++ last) → due words (walk_of new left) ≡ found
 due_told words old new left last found same dirs is =

@@ -6,7 +6,7 @@ use b2_base::text_list::TextList;
 pub struct BuildOptions {
     /// How many child processes may run side by side, from 1 to 64.
     pub jobs: u32,
-    /// Whether all that is needed is built anew.
+    /// Whether all that is needed is built again.
     pub all: bool,
     /// Whether nothing more is started after the first failure.
     pub quit: bool,

@@ -79,7 +79,7 @@ fn bind_all(alloc: Global, world: &mut World, bindings: &[Bound]) -> Result<(), 
     Ok(())
 }
 
-/// Opens the frame of a call of a rule that is at home in a module. The frames below it stay, so that a called rule sees what
+/// Opens the frame of a call of a rule that belongs to a module. The frames below it stay, so that a called rule sees what
 /// is local in its callers.
 fn open_call(world: &mut World, home: &str) -> Result<(), OutOfMemory>
     ensures ok { OnOk result (world.new ≡ rescoped (enter_call home.now) world.old) }
@@ -89,7 +89,7 @@ fn open_call(world: &mut World, home: &str) -> Result<(), OutOfMemory>
     world.enter_call(home)
 }
 
-/// Opens the frame of a call of a rule that is at home in a module, with these bindings.
+/// Opens the frame of a call of a rule that belongs to a module, with these bindings.
 pub fn enter_call(
     alloc: Global,
     world: &mut World,

@@ -103,7 +103,7 @@ two_are_not =
     (word_list 2 (levels (with_turns 2) 256) (codes "$(X)") (codes "a" ∷ []) (at_line 2) (record (x_set 2) { left = 0 }) (reads_X (look (x_set 2).worlds.now.scopes) (x_is 2)) refl)))))
     refl
 
--- ---- a rule that is defined anew
+-- ---- a rule that is defined again
 
 abbrev second_block : StmtTrees
 second_block = lines (echo (codes "second") ∷ [])

@@ -39,7 +39,7 @@ pub fn marked_params()
     ensures refused { MarksRefuse }
 {}
 
-/// A call runs the rule that stood when it began, also where the rule is defined anew in it.
+/// A call runs the rule that stood when it began, also where the rule is defined again in it.
 pub fn redefined_rule()
     ensures { RedefinedRule }
 {}

@@ -18,7 +18,7 @@ pub enum NativeStep {
     Each {
         /// The rule, with further elements of its first argument.
         rule: TextList,
-        /// The items.
+        /// The elements that the rule is called with, one call each.
         items: TextList,
         /// Whether items are kept.
         filter: bool,

@@ -158,7 +158,7 @@ fn trim(text: &str) -> &str
     &rest[..length_without_end(rest.as_bytes())]
 }
 
-/// The text of a body.
+/// The text of an action body: its words expanded, with the white space between them as it is.
 fn expanded<L: Look>(alloc: Global, body: &str, look: &L) -> Result<Text, ExpandFault>
     requires { HasNoZero body.now }
     ensures { IsGivenBy result (body_expansion (L.answer look.now) body.now) }

@@ -111,7 +111,7 @@ fn take_last(places: &mut Vec<usize>, place: usize) -> bool
     true
 }
 
-/// The pieces of a word.
+/// The pieces of a word, in order: plain text and references to variables.
 pub fn pieces_of<'a>(alloc: Global, word: &'a str) -> Result<Vec<Piece<'a>>, OutOfMemory>
     ensures { IfOk result (λ pieces. map shown pieces.items ≡ pieces_of word.now) }
 {

@@ -1,4 +1,4 @@
--- What the machine leaves to be read after a mark, after that mark, is what there was to read.
+-- A mark and then what the machine leaves to be read after it are what was to be read before.
 use Rattle.std.proofs.Common.{◌≡◌, ℕ, zero, suc, ◌+◌, ◌≤◌, List, [], ◌∷◌, ◌++◌, Bool, true, false, Some, None, IsTrue, nat_le, if◌then◌else◌, refl, sym, subst, arith, append_assoc}
 use Rattle.jam_grammar.specs.declared.mark.Mark.{Mark}
 use Rattle.jam_grammar.specs.declared.mark.Mark.TheVariants as m

@@ -30,7 +30,7 @@ abbrev pub mark_in : List (List ℕ × Mark) → List ℕ → Mark
 mark_in [] text = Unknown
 mark_in (row ∷ rows) text = if bytes_eq text row.0 then row.1 else mark_in rows text
 
--- the mark of a key
+-- a key that the list does not have is unknown
 unfoldable pub mark_of_key : List ℕ → Mark
 mark_of_key text = mark_in key_marks text
 

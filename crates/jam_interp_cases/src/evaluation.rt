@@ -1,6 +1,6 @@
 //! The part `evaluation`: files in memory that are run with the native rules. The text lines of a command are statements.
 //!
-//! - `new` begins anew: no files, an empty world, the global module, 1,000,000 turns for each run.
+//! - `new` starts over: no files, an empty world, the global module, 1,000,000 turns for each run.
 //! - `file PATHS` puts a file with the text lines at each path; `module NAME` makes this the module of the files that are run.
 //! - `turns N` gives each run so many turns.
 //! - `run PATH` runs the text lines as a file of this path. It shows the lines of ECHO, then why it ended, unless all was done.

@@ -2,7 +2,7 @@
 use b2_base::text::Text;
 use transcript::answer::Answer;
 
-/// Adds each text to the line at hand, with a space before it.
+/// Adds each text to the current line, with a space before it.
 pub fn put_each(answer: &mut Answer, texts: &[Text]) {
     for text in texts {
         answer.put(" ");

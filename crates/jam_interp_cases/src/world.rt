@@ -1,6 +1,6 @@
-//! The part `world`: the world of a build file, and the native rules that are called in it. A world is at hand, with the marks that
-//! were made of it, the native rules with what they keep, and a host in memory; all are new at first. Each command that makes a call
-//! has its name; VALUE stands for any number of words, LISTS for lists of words that are divided by `:`.
+//! The part `world`: the world of a build file, and the native rules that are called in it. There is a current world, with the
+//! marks that were made of it, the native rules with what they keep, and a host in memory; all are new at first. Each command that makes a
+//! call has its name; VALUE stands for any number of words, LISTS for lists of words that are divided by `:`.
 //!
 //! - `new` puts a new world in place, without a mark, with nothing kept and no files.
 //! - `look NAME` shows the texts of a name, each on a line. `set NAME VALUE`, `append NAME VALUE` and `bind NAME VALUE` set,
@@ -11,7 +11,7 @@
 //! - `define_rule NAME LINE` defines a rule without statements that stands in that line, and `define_actions NAME BODY`
 //!   actions. `find_rule NAME` and `find_actions NAME` show the module and the name where they are found, with the rule's home
 //!   and line, or the body. `import_rule MODULE NAME MODULE NAME` puts a rule into a module under a name.
-//!   `rule_at MODULE NAME LINE` takes a share of a rule, defines the name anew in the present module, and shows the share.
+//!   `rule_at MODULE NAME LINE` takes a share of a rule, defines the name again in the present module, and shows the share.
 //!   `rule_body MODULE NAME` shows a rule's home and line, and `rule_names MODULE` a module's own rules.
 //!   `set_parent MODULE PARENT` puts a module above another one, or answers `not above` where it may not be there.
 //! - `assigned NAME` shows the value that `set` would replace, and `assigned_size NAME` its size.

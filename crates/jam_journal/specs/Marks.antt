@@ -2,11 +2,11 @@
 use Rattle.std.specs.Prelude.{List, [], ◌∷◌, Option}
 use Rattle.std.specs.Option.{unwrap_or}
 
--- what there is now, and what there was at the marks, the newest first
+-- the present state, and the state at each mark, the newest first
 abbrev pub Marked : Type 0 → Type 0
 Marked A = A × List A
 
--- a change of what there is now alone
+-- a change of the present state alone
 abbrev pub changed : {A : Type 0} → (A → A) → Marked A → Marked A
 changed change p = (change p.0, p.1)
 
@@ -14,7 +14,7 @@ changed change p = (change p.0, p.1)
 abbrev pub marked : {A : Type 0} → Marked A → Marked A
 marked p = (p.0, p.0 ∷ p.1)
 
--- what there was at the newest mark is there now, and the mark is gone; without a mark nothing changes
+-- the state at the newest mark is the present one again, and the mark is gone; without a mark nothing changes
 abbrev pub rolled_to : {A : Type 0} → Marked A → List A → Marked A
 rolled_to p [] = p
 rolled_to p (before ∷ more) = (before, more)

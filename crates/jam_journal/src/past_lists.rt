@@ -26,7 +26,7 @@ pub struct ListChange {
     pub first: Name,
     /// The second one.
     pub second: Name,
-    /// What stood there before.
+    /// What the list was before, whole or by its length.
     pub before: Before,
 }
 

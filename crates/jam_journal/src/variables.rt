@@ -249,7 +249,7 @@ impl Variables {
         Ok(())
     }
 
-    /// Marks what there is now, to come back to it. Copies nothing of it.
+    /// Marks the present state, to come back to it. Copies nothing of it.
     pub fn mark(&mut self) -> Result<(), OutOfMemory>
         ensures ok { OnOk result (self.new ≡ marked self.old) }
         ensures err { OnErr result (self.new ≡ self.old) }

@@ -205,7 +205,7 @@ fn read_word(
     }
 }
 
-/// The tokens of a text.
+/// The tokens of a text, in order, without white space and comments.
 pub fn read_text(alloc: Global, bytes: &[u8]) -> Result<Vec<Token>, LexFault>
     requires small { length bytes.now ≤ 1048576 }
     requires text { IsText bytes.now }

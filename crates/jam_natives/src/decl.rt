@@ -7,7 +7,7 @@ use jam_journal::name::Name;
 /// A call of a declaring rule.
 #[derive(Drop)]
 pub struct Decl {
-    /// The rule.
+    /// The name of the declaring rule.
     pub rule: Name,
     /// The module in which it was called.
     pub module: Name,
@@ -15,7 +15,7 @@ pub struct Decl {
     pub dir: Path,
     /// The line of the call; the first line is 1.
     pub line: u32,
-    /// Its lists.
+    /// The arguments of the call, a list each.
     pub lists: List<TextList>,
     /// Whether it is a call of `project` whose output roots are refused.
     pub refused: bool,

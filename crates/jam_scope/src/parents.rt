@@ -103,7 +103,7 @@ impl Parents {
         Ok(())
     }
 
-    /// Marks what there is now. After an error all is as before.
+    /// Marks the present state. After an error all is as before.
     pub(crate) fn mark(&mut self) -> Result<(), OutOfMemory>
         ensures ok { OnOk result (self.new ≡ marked self.old) }
         ensures err { OnErr result (self.new ≡ self.old) }

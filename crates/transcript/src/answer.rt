@@ -69,7 +69,7 @@ impl Printed {
 pub struct Answer {
     /// The lines as they are printed. Each is ended by a line feed, but for the one that is open.
     printed: Printed,
-    /// Whether something stands on the line at hand.
+    /// Whether something stands on the current line.
     is_open: bool,
 }
 
@@ -159,7 +159,7 @@ impl Answer {
         }
     }
 
-    /// Adds a text to the line at hand. Its control bytes are shown as `\n`, `\t` or `\xHH`; a backslash stays as it is.
+    /// Adds a text to the current line. Its control bytes are shown as `\n`, `\t` or `\xHH`; a backslash stays as it is.
     pub fn put(&mut self, text: &str) {
         if !text.is_empty() {
             self.open();
@@ -169,13 +169,13 @@ impl Answer {
         }
     }
 
-    /// Adds a number in decimal to the line at hand.
+    /// Adds a number in decimal to the current line.
     pub fn put_number(&mut self, number: u64) {
         self.open();
         self.printed.push_number(number);
     }
 
-    /// Adds a space to the line at hand, but not at its start. Whatever is said to stand after a space stands after this one.
+    /// Adds a space to the current line, but not at its start. Whatever is said to stand after a space stands after this one.
     pub fn put_space(&mut self) {
         if self.is_open {
             self.printed.push(' ');
@@ -250,7 +250,7 @@ impl Answer {
         }
     }
 
-    /// Adds bytes to the line at hand as `put` does; where they are no UTF-8, each byte above 127 is shown as `\xHH`.
+    /// Adds bytes to the current line as `put` does; where they are no UTF-8, each byte above 127 is shown as `\xHH`.
     pub fn put_bytes(&mut self, bytes: &[u8]) {
         match str::from_utf8(bytes) {
             Ok(text) => self.put(text),
@@ -258,7 +258,7 @@ impl Answer {
         }
     }
 
-    /// Ends the line at hand, which may be empty.
+    /// Ends the current line, which may be empty.
     pub fn end_line(&mut self) {
         if !self.is_open {
             self.printed.push('=');

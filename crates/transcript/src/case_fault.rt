@@ -5,7 +5,7 @@ use std::alloc::{AllocError, AllocFailed};
 /// Why a command has no answer. The first two are printed, and the transcript goes on; the last one ends it.
 #[derive(Clone, Copy, Debug)]
 pub enum CaseFault {
-    /// No command of the part at hand has this name.
+    /// No command of the current part has this name.
     UnknownCommand,
     /// The command takes other words, or its line is no line of words.
     WrongWords,

@@ -222,7 +222,7 @@ impl InMemory {
         })
     }
 
-    /// `new_host`: an empty host takes the place of the one at hand.
+    /// `new_host`: an empty host takes the place of the current one.
     fn renew(&mut self, alloc: Global) -> Result<Answer, CaseFault> {
         *self = InMemory::new(alloc)?;
         Ok(Answer::new(alloc))

@@ -44,7 +44,7 @@ fn put_project(
     Ok(Answer::new(alloc))
 }
 
-/// Carries out a command that supplies something to the main target at hand, or else one that declares.
+/// Carries out a command that supplies something to the current main target, or else one that declares.
 fn supply(
     alloc: Global,
     needs: &mut Needs,

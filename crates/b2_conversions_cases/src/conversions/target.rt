@@ -1,4 +1,4 @@
-//! The main target at hand: its project, its properties, and what is supplied to it.
+//! The current main target: its project, its properties, and what is supplied to it.
 use crate::words::{file_in, pairs};
 use b2_base::path::Path;
 use b2_base::path_list::PathList;

@@ -10,7 +10,7 @@ use transcript::case_fault::CaseFault;
 use transcript::command::Command;
 use transcript::session::Session;
 
-/// The steps at hand.
+/// The current steps.
 #[derive(Drop)]
 pub struct Outputs {
     builder: ManuallyDrop<Builder>,

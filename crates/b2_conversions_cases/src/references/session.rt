@@ -9,7 +9,7 @@ use transcript::command::{Command, Word};
 use transcript::session::Session;
 use transcript::words::no_words;
 
-/// The load at hand.
+/// The current load.
 #[derive(Drop)]
 pub struct References {
     load: ManuallyDrop<Load>,

@@ -1,4 +1,4 @@
-//! The map, the host and the sink at hand.
+//! The current map, host and sink.
 use crate::answers::bytes_answer;
 use crate::host::text_commands::text_command;
 use crate::host_calls::write;

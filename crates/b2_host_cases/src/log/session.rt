@@ -1,4 +1,4 @@
-//! The log at hand.
+//! The current log.
 use crate::log::bytes::{given, lines_answer};
 use crate::log::lines::{line_of, scan_of};
 use crate::log::record_words::record_of;
@@ -131,7 +131,7 @@ fn look_command(alloc: Global, log: &Log, command: &Command) -> Result<Answer, C
     }
 }
 
-/// Puts the log that is read from bytes in place of the one at hand.
+/// Puts the log that is read from bytes in place of the current one.
 fn read(alloc: Global, log: &mut ManuallyDrop<Log>, bytes: &[u8]) -> Result<Answer, CaseFault> {
     let read = read_log(alloc, bytes)?;
     let good = read.good();

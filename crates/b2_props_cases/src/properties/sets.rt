@@ -1,4 +1,4 @@
-//! Commands to sets of properties. The set at hand is made again of its pairs, since the table may have changed.
+//! Commands to sets of properties. The current set is made again of its pairs, since the table may have changed.
 use crate::declaring::push_refusal;
 use crate::pairs::{lent_pair, lent_pairs, made};
 use crate::properties::shown::{push_sets, push_targets};
@@ -68,7 +68,7 @@ pub fn contains(alloc: Global, set: &Props, words: &[Word]) -> Result<Answer, Ca
     truth(alloc, set.contains(pair.0.as_str(), pair.1.as_str()))
 }
 
-/// Whether the index of the set at hand has all of some pairs.
+/// Whether the index of the current set has all of some pairs.
 pub fn has_all(alloc: Global, set: &Props, words: &[Word]) -> Result<Answer, CaseFault> {
     let others = lent_pairs(alloc, words)?;
     let index = ManuallyDrop::new(PairIndex::new(alloc, set.pairs())?);

@@ -1,4 +1,4 @@
-//! The machine at hand, and how files are run on it.
+//! The current machine, and how files are run on it.
 use crate::evaluation::calls::call_rule;
 use crate::evaluation::looks::look_command;
 use crate::evaluation::machine::Machine;

@@ -63,7 +63,7 @@ fn push_rule(answer: &mut Answer, rule: &Rule) {
     answer.push_line(" statements");
 }
 
-/// Shows a share of a rule, after its name was defined anew in the present module.
+/// Shows a share of a rule, after its name was defined again in the present module.
 fn rule_at(alloc: Global, world: &mut World, words: &[Word]) -> Result<Answer, CaseFault> {
     let (module, others) = first(words)?;
     let (name, line) = both(others)?;

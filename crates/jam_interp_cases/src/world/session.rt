@@ -1,4 +1,4 @@
-//! The world at hand with its native rules and files.
+//! The current world with its native rules and files.
 use crate::world::marking::marking_command;
 use b2_base::fault::OutOfMemory;
 use b2_memory::memory::MemoryHost;
