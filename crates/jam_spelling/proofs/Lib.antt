@@ -3,6 +3,5 @@ pub mod QuotedWords
 pub mod Places
 pub mod WrittenTexts
 pub mod SpelledReadsBack
-pub mod RawBodies
 pub mod LexedTexts
 pub mod Progress
