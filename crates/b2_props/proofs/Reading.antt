@@ -1,5 +1,5 @@
 use Rattle.std.proofs.Common.{◌≡◌, ◌≢◌, ℕ, zero, suc, ◌+◌, ◌<◌, Bool, true, false, cond, ◌&&◌, ◌||◌, List, [], ◌∷◌, ◌++◌, Option, Some, None, map, take, get_or, length, eqb, refl, sym, ◌∙◌, ap, ap₂, subst, arith, lit<}
-use Rattle.std.specs.List.{AllByRecursion, All, AllWithin, HoldsAt, slice_split, onto_first, find, list_any, list_all, filter_map, before_first, after_first, cons_option}
+use Rattle.std.specs.List.{AllByRecursion, All, AllWithin, HoldsAt, find, list_any, list_all, filter_map, before_first, after_first, cons_option}
 use Rattle.std.specs.Bool.{MatchBool}
 use Rattle.std.specs.Option.{option_or, option_map, option_to_list, MatchOption}
 use Rattle.std.specs.Borrow.{Bor}
@@ -11,6 +11,7 @@ use Rattle.std.proofs.lemmas.List.Elements.{All-from_recursion, recursion_from_A
 use Rattle.std.proofs.lemmas.List.Folds.{list_all_at}
 use Rattle.b2_base.specs.Bytes.{HasNoZero}
 use Rattle.b2_base.specs.Segments.{texts}
+use Rattle.b2_base.proofs.Shapes.{all_parts}
 use Rattle.b2_features.specs.Table.{Declared, is_implicit_in, feature_of, implicit_of}
 use Rattle.b2_props.specs.declared.request_fault.RequestFault.{RequestFault}
 use Rattle.b2_props.specs.declared.request_fault.RequestFault.TheVariants.{UnknownWord, UnknownValue, Conflict, OutOfMemory}
@@ -21,19 +22,6 @@ use Rattle.b2_props.proofs.Pairs.{text_is, text_itself, option_or-assoc, option_
 use Rattle.b2_props.proofs.Gaining.{next_take}
 
 -- ---- parts without a zero byte
-
-all_onto_first : (P : ℕ → Type 0) (x : ℕ) (parts : List (List ℕ)) → P x → AllByRecursion (AllByRecursion P) parts → AllByRecursion (AllByRecursion P) (onto_first x parts)
-all_onto_first P x [] h a = ((h, tt), tt)
-all_onto_first P x (part ∷ parts) h a = ((h, a.0), a.1)
-
--- the parts have what the whole has
-all_parts : (P : ℕ → Type 0) (test : ℕ → Bool) (xs : List ℕ) → AllByRecursion P xs → AllByRecursion (AllByRecursion P) (slice_split test xs)
-all_parts P test [] a = (tt, tt)
-all_parts P test (x ∷ xs) a =
-    elim (test x) as (λ b. AllByRecursion (AllByRecursion P) (cond b ([] ∷ slice_split test xs) (onto_first x (slice_split test xs)))) [
-      | true ↦ (tt, all_parts P test xs a.1)
-      | false ↦ all_onto_first P x (slice_split test xs) a.0 (all_parts P test xs a.1)
-    ]
 
 -- each part of a text without a zero byte has none
 pub parts_no_zero : (sign : ℕ) (text : List ℕ) (parts : List (Bor (List ℕ))) → texts parts ≡ cut sign text → HasNoZero text → All (λ part. HasNoZero part.now) parts
