@@ -1,4 +1,4 @@
--- Texts that are cut at the last of a sign, and the file's name in a path.
+-- Texts that are cut at the last of a sign, the file's name in a path, and that name without its suffix.
 use Rattle.std.proofs.Common.{◌≡◌, ◌≢◌, ℕ, ◌<◌, ◌≤◌, ◌+◌, ◌-◌, true, false, not, eqb, suc, zero, List, [], ◌∷◌, ◌++◌, length, take, drop, get_or, refl, ap, sym, ◌∙◌, arith, append_assoc, MatchOption, Option, Some, None, cond}
 use Rattle.std.specs.Borrow.{Bor}
 use Rattle.std.specs.List.{suffix_len, list_any, before_last, after_last}
@@ -8,15 +8,10 @@ use Rattle.std.proofs.lemmas.List.{length-append, get_or-append_right, get_or_at
 use Rattle.std.proofs.lemmas.List.Elements.{All-drop}
 use Rattle.std.proofs.lemmas.List.Sums.{suffix_len_is}
 use Rattle.std.proofs.lemmas.Str.Pattern.{NoCharPasses-char, drop_at_char}
-use Rattle.b2_base.specs.Bytes.{HasNoZero}
-use Rattle.b2_base.specs.Segments.{file_name}
+use Rattle.b2_base.specs.Bytes.{HasNoZero, Lacks}
+use Rattle.b2_base.specs.Segments.{file_name, without_suffix}
 
--- a sign stands nowhere in a text
-abbrev pub Lacks : ℕ → List ℕ → Type 0
-Lacks c [] = Unit {0}
-Lacks c (b ∷ bs) = (b ≢ c) × Lacks c bs
-
-lacks_from_places : (c : ℕ) (s : List ℕ) → ((i : ℕ) → i < length s → get_or s i 0 ≢ c) → Lacks c s
+pub lacks_from_places : (c : ℕ) (s : List ℕ) → ((i : ℕ) → i < length s → get_or s i 0 ≢ c) → Lacks c s
 lacks_from_places c [] h = tt
 lacks_from_places c (b ∷ bs) h = (h 0 (omega arith), lacks_from_places c bs (λ i l. h (suc i) (omega (arith, l))))
 
@@ -68,3 +63,11 @@ file_name_clean path h =
       | true ↦ All-drop (λ byte. 0 < byte) _ path h
       | false ↦ h
     ]
+
+-- ---- a file's name without its suffix
+
+pub without_suffix_at : (name a b : List ℕ) → name ≡ a ++ 46 ∷ b → Lacks 46 b → without_suffix name ≡ a
+without_suffix_at name a b e h = ap without_suffix e ∙ ap (λ t. cond t (before_last (λ x. eqb x 46) (a ++ 46 ∷ b)) (a ++ 46 ∷ b)) (has_at 46 a b) ∙ before_last_at 46 a b h
+
+pub without_suffix_whole : (name : List ℕ) → Lacks 46 name → without_suffix name ≡ name
+without_suffix_whole name h = ap (λ t. cond t (before_last (λ x. eqb x 46) name) name) (has_not 46 name h)

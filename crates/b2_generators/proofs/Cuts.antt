@@ -1,7 +1,8 @@
 -- The suffix of a file's name.
 use Rattle.std.proofs.Common.{◌≡◌, ℕ, eqb, List, ◌∷◌, ◌++◌, ap, ◌∙◌, Some, None, cond}
 use Rattle.std.specs.List.{after_last}
-use Rattle.b2_base.proofs.LastCuts.{Lacks, has_not, has_at, after_last_at}
+use Rattle.b2_base.specs.Bytes.{Lacks}
+use Rattle.b2_base.proofs.LastCuts.{has_not, has_at, after_last_at}
 use Rattle.b2_generators.specs.Table.{last_suffix}
 
 pub last_suffix_at : (name a b : List ℕ) → name ≡ a ++ 46 ∷ b → Lacks 46 b → last_suffix name ≡ Some b

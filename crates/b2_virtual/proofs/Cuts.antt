@@ -1,18 +1,13 @@
--- What stands before the file's name in a path, and before the suffix in a name.
+-- What stands before the file's name in a path.
 use Rattle.std.proofs.Common.{◌≡◌, ℕ, eqb, List, [], ◌∷◌, ◌++◌, ap, ◌∙◌, cond}
 use Rattle.std.specs.Prelude.{codes}
 use Rattle.std.specs.List.{before_last}
-use Rattle.b2_base.proofs.LastCuts.{Lacks, has_not, has_at, before_last_at}
-use Rattle.b2_virtual.specs.Paths.{folder_of, stem_of}
+use Rattle.b2_base.specs.Bytes.{Lacks}
+use Rattle.b2_base.proofs.LastCuts.{has_not, has_at, before_last_at}
+use Rattle.b2_virtual.specs.Paths.{folder_of}
 
 pub folder_at : (path a b : List ℕ) → path ≡ a ++ 47 ∷ b → Lacks 47 b → folder_of path ≡ a ++ codes "/"
 folder_at path a b e h = ap folder_of e ∙ ap (λ t. cond t (before_last (λ x. eqb x 47) (a ++ 47 ∷ b) ++ codes "/") []) (has_at 47 a b) ∙ ap (λ t. t ++ codes "/") (before_last_at 47 a b h)
 
 pub folder_none : (path : List ℕ) → Lacks 47 path → folder_of path ≡ []
 folder_none path h = ap (λ t. cond t (before_last (λ x. eqb x 47) path ++ codes "/") []) (has_not 47 path h)
-
-pub stem_at : (name a b : List ℕ) → name ≡ a ++ 46 ∷ b → Lacks 46 b → stem_of name ≡ a
-stem_at name a b e h = ap stem_of e ∙ ap (λ t. cond t (before_last (λ x. eqb x 46) (a ++ 46 ∷ b)) (a ++ 46 ∷ b)) (has_at 46 a b) ∙ before_last_at 46 a b h
-
-pub stem_whole : (name : List ℕ) → Lacks 46 name → stem_of name ≡ name
-stem_whole name h = ap (λ t. cond t (before_last (λ x. eqb x 46) name) name) (has_not 46 name h)

@@ -5,8 +5,8 @@ use Rattle.std.specs.Option.{IfSome}
 use Rattle.std.specs.List.{AllByRecursion, slice_split, onto_first, join_with_byte, list_any, before_last}
 use Rattle.std.proofs.lemmas.List.Elements.{All-append, All-take, All-from_recursion, recursion_from_All}
 use Rattle.b2_base.specs.Bytes.{HasNoZero}
-use Rattle.b2_base.specs.Segments.{segments, is_up}
-use Rattle.b2_virtual.specs.Paths.{up_shown, stem_of, dotted}
+use Rattle.b2_base.specs.Segments.{segments, is_up, without_suffix}
+use Rattle.b2_virtual.specs.Paths.{up_shown, dotted}
 
 pub clean_both : (xs ys : List ℕ) → HasNoZero xs → HasNoZero ys → HasNoZero (xs ++ ys)
 clean_both xs ys x y = All-append (λ byte. 0 < byte) xs ys x y
@@ -39,7 +39,7 @@ clean_parts xs ys h =
     let both : IsClean xs × IsClean ys = cut_clean xs ys (recursion_from_All IsMore (xs ++ ys) h) in
     (All-from_recursion IsMore xs both.0, All-from_recursion IsMore ys both.1)
 
-pub clean_stem : (name : List ℕ) → HasNoZero name → HasNoZero (stem_of name)
+pub clean_stem : (name : List ℕ) → HasNoZero name → HasNoZero (without_suffix name)
 clean_stem name h =
     elim (list_any (λ byte. eqb byte 46) name) as (λ b. HasNoZero (cond b (before_last (λ byte. eqb byte 46) name) name)) [
       | true ↦ All-take IsMore _ name h

@@ -1,7 +1,7 @@
 -- The paths of outputs. A slash is the byte 47, a dot the byte 46.
 use Rattle.std.specs.Prelude.{ℕ, ◌==◌, List, [], ◌∷◌, ◌++◌, ◌⊎◌, Option, Some, None, map, codes, if◌then◌else◌}
 use Rattle.std.specs.List.{Contains, list_any, before_last, join_with_byte}
-use Rattle.b2_base.specs.Segments.{normal_of, path_from, file_name, segments, is_rooted, is_up}
+use Rattle.b2_base.specs.Segments.{normal_of, path_from, file_name, without_suffix, segments, is_rooted, is_up}
 use Rattle.b2_plan.specs.Sources.{IsInRoots}
 
 -- ---- tails
@@ -18,10 +18,6 @@ source_tail path = normal_of ((if is_rooted path then codes "root" else []) ++ j
 abbrev pub folder_of : List ℕ → List ℕ
 folder_of path = if list_any (λ byte. byte == 47) path then before_last (λ byte. byte == 47) path ++ codes "/" else []
 
--- a file's name without its suffix, which begins at the last dot
-abbrev pub stem_of : List ℕ → List ℕ
-stem_of name = if list_any (λ byte. byte == 46) name then before_last (λ byte. byte == 46) name else name
-
 -- a suffix with its dot, where there is one
 abbrev pub dotted : Option (List ℕ) → List ℕ
 dotted None = []
@@ -29,7 +25,7 @@ dotted (Some suffix) = 46 ∷ suffix
 
 -- The tail of a converted file: that of its input, with another suffix or none.
 abbrev pub converted_tail : List ℕ → Option (List ℕ) → List ℕ
-converted_tail tail suffix = normal_of (folder_of tail ++ stem_of (file_name tail) ++ dotted suffix)
+converted_tail tail suffix = normal_of (folder_of tail ++ without_suffix (file_name tail) ++ dotted suffix)
 
 -- the tail of an output that has a name in a project's directory
 abbrev pub named_tail : List ℕ → List ℕ → List ℕ

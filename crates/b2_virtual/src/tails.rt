@@ -3,8 +3,8 @@ ghost use Rattle.std.specs.Prelude.{◌≡◌, ◌++◌, map, string_bytes, IfOk
 ghost use Rattle.std.specs.List.{join_with_byte};
 ghost use Rattle.std.specs.Option.{option_copied};
 ghost use Rattle.b2_base.specs.Bytes.{HasNoZero};
-ghost use Rattle.b2_base.specs.Segments.{segments, texts};
-ghost use Rattle.b2_virtual.specs.Paths.{up_shown, source_tail, stem_of, dotted, converted_tail};
+ghost use Rattle.b2_base.specs.Segments.{segments, texts, without_suffix};
+ghost use Rattle.b2_virtual.specs.Paths.{up_shown, source_tail, dotted, converted_tail};
 
 use b2_base::fault::OutOfMemory;
 use b2_base::path::{Path, path_of};
@@ -49,8 +49,8 @@ pub fn source_tail(alloc: Global, path: &Path) -> Result<Path, OutOfMemory>
 }
 
 /// A file's name without its suffix, which begins at the last dot.
-fn stem_of(name: &str) -> &str
-    ensures { result.now ≡ stem_of name.now }
+fn without_suffix(name: &str) -> &str
+    ensures { result.now ≡ without_suffix name.now }
 {
     match name.rsplit_once('.') {
         None => name,
@@ -60,9 +60,9 @@ fn stem_of(name: &str) -> &str
 
 /// A file's name with another suffix, or none.
 fn with_suffix(alloc: Global, name: &str, suffix: Option<&str>) -> Result<String, OutOfMemory>
-    ensures { IfOk result (λ made. string_bytes made ≡ stem_of name.now ++ dotted (option_copied suffix.entry)) }
+    ensures { IfOk result (λ made. string_bytes made ≡ without_suffix name.now ++ dotted (option_copied suffix.entry)) }
 {
-    let stem = stem_of(name);
+    let stem = without_suffix(name);
     match suffix {
         None => Ok(String::from_str(alloc, stem)?),
         Some(suffix) => Ok(format!(in alloc; "{stem}.{suffix}")?),

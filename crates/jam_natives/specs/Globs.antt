@@ -2,9 +2,9 @@
 use Rattle.std.specs.Prelude.{Bool, not, ◌||◌, [], ◌∷◌, ◌++◌, codes, filter, map as each, if◌then◌else◌}
 use Rattle.std.specs.List.{flat_map, list_any}
 use Rattle.std.specs.Str.{bytes_eq}
-use Rattle.b2_base.specs.Segments.{normal_of, path_from}
+use Rattle.b2_base.specs.Segments.{normal_of, path_from, file_name}
 use Rattle.b2_base.specs.Below.{is_below}
-use Rattle.jam_path.specs.Names.{dir_of, file_of}
+use Rattle.jam_path.specs.Names.{dir_of}
 use Rattle.jam_journal.specs.Tables.{Text}
 use Rattle.jam_journal.specs.Scopes.{Value}
 use Rattle.jam_eval.specs.Settings.{Sight}
@@ -40,7 +40,7 @@ globbed sight roots dirs patterns = flat_map (λ dir. found_in sight roots patte
 -- its names
 abbrev pub found_by : Sight → Value → Text → Value → Text → Value
 found_by sight roots place excluded pattern =
-    found_in sight roots (file_of pattern ∷ []) excluded (path_from place (dir_of pattern)) (normal_of (dir_of pattern))
+    found_in sight roots (file_name pattern ∷ []) excluded (path_from place (dir_of pattern)) (normal_of (dir_of pattern))
 
 -- `glob`: in order of the patterns, without repeats
 abbrev pub project_globbed : Sight → Value → Text → Value → Value → Value

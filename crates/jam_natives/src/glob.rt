@@ -1,9 +1,9 @@
 //! The rules GLOB and `glob`.
 ghost use Rattle.std.specs.Prelude.{◌≡◌, ◌++◌, ◌∷◌, [], IfOk, OnOk};
 ghost use Rattle.b2_base.specs.Bytes.{HasNoZero};
-ghost use Rattle.b2_base.specs.Segments.{normal_of, path_from};
+ghost use Rattle.b2_base.specs.Segments.{normal_of, path_from, file_name};
 ghost use Rattle.b2_host.specs.Outside.{IoLooks};
-ghost use Rattle.jam_path.specs.Names.{dir_of, file_of};
+ghost use Rattle.jam_path.specs.Names.{dir_of};
 ghost use Rattle.jam_natives.specs.Sights.{ForMatching, WhereSeen};
 ghost use Rattle.jam_natives.specs.Searches.{picks, finds};
 ghost use Rattle.jam_natives.specs.Globs.{path_in, is_output_dir, is_matched, globbed, found_by, project_globbed};
@@ -156,7 +156,7 @@ pub fn glob<F: Files>(
 /// The directory of a pattern, which stands before its last slash, and the pattern on names after it.
 fn cut_pattern(pattern: &Text) -> (&str, &str)
     ensures dir { result.0.now ≡ dir_of pattern.now }
-    ensures file { result.1.now ≡ file_of pattern.now }
+    ensures file { result.1.now ≡ file_name pattern.now }
     ensures dir_no_zero { HasNoZero result.0.now }
     ensures file_no_zero { HasNoZero result.1.now }
 {
@@ -176,7 +176,7 @@ struct Placed {
 
 /// A pattern, whose directory is relative to that of the project.
 fn place_pattern(alloc: Global, place: &Path, pattern: &Text) -> Result<Placed, OutOfMemory>
-    ensures names { IfOk result (λ made. made.names ≡ file_of pattern.now) }
+    ensures names { IfOk result (λ made. made.names ≡ file_name pattern.now) }
     ensures listed { IfOk result (λ made. made.listed ≡ path_from place.now (dir_of pattern.now)) }
     ensures shown { IfOk result (λ made. made.shown ≡ normal_of (dir_of pattern.now)) }
 {

@@ -1,9 +1,11 @@
 use Rattle.std.proofs.Common.{◌≡◌, ◌≢◌, ◌↔◌, ◌⊎◌, inl, inr, ℕ, ◌≤◌, Bool, true, false, cond, not, ◌&&◌, ◌||◌, suc, List, [], ◌∷◌, ◌++◌, length, refl, ap, sym, ◌∙◌, subst, arith, append_assoc}
 use Rattle.std.proofs.lemmas.Bool.{ne_eqb, true≢false, or_right}
 use Rattle.std.proofs.lemmas.List.{length-append, append-nil, append_cancel_left}
-use Rattle.jam_path.specs.Patterns.{Lacks}
-use Rattle.jam_path.specs.Names.{has, begins_with, closes_with, before_end, grist_of, path_of, dir_of, file_of, has_member, member_of, stem_of, suffix_of, base_of, is_empty, grist_text, slash_text, member_text, joined, parts_of, IsPlain}
-use Rattle.jam_path.proofs.CutAtSign.{Last, has_not, has_at, before_end_at, dir_at, file_at, stem_at, member_at, has_member_at}
+use Rattle.b2_base.specs.Bytes.{Lacks}
+use Rattle.b2_base.specs.Segments.{file_name, without_suffix}
+use Rattle.b2_base.proofs.LastCuts.{has_not, has_at, before_last_at, file_name_at}
+use Rattle.jam_path.specs.Names.{has, begins_with, closes_with, before_end, grist_of, path_of, dir_of, has_member, member_of, stem_of, suffix_of, is_empty, grist_text, slash_text, member_text, joined, parts_of, IsPlain}
+use Rattle.jam_path.proofs.CutAtSign.{Last, dir_at, stem_at, member_at, has_member_at}
 use Rattle.jam_path.proofs.PartsMakeTheText.{Archive, last_or, member_or, whole_grist, grist_begins, whole_suffix}
 
 not_empty : (x : ℕ) (xs : List ℕ) → is_empty (x ∷ xs) ≡ false
@@ -58,19 +60,19 @@ abbrev made : List ℕ → List ℕ → List ℕ
 made dir file = dir ++ (slash dir (stem_of file) ++ written file)
 
 abbrev tail_text : List ℕ → List ℕ
-tail_text path = made (dir_of path) (file_of path)
+tail_text path = made (dir_of path) (file_name path)
 
 record PlainPath (path : List ℕ) : Type 0 where
   single : has 47 path ≡ true → closes_with 47 (before_end 47 path) ≡ false
-  named : has 47 path ≡ true → before_end 47 path ≢ [] → stem_of (file_of path) ≢ []
-  filled : Filled (file_of path)
+  named : has 47 path ≡ true → before_end 47 path ≢ [] → stem_of (file_name path) ≢ []
+  filled : Filled (file_name path)
 
 -- without a slash the path is the file
 no_slash : (path : List ℕ) → has 47 path ≡ false → (tail_text path ≡ path) ↔ PlainPath path
 no_slash path n =
     let d : dir_of path ≡ [] = rw n refl in
-    let f : file_of path ≡ path = rw n refl in
-    let t : tail_text path ≡ written path = ap (λ r. made r (file_of path)) d ∙ ap (made []) f in (
+    let f : file_name path ≡ path = rw n refl in
+    let t : tail_text path ≡ written path = ap (λ r. made r (file_name path)) d ∙ ap (made []) f in (
       λ e. record {
         single = λ s. absurd (true≢false (sym s ∙ n));
         named = λ s. absurd (true≢false (sym s ∙ n));
@@ -80,9 +82,9 @@ no_slash path n =
     )
 
 -- a file at the root
-at_root : (path b : List ℕ) → path ≡ 47 ∷ b → dir_of path ≡ 47 ∷ [] → file_of path ≡ b → before_end 47 path ≡ [] → (tail_text path ≡ path) ↔ PlainPath path
+at_root : (path b : List ℕ) → path ≡ 47 ∷ b → dir_of path ≡ 47 ∷ [] → file_name path ≡ b → before_end 47 path ≡ [] → (tail_text path ≡ path) ↔ PlainPath path
 at_root path b e d f n =
-    let t : tail_text path ≡ 47 ∷ written b = ap (λ r. made r (file_of path)) d ∙ ap (made (47 ∷ [])) f in (
+    let t : tail_text path ≡ 47 ∷ written b = ap (λ r. made r (file_name path)) d ∙ ap (made (47 ∷ [])) f in (
       λ same. record {
         single = λ _. ap (closes_with 47) n;
         named = λ _ m. absurd (m n);
@@ -101,11 +103,11 @@ record In (path a b : List ℕ) : Type 0 where
   has_slash : has 47 path ≡ true
   filled_dir : a ≢ []
   dir : dir_of path ≡ a
-  file : file_of path ≡ b
+  file : file_name path ≡ b
   before : before_end 47 path ≡ a
 
 in_text : (path a b : List ℕ) → In path a b → tail_text path ≡ made a b
-in_text path a b i = ap (λ r. made r (file_of path)) i.dir ∙ ap (made a) i.file
+in_text path a b i = ap (λ r. made r (file_name path)) i.dir ∙ ap (made a) i.file
 
 -- no slash is written
 bare : (path a b : List ℕ) → In path a b → slash a (stem_of b) ≡ [] → (PlainPath path → ⊥) → (tail_text path ≡ path) ↔ PlainPath path
@@ -142,14 +144,14 @@ tail_plain : (path : List ℕ) → (tail_text path ≡ path) ↔ PlainPath path
 tail_plain path = go (last_or 47 path)
   where
     cut : (a b : List ℕ) → path ≡ a ++ 47 ∷ b → Lacks 47 b → (tail_text path ≡ path) ↔ PlainPath path
-    cut [] b e h = at_root path b e (dir_at path [] b e h) (file_at path [] b e h) (ap (before_end 47) e ∙ before_end_at 47 [] b h)
+    cut [] b e h = at_root path b e (dir_at path [] b e h) (file_name_at path [] b e h) (ap (before_end 47) e ∙ before_last_at 47 [] b h)
     cut (x ∷ a) b e h = inside path (x ∷ a) b (record {
       whole = e;
       has_slash = ap (has 47) e ∙ has_at 47 (x ∷ a) b;
       filled_dir = λ n. let k : suc (length a) ≡ 0 = ap length n in omega (arith, k);
       dir = dir_at path (x ∷ a) b e h;
-      file = file_at path (x ∷ a) b e h;
-      before = ap (before_end 47) e ∙ before_end_at 47 (x ∷ a) b h;
+      file = file_name_at path (x ∷ a) b e h;
+      before = ap (before_end 47) e ∙ before_last_at 47 (x ∷ a) b h;
     })
 
     go : Lacks 47 path ⊎ Last 47 path → (tail_text path ≡ path) ↔ PlainPath path
@@ -168,13 +170,13 @@ grist_same text = go (grist_begins text)
 
 joined_is : (text : List ℕ) → joined (parts_of text) ≡ grist_of text ++ tail_text (path_of text)
 joined_is text =
-    let file : List ℕ = file_of (path_of text) in
+    let file : List ℕ = file_name (path_of text) in
     let stem : List ℕ = stem_of file in
     let dir : List ℕ = dir_of (path_of text) in
-    let s : slash_text (parts_of text) ≡ slash dir stem = ap (λ t. cond (not (is_empty dir) && not (closes_with 47 dir) && t) (47 ∷ []) []) (sym (ap (λ r. not (is_empty r)) (whole_suffix stem) ∙ empty_both (base_of stem) (suffix_of stem))) in
-    regroup (grist_text (grist_of text)) dir (slash_text (parts_of text)) (base_of stem) (suffix_of stem) (member_text (member_of file))
-    ∙ ap (λ g. g ++ (dir ++ (slash_text (parts_of text) ++ ((base_of stem ++ suffix_of stem) ++ member_text (member_of file))))) (grist_same text)
-    ∙ ap (λ r. grist_of text ++ (dir ++ (r ++ ((base_of stem ++ suffix_of stem) ++ member_text (member_of file))))) s
+    let s : slash_text (parts_of text) ≡ slash dir stem = ap (λ t. cond (not (is_empty dir) && not (closes_with 47 dir) && t) (47 ∷ []) []) (sym (ap (λ r. not (is_empty r)) (whole_suffix stem) ∙ empty_both (without_suffix stem) (suffix_of stem))) in
+    regroup (grist_text (grist_of text)) dir (slash_text (parts_of text)) (without_suffix stem) (suffix_of stem) (member_text (member_of file))
+    ∙ ap (λ g. g ++ (dir ++ (slash_text (parts_of text) ++ ((without_suffix stem ++ suffix_of stem) ++ member_text (member_of file))))) (grist_same text)
+    ∙ ap (λ r. grist_of text ++ (dir ++ (r ++ ((without_suffix stem ++ suffix_of stem) ++ member_text (member_of file))))) s
     ∙ ap (λ r. grist_of text ++ (dir ++ (slash dir stem ++ (r ++ member_text (member_of file))))) (sym (whole_suffix stem))
 
 -- joining the parts gives a plain name back, and no other

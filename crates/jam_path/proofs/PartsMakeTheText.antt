@@ -3,11 +3,12 @@ use Rattle.std.specs.List.{AllByRecursion}
 use Rattle.std.proofs.lemmas.Bool.{eqb-true, eqb-false, and_parts, true≢false, and_right}
 use Rattle.std.proofs.lemmas.List.{length-append, append-nil}
 use Rattle.std.proofs.lemmas.List.Elements.{All-from_recursion, recursion_from_All}
-use Rattle.b2_base.specs.Bytes.{HasNoZero}
-use Rattle.jam_path.specs.Patterns.{Lacks}
-use Rattle.jam_path.specs.Names.{has, begins_with, closes_with, has_grist, grist_of, path_of, or_root, dir_of, file_of, has_member, member_of, stem_of, suffix_of, base_of, grist_text, slash_text, member_text, path_text, joined}
+use Rattle.b2_base.specs.Bytes.{HasNoZero, Lacks}
+use Rattle.b2_base.specs.Segments.{file_name, without_suffix}
+use Rattle.b2_base.proofs.LastCuts.{has_not, file_name_at, without_suffix_at}
+use Rattle.jam_path.specs.Names.{has, begins_with, closes_with, has_grist, grist_of, path_of, or_root, dir_of, has_member, member_of, stem_of, suffix_of, grist_text, slash_text, member_text, path_text, joined}
 use Rattle.jam_path.specs.declared.name_parts.NameParts.{NameParts}
-use Rattle.jam_path.proofs.CutAtSign.{First, Last, has_not, grist_at, path_at, dir_at, file_at, suffix_at, base_at, stem_at, member_at, no_member}
+use Rattle.jam_path.proofs.CutAtSign.{First, Last, grist_at, path_at, dir_at, suffix_at, stem_at, member_at, no_member}
 
 -- ---- a text has a sign or not
 
@@ -58,12 +59,12 @@ grist_begins text = go (has_grist text) refl
     go false e = inl (rw e refl)
     go true e = let both = and_parts (begins_with 60 text) (has 62 text) e in at both.0 (first_or 62 text) both.1
 
-pub whole_suffix : (stem : List ℕ) → stem ≡ base_of stem ++ suffix_of stem
+pub whole_suffix : (stem : List ℕ) → stem ≡ without_suffix stem ++ suffix_of stem
 whole_suffix stem = go (last_or 46 stem)
   where
-    go : Lacks 46 stem ⊎ Last 46 stem → stem ≡ base_of stem ++ suffix_of stem
+    go : Lacks 46 stem ⊎ Last 46 stem → stem ≡ without_suffix stem ++ suffix_of stem
     go (inl h) = rw (has_not 46 stem h) (sym (append-nil stem))
-    go (inr p) = p.whole ∙ sym (rw (base_at stem p.front p.back p.whole p.lacks, suffix_at stem p.front p.back p.whole p.lacks) refl)
+    go (inr p) = p.whole ∙ sym (rw (without_suffix_at stem p.front p.back p.whole p.lacks, suffix_at stem p.front p.back p.whole p.lacks) refl)
 
 -- a file with a member: what stands before it, and the member
 pub record Archive (file : List ℕ) : Type 0 where
@@ -124,18 +125,18 @@ no_zero_root : (a : List ℕ) → NoZero a → NoZero (or_root a)
 no_zero_root [] h = (omega arith, tt)
 no_zero_root (x ∷ a) h = h
 
-no_zero_dir : (path : List ℕ) → NoZero path → NoZero (dir_of path) × NoZero (file_of path)
+no_zero_dir : (path : List ℕ) → NoZero path → NoZero (dir_of path) × NoZero (file_name path)
 no_zero_dir path h = go (last_or 47 path)
   where
-    go : Lacks 47 path ⊎ Last 47 path → NoZero (dir_of path) × NoZero (file_of path)
+    go : Lacks 47 path ⊎ Last 47 path → NoZero (dir_of path) × NoZero (file_name path)
     go (inl n) = rw (has_not 47 path n) (tt, h)
     go (inr p) =
         let both : NoZero (p.front ++ 47 ∷ p.back) = subst NoZero p.whole h in (
           subst NoZero (sym (dir_at path p.front p.back p.whole p.lacks)) (no_zero_root p.front (left_part p.front (47 ∷ p.back) both)),
-          subst NoZero (sym (file_at path p.front p.back p.whole p.lacks)) (right_part p.front (47 ∷ p.back) both).1,
+          subst NoZero (sym (file_name_at path p.front p.back p.whole p.lacks)) (right_part p.front (47 ∷ p.back) both).1,
         )
 
-pub clean_dir : (path : List ℕ) → HasNoZero path → HasNoZero (dir_of path) × HasNoZero (file_of path)
+pub clean_dir : (path : List ℕ) → HasNoZero path → HasNoZero (dir_of path) × HasNoZero (file_name path)
 clean_dir path h =
     let P : ℕ → Type 0 = λ byte. 0 < byte in
     let both = no_zero_dir path (recursion_from_All P path h) in (All-from_recursion P _ both.0, All-from_recursion P _ both.1)
@@ -154,9 +155,9 @@ no_zero_member file h = go (member_or file)
 pub record NoZeros (text : List ℕ) : Type 0 where
   pub grist : HasNoZero (grist_of text)
   pub dir : HasNoZero (dir_of (path_of text))
-  pub base : HasNoZero (base_of (stem_of (file_of (path_of text))))
-  pub suffix : HasNoZero (suffix_of (stem_of (file_of (path_of text))))
-  pub member : HasNoZero (member_of (file_of (path_of text)))
+  pub base : HasNoZero (without_suffix (stem_of (file_name (path_of text))))
+  pub suffix : HasNoZero (suffix_of (stem_of (file_name (path_of text))))
+  pub member : HasNoZero (member_of (file_name (path_of text)))
 
 pub no_zeros : (text : List ℕ) → HasNoZero text → NoZeros text
 no_zeros text h =
@@ -164,14 +165,14 @@ no_zeros text h =
     let whole : NoZero (grist_of text ++ path_of text) = subst NoZero (whole_grist text) (recursion_from_All P text h) in
     let path : NoZero (path_of text) = right_part (grist_of text) (path_of text) whole in
     let dir = no_zero_dir (path_of text) path in
-    let file = no_zero_member (file_of (path_of text)) dir.1 in
-    let stem : List ℕ = stem_of (file_of (path_of text)) in
-    let cut : NoZero (base_of stem ++ suffix_of stem) = subst NoZero (whole_suffix stem) file.0 in
+    let file = no_zero_member (file_name (path_of text)) dir.1 in
+    let stem : List ℕ = stem_of (file_name (path_of text)) in
+    let cut : NoZero (without_suffix stem ++ suffix_of stem) = subst NoZero (whole_suffix stem) file.0 in
     record {
       grist = All-from_recursion P _ (left_part (grist_of text) (path_of text) whole);
       dir = All-from_recursion P _ dir.0;
-      base = All-from_recursion P _ (left_part (base_of stem) (suffix_of stem) cut);
-      suffix = All-from_recursion P _ (right_part (base_of stem) (suffix_of stem) cut);
+      base = All-from_recursion P _ (left_part (without_suffix stem) (suffix_of stem) cut);
+      suffix = All-from_recursion P _ (right_part (without_suffix stem) (suffix_of stem) cut);
       member = All-from_recursion P _ file.1;
     }
 

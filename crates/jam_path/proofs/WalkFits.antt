@@ -3,12 +3,14 @@ use Rattle.std.specs.List.{before_first, after_first}
 use Rattle.std.proofs.lemmas.Bool.{ne_eqb, eq-eqb, eqb-true, eqb-false}
 use Rattle.std.proofs.lemmas.Option.{cond_some, none-some, same_Some}
 use Rattle.std.proofs.lemmas.List.{drop-drop}
-use Rattle.jam_path.specs.Patterns.{Lacks, is_taken, IsItself, Takes, Match}
+use Rattle.b2_base.specs.Bytes.{Lacks}
+use Rattle.b2_base.proofs.LastCuts.{has_not, has_at}
+use Rattle.jam_path.specs.Patterns.{is_taken, IsItself, Takes, Match}
 use Rattle.jam_path.specs.Patterns.Takes.{any, escaped, class, itself}
 use Rattle.jam_path.specs.Patterns.Match.{ends, run, one}
 use Rattle.jam_path.specs.Names.{has}
 use Rattle.jam_path.specs.Steps.{IsStarless, after_one, after_exact, after_escape, after_class, after_bracket}
-use Rattle.jam_path.proofs.CutAtSign.{First, has_not, has_at, before_at, after_at}
+use Rattle.jam_path.proofs.CutAtSign.{First, before_at, after_at}
 use Rattle.jam_path.proofs.PartsMakeTheText.{first_or}
 
 -- ---- the first piece, as the code finds it

@@ -1,5 +1,6 @@
 use Rattle.std.specs.Prelude.{◌≡◌, ◌≢◌, ℕ, ◌==◌, Bool, true, false, not, ◌&&◌, ◌||◌, List, [], ◌∷◌, ◌++◌, length, slice_index, if◌then◌else◌, ◌-◌}
 use Rattle.std.specs.List.{list_any, before_first, after_first, before_last, after_last}
+use Rattle.b2_base.specs.Segments.{file_name, without_suffix}
 use Rattle.jam_path.specs.declared.name_parts.NameParts.{NameParts}
 
 -- the sign occurs in the text
@@ -42,12 +43,9 @@ abbrev pub or_root : List ℕ → List ℕ
 or_root [] = 47 ∷ []
 or_root (byte ∷ bytes) = byte ∷ bytes
 
--- the directory stands before the last slash, and the file after it
+-- the directory stands before the last slash, and the file's name after it
 abbrev pub dir_of : List ℕ → List ℕ
 dir_of path = if has 47 path then or_root (before_end 47 path) else []
-
-abbrev pub file_of : List ℕ → List ℕ
-file_of path = if has 47 path then after_end 47 path else path
 
 -- a `(` (40), and a `)` (41) at the end
 abbrev pub has_member : List ℕ → Bool
@@ -66,21 +64,18 @@ member_of file = if has_member file then without_last (after 40 file) else []
 abbrev pub stem_of : List ℕ → List ℕ
 stem_of file = if has_member file then before 40 file else file
 
--- the suffix begins at the last dot (46), and the base stands before it
+-- the suffix with its dot (46); what stands before it is the base
 abbrev pub suffix_of : List ℕ → List ℕ
 suffix_of stem = if has 46 stem then 46 ∷ after_end 46 stem else []
-
-abbrev pub base_of : List ℕ → List ℕ
-base_of stem = if has 46 stem then before_end 46 stem else stem
 
 -- the five parts of a file name
 abbrev pub parts_of : List ℕ → NameParts
 parts_of text = record {
   grist = grist_of text;
   dir = dir_of (path_of text);
-  base = base_of (stem_of (file_of (path_of text)));
-  suffix = suffix_of (stem_of (file_of (path_of text)));
-  member = member_of (file_of (path_of text));
+  base = without_suffix (stem_of (file_name (path_of text)));
+  suffix = suffix_of (stem_of (file_name (path_of text)));
+  member = member_of (file_name (path_of text));
 }
 
 abbrev pub is_empty : List ℕ → Bool
@@ -112,5 +107,5 @@ joined name = grist_text name.grist ++ name.dir ++ slash_text name ++ name.base 
 -- stands after it, unless the directory is the root, and parentheses at its end are not empty.
 pub record IsPlain (text : List ℕ) : Type 0 where
   pub single : has 47 (path_of text) ≡ true → closes_with 47 (before_end 47 (path_of text)) ≡ false
-  pub named : has 47 (path_of text) ≡ true → before_end 47 (path_of text) ≢ [] → stem_of (file_of (path_of text)) ≢ []
-  pub filled : has_member (file_of (path_of text)) ≡ true → member_of (file_of (path_of text)) ≢ []
+  pub named : has 47 (path_of text) ≡ true → before_end 47 (path_of text) ≢ [] → stem_of (file_name (path_of text)) ≢ []
+  pub filled : has_member (file_name (path_of text)) ≡ true → member_of (file_name (path_of text)) ≢ []

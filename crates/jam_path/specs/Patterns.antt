@@ -1,9 +1,5 @@
 use Rattle.std.specs.Prelude.{◌≡◌, ◌≢◌, ℕ, ◌==◌, nat_le, Bool, false, not, ◌&&◌, ◌||◌, List, [], ◌∷◌, ◌++◌, IsTrue, if◌then◌else◌}
-use Rattle.std.specs.List.{AllByRecursion}
-
--- the character stands nowhere in the text
-abbrev pub Lacks : ℕ → List ℕ → Type 0
-Lacks character = AllByRecursion (λ other. other ≢ character)
+use Rattle.b2_base.specs.Bytes.{Lacks}
 
 -- One of the members of a class is the character; `a-c` (45 is the dash) stands for the characters from `a` to `c`.
 abbrev pub is_member : List ℕ → ℕ → Bool

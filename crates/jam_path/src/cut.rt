@@ -1,6 +1,7 @@
 //! A name, cut in two at a sign.
 ghost use Rattle.std.specs.Prelude.{◌≡◌};
-ghost use Rattle.jam_path.specs.Names.{grist_of, path_of, or_root, dir_of, file_of, member_of, stem_of, suffix_of, base_of};
+ghost use Rattle.b2_base.specs.Segments.{file_name, without_suffix};
+ghost use Rattle.jam_path.specs.Names.{grist_of, path_of, or_root, dir_of, member_of, stem_of, suffix_of};
 
 /// The grist, and the path after it.
 pub(crate) fn cut_grist(text: &str) -> (&str, &str)
@@ -27,7 +28,7 @@ fn or_root(before: &str) -> &str
 /// memory.
 pub fn cut_dir(path: &str) -> (&str, &str)
     ensures dir { result.0.now ≡ dir_of path.now }
-    ensures file { result.1.now ≡ file_of path.now }
+    ensures file { result.1.now ≡ file_name path.now }
 {
     match path.rsplit_once('/') {
         None => ("", path),
@@ -51,7 +52,7 @@ pub(crate) fn cut_member(file: &str) -> (&str, &str)
 
 /// The base, and the suffix with its dot.
 pub(crate) fn cut_suffix(stem: &str) -> (&str, &str)
-    ensures base { result.0.now ≡ base_of stem.now }
+    ensures base { result.0.now ≡ without_suffix stem.now }
     ensures suffix { result.1.now ≡ suffix_of stem.now }
 {
     match stem.rfind('.') {

@@ -1,5 +1,6 @@
 use Rattle.std.proofs.Common.{◌∙◌, lit<, refl, sym, Some, None}
-use Rattle.jam_path.proofs.CutAtSign.{has_not, rsplit_parts, dir_at, file_at}
+use Rattle.b2_base.proofs.LastCuts.{has_not, rsplit_parts, file_name_at}
+use Rattle.jam_path.proofs.CutAtSign.{dir_at}
 use Rattle.jam_path.proofs.cut.cut_dir.Goals as goal
 
 pub returns-in-None-clause-dir : goal.returns-in-None-clause-dir
@@ -16,4 +17,4 @@ returns-in-Some-clause-dir c =
 pub returns-in-Some-clause-file : goal.returns-in-Some-clause-file
 returns-in-Some-clause-file c =
     let p = rsplit_parts 47 c.args.path.now (Some (c.in-Some.before, c.in-Some.file)) c.in-Some.ensures.cases (lit< tt) in
-    sym (file_at c.args.path.now c.in-Some.before.now c.in-Some.file.now p.0 p.1)
+    sym (file_name_at c.args.path.now c.in-Some.before.now c.in-Some.file.now p.0 p.1)

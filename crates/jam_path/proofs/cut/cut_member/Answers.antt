@@ -1,6 +1,7 @@
 use Rattle.std.proofs.Common.{◌∙◌, ◌++◌, ◌∷◌, lit<, refl, ap, sym, Some, None}
 use Rattle.std.proofs.lemmas.Str.Pattern.{split_parts, strip_suffix_char}
-use Rattle.jam_path.proofs.CutAtSign.{lacks_from_places, no_member, stem_at, member_at}
+use Rattle.b2_base.proofs.LastCuts.{lacks_from_places}
+use Rattle.jam_path.proofs.CutAtSign.{no_member, stem_at, member_at}
 use Rattle.jam_path.proofs.cut.cut_member.Goals as goal
 
 pub returns-in-None-clause-stem : goal.returns-in-None-clause-stem

@@ -1,6 +1,5 @@
-use Rattle.std.proofs.Common.{◌∙◌, ap, sym, subst}
+use Rattle.std.proofs.Common.{sym, subst}
 use Rattle.b2_base.specs.Bytes.{HasNoZero}
-use Rattle.b2_base.specs.Segments.{file_name}
 use Rattle.b2_base.proofs.LastCuts.{file_name_clean}
 use Rattle.b2_base.proofs.path.Path.file_name.Goals as goal
 
