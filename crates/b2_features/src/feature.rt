@@ -37,7 +37,7 @@ impl Drop for Feature {
 }
 
 /// The same pairs, in order.
-pub(crate) fn copy_pairs(
+pub fn copy_pairs(
     alloc: Global,
     pairs: &[(Text, Text)],
 ) -> Result<Vec<(Text, Text)>, OutOfMemory>

@@ -3,6 +3,7 @@ ghost use Rattle.std.specs.Prelude.{◌≡◌, [], ◌∷◌, ◌++◌, IfOk, On
 
 use b2_base::fault::OutOfMemory;
 use b2_base::text::Text;
+use b2_features::feature::copy_pairs;
 use std::alloc::Global;
 use std::marker::Model;
 
@@ -18,20 +19,6 @@ pub fn copy_pair(pair: &(Text, Text)) -> Result<(Text, Text), OutOfMemory>
     ensures { IfOk result (λ made. made ≡ pair.now) }
 {
     pair_with(&pair.0, &pair.1)
-}
-
-/// The same pairs, in order.
-pub(crate) fn copy_pairs(
-    alloc: Global,
-    pairs: &[(Text, Text)],
-) -> Result<Vec<(Text, Text)>, OutOfMemory>
-    ensures { IfOk result (λ made. made.items ≡ pairs.now) }
-{
-    let mut made = Vec::new(alloc);
-    for pair in pairs {
-        made.push(copy_pair(pair)?)?;
-    }
-    Ok(made)
 }
 
 /// Pairs of a feature and a value in order, seen as their list.

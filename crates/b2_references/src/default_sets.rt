@@ -16,6 +16,7 @@ use b2_base::fault::OutOfMemory;
 use b2_base::text::Text;
 use b2_base::text_map::TextMap;
 use b2_features::attribute::Attribute;
+use b2_features::feature::copy_pairs;
 use b2_features::registry::Registry;
 use b2_props::lookups::is_with;
 use b2_props::pair_list::{PairList, copy_pair};
@@ -106,16 +107,6 @@ fn sets_of(alloc: Global, registry: &Registry, rows: &[PairList]) -> Result<Prop
     Ok(made)
 }
 
-fn copy_of(alloc: Global, pairs: &[(Text, Text)]) -> Result<PairList, OutOfMemory>
-    ensures { IfOk result (λ made. made ≡ pairs.now) }
-{
-    let mut made = PairList::new(alloc);
-    for pair in pairs {
-        push_copy(&mut made, pair)?;
-    }
-    Ok(made)
-}
-
 fn joined_sets(
     alloc: Global,
     index: &Index,
@@ -125,8 +116,8 @@ fn joined_sets(
     ensures { IfOk result (λ made. made ≡ sets_for index.now set.now name.now) }
 {
     let values = open_values(alloc, index, set.pairs(), name)?;
-    let own = copy_of(alloc, set.pairs())?;
-    let rows = rows_after(alloc, own, values.as_slice())?;
+    let own = copy_pairs(alloc, set.pairs())?;
+    let rows = rows_after(alloc, PairList::from_vec(own), values.as_slice())?;
     sets_of(alloc, &index.declared().registry, rows.as_slice())
 }
 

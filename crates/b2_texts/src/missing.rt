@@ -7,6 +7,7 @@ ghost use Rattle.b2_texts.specs.Missing.{missing};
 use b2_base::fault::OutOfMemory;
 use b2_base::text::Text;
 use b2_base::text_map::TextMap;
+use b2_features::feature::copy_pairs;
 use b2_props::pair_list::PairList;
 use b2_props::refinement::take_all;
 use std::alloc::Global;
@@ -17,16 +18,6 @@ pub fn features_of(alloc: Global, pairs: &[(Text, Text)]) -> Result<TextMap<()>,
 {
     let mut made = TextMap::new(alloc);
     take_all(&mut made, pairs)?;
-    Ok(made)
-}
-
-fn copied(alloc: Global, pairs: &[(Text, Text)]) -> Result<PairList, OutOfMemory>
-    ensures { IfOk result (λ made. made ≡ pairs.now) }
-{
-    let mut made = PairList::new(alloc);
-    for pair in pairs {
-        made.push(pair.0.copy()?, pair.1.copy()?)?;
-    }
     Ok(made)
 }
 
@@ -57,7 +48,8 @@ pub fn with_missing(
 {
     let features = features_of(alloc, set)?;
     let more = others(alloc, &features, defaults)?;
-    let mut made = copied(alloc, set)?;
+    let pairs = copy_pairs(alloc, set)?;
+    let mut made = PairList::from_vec(pairs);
     made.append(more)?;
     Ok(made)
 }

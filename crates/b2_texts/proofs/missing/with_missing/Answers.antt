@@ -8,5 +8,5 @@ use Rattle.b2_texts.proofs.missing.with_missing.Goals as goal
 pub returns : goal.returns
 returns c =
     c.in_ok-append.ensures.ok
-    ∙ ap₂ (λ (xs ys : List Pair). xs ++ ys) c.in_ok-made.ensures
+    ∙ ap₂ (λ (xs ys : List Pair). xs ++ ys) (c.from_vec-made.ensures ∙ c.in_ok-pairs.ensures)
     (c.in_ok-more.ensures ∙ same_filter (λ p. not (is_some (map.get c.in_ok-features.features p.0))) (λ p. not (names c.args.set.now p.0)) (λ p. ap not (c.in_ok-features.ensures p.0)) c.args.defaults.now)
