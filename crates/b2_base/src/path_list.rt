@@ -1,5 +1,5 @@
 //! A list of paths.
-ghost use Rattle.std.specs.Prelude.{◌≡◌, IfOk};
+ghost use Rattle.std.specs.Prelude.{◌≡◌, ◌++◌, IfOk, OnOk};
 
 use crate::fault::OutOfMemory;
 use crate::list::List;
@@ -19,4 +19,14 @@ pub fn copy_paths(alloc: Global, paths: &[Path]) -> Result<PathList, OutOfMemory
         made.push(path.copy()?)?;
     }
     Ok(PathList::from_vec(made))
+}
+
+/// Adds copies of paths at the end.
+pub fn push_paths(made: &mut PathList, paths: &[Path]) -> Result<(), OutOfMemory>
+    ensures { OnOk result (made.new ≡ made.old ++ paths.now) }
+{
+    for path in paths {
+        made.push(path.copy()?)?;
+    }
+    Ok(())
 }

@@ -1,7 +1,8 @@
 //! A list of texts.
-ghost use Rattle.std.specs.Prelude.{◌≡◌, ◌++◌, IfOk, OnOk};
+ghost use Rattle.std.specs.Prelude.{◌≡◌, ◌++◌, All, IfOk, OnOk};
 ghost use Rattle.b2_base.specs.Bytes.{HasNoZero};
 ghost use Rattle.b2_base.specs.Lists.{list_at, rest_of, first_of};
+ghost use Rattle.b2_base.specs.Segments.{texts};
 
 use crate::fault::OutOfMemory;
 use crate::list::List;
@@ -50,6 +51,19 @@ pub fn copy_texts(alloc: Global, texts: &[Text]) -> Result<TextList, OutOfMemory
     made.reserve_exact(texts.len())?;
     for text in texts {
         made.push(text.copy()?)?;
+    }
+    Ok(TextList::from_vec(made))
+}
+
+/// Some words as owned texts, in order.
+pub fn owned_texts(alloc: Global, words: &[&str]) -> Result<TextList, OutOfMemory>
+    requires { All HasNoZero (texts words.now) }
+    ensures { IfOk result (λ made. made ≡ texts words.now) }
+{
+    let mut made = Vec::new(alloc);
+    made.reserve_exact(words.len())?;
+    for word in words {
+        made.push(Text::new(alloc, word)?)?;
     }
     Ok(TextList::from_vec(made))
 }

@@ -10,7 +10,7 @@ ghost use Rattle.b2_conversions.specs.Conversions.{copy_step};
 use crate::site::Site;
 use b2_base::fault::OutOfMemory;
 use b2_base::path::{Path, path_of};
-use b2_base::path_list::PathList;
+use b2_base::path_list::{PathList, push_paths};
 use b2_base::text::Text;
 use b2_base::text_list::TextList;
 use b2_plan::step::Step;
@@ -65,16 +65,6 @@ fn include_dirs(alloc: Global, set: &Props) -> Result<PathList, OutOfMemory>
         push_include(alloc, &mut dirs, pair)?;
     }
     Ok(dirs)
-}
-
-/// Adds copies of paths at the end.
-fn push_paths(made: &mut PathList, paths: &[Path]) -> Result<(), OutOfMemory>
-    ensures { OnOk result (made.new ≡ made.old ++ paths.now) }
-{
-    for path in paths {
-        made.push(path.copy()?)?;
-    }
-    Ok(())
 }
 
 // ---- jobs

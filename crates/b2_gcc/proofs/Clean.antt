@@ -6,7 +6,6 @@ use Rattle.std.proofs.lemmas.Bool.{and_parts}
 use Rattle.std.proofs.lemmas.Bool.Decides.{Decides-by_and, Decides-ltb}
 use Rattle.std.proofs.lemmas.List.Elements.{All-from_recursion}
 use Rattle.b2_base.specs.Bytes.{HasNoZero}
-use Rattle.b2_base.specs.Segments.{texts}
 use Rattle.b2_gcc.specs.Rows.{pairs, is_clean, is_clean_pair}
 
 -- a text that is clean has no zero byte
@@ -14,12 +13,12 @@ pub no_zero : (text : List ℕ) → is_clean text ≡ true → HasNoZero text
 no_zero text e = (Decides-by_and (nat_lt 0) (λ byte. 0 < byte) is_clean (λ byte. Decides-ltb 0 byte) refl (λ _ _. refl) text).0 e
 
 -- nor have several
-pub none_zero : (words : List (Bor (List ℕ))) → list_all is_clean (texts words) ≡ true → All (λ word. HasNoZero word.now) words
-none_zero words e = All-from_recursion (λ word. HasNoZero word.now) words (each words e)
+pub none_zero : (words : List (List ℕ)) → list_all is_clean words ≡ true → All HasNoZero words
+none_zero words e = All-from_recursion HasNoZero words (each words e)
   where
-    each : (ws : List (Bor (List ℕ))) → list_all is_clean (texts ws) ≡ true → AllByRecursion (λ word. HasNoZero word.now) ws
+    each : (ws : List (List ℕ)) → list_all is_clean ws ≡ true → AllByRecursion HasNoZero ws
     each [] e = tt
-    each (w ∷ ws) e = let parts = and_parts (is_clean w.now) (list_all is_clean (texts ws)) e in (no_zero w.now parts.0, each ws parts.1)
+    each (w ∷ ws) e = let parts = and_parts (is_clean w) (list_all is_clean ws) e in (no_zero w parts.0, each ws parts.1)
 
 -- nor have both halves of several pairs
 pub firsts_no_zero : (rows : List (Bor (List ℕ) × Bor (List ℕ))) → list_all is_clean_pair (pairs rows) ≡ true → All (λ pair. HasNoZero pair.0.now) rows

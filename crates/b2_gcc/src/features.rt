@@ -5,7 +5,8 @@ ghost use Rattle.b2_features.specs.Faults.{feature_fault, compose_fault, IsBy};
 ghost use Rattle.b2_gcc.specs.Calls.{features_fault, composites_fault, with_composite, with_toolset, toolset_fault};
 ghost use Rattle.b2_gcc.specs.Rows.{feature_in, composite_in, is_clean_feature, is_clean_composite};
 
-use crate::owned::{owned, owned_pairs};
+use crate::owned::owned_pairs;
+use b2_base::text_list::owned_texts;
 use b2_features::fault::FeatureFault;
 use b2_features::registry::Registry;
 use std::alloc::Global;
@@ -160,8 +161,8 @@ fn declare_row(alloc: Global, registry: &mut Registry, row: &FeatureRow) -> Resu
     ensures cause { IfErr result (IsBy (feature_fault registry.old (feature_in row.now).name (feature_in row.now).values (feature_in row.now).attributes)) }
     ensures err { OnErr result (registry.new ≡ registry.old) }
 {
-    let values = owned(alloc, row.values)?;
-    let attributes = owned(alloc, row.attributes)?;
+    let values = owned_texts(alloc, row.values)?;
+    let attributes = owned_texts(alloc, row.attributes)?;
     registry.feature(row.name, values.as_slice(), attributes.as_slice())
 }
 

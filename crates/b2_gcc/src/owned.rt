@@ -1,26 +1,12 @@
-//! The texts and pairs of tables.
+//! The pairs of tables.
 ghost use Rattle.std.specs.Prelude.{◌≡◌, ◌∷◌, [], ◌++◌, All, IfOk, OnOk};
 ghost use Rattle.b2_base.specs.Bytes.{HasNoZero};
-ghost use Rattle.b2_base.specs.Segments.{texts};
 ghost use Rattle.b2_gcc.specs.Rows.{pairs};
 
 use b2_base::fault::OutOfMemory;
 use b2_base::text::Text;
-use b2_base::text_list::TextList;
 use b2_props::pair_list::PairList;
 use std::alloc::Global;
-
-/// Copies of texts, in order.
-pub(crate) fn owned(alloc: Global, words: &[&str]) -> Result<TextList, OutOfMemory>
-    requires { All (λ word. HasNoZero word.now) words.now }
-    ensures { IfOk result (λ made. made ≡ texts words.now) }
-{
-    let mut made = TextList::new(alloc);
-    for word in words {
-        made.push(Text::new(alloc, word)?)?;
-    }
-    Ok(made)
-}
 
 fn push_pair(
     alloc: Global,

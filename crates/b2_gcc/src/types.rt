@@ -6,9 +6,10 @@ ghost use Rattle.b2_gcc.specs.Tables.{file_types, generators};
 ghost use Rattle.b2_gcc.specs.Calls.{with_types, are_types_refused, with_generators, are_generators_refused};
 ghost use Rattle.b2_gcc.specs.Rows.{type_in, generator_in, is_clean_type, is_clean_generator};
 
-use crate::owned::{owned, owned_pairs};
+use crate::owned::owned_pairs;
 use b2_base::fault::OutOfMemory;
 use b2_base::text::Text;
+use b2_base::text_list::owned_texts;
 use b2_generators::generator::Generator;
 use b2_generators::types::Types;
 use std::alloc::Global;
@@ -101,7 +102,7 @@ fn register_type(alloc: Global, types: &mut Types, row: &TypeRow) -> Result<bool
     ensures unchanged { result ≡ Ok false → types.new ≡ types.old }
     ensures err { OnErr result (types.new ≡ types.old) }
 {
-    let suffixes = owned(alloc, row.suffixes)?;
+    let suffixes = owned_texts(alloc, row.suffixes)?;
     types.register_type(row.name, suffixes.as_slice())
 }
 
@@ -129,8 +130,8 @@ fn generator(alloc: Global, row: &GeneratorRow) -> Result<Generator, OutOfMemory
 {
     Ok(Generator {
         id: Text::new(alloc, row.id)?,
-        sources: owned(alloc, &[row.source])?,
-        targets: owned(alloc, &[row.target])?,
+        sources: owned_texts(alloc, &[row.source])?,
+        targets: owned_texts(alloc, &[row.target])?,
         required: owned_pairs(alloc, row.required)?,
     })
 }

@@ -10,7 +10,6 @@ use Rattle.std.proofs.lemmas.List.{map-append}
 use Rattle.std.proofs.lemmas.List.Elements.{All-from_recursion, recursion_from_All, filter_map-append}
 use Rattle.std.proofs.lemmas.List.Folds.{list_all_at}
 use Rattle.b2_base.specs.Bytes.{HasNoZero}
-use Rattle.b2_base.specs.Segments.{texts}
 use Rattle.b2_base.proofs.Shapes.{all_parts}
 use Rattle.b2_features.specs.Table.{Declared, is_implicit_in, feature_of, implicit_of}
 use Rattle.b2_props.specs.declared.request_fault.RequestFault.{RequestFault}
@@ -24,12 +23,12 @@ use Rattle.b2_props.proofs.Gaining.{next_take}
 -- ---- parts without a zero byte
 
 -- each part of a text without a zero byte has none
-pub parts_no_zero : (sign : ℕ) (text : List ℕ) (parts : List (Bor (List ℕ))) → texts parts ≡ cut sign text → HasNoZero text → All (λ part. HasNoZero part.now) parts
-parts_no_zero sign text parts e h = All-from_recursion (λ part. HasNoZero part.now) parts (each parts (subst (AllByRecursion (AllByRecursion (λ byte. 0 < byte))) (sym e) (all_parts (λ byte. 0 < byte) (λ b. eqb b sign) text (recursion_from_All (λ byte. 0 < byte) text h))))
+pub parts_no_zero : (sign : ℕ) (text : List ℕ) → HasNoZero text → All HasNoZero (cut sign text)
+parts_no_zero sign text h = All-from_recursion HasNoZero (cut sign text) (each (cut sign text) (all_parts (λ byte. 0 < byte) (λ b. eqb b sign) text (recursion_from_All (λ byte. 0 < byte) text h)))
   where
-    each : (ps : List (Bor (List ℕ))) → AllByRecursion (AllByRecursion (λ byte. 0 < byte)) (texts ps) → AllByRecursion (λ part. HasNoZero part.now) ps
+    each : (ps : List (List ℕ)) → AllByRecursion (AllByRecursion (λ byte. 0 < byte)) ps → AllByRecursion HasNoZero ps
     each [] a = tt
-    each (p ∷ ps) a = (All-from_recursion (λ byte. 0 < byte) p.now a.0, each ps a.1)
+    each (p ∷ ps) a = (All-from_recursion (λ byte. 0 < byte) p a.0, each ps a.1)
 
 -- both ends of a text without a zero byte have none
 ends_by_recursion : (P : ℕ → Type 0) (xs : List ℕ) (y : ℕ) (ys : List ℕ) → AllByRecursion P (xs ++ y ∷ ys) → AllByRecursion P xs × AllByRecursion P ys

@@ -1,9 +1,8 @@
 //! Words cut into properties.
-ghost use Rattle.std.specs.Prelude.{◌≡◌, [], ◌∷◌, ◌++◌, None, IfOk, IfErr, OnOk, MatchOption, map, false, All};
+ghost use Rattle.std.specs.Prelude.{◌≡◌, [], ◌∷◌, ◌++◌, None, IfOk, IfErr, OnOk, MatchOption, map, false};
 ghost use Rattle.std.specs.List.{list_all, filter_map};
 ghost use Rattle.std.specs.Option.{option_copied, option_to_list};
 ghost use Rattle.b2_base.specs.Bytes.{HasNoZero};
-ghost use Rattle.b2_base.specs.Segments.{texts};
 ghost use Rattle.b2_features.specs.Table.{implicit_of};
 ghost use Rattle.b2_props.specs.Words.{cut, first_of, is_named, AreHalves, is_property, implicit_pair, segment_pairs, pair_fault, segment_fault, IsBy};
 ghost use Rattle.b2_features.specs.Faults.{is_implicit};
@@ -12,21 +11,10 @@ use crate::pair_list::pair_with;
 use crate::request_fault::RequestFault;
 use b2_base::fault::OutOfMemory;
 use b2_base::text::Text;
+use b2_base::text_list::owned_texts;
 use b2_features::attribute::Attribute;
 use b2_features::registry::Registry;
 use std::alloc::Global;
-
-/// Copies of texts, in order.
-pub fn owned(alloc: Global, cuts: &[&str]) -> Result<Vec<Text>, OutOfMemory>
-    requires { All (λ part. HasNoZero part.now) cuts.now }
-    ensures { IfOk result (λ made. made.items ≡ texts cuts.now) }
-{
-    let mut made = Vec::new(alloc);
-    for part in cuts {
-        made.push(Text::new(alloc, part)?)?;
-    }
-    Ok(made)
-}
 
 /// The parts of a text with commas between them.
 pub fn commas(alloc: Global, text: &str) -> Result<Vec<Text>, OutOfMemory>
@@ -34,7 +22,8 @@ pub fn commas(alloc: Global, text: &str) -> Result<Vec<Text>, OutOfMemory>
     ensures { IfOk result (λ made. made.items ≡ cut 44 text.now) }
 {
     let cuts: Vec<&str> = text.split(',').collect(alloc)?;
-    owned(alloc, cuts.as_slice())
+    let made = owned_texts(alloc, cuts.as_slice())?;
+    Ok(made.into_vec())
 }
 
 /// The segments of a word.
@@ -42,7 +31,8 @@ pub(crate) fn slashes(alloc: Global, word: &Text) -> Result<Vec<Text>, OutOfMemo
     ensures { IfOk result (λ made. made.items ≡ cut 47 word.now) }
 {
     let cuts: Vec<&str> = word.as_str().split('/').collect(alloc)?;
-    owned(alloc, cuts.as_slice())
+    let made = owned_texts(alloc, cuts.as_slice())?;
+    Ok(made.into_vec())
 }
 
 fn is_implicit(registry: &Registry, value: &str) -> bool

@@ -15,7 +15,7 @@ use crate::values::{command_of, options_of};
 use crate::words::{Command, Words};
 use b2_base::fault::OutOfMemory;
 use b2_base::text::Text;
-use b2_base::text_list::TextList;
+use b2_base::text_list::{TextList, owned_texts};
 use clap::ArgMatches;
 use clap::error::ErrorKind;
 use std::alloc::{AllocError, Global};
@@ -46,23 +46,12 @@ fn command_in(matches: &ArgMatches<'_>) -> Option<Command>
     command_of(options, steps, table)
 }
 
-fn texts_of(alloc: Global, words: &[&str]) -> Result<TextList, OutOfMemory>
-    requires { All HasNoZero (map (λ s. s.now) words.now) }
-    ensures { IfOk result (λ texts. texts ≡ map (λ s. s.now) words.now) }
-{
-    let mut texts = TextList::new(alloc);
-    for word in words {
-        texts.push(Text::new(alloc, word)?)?;
-    }
-    Ok(texts)
-}
-
 fn words_in(alloc: Global, matches: &ArgMatches<'_>) -> Result<TextList, OutOfMemory>
     requires { All HasNoZero (words_found (found_of matches.now)) }
     ensures { IfOk result (λ texts. texts ≡ words_found (found_of matches.now)) }
 {
     match matches.get_strs("word") {
-        Some(words) => texts_of(alloc, words),
+        Some(words) => owned_texts(alloc, words),
         None => Ok(TextList::new(alloc)),
     }
 }

@@ -11,7 +11,7 @@ use crate::faults::put_expand_fault;
 use b2_base::expand_fault::ExpandFault;
 use b2_base::look::Look;
 use b2_base::text::Text;
-use b2_base::text_list::{TextList, copy_texts};
+use b2_base::text_list::{TextList, copy_texts, push_copies};
 use jam_expand::body::expand_body;
 use jam_expand::expand::expand;
 use std::alloc::Global;
@@ -61,14 +61,6 @@ impl Look for Variables {
             None => &[],
         }
     }
-}
-
-/// Adds a copy of each of the texts.
-fn push_copies(texts: &mut TextList, more: &[Text]) -> Result<(), CaseFault> {
-    for text in more {
-        texts.push(text.copy()?)?;
-    }
-    Ok(())
 }
 
 fn answer_set(

@@ -4,7 +4,7 @@ ghost use Rattle.jam_scope.specs.Texts.{first_roots};
 
 use b2_base::fault::OutOfMemory;
 use b2_base::path::{Path, path_of};
-use b2_base::path_list::{PathList, copy_paths};
+use b2_base::path_list::{PathList, copy_paths, push_paths};
 use std::alloc::Global;
 use std::marker::Model;
 
@@ -82,8 +82,6 @@ fn joined(alloc: Global, paths: &[Path], more: &[Path]) -> Result<PathList, OutO
     ensures { IfOk result (λ made. made ≡ paths.now ++ more.now) }
 {
     let mut made = copy_paths(alloc, paths)?;
-    for path in more {
-        made.push(path.copy()?)?;
-    }
+    push_paths(&mut made, more)?;
     Ok(made)
 }

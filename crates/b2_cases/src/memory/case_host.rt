@@ -4,6 +4,7 @@ ghost use Rattle.b2_cases.specs.Untold.{hidden};
 
 use b2_base::fault::OutOfMemory;
 use b2_base::path::Path;
+use b2_base::path_list::{PathList, push_paths};
 use b2_base::text_list::TextList;
 use b2_host::children::Children;
 use b2_host::fault::{Failed, IoFault};
@@ -32,14 +33,7 @@ pub struct CaseHost {
     calls: Calls,
     leaves_nothing: bool,
     /// The outputs of what was started since child processes leave nothing.
-    left_out: Vec<Path>,
-}
-
-fn add_copies(found: &mut Vec<Path>, paths: &[Path]) -> Result<(), OutOfMemory> {
-    for path in paths {
-        found.push(path.copy()?)?;
-    }
-    Ok(())
+    left_out: PathList,
 }
 
 /// Leaves no file at the paths. No child process may run.
@@ -76,7 +70,7 @@ impl CaseHost {
             memory: MemoryHost::new(alloc)?,
             calls,
             leaves_nothing: false,
-            left_out: Vec::new(alloc),
+            left_out: PathList::new(alloc),
         })
     }
 
@@ -94,7 +88,7 @@ impl CaseHost {
         ensures { ⟦<CaseHost as Files>⟧.outside self.new ≡ ⟦<CaseHost as Files>⟧.outside self.old }
     {
         if self.leaves_nothing {
-            add_copies(&mut self.left_out, outs)?;
+            push_paths(&mut self.left_out, outs)?;
         }
         Ok(())
     }

@@ -7,17 +7,17 @@ use Rattle.b2_gcc.specs.Rows.{is_clean}
 use Rattle.b2_gcc.proofs.Clean.{none_zero}
 use Rattle.b2_gcc.proofs.features.declare_row.Goals as goal
 
-pub owned-requires : goal.owned-requires
-owned-requires c =
+pub owned_texts-requires : goal.owned_texts-requires
+owned_texts-requires c =
     let row = c.args.row.now in
     let rest = and_parts (is_clean row.name.now) (list_all is_clean (texts row.values.now) && list_all is_clean (texts row.attributes.now)) c.requires in
-    none_zero row.values.now (and_parts (list_all is_clean (texts row.values.now)) (list_all is_clean (texts row.attributes.now)) rest.1).0
+    none_zero (texts row.values.now) (and_parts (list_all is_clean (texts row.values.now)) (list_all is_clean (texts row.attributes.now)) rest.1).0
 
-pub owned-requires-2 : goal.owned-requires-2
-owned-requires-2 c =
+pub owned_texts-requires-2 : goal.owned_texts-requires-2
+owned_texts-requires-2 c =
     let row = c.args.row.now in
     let rest = and_parts (is_clean row.name.now) (list_all is_clean (texts row.values.now) && list_all is_clean (texts row.attributes.now)) c.requires in
-    none_zero row.attributes.now (and_parts (list_all is_clean (texts row.values.now)) (list_all is_clean (texts row.attributes.now)) rest.1).1
+    none_zero (texts row.attributes.now) (and_parts (list_all is_clean (texts row.values.now)) (list_all is_clean (texts row.attributes.now)) rest.1).1
 
 pub returns-clause-cause : goal.returns-clause-cause
 returns-clause-cause c =

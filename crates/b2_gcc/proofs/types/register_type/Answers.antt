@@ -5,5 +5,5 @@ use Rattle.b2_gcc.specs.Rows.{is_clean}
 use Rattle.b2_gcc.proofs.Clean.{none_zero}
 use Rattle.b2_gcc.proofs.types.register_type.Goals as goal
 
-pub owned-requires : goal.owned-requires
-owned-requires c = let row = c.args.row.now in none_zero row.suffixes.now (and_parts (is_clean row.name.now) (list_all is_clean (texts row.suffixes.now)) c.requires).1
+pub owned_texts-requires : goal.owned_texts-requires
+owned_texts-requires c = let row = c.args.row.now in none_zero (texts row.suffixes.now) (and_parts (is_clean row.name.now) (list_all is_clean (texts row.suffixes.now)) c.requires).1

@@ -2,7 +2,7 @@ use Rattle.std.proofs.Common.{ℕ, List, [], map, subst, sym, Bor, ◌<◌}
 use Rattle.std.proofs.lemmas.List.{get_or-map, length-map}
 use Rattle.std.proofs.lemmas.List.Elements.{All-get_or}
 use Rattle.b2_base.specs.Bytes.{HasNoZero}
-use Rattle.b2_words.proofs.reader.texts_of.Goals as goal
+use Rattle.b2_base.proofs.text_list.owned_texts.Goals as goal
 
 pub new-requires : goal.new-requires
 new-requires c =
