@@ -1,5 +1,5 @@
 //! A list of texts.
-ghost use Rattle.std.specs.Prelude.{◌≡◌, ◌++◌, All, IfOk, OnOk};
+ghost use Rattle.std.specs.Prelude.{◌≡◌, ◌++◌, All, drop, IfOk, OnOk};
 ghost use Rattle.b2_base.specs.Bytes.{HasNoZero};
 ghost use Rattle.b2_base.specs.Lists.{list_at, rest_of, first_of};
 ghost use Rattle.b2_base.specs.Segments.{texts};
@@ -28,6 +28,16 @@ pub fn rest_of(lists: &[TextList]) -> &[TextList]
 {
     match lists {
         [] => lists,
+        [_, more @ ..] => more,
+    }
+}
+
+/// The texts after the first one; takes no memory.
+pub fn rest_of_texts(texts: &[Text]) -> &[Text]
+    ensures { result.now ≡ drop 1 texts.now }
+{
+    match texts {
+        [] => texts,
         [_, more @ ..] => more,
     }
 }

@@ -1,5 +1,5 @@
 //! The lists of a call of `project`.
-ghost use Rattle.std.specs.Prelude.{◌≡◌, [], ◌∷◌, ◌++◌, drop, IfOk, OnOk, option_map, slice_get};
+ghost use Rattle.std.specs.Prelude.{◌≡◌, [], ◌∷◌, ◌++◌, IfOk, OnOk, option_map, slice_get};
 ghost use Rattle.std.specs.List.{filter_map};
 ghost use Rattle.b2_base.specs.Bytes.{HasNoZero};
 ghost use Rattle.b2_base.specs.Lists.{list_at};
@@ -12,7 +12,7 @@ use b2_base::list::List;
 use b2_base::rooted::is_rooted;
 use b2_base::shape::are_empty;
 use b2_base::text::Text;
-use b2_base::text_list::{TextList, list_at};
+use b2_base::text_list::{TextList, list_at, rest_of_texts};
 use std::alloc::Global;
 
 /// The id of a text, which begins with a slash.
@@ -80,16 +80,6 @@ pub(crate) fn attribute_lists(lists: &[TextList]) -> &[TextList]
     }
 }
 
-/// The values of an attribute list, which stand after its name.
-fn values_in(list: &[Text]) -> &[Text]
-    ensures { result.now ≡ drop 1 list.now }
-{
-    match list {
-        [] => list,
-        [_name, values @ ..] => values,
-    }
-}
-
 /// Adds an attribute list, where its values are property texts.
 fn push_attribute(
     alloc: Global,
@@ -100,7 +90,7 @@ fn push_attribute(
 {
     match list_name(list) {
         None => Ok(()),
-        Some(name) => push_list(alloc, found, name, values_in(list)),
+        Some(name) => push_list(alloc, found, name, rest_of_texts(list)),
     }
 }
 

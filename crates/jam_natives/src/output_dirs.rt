@@ -8,7 +8,7 @@ use b2_base::fault::OutOfMemory;
 use b2_base::path::path_of;
 use b2_base::path_list::PathList;
 use b2_base::text::Text;
-use b2_base::text_list::{TextList, push_copies, rest_of};
+use b2_base::text_list::{TextList, push_copies, rest_of, rest_of_texts};
 use std::alloc::Global;
 
 /// Whether an attribute list names output roots.
@@ -30,16 +30,6 @@ pub fn names_output_dirs(lists: &[TextList]) -> bool
         .any(|list| is_output_dirs(list.as_slice()))
 }
 
-/// The texts after the first.
-fn rest_of_list(list: &[Text]) -> &[Text]
-    ensures { result.now ≡ drop 1 list.now }
-{
-    match list {
-        [] => list,
-        [_, rest @ ..] => rest,
-    }
-}
-
 /// Adds the directories of an attribute list, where it names output roots.
 fn push_dirs(dirs: &mut TextList, list: &[Text]) -> Result<(), OutOfMemory>
     ensures { OnOk result (dirs.new ≡ dirs.old ++ flat_map (drop 1) (filter is_output_dirs (list.now ∷ []))) }
@@ -47,7 +37,7 @@ fn push_dirs(dirs: &mut TextList, list: &[Text]) -> Result<(), OutOfMemory>
     if !is_output_dirs(list) {
         return Ok(());
     }
-    push_copies(dirs, rest_of_list(list))
+    push_copies(dirs, rest_of_texts(list))
 }
 
 /// The directories that the lists for output roots name, in order.
