@@ -1,9 +1,7 @@
 use Rattle.std.specs.Prelude.{◌≡◌, ℕ, ◌≤◌, Bool, true, false, ◌&&◌, List, [], ◌∷◌, length, option_map, slice_get, ◌⊎◌}
 use Rattle.std.specs.List.{filter_map}
 use Rattle.std.specs.Option.{option_map_or}
-use Rattle.std.specs.Ordering.{nat_cmp}
-use Rattle.std.specs.Cmp.Lexicographic.{slice_cmp}
-use Rattle.std.specs.declared.cmp.Ordering.TheVariants.{Less}
+use Rattle.b2_base.specs.Bytes.{Before}
 use Rattle.b2_props.specs.Sets.{Pair}
 use Rattle.b2_props.specs.Membership.{has_all}
 use Rattle.b2_generators.specs.declared.generator.Generator.{Generator}
