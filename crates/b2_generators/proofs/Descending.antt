@@ -1,9 +1,10 @@
 use Rattle.std.proofs.Common.{◌≡◌, ℕ, suc, ◌+◌, ◌<◌, ◌≤◌, Bool, true, ◌&&◌, List, [], ◌∷◌, ◌++◌, length, take, Option, Some, None, MatchOption, refl, sym, ◌∙◌, ap, subst, append_assoc, ◌⊎◌, inl, inr, arith}
 use Rattle.std.proofs.lemmas.Bool.{both_ways, cases_lt, and_parts, and_from, lt-ltb, ltb-true}
 use Rattle.std.proofs.lemmas.List.{append-nil, take-append-le, take_at, length_push}
+use Rattle.b2_base.specs.Numbers.{is_among}
 use Rattle.b2_generators.specs.declared.generator.Generator.{Generator}
 use Rattle.b2_generators.specs.declared.walk.Branch.{Branch}
-use Rattle.b2_generators.specs.Places.{has_place, targets_at, takes_any_at, layer_at}
+use Rattle.b2_generators.specs.Places.{targets_at, takes_any_at, layer_at}
 use Rattle.b2_generators.specs.Descents.{Descends, is_above, branch_after, CanGoOn, IsConnected, IsFirst, IsOnly, AreFirst, IsLowest, IsBranch, IsWalk}
 use Rattle.b2_generators.proofs.Ordering.{Follows, Begins, first_more, only_more, both_more, next_second, nothing_only, first_of_only}
 
@@ -12,18 +13,18 @@ use Rattle.b2_generators.proofs.Ordering.{Follows, Begins, first_more, only_more
 module _ (generators : List Generator) (layers : List (List ℕ)) (types : List (List ℕ)) (depth : ℕ) where
   -- a place of the layer that takes one of the types
   pub record Passes (place : ℕ) : Type 0 where
-    pub there : has_place (layer_at layers depth) place ≡ true
+    pub there : is_among (layer_at layers depth) place ≡ true
     pub takes : takes_any_at generators types place ≡ true
 
   pub goes_on : (place : ℕ) → Passes place → Follows (Descends generators layers types) depth place (Descends generators layers (targets_at generators place))
   goes_on place passes = record {
     forth = λ rest size down. down.2;
-    back = λ rest size down. (subst (λ n. has_place (layer_at layers n) place ≡ true) (sym size) passes.there, passes.takes, down);
+    back = λ rest size down. (subst (λ n. is_among (layer_at layers n) place ≡ true) (sym size) passes.there, passes.takes, down);
   }
 
   pub begins_passes : (place : ℕ) → Begins (Descends generators layers types) depth place → Passes place
   begins_passes place begins = record {
-    there = subst (λ n. has_place (layer_at layers n) place ≡ true) begins.1 begins.2.0;
+    there = subst (λ n. is_among (layer_at layers n) place ≡ true) begins.1 begins.2.0;
     takes = begins.2.1;
   }
 
@@ -43,7 +44,7 @@ IsAlone generators layers count start depth types made = (rest : List ℕ) → I
 -- another list could last be chosen at the branch
 pub record HasLeft (generators : List Generator) (layers : List (List ℕ)) (count : ℕ) (start : List (List ℕ)) (depth : ℕ) (types : List (List ℕ)) (made : List ℕ) (branch : Branch) : Type 0 where
   pub within : branch.after < count
-  pub there : has_place (layer_at layers branch.after) branch.place ≡ true
+  pub there : is_among (layer_at layers branch.after) branch.place ≡ true
   pub before : branch.before ≤ length made
   pub second : (rest : List ℕ) → IsOnly (Descends generators layers types) depth rest
       → (other : List ℕ) → IsFirst (Descends generators layers (targets_at generators branch.place)) branch.after other
@@ -203,7 +204,7 @@ module _ (generators : List Generator) (layers : List (List ℕ)) (count : ℕ) 
       → IsWalking generators layers count start depth (targets_at generators place) (made ++ place ∷ []) (branch_after branch next (length made) depth)
   walking_more next connected walking is also = record {
     within = less walking.within;
-    goes_on = λ deeper e. connected deeper place (inside deeper e walking.within) (subst (λ n. has_place (layer_at layers n) place ≡ true) e is.0);
+    goes_on = λ deeper e. connected deeper place (inside deeper e walking.within) (subst (λ n. is_among (layer_at layers n) place ≡ true) e is.0);
     walked = walk_more generators layers start count depth types made place passes lowest walking.walked;
     leaves = go next also;
   }

@@ -2,19 +2,20 @@ use Rattle.std.proofs.Common.{◌≡◌, ℕ, suc, ◌+◌, ◌<◌, ◌≤◌, 
 use Rattle.std.specs.Str.{bytes_eq}
 use Rattle.std.proofs.lemmas.Bool.{or_cases, or_left, or_right, both_ways, cases_lt}
 use Rattle.std.proofs.lemmas.List.{get_or_append_left, get_or_push, length_push}
+use Rattle.b2_base.specs.Numbers.{is_among}
 use Rattle.b2_props.specs.Sets.{Pair}
 use Rattle.b2_props.proofs.Pairs.{text_is, text_itself}
 use Rattle.b2_generators.specs.declared.generator.Generator.{Generator}
-use Rattle.b2_generators.specs.Places.{has_place, gives_at, is_taken_by, layer_at}
+use Rattle.b2_generators.specs.Places.{gives_at, is_taken_by, layer_at}
 use Rattle.b2_generators.specs.Walks.{EndsAt, IsAway, IsAtLeast}
 use Rattle.b2_generators.specs.Layers.{Givers, stock, AreAll, Moves, IsLayer, AreInOrder, AreLayers, IsApart}
 use Rattle.b2_generators.proofs.Stepping.{taken_away, away_taken, not_taken, empty_layer, apart_least}
 
 -- what is left once the layers up to one of them are there: the generators that give types which are further away
 pub record IsLeft (generators : List Generator) (set : List Pair) (end : List ℕ) (count : ℕ) (givers : Givers) : Type 0 where
-  pub sound : (type : List ℕ) (place : ℕ) → has_place (stock givers type) place ≡ true → gives_at generators set place type ≡ true
-  pub here : (type : List ℕ) (place : ℕ) → gives_at generators set place type ≡ true → (has_place (stock givers type) place ≡ true) ⊎ ((places : List ℕ) × EndsAt generators set end places type × (length places ≤ count))
-  pub far : (type : List ℕ) (place : ℕ) → has_place (stock givers type) place ≡ true → IsAtLeast generators set end (suc count) type
+  pub sound : (type : List ℕ) (place : ℕ) → is_among (stock givers type) place ≡ true → gives_at generators set place type ≡ true
+  pub here : (type : List ℕ) (place : ℕ) → gives_at generators set place type ≡ true → (is_among (stock givers type) place ≡ true) ⊎ ((places : List ℕ) × EndsAt generators set end places type × (length places ≤ count))
+  pub far : (type : List ℕ) (place : ℕ) → is_among (stock givers type) place ≡ true → IsAtLeast generators set end (suc count) type
 
 -- ---- what was moved
 
@@ -23,12 +24,12 @@ pub stays_there : (taken : List ℕ → Bool) (old new : Givers) (before after :
 stays_there taken old new before after type moved free = moved.stocks type ∙ ap (λ b. cond b [] (stock old type)) free
 
 -- what stands at a type was not taken, and stood there
-pub left_there : (taken : List ℕ → Bool) (old new : Givers) (before after : List ℕ) (type : List ℕ) (place : ℕ) → Moves taken old new before after → has_place (stock new type) place ≡ true → (taken type ≡ false) × (has_place (stock old type) place ≡ true)
+pub left_there : (taken : List ℕ → Bool) (old new : Givers) (before after : List ℕ) (type : List ℕ) (place : ℕ) → Moves taken old new before after → is_among (stock new type) place ≡ true → (taken type ≡ false) × (is_among (stock old type) place ≡ true)
 left_there taken old new before after type place moved here = go (taken type) refl
   where
-    go : (b : Bool) → taken type ≡ b → (taken type ≡ false) × (has_place (stock old type) place ≡ true)
-    go true e = absurd (both_ways false refl (subst (λ (ps : List ℕ). has_place ps place ≡ true) (moved.stocks type ∙ ap (λ b. cond b [] (stock old type)) e) here))
-    go false e = (e, subst (λ (ps : List ℕ). has_place ps place ≡ true) (stays_there taken old new before after type moved e) here)
+    go : (b : Bool) → taken type ≡ b → (taken type ≡ false) × (is_among (stock old type) place ≡ true)
+    go true e = absurd (both_ways false refl (subst (λ (ps : List ℕ). is_among ps place ≡ true) (moved.stocks type ∙ ap (λ b. cond b [] (stock old type)) e) here))
+    go false e = (e, subst (λ (ps : List ℕ). is_among ps place ≡ true) (stays_there taken old new before after type moved e) here)
 
 -- what was moved at once, and then at other types
 pub moved_both : (first second both : List ℕ → Bool) (a b c : Givers) (before mid after : List ℕ) → ((type : List ℕ) → both type ≡ (first type || second type)) → Moves first a b before mid → Moves second b c mid after → Moves both a c before after
@@ -45,15 +46,15 @@ moved_both first second both a b c before mid after joined one two = record {
     twice false true xs = refl
     twice false false xs = refl
 
-    came : (type : List ℕ) (place : ℕ) → has_place (stock a type) place ≡ true → (b' : Bool) → first type ≡ b' → (first type ≡ true) ⊎ (second type ≡ true) → has_place after place ≡ true
+    came : (type : List ℕ) (place : ℕ) → is_among (stock a type) place ≡ true → (b' : Bool) → first type ≡ b' → (first type ≡ true) ⊎ (second type ≡ true) → is_among after place ≡ true
     came type place here true e either = two.stays place (one.comes type place e here)
     came type place here false e (inl bad) = absurd (both_ways (first type) e bad)
-    came type place here false e (inr f) = two.comes type place f (subst (λ (ps : List ℕ). has_place ps place ≡ true) (sym (stays_there first a b before mid type one e)) here)
+    came type place here false e (inr f) = two.comes type place f (subst (λ (ps : List ℕ). is_among ps place ≡ true) (sym (stays_there first a b before mid type one e)) here)
 
-    source : (place : ℕ) → (has_place mid place ≡ true) ⊎ ((type : List ℕ) × (second type ≡ true) × (has_place (stock b type) place ≡ true)) → (has_place before place ≡ true) ⊎ ((type : List ℕ) × (both type ≡ true) × (has_place (stock a type) place ≡ true))
+    source : (place : ℕ) → (is_among mid place ≡ true) ⊎ ((type : List ℕ) × (second type ≡ true) × (is_among (stock b type) place ≡ true)) → (is_among before place ≡ true) ⊎ ((type : List ℕ) × (both type ≡ true) × (is_among (stock a type) place ≡ true))
     source place (inl here) = early (one.only place here)
       where
-        early : (has_place before place ≡ true) ⊎ ((type : List ℕ) × (first type ≡ true) × (has_place (stock a type) place ≡ true)) → (has_place before place ≡ true) ⊎ ((type : List ℕ) × (both type ≡ true) × (has_place (stock a type) place ≡ true))
+        early : (is_among before place ≡ true) ⊎ ((type : List ℕ) × (first type ≡ true) × (is_among (stock a type) place ≡ true)) → (is_among before place ≡ true) ⊎ ((type : List ℕ) × (both type ≡ true) × (is_among (stock a type) place ≡ true))
         early (inl first) = inl first
         early (inr w) = inr (w.0, joined w.0 ∙ or_left (first w.0) (second w.0) w.1, w.2)
     source place (inr w) = inr (w.0, joined w.0 ∙ or_right (first w.0) (second w.0) w.1, (left_there first a b before mid w.0 place one w.2).1)
@@ -81,7 +82,7 @@ module _ (generators : List Generator) (set : List Pair) (end : List ℕ) where
     all = λ place type gives away least. moved.comes type place (subst (λ (t : List ℕ). bytes_eq t end ≡ true) (sym (none_is away.0 type away.1 away.2)) (text_itself end)) (are place type ∙ gives);
   }
     where
-      given : (place : ℕ) → (false ≡ true) ⊎ ((type : List ℕ) × (bytes_eq type end ≡ true) × (has_place (stock all type) place ≡ true)) → (type : List ℕ) × (gives_at generators set place type ≡ true) × IsAway generators set end 0 type × IsAtLeast generators set end 0 type
+      given : (place : ℕ) → (false ≡ true) ⊎ ((type : List ℕ) × (bytes_eq type end ≡ true) × (is_among (stock all type) place ≡ true)) → (type : List ℕ) × (gives_at generators set place type ≡ true) × IsAway generators set end 0 type × IsAtLeast generators set end 0 type
       given place (inl bad) = absurd (both_ways false refl bad)
       given place (inr w) = (w.0, sym (are place w.0) ∙ w.2, ([], text_is w.0 end w.1, refl), λ other way. omega arith)
 
@@ -93,9 +94,9 @@ module _ (generators : List Generator) (set : List Pair) (end : List ℕ) where
     far = λ type place here. further type (left_there (λ t. bytes_eq t end) all left [] layer type place moved here).0;
   }
     where
-      go : (type : List ℕ) (place : ℕ) → gives_at generators set place type ≡ true → (b : Bool) → bytes_eq type end ≡ b → (has_place (stock left type) place ≡ true) ⊎ ((places : List ℕ) × EndsAt generators set end places type × (length places ≤ 0))
+      go : (type : List ℕ) (place : ℕ) → gives_at generators set place type ≡ true → (b : Bool) → bytes_eq type end ≡ b → (is_among (stock left type) place ≡ true) ⊎ ((places : List ℕ) × EndsAt generators set end places type × (length places ≤ 0))
       go type place gives true e = inr ([], text_is type end e, omega arith)
-      go type place gives false e = inl (ap (λ ps. has_place ps place) (stays_there (λ t. bytes_eq t end) all left [] layer type moved e) ∙ are place type ∙ gives)
+      go type place gives false e = inl (ap (λ ps. is_among ps place) (stays_there (λ t. bytes_eq t end) all left [] layer type moved e) ∙ are place type ∙ gives)
 
       further : (type : List ℕ) → bytes_eq type end ≡ false → IsAtLeast generators set end 1 type
       further type free [] way = absurd (both_ways (bytes_eq type end) free (subst (λ (t : List ℕ). bytes_eq type t ≡ true) way (text_itself type)))
@@ -109,11 +110,11 @@ module _ (generators : List Generator) (set : List Pair) (end : List ℕ) where
       all = λ place type gives away least. among place type away least (left.here type place gives);
     }
       where
-        given : (place : ℕ) → (false ≡ true) ⊎ ((type : List ℕ) × (is_taken_by generators layer type ≡ true) × (has_place (stock old type) place ≡ true)) → (type : List ℕ) × (gives_at generators set place type ≡ true) × IsAway generators set end (suc count) type × IsAtLeast generators set end (suc count) type
+        given : (place : ℕ) → (false ≡ true) ⊎ ((type : List ℕ) × (is_taken_by generators layer type ≡ true) × (is_among (stock old type) place ≡ true)) → (type : List ℕ) × (gives_at generators set place type ≡ true) × IsAway generators set end (suc count) type × IsAtLeast generators set end (suc count) type
         given place (inl bad) = absurd (both_ways false refl bad)
         given place (inr w) = (w.0, left.sound w.0 place w.2, taken_away generators set end count layer w.0 is w.1, left.far w.0 place w.2)
 
-        among : (place : ℕ) (type : List ℕ) → IsAway generators set end (suc count) type → IsAtLeast generators set end (suc count) type → (has_place (stock old type) place ≡ true) ⊎ ((places : List ℕ) × EndsAt generators set end places type × (length places ≤ count)) → has_place next place ≡ true
+        among : (place : ℕ) (type : List ℕ) → IsAway generators set end (suc count) type → IsAtLeast generators set end (suc count) type → (is_among (stock old type) place ≡ true) ⊎ ((places : List ℕ) × EndsAt generators set end places type × (length places ≤ count)) → is_among next place ≡ true
         among place type away least (inl here) = moved.comes type place (away_taken generators set end count layer type is away least) here
         among place type away least (inr near) = let bad : suc count ≤ length near.0 = least near.0 near.1 in absurd (omega (arith, near.2))
 
@@ -126,10 +127,10 @@ module _ (generators : List Generator) (set : List Pair) (end : List ℕ) where
           not_taken generators set end count layer type is (left.far type place there.1) there.0;
     }
       where
-        go : (type : List ℕ) (place : ℕ) (b : Bool) → is_taken_by generators layer type ≡ b → (has_place (stock old type) place ≡ true) ⊎ ((places : List ℕ) × EndsAt generators set end places type × (length places ≤ count)) → (has_place (stock new type) place ≡ true) ⊎ ((places : List ℕ) × EndsAt generators set end places type × (length places ≤ suc count))
+        go : (type : List ℕ) (place : ℕ) (b : Bool) → is_taken_by generators layer type ≡ b → (is_among (stock old type) place ≡ true) ⊎ ((places : List ℕ) × EndsAt generators set end places type × (length places ≤ count)) → (is_among (stock new type) place ≡ true) ⊎ ((places : List ℕ) × EndsAt generators set end places type × (length places ≤ suc count))
         go type place b e (inr near) = inr (near.0, near.1, omega (arith, near.2))
         go type place true e (inl here) = let away = taken_away generators set end count layer type is e in inr (away.0, away.1, omega (arith, away.2))
-        go type place false e (inl here) = inl (ap (λ ps. has_place ps place) (stays_there (is_taken_by generators layer) old new [] next type moved e) ∙ here)
+        go type place false e (inl here) = inl (ap (λ ps. is_among ps place) (stays_there (is_taken_by generators layer) old new [] next type moved e) ∙ here)
 
   -- one layer more
   pub order_push : (layers : List (List ℕ)) (layer : List ℕ) → AreInOrder generators set end layers → IsLayer generators set end (length layers) layer → AreInOrder generators set end (layers ++ layer ∷ [])

@@ -3,13 +3,14 @@ use Rattle.std.specs.List.{list_any}
 use Rattle.std.specs.Option.{option_map_or}
 use Rattle.std.specs.Str.{bytes_eq}
 use Rattle.std.proofs.lemmas.Bool.{or_cases, or_left, or_right, and_parts, and_from, both_ways, eqb-true, eq-eqb, cases_lt}
+use Rattle.b2_base.specs.Numbers.{is_among}
 use Rattle.b2_props.specs.Sets.{Pair}
 use Rattle.b2_props.specs.Membership.{has_all}
 use Rattle.b2_props.proofs.Pairs.{text_is, text_itself}
 use Rattle.b2_generators.specs.declared.generator.Generator.{Generator}
 use Rattle.b2_generators.specs.Table.{has_text}
 use Rattle.b2_generators.specs.Chains.{makes, makes_at}
-use Rattle.b2_generators.specs.Places.{has_place, is_usable_at, sources_at, targets_at, is_taken_by}
+use Rattle.b2_generators.specs.Places.{is_usable_at, sources_at, targets_at, is_taken_by}
 use Rattle.b2_generators.specs.Walks.{EndsAt, IsAway, IsAtLeast}
 use Rattle.b2_generators.specs.Layers.{IsLayer}
 
@@ -41,10 +42,10 @@ same_itself x = eq-eqb x x refl
 same_sound : (x y : ℕ) → is_same x y ≡ true → x ≡ y
 same_sound x y e = sym (eqb-true y x e)
 
-pub place_found : (test : ℕ → Bool) (places : List ℕ) → list_any test places ≡ true → (place : ℕ) × (has_place places place ≡ true) × (test place ≡ true)
+pub place_found : (test : ℕ → Bool) (places : List ℕ) → list_any test places ≡ true → (place : ℕ) × (is_among places place ≡ true) × (test place ≡ true)
 place_found test places e = any_found is_same same_itself same_sound test places e
 
-pub place_from : (test : ℕ → Bool) (place : ℕ) (places : List ℕ) → has_place places place ≡ true → test place ≡ true → list_any test places ≡ true
+pub place_from : (test : ℕ → Bool) (place : ℕ) (places : List ℕ) → is_among places place ≡ true → test place ≡ true → list_any test places ≡ true
 place_from test place places here t = any_from is_same same_itself same_sound test place places here t
 
 pub text_found : (test : List ℕ → Bool) (texts : List (List ℕ)) → list_any test texts ≡ true → (text : List ℕ) × (has_text texts text ≡ true) × (test text ≡ true)
@@ -93,7 +94,7 @@ module _ (generators : List Generator) (set : List Pair) (end : List ℕ) where
 
   -- a shortest way begins in the layer of its length
   pub first_in_layer : (count place : ℕ) (places layer : List ℕ) (type : List ℕ) → IsLayer generators set end count layer → EndsAt generators set end (place ∷ places) type → length places ≡ count → IsAtLeast generators set end (suc count) type
-      → (has_place layer place ≡ true) × (has_text (sources_at generators place) type ≡ true)
+      → (is_among layer place ≡ true) × (has_text (sources_at generators place) type ≡ true)
   first_in_layer count place places layer type is way size least =
       let parts = makes_parts generators set place type way.0 way.1 in
       (is.all place way.0 (and_from (is_usable_at generators set place) (has_text (targets_at generators place) way.0) parts.0 parts.2) (places, way.2, size) (next_least count place type way.0 least way.1), parts.1)

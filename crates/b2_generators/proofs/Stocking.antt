@@ -5,12 +5,13 @@ use Rattle.std.specs.FinMap.{get, insert, from_entries, get-from_entries}
 use Rattle.std.proofs.lemmas.Cmp.{nat_list_cmp_total}
 use Rattle.std.proofs.lemmas.Bool.{or_cases, or_left, or_right, cases_order, lt-ltb, le-ltb, eq-eqb, ne_eqb}
 use Rattle.std.proofs.lemmas.List.Folds.{list_any-append, list_any_more}
+use Rattle.b2_base.specs.Numbers.{is_among}
 use Rattle.b2_props.specs.Sets.{Pair}
 use Rattle.b2_props.proofs.Pairs.{text_is, text_itself}
 use Rattle.b2_props.proofs.Gaining.{get_put, next_take}
 use Rattle.b2_generators.specs.declared.generator.Generator.{Generator}
 use Rattle.b2_generators.specs.Table.{has_text}
-use Rattle.b2_generators.specs.Places.{has_place, gives_at, sources_at, is_taken_by}
+use Rattle.b2_generators.specs.Places.{gives_at, sources_at, is_taken_by}
 use Rattle.b2_generators.specs.Layers.{Givers, stock, Moves}
 use Rattle.b2_generators.proofs.Tables.{has_text-push}
 use Rattle.b2_generators.proofs.Layering.{moved_both, moved_none}
@@ -42,16 +43,16 @@ stock_add old mid new target taken places place was left more set type =
     go true = more ∙ ap (λ ps. ps ++ place ∷ []) was
     go false = refl
 
-pub has_place_push : (places : List ℕ) (place p : ℕ) → has_place (places ++ place ∷ []) p ≡ (has_place places p || place == p)
-has_place_push places place p = list_any-append (λ q. q == p) places (place ∷ []) ∙ ap (λ b. has_place places p || b) (go (place == p))
+pub among_push : (places : List ℕ) (place p : ℕ) → is_among (places ++ place ∷ []) p ≡ (is_among places p || place == p)
+among_push places place p = list_any-append (λ q. q == p) places (place ∷ []) ∙ ap (λ b. is_among places p || b) (go (place == p))
   where
     go : (b : Bool) → (b || false) ≡ b
     go true = refl
     go false = refl
 
 pub place_add : (old new : Givers) (target : List ℕ) (place : ℕ) → ((type : List ℕ) → stock new type ≡ cond (bytes_eq type target) (stock old target ++ place ∷ []) (stock old type))
-    → (type : List ℕ) (p : ℕ) → has_place (stock new type) p ≡ (has_place (stock old type) p || (place == p && bytes_eq type target))
-place_add old new target place added type p = ap (λ ps. has_place ps p) (added type) ∙ go (bytes_eq type target) refl
+    → (type : List ℕ) (p : ℕ) → is_among (stock new type) p ≡ (is_among (stock old type) p || (place == p && bytes_eq type target))
+place_add old new target place added type p = ap (λ ps. is_among ps p) (added type) ∙ go (bytes_eq type target) refl
   where
     none : (a b : Bool) → a ≡ (a || (b && false))
     none true b = refl
@@ -63,19 +64,19 @@ place_add old new target place added type p = ap (λ ps. has_place ps p) (added 
     one false true = refl
     one false false = refl
 
-    go : (b : Bool) → bytes_eq type target ≡ b → has_place (cond b (stock old target ++ place ∷ []) (stock old type)) p ≡ (has_place (stock old type) p || (place == p && b))
-    go true e = has_place_push (stock old target) place p ∙ ap (λ (t : List ℕ). has_place (stock old t) p || place == p) (sym (text_is type target e)) ∙ one (has_place (stock old type) p) (place == p)
-    go false e = none (has_place (stock old type) p) (place == p)
+    go : (b : Bool) → bytes_eq type target ≡ b → is_among (cond b (stock old target ++ place ∷ []) (stock old type)) p ≡ (is_among (stock old type) p || (place == p && b))
+    go true e = among_push (stock old target) place p ∙ ap (λ (t : List ℕ). is_among (stock old t) p || place == p) (sym (text_is type target e)) ∙ one (is_among (stock old type) p) (place == p)
+    go false e = none (is_among (stock old type) p) (place == p)
 
 -- ---- some types
 
 pub place_add_more : (start old new : Givers) (targets : List (List ℕ)) (i : ℕ) (target : List ℕ) (place : ℕ) → i < length targets → target ≡ get_or targets i target
-    → ((type : List ℕ) (p : ℕ) → has_place (stock old type) p ≡ (has_place (stock start type) p || (place == p && has_text (take i targets) type)))
+    → ((type : List ℕ) (p : ℕ) → is_among (stock old type) p ≡ (is_among (stock start type) p || (place == p && has_text (take i targets) type)))
     → ((type : List ℕ) → stock new type ≡ cond (bytes_eq type target) (stock old target ++ place ∷ []) (stock old type))
-    → (type : List ℕ) (p : ℕ) → has_place (stock new type) p ≡ (has_place (stock start type) p || (place == p && has_text (take (i + 1) targets) type))
+    → (type : List ℕ) (p : ℕ) → is_among (stock new type) p ≡ (is_among (stock start type) p || (place == p && has_text (take (i + 1) targets) type))
 place_add_more start old new targets i target place within is before added type p =
-    place_add old new target place added type p ∙ ap (λ b. b || (place == p && bytes_eq type target)) (before type p) ∙ go (has_place (stock start type) p) (place == p) (has_text (take i targets) type) (bytes_eq type target)
-    ∙ ap (λ b. has_place (stock start type) p || (place == p && b)) (sym (ap (λ ts. has_text ts type) (next_take targets i target within is) ∙ has_text-push (take i targets) target type))
+    place_add old new target place added type p ∙ ap (λ b. b || (place == p && bytes_eq type target)) (before type p) ∙ go (is_among (stock start type) p) (place == p) (has_text (take i targets) type) (bytes_eq type target)
+    ∙ ap (λ b. is_among (stock start type) p || (place == p && b)) (sym (ap (λ ts. has_text ts type) (next_take targets i target within is) ∙ has_text-push (take i targets) target type))
   where
     go : (a b c d : Bool) → ((a || (b && c)) || (b && d)) ≡ (a || (b && (c || d)))
     go true b c d = refl
@@ -107,16 +108,16 @@ place_next generators set n p type = go (cases_order p n)
 pub moved_one : (old new : Givers) (target taken before after : List ℕ) → taken ≡ stock old target → new ≡ insert old target [] → after ≡ before ++ taken → Moves (λ type. bytes_eq type target) old new before after
 moved_one old new target taken before after was left joined = record {
   stocks = λ type. ap (λ m. stock m type) left ∙ stock_put old target [] type;
-  stays = λ place here. ap (λ ps. has_place ps place) joined ∙ list_any-append (λ q. q == place) before taken ∙ or_left (has_place before place) (has_place taken place) here;
+  stays = λ place here. ap (λ ps. is_among ps place) joined ∙ list_any-append (λ q. q == place) before taken ∙ or_left (is_among before place) (is_among taken place) here;
   comes = λ type place same here.
-      ap (λ ps. has_place ps place) joined ∙ list_any-append (λ q. q == place) before taken
-      ∙ or_right (has_place before place) (has_place taken place) (ap (λ ps. has_place ps place) was ∙ ap (λ (t : List ℕ). has_place (stock old t) place) (sym (text_is type target same)) ∙ here);
-  only = λ place here. go place (or_cases (has_place before place) (has_place taken place) (sym (ap (λ ps. has_place ps place) joined ∙ list_any-append (λ q. q == place) before taken) ∙ here));
+      ap (λ ps. is_among ps place) joined ∙ list_any-append (λ q. q == place) before taken
+      ∙ or_right (is_among before place) (is_among taken place) (ap (λ ps. is_among ps place) was ∙ ap (λ (t : List ℕ). is_among (stock old t) place) (sym (text_is type target same)) ∙ here);
+  only = λ place here. go place (or_cases (is_among before place) (is_among taken place) (sym (ap (λ ps. is_among ps place) joined ∙ list_any-append (λ q. q == place) before taken) ∙ here));
 }
   where
-    go : (place : ℕ) → (has_place before place ≡ true) ⊎ (has_place taken place ≡ true) → (has_place before place ≡ true) ⊎ ((type : List ℕ) × (bytes_eq type target ≡ true) × (has_place (stock old type) place ≡ true))
+    go : (place : ℕ) → (is_among before place ≡ true) ⊎ (is_among taken place ≡ true) → (is_among before place ≡ true) ⊎ ((type : List ℕ) × (bytes_eq type target ≡ true) × (is_among (stock old type) place ≡ true))
     go place (inl here) = inl here
-    go place (inr here) = inr (target, text_itself target, sym (ap (λ ps. has_place ps place) was) ∙ here)
+    go place (inr here) = inr (target, text_itself target, sym (ap (λ ps. is_among ps place) was) ∙ here)
 
 pub moved_start : (givers : Givers) (places : List ℕ) → Moves (has_text []) givers givers places places
 moved_start givers places = moved_none (has_text []) givers places (λ type. refl)

@@ -3,7 +3,8 @@ use Rattle.b2_generators.specs.declared.generator.Generator.{Generator}
 use Rattle.b2_generators.specs.declared.walk.Branch.{Branch}
 use Rattle.b2_generators.specs.Chains.{ids_of}
 use Rattle.b2_base.specs.Bytes.{Before}
-use Rattle.b2_generators.specs.Places.{has_place, targets_at, takes_any_at, layer_at}
+use Rattle.b2_base.specs.Numbers.{is_among}
+use Rattle.b2_generators.specs.Places.{targets_at, takes_any_at, layer_at}
 
 -- Lists of places that go down the layers, and which of them come first.
 
@@ -11,7 +12,7 @@ use Rattle.b2_generators.specs.Places.{has_place, targets_at, takes_any_at, laye
 -- the layer whose number is how many come after it
 abbrev pub Descends : List Generator → List (List ℕ) → List (List ℕ) → List ℕ → Type 0
 Descends generators layers types [] = Unit {0}
-Descends generators layers types (place ∷ places) = (has_place (layer_at layers (length places)) place ≡ true) × (takes_any_at generators types place ≡ true) × Descends generators layers (targets_at generators place) places
+Descends generators layers types (place ∷ places) = (is_among (layer_at layers (length places)) place ≡ true) × (takes_any_at generators types place ≡ true) × Descends generators layers (targets_at generators place) places
 
 -- Of lists of one length that have a property.
 
@@ -49,23 +50,23 @@ is_below place (Some found) = nat_lt place found
 -- the least of some places that passes a test
 abbrev pub IsLowest : (ℕ → Bool) → List ℕ → Option ℕ → Type 0
 IsLowest test places found = MatchOption found
-    ((place : ℕ) → has_place places place ≡ true → test place ≡ false)
-    (λ low. (has_place places low ≡ true) × (test low ≡ true) × ((place : ℕ) → has_place places place ≡ true → test place ≡ true → low ≤ place))
+    ((place : ℕ) → is_among places place ≡ true → test place ≡ false)
+    (λ low. (is_among places low ≡ true) × (test low ≡ true) × ((place : ℕ) → is_among places place ≡ true → test place ≡ true → low ≤ place))
 
 -- a place of the layer takes one of the types
 abbrev pub CanGoOn : List Generator → List (List ℕ) → ℕ → List (List ℕ) → Type 0
-CanGoOn generators layers count types = (place : ℕ) × (has_place (layer_at layers count) place ≡ true) × (takes_any_at generators types place ≡ true)
+CanGoOn generators layers count types = (place : ℕ) × (is_among (layer_at layers count) place ≡ true) × (takes_any_at generators types place ≡ true)
 
 -- from each place of a layer one of the next layer goes on
 abbrev pub IsConnected : List Generator → List (List ℕ) → Type 0
-IsConnected generators layers = (count place : ℕ) → suc count < length layers → has_place (layer_at layers (suc count)) place ≡ true → CanGoOn generators layers count (targets_at generators place)
+IsConnected generators layers = (count place : ℕ) → suc count < length layers → is_among (layer_at layers (suc count)) place ≡ true → CanGoOn generators layers count (targets_at generators place)
 
 -- where the second list leaves the first: how many places stand before, the place that stands there in the second list alone,
 -- and how many come after it
 pub record IsBranch (generators : List Generator) (layers : List (List ℕ)) (count : ℕ) (types : List (List ℕ)) (one : List ℕ) (branch : Branch) : Type 0 where
   pub within : branch.after < count
   pub before : branch.before ≤ length one
-  pub there : has_place (layer_at layers branch.after) branch.place ≡ true
+  pub there : is_among (layer_at layers branch.after) branch.place ≡ true
   pub second : (rest : List ℕ) → IsFirst (Descends generators layers (targets_at generators branch.place)) branch.after rest
       → AreFirst (Descends generators layers types) count one (take branch.before one ++ branch.place ∷ rest)
 

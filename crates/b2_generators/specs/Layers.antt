@@ -3,9 +3,10 @@ use Rattle.std.specs.Ordering.{nat_cmp}
 use Rattle.std.specs.Cmp.Lexicographic.{slice_cmp}
 use Rattle.std.specs.FinMap as map
 use Rattle.std.specs.Str.{bytes_eq}
+use Rattle.b2_base.specs.Numbers.{is_among}
 use Rattle.b2_props.specs.Sets.{Pair}
 use Rattle.b2_generators.specs.declared.generator.Generator.{Generator}
-use Rattle.b2_generators.specs.Places.{has_place, gives_at, layer_at}
+use Rattle.b2_generators.specs.Places.{gives_at, layer_at}
 use Rattle.b2_generators.specs.Walks.{EndsAt, IsAway, IsAtLeast}
 
 -- The search for the shortest chains goes backwards from the type where they end. Layer 0 has the generators that give this
@@ -25,23 +26,23 @@ AddsAtOne place target old new = (type : List ℕ) → stock new type ≡ (if by
 
 -- a place stands at the types that pass a test, and all stand where they stood
 abbrev pub AddsWhere : ℕ → (List ℕ → Bool) → Givers → Givers → Type 0
-AddsWhere place test old new = (type : List ℕ) (p : ℕ) → has_place (stock new type) p ≡ (has_place (stock old type) p || (place == p && test type))
+AddsWhere place test old new = (type : List ℕ) (p : ℕ) → is_among (stock new type) p ≡ (is_among (stock old type) p || (place == p && test type))
 
 -- each generator that can be used stands at each type that it gives, and no other one does
 abbrev pub AreAll : List Generator → List Pair → Givers → Type 0
-AreAll generators set givers = (place : ℕ) (type : List ℕ) → has_place (stock givers type) place ≡ gives_at generators set place type
+AreAll generators set givers = (place : ℕ) (type : List ℕ) → is_among (stock givers type) place ≡ gives_at generators set place type
 
 -- what stood at some types was moved to the end of a list
 pub record Moves (taken : List ℕ → Bool) (old new : Givers) (before after : List ℕ) : Type 0 where
   pub stocks : (type : List ℕ) → stock new type ≡ (if taken type then [] else stock old type)
-  pub stays : (place : ℕ) → has_place before place ≡ true → has_place after place ≡ true
-  pub comes : (type : List ℕ) (place : ℕ) → taken type ≡ true → has_place (stock old type) place ≡ true → has_place after place ≡ true
-  pub only : (place : ℕ) → has_place after place ≡ true → (has_place before place ≡ true) ⊎ ((type : List ℕ) × (taken type ≡ true) × (has_place (stock old type) place ≡ true))
+  pub stays : (place : ℕ) → is_among before place ≡ true → is_among after place ≡ true
+  pub comes : (type : List ℕ) (place : ℕ) → taken type ≡ true → is_among (stock old type) place ≡ true → is_among after place ≡ true
+  pub only : (place : ℕ) → is_among after place ≡ true → (is_among before place ≡ true) ⊎ ((type : List ℕ) × (taken type ≡ true) × (is_among (stock old type) place ≡ true))
 
 -- the generators of a layer
 pub record IsLayer (generators : List Generator) (set : List Pair) (end : List ℕ) (count : ℕ) (layer : List ℕ) : Type 0 where
-  pub gives : (place : ℕ) → has_place layer place ≡ true → (type : List ℕ) × (gives_at generators set place type ≡ true) × IsAway generators set end count type × IsAtLeast generators set end count type
-  pub all : (place : ℕ) (type : List ℕ) → gives_at generators set place type ≡ true → IsAway generators set end count type → IsAtLeast generators set end count type → has_place layer place ≡ true
+  pub gives : (place : ℕ) → is_among layer place ≡ true → (type : List ℕ) × (gives_at generators set place type ≡ true) × IsAway generators set end count type × IsAtLeast generators set end count type
+  pub all : (place : ℕ) (type : List ℕ) → gives_at generators set place type ≡ true → IsAway generators set end count type → IsAtLeast generators set end count type → is_among layer place ≡ true
 
 -- each of the layers is the one of its number
 abbrev pub AreInOrder : List Generator → List Pair → List ℕ → List (List ℕ) → Type 0

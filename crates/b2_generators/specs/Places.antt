@@ -1,4 +1,4 @@
-use Rattle.std.specs.Prelude.{ℕ, ◌==◌, Bool, false, ◌&&◌, List, [], slice_get, slice_index_or}
+use Rattle.std.specs.Prelude.{ℕ, Bool, false, ◌&&◌, List, [], slice_get, slice_index_or}
 use Rattle.std.specs.List.{list_any}
 use Rattle.std.specs.Option.{option_map_or}
 use Rattle.b2_props.specs.Sets.{Pair}
@@ -7,10 +7,6 @@ use Rattle.b2_generators.specs.declared.generator.Generator.{Generator}
 use Rattle.b2_generators.specs.Table.{has_text}
 
 -- What the generator at a place takes and gives. Where there is none, it takes and gives nothing.
-
--- whether some places have a place
-abbrev pub has_place : List ℕ → ℕ → Bool
-has_place places place = list_any (λ p. p == place) places
 
 -- whether the set has what the generator requires
 abbrev pub is_usable_at : List Generator → List Pair → ℕ → Bool

@@ -3,16 +3,17 @@ use Rattle.std.specs.List.{filter_map, cons_option, flat_map, slice_get}
 use Rattle.std.specs.Option.{option_map_or}
 use Rattle.std.proofs.lemmas.List.{reverse-append, reverse-reverse, length-reverse}
 use Rattle.std.proofs.lemmas.List.Folds.{list_any-append}
+use Rattle.b2_base.specs.Numbers.{is_among}
 use Rattle.b2_metatargets.specs.declared.place.Place.{Place}
 use Rattle.b2_metatargets.specs.declared.whole.Declared.{Declared}
 use Rattle.b2_references.specs.References.{builds_of, walked, place_at, projects_under}
-use Rattle.b2_references.specs.Walking.{is_found, found_after, Steps, builds_left, turns_left}
+use Rattle.b2_references.specs.Walking.{found_after, Steps, builds_left, turns_left}
 use Rattle.b2_references.proofs.NameLemmas.{number_is, number_itself}
 
 -- ---- builds that are left
 
-found_push : (found : List ℕ) (q p : ℕ) → is_found (found ++ q ∷ []) p ≡ (is_found found p || eqb q p)
-found_push found q p = list_any-append (λ x. eqb x p) found (q ∷ []) ∙ ap (λ b. is_found found p || b) (go (eqb q p))
+found_push : (found : List ℕ) (q p : ℕ) → is_among (found ++ q ∷ []) p ≡ (is_among found p || eqb q p)
+found_push found q p = list_any-append (λ x. eqb x p) found (q ∷ []) ∙ ap (λ b. is_among found p || b) (go (eqb q p))
   where
     go : (b : Bool) → (b || false) ≡ b
     go true = refl
@@ -32,15 +33,15 @@ apart_after a b less = go (eqb b a) refl
     go false e = refl
     go true e = absurd (omega (arith, less, number_is b a e))
 
-still : (found : List ℕ) (q p : ℕ) → eqb q p ≡ false → is_found (found ++ q ∷ []) p ≡ is_found found p
-still found q p e = found_push found q p ∙ ap (λ b. is_found found p || b) e ∙ go (is_found found p)
+still : (found : List ℕ) (q p : ℕ) → eqb q p ≡ false → is_among (found ++ q ∷ []) p ≡ is_among found p
+still found q p e = found_push found q p ∙ ap (λ b. is_among found p || b) e ∙ go (is_among found p)
   where
     go : (b : Bool) → (b || false) ≡ b
     go true = refl
     go false = refl
 
-now_found : (found : List ℕ) (p : ℕ) → is_found (found ++ p ∷ []) p ≡ true
-now_found found p = found_push found p p ∙ ap (λ b. is_found found p || b) (number_itself p) ∙ go (is_found found p)
+now_found : (found : List ℕ) (p : ℕ) → is_among (found ++ p ∷ []) p ≡ true
+now_found found p = found_push found p p ∙ ap (λ b. is_among found p || b) (number_itself p) ∙ go (is_among found p)
   where
     go : (b : Bool) → (b || true) ≡ true
     go true = refl
@@ -59,12 +60,12 @@ builds_at : List Place → ℕ → ℕ
 builds_at ps k = option_map_or (λ p. length p.builds) (slice_get ps k) 0
 
 -- those of a project that is found are no longer left
-left_at : (found : List ℕ) (first k : ℕ) (ps : List Place) → is_found found (first + k) ≡ false → builds_at ps k + builds_left (found ++ (first + k) ∷ []) first ps ≡ builds_left found first ps
+left_at : (found : List ℕ) (first k : ℕ) (ps : List Place) → is_among found (first + k) ≡ false → builds_at ps k + builds_left (found ++ (first + k) ∷ []) first ps ≡ builds_left found first ps
 unfolding builds_at
 left_at found first k [] new = refl
 left_at found first zero (p ∷ ps) new =
-    ap₂ (λ (b : Bool) (n : ℕ). length p.builds + (cond b 0 (length p.builds) + n)) (ap (λ q. is_found (found ++ q ∷ []) first) here ∙ now_found found first) (left_before found (first + 0) (suc first) ps before)
-    ∙ shift (length p.builds) (builds_left found (suc first) ps) ∙ ap (λ b. cond b 0 (length p.builds) + builds_left found (suc first) ps) (sym new ∙ ap (is_found found) here)
+    ap₂ (λ (b : Bool) (n : ℕ). length p.builds + (cond b 0 (length p.builds) + n)) (ap (λ q. is_among (found ++ q ∷ []) first) here ∙ now_found found first) (left_before found (first + 0) (suc first) ps before)
+    ∙ shift (length p.builds) (builds_left found (suc first) ps) ∙ ap (λ b. cond b 0 (length p.builds) + builds_left found (suc first) ps) (sym new ∙ ap (is_among found) here)
   where
     here : first + 0 ≡ first
     here = omega arith
@@ -76,16 +77,16 @@ left_at found first zero (p ∷ ps) new =
     shift n m = omega arith
 left_at found first (suc k) (p ∷ ps) new =
     let there : first + suc k ≡ suc first + k = omega arith in
-    let more : builds_at ps k + builds_left (found ++ (suc first + k) ∷ []) (suc first) ps ≡ builds_left found (suc first) ps = left_at found (suc first) k ps (ap (is_found found) (sym there) ∙ new) in
-    let head : is_found (found ++ (first + suc k) ∷ []) first ≡ is_found found first = still found (first + suc k) first (apart_after first (first + suc k) (omega arith)) in
+    let more : builds_at ps k + builds_left (found ++ (suc first + k) ∷ []) (suc first) ps ≡ builds_left found (suc first) ps = left_at found (suc first) k ps (ap (is_among found) (sym there) ∙ new) in
+    let head : is_among (found ++ (first + suc k) ∷ []) first ≡ is_among found first = still found (first + suc k) first (apart_after first (first + suc k) (omega arith)) in
     ap₂ (λ (b : Bool) (q : ℕ). builds_at ps k + (cond b 0 (length p.builds) + builds_left (found ++ q ∷ []) (suc first) ps)) head there
-    ∙ go (cond (is_found found first) 0 (length p.builds)) (builds_left (found ++ (suc first + k) ∷ []) (suc first) ps) more
+    ∙ go (cond (is_among found first) 0 (length p.builds)) (builds_left (found ++ (suc first + k) ∷ []) (suc first) ps) more
   where
     go : (n m : ℕ) → builds_at ps k + m ≡ builds_left found (suc first) ps → builds_at ps k + (n + m) ≡ n + builds_left found (suc first) ps
     go n m e = omega (arith, e)
 
-left_of : (d : Declared) (found : List ℕ) (project : ℕ) → is_found found project ≡ false → builds_at d.places project + builds_left (found ++ project ∷ []) 0 d.places ≡ builds_left found 0 d.places
-left_of d found project new = sym (ap (λ q. builds_at d.places project + builds_left (found ++ q ∷ []) 0 d.places) same) ∙ left_at found 0 project d.places (ap (is_found found) same ∙ new)
+left_of : (d : Declared) (found : List ℕ) (project : ℕ) → is_among found project ≡ false → builds_at d.places project + builds_left (found ++ project ∷ []) 0 d.places ≡ builds_left found 0 d.places
+left_of d found project new = sym (ap (λ q. builds_at d.places project + builds_left (found ++ q ∷ []) 0 d.places) same) ∙ left_at found 0 project d.places (ap (is_among found) same ∙ new)
   where
     same : 0 + project ≡ project
     same = omega arith
@@ -111,9 +112,9 @@ few_builds d project = go (slice_get d.places project)
 
 -- looking at a project takes a turn at least
 pub fewer_turns : (d : Declared) (project : ℕ) (found next found_then next_then : List ℕ) → Steps d project found next found_then next_then → turns_left d found_then next_then < turns_left d found (next ++ project ∷ [])
-fewer_turns d project found next found_then next_then s = subst (λ xs. turns_left d xs next_then < turns_left d found (next ++ project ∷ [])) (sym s.found_is) (subst (λ ys. turns_left d (found_after project found) ys < turns_left d found (next ++ project ∷ [])) (sym s.next_is) (go (is_found found project) refl))
+fewer_turns d project found next found_then next_then s = subst (λ xs. turns_left d xs next_then < turns_left d found (next ++ project ∷ [])) (sym s.found_is) (subst (λ ys. turns_left d (found_after project found) ys < turns_left d found (next ++ project ∷ [])) (sym s.next_is) (go (is_among found project) refl))
   where
-    go : (b : Bool) → is_found found project ≡ b → turns_left d (cond b found (found ++ project ∷ [])) (cond b next (next ++ reverse (builds_of d project))) < turns_left d found (next ++ project ∷ [])
+    go : (b : Bool) → is_among found project ≡ b → turns_left d (cond b found (found ++ project ∷ [])) (cond b next (next ++ reverse (builds_of d project))) < turns_left d found (next ++ project ∷ [])
     go true e = omega (arith, length-append next (project ∷ []))
     go false e = omega (arith, length-append next (project ∷ []), length-append next (reverse (builds_of d project)), length-reverse (builds_of d project), few_builds d project, left_of d found project e)
 
@@ -136,15 +137,15 @@ walk_goes_on d end project found next found_then next_then w s = go w.turns w.en
     less : turns_left d found_then next_then < turns_left d found (next ++ project ∷ [])
     less = fewer_turns d project found next found_then next_then s
 
-    back : reverse next_then ≡ cond (is_found found project) (reverse next) (builds_of d project ++ reverse next)
-    back = ap reverse s.next_is ∙ each (is_found found project)
+    back : reverse next_then ≡ cond (is_among found project) (reverse next) (builds_of d project ++ reverse next)
+    back = ap reverse s.next_is ∙ each (is_among found project)
       where
         each : (b : Bool) → reverse (cond b next (next ++ reverse (builds_of d project))) ≡ cond b (reverse next) (builds_of d project ++ reverse next)
         each true = refl
         each false = reverse-append next (reverse (builds_of d project)) ∙ ap (λ xs. xs ++ reverse next) (reverse-reverse (builds_of d project))
 
     one : (t : ℕ) → walked d (suc t) found (project ∷ reverse next) ≡ walked d t found_then (reverse next_then)
-    one t = each (is_found found project) ∙ ap₂ (λ (xs ys : List ℕ). walked d t xs ys) (sym s.found_is) (sym back)
+    one t = each (is_among found project) ∙ ap₂ (λ (xs ys : List ℕ). walked d t xs ys) (sym s.found_is) (sym back)
       where
         each : (b : Bool) → cond b (walked d t found (reverse next)) (walked d t (found ++ project ∷ []) (builds_of d project ++ reverse next)) ≡ walked d t (cond b found (found ++ project ∷ [])) (cond b (reverse next) (builds_of d project ++ reverse next))
         each true = refl

@@ -1,10 +1,11 @@
 use Rattle.std.proofs.Common.{◌≡◌, ◌==◌, ℕ, ◌+◌, Bool, true, false, not, ◌&&◌, ◌||◌, List, [], ◌∷◌, ◌++◌, ◌⊎◌, inl, inr, refl, sym, ap, subst, ◌∙◌, arith, count_by, eqb-true}
 use Rattle.std.specs.List.{Contains}
 use Rattle.std.proofs.lemmas.Bool.Decides.{Decides-eqb}
+use Rattle.b2_base.specs.Numbers.{is_among}
 use Rattle.b2_host.specs.declared.children.ChildEvent.{ChildEvent}
 use Rattle.b2_host.specs.declared.children.ChildEvent.TheVariants.{Start, Done}
 use Rattle.b2_plan.specs.declared.step.Step.{Step}
-use Rattle.b2_runs.specs.Events.{is_start, is_done, MayFollow, FollowFrom, is_among, counted, as_counted}
+use Rattle.b2_runs.specs.Events.{is_start, is_done, MayFollow, FollowFrom, counted, as_counted}
 use Rattle.b2_runs.specs.EventLaws.{CountedInOrder, BadByCount, GoodByCount, CountedAsTheyAre, CountedWhereVisible, ShortIsFailed, ShortOwesFiles}
 use Rattle.b2_runs.proofs.FirstElementOrLater.{Contains_here, Contains_there, Contains_cases, Contains_nil}
 use Rattle.b2_runs.proofs.NumberHasOneStep.{one_step}
@@ -30,19 +31,19 @@ start_out short events i c = let (e, there, same) = counted_out short events (St
   where
     go : (e : ChildEvent) → Contains events e → counted short e ≡ Start i → Contains events (Start i)
     go (Start k) there same = subst (Contains events) same there
-    go (Done k w) there same = absurd (let f : Done k (w && not (is_among k short)) ≡ Start i = same in cc)
+    go (Done k w) there same = absurd (let f : Done k (w && not (is_among short k)) ≡ Start i = same in cc)
 
 -- an end counts as an end
-done_out : (short : List ℕ) (events : List ChildEvent) (i : ℕ) (well : Bool) → Contains (as_counted short events) (Done i well) → (w : Bool) × Contains events (Done i w) × ((w && not (is_among i short)) ≡ well)
+done_out : (short : List ℕ) (events : List ChildEvent) (i : ℕ) (well : Bool) → Contains (as_counted short events) (Done i well) → (w : Bool) × Contains events (Done i w) × ((w && not (is_among short i)) ≡ well)
 done_out short events i well c = let (e, there, same) = counted_out short events (Done i well) c in go e there same
   where
-    go : (e : ChildEvent) → Contains events e → counted short e ≡ Done i well → (w : Bool) × Contains events (Done i w) × ((w && not (is_among i short)) ≡ well)
+    go : (e : ChildEvent) → Contains events e → counted short e ≡ Done i well → (w : Bool) × Contains events (Done i w) × ((w && not (is_among short i)) ≡ well)
     go (Start k) there same = absurd (let f : Start k ≡ Done i well = same in cc)
     go (Done k w) there same =
-        let f : Done k (w && not (is_among k short)) ≡ Done i well = same in
+        let f : Done k (w && not (is_among short k)) ≡ Done i well = same in
         let number : k ≡ i = cc in
-        let kind : (w && not (is_among k short)) ≡ well = cc in
-        (w, subst (λ j. Contains events (Done j w)) number there, subst (λ j. (w && not (is_among j short)) ≡ well) number kind)
+        let kind : (w && not (is_among short k)) ≡ well = cc in
+        (w, subst (λ j. Contains events (Done j w)) number there, subst (λ j. (w && not (is_among short j)) ≡ well) number kind)
 
 start_count : (short : List ℕ) (events : List ChildEvent) → count_by is_start (as_counted short events) ≡ count_by is_start events
 start_count short [] = refl
@@ -72,11 +73,11 @@ pub counted_in_order : CountedInOrder
 counted_in_order steps jobs short events r = counted_along steps jobs short [] events r
 
 -- whether a number is among others
-among_cases : (i x : ℕ) (xs : List ℕ) (t : Bool) → (x == i) ≡ t → (t || is_among i xs) ≡ true → (is_among i xs ≡ true → Contains xs i) → Contains (x ∷ xs) i
+among_cases : (i x : ℕ) (xs : List ℕ) (t : Bool) → (x == i) ≡ t → (t || is_among xs i) ≡ true → (is_among xs i ≡ true → Contains xs i) → Contains (x ∷ xs) i
 among_cases i x xs true e f later = subst (λ z. Contains (x ∷ xs) z) (eqb-true x i e) (Contains_here x xs)
 among_cases i x xs false e f later = Contains_there x i xs (later f)
 
-among_in : (i : ℕ) (xs : List ℕ) → is_among i xs ≡ true → Contains xs i
+among_in : (i : ℕ) (xs : List ℕ) → is_among xs i ≡ true → Contains xs i
 among_in i [] e = absurd (let f : false ≡ true = e in cc)
 among_in i (x ∷ xs) e = among_cases i x xs (x == i) refl e (among_in i xs)
 
@@ -84,11 +85,11 @@ or_true : (a b : Bool) → b ≡ true → (a || b) ≡ true
 or_true true b e = refl
 or_true false b e = e
 
-among_from : (i : ℕ) (xs : List ℕ) → Contains xs i → is_among i xs ≡ true
+among_from : (i : ℕ) (xs : List ℕ) → Contains xs i → is_among xs i ≡ true
 among_from i [] c = absurd (Contains_nil i c)
 among_from i (x ∷ xs) c = elim (Contains_cases x i xs c) [
-  | inl same ↦ (let e : (x == i) ≡ true = (Decides-eqb x i).1 same in ap (λ t. t || is_among i xs) e)
-  | inr d ↦ or_true (x == i) (is_among i xs) (among_from i xs d)
+  | inl same ↦ (let e : (x == i) ≡ true = (Decides-eqb x i).1 same in ap (λ t. t || is_among xs i) e)
+  | inr d ↦ or_true (x == i) (is_among xs i) (among_from i xs d)
 ]
 
 pub bad_by_count : BadByCount
@@ -97,9 +98,9 @@ bad_by_count short events i = (there, here)
     there : Contains (as_counted short events) (Done i false) → Contains events (Done i false) ⊎ (Contains events (Done i true) × Contains short i)
     there c = let (w, d, kind) = done_out short events i false c in go w d kind
       where
-        go : (w : Bool) → Contains events (Done i w) → (w && not (is_among i short)) ≡ false → Contains events (Done i false) ⊎ (Contains events (Done i true) × Contains short i)
+        go : (w : Bool) → Contains events (Done i w) → (w && not (is_among short i)) ≡ false → Contains events (Done i false) ⊎ (Contains events (Done i true) × Contains short i)
         go false d kind = inl d
-        go true d kind = inr (d, among_in i short (turn (is_among i short) kind))
+        go true d kind = inr (d, among_in i short (turn (is_among short i) kind))
           where
             turn : (t : Bool) → not t ≡ false → t ≡ true
             turn true e = refl
@@ -119,16 +120,16 @@ good_by_count short events i = (there, here)
     there : Contains (as_counted short events) (Done i true) → Contains events (Done i true) × (Contains short i → ⊥)
     there c = let (w, d, kind) = done_out short events i true c in go w d kind
       where
-        go : (w : Bool) → Contains events (Done i w) → (w && not (is_among i short)) ≡ true → Contains events (Done i true) × (Contains short i → ⊥)
+        go : (w : Bool) → Contains events (Done i w) → (w && not (is_among short i)) ≡ true → Contains events (Done i true) × (Contains short i → ⊥)
         go false d kind = absurd (let f : false ≡ true = kind in cc)
-        go true d kind = (d, λ s. turn (is_among i short) kind (among_from i short s))
+        go true d kind = (d, λ s. turn (is_among short i) kind (among_from i short s))
 
-    none : (t : Bool) → is_among i short ≡ t → (Contains short i → ⊥) → Contains events (Done i true) → Contains (as_counted short events) (Done i true)
+    none : (t : Bool) → is_among short i ≡ t → (Contains short i → ⊥) → Contains events (Done i true) → Contains (as_counted short events) (Done i true)
     none true e differ c = absurd (differ (among_in i short e))
     none false e differ c = subst (λ t. Contains (as_counted short events) (Done i (not t))) e (counted_in short events (Done i true) c)
 
     here : Contains events (Done i true) × (Contains short i → ⊥) → Contains (as_counted short events) (Done i true)
-    here (c, differ) = none (is_among i short) refl differ c
+    here (c, differ) = none (is_among short i) refl differ c
 
 and_true : (w : Bool) → (w && true) ≡ w
 and_true true = refl

@@ -1,5 +1,6 @@
-use Rattle.std.specs.Prelude.{◌≡◌, ℕ, ◌+◌, ◌<◌, ◌==◌, Bool, true, false, not, ◌&&◌, List, [], ◌∷◌, ◌++◌, Option, Some, None, ⊤, map, count_by}
-use Rattle.std.specs.List.{Contains, list_any}
+use Rattle.std.specs.Prelude.{◌≡◌, ℕ, ◌+◌, ◌<◌, Bool, true, false, not, ◌&&◌, List, [], ◌∷◌, ◌++◌, Option, Some, None, ⊤, map, count_by}
+use Rattle.std.specs.List.{Contains}
+use Rattle.b2_base.specs.Numbers.{is_among}
 use Rattle.b2_host.specs.declared.children.ChildEvent.{ChildEvent}
 use Rattle.b2_host.specs.declared.children.ChildEvent.TheVariants.{Start, Done}
 use Rattle.b2_host.specs.Disks.{Disk}
@@ -45,14 +46,10 @@ FollowFrom steps jobs before (event ∷ events) = MayFollow steps jobs before ev
 abbrev pub AreInOrder : List Step → ℕ → List ChildEvent → Type 0
 AreInOrder steps jobs events = FollowFrom steps jobs [] events
 
--- whether a number is among these
-abbrev pub is_among : ℕ → List ℕ → Bool
-is_among i numbers = list_any (λ k. k == i) numbers
-
 -- An event as it counts, where some steps left an output out: the end of such a step is a bad one, whatever its status.
 abbrev pub counted : List ℕ → ChildEvent → ChildEvent
 counted short (Start i) = Start i
-counted short (Done i well) = Done i (well && not (is_among i short))
+counted short (Done i well) = Done i (well && not (is_among short i))
 
 -- the events as they count: all that is said of runs is said of these
 abbrev pub as_counted : List ℕ → List ChildEvent → List ChildEvent

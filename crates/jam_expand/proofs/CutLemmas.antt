@@ -8,8 +8,9 @@ use Rattle.std.proofs.lemmas.Bool.{ltb-true}
 use Rattle.std.proofs.lemmas.List.Elements.{All-take, All-drop}
 use Rattle.std.proofs.lemmas.Bool.{ne_eqb}
 use Rattle.b2_base.specs.Bytes.{HasNoZero}
+use Rattle.b2_base.specs.Numbers.{is_among}
 use Rattle.jam_path.specs.Names.{begins_with}
-use Rattle.jam_expand.specs.Cuts.{is_among, up_to, from_on, BeginsWithout}
+use Rattle.jam_expand.specs.Cuts.{up_to, from_on, BeginsWithout}
 
 pub up_to_within : (signs bytes : List ℕ) → length (up_to signs bytes) ≤ length bytes
 up_to_within signs [] = omega arith

@@ -1,9 +1,6 @@
 -- A text, cut in two at a sign.
-use Rattle.std.specs.Prelude.{◌≡◌, ℕ, ◌==◌, Bool, List, [], ◌∷◌, if◌then◌else◌}
-use Rattle.std.specs.List.{list_any}
-
-abbrev pub is_among : List ℕ → ℕ → Bool
-is_among signs byte = list_any (λ sign. sign == byte) signs
+use Rattle.std.specs.Prelude.{◌≡◌, ℕ, List, [], ◌∷◌, if◌then◌else◌}
+use Rattle.b2_base.specs.Numbers.{is_among}
 
 -- what stands before the first of the signs, or the whole text
 abbrev pub up_to : List ℕ → List ℕ → List ℕ

@@ -1,11 +1,12 @@
 use Rattle.std.proofs.Common.{◌∙◌, ◌==◌, ◌||◌, ◌&&◌, ap}
-use Rattle.b2_generators.specs.Places.{has_place, gives_at}
+use Rattle.b2_base.specs.Numbers.{is_among}
+use Rattle.b2_generators.specs.Places.{gives_at}
 use Rattle.b2_generators.specs.Layers.{stock}
 use Rattle.b2_generators.proofs.Stocking.{stock_none, place_none, place_next}
 use Rattle.b2_generators.proofs.givers.givers.Goals as goal
 
 pub loop-place-init : goal.loop-place-init
-loop-place-init c place type = ap (λ m. has_place (stock m type) place) c.new-givers.ensures ∙ ap (λ ps. has_place ps place) (stock_none type) ∙ place_none c.args.generators.now c.args.set.now place type
+loop-place-init c place type = ap (λ m. is_among (stock m type) place) c.new-givers.ensures ∙ ap (λ ps. is_among ps place) (stock_none type) ∙ place_none c.args.generators.now c.args.set.now place type
 
 pub loop-place-preserved : goal.loop-place-preserved
 loop-place-preserved c place type =
