@@ -1,8 +1,9 @@
 use Rattle.std.specs.Prelude.{◌≡◌, ◌≢◌, ℕ, Bool, List, [], ◌∷◌, ◌++◌}
+use Rattle.b2_base.specs.Bytes.{IsFrontOf}
 use Rattle.b2_host.specs.declared.children.ChildEvent.{ChildEvent}
 use Rattle.b2_host.specs.declared.children.ChildEvent.TheVariants.{Done}
 use Rattle.b2_plan.specs.declared.step.Step.{Step}
-use Rattle.b2_runs.specs.Reports.{start_line, event_line, event_lines, IsFrontOf, TellsStarts, StopsAtEvent}
+use Rattle.b2_runs.specs.Reports.{start_line, event_line, event_lines, TellsStarts, StopsAtEvent}
 
 -- a step with an empty name has no start line
 abbrev pub UnnamedStartsSilently : Type 0

@@ -2,6 +2,7 @@ use Rattle.std.specs.Prelude.{◌≡◌, ◌≢◌, ℕ, Bool, true, false, List
 use Rattle.std.specs.List.{flat_map, AllByRecursion}
 use Rattle.std.specs.Fmt.{decimal}
 use Rattle.b2_base.specs.Lists.{first_of}
+use Rattle.b2_base.specs.Bytes.{IsFrontOf}
 use Rattle.b2_host.specs.declared.children.ChildEvent.{ChildEvent}
 use Rattle.b2_host.specs.declared.children.ChildEvent.TheVariants.{Start, Done}
 use Rattle.b2_plan.specs.declared.step.Step.{Step}
@@ -109,10 +110,6 @@ abbrev pub host_fault_line : List ℕ
 host_fault_line = line (codes "b2: host fault")
 
 -- ---- where the writing ends
-
--- the one text begins with the other
-abbrev pub IsFrontOf : List ℕ → List ℕ → Type 0
-IsFrontOf part whole = (rest : List ℕ) × (whole ≡ part ++ rest)
 
 -- only ends are among these events
 abbrev pub AreEnds : List ChildEvent → Type 0

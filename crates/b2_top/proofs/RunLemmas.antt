@@ -19,6 +19,7 @@ use Rattle.b2_planning.specs.declared.planned.Planned.{Planned}
 use Rattle.b2_host.specs.ChildProcesses.{Family, BothTold}
 use Rattle.b2_host.specs.Disks.{Disk}
 use Rattle.b2_base.specs.Counts.{Rose}
+use Rattle.b2_base.specs.Bytes.{IsFrontOf}
 use Rattle.b2_host.specs.Outside.{Outside}
 use Rattle.b2_host.specs.OutsideLaws.{Keeps, then_rose}
 use Rattle.b2_host.specs.Output.{Output, with_written}
@@ -29,7 +30,7 @@ use Rattle.b2_plan.specs.declared.step.Step.{Step}
 use Rattle.b2_refusals.specs.Lines.{refusal_line}
 use Rattle.b2_refusals.specs.declared.fault.Fault.TheVariants as faults
 use Rattle.b2_runs.specs.CompleteLaws.{CleanIsDefined, NothingIsLeft, NothingIsMissed}
-use Rattle.b2_runs.specs.Reports.{IsFrontOf, TellsStarts, event_lines, host_fault_line}
+use Rattle.b2_runs.specs.Reports.{TellsStarts, event_lines, host_fault_line}
 use Rattle.b2_runs.specs.Staleness.{Update}
 use Rattle.b2_runs.specs.UpdateAnswers.{UpdateAnswer as RunAnswer, CausedBy, IsQuietHost, HasHappened, failed_of}
 use Rattle.b2_runs.specs.UpdateAnswers.UpdateAnswer.{all_went, failed as some_failed, step_cycle, host_fault, sink_fault, out_of_memory}

@@ -15,6 +15,7 @@ use Rattle.b2_top.specs.declared.answer.Answer.TheVariants as answers
 use Rattle.b2_host.specs.ChildProcesses.{BothTold}
 use Rattle.b2_host.specs.Disks.{Disk}
 use Rattle.b2_base.specs.Counts.{Rose}
+use Rattle.b2_base.specs.Bytes.{IsFrontOf}
 use Rattle.b2_host.specs.Outside.{Outside}
 use Rattle.b2_host.specs.Output.{Output, with_written}
 use Rattle.b2_host.specs.declared.children.ChildEvent.{ChildEvent}
@@ -23,7 +24,7 @@ use Rattle.b2_refusals.specs.Wholes.{IsWhole}
 use Rattle.b2_refusals.specs.declared.fault.Fault.{Fault}
 use Rattle.b2_refusals.specs.declared.fault.Fault.TheVariants as faults
 use Rattle.b2_runs.specs.Events.{ShortTold}
-use Rattle.b2_runs.specs.Reports.{IsFrontOf, host_fault_line}
+use Rattle.b2_runs.specs.Reports.{host_fault_line}
 use Rattle.b2_runs.specs.UpdateAnswers.{UpdateAnswer.all_went, failed_of}
 use Rattle.b2_update.specs.Moments.{moment}
 use Rattle.b2_update.specs.Plain.{Made}

@@ -5,6 +5,7 @@ use Rattle.b2_top.specs.declared.answer.Answer.{Answer}
 use Rattle.b2_top.specs.declared.answer.Answer.TheVariants as answers
 use Rattle.b2_host.specs.Disks.{Disk}
 use Rattle.b2_base.specs.Counts.{Rose}
+use Rattle.b2_base.specs.Bytes.{IsFrontOf}
 use Rattle.b2_host.specs.declared.children.ChildEvent.{ChildEvent}
 use Rattle.b2_plan.specs.declared.step.Step.{Step}
 use Rattle.b2_refusals.specs.Lines.{refusal_line, usage_line}
@@ -12,7 +13,7 @@ use Rattle.b2_refusals.specs.declared.fault.Fault.{Fault}
 use Rattle.b2_refusals.specs.declared.fault.Fault.TheVariants as faults
 use Rattle.b2_runs.specs.Cycles.{IsStepCycle}
 use Rattle.b2_runs.specs.Moments.{Moment}
-use Rattle.b2_runs.specs.Reports.{Lists, no_lists, event_lines, report, IsFrontOf, TellsStarts, host_fault_line}
+use Rattle.b2_runs.specs.Reports.{Lists, no_lists, event_lines, report, TellsStarts, host_fault_line}
 use Rattle.b2_update.specs.Answers.{lists_of}
 use Rattle.b2_update.specs.Plain.{Made}
 use Rattle.b2_update.specs.Updates.{StopsAtWrite, StopsSomewhere}

@@ -3,12 +3,12 @@
 use Rattle.std.specs.Prelude.{◌≡◌, ℕ, List, [], Some, None, Ok, IfSome, ◌⊎◌, ⊤}
 use Rattle.b2_host.specs.Disks.{Disk}
 use Rattle.b2_base.specs.Counts.{Rose}
+use Rattle.b2_base.specs.Bytes.{IsFrontOf}
 use Rattle.b2_host.specs.Outside.{Outside}
 use Rattle.b2_words.specs.Words.{Word}
 use Rattle.b2_generate.specs.Planning.{Planned}
 use Rattle.b2_front.specs.Meaning.{Means}
 use Rattle.b2_runs.specs.Moments.{Moment}
-use Rattle.b2_runs.specs.Reports.{IsFrontOf}
 use Rattle.b2_refusals.specs.declared.fault.Fault.{Fault}
 use Rattle.b2_refusals.specs.declared.fault.Fault.TheVariants as faults
 use Rattle.b2_refusals.specs.Lines.{usage_line}

@@ -4,10 +4,10 @@ use Rattle.std.specs.Option.{option_map}
 use Rattle.b2_host.specs.declared.fault.IoFault.{IoFault}
 use Rattle.b2_host.specs.declared.fault.IoFault.TheVariants as faults
 use Rattle.b2_base.specs.Counts.{Rose}
+use Rattle.b2_base.specs.Bytes.{IsFrontOf}
 use Rattle.b2_host.specs.Output.{Output, with_written}
 use Rattle.b2_front.specs.declared.refusal.Stop.{Stop}
 use Rattle.b2_front.specs.declared.refusal.Stop.TheVariants as stops
-use Rattle.b2_runs.specs.Reports.{IsFrontOf}
 use Rattle.b2_top.specs.declared.answer.Answer.{Answer}
 use Rattle.b2_top.specs.declared.answer.Answer.TheVariants as answers
 use Rattle.b2_top.specs.RefusalCauses.{fault_of}

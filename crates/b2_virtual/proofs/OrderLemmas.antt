@@ -7,7 +7,7 @@ use Rattle.std.specs.Cmp.{IsTotalOrder}
 use Rattle.std.specs.Cmp.Lexicographic.{slice_cmp}
 use Rattle.std.proofs.lemmas.Bool.{true≢false}
 use Rattle.std.proofs.lemmas.Cmp.{ranked, nat_cmp_total, nat_list_cmp_total}
-use Rattle.b2_virtual.specs.Spots.{Begins}
+use Rattle.b2_base.specs.Bytes.{IsFrontOf}
 
 abbrev pub cmp : List ℕ → List ℕ → Ordering
 cmp = slice_cmp nat_cmp
@@ -23,16 +23,16 @@ own_byte x = go (nat_cmp x x) (nat_cmp_total.antisymm x x)
 same_byte : (x y : ℕ) → nat_cmp x y ≡ Equal → x ≡ y
 same_byte x y e = ranked x y Equal (sym e)
 
-at_byte : (x y : ℕ) (s t u : List ℕ) → (is_lt (cmp t s) ≡ false → is_gt (cmp t (s ++ u)) ≡ false → Begins s t)
-    → (o : Ordering) → nat_cmp y x ≡ o → is_lt (ordering_then o (cmp t s)) ≡ false → is_gt (ordering_then o (cmp t (s ++ u))) ≡ false → Begins (x ∷ s) (y ∷ t)
+at_byte : (x y : ℕ) (s t u : List ℕ) → (is_lt (cmp t s) ≡ false → is_gt (cmp t (s ++ u)) ≡ false → IsFrontOf s t)
+    → (o : Ordering) → nat_cmp y x ≡ o → is_lt (ordering_then o (cmp t s)) ≡ false → is_gt (ordering_then o (cmp t (s ++ u))) ≡ false → IsFrontOf (x ∷ s) (y ∷ t)
 at_byte x y s t u more Less e a b = absurd (true≢false a)
 at_byte x y s t u more Equal e a b =
-    let rest : Begins s t = more a b in
+    let rest : IsFrontOf s t = more a b in
     (rest.0, ap (λ z. z ∷ t) (same_byte y x e) ∙ ap (λ l. x ∷ l) rest.1)
 at_byte x y s t u more Greater e a b = absurd (true≢false b)
 
 -- what lies between a text and one that goes on from it goes on from it too
-pub between : (s t u : List ℕ) → is_lt (cmp t s) ≡ false → is_gt (cmp t (s ++ u)) ≡ false → Begins s t
+pub between : (s t u : List ℕ) → is_lt (cmp t s) ≡ false → is_gt (cmp t (s ++ u)) ≡ false → IsFrontOf s t
 between [] t u a b = (t, refl)
 between (x ∷ s) [] u a b = absurd (true≢false a)
 between (x ∷ s) (y ∷ t) u a b = at_byte x y s t u (between s t u) (nat_cmp y x) refl a b
@@ -56,15 +56,15 @@ flipped : (a b : List ℕ) → is_gt (cmp a b) ≡ false → is_lt (cmp b a) ≡
 flipped a b h = ap is_lt (nat_list_cmp_total.antisymm b a) ∙ reversed (cmp a b) ∙ h
 
 -- where the first key from a text on is not after one that goes on from the text, it goes on from the text
-pub first_goes_on : (text key other : List ℕ) → is_gt (cmp text key) ≡ false → is_gt (cmp key other) ≡ false → Begins text other → Begins text key
+pub first_goes_on : (text key other : List ℕ) → is_gt (cmp text key) ≡ false → is_gt (cmp key other) ≡ false → IsFrontOf text other → IsFrontOf text key
 first_goes_on text key other a b more = between text key more.0 (flipped text key a) (subst (λ k. is_gt (cmp key k) ≡ false) more.1 b)
 
 -- where the last key before a text is not before one that begins the text, that one begins it
-pub last_goes_on : (text key other : List ℕ) → cmp key text ≡ Less → is_lt (cmp key other) ≡ false → Begins other text → Begins other key
+pub last_goes_on : (text key other : List ℕ) → cmp key text ≡ Less → is_lt (cmp key other) ≡ false → IsFrontOf other text → IsFrontOf other key
 last_goes_on text key other a b more = between other key more.0 b (ap is_gt (ap (cmp key) (sym more.1) ∙ a))
 
 -- a text that begins another one, and is not that one, comes before it
-pub begins_before : (text other : List ℕ) → Begins text other → text ≢ other → cmp text other ≡ Less
+pub begins_before : (text other : List ℕ) → IsFrontOf text other → text ≢ other → cmp text other ≡ Less
 begins_before text other more differ = go more.0 more.1
   where
     go : (rest : List ℕ) → other ≡ text ++ rest → cmp text other ≡ Less

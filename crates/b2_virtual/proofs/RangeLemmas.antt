@@ -10,7 +10,8 @@ use Rattle.std.specs.BTreeMap.{BTreeMap}
 use Rattle.std.specs.BTreeMap.Range.{IsRangeOf, IsEntryInRange, IsLeBy}
 use Rattle.std.proofs.lemmas.Bool.{true≢false}
 use Rattle.b2_base.proofs.TextKeys.{get_text}
-use Rattle.b2_virtual.specs.Spots.{Numbers, Begins, GoesOn, ComesBefore, IsFlat}
+use Rattle.b2_base.specs.Bytes.{IsFrontOf}
+use Rattle.b2_virtual.specs.Spots.{Numbers, GoesOn, ComesBefore, IsFlat}
 use Rattle.b2_virtual.proofs.OrderLemmas.{cmp, upto_more, first_goes_on, last_goes_on, begins_before}
 
 abbrev Tree : Type 0
@@ -29,7 +30,7 @@ same_get t m key e = ap (λ n. map.get n key) (sym e) ∙ get_text t.entries key
 absent : (i : ℕ) → ◌≡◌ {A = Option ℕ} None (Some i) → ⊥
 absent i e = cc
 
-from_text : (text key : List ℕ) → Begins text key → is_gt (cmp text key) ≡ false
+from_text : (text key : List ℕ) → IsFrontOf text key → is_gt (cmp text key) ≡ false
 from_text text key more = subst (λ k. is_gt (cmp text k) ≡ false) (sym more.1) (upto_more text more.0)
 
 found : (t : Tree) (m : Numbers) (key : List ℕ) (i : ℕ) → SeenAs t m → map.get m key ≡ Some i → is_some (tree.get cmp t key) ≡ true
@@ -41,13 +42,13 @@ pub none_from : (t : Tree) (m : Numbers) (text : List ℕ) (r : Entries) → See
 none_from t m text r e range none g =
     absent g.1 (sym (range.5 none g.0 (from_text text g.0 g.3, tt)) ∙ sym (same_get t m g.0 e) ∙ g.2)
 
-pub first_from : (t : Tree) (m : Numbers) (text : List ℕ) (r rest : Entries) (x : List ℕ × ℕ) → SeenAs t m → IsRangeOf cmp (Included text) Unbounded t r → r ≡ x ∷ rest → GoesOn m text → Begins text x.0
+pub first_from : (t : Tree) (m : Numbers) (text : List ℕ) (r rest : Entries) (x : List ℕ × ℕ) → SeenAs t m → IsRangeOf cmp (Included text) Unbounded t r → r ≡ x ∷ rest → GoesOn m text → IsFrontOf text x.0
 first_from t m text r rest x e range is g =
     let inside : IsEntryInRange cmp (Included text) Unbounded t x = subst (λ (l : Entries). IfSome (slice_get l 0) (IsEntryInRange cmp (Included text) Unbounded t)) is range.1 in
     let least : IsLeBy cmp x.0 g.0 = subst (λ (l : Entries). IfSome (slice_get l 0) (λ y. IsLeBy cmp y.0 g.0)) is (range.2 g.0 (from_text text g.0 g.3, tt) (found t m g.0 g.1 e g.2)) in
     first_goes_on text x.0 g.0 inside.0.0 least g.3
 
-pub first_is : (t : Tree) (m : Numbers) (text : List ℕ) (r rest : Entries) (x : List ℕ × ℕ) → SeenAs t m → IsRangeOf cmp (Included text) Unbounded t r → r ≡ x ∷ rest → Begins text x.0 → GoesOn m text
+pub first_is : (t : Tree) (m : Numbers) (text : List ℕ) (r rest : Entries) (x : List ℕ × ℕ) → SeenAs t m → IsRangeOf cmp (Included text) Unbounded t r → r ≡ x ∷ rest → IsFrontOf text x.0 → GoesOn m text
 first_is t m text r rest x e range is more =
     let inside : IsEntryInRange cmp (Included text) Unbounded t x = subst (λ (l : Entries). IfSome (slice_get l 0) (IsEntryInRange cmp (Included text) Unbounded t)) is range.1 in
     (x.0, x.1, same_get t m x.0 e ∙ inside.1, more)
@@ -61,15 +62,15 @@ pub none_before : (t : Tree) (m : Numbers) (text : List ℕ) (r : Entries) → S
 none_before t m text r e range none empty g =
     absent g.1 (sym (range.5 empty g.0 (tt, begins_before g.0 text g.3 (not_own m text g.0 g.1 none g.2))) ∙ sym (same_get t m g.0 e) ∙ g.2)
 
-pub last_before : (t : Tree) (m : Numbers) (text : List ℕ) (r front : Entries) (x : List ℕ × ℕ) → SeenAs t m → IsRangeOf cmp Unbounded (Excluded text) t r → map.get m text ≡ None → IsFlat m → r ≡ front ++ x ∷ [] → ComesBefore m text → Begins x.0 text
+pub last_before : (t : Tree) (m : Numbers) (text : List ℕ) (r front : Entries) (x : List ℕ × ℕ) → SeenAs t m → IsRangeOf cmp Unbounded (Excluded text) t r → map.get m text ≡ None → IsFlat m → r ≡ front ++ x ∷ [] → ComesBefore m text → IsFrontOf x.0 text
 last_before t m text r front x e range none flat is g =
     let inside : IsEntryInRange cmp Unbounded (Excluded text) t x = range.3 x front is in
     let greatest : is_lt (cmp x.0 g.0) ≡ false =
     range.4 x front is g.0 (tt, begins_before g.0 text g.3 (not_own m text g.0 g.1 none g.2)) (found t m g.0 g.1 e g.2) in
     let same : g.0 ≡ x.0 = flat g.0 x.0 g.1 x.1 g.2 (same_get t m x.0 e ∙ inside.1) (last_goes_on text x.0 g.0 inside.0.1 greatest g.3) in
-    subst (λ k. Begins k text) same g.3
+    subst (λ k. IsFrontOf k text) same g.3
 
-pub last_is : (t : Tree) (m : Numbers) (text : List ℕ) (r front : Entries) (x : List ℕ × ℕ) → SeenAs t m → IsRangeOf cmp Unbounded (Excluded text) t r → r ≡ front ++ x ∷ [] → Begins x.0 text → ComesBefore m text
+pub last_is : (t : Tree) (m : Numbers) (text : List ℕ) (r front : Entries) (x : List ℕ × ℕ) → SeenAs t m → IsRangeOf cmp Unbounded (Excluded text) t r → r ≡ front ++ x ∷ [] → IsFrontOf x.0 text → ComesBefore m text
 last_is t m text r front x e range is more = (x.0, x.1, same_get t m x.0 e ∙ (range.3 x front is).1, more)
 
 -- a text that none goes on from has no number

@@ -11,12 +11,13 @@ use Rattle.std.proofs.lemmas.Option.{slice_get_within}
 use Rattle.std.proofs.lemmas.List.Elements.{All-contains, All-from_recursion}
 use Rattle.std.proofs.lemmas.Slice.Eq.{bytes_eq-Decides}
 use Rattle.b2_base.specs.Normal.{IsNormal, IsUnder}
+use Rattle.b2_base.specs.Bytes.{IsFrontOf}
 use Rattle.b2_plan.specs.declared.step.Step.{Step}
 use Rattle.b2_plan.specs.Plans.{step_at, Makes, Apart}
 use Rattle.b2_host.specs.FileCalls.{log_path}
 use Rattle.b2_virtual.specs.Joining.{is_same, stands_in, number_in, number_of}
 use Rattle.b2_virtual.specs.Clashes.{AreNested, Clashes, shared, beside, within, log, below_log, Fits, AreInRoots, AreApart}
-use Rattle.b2_virtual.specs.Spots.{spot, Begins, Numbers, GoesOn, ComesBefore, IsFlat}
+use Rattle.b2_virtual.specs.Spots.{spot, Numbers, GoesOn, ComesBefore, IsFlat}
 use Rattle.b2_virtual.specs.Ready.{IsReady}
 use Rattle.b2_virtual.proofs.JoiningLemmas.{same_is_equal, found, stands, at_front, at_end, at_cases, distinct_joined}
 use Rattle.b2_virtual.proofs.SpotLemmas.{under_from_spot, spot_from_under}
@@ -69,7 +70,7 @@ pub flat : (steps : List Step) (m : Numbers) → IsReady steps m → IsFlat m
 flat steps m r a b i k ha hb more =
     let one : (step : Step) × (path : List ℕ) × Makes steps i step path × (a ≡ spot path) = r.only a i ha in
     let two : (step : Step) × (path : List ℕ) × Makes steps k step path × (b ≡ spot path) = r.only b k hb in
-    let begins : Begins (spot one.1) (spot two.1) = (more.0, sym two.3 ∙ more.1 ∙ ap (λ t. t ++ more.0) one.3) in
+    let begins : IsFrontOf (spot one.1) (spot two.1) = (more.0, sym two.3 ∙ more.1 ∙ ap (λ t. t ++ more.0) one.3) in
     ⊎_elim
     (λ (same : two.1 ≡ one.1). one.3 ∙ ap spot (sym same) ∙ sym two.3)
     (λ (u : IsUnder two.1 one.1). absurd (r.no_folder k i two.0 one.0 two.1 one.1 two.2 one.2 u))

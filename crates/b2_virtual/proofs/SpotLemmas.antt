@@ -7,7 +7,8 @@ use Rattle.b2_base.specs.Segments.{is_rooted, is_up, is_dropped, written}
 use Rattle.b2_base.specs.Normal.{IsNormal, IsUnder, parts, first_part}
 use Rattle.b2_base.proofs.Shapes.{IsWhole, two_dots}
 use Rattle.b2_base.proofs.Under.{IsPart, all_are, parts_written, cut_is, one_text}
-use Rattle.b2_virtual.specs.Spots.{lead_of, way, ended, spot, Begins}
+use Rattle.b2_base.specs.Bytes.{IsFrontOf}
+use Rattle.b2_virtual.specs.Spots.{lead_of, way, ended, spot}
 
 abbrev Texts : Type 0
 Texts = List (List ℕ)
@@ -131,7 +132,7 @@ no_parts d e = ap parts e
 
 -- ---- the spot of a folder begins those in it
 
-pub under_from_spot : (p d : List ℕ) → IsNormal p → IsNormal d → Begins (spot d) (spot p) → (p ≡ d) ⊎ IsUnder p d
+pub under_from_spot : (p d : List ℕ) → IsNormal p → IsNormal d → IsFrontOf (spot d) (spot p) → (p ≡ d) ⊎ IsUnder p d
 unfolding spot
 under_from_spot p d np nd b =
     let more : (zs : Texts) × (way p ≡ way d ++ zs) = ended_begins (way d) (way p) b.0 (whole_way d nd) (whole_way p np) b.1 in
@@ -167,7 +168,7 @@ lead_under p d nd u = go (parts d) refl (is_rooted d) refl
         ap₂ lead_of u.rooted (ap is_up (first_p [] e) ∙ u.not_above here ∙ sym (ap is_up (first_d [] e)))
     go (s ∷ ds) e false q = ap₂ lead_of u.rooted (ap is_up (first_p (s ∷ ds) e) ∙ sym (ap is_up (first_d (s ∷ ds) e)))
 
-pub spot_from_under : (p d : List ℕ) → IsNormal d → IsUnder p d → Begins (spot d) (spot p)
+pub spot_from_under : (p d : List ℕ) → IsNormal d → IsUnder p d → IsFrontOf (spot d) (spot p)
 unfolding spot
 spot_from_under p d nd u =
     let same : way p ≡ way d ++ u.next ∷ u.more =

@@ -5,6 +5,7 @@ use Rattle.std.specs.Cmp.Lexicographic.{slice_cmp}
 use Rattle.std.specs.FinMap as map
 use Rattle.b2_base.specs.Segments.{is_rooted, is_up}
 use Rattle.b2_base.specs.Normal.{parts, first_part}
+use Rattle.b2_base.specs.Bytes.{IsFrontOf}
 
 -- what a path is taken from: an empty segment for the root, a `.` for the folder, and nothing for what begins with `..`
 abbrev pub lead_of : Bool → Bool → List (List ℕ)
@@ -25,22 +26,18 @@ ended (segment ∷ more) = segment ++ 47 ∷ ended more
 unfoldable pub spot : List ℕ → List ℕ
 spot path = ended (way path)
 
--- the one text begins the other
-abbrev pub Begins : List ℕ → List ℕ → Type 0
-Begins text other = (rest : List ℕ) × (other ≡ text ++ rest)
-
 -- a number for each of some spots
 abbrev pub Numbers : Type 0
 Numbers = map.FinMap (slice_cmp nat_cmp) ℕ
 
 -- some spot goes on from this one, or is it
 abbrev pub GoesOn : Numbers → List ℕ → Type 0
-GoesOn numbers text = (key : List ℕ) × (number : ℕ) × (map.get numbers key ≡ Some number) × Begins text key
+GoesOn numbers text = (key : List ℕ) × (number : ℕ) × (map.get numbers key ≡ Some number) × IsFrontOf text key
 
 -- some spot begins this one, or is it
 abbrev pub ComesBefore : Numbers → List ℕ → Type 0
-ComesBefore numbers text = (key : List ℕ) × (number : ℕ) × (map.get numbers key ≡ Some number) × Begins key text
+ComesBefore numbers text = (key : List ℕ) × (number : ℕ) × (map.get numbers key ≡ Some number) × IsFrontOf key text
 
 -- no spot begins another one
 abbrev pub IsFlat : Numbers → Type 0
-IsFlat numbers = (a b : List ℕ) (i k : ℕ) → map.get numbers a ≡ Some i → map.get numbers b ≡ Some k → Begins a b → a ≡ b
+IsFlat numbers = (a b : List ℕ) (i k : ℕ) → map.get numbers a ≡ Some i → map.get numbers b ≡ Some k → IsFrontOf a b → a ≡ b

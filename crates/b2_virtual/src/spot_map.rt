@@ -4,7 +4,8 @@ ghost use Rattle.std.specs.List.{list_any};
 ghost use Rattle.std.specs.Str.{bytes_eq};
 ghost use Rattle.std.specs.Option.{option_copied};
 ghost use Rattle.std.specs.FinMap as map;
-ghost use Rattle.b2_virtual.specs.Spots.{Begins, GoesOn, ComesBefore, IsFlat};
+ghost use Rattle.b2_base.specs.Bytes.{IsFrontOf};
+ghost use Rattle.b2_virtual.specs.Spots.{GoesOn, ComesBefore, IsFlat};
 
 use b2_base::fault::OutOfMemory;
 use b2_base::text::Text;
@@ -40,7 +41,7 @@ impl Model for SpotMap {
 
 /// Whether the one text begins the other.
 fn begins(text: &Text, other: &Text) -> bool
-    ensures { IsTrue result ↔ Begins text.now other.now }
+    ensures { IsTrue result ↔ IsFrontOf text.now other.now }
 {
     let text = text.as_str();
     let other = other.as_str();
