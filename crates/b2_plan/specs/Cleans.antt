@@ -14,7 +14,7 @@ pub record IsBuilt (b : Build) (v : Values) (path : List ℕ) (value : Value) : 
   pub step : Step
   pub makes : Makes b.steps number step path
   pub members : List (List ℕ × Value)
-  pub close : IsClosure b v step members
+  pub closure : IsClosure b v step members
   pub is : value ≡ value_of b step members path
 
 -- the value of a source is its bytes

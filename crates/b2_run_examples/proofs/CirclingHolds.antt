@@ -26,22 +26,22 @@ known_out v path (input p c) = one_of out_path p c
 known_out v path (include p bytes found k says inc) = absurd (Contains_nil inc.include inc.listed)
 
 reads_itself : (v : Values) (i : ℕ) (step : Step) (members : List (List ℕ × Value)) → step_at circling.build.steps i ≡ Some step → IsClosure circling.build v step members → (value : Value) × Contains members (out_path, value)
-reads_itself v i step members at close =
+reads_itself v i step members at closure =
     let same : circle_step ≡ step = only_is (out_path ∷ []) i step at in
-    close.whole out_path (subst (λ s. Known circling.build v s out_path) same (input out_path (Contains_here out_path [])))
+    closure.whole out_path (subst (λ s. Known circling.build v s out_path) same (input out_path (Contains_here out_path [])))
 
 -- so it is never settled
 not_settled : (path : List ℕ) → Settled circling [] path → out_path ≡ path → ⊥
 not_settled path (source p bytes s) e = source_not_made circling.build apart p bytes s 1 circle_step (subst (Makes circling.build.steps 1 circle_step) e (makes_out (out_path ∷ [])))
 not_settled path (done_well i step p makes done) e = Contains_nil (Done i true) done
-not_settled path (fresh i step p members makes not_started close inside f) e =
-    let (value, c) = reads_itself (Clean circling.build) i step members makes.at close in
+not_settled path (fresh i step p members makes not_started closure inside f) e =
+    let (value, c) = reads_itself (Clean circling.build) i step members makes.at closure in
     not_settled out_path (inside out_path value c) refl
 
 none_starts : (i : ℕ) → CanStart circling [] i → ⊥
 none_starts i can =
-    let (value, c) = reads_itself (on_settled circling []) i can.step can.members can.at can.close in
-    not_settled out_path (can.close.each out_path value c).1.0 refl
+    let (value, c) = reads_itself (on_settled circling []) i can.step can.members can.at can.closure in
+    not_settled out_path (can.closure.each out_path value c).1.0 refl
 
 run : IsRun circling []
 run = record { each = tt; none_open = λ i o. Contains_nil (Start i) o.0; none_left = none_starts }

@@ -37,7 +37,7 @@ use Rattle.b2_runs.proofs.LogIsNoted.{log_is_noted}
 use Rattle.b2_runs.proofs.CutLogIsTrue.{whole_is_cut}
 use Rattle.b2_runs.proofs.StopLeavesNone.{update_counts_fault, stop_counts_fault}
 use Rattle.b2_run_examples.proofs.OneStepPlan.{one_of, only_is, only_number, only_out, makes_out}
-use Rattle.b2_run_examples.proofs.CopyingHolds.{apart, run, went, close, none_older, log_true, one_each_after, stands_after, others_after}
+use Rattle.b2_run_examples.proofs.CopyingHolds.{apart, run, went, closure, none_older, log_true, one_each_after, stands_after, others_after}
 use Rattle.b2_run_examples.proofs.CopyingFiled.{begins_empty, counts, course, whole}
 
 -- ---- the disk
@@ -92,7 +92,7 @@ older : NoneDoneOlder copying copied (with_log copy_bytes)
 older i step members at done file close_members =
     let here : i ≡ 1 = only_number (in_path ∷ []) i step at in
     let same : copy_step ≡ step = only_is (in_path ∷ []) i step at in
-    let one : in_members ≡ members = same_members copying apart 1 copy_step step refl (subst (λ j. step_at copying.build.steps j ≡ Some step) here at) in_members members close close_members in
+    let one : in_members ≡ members = same_members copying apart 1 copy_step step refl (subst (λ j. step_at copying.build.steps j ≡ Some step) here at) in_members members closure close_members in
     subst₂ (λ s ms. NoneOlder (with_log copy_bytes) s ms) same one
     (none_older_move disk_after.now (with_log copy_bytes) copy_step in_members (λ out c. subst (λ o. with_log copy_bytes o ≡ disk_after.now o) (one_of out_path out c) refl)
     (λ m y c. subst (λ o. with_log copy_bytes o ≡ disk_after.now o) (ap (λ (z : List ℕ × Value). z.0) (one_of (in_path, Some (7 ∷ [])) (m, y) c)) refl) none_older)
@@ -104,7 +104,7 @@ noted = log_is_noted copying (with_log copy_bytes) [] log_after copied apart run
 
 -- the output is that of the clean build
 out_is_clean : (path : List ℕ) → out_path ≡ path → (bytes : List ℕ) × Clean copying.build path (Some bytes) × (bytes_at (with_log copy_bytes) path ≡ Some bytes)
-out_is_clean path e = subst (λ p. (bytes : List ℕ) × Clean copying.build p (Some bytes) × (bytes_at (with_log copy_bytes) p ≡ Some bytes)) e (7 ∷ [], clean_is_made copying.build 1 copy_step out_path in_members apart (makes_out (in_path ∷ [])) close, refl)
+out_is_clean path e = subst (λ p. (bytes : List ℕ) × Clean copying.build p (Some bytes) × (bytes_at (with_log copy_bytes) p ≡ Some bytes)) e (7 ∷ [], clean_is_made copying.build 1 copy_step out_path in_members apart (makes_out (in_path ∷ [])) closure, refl)
 
 clean : HasCleanBytes copying copied (with_log copy_bytes)
 clean i step path needed makes settled file = out_is_clean path (only_out (in_path ∷ []) i step path makes)
@@ -130,7 +130,7 @@ at_work : AreAtWork copying copied []
 at_work = record { each = λ child c. absurd (Contains_nil child c); once = λ i j d lt h. absurd (omega arith); whole = λ i o. absurd (run.none_open i o) }
 
 given_closure : IsGivenClosure copying 1 copy_given
-given_closure = record { step = copy_step; at = refl; members = in_members; close = close; step_is = refl; text = refl; ins = refl; outs = refl; held = refl }
+given_closure = record { step = copy_step; at = refl; members = in_members; closure = closure; step_is = refl; text = refl; ins = refl; outs = refl; held = refl }
 
 updated : HasUpdated copying all_went moment_before.host moment_after.host disk_before disk_logged
 updated = record {
@@ -174,7 +174,7 @@ is_update = record {
 no_line : (now : Folder) (events : List ChildEvent) (log : List LogLine) → IsLogAfter copying now [] events log → ((i : ℕ) (well : Bool) → Contains events (Done i well) → ⊥) → log ≡ []
 no_line now events log begins none = refl
 no_line now events log (starts es l i c) none = no_line now es l c (λ k well d. none k well (Contains-append_left es (Start i ∷ []) (Done k well) d))
-no_line now events log (records es l i step members r c at file close is) none = absurd (none i true (Contains-push es (Done i true)))
+no_line now events log (records es l i step members r c at file closure is) none = absurd (none i true (Contains-push es (Done i true)))
 no_line now events log (owes_none es l i step c at no_file) none = absurd (none i true (Contains-push es (Done i true)))
 no_line now events log (drops es l i step r c at found) none = absurd (none i false (Contains-push es (Done i false)))
 no_line now events log (has_none es l i step c at found) none = absurd (none i false (Contains-push es (Done i false)))

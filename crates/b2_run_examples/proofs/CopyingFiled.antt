@@ -27,7 +27,7 @@ use Rattle.b2_runs.proofs.CutLogIsTrue.{healthy_grows}
 use Rattle.b2_runs.specs.LogFiles.{log_limit, IsLogOf, IsLogOf.is_read, IsTrueFile, FileTells}
 use Rattle.b2_run_examples.specs.Examples.{in_path, out_path, copying, disk_after, copy_record, log_after, copied, copy_step, in_members, copy_bytes, with_log, CopyingFiled}
 use Rattle.b2_runs.proofs.FirstElementOrLater.{Contains_here, Contains_nil}
-use Rattle.b2_run_examples.proofs.CopyingHolds.{apart, run, log_true, close, opened}
+use Rattle.b2_run_examples.proofs.CopyingHolds.{apart, run, log_true, closure, opened}
 use Rattle.b2_runs.proofs.TrueFileTells.{true_front}
 
 -- bytes of texts that are plain
@@ -115,7 +115,7 @@ module _ (bytes : List ℕ) where
   after_start = starts [] [] 1 begins
 
   pub course : IsLogAfter copying (with_log bytes) [] copied log_after
-  course = records (Start 1 ∷ []) [] 1 copy_step in_members copy_record after_start refl refl close (record { text = refl; outs = ((refl, refl), tt); ins = ((refl, refl), tt); digests = refl })
+  course = records (Start 1 ∷ []) [] 1 copy_step in_members copy_record after_start refl refl closure (record { text = refl; outs = ((refl, refl), tt); ins = ((refl, refl), tt); digests = refl })
 
 pub whole : IsLogWhole copying copied (with_log copy_bytes)
 whole = record {
@@ -138,7 +138,7 @@ cut part missing split =
 
 some_log : ¬ IsLogWhole copying copied disk_after.now
 some_log w =
-    let n = log_has_records copying disk_after.now w.first w.log copied 1 copy_step in_members apart (run_is_in_order copying copied begun) w.course (1, omega arith, refl) refl refl close in
+    let n = log_has_records copying disk_after.now w.first w.log copied 1 copy_step in_members apart (run_is_in_order copying copied begun) w.course (1, omega arith, refl) refl refl closure in
     no_bytes w.log n.last (found_is_there (out_path ∷ []) w.log n.last n.found).0 w.file
   where
     left_some : (bytes : List ℕ) → None ≡ left_file None bytes → bytes ≡ []

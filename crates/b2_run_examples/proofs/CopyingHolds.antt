@@ -49,8 +49,8 @@ known_in : (path : List ℕ) → Known copying.build (Clean copying.build) copy_
 known_in path (input p c) = one_of in_path p c
 known_in path (include p bytes found k says inc) = absurd (Contains_nil inc.include inc.listed)
 
-pub close : IsClosure copying.build (Clean copying.build) copy_step members_in
-close = record {
+pub closure : IsClosure copying.build (Clean copying.build) copy_step members_in
+closure = record {
   ordered = λ i j d lt h. absurd (omega arith);
   each = λ path value c.
       let e : ◌≡◌ {A = List ℕ × Value} member_in (path, value) = one_of member_in (path, value) c in (
@@ -66,7 +66,7 @@ inside events member value c =
     subst (λ (z : List ℕ × Value). Settled copying events z.0) e (source in_path (7 ∷ []) in_source)
 
 close_on : (events : List ChildEvent) → IsClosure copying.build (on_settled copying events) copy_step members_in
-close_on events = (closure_on_settled copying events copy_step members_in apart).1 close (inside events)
+close_on events = (closure_on_settled copying events copy_step members_in apart).1 closure (inside events)
 
 can : CanStart copying [] 1
 can = record {
@@ -75,7 +75,7 @@ can = record {
   needed = wanted 1 copy_step out_path (Contains_here out_path []) (makes_out (in_path ∷ []));
   not_started = λ c. Contains_nil (Start 1) c;
   members = members_in;
-  close = close_on [];
+  closure = close_on [];
   stale = λ f. let e : None ≡ Some f.recorded.last = f.recorded.found in cc;
   room = (let h : 0 < 0 + 1 = omega arith in h);
   goes_on = λ quit k c. Contains_nil (Done k false) c;
@@ -132,7 +132,7 @@ child_at_work = record {
   is_open = opened;
   given = copy_given;
   told = refl;
-  given_closure = record { step = copy_step; at = refl; members = members_in; close = close; step_is = refl; text = refl; ins = refl; outs = refl; held = refl };
+  given_closure = record { step = copy_step; at = refl; members = members_in; closure = closure; step_is = refl; text = refl; ins = refl; outs = refl; held = refl };
   ins = refl;
   outs = refl;
 }
@@ -203,7 +203,7 @@ out_clean : (step : Step) (path : List ℕ) → Makes copying.build.steps 1 step
 out_clean step path m =
     let e : out_path ≡ path = only_out (in_path ∷ []) 1 step path m in
     subst (λ p. (value : Value) × Clean copying.build p value × Holds disk_after.now p value) e
-    (Some (7 ∷ []), clean_is_made copying.build 1 copy_step out_path members_in apart (makes_out (in_path ∷ [])) close, refl)
+    (Some (7 ∷ []), clean_is_made copying.build 1 copy_step out_path members_in apart (makes_out (in_path ∷ [])) closure, refl)
 
 -- judging is by stamps
 by_stamps_alone : (past : List Past) → Distinguishes copying past
@@ -223,7 +223,7 @@ copy_is = record { text = refl; outs = ((refl, refl), tt); ins = ((refl, refl), 
 pub log_true : LogTrue (making copying) disk_after.past log_after
 log_true =
     true_with_line (making copying) disk_after.past [] (lines.Record copy_record) (empty_is_true (making copying) disk_after.past)
-    (record_is_true copying copied disk_after 1 copy_step members_in copy_record apart sound refl refl (λ path c. done_well 1 copy_step path (record { at = refl; among = c }) done) close (inside copied) copy_is)
+    (record_is_true copying copied disk_after 1 copy_step members_in copy_record apart sound refl refl (λ path c. done_well 1 copy_step path (record { at = refl; among = c }) done) closure (inside copied) copy_is)
 
 pub none_older : NoneOlder disk_after.now copy_step members_in
 none_older out member value written read c_out c_member at_out at_member =
@@ -241,7 +241,7 @@ noted : IsNoted copying copied disk_after.now log_after
 noted =
     let begun = noted_after_start copying [] disk_before.now [] 1 apart can (noted_at_entry copying disk_before.now [] (λ outs. refl)) in
     let changed = noted_after_change copying (Start 1 ∷ []) disk_before disk_after [] apart (may_start, tt) change begun in
-    noted_after_record copying (Start 1 ∷ []) disk_after.now [] 1 copy_step members_in copy_record apart changed opened refl close copy_is none_older
+    noted_after_record copying (Start 1 ∷ []) disk_after.now [] 1 copy_step members_in copy_record apart changed opened refl closure copy_is none_older
 
 defined : CleanIsDefined copying copied
 defined = record {

@@ -185,7 +185,7 @@ module _ (by_digest : Bool) (folder : Folder) (log : List LogLine) (v : List ℕ
     needed = wanted 1 (copy_from x_path a_path) a_path (0, omega arith, refl) makes_a;
     not_started = λ c. Contains_nil (Start 1) c;
     members = of_x;
-    close = close_x [];
+    closure = close_x [];
     stale = stale;
     room = (let h : 0 < 0 + 1 = omega arith in h);
     goes_on = λ quit k bad. (let e : false ≡ true = quit in cc);
@@ -225,7 +225,7 @@ module _ (by_digest : Bool) (folder : Folder) (log : List LogLine) (v : List ℕ
     needed = wanted 2 (copy_from a_path b_path) b_path (1, omega arith, refl) makes_b;
     not_started = λ c. absent (starts_of 2) first_ran refl (Start 2) refl c;
     members = of_a;
-    close = close_of first_ran a_path b_path (Some []) a_after;
+    closure = close_of first_ran a_path b_path (Some []) a_after;
     stale = stale;
     room = (let h : 1 < 1 + 1 = omega arith in h);
     goes_on = λ quit k bad. (let e : false ≡ true = quit in cc);
@@ -354,7 +354,7 @@ same_bytes_log =
       at = refl;
       needed = needed_first true second_folder log_one (7 ∷ []) refl [];
       not_started = λ c. Contains_nil (Start 1) c;
-      close = close_x true second_folder log_one (7 ∷ []) refl [];
+      closure = close_x true second_folder log_one (7 ∷ []) refl [];
       is_fresh = second_first;
     })
     (record { text = refl; outs = ((refl, refl), tt); ins = ((refl, refl), tt); digests = (refl, (([], refl, refl), tt), ((7 ∷ [], refl, refl), tt)) }) (is_new (a_path ∷ []) log_one (a_digested 2 1 (7 ∷ [])) (a_digested 2 4 (7 ∷ [])) 1 4 x_path refl refl refl (λ e. omega (arith, e)))
@@ -403,7 +403,7 @@ other_bytes_log =
       at = refl;
       needed = needed_second true third_folder log_two (8 ∷ []) refl first_ran;
       not_started = λ c. absent (starts_of 2) first_ran refl (Start 2) refl c;
-      close = close_of true third_folder log_two (8 ∷ []) refl first_ran a_path b_path (Some []) (a_after true third_folder log_two (8 ∷ []) refl);
+      closure = close_of true third_folder log_two (8 ∷ []) refl first_ran a_path b_path (Some []) (a_after true third_folder log_two (8 ∷ []) refl);
       is_fresh = third_second;
     })
     (record { text = refl; outs = ((refl, refl), tt); ins = ((refl, refl), tt); digests = (refl, (([], refl, refl), tt), (([], refl, refl), tt)) }) (is_new (b_path ∷ []) _ (b_digested 3 2) (b_digested 3 6) 2 6 a_path refl refl refl (λ e. omega (arith, e)))
@@ -449,7 +449,7 @@ to_migrate = record {
   at = refl;
   needed = needed_first true fifth_folder log_four (9 ∷ []) refl [];
   not_started = λ c. Contains_nil (Start 1) c;
-  close = close_x true fifth_folder log_four (9 ∷ []) refl [];
+  closure = close_x true fifth_folder log_four (9 ∷ []) refl [];
   is_fresh = fifth_first;
 }
 
@@ -465,7 +465,7 @@ unchanged_log =
       at = refl;
       needed = needed_second true fifth_folder log_four (9 ∷ []) refl [];
       not_started = λ c. Contains_nil (Start 2) c;
-      close = close_of true fifth_folder log_four (9 ∷ []) refl [] a_path b_path (Some []) (a_fresh true fifth_folder log_four (9 ∷ []) refl fifth_first);
+      closure = close_of true fifth_folder log_four (9 ∷ []) refl [] a_path b_path (Some []) (a_fresh true fifth_folder log_four (9 ∷ []) refl fifth_first);
       is_fresh = fifth_second;
     })
     (record { text = refl; outs = ((refl, refl), tt); ins = ((refl, refl), tt); digests = (refl, (([], refl, refl), tt), (([], refl, refl), tt)) }) (is_new_kind (b_path ∷ []) _ (b_stamped 9 8) (b_digested 9 8) refl refl)
@@ -500,7 +500,7 @@ unchanged_all step members to = elim (needed_is true fifth_folder log_four (9 �
         let whole = apart true fifth_folder log_four (9 ∷ []) refl in
         let here : step_at (build_on fifth_folder).steps to.number ≡ Some other = subst (λ j. step_at (build_on fifth_folder).steps j ≡ Some other) (sym e) at_k in
         let is : other ≡ step = one_step (build_on fifth_folder).steps to.number other step here to.at in
-        let one : others ≡ members = same_members u whole to.number other step here to.at others members ((closure_on_settled u [] other others whole).0 close_k).0 ((closure_on_settled u [] step members whole).0 to.close).0 in
+        let one : others ≡ members = same_members u whole to.number other step here to.at others members ((closure_on_settled u [] other others whole).0 close_k).0 ((closure_on_settled u [] step members whole).0 to.closure).0 in
         subst₂ (λ s ms. IsNotedStep u fifth_folder log_five s ms) is one n
 
 unchanged_not : ¬ AllMigrated (update_on true fifth_folder log_four) [] fifth_folder log_four

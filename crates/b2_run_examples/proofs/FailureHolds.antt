@@ -109,7 +109,7 @@ third_not_done =
 third_not_settled : (path : List ℕ) → Settled two_at_once failing path → c_path ≡ path → ⊥
 third_not_settled path (source p bytes s) e = source_not_made three_copies apart p bytes s 3 (copy_from b_path c_path) (subst (Makes three_copies.steps 3 (copy_from b_path c_path)) e makes_c)
 third_not_settled path (done_well i step p m done) e = third_not_done (subst (λ j. Contains failing (Done j true)) (numbered i step p m ∙ ap number_of (sym e)) done)
-third_not_settled path (fresh i step p members m not_started close inside f) e = absurd (let g : None ≡ Some f.recorded.last = f.recorded.found in cc)
+third_not_settled path (fresh i step p members m not_started closure inside f) e = absurd (let g : None ≡ Some f.recorded.last = f.recorded.found in cc)
 
 third_left : IsLeft two_at_once failing 3
 third_left = record {

@@ -103,7 +103,7 @@ module _ (always notfile : Bool) where
       needed = wanted 1 S out_path (Contains_here out_path []) makes;
       not_started = λ c. Contains_nil (Start 1) c;
       members = in_members;
-      close = on [];
+      closure = on [];
       stale = stale;
       room = (let h : 0 < 0 + 1 = omega arith in h);
       goes_on = λ quit k c. Contains_nil (Done k false) c;

@@ -165,10 +165,10 @@ in_second_source = in_source in_second in_includes two_places refl
 pub header_lost_holds : HeaderLostHolds
 header_lost_holds = record {
   apart = is_apart (in_path ∷ []);
-  close_both = two.close in_both in_includes two_places log_both in_path first_place (7 ∷ []) (8 ∷ []) in_both_source first_source refl both_known both_two;
+  close_both = two.closure in_both in_includes two_places log_both in_path first_place (7 ∷ []) (8 ∷ []) in_both_source first_source refl both_known both_two;
   fresh_both = fresh_both;
   idle = two.idles in_both in_includes two_places log_both in_path first_place (7 ∷ []) (8 ∷ []) in_both_source first_source refl both_known both_two fresh_both;
-  close_second = two.close in_second in_includes two_places log_both in_path second_place (7 ∷ []) (9 ∷ []) in_second_source second_source refl second_known second_two;
+  close_second = two.closure in_second in_includes two_places log_both in_path second_place (7 ∷ []) (9 ∷ []) in_second_source second_source refl second_known second_two;
   stale_second = stale_second;
   runs = two.runs in_second in_includes two_places log_both in_path second_place (7 ∷ []) (9 ∷ []) in_second_source second_source refl second_known second_two stale_second;
 }
@@ -211,6 +211,6 @@ circle_stale f = let e : None ≡ Some f.recorded.last = f.recorded.found in cc
 pub header_circle_holds : HeaderCircleHolds
 header_circle_holds = record {
   apart = is_apart (in_path ∷ []);
-  close = two.close circle_stands circle_includes by_name [] header_path in_path (8 ∷ []) (7 ∷ []) header_source in_circle_source refl circle_known circle_two;
+  closure = two.closure circle_stands circle_includes by_name [] header_path in_path (8 ∷ []) (7 ∷ []) header_source in_circle_source refl circle_known circle_two;
   run = two.runs circle_stands circle_includes by_name [] header_path in_path (8 ∷ []) (7 ∷ []) header_source in_circle_source refl circle_known circle_two circle_stale;
 }

@@ -190,7 +190,7 @@ one_of_three events i n = number_is (step_of n)
 pub b_not_yet : (path : List ℕ) → Settled header_update [] path → b_path ≡ path → ⊥
 b_not_yet path (source p bytes s) e = source_not_made with_header apart p bytes s 2 (copy_from x_path b_path) (subst (Makes with_header.steps 2 (copy_from x_path b_path)) e makes_b)
 b_not_yet path (done_well i step p makes done) e = Contains_nil (Done i true) done
-b_not_yet path (fresh i step p members makes not_started close inside f) e = let g : None ≡ Some f.recorded.last = f.recorded.found in cc
+b_not_yet path (fresh i step p members makes not_started closure inside f) e = let g : None ≡ Some f.recorded.last = f.recorded.found in cc
 
 -- the step of `a` makes no other path
 not_one : (i : ℕ) (step : Step) (path : List ℕ) → Makes with_header.steps i step path → i ≡ 1 → a_path ≡ path
@@ -257,13 +257,13 @@ needed_then = record {
 
 can : (events : List ChildEvent) (i : ℕ) (step : Step) (members : List (List ℕ × Value)) → step_at with_header.steps i ≡ Some step → Needed header_update events i → (Contains events (Start i) → ⊥) → IsClosure with_header (on_settled header_update events) step members
     → count_by is_start events < count_by is_done events + 1 → CanStart header_update events i
-can events i step members at needed not_started close room = record {
+can events i step members at needed not_started closure room = record {
   step = step;
   at = at;
   needed = needed;
   not_started = not_started;
   members = members;
-  close = close;
+  closure = closure;
   stale = λ f. (let e : None ≡ Some f.recorded.last = f.recorded.found in cc);
   room = room;
   goes_on = λ quit k bad. (let e : false ≡ true = quit in cc);

@@ -29,8 +29,8 @@ reads_gone v i step at = subst (λ s. Known lacking.build v s gone_path) (only_i
 
 none_starts : (i : ℕ) → CanStart lacking [] i → ⊥
 none_starts i can =
-    let (value, c) = can.close.whole gone_path (reads_gone (on_settled lacking []) i can.step can.at) in
-    gone_missing (settled_given lacking [] gone_path (can.close.each gone_path value c).1.0)
+    let (value, c) = can.closure.whole gone_path (reads_gone (on_settled lacking []) i can.step can.at) in
+    gone_missing (settled_given lacking [] gone_path (can.closure.each gone_path value c).1.0)
 
 run : IsRun lacking []
 run = record { each = tt; none_open = λ i o. Contains_nil (Start i) o.0; none_left = none_starts }
@@ -38,7 +38,7 @@ run = record { each = tt; none_open = λ i o. Contains_nil (Start i) o.0; none_l
 out_not_settled : (path : List ℕ) → Settled lacking [] path → out_path ≡ path → ⊥
 out_not_settled path (source p bytes s) e = source_not_made lacking.build apart p bytes s 1 gone_step (subst (Makes lacking.build.steps 1 gone_step) e (makes_out (gone_path ∷ [])))
 out_not_settled path (done_well i step p makes done) e = Contains_nil (Done i true) done
-out_not_settled path (fresh i step p members makes not_started close inside f) e = let g : None ≡ Some f.recorded.last = f.recorded.found in cc
+out_not_settled path (fresh i step p members makes not_started closure inside f) e = let g : None ≡ Some f.recorded.last = f.recorded.found in cc
 
 needed_one : Needed lacking [] 1
 needed_one = wanted 1 gone_step out_path (Contains_here out_path []) (makes_out (gone_path ∷ []))

@@ -123,7 +123,7 @@ can events i input output value makes asked not_started has room = record {
   needed = wanted i (copy_from input output) output asked makes;
   not_started = not_started;
   members = (input, value) ∷ [];
-  close = close_of events input output value has;
+  closure = close_of events input output value has;
   stale = λ f. (let e : None ≡ Some f.recorded.last = f.recorded.found in cc);
   room = room;
   goes_on = λ quit k bad. (let e : false ≡ true = quit in cc);
@@ -133,7 +133,7 @@ can events i input output value makes asked not_started has room = record {
 b_needs_done : (events : List ChildEvent) (path : List ℕ) → Settled two_at_once events path → b_path ≡ path → Contains events (Done 2 true)
 b_needs_done events path (source p bytes s) e = absurd (source_not_made three_copies apart p bytes s 2 (copy_from x_path b_path) (subst (Makes three_copies.steps 2 (copy_from x_path b_path)) e makes_b))
 b_needs_done events path (done_well i step p m done) e = subst (λ j. Contains events (Done j true)) (numbered i step p m ∙ ap number_of (sym e)) done
-b_needs_done events path (fresh i step p members m not_started close inside f) e = absurd (let g : None ≡ Some f.recorded.last = f.recorded.found in cc)
+b_needs_done events path (fresh i step p members m not_started closure inside f) e = absurd (let g : None ≡ Some f.recorded.last = f.recorded.found in cc)
 
 pub third_needs_second : (events : List ChildEvent) → CanStart two_at_once events 3 → Contains events (Done 2 true)
 third_needs_second events c = go (which 3 c.step c.at)
@@ -143,8 +143,8 @@ third_needs_second events c = go (which 3 c.step c.at)
     go (inr (inl (e, s))) = absurd (two_not_three (sym e))
     go (inr (inr (e, s))) =
         let known : Known three_copies (on_settled two_at_once events) c.step b_path = subst (λ t. Known three_copies (on_settled two_at_once events) t b_path) s (input_of b_path (Contains_here b_path [])) in
-        let (value, inside) = c.close.whole b_path known in
-        b_needs_done events b_path (c.close.each b_path value inside).1.0 refl
+        let (value, inside) = c.closure.whole b_path known in
+        b_needs_done events b_path (c.closure.each b_path value inside).1.0 refl
 
 -- no step can start where the first two were started, and the third was or cannot
 pub none_can : (events : List ChildEvent) → Contains events (Start 1) → Contains events (Start 2) → (CanStart two_at_once events 3 → ⊥) → (i : ℕ) → CanStart two_at_once events i → ⊥

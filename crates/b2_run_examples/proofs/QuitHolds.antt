@@ -45,7 +45,7 @@ module _ (quit : Bool) where
     needed = wanted i (copy_from x_path output) output asked makes;
     not_started = not_started;
     members = (x_path, Some (7 ∷ [])) ∷ [];
-    close = close_x events output;
+    closure = close_x events output;
     stale = λ f. (let e : None ≡ Some f.recorded.last = f.recorded.found in cc);
     room = room;
     goes_on = goes_on;
@@ -95,7 +95,7 @@ not_settled path (done_well k s p m done) i step makes = (
       | inl f ↦ start_not_done 1 k true f
       | inr d ↦ (let f : Done 1 false ≡ Done k true = one_of (Done 1 false) (Done k true) d in let g : false ≡ true = cc in cc)
     ])
-not_settled path (fresh k s p members m not_started close inside f) i step makes = let e : None ≡ Some f.recorded.last = f.recorded.found in cc
+not_settled path (fresh k s p members m not_started closure inside f) i step makes = let e : None ≡ Some f.recorded.last = f.recorded.found in cc
 
 left_at : (i : ℕ) (input output : List ℕ) → Makes three_copies.steps i (copy_from input output) output → Contains three_copies.wanted output → (1 ≡ i → ⊥) → IsLeft quitting quit_run i
 left_at i input output makes asked differ = record {

@@ -27,7 +27,7 @@ none_too_big now path size (to_digest bytes to size_is more) = go to
   where
     go : IsToDigest header_update [] now path bytes → ⊥
     go (input on i s) = let e : false ≡ true = on in cc
-    go (output out members on owes close still stands) = let e : false ≡ true = on in cc
+    go (output out members on owes closure still stands) = let e : false ≡ true = on in cc
 
 b_done : Contains b_made (Done 2 true)
 b_done = (1, omega arith, refl)

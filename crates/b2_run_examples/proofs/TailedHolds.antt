@@ -66,30 +66,30 @@ record Read (v : Values) (members : List (List ℕ × Value)) : Type 0 where
   makes : Makes tailed_copies.steps number maker path
 
 read_at : (v : Values) (input output : List ℕ) (step : Step) (members : List (List ℕ × Value)) (k : ℕ) (other : Step) → copy_from input output ≡ step → Makes tailed_copies.steps k other input → IsClosure tailed_copies v step members → Read v members
-read_at v input output step members k other same makes close =
-    let (value, c) = close.whole input (subst (λ s. Known tailed_copies v s input) same (reads v input output)) in
+read_at v input output step members k other same makes closure =
+    let (value, c) = closure.whole input (subst (λ s. Known tailed_copies v s input) same (reads v input output)) in
     record { path = input; value = value; inside = c; number = k; maker = other; makes = makes }
 
 -- each closure has an output
 read_of : (v : Values) (i : ℕ) (step : Step) (members : List (List ℕ × Value)) → step_at tailed_copies.steps i ≡ Some step → IsClosure tailed_copies v step members → Read v members
-read_of v i step members at close = elim (which i step at) [
-  | inl (e, s) ↦ read_at v b_path a_path step members 2 second_step s makes_b close
-  | inr (inl (e, s)) ↦ read_at v c_path b_path step members 3 third_step s makes_c close
-  | inr (inr (e, s)) ↦ read_at v b_path c_path step members 2 second_step s makes_b close
+read_of v i step members at closure = elim (which i step at) [
+  | inl (e, s) ↦ read_at v b_path a_path step members 2 second_step s makes_b closure
+  | inr (inl (e, s)) ↦ read_at v c_path b_path step members 3 third_step s makes_c closure
+  | inr (inr (e, s)) ↦ read_at v b_path c_path step members 2 second_step s makes_b closure
 ]
 
 -- so no output is ever settled
 not_settled : (path : List ℕ) → Settled tailed [] path → (k : ℕ) (other : Step) → Makes tailed_copies.steps k other path → ⊥
 not_settled path (source p bytes s) k other m = source_not_made tailed_copies apart p bytes s k other m
 not_settled path (done_well i step p makes done) k other m = Contains_nil (Done i true) done
-not_settled path (fresh i step p members makes not_started close inside f) k other m =
-    let r = read_of (Clean tailed_copies) i step members makes.at close in
+not_settled path (fresh i step p members makes not_started closure inside f) k other m =
+    let r = read_of (Clean tailed_copies) i step members makes.at closure in
     not_settled r.path (inside r.path r.value r.inside) r.number r.maker r.makes
 
 none_starts : (i : ℕ) → CanStart tailed [] i → ⊥
 none_starts i can =
-    let r = read_of (on_settled tailed []) i can.step can.members can.at can.close in
-    not_settled r.path (can.close.each r.path r.value r.inside).1.0 r.number r.maker r.makes
+    let r = read_of (on_settled tailed []) i can.step can.members can.at can.closure in
+    not_settled r.path (can.closure.each r.path r.value r.inside).1.0 r.number r.maker r.makes
 
 run : IsRun tailed []
 run = record { each = tt; none_open = λ i o. Contains_nil (Start i) o.0; none_left = none_starts }

@@ -50,8 +50,8 @@ module _ (folder : Folder) (inc : List ℕ → List ℕ → List Include) (looks
     ];
   }
 
-  pub close : IsClosure B (Clean B) copy_step members
-  close = close_of (Clean B) (source_clean B apart p x p_source) (source_clean B apart q y q_source)
+  pub closure : IsClosure B (Clean B) copy_step members
+  closure = close_of (Clean B) (source_clean B apart p x p_source) (source_clean B apart q y q_source)
 
   on : (events : List ChildEvent) → IsClosure B (on_settled U events) copy_step members
   on events = close_of (on_settled U events) (source p x p_source, source_clean B apart p x p_source) (source q y q_source, source_clean B apart q y q_source)
@@ -73,7 +73,7 @@ module _ (folder : Folder) (inc : List ℕ → List ℕ → List Include) (looks
   runs stale = record {
     each = (
       (
-        record { step = copy_step; at = refl; needed = needed []; not_started = λ c. Contains_nil (Start 1) c; members = members; close = on []; stale = stale; room = (let h : 0 < 0 + 1 = omega arith in h); goes_on = λ quit k c. Contains_nil (Done k false) c },
+        record { step = copy_step; at = refl; needed = needed []; not_started = λ c. Contains_nil (Start 1) c; members = members; closure = on []; stale = stale; room = (let h : 0 < 0 + 1 = omega arith in h); goes_on = λ quit k c. Contains_nil (Done k false) c },
         λ k less c. (let e = only_number (in_path ∷ []) k c.step c.at in omega (arith, less, e)),
       ),
       ((first_open, λ i c. (let h : 1 < 0 + 1 = c.room in omega (arith, h))), tt),

@@ -101,5 +101,5 @@ circle_stands path = if bytes_eq path in_path then file_with 1 7 else (if bytes_
 -- The closure of the step has both, in byte order, and the step runs once.
 pub record HeaderCircleHolds : Type 0 where
   pub apart : Apart (including circle_stands circle_includes by_name).steps (including circle_stands circle_includes by_name).roots
-  pub close : IsClosure (including circle_stands circle_includes by_name) (Clean (including circle_stands circle_includes by_name)) copy_step ((header_path, Some (8 ∷ [])) ∷ (in_path, Some (7 ∷ [])) ∷ [])
+  pub closure : IsClosure (including circle_stands circle_includes by_name) (Clean (including circle_stands circle_includes by_name)) copy_step ((header_path, Some (8 ∷ [])) ∷ (in_path, Some (7 ∷ [])) ∷ [])
   pub run : IsRun (update_with circle_stands circle_includes by_name []) copied

@@ -47,17 +47,17 @@ known_to b now same v w extends step path (include p bytes found k says inc) =
     include p bytes found (known_to b now same v w extends step p k) (extends p (Some bytes) says) (includes_to b now same step p bytes found inc)
 
 pub close_to : (b : Build) (now : Folder) → SameSources b now → (v w : Values) → Extends v w → Extends w v → (step : Step) (members : List (List ℕ × Value)) → IsClosure b v step members → IsClosure (moved b now) w step members
-close_to b now same v w there here step members close = record {
-  ordered = close.ordered;
-  each = λ path value c. let (k, x) = close.each path value c in (known_to b now same v w there step path k, there path value x);
-  whole = λ path k. close.whole path (known_to (moved b now) b.folder (back b now same) w v here step path k);
+close_to b now same v w there here step members closure = record {
+  ordered = closure.ordered;
+  each = λ path value c. let (k, x) = closure.each path value c in (known_to b now same v w there step path k, there path value x);
+  whole = λ path k. closure.whole path (known_to (moved b now) b.folder (back b now same) w v here step path k);
 }
 
 source_value_to : (b : Build) (now : Folder) → SameSources b now → (path : List ℕ) (value : Value) → IsSourceValue b path value → IsSourceValue (moved b now) path value
 source_value_to b now same path value (bytes, s, e) = (bytes, source_to b now same path bytes s, e)
 
 built_to : (b : Build) (now : Folder) → SameSources b now → (v w : Values) → Extends v w → Extends w v → (path : List ℕ) (value : Value) → IsBuilt b v path value → IsBuilt (moved b now) w path value
-built_to b now same v w there here path value m = record { number = m.number; step = m.step; makes = m.makes; members = m.members; close = close_to b now same v w there here m.step m.members m.close; is = m.is }
+built_to b now same v w there here path value m = record { number = m.number; step = m.step; makes = m.makes; members = m.members; closure = close_to b now same v w there here m.step m.members m.closure; is = m.is }
 
 val_both : (b : Build) (now : Folder) → SameSources b now → (n : ℕ) → Extends (Val b n) (Val (moved b now) n) × Extends (Val (moved b now) n) (Val b n)
 val_both b now same zero = (λ path value s. source_value_to b now same path value s, λ path value s. source_value_to (moved b now) b.folder (back b now same) path value s)
@@ -85,7 +85,7 @@ clean_by_sources b now path value same = (clean_to b now same path value, clean_
 
 -- so do closures by the clean build
 pub clean_close_to : (b : Build) (now : Folder) → SameSources b now → (step : Step) (members : List (List ℕ × Value)) → IsClosure b (Clean b) step members → IsClosure (moved b now) (Clean (moved b now)) step members
-clean_close_to b now same step members close = close_to b now same (Clean b) (Clean (moved b now)) (clean_to b now same) (clean_from b now same) step members close
+clean_close_to b now same step members closure = close_to b now same (Clean b) (Clean (moved b now)) (clean_to b now same) (clean_from b now same) step members closure
 
 -- what is known by fewer values of the other build
 pub known_from : (b : Build) (now : Folder) → SameSources b now → (v w : Values) → Extends v w → (step : Step) (path : List ℕ) → Known (moved b now) v step path → Known b w step path

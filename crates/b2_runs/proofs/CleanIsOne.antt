@@ -10,6 +10,6 @@ clean_is_one b apart = val_is_one b apart (length b.steps)
 
 -- what a step makes of its closure is the clean build's
 pub clean_is_made : CleanIsMade
-clean_is_made b i step path members apart makes close =
+clean_is_made b i step path members apart makes closure =
     rounds_enough b apart (suc (length b.steps)) path (value_of b step members path)
-    (inr (record { number = i; step = step; makes = makes; members = members; close = close; is = refl }))
+    (inr (record { number = i; step = step; makes = makes; members = members; closure = closure; is = refl }))

@@ -31,10 +31,10 @@ record IsMadeOf (u : Update) (path : List ℕ) : Type 0 where
 origin : (u : Update) (events : List ChildEvent) (path : List ℕ) → Apart u.build.steps u.build.roots → IsRunSoFar u events → Settled u events path → ((bytes : List ℕ) × IsSource u.build path bytes) ⊎ IsMadeOf u path
 origin u events path apart run (source p bytes s) = inl (bytes, s)
 origin u events path apart run (done_well i step p makes done) =
-    let (members, close) = started_has_closure u events i step apart run (done_was_started u events i true run done) makes.at in
-    inr (record { number = i; step = step; makes = makes; members = members; clean = clean_is_made u.build i step p members apart makes ((closure_on_settled u events step members apart).0 close).0 })
-origin u events path apart run (fresh i step p members makes not_started close inside f) =
-    inr (record { number = i; step = step; makes = makes; members = members; clean = clean_is_made u.build i step p members apart makes close })
+    let (members, closure) = started_has_closure u events i step apart run (done_was_started u events i true run done) makes.at in
+    inr (record { number = i; step = step; makes = makes; members = members; clean = clean_is_made u.build i step p members apart makes ((closure_on_settled u events step members apart).0 closure).0 })
+origin u events path apart run (fresh i step p members makes not_started closure inside f) =
+    inr (record { number = i; step = step; makes = makes; members = members; clean = clean_is_made u.build i step p members apart makes closure })
 
 -- a source is seen as it was at entry
 seen_source : (u : Update) (events : List ChildEvent) (disk : Disk) → Apart u.build.steps u.build.roots → IsSound u events disk → (path bytes : List ℕ) → IsSource u.build path bytes → seen u.build disk.now path (Some bytes)
@@ -85,8 +85,8 @@ closure_by_present u events disk step members apart run sound =
     let same = same_sources u events disk apart sound in
     let there : (path : List ℕ) (value : Value) → on_settled u events path value → seen_settled u events disk.now path value = λ p x. (seen_is_clean u events disk p x apart run sound).0 in
     let here : (path : List ℕ) (value : Value) → seen_settled u events disk.now path value → on_settled u events path value = λ p x. (seen_is_clean u events disk p x apart run sound).1 in (
-      λ close. close_to (record u.build { folder = disk.now }) u.build.folder (λ path outside. sym (same path outside)) (seen_settled u events disk.now) (on_settled u events) here there step members close,
-      λ close. close_to u.build disk.now same (on_settled u events) (seen_settled u events disk.now) there here step members close,
+      λ closure. close_to (record u.build { folder = disk.now }) u.build.folder (λ path outside. sym (same path outside)) (seen_settled u events disk.now) (on_settled u events) here there step members closure,
+      λ closure. close_to u.build disk.now same (on_settled u events) (seen_settled u events disk.now) there here step members closure,
     )
 
 pub known_by_present : KnownByPresent

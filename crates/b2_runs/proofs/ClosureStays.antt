@@ -20,28 +20,28 @@ known_stays b v more step extends one has path (include p bytes found k says inc
 
 -- each member of a closure has a value
 pub close_has : (b : Build) (v : Values) (step : Step) (members : List (List ℕ × Value)) → IsClosure b v step members → (path : List ℕ) → Known b v step path → (x : Value) × v path x
-close_has b v step members close path k =
-    let (x, c) = close.whole path k in
-    (x, (close.each path x c).1)
+close_has b v step members closure path k =
+    let (x, c) = closure.whole path k in
+    (x, (closure.each path x c).1)
 
 -- a closure stays the same where more values are known
 pub closure_stays : (v more : Values) → ClosureStays v more
-closure_stays v more b step members extends one close = record {
-  ordered = close.ordered;
-  each = λ path x c. let (k, h) = close.each path x c in (known_grows v more b step path extends k, extends path x h);
-  whole = λ path k. close.whole path (known_stays b v more step extends one (close_has b v step members close) path k);
+closure_stays v more b step members extends one closure = record {
+  ordered = closure.ordered;
+  each = λ path x c. let (k, h) = closure.each path x c in (known_grows v more b step path extends k, extends path x h);
+  whole = λ path k. closure.whole path (known_stays b v more step extends one (close_has b v step members closure) path k);
 }
 
 -- a closure by more values is one by fewer, where its members have them
 pub close_back : (b : Build) (v more : Values) (step : Step) (members : List (List ℕ × Value)) → Extends v more → IsMap more → IsClosure b more step members → ((path : List ℕ) (x : Value) → Contains members (path, x) → v path x) → IsClosure b v step members
-close_back b v more step members extends one close low =
+close_back b v more step members extends one closure low =
     let up : (path : List ℕ) → Known b v step path → Known b more step path = λ path k. known_grows v more b step path extends k in
     let down : (path : List ℕ) → Known b more step path → Known b v step path =
-    known_stays b v more step extends one (λ path k. let (x, c) = close.whole path (up path k) in (x, low path x c)) in
+    known_stays b v more step extends one (λ path k. let (x, c) = closure.whole path (up path k) in (x, low path x c)) in
     record {
-      ordered = close.ordered;
-      each = λ path x c. (down path (close.each path x c).0, low path x c);
-      whole = λ path k. close.whole path (up path k);
+      ordered = closure.ordered;
+      each = λ path x c. (down path (closure.each path x c).0, low path x c);
+      whole = λ path k. closure.whole path (up path k);
     }
 
 -- what is known by values that agree on it
@@ -59,14 +59,14 @@ known_is_local v other b step path agree = (known_there v other b step (λ p x k
 
 pub closure_is_local : (v other : Values) → ClosureIsLocal v other
 closure_is_local v other b step members agree = (
-  λ close. record {
-    ordered = close.ordered;
-    each = λ path x c. let (k, h) = close.each path x c in (known_there v other b step (λ p y j. (agree p y j).0) path k, (agree path x k).0 h);
-    whole = λ path k. close.whole path (known_here v other b step (λ p y j. (agree p y j).1) path k);
+  λ closure. record {
+    ordered = closure.ordered;
+    each = λ path x c. let (k, h) = closure.each path x c in (known_there v other b step (λ p y j. (agree p y j).0) path k, (agree path x k).0 h);
+    whole = λ path k. closure.whole path (known_here v other b step (λ p y j. (agree p y j).1) path k);
   },
-  λ close. record {
-    ordered = close.ordered;
-    each = λ path x c. let (k, h) = close.each path x c in let known = known_here v other b step (λ p y j. (agree p y j).1) path k in (known, (agree path x known).1 h);
-    whole = λ path k. close.whole path (known_there v other b step (λ p y j. (agree p y j).0) path k);
+  λ closure. record {
+    ordered = closure.ordered;
+    each = λ path x c. let (k, h) = closure.each path x c in let known = known_here v other b step (λ p y j. (agree p y j).1) path k in (known, (agree path x known).1 h);
+    whole = λ path k. closure.whole path (known_there v other b step (λ p y j. (agree p y j).0) path k);
   },
 )

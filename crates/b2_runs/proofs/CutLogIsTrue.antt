@@ -187,9 +187,9 @@ some_event [] after i events e none = let f : Start i ∷ after ≡ [] = sym e �
 some_event (x ∷ before) after i events e none = let f : x ∷ (before ++ Start i ∷ after) ≡ [] = sym e ∙ none in cc
 
 pub finished_is_kept : FinishedIsKept
-finished_is_kept u events before after now log quit jobs k i step members apart good older entry cut limit counts e done at file close = elim (cut_log_is_noted u events now log apart good older entry cut limit counts) [
+finished_is_kept u events before after now log quit jobs k i step members apart good older entry cut limit counts e done at file closure = elim (cut_log_is_noted u events now log apart good older entry cut limit counts) [
   | inl none ↦ absurd (some_event before after k events e none)
-  | inr (b, n) ↦ finished_is_recorded u b.front now log quit jobs i step members n at (begun_holds_earlier u events before after k (Done i true) b e done) file close
+  | inr (b, n) ↦ finished_is_recorded u b.front now log quit jobs i step members n at (begun_holds_earlier u events before after k (Done i true) b e done) file closure
 ]
 
 pub finished_is_not_started : FinishedIsNotStarted

@@ -78,8 +78,8 @@ sound_done u events disk i well s new = record {
 -- what a step made of its closure by the clean build is the clean build's
 pub made_clean : (b : Build) → Apart b.steps b.roots → (now : Folder) (i : ℕ) (step : Step) (members : List (List ℕ × Value)) (path : List ℕ) → Makes b.steps i step path → IsClosure b (Clean b) step members
     → Holds now path (Some (b.made step.text (with_bytes members) path)) → (value : Value) × Clean b path value × Holds now path value
-made_clean b apart now i step members path makes close holds =
-    (value_of b step members path, clean_is_made b i step path members apart makes close, go step.notfile)
+made_clean b apart now i step members path makes closure holds =
+    (value_of b step members path, clean_is_made b i step path members apart makes closure, go step.notfile)
   where
     go : (t : Bool) → Holds now path (if t then None else Some (b.made step.text (with_bytes members) path))
     go true = tt
@@ -131,7 +131,7 @@ end_clean u events apart child before after a made step path makes =
     let (file, at, bytes, above) = made a.given a.told path out in
     let what : bytes_at after.now path ≡ Some (u.build.made a.given_closure.step.text (with_bytes a.given_closure.members) path) =
     ap (option_map (λ (x : File). x.bytes)) at ∙ (λ i. Some (bytes i)) ∙ (λ i. Some (u.build.made (a.given_closure.text i) (a.given_closure.held i) path)) in
-    made_clean u.build apart after.now child.step a.given_closure.step a.given_closure.members path (subst (λ s. Makes u.build.steps child.step s path) same makes) a.given_closure.close what
+    made_clean u.build apart after.now child.step a.given_closure.step a.given_closure.members path (subst (λ s. Makes u.build.steps child.step s path) same makes) a.given_closure.closure what
 
 -- an end leaves the disk sound
 pub sound_after_end : SoundAfterEnd

@@ -12,5 +12,5 @@ failed_is_not_settled u events i step path apart run bad makes (source p bytes s
 failed_is_not_settled u events i step path apart run bad makes (done_well k s p makes_k done) =
     let same : true ≡ false = done_once u events i true false run (subst (λ j. Contains events (Done j true)) (apart.one_maker k i s step p makes_k makes) done) bad in
     cc
-failed_is_not_settled u events i step path apart run bad makes (fresh k s p members makes_k not_started close inside f) =
+failed_is_not_settled u events i step path apart run bad makes (fresh k s p members makes_k not_started closure inside f) =
     not_started (subst (λ j. Contains events (Start j)) (apart.one_maker i k step s p makes makes_k) (done_was_started u events i false run bad))

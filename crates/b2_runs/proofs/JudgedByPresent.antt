@@ -61,7 +61,7 @@ pub settled_kept : (u : Update) (events : List ChildEvent) (disk : Disk) → Apa
     → ((i : ℕ) (step : Step) (well : Bool) → Makes u.build.steps i step path → Contains events (Done i well) → ⊥) → disk.now path ≡ u.build.folder path
 settled_kept u events disk apart sound path (source p bytes s) none = source_kept u events disk apart sound p bytes s
 settled_kept u events disk apart sound path (done_well i step p makes done) none = absurd (none i step true makes done)
-settled_kept u events disk apart sound path (fresh i step p members makes not_started close inside f) none = unstarted_kept u events disk apart sound i step p makes not_started
+settled_kept u events disk apart sound path (fresh i step p members makes not_started closure inside f) none = unstarted_kept u events disk apart sound i step p makes not_started
 
 -- judging by the present files is judging by those at entry
 pub judged_by_present : JudgedByPresent

@@ -38,7 +38,7 @@ pub log_drops_failed : LogDropsFailed
 log_drops_failed u now first log events i step apart begins order bad at = absurd (Contains_nil (Done i false) bad)
 log_drops_failed u now first log events i step apart (starts es l k c) order bad at =
     log_drops_failed u now first l es i step apart c (order_has_begun u.build.steps u.jobs es (Start k ∷ []) order) (done_in_start es k i false bad) at
-log_drops_failed u now first log events i step apart (records es l k other members r c at_k file close is) order bad at =
+log_drops_failed u now first log events i step apart (records es l k other members r c at_k file closure is) order bad at =
     let opened : IsOpen es k = last_follows u.build.steps u.jobs [] es (Done k true) order in
     let old : IsFailed es i = elim (done_in_done es k i true false bad) [ inl d ↦ d | inr e ↦ absurd (let f : true ≡ false = e.1 in cc) ] in
     others_unsaid step.outs l (lines.Record r) (outs_differ u apart i k step other (map path_of r.outs) at at_k (λ e. opened.1 false (subst (λ j. Contains es (Done j false)) e old)) (record_outs u now other members r is))
@@ -80,38 +80,38 @@ good_in_bad : (events : List ChildEvent) (i k : ℕ) → Contains (events ++ Don
 good_in_bad events i k c = elim (done_in_done events k i false true c) [ inl d ↦ d | inr e ↦ absurd (let f : false ≡ true = e.1 in cc) ]
 
 pub log_has_records : LogHasRecords
-log_has_records u now first log events i step members apart order begins done at file close = absurd (Contains_nil (Done i true) done)
-log_has_records u now first log events i step members apart order (starts es l k c) done at file close =
-    log_has_records u now first l es i step members apart (order_has_begun u.build.steps u.jobs es (Start k ∷ []) order) c (done_in_start es k i true done) at file close
-log_has_records u now first log events i step members apart order (records es l k other others r c at_k owes close_k is) done at file close = elim (done_in_done es k i true true done) [
+log_has_records u now first log events i step members apart order begins done at file closure = absurd (Contains_nil (Done i true) done)
+log_has_records u now first log events i step members apart order (starts es l k c) done at file closure =
+    log_has_records u now first l es i step members apart (order_has_begun u.build.steps u.jobs es (Start k ∷ []) order) c (done_in_start es k i true done) at file closure
+log_has_records u now first log events i step members apart order (records es l k other others r c at_k owes close_k is) done at file closure = elim (done_in_done es k i true true done) [
   | inl old ↦
       (let opened : IsOpen es k = last_follows u.build.steps u.jobs [] es (Done k true) order in
       noted_beside u apart now l (lines.Record r) i k step other members (map path_of r.outs) refl (record_outs u now other others r is) at at_k (λ e. opened.1 true (subst (λ j. Contains es (Done j true)) e old))
-      (log_has_records u now first l es i step members apart (order_has_begun u.build.steps u.jobs es (Done k true ∷ []) order) c old at file close))
+      (log_has_records u now first l es i step members apart (order_has_begun u.build.steps u.jobs es (Done k true ∷ []) order) c old at file closure))
   | inr e ↦
       let at_i : step_at u.build.steps i ≡ Some other = subst (λ j. step_at u.build.steps j ≡ Some other) e.0 at_k in
       let same : other ≡ step = one_step u.build.steps i other step at_i at in
-      let one : others ≡ members = same_members u apart i other step at_i at others members close_k close in
+      let one : others ≡ members = same_members u apart i other step at_i at others members close_k closure in
       subst₂ (λ s ms. IsNotedStep u now (l ++ lines.Record r ∷ []) s ms) same one
       (record { last = r; found = subst (λ o. find_record o (l ++ lines.Record r ∷ []) ≡ Some r) (record_outs u now other others r is) (last_record l r); is_record = is })
 ]
-log_has_records u now first log events i step members apart order (owes_none es l k other c at_k none) done at file close = elim (done_in_done es k i true true done) [
-  | inl old ↦ log_has_records u now first l es i step members apart (order_has_begun u.build.steps u.jobs es (Done k true ∷ []) order) c old at file close
+log_has_records u now first log events i step members apart order (owes_none es l k other c at_k none) done at file closure = elim (done_in_done es k i true true done) [
+  | inl old ↦ log_has_records u now first l es i step members apart (order_has_begun u.build.steps u.jobs es (Done k true ∷ []) order) c old at file closure
   | inr e ↦
       let same : other ≡ step = one_step u.build.steps i other step (subst (λ j. step_at u.build.steps j ≡ Some other) e.0 at_k) at in
       absurd (let f : true ≡ false = sym none ∙ ap (λ (s : Step). s.notfile) same ∙ file in cc)
 ]
-log_has_records u now first log events i step members apart order (drops es l k other r c at_k found) done at file close =
+log_has_records u now first log events i step members apart order (drops es l k other r c at_k found) done at file closure =
     let opened : IsOpen es k = last_follows u.build.steps u.jobs [] es (Done k false) order in
     let old = good_in_bad es i k done in
     noted_beside u apart now l (lines.Drop other.outs) i k step other members other.outs refl refl at at_k (λ e. opened.1 true (subst (λ j. Contains es (Done j true)) e old))
-    (log_has_records u now first l es i step members apart (order_has_begun u.build.steps u.jobs es (Done k false ∷ []) order) c old at file close)
-log_has_records u now first log events i step members apart order (has_none es l k other c at_k none) done at file close =
-    log_has_records u now first l es i step members apart (order_has_begun u.build.steps u.jobs es (Done k false ∷ []) order) c (good_in_bad es i k done) at file close
-log_has_records u now first log events i step members apart order (scans es l p bytes s c to is new) done at file close =
-    let n = log_has_records u now first l es i step members apart order c done at file close in
+    (log_has_records u now first l es i step members apart (order_has_begun u.build.steps u.jobs es (Done k false ∷ []) order) c old at file closure)
+log_has_records u now first log events i step members apart order (has_none es l k other c at_k none) done at file closure =
+    log_has_records u now first l es i step members apart (order_has_begun u.build.steps u.jobs es (Done k false ∷ []) order) c (good_in_bad es i k done) at file closure
+log_has_records u now first log events i step members apart order (scans es l p bytes s c to is new) done at file closure =
+    let n = log_has_records u now first l es i step members apart order c done at file closure in
     record { last = n.last; found = others_unsaid step.outs l (lines.Scan s) (λ e. scan_is_other step.outs s e) ∙ n.found; is_record = n.is_record }
-log_has_records u now first log events i step members apart order (migrates es l other others r c to is new) done at file close =
+log_has_records u now first log events i step members apart order (migrates es l other others r c to is new) done at file closure =
     noted_beside u apart now l (lines.Record r) i to.number step other members (map path_of r.outs) refl (record_outs u now other others r is) at to.at
     (λ e. to.not_started (subst (λ j. Contains es (Start j)) e (done_was_started u.build.steps u.jobs es i true order done)))
-    (log_has_records u now first l es i step members apart order c done at file close)
+    (log_has_records u now first l es i step members apart order c done at file closure)

@@ -13,9 +13,9 @@ use Rattle.b2_runs.proofs.LogStaysTrue.{migrated_close}
 pub log_is_proper : LogIsProper
 log_is_proper u now first log events line apart form begins c = inl c
 log_is_proper u now first log events line apart form (starts es l i k) c = log_is_proper u now first l es line apart form k c
-log_is_proper u now first log events line apart form (records es l i step members r k at file close is) c = elim (Contains-push_cases l (lines.Record r) line c) [
+log_is_proper u now first log events line apart form (records es l i step members r k at file closure is) c = elim (Contains-push_cases l (lines.Record r) line c) [
   | inl old ↦ log_is_proper u now first l es line apart form k old
-  | inr e ↦ inr (subst IsProper e (record_is_proper u now i step members r apart at close form is))
+  | inr e ↦ inr (subst IsProper e (record_is_proper u now i step members r apart at closure form is))
 ]
 log_is_proper u now first log events line apart form (owes_none es l i step k at none) c = log_is_proper u now first l es line apart form k c
 log_is_proper u now first log events line apart form (drops es l i step r k at found) c = elim (Contains-push_cases l (lines.Drop step.outs) line c) [
@@ -40,7 +40,7 @@ good_push (x ∷ log) line each good = (each.0, good_push log line each.1 good)
 pub log_stays_good : LogStaysGood
 log_stays_good u now first log events apart good each begins = each
 log_stays_good u now first log events apart good each (starts es l i c) = log_stays_good u now first l es apart good each c
-log_stays_good u now first log events apart good each (records es l i step members r c at file close is) = good_push l (lines.Record r) (log_stays_good u now first l es apart good each c) (good.good_records i step members r at close is)
+log_stays_good u now first log events apart good each (records es l i step members r c at file closure is) = good_push l (lines.Record r) (log_stays_good u now first l es apart good each c) (good.good_records i step members r at closure is)
 log_stays_good u now first log events apart good each (owes_none es l i step c at none) = log_stays_good u now first l es apart good each c
 log_stays_good u now first log events apart good each (drops es l i step r c at found) = good_push l (lines.Drop step.outs) (log_stays_good u now first l es apart good each c) (good.good_drops i step at)
 log_stays_good u now first log events apart good each (has_none es l i step c at none) = log_stays_good u now first l es apart good each c

@@ -47,8 +47,8 @@ settled_on u events apart e r path s = settled_grows u events apart e (last_may 
 -- the members and the outputs of a step that was done well are settled
 done_members : (u : Update) (events : List ChildEvent) → Apart u.build.steps u.build.roots → (i : ℕ) (step : Step) (members : List (List ℕ × Value)) → IsRunSoFar u (events ++ Done i true ∷ []) → step_at u.build.steps i ≡ Some step → IsClosure u.build (Clean u.build) step members
     → (member : List ℕ) (value : Value) → Contains members (member, value) → Settled u (events ++ Done i true ∷ []) member
-done_members u events apart i step members run at close =
-    done_inside u (events ++ Done i true ∷ []) apart run i step members at (done_was_started u (events ++ Done i true ∷ []) i true run (Contains-push events (Done i true))) close
+done_members u events apart i step members run at closure =
+    done_inside u (events ++ Done i true ∷ []) apart run i step members at (done_was_started u (events ++ Done i true ∷ []) i true run (Contains-push events (Done i true))) closure
 
 done_outs : (u : Update) (events : List ChildEvent) (i : ℕ) (step : Step) → step_at u.build.steps i ≡ Some step → (out : List ℕ) → Contains step.outs out → Settled u (events ++ Done i true ∷ []) out
 done_outs u events i step at out c = done_well i step out (record { at = at; among = c }) (Contains-push events (Done i true))
@@ -56,12 +56,12 @@ done_outs u events i step at out c = done_well i step out (record { at = at; amo
 -- so are those of a step that is to get a record with digests
 pub migrated_close : (u : Update) (events : List ChildEvent) (step : Step) (members : List (List ℕ × Value)) → Apart u.build.steps u.build.roots → IsToMigrate u events step members
     → IsClosure u.build (Clean u.build) step members × ((member : List ℕ) (value : Value) → Contains members (member, value) → Settled u events member)
-migrated_close u events step members apart to = (closure_on_settled u events step members apart).0 to.close
+migrated_close u events step members apart to = (closure_on_settled u events step members apart).0 to.closure
 
 migrated_outs : (u : Update) (events : List ChildEvent) (step : Step) (members : List (List ℕ × Value)) → Apart u.build.steps u.build.roots → IsToMigrate u events step members → (out : List ℕ) → Contains step.outs out → Settled u events out
 migrated_outs u events step members apart to out c =
-    let (close, inside) = migrated_close u events step members apart to in
-    fresh to.number step out members (record { at = to.at; among = c }) to.not_started close inside to.is_fresh
+    let (closure, inside) = migrated_close u events step members apart to in
+    fresh to.number step out members (record { at = to.at; among = c }) to.not_started closure inside to.is_fresh
 
 -- ---- other steps write
 
@@ -91,9 +91,9 @@ lines_move : (u : Update) (old new : Folder) (first log : List LogLine) (events 
 lines_move u old new first log events apart run still begins = begins
 lines_move u old new first log events apart run still (starts es l i c) =
     starts es l i (lines_move u old new first l es apart (but_last u es (Start i) run) (λ p s. still p (settled_on u es apart (Start i) run p s)) c)
-lines_move u old new first log events apart run still (records es l i step members r c at file close is) =
-    records es l i step members r (lines_move u old new first l es apart (but_last u es (Done i true) run) (λ p s. still p (settled_on u es apart (Done i true) run p s)) c) at file close
-    (record_move u old new step members r (λ out d. still out (done_outs u es i step at out d)) (λ m y d. still m (done_members u es apart i step members run at close m y d)) is)
+lines_move u old new first log events apart run still (records es l i step members r c at file closure is) =
+    records es l i step members r (lines_move u old new first l es apart (but_last u es (Done i true) run) (λ p s. still p (settled_on u es apart (Done i true) run p s)) c) at file closure
+    (record_move u old new step members r (λ out d. still out (done_outs u es i step at out d)) (λ m y d. still m (done_members u es apart i step members run at closure m y d)) is)
 lines_move u old new first log events apart run still (owes_none es l i step c at none) =
     owes_none es l i step (lines_move u old new first l es apart (but_last u es (Done i true) run) (λ p s. still p (settled_on u es apart (Done i true) run p s)) c) at none
 lines_move u old new first log events apart run still (drops es l i step r c at found) =
@@ -123,9 +123,9 @@ lines_true : (u : Update) (all : List ChildEvent) (disk : Disk) (first log : Lis
 lines_true u all disk first log events apart run grows sound true_first begins = true_first
 lines_true u all disk first log events apart run grows sound true_first (starts es l i c) =
     lines_true u all disk first l es apart (but_last u es (Start i) run) (λ p s. grows p (settled_on u es apart (Start i) run p s)) sound true_first c
-lines_true u all disk first log events apart run grows sound true_first (records es l i step members r c at file close is) =
+lines_true u all disk first log events apart run grows sound true_first (records es l i step members r c at file closure is) =
     true_with_line (making u) disk.past l (lines.Record r) (lines_true u all disk first l es apart (but_last u es (Done i true) run) (λ p s. grows p (settled_on u es apart (Done i true) run p s)) sound true_first c)
-    (record_is_true u all disk i step members r apart sound at file (λ out d. grows out (done_outs u es i step at out d)) close (λ m y d. grows m (done_members u es apart i step members run at close m y d)) is)
+    (record_is_true u all disk i step members r apart sound at file (λ out d. grows out (done_outs u es i step at out d)) closure (λ m y d. grows m (done_members u es apart i step members run at closure m y d)) is)
 lines_true u all disk first log events apart run grows sound true_first (owes_none es l i step c at none) =
     lines_true u all disk first l es apart (but_last u es (Done i true) run) (λ p s. grows p (settled_on u es apart (Done i true) run p s)) sound true_first c
 lines_true u all disk first log events apart run grows sound true_first (drops es l i step r c at found) =
@@ -137,8 +137,8 @@ lines_true u all disk first log events apart run grows sound true_first (scans e
     (scan_true u all disk p bytes s apart sound (grows p to.settled.0) to.settled.1 is)
 lines_true u all disk first log events apart run grows sound true_first (migrates es l step members r c to is new_line) =
     true_with_line (making u) disk.past l (lines.Record r) (lines_true u all disk first l es apart run grows sound true_first c)
-    (let (close, inside) = migrated_close u es step members apart to in
-    record_is_true u all disk to.number step members r apart sound to.at to.is_fresh.not_notfile (λ out d. grows out (migrated_outs u es step members apart to out d)) close (λ m y d. grows m (inside m y d)) is)
+    (let (closure, inside) = migrated_close u es step members apart to in
+    record_is_true u all disk to.number step members r apart sound to.at to.is_fresh.not_notfile (λ out d. grows out (migrated_outs u es step members apart to out d)) closure (λ m y d. grows m (inside m y d)) is)
 
 pub log_stays_true : LogStaysTrue
 log_stays_true u events disk first log apart run sound true_first c = lines_true u events disk first log events apart run (λ p s. s) sound true_first c

@@ -24,7 +24,7 @@ more_by first log line (more, e) = (more ++ line ∷ [], ap (λ (l : List LogLin
 pub log_grows : LogGrows
 log_grows u now first log events begins = ([], sym (append-nil first))
 log_grows u now first log events (starts es l i c) = log_grows u now first l es c
-log_grows u now first log events (records es l i step members r c at file close is) = more_by first l (lines.Record r) (log_grows u now first l es c)
+log_grows u now first log events (records es l i step members r c at file closure is) = more_by first l (lines.Record r) (log_grows u now first l es c)
 log_grows u now first log events (owes_none es l i step c at none) = log_grows u now first l es c
 log_grows u now first log events (drops es l i step r c at found) = more_by first l (lines.Drop step.outs) (log_grows u now first l es c)
 log_grows u now first log events (has_none es l i step c at none) = log_grows u now first l es c
@@ -38,7 +38,7 @@ record_outs u now step members r is = stamped_paths now step.outs r.outs is.outs
 pub log_tells_others : LogTellsOthers
 log_tells_others u now first log events outs begins others = refl
 log_tells_others u now first log events outs (starts es l i c) others = log_tells_others u now first l es outs c others
-log_tells_others u now first log events outs (records es l i step members r c at file close is) others =
+log_tells_others u now first log events outs (records es l i step members r c at file closure is) others =
     others_unsaid outs l (lines.Record r) (λ e. others i step at (sym (record_outs u now step members r is) ∙ outs_same (map path_of r.outs) outs e)) ∙ log_tells_others u now first l es outs c others
 log_tells_others u now first log events outs (owes_none es l i step c at none) others = log_tells_others u now first l es outs c others
 log_tells_others u now first log events outs (drops es l i step r c at found) others =
@@ -59,7 +59,7 @@ never_before u events event path never front rest bytes e to = never front (rest
 pub log_tells_other_scans : LogTellsOtherScans
 log_tells_other_scans u now first log events path stamp begins never = refl
 log_tells_other_scans u now first log events path stamp (starts es l i c) never = log_tells_other_scans u now first l es path stamp c (never_before u es (Start i) path never)
-log_tells_other_scans u now first log events path stamp (records es l i step members r c at file close is) never =
+log_tells_other_scans u now first log events path stamp (records es l i step members r c at file closure is) never =
     scans_unsaid path stamp l (lines.Record r) (outs_not_scanned (map path_of r.outs) path) ∙ log_tells_other_scans u now first l es path stamp c (never_before u es (Done i true) path never)
 log_tells_other_scans u now first log events path stamp (owes_none es l i step c at none) never = log_tells_other_scans u now first l es path stamp c (never_before u es (Done i true) path never)
 log_tells_other_scans u now first log events path stamp (drops es l i step r c at found) never =

@@ -20,7 +20,7 @@ values_are_one b v s t xs ys path one e p q =
 
 built_is_one : (b : Build) (v : Values) → Apart b.steps b.roots → IsMap v → (path : List ℕ) (x y : Value) → IsBuilt b v path x → IsBuilt b v path y → x ≡ y
 built_is_one b v apart one path x y s t =
-    s.is ∙ values_are_one b v s.step t.step s.members t.members path one (maker_is_one b apart s.number t.number s.step t.step path s.makes t.makes) s.close t.close ∙ sym t.is
+    s.is ∙ values_are_one b v s.step t.step s.members t.members path one (maker_is_one b apart s.number t.number s.step t.step path s.makes t.makes) s.closure t.closure ∙ sym t.is
 
 -- a path has at most one value by any number of rounds
 pub val_is_one : (b : Build) → Apart b.steps b.roots → (n : ℕ) → IsMap (Val b n)
@@ -31,7 +31,7 @@ val_is_one b apart (suc n) path x y (inr s) (inl t) = absurd (source_not_made b 
 val_is_one b apart (suc n) path x y (inr s) (inr t) = built_is_one b (Val b n) apart (val_is_one b apart n) path x y s t
 
 built_stays : (b : Build) (v more : Values) → Extends v more → IsMap more → (path : List ℕ) (x : Value) → IsBuilt b v path x → IsBuilt b more path x
-built_stays b v more extends one path x s = record { number = s.number; step = s.step; makes = s.makes; members = s.members; close = closure_stays v more b s.step s.members extends one s.close; is = s.is }
+built_stays b v more extends one path x s = record { number = s.number; step = s.step; makes = s.makes; members = s.members; closure = closure_stays v more b s.step s.members extends one s.closure; is = s.is }
 
 -- one round more says no less
 val_step : (b : Build) → Apart b.steps b.roots → (n : ℕ) → Extends (Val b n) (Val b (suc n))
@@ -52,7 +52,7 @@ val_up b apart n (suc m) h path x s = elim (split_le n m h) [
 
 -- a closure by some rounds is one by others, where its members have values by them
 pub close_at : (b : Build) → Apart b.steps b.roots → (n r : ℕ) (step : Step) (members : List (List ℕ × Value)) → IsClosure b (Val b n) step members → ((path : List ℕ) (x : Value) → Contains members (path, x) → Val b r path x) → IsClosure b (Val b r) step members
-close_at b apart n r step members close low =
+close_at b apart n r step members closure low =
     let top = max r n in
-    let wide : IsClosure b (Val b top) step members = closure_stays (Val b n) (Val b top) b step members (val_up b apart n top (omega arith)) (val_is_one b apart top) close in
+    let wide : IsClosure b (Val b top) step members = closure_stays (Val b n) (Val b top) b step members (val_up b apart n top (omega arith)) (val_is_one b apart top) closure in
     close_back b (Val b r) (Val b top) step members (val_up b apart r top (omega arith)) (val_is_one b apart top) wide low

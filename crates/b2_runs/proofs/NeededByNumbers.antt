@@ -33,7 +33,7 @@ can_start_by_numbers u events i = (
   λ can. record {
     needed = needed_there u events i can.needed;
     not_started = can.not_started;
-    stale = record { step = can.step; at = can.at; members = can.members; close = can.close; stale = can.stale };
+    stale = record { step = can.step; at = can.at; members = can.members; closure = can.closure; stale = can.stale };
     room = can.room;
     goes_on = λ q. can.goes_on q.quit q.failed q.bad;
   },
@@ -43,7 +43,7 @@ can_start_by_numbers u events i = (
     needed = needed_here u events i can.needed;
     not_started = can.not_started;
     members = can.stale.members;
-    close = can.stale.close;
+    closure = can.stale.closure;
     stale = can.stale.stale;
     room = can.room;
     goes_on = λ quit k bad. can.goes_on (record { quit = quit; failed = k; bad = bad });
@@ -77,27 +77,27 @@ stuck_by_numbers u events i k = (
 -- what a step with a closure is known to read is settled
 known_settled : (u : Update) (events : List ChildEvent) (i : ℕ) (step other : Step) (members : List (List ℕ × Value)) (path : List ℕ) → step_at u.build.steps i ≡ Some step → step_at u.build.steps i ≡ Some other → IsClosure u.build (on_settled u events) step members
     → Known u.build (on_settled u events) other path → Settled u events path
-known_settled u events i step other members path at at_other close known =
+known_settled u events i step other members path at at_other closure known =
     let same : step ≡ other = one_step u.build.steps i step other at at_other in
-    let (x, c) = close.whole path (subst (λ s. Known u.build (on_settled u events) s path) (sym same) known) in
-    (close.each path x c).1.0
+    let (x, c) = closure.whole path (subst (λ s. Known u.build (on_settled u events) s path) (sym same) known) in
+    (closure.each path x c).1.0
 
 pub closed_by_numbers : ClosedByNumbers
-closed_by_numbers u events i step members apart at close = (
-  λ l. l.missing (settled_given u events l.path (known_settled u events i step l.step members l.path at l.at close l.known)),
-  λ k r. outputs_settle_together u events k r.other r.path apart r.makes (known_settled u events i step r.step members r.path at r.at close r.known),
+closed_by_numbers u events i step members apart at closure = (
+  λ l. l.missing (settled_given u events l.path (known_settled u events i step l.step members l.path at l.at closure l.known)),
+  λ k r. outputs_settle_together u events k r.other r.path apart r.makes (known_settled u events i step r.step members r.path at r.at closure r.known),
 )
 
 pub cannot_start_by_need : CannotStartByNeed
-cannot_start_by_need u events i k apart r none can = none ((closed_by_numbers u events i can.step can.members apart can.at can.close).1 k r)
+cannot_start_by_need u events i k apart r none can = none ((closed_by_numbers u events i can.step can.members apart can.at can.closure).1 k r)
 
 pub cannot_start_without : CannotStartWithout
-cannot_start_without u events i apart l can = (closed_by_numbers u events i can.step can.members apart can.at can.close).0 l
+cannot_start_without u events i apart l can = (closed_by_numbers u events i can.step can.members apart can.at can.closure).0 l
 
 pub cannot_start_fresh : CannotStartFresh
-cannot_start_fresh u events i step members apart at close f can =
+cannot_start_fresh u events i step members apart at closure f can =
     let same : step ≡ can.step = one_step u.build.steps i step can.step at can.at in
-    let one : members ≡ can.members = same_members u apart i step can.step at can.at members can.members ((closure_on_settled u events step members apart).0 close).0 ((closure_on_settled u events can.step can.members apart).0 can.close).0 in
+    let one : members ≡ can.members = same_members u apart i step can.step at can.at members can.members ((closure_on_settled u events step members apart).0 closure).0 ((closure_on_settled u events can.step can.members apart).0 can.closure).0 in
     can.stale (subst (λ ms. IsFresh u events can.step ms) one (subst (λ s. IsFresh u events s members) same f))
 
 -- Settled paths, with their values.

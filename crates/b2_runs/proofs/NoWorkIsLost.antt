@@ -21,7 +21,7 @@ use Rattle.b2_runs.proofs.SettledAfterwards.{same_sources, recorded_next, judge_
 use Rattle.b2_runs.proofs.BegunUpToStart.{sound_before_ends}
 
 pub finished_is_recorded : FinishedIsRecorded
-finished_is_recorded u events now log quit jobs i step members n at done file close = recorded_next u now log quit jobs step members (n.recorded i step members at done file close)
+finished_is_recorded u events now log quit jobs i step members n at done file closure = recorded_next u now log quit jobs step members (n.recorded i step members at done file closure)
 
 pub fresh_though_stopped : FreshThoughStopped
 fresh_though_stopped u events disk log quit jobs i step path b apart s n makes settled calm =
@@ -44,11 +44,11 @@ rests u events later disk log quit jobs i step path apart run sound noted begun 
     let next = next_update u disk.now log quit jobs in
     let j = judge_next u events disk log quit jobs apart run sound noted i step path makes settled calm in
     let f : IsFresh next later step j.members =
-    fresh_events next [] later step j.members (λ was m y k other well c makes_m d. none k other m makes_m (j.inside m y c) (λ r. calm (through i step path j.members m y makes j.close c r)) (begun k well d)) j.is_fresh in
+    fresh_events next [] later step j.members (λ was m y k other well c makes_m d. none k other m makes_m (j.inside m y c) (λ r. calm (through i step path j.members m y makes j.closure c r)) (begun k well d)) j.is_fresh in
     let same : step ≡ can.step = one_step u.build.steps i step can.step makes.at can.at in
-    let close = clean_close_to u.build disk.now (same_sources u events disk apart sound) step j.members j.close in
-    let close_can = (closure_on_settled next later can.step can.members apart).0 can.close in
-    let one : j.members ≡ can.members = same_members next apart i step can.step makes.at can.at j.members can.members close close_can.0 in
+    let closure = clean_close_to u.build disk.now (same_sources u events disk apart sound) step j.members j.closure in
+    let close_can = (closure_on_settled next later can.step can.members apart).0 can.closure in
+    let one : j.members ≡ can.members = same_members next apart i step can.step makes.at can.at j.members can.members closure close_can.0 in
     can.stale (subst₂ (λ s ms. IsFresh next later s ms) same one f)
 
 -- along a run none is started

@@ -36,20 +36,20 @@ use Rattle.b2_runs.proofs.JudgedByPresent.{none_older_move}
 
 pub noted_at_entry : NotedAtEntry
 noted_at_entry u now log same = record {
-  recorded = λ i step members at done file close. absurd (Contains_nil (Done i true) done);
-  none_older = λ i step members at done file close. absurd (Contains_nil (Done i true) done);
+  recorded = λ i step members at done file closure. absurd (Contains_nil (Done i true) done);
+  none_older = λ i step members at done file closure. absurd (Contains_nil (Done i true) done);
   not_started = λ i step at none. inl (same step.outs);
 }
 
 -- what was migrated stays so, where what was settled stays settled
 migrated_grows : (u : Update) (events more : List ChildEvent) (now : Folder) (log : List LogLine) (step : Step) → ((path : List ℕ) → Settled u events path → Settled u more path) → IsMigrated u events now log step → IsMigrated u more now log step
-migrated_grows u events more now log step grows g = record { by_digest = g.by_digest; members = g.members; close = g.close; inside = λ m x c. grows m (g.inside m x c); noted = g.noted }
+migrated_grows u events more now log step grows g = record { by_digest = g.by_digest; members = g.members; closure = g.closure; inside = λ m x c. grows m (g.inside m x c); noted = g.noted }
 
 -- a start says nothing to the log
 pub noted_after_start : NotedAfterStart
 noted_after_start u events now log i apart can n = record {
-  recorded = λ k step members at done file close. n.recorded k step members at (done_in_start events i k true done) file close;
-  none_older = λ k step members at done file close. n.none_older k step members at (done_in_start events i k true done) file close;
+  recorded = λ k step members at done file closure. n.recorded k step members at (done_in_start events i k true done) file closure;
+  none_older = λ k step members at done file closure. n.none_older k step members at (done_in_start events i k true done) file closure;
   not_started = λ k step at none. elim (n.not_started k step at (λ c. none (Contains-append_left events (Start i ∷ []) (Start k) c))) [
     | inl same ↦ inl same
     | inr g ↦ inr (migrated_grows u events (events ++ Start i ∷ []) now log step (λ p s. settled_after_start u events i p apart can s) g)
@@ -61,14 +61,14 @@ loose_not_settled : (u : Update) (events : List ChildEvent) → Apart u.build.st
 loose_not_settled u events apart i loose step path makes (source p bytes s) = source_not_made u.build apart p bytes s i step makes
 loose_not_settled u events apart i loose step path makes (done_well k s p makes_k done) =
     loose.1 (subst (λ j. Contains events (Done j true)) (apart.one_maker k i s step p makes_k makes) done)
-loose_not_settled u events apart i loose step path makes (fresh k s p members makes_k not_started close inside f) =
+loose_not_settled u events apart i loose step path makes (fresh k s p members makes_k not_started closure inside f) =
     not_started (subst (λ j. Contains events (Start j)) (apart.one_maker i k step s p makes makes_k) loose.0)
 
 -- nor the log
 settled_not_log : (u : Update) (events : List ChildEvent) → Apart u.build.steps u.build.roots → (path : List ℕ) → Settled u events path → path ≡ log_path → ⊥
 settled_not_log u events apart path (source p bytes s) e = source_not_log u.build apart p bytes s e
 settled_not_log u events apart path (done_well k s p makes done) e = out_not_log u.build apart k s p makes e
-settled_not_log u events apart path (fresh k s p members makes not_started close inside f) e = out_not_log u.build apart k s p makes e
+settled_not_log u events apart path (fresh k s p members makes not_started closure inside f) e = out_not_log u.build apart k s p makes e
 
 -- so it stands as before, whatever those steps do
 pub settled_still : (u : Update) (events : List ChildEvent) (before after : Disk) → Apart u.build.steps u.build.roots → IsAllowedChange u events before after → (path : List ℕ) → Settled u events path → after.now path ≡ before.now path
@@ -77,10 +77,10 @@ settled_still u events before after apart d path s = d.others path (settled_not_
 -- the members of a step that is done well are settled
 pub done_inside : (u : Update) (events : List ChildEvent) → Apart u.build.steps u.build.roots → IsRunSoFar u events → (i : ℕ) (step : Step) (members : List (List ℕ × Value)) → step_at u.build.steps i ≡ Some step → Contains events (Start i) → IsClosure u.build (Clean u.build) step members
     → (member : List ℕ) (value : Value) → Contains members (member, value) → Settled u events member
-done_inside u events apart run i step members at started close m y c =
+done_inside u events apart run i step members at started closure m y c =
     let (others, on) = started_has_closure u events i step apart run started at in
     let (close_other, inside) = (closure_on_settled u events step others apart).0 on in
-    inside m y (subst (λ ms. Contains ms (m, y)) (same_members u apart i step step at at members others close close_other) c)
+    inside m y (subst (λ ms. Contains ms (m, y)) (same_members u apart i step step at at members others closure close_other) c)
 
 -- the record of a step stays that of the files, where its outputs and members stand as before
 noted_move : (u : Update) (old new : Folder) (log : List LogLine) (step : Step) (members : List (List ℕ × Value)) → ((out : List ℕ) → Contains step.outs out → new out ≡ old out) → ((member : List ℕ) (value : Value) → Contains members (member, value) → new member ≡ old member)
@@ -106,14 +106,14 @@ noted_move u old new log step members outs ins n = record {
 -- what was noted of a step stays, while others write
 pub noted_after_change : NotedAfterChange
 noted_after_change u events before after log apart run d n = record {
-  recorded = λ i step members at done file close. noted_move u before.now after.now log step members (outs i step at done) (ins i step members at done close) (n.recorded i step members at done file close);
-  none_older = λ i step members at done file close. none_older_move before.now after.now step members (outs i step at done) (ins i step members at done close) (n.none_older i step members at done file close);
+  recorded = λ i step members at done file closure. noted_move u before.now after.now log step members (outs i step at done) (ins i step members at done closure) (n.recorded i step members at done file closure);
+  none_older = λ i step members at done file closure. none_older_move before.now after.now step members (outs i step at done) (ins i step members at done closure) (n.none_older i step members at done file closure);
   not_started = λ i step at none. elim (n.not_started i step at none) [
     | inl same ↦ inl same
     | inr g ↦ inr (record {
       by_digest = g.by_digest;
       members = g.members;
-      close = g.close;
+      closure = g.closure;
       inside = g.inside;
       noted = noted_move u before.now after.now log step g.members (unstarted i step at none) (λ m y c. settled_still u events before after apart d m (g.inside m y c)) g.noted;
     })
@@ -124,7 +124,7 @@ noted_after_change u events before after log apart run d n = record {
     outs i step at done out c = settled_still u events before after apart d out (done_well i step out (record { at = at; among = c }) done)
 
     ins : (i : ℕ) (step : Step) (members : List (List ℕ × Value)) → step_at u.build.steps i ≡ Some step → Contains events (Done i true) → IsClosure u.build (Clean u.build) step members → (m : List ℕ) (y : Value) → Contains members (m, y) → after.now m ≡ before.now m
-    ins i step members at done close m y c = settled_still u events before after apart d m (done_inside u events apart run i step members at (done_was_started u events i true run done) close m y c)
+    ins i step members at done closure m y c = settled_still u events before after apart d m (done_inside u events apart run i step members at (done_was_started u events i true run done) closure m y c)
 
     unstarted : (i : ℕ) (step : Step) → step_at u.build.steps i ≡ Some step → (Contains events (Start i) → ⊥) → (out : List ℕ) → Contains step.outs out → after.now out ≡ before.now out
     unstarted i step at none out c =
@@ -134,8 +134,8 @@ noted_after_change u events before after log apart run d n = record {
 -- an end without a record says nothing to the log
 pub noted_after_other_end : NotedAfterOtherEnd
 noted_after_other_end u events now log i step well apart opened at no_record n = record {
-  recorded = λ k other members at_k done file close. n.recorded k other members at_k (old k other at_k done file) file close;
-  none_older = λ k other members at_k done file close. n.none_older k other members at_k (old k other at_k done file) file close;
+  recorded = λ k other members at_k done file closure. n.recorded k other members at_k (old k other at_k done file) file closure;
+  none_older = λ k other members at_k done file closure. n.none_older k other members at_k (old k other at_k done file) file closure;
   not_started = λ k other at_k none. elim (n.not_started k other at_k (λ c. none (Contains-append_left events (Done i well ∷ []) (Start k) c))) [
     | inl same ↦ inl same
     | inr g ↦ inr (migrated_grows u events (events ++ Done i well ∷ []) now log other (λ p s. settled_after_end u events i well p apart opened s) g)
@@ -161,13 +161,13 @@ line_for : (u : Update) (now : Folder) (log : List LogLine) (step : Step) (line 
 line_for u now log step line members other n = record { last = n.last; found = others_unsaid step.outs log line other ∙ n.found; is_record = n.is_record }
 
 migrated_for : (u : Update) (events : List ChildEvent) (now : Folder) (log : List LogLine) (step : Step) (line : LogLine) → (subject_of line ≡ subjects.Outputs step.outs → ⊥) → IsMigrated u events now log step → IsMigrated u events now (log ++ line ∷ []) step
-migrated_for u events now log step line other g = record { by_digest = g.by_digest; members = g.members; close = g.close; inside = g.inside; noted = line_for u now log step line g.members other g.noted }
+migrated_for u events now log step line other g = record { by_digest = g.by_digest; members = g.members; closure = g.closure; inside = g.inside; noted = line_for u now log step line g.members other g.noted }
 
 -- such a line leaves all, where it is about no step that was done well or not started
 other_line : (u : Update) (events : List ChildEvent) (now : Folder) (log : List LogLine) (line : LogLine) → ((i : ℕ) (step : Step) → step_at u.build.steps i ≡ Some step → Contains events (Done i true) ⊎ (Contains events (Start i) → ⊥) → subject_of line ≡ subjects.Outputs step.outs → ⊥)
     → IsNoted u events now log → IsNoted u events now (log ++ line ∷ [])
 other_line u events now log line other n = record {
-  recorded = λ k step members at done file close. line_for u now log step line members (other k step at (inl done)) (n.recorded k step members at done file close);
+  recorded = λ k step members at done file closure. line_for u now log step line members (other k step at (inl done)) (n.recorded k step members at done file closure);
   none_older = n.none_older;
   not_started = λ k step at none. elim (n.not_started k step at none) [
     | inl same ↦ inl (others_unsaid step.outs log line (other k step at (inr none)) ∙ same)
@@ -200,19 +200,19 @@ step_recorded u now log step members r is = record {
 
 -- the record of a step that was done well is the last line on it, and says nothing of others
 pub noted_after_record : NotedAfterRecord
-noted_after_record u events now log i step members r apart n opened at close is older = record {
+noted_after_record u events now log i step members r apart n opened at closure is older = record {
   recorded = λ k other others at_k done file close_k. elim (done_in_done events i k true true done) [
     | inl before ↦ line_for u now log other (lines.Record r) others (other_step k other at_k (λ e. opened.1 true (subst (λ j. Contains events (Done j true)) e before))) (n.recorded k other others at_k before file close_k)
     | inr (e, w) ↦
         let same : step ≡ other = one_step u.build.steps k step other (subst (λ j. step_at u.build.steps j ≡ Some step) e at) at_k in
-        let one : members ≡ others = same_members u apart k step other (subst (λ j. step_at u.build.steps j ≡ Some step) e at) at_k members others close close_k in
+        let one : members ≡ others = same_members u apart k step other (subst (λ j. step_at u.build.steps j ≡ Some step) e at) at_k members others closure close_k in
         subst₂ (λ s ms. IsNotedStep u now (log ++ lines.Record r ∷ []) s ms) same one (step_recorded u now log step members r is)
   ];
   none_older = λ k other others at_k done file close_k. elim (done_in_done events i k true true done) [
     | inl before ↦ n.none_older k other others at_k before file close_k
     | inr (e, w) ↦
         let same : step ≡ other = one_step u.build.steps k step other (subst (λ j. step_at u.build.steps j ≡ Some step) e at) at_k in
-        let one : members ≡ others = same_members u apart k step other (subst (λ j. step_at u.build.steps j ≡ Some step) e at) at_k members others close close_k in
+        let one : members ≡ others = same_members u apart k step other (subst (λ j. step_at u.build.steps j ≡ Some step) e at) at_k members others closure close_k in
         subst₂ (λ s ms. NoneOlder now s ms) same one older
   ];
   not_started = λ k other at_k none.
@@ -232,14 +232,14 @@ same_or_not i k = elim (eqb_tells i k) [ inl e ↦ inl e.1 | inr e ↦ inr e.1 ]
 
 -- so has the record with digests of a step that was not started
 pub noted_after_migration : NotedAfterMigration
-noted_after_migration u events now log i step members r apart n on at not_started not_done close inside is = record {
+noted_after_migration u events now log i step members r apart n on at not_started not_done closure inside is = record {
   recorded = λ k other others at_k done file close_k.
       line_for u now log other (lines.Record r) others (other_step k other at_k (λ e. not_done (subst (λ j. Contains events (Done j true)) e done))) (n.recorded k other others at_k done file close_k);
   none_older = n.none_older;
   not_started = λ k other at_k none. elim (same_or_not i k) [
     | inl e ↦
         let same : step ≡ other = one_step u.build.steps k step other (subst (λ j. step_at u.build.steps j ≡ Some step) e at) at_k in
-        inr (subst (IsMigrated u events now (log ++ lines.Record r ∷ [])) same (record { by_digest = on; members = members; close = close; inside = inside; noted = step_recorded u now log step members r is }))
+        inr (subst (IsMigrated u events now (log ++ lines.Record r ∷ [])) same (record { by_digest = on; members = members; closure = closure; inside = inside; noted = step_recorded u now log step members r is }))
     | inr differ ↦ elim (n.not_started k other at_k none) [
       | inl says ↦ inl (others_unsaid other.outs log (lines.Record r) (other_step k other at_k (λ e. differ (sym e))) ∙ says)
       | inr g ↦ inr (migrated_for u events now log other (lines.Record r) (other_step k other at_k (λ e. differ (sym e))) g)

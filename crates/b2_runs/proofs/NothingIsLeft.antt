@@ -30,17 +30,17 @@ all_at_once P (y ∷ ys) each none =
 -- a needed step whose closure is settled cannot but be settled, where a run has ended and nothing failed
 ready_settled : (u : Update) (events : List ChildEvent) → Apart u.build.steps u.build.roots → 1 ≤ u.jobs → IsRun u events → ((i : ℕ) → IsFailed events i → ⊥)
     → (i : ℕ) (step : Step) (members : List (List ℕ × Value)) → step_at u.build.steps i ≡ Some step → Needed u events i → IsClosure u.build (on_settled u events) step members → (IsSettledStep u events i → ⊥) → ⊥
-ready_settled u events apart jobs run none_failed i step members at needed close not_settled =
+ready_settled u events apart jobs run none_failed i step members at needed closure not_settled =
     run.none_left i (record {
       step = step;
       at = at;
       needed = needed;
       not_started = not_started;
       members = members;
-      close = close;
+      closure = closure;
       stale = λ f. not_settled (λ other path makes.
           let same : step ≡ other = one_step u.build.steps i step other at makes.at in
-          let (by_clean, inside) = (closure_on_settled u events step members apart).0 close in
+          let (by_clean, inside) = (closure_on_settled u events step members apart).0 closure in
           fresh i step path members (subst (λ s. Makes u.build.steps i s path) (sym same) makes) not_started by_clean inside f);
       room = (let e = starts_are_done u events run.each run.none_open in omega arith);
       goes_on = λ quit k bad. none_failed k bad;
@@ -79,12 +79,12 @@ value_settled u events apart jobs run none_failed zero i step path x needed make
 value_settled u events apart jobs run none_failed (suc n) i step path x needed makes (inl (bytes, s, e)) not_settled = source_not_made u.build apart path bytes s i step makes
 value_settled u events apart jobs run none_failed (suc n) i step path x needed makes (inr b) not_settled =
     let same : b.step ≡ step = maker_is_one u.build apart b.number i b.step step path b.makes makes in
-    let close : IsClosure u.build (Val u.build n) step b.members = subst (λ s. IsClosure u.build (Val u.build n) s b.members) same b.close in
+    let closure : IsClosure u.build (Val u.build n) step b.members = subst (λ s. IsClosure u.build (Val u.build n) s b.members) same b.closure in
     let wide : IsClosure u.build (Clean u.build) step b.members =
-    close_at u.build apart n (length u.build.steps) step b.members close (λ p y c. rounds_enough u.build apart n p y (close.each p y c).1) in
+    close_at u.build apart n (length u.build.steps) step b.members closure (λ p y c. rounds_enough u.build apart n p y (closure.each p y c).1) in
     all_at_once (λ (m : List ℕ × Value). Settled u events m.0) b.members
     (λ m c not_m.
-    let (known, value) = close.each m.0 m.1 c in
+    let (known, value) = closure.each m.0 m.1 c in
     known_on u events apart n (value_settled u events apart jobs run none_failed n) i step makes.at needed m.0 known (λ on.
     known_settled u events n (value_settled u events apart jobs run none_failed n) i step makes.at needed m.0 m.1 on value not_m))
     (λ inside. ready_settled u events apart jobs run none_failed i step b.members makes.at needed
@@ -115,8 +115,8 @@ input_not_missing b apart zero i step out x path makes (bytes, s, e) c missing =
 input_not_missing b apart (suc n) i step out x path makes (inl (bytes, s, e)) c missing = source_not_made b apart out bytes s i step makes
 input_not_missing b apart (suc n) i step out x path makes (inr m) c missing =
     let same : m.step ≡ step = maker_is_one b apart m.number i m.step step out m.makes makes in
-    let (value, inside) = m.close.whole path (input path (subst (λ (s : Step). Contains s.ins path) (sym same) c)) in
-    missing_no_value b n path value missing (m.close.each path value inside).1
+    let (value, inside) = m.closure.whole path (input path (subst (λ (s : Step). Contains s.ins path) (sym same) c)) in
+    missing_no_value b n path value missing (m.closure.each path value inside).1
 
 -- and nothing is missing
 pub nothing_is_missed : NothingIsMissed

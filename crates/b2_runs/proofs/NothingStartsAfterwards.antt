@@ -32,10 +32,10 @@ pub settled_closure : (u : Update) (events : List ChildEvent) → Apart u.build.
     → (members : List (List ℕ × Value)) × IsClosure u.build (on_settled u events) step members
 settled_closure u events apart run i step path makes (source p bytes s) = absurd (source_not_made u.build apart p bytes s i step makes)
 settled_closure u events apart run i step path makes (done_well k s p makes_k done) =
-    let (members, close) = started_has_closure u events k s apart run (done_was_started u events k true run done) makes_k.at in
-    (members, subst (λ z. IsClosure u.build (on_settled u events) z members) (maker_is_one u.build apart k i s step p makes_k makes) close)
-settled_closure u events apart run i step path makes (fresh k s p members makes_k not_started close inside f) =
-    (members, subst (λ z. IsClosure u.build (on_settled u events) z members) (maker_is_one u.build apart k i s step p makes_k makes) ((closure_on_settled u events s members apart).1 close inside))
+    let (members, closure) = started_has_closure u events k s apart run (done_was_started u events k true run done) makes_k.at in
+    (members, subst (λ z. IsClosure u.build (on_settled u events) z members) (maker_is_one u.build apart k i s step p makes_k makes) closure)
+settled_closure u events apart run i step path makes (fresh k s p members makes_k not_started closure inside f) =
+    (members, subst (λ z. IsClosure u.build (on_settled u events) z members) (maker_is_one u.build apart k i s step p makes_k makes) ((closure_on_settled u events s members apart).1 closure inside))
 
 -- where all went well, a needed step is settled
 pub needed_settled : (u : Update) (events : List ChildEvent) → AllWent u events → (i : ℕ) → Needed u events i → IsSettledStep u events i
@@ -52,12 +52,12 @@ needed_later u events later disk log quit jobs apart run sound went i (member k 
     let needed_j = needed_later u events later disk log quit jobs apart run sound went j needed in
     let (out, c) = some_element other.outs (apart.some_out j other at) in
     let makes_out : Makes u.build.steps j other out = record { at = at; among = c } in
-    let (members, close) = settled_closure u events apart run j other out makes_out (needed_settled u events went j needed_j other out makes_out) in
+    let (members, closure) = settled_closure u events apart run j other out makes_out (needed_settled u events went j needed_j other out makes_out) in
     let same = same_sources u events disk apart sound in
     let wide : Known u.build (Clean u.build) other path =
     known_from u.build disk.now same (on_settled (next_update u disk.now log quit jobs) later) (Clean u.build) (λ p x s. clean_from u.build disk.now same p x s.1) other path known in
     let narrow : Known u.build (on_settled u events) other path =
-    known_stays u.build (on_settled u events) (Clean u.build) other (λ p x s. s.1) (clean_is_one u.build apart) (close_has u.build (on_settled u events) other members close) path wide in
+    known_stays u.build (on_settled u events) (Clean u.build) other (λ p x s. s.1) (clean_is_one u.build apart) (close_has u.build (on_settled u events) other members closure) path wide in
     member k step j other path needed_j at narrow makes
 
 -- no step was started whose outputs are none that an always-step or a notfile step reaches
@@ -80,12 +80,12 @@ calm_waits u events later disk log quit jobs i step path apart run sound noted w
     let next = next_update u disk.now log quit jobs in
     let settled = needed_settled u events went i (needed_later u events later disk log quit jobs apart run sound went i can.needed) step path makes in
     let j = judge_next u events disk log quit jobs apart run sound noted i step path makes settled calm in
-    let calm_members : (m : List ℕ) (y : Value) → Contains j.members (m, y) → IsMadeEachTime u.build m → ⊥ = λ m y c r. calm (through i step path j.members m y makes j.close c r) in
+    let calm_members : (m : List ℕ) (y : Value) → Contains j.members (m, y) → IsMadeEachTime u.build m → ⊥ = λ m y c r. calm (through i step path j.members m y makes j.closure c r) in
     let f : IsFresh next later step j.members = fresh_later next u.build later i step path j.members begun none calm_members j.is_fresh in
     let same : step ≡ can.step = one_step u.build.steps i step can.step makes.at can.at in
-    let close = clean_close_to u.build disk.now (same_sources u events disk apart sound) step j.members j.close in
-    let close_can = (closure_on_settled next later can.step can.members apart).0 can.close in
-    let one : j.members ≡ can.members = same_members next apart i step can.step makes.at can.at j.members can.members close close_can.0 in
+    let closure = clean_close_to u.build disk.now (same_sources u events disk apart sound) step j.members j.closure in
+    let close_can = (closure_on_settled next later can.step can.members apart).0 can.closure in
+    let one : j.members ≡ can.members = same_members next apart i step can.step makes.at can.at j.members can.members closure close_can.0 in
     can.stale (subst₂ (λ s ms. IsFresh next later s ms) same one f)
 
 -- along a run none is started

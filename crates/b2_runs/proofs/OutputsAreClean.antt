@@ -85,17 +85,17 @@ settled_whole u events disk apart sound path (source p bytes s) =
 settled_whole u events disk apart sound path (done_well i step p makes done) =
     let (value, clean, holds) = sound.done_well i step p makes done in
     (value, clean, holds, λ none. absurd (none i step true makes done))
-settled_whole u events disk apart sound path (fresh i step p members makes not_started close inside f) =
+settled_whole u events disk apart sound path (fresh i step p members makes not_started closure inside f) =
     let entry : NoneDone u events members → (m : List ℕ) (x : Value) → Contains members (m, x) → Holds u.build.folder m x = λ none m x c.
     let (y, clean, holds, before) = settled_whole u events disk apart sound m (inside m x c) in
-    subst (Holds u.build.folder m) (clean_is_one u.build apart m y x clean (close.each m x c).1) (before (λ k s well makes_m done. none m x k s well c makes_m done)) in
+    subst (Holds u.build.folder m) (clean_is_one u.build apart m y x clean (closure.each m x c).1) (before (λ k s well makes_m done. none m x k s well c makes_m done)) in
     let now : (m : List ℕ) (x : Value) → Contains members (m, x) → Holds disk.now m x = λ m x c.
     let (y, clean, holds, before) = settled_whole u events disk apart sound m (inside m x c) in
-    subst (Holds disk.now m) (clean_is_one u.build apart m y x clean (close.each m x c).1) holds in
+    subst (Holds disk.now m) (clean_is_one u.build apart m y x clean (closure.each m x c).1) holds in
     let stood = fresh_bytes u events disk sound step members f entry now p makes.among in
     let kept = unstarted_kept u events disk apart sound i step p makes not_started in
     let made = u.build.made step.text (with_bytes members) p in
-    (Some made, subst (Clean u.build p) (value_file u.build step members p f.not_notfile) (clean_is_made u.build i step p members apart makes close), holds_same u.build.folder disk.now p (Some made) kept stood, λ none. stood)
+    (Some made, subst (Clean u.build p) (value_file u.build step members p f.not_notfile) (clean_is_made u.build i step p members apart makes closure), holds_same u.build.folder disk.now p (Some made) kept stood, λ none. stood)
 
 -- what is settled stands clean
 pub settled_is_clean : SettledIsClean
@@ -111,9 +111,9 @@ settled_holds u events disk apart sound path value settled clean =
 
 -- the outputs of a fresh step stand clean
 pub fresh_is_clean : FreshIsClean
-fresh_is_clean u events disk i step path members apart sound makes not_started close inside f =
-    let clean = clean_is_made u.build i step path members apart makes close in
-    (clean, settled_holds u events disk apart sound path (value_of u.build step members path) (fresh i step path members makes not_started close inside f) clean)
+fresh_is_clean u events disk i step path members apart sound makes not_started closure inside f =
+    let clean = clean_is_made u.build i step path members apart makes closure in
+    (clean, settled_holds u events disk apart sound path (value_of u.build step members path) (fresh i step path members makes not_started closure inside f) clean)
 
 -- an output that is asked for has bytes
 pub out_bytes : (b : Build) → Apart b.steps b.roots → (n : ℕ) (i : ℕ) (step : Step) (path : List ℕ) (value : Value) → Makes b.steps i step path → step.notfile ≡ false → Val b n path value → (bytes : List ℕ) × (value ≡ Some bytes)

@@ -18,13 +18,13 @@ use Rattle.b2_runs.proofs.NotedAfterEachEvent.{settled_still, done_inside}
 
 -- an output of a child that ended well is newer than its step's members
 pub outputs_are_newer : OutputsAreNewer
-outputs_are_newer u events old new before after i step members apart run at_work keeps ends at close out member value written read c_out c_member at_out at_member =
+outputs_are_newer u events old new before after i step members apart run at_work keeps ends at closure out member value written read c_out c_member at_out at_member =
     let a : IsAtWork u events ends.child = at_work.each ends.child (contains_at old.running ends.place ends.child ends.ran) in
     let at_step : step_at u.build.steps ends.child.step ≡ Some step = subst (λ j. step_at u.build.steps j ≡ Some step) (sym ends.step_is) at in
     let same : step ≡ a.given_closure.step = one_step u.build.steps ends.child.step step a.given_closure.step at_step a.given_closure.at in
     let among : Contains ends.child.outs out = subst (λ outs. Contains outs out) (ap (λ (s : Step). s.outs) same ∙ sym a.given_closure.outs ∙ sym a.outs) c_out in
     let (file, at_file, bytes, above) = ends.made_all refl a.given a.told out among in
-    let settled : Settled u events member = done_inside u events apart run ends.child.step step members at_step a.is_open.0 close member value c_member in
+    let settled : Settled u events member = done_inside u events apart run ends.child.step step members at_step a.is_open.0 closure member value c_member in
     let still : after.now member ≡ before.now member = ends.worked.others member (λ w.
     let b = at_work.each w.child w.runs in
     open_not_settled u events apart w.child.step b.is_open b.given_closure.step member (record { at = b.given_closure.at; among = subst (λ outs. Contains outs member) (b.outs ∙ b.given_closure.outs) w.out }) settled) in
@@ -45,20 +45,20 @@ failed_is_stale u events now log quit jobs i step members apart leaves bad at f 
 -- ---- no output that was made is older
 
 pub none_older_at_entry : NoneOlderAtEntry
-none_older_at_entry u now i step members at done file close = absurd (Contains_nil (Done i true) done)
+none_older_at_entry u now i step members at done file closure = absurd (Contains_nil (Done i true) done)
 
 pub none_older_after_start : NoneOlderAfterStart
-none_older_after_start u events now k older i step members at done file close = older i step members at (done_in_start events k i true done) file close
+none_older_after_start u events now k older i step members at done file closure = older i step members at (done_in_start events k i true done) file closure
 
 pub none_older_after_end : NoneOlderAfterEnd
-none_older_after_end u events now k well older own i step members at done file close = elim (done_in_done events k i well true done) [
-  | inl old ↦ older i step members at old file close
-  | inr (e, w) ↦ own w step members (subst (λ j. step_at u.build.steps j ≡ Some step) (sym e) at) file close
+none_older_after_end u events now k well older own i step members at done file closure = elim (done_in_done events k i well true done) [
+  | inl old ↦ older i step members at old file closure
+  | inr (e, w) ↦ own w step members (subst (λ j. step_at u.build.steps j ≡ Some step) (sym e) at) file closure
 ]
 
 pub none_older_after_change : NoneOlderAfterChange
-none_older_after_change u events before after apart run d older i step members at done file close =
+none_older_after_change u events before after apart run d older i step members at done file closure =
     none_older_move before.now after.now step members
     (λ out c. settled_still u events before after apart d out (done_well i step out (record { at = at; among = c }) done))
-    (λ m y c. settled_still u events before after apart d m (done_inside u events apart run i step members at (done_was_started u events i true run done) close m y c))
-    (older i step members at done file close)
+    (λ m y c. settled_still u events before after apart d m (done_inside u events apart run i step members at (done_was_started u events i true run done) closure m y c))
+    (older i step members at done file closure)

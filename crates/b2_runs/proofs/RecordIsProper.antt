@@ -67,9 +67,9 @@ has_digests u now step members r form outs ins (Some d) (on, d_outs, d_ins) =
     }
 
 pub record_is_proper : RecordIsProper
-record_is_proper u now i step members r apart at close form is = record {
+record_is_proper u now i step members r apart at closure form is = record {
   some_out = some_stamped now step.outs r.outs (apart.some_out i step at) is.outs;
-  rising = rising now members r.ins close.ordered is.ins;
+  rising = rising now members r.ins closure.ordered is.ins;
   digests = has_digests u now step members r form is.outs is.ins r.digests is.digests;
 }
 

@@ -64,12 +64,12 @@ record_true u disk keeps step members r is held made =
 
 -- the record of a step whose closure and outputs are settled is true
 pub record_is_true : RecordIsTrue
-record_is_true u events disk i step members r apart sound at file settled close inside is =
+record_is_true u events disk i step members r apart sound at file settled closure inside is =
     record_true u disk sound.keeps step members r is
     (λ path bytes c.
     let m = with_bytes_in members path bytes c in
-    settled_holds u events disk apart sound path (Some bytes) (inside path (Some bytes) m) (close.each path (Some bytes) m).1)
+    settled_holds u events disk apart sound path (Some bytes) (inside path (Some bytes) m) (closure.each path (Some bytes) m).1)
     (λ out c.
     let makes : Makes u.build.steps i step out = record { at = at; among = c } in
-    let holds = settled_holds u events disk apart sound out (value_of u.build step members out) (settled out c) (clean_is_made u.build i step out members apart makes close) in
+    let holds = settled_holds u events disk apart sound out (value_of u.build step members out) (settled out c) (clean_is_made u.build i step out members apart makes closure) in
     subst (Holds disk.now out) (value_file u.build step members out file) holds)

@@ -17,7 +17,7 @@ record At (b : Build) (n place : ℕ) : Type 0 where
   step : Step
   at : slice_get b.steps place ≡ Some step
   members : List (List ℕ × Value)
-  close : IsClosure b (Val b n) step members
+  closure : IsClosure b (Val b n) step members
 
 -- the same by few rounds, where those of the list are not among them
 record Low (b : Build) (tower : List ℕ) (place : ℕ) : Type 0 where
@@ -66,12 +66,12 @@ value_low b apart zero ih tower distinct within path x s = inl (zero, (let e = l
 value_low b apart (suc n) ih tower distinct within path x (inl s) = inl (zero, (let e = length-le_from_distinct_below tower (length b.steps) distinct within in omega arith), s)
 value_low b apart (suc n) ih tower distinct within path x (inr s) =
     let (place, number, at) = place_of b.steps s.number s.step s.makes.at in
-    elim (ih n (omega arith) tower distinct within place (record { step = s.step; at = at; members = s.members; close = s.close })) [
+    elim (ih n (omega arith) tower distinct within place (record { step = s.step; at = at; members = s.members; closure = s.closure })) [
       | inr a ↦ inr (n, omega arith, a)
       | inl low ↦
           let same : low.known.step ≡ s.step = (let p : slice_get b.steps place ≡ Some low.known.step = low.known.at in let q : slice_get b.steps place ≡ Some s.step = at in cc) in
           let new : Val b (suc low.r) path (value_of b s.step low.known.members path) =
-          inr (record { number = s.number; step = s.step; makes = s.makes; members = low.known.members; close = subst (λ z. IsClosure b (Val b low.r) z low.known.members) same low.known.close; is = refl }) in
+          inr (record { number = s.number; step = s.step; makes = s.makes; members = low.known.members; closure = subst (λ z. IsClosure b (Val b low.r) z low.known.members) same low.known.closure; is = refl }) in
           let top = max (suc low.r) (suc n) in
           let one : value_of b s.step low.known.members path ≡ x = val_is_one b apart top path _ x (val_up b apart (suc low.r) top (omega arith) path _ new) (val_up b apart (suc n) top (omega arith) path x (inr s)) in
           let few = low.few in
@@ -114,14 +114,14 @@ rank_step b apart n ih tower distinct within i known = go (list_any (eqb i) towe
         ] in
         let room : suc (length tower) ≤ length b.steps = length-le_from_distinct_below (i ∷ tower) (length b.steps) more all in
         elim (all_low b apart tower (Low b tower i ⊎ Again b tower n) (omega arith) known.members (λ path x c.
-        elim (value_low b apart n ih (i ∷ tower) more all path x (known.close.each path x c).1) [
+        elim (value_low b apart n ih (i ∷ tower) more all path x (known.closure.each path x c).1) [
           | inl low ↦ inl low
           | inr (k, less, a) ↦ inr (elim (in_taller a.k i tower a.inside) [
             | inl same ↦ later a.m (let h = a.less in omega arith) (ih a.m (let h = a.less in omega arith) tower distinct within i (subst (At b a.m) same a.known))
             | inr old ↦ inr (record { k = a.k; inside = old; m = a.m; less = (let h = a.less in omega arith); known = a.known })
           ])
         ])) [
-          | inl (r, few, low) ↦ inl (record { r = r; few = few; known = record { step = known.step; at = known.at; members = known.members; close = close_at b apart n r known.step known.members known.close low } })
+          | inl (r, few, low) ↦ inl (record { r = r; few = few; known = record { step = known.step; at = known.at; members = known.members; closure = close_at b apart n r known.step known.members known.closure low } })
           | inr other ↦ other
         ]
 

@@ -45,7 +45,7 @@ pub record WasReady (u : Update) (events : List ChildEvent) (i : ℕ) : Type 0 w
   pub step : Step
   pub at : step_at u.build.steps i ≡ Some step
   members : List (List ℕ × Value)
-  close : IsClosure u.build (Clean u.build) step members
+  closure : IsClosure u.build (Clean u.build) step members
   settled : (member : List ℕ) (value : Value) → Contains members (member, value) → Settled u events member
 
 pub run_start : (u : Update) → Apart u.build.steps u.build.roots → (before events : List ChildEvent) (i : ℕ) → RunFrom u before events → Contains events (Start i) → WasReady u (before ++ events) i
@@ -53,8 +53,8 @@ run_start u apart before [] i r c = absurd (Contains_nil (Start i) c)
 run_start u apart before (e ∷ events) i (m, r) c = elim (Contains_cases e (Start i) events c) [
   | inl same ↦
       (let can : CanStart u before i = (let h : MayCome u before (Start i) = subst (MayCome u before) same m in h.0) in
-      let (close, inside) = (closure_on_settled u before can.step can.members apart).0 can.close in
-      record { step = can.step; at = can.at; members = can.members; close = close; settled = λ p x d. settled_along u apart before (e ∷ events) (m, r) p (inside p x d) })
+      let (closure, inside) = (closure_on_settled u before can.step can.members apart).0 can.closure in
+      record { step = can.step; at = can.at; members = can.members; closure = closure; settled = λ p x d. settled_along u apart before (e ∷ events) (m, r) p (inside p x d) })
   | inr later ↦ subst (λ es. WasReady u es i) (append_assoc before (e ∷ []) events) (run_start u apart (before ++ e ∷ []) events i r later)
 ]
 
@@ -63,7 +63,7 @@ pub started_has_closure : StartedHasClosure
 started_has_closure u events i step apart r c at =
     let w = run_start u apart [] events i r c in
     let same : w.step ≡ step = one_step u.build.steps i w.step step w.at at in
-    (w.members, subst (λ s. IsClosure u.build (on_settled u events) s w.members) same ((closure_on_settled u events w.step w.members apart).1 w.close w.settled))
+    (w.members, subst (λ s. IsClosure u.build (on_settled u events) s w.members) same ((closure_on_settled u events w.step w.members apart).1 w.closure w.settled))
 
 -- a step that is done in a run was started
 pub done_was_started : DoneWasStarted
@@ -81,7 +81,7 @@ each_event_once u events r = order.each_event_once u.build.steps u.jobs events (
 pub settled_has_value : SettledHasValue
 settled_has_value u events path apart r (source p bytes s) = (Some bytes, source_clean u.build apart p bytes s)
 settled_has_value u events path apart r (done_well i step p makes done) =
-    let (members, close) = started_has_closure u events i step apart r (done_was_started u events i true r done) makes.at in
-    (value_of u.build step members p, clean_is_made u.build i step p members apart makes ((closure_on_settled u events step members apart).0 close).0)
-settled_has_value u events path apart r (fresh i step p members makes not_started close inside f) =
-    (value_of u.build step members p, clean_is_made u.build i step p members apart makes close)
+    let (members, closure) = started_has_closure u events i step apart r (done_was_started u events i true r done) makes.at in
+    (value_of u.build step members p, clean_is_made u.build i step p members apart makes ((closure_on_settled u events step members apart).0 closure).0)
+settled_has_value u events path apart r (fresh i step p members makes not_started closure inside f) =
+    (value_of u.build step members p, clean_is_made u.build i step p members apart makes closure)

@@ -40,18 +40,18 @@ same_sources u events disk apart sound path outside =
 -- a value by some rounds has its closure's members by one round fewer
 below : (b : Build) → Apart b.steps b.roots → (n i : ℕ) (step : Step) (path : List ℕ) (x : Value) (members : List (List ℕ × Value)) → Makes b.steps i step path → IsClosure b (Clean b) step members → Val b n path x
     → (k : ℕ) × (n ≡ suc k) × ((member : List ℕ) (value : Value) → Contains members (member, value) → Val b k member value)
-below b apart zero i step path x members makes close (bytes, s, e) = absurd (source_not_made b apart path bytes s i step makes)
-below b apart (suc n) i step path x members makes close (inl (bytes, s, e)) = absurd (source_not_made b apart path bytes s i step makes)
-below b apart (suc n) i step path x members makes close (inr s) =
+below b apart zero i step path x members makes closure (bytes, s, e) = absurd (source_not_made b apart path bytes s i step makes)
+below b apart (suc n) i step path x members makes closure (inl (bytes, s, e)) = absurd (source_not_made b apart path bytes s i step makes)
+below b apart (suc n) i step path x members makes closure (inr s) =
     let same : s.step ≡ step = maker_is_one b apart s.number i s.step step path s.makes makes in
-    let wide : IsClosure b (Clean b) s.step s.members = close_at b apart n (length b.steps) s.step s.members s.close (λ p y c. rounds_enough b apart n p y (s.close.each p y c).1) in
-    let one : s.members ≡ members = closure_is_one (Clean b) b step s.members members (clean_is_one b apart) (subst (λ z. IsClosure b (Clean b) z s.members) same wide) close in
-    (n, refl, subst (λ ms. (member : List ℕ) (value : Value) → Contains ms (member, value) → Val b n member value) one (λ m y c. (s.close.each m y c).1))
+    let wide : IsClosure b (Clean b) s.step s.members = close_at b apart n (length b.steps) s.step s.members s.closure (λ p y c. rounds_enough b apart n p y (s.closure.each p y c).1) in
+    let one : s.members ≡ members = closure_is_one (Clean b) b step s.members members (clean_is_one b apart) (subst (λ z. IsClosure b (Clean b) z s.members) same wide) closure in
+    (n, refl, subst (λ ms. (member : List ℕ) (value : Value) → Contains ms (member, value) → Val b n member value) one (λ m y c. (s.closure.each m y c).1))
 
 -- What the next update judges of a step whose outputs were settled.
 pub record Judged (u : Update) (events : List ChildEvent) (next : Update) (step : Step) : Type 0 where
   pub members : List (List ℕ × Value)
-  pub close : IsClosure u.build (Clean u.build) step members
+  pub closure : IsClosure u.build (Clean u.build) step members
   pub inside : (member : List ℕ) (value : Value) → Contains members (member, value) → Settled u events member
   pub is_fresh : IsFresh next [] step members
 
@@ -68,20 +68,20 @@ judge_done : (u : Update) (events : List ChildEvent) (disk : Disk) (log : List L
     → (i : ℕ) (step : Step) (path : List ℕ) → Makes u.build.steps i step path → Contains events (Done i true) → (IsMadeEachTime u.build path → ⊥) → Judged u events (next_update u disk.now log quit jobs) step
 judge_done u events disk log quit jobs apart run noted i step path makes done calm =
     let (members, on) = started_has_closure u events i step apart run (done_was_started u events i true run done) makes.at in
-    let (close, inside) = (closure_on_settled u events step members apart).0 on in
+    let (closure, inside) = (closure_on_settled u events step members apart).0 on in
     let file : step.notfile ≡ false = is_false step.notfile (λ e. calm (notfile i step path makes e)) in
-    let n = noted.recorded i step members makes.at done file close in
+    let n = noted.recorded i step members makes.at done file closure in
     record {
       members = members;
-      close = close;
+      closure = closure;
       inside = inside;
       is_fresh = record {
         not_all = refl;
         not_always = is_false step.always (λ e. calm (always i step path makes e));
         not_notfile = file;
         stand = λ out c. let (stamp, there, has) = stamp_of disk.now step.outs n.last.outs n.is_record.outs out c in let (f, at, e) = stamped_file disk.now out stamp has in (f, at);
-        none_older = λ off. noted.none_older i step members makes.at done file close;
-        none_notfile = λ m y j s c makes_m. is_false s.notfile (λ e. calm (through i step path members m y makes close c (notfile j s m makes_m e)));
+        none_older = λ off. noted.none_older i step members makes.at done file closure;
+        none_notfile = λ m y j s c makes_m. is_false s.notfile (λ e. calm (through i step path members m y makes closure c (notfile j s m makes_m e)));
         none_done = λ off m y j s w c makes_m d. Contains_nil (Done j w) d;
         recorded = recorded_next u disk.now log quit jobs step members n;
       };
@@ -112,8 +112,8 @@ fresh_next u now log quit jobs step members f = record {
 judge_fresh : (u : Update) (events : List ChildEvent) (disk : Disk) (log : List LogLine) (quit : Bool) (jobs : ℕ) → Apart u.build.steps u.build.roots → IsSound u events disk → IsNoted u events disk.now log
     → (i : ℕ) (step : Step) (path : List ℕ) (members : List (List ℕ × Value)) → Makes u.build.steps i step path → (Contains events (Start i) → ⊥) → IsClosure u.build (Clean u.build) step members
     → ((member : List ℕ) (value : Value) → Contains members (member, value) → Settled u events member) → IsFresh u events step members → Judged u events (next_update u disk.now log quit jobs) step
-judge_fresh u events disk log quit jobs apart sound noted i step path members makes not_started close inside f =
-    record { members = members; close = close; inside = inside; is_fresh = go (noted.not_started i step makes.at not_started) }
+judge_fresh u events disk log quit jobs apart sound noted i step path members makes not_started closure inside f =
+    record { members = members; closure = closure; inside = inside; is_fresh = go (noted.not_started i step makes.at not_started) }
   where
     out_same : (out : List ℕ) → Contains step.outs out → disk.now out ≡ u.build.folder out
     out_same out c = unstarted_kept u events disk apart sound i step out (record { at = makes.at; among = c }) not_started
@@ -123,7 +123,7 @@ judge_fresh u events disk log quit jobs apart sound noted i step path members ma
         (fresh_move u events disk.now log step members out_same
         (λ none m y c. settled_kept u events disk apart sound m (inside m y c) (λ k s well makes_m done. none m y k s well c makes_m done)) says f))
     go (inr g) =
-        let one : g.members ≡ members = closure_is_one (Clean u.build) u.build step g.members members (clean_is_one u.build apart) g.close close in
+        let one : g.members ≡ members = closure_is_one (Clean u.build) u.build step g.members members (clean_is_one u.build apart) g.closure closure in
         record {
           not_all = refl;
           not_always = f.not_always;
@@ -141,33 +141,33 @@ pub judge_next : (u : Update) (events : List ChildEvent) (disk : Disk) (log : Li
 judge_next u events disk log quit jobs apart run sound noted i step path makes (source p bytes s) calm = absurd (source_not_made u.build apart p bytes s i step makes)
 judge_next u events disk log quit jobs apart run sound noted i step path makes (done_well k s p makes_k done) calm =
     subst (Judged u events (next_update u disk.now log quit jobs)) (maker_is_one u.build apart k i s step p makes_k makes) (judge_done u events disk log quit jobs apart run noted k s p makes_k done calm)
-judge_next u events disk log quit jobs apart run sound noted i step path makes (fresh k s p members makes_k not_started close inside f) calm =
-    subst (Judged u events (next_update u disk.now log quit jobs)) (maker_is_one u.build apart k i s step p makes_k makes) (judge_fresh u events disk log quit jobs apart sound noted k s p members makes_k not_started close inside f)
+judge_next u events disk log quit jobs apart run sound noted i step path makes (fresh k s p members makes_k not_started closure inside f) calm =
+    subst (Judged u events (next_update u disk.now log quit jobs)) (maker_is_one u.build apart k i s step p makes_k makes) (judge_fresh u events disk log quit jobs apart sound noted k s p members makes_k not_started closure inside f)
 
 -- a step that is fresh next time, and whose members are settled then, has settled outputs
 settle_step : (u : Update) (events : List ChildEvent) (disk : Disk) (log : List LogLine) (quit : Bool) (jobs : ℕ) → SameSources u.build disk.now → (i : ℕ) (step : Step) (path : List ℕ) → Makes u.build.steps i step path
     → (j : Judged u events (next_update u disk.now log quit jobs) step) → ((member : List ℕ) (value : Value) → Contains j.members (member, value) → Settled (next_update u disk.now log quit jobs) [] member) → Settled (next_update u disk.now log quit jobs) [] path
 settle_step u events disk log quit jobs same i step path makes j inside =
-    fresh i step path j.members makes (λ c. Contains_nil (Start i) c) (clean_close_to u.build disk.now same step j.members j.close) inside j.is_fresh
+    fresh i step path j.members makes (λ c. Contains_nil (Start i) c) (clean_close_to u.build disk.now same step j.members j.closure) inside j.is_fresh
 
 -- what was settled is settled next time, by the rounds of its value
 settle_next : (u : Update) (events : List ChildEvent) (disk : Disk) (log : List LogLine) (quit : Bool) (jobs : ℕ) → Apart u.build.steps u.build.roots → IsRunSoFar u events → IsSound u events disk → IsNoted u events disk.now log
     → (n : ℕ) (path : List ℕ) (x : Value) → Val u.build n path x → Settled u events path → (IsMadeEachTime u.build path → ⊥) → Settled (next_update u disk.now log quit jobs) [] path
 settle_next u events disk log quit jobs apart run sound noted n path x v (source p bytes s) calm = source p bytes (source_to u.build disk.now (same_sources u events disk apart sound) p bytes s)
 settle_next u events disk log quit jobs apart run sound noted zero path x v (done_well i step p makes done) calm = absurd (source_not_made u.build apart p v.0 v.1 i step makes)
-settle_next u events disk log quit jobs apart run sound noted zero path x v (fresh i step p members makes not_started close inside f) calm = absurd (source_not_made u.build apart p v.0 v.1 i step makes)
+settle_next u events disk log quit jobs apart run sound noted zero path x v (fresh i step p members makes not_started closure inside f) calm = absurd (source_not_made u.build apart p v.0 v.1 i step makes)
 settle_next u events disk log quit jobs apart run sound noted (suc n) path x v (done_well i step p makes done) calm =
     let j = judge_done u events disk log quit jobs apart run noted i step p makes done calm in
-    let (k, e, low) = below u.build apart (suc n) i step p x j.members makes j.close v in
+    let (k, e, low) = below u.build apart (suc n) i step p x j.members makes j.closure v in
     let same : n ≡ k = cc in
     settle_step u events disk log quit jobs (same_sources u events disk apart sound) i step p makes j
-    (λ m y c. settle_next u events disk log quit jobs apart run sound noted n m y (subst (λ q. Val u.build q m y) (sym same) (low m y c)) (j.inside m y c) (λ r. calm (through i step p j.members m y makes j.close c r)))
-settle_next u events disk log quit jobs apart run sound noted (suc n) path x v (fresh i step p members makes not_started close inside f) calm =
-    let j = judge_fresh u events disk log quit jobs apart sound noted i step p members makes not_started close inside f in
-    let (k, e, low) = below u.build apart (suc n) i step p x j.members makes j.close v in
+    (λ m y c. settle_next u events disk log quit jobs apart run sound noted n m y (subst (λ q. Val u.build q m y) (sym same) (low m y c)) (j.inside m y c) (λ r. calm (through i step p j.members m y makes j.closure c r)))
+settle_next u events disk log quit jobs apart run sound noted (suc n) path x v (fresh i step p members makes not_started closure inside f) calm =
+    let j = judge_fresh u events disk log quit jobs apart sound noted i step p members makes not_started closure inside f in
+    let (k, e, low) = below u.build apart (suc n) i step p x j.members makes j.closure v in
     let same : n ≡ k = cc in
     settle_step u events disk log quit jobs (same_sources u events disk apart sound) i step p makes j
-    (λ m y c. settle_next u events disk log quit jobs apart run sound noted n m y (subst (λ q. Val u.build q m y) (sym same) (low m y c)) (j.inside m y c) (λ r. calm (through i step p j.members m y makes j.close c r)))
+    (λ m y c. settle_next u events disk log quit jobs apart run sound noted n m y (subst (λ q. Val u.build q m y) (sym same) (low m y c)) (j.inside m y c) (λ r. calm (through i step p j.members m y makes j.closure c r)))
 
 -- what was settled is settled next time
 pub settled_afterwards : SettledAfterwards
@@ -180,9 +180,9 @@ pub fresh_afterwards : FreshAfterwards
 fresh_afterwards u events disk log quit jobs i step path apart run sound noted makes settled calm =
     let j = judge_next u events disk log quit jobs apart run sound noted i step path makes settled calm in
     let inside : (m : List ℕ) (y : Value) → Contains j.members (m, y) → Settled (next_update u disk.now log quit jobs) [] m = λ m y c.
-    settled_afterwards u events disk log quit jobs m apart run sound noted (j.inside m y c) (λ r. calm (through i step path j.members m y makes j.close c r)) in
+    settled_afterwards u events disk log quit jobs m apart run sound noted (j.inside m y c) (λ r. calm (through i step path j.members m y makes j.closure c r)) in
     record {
       members = j.members;
-      close = (closure_on_settled (next_update u disk.now log quit jobs) [] step j.members apart).1 (clean_close_to u.build disk.now (same_sources u events disk apart sound) step j.members j.close) inside;
+      closure = (closure_on_settled (next_update u disk.now log quit jobs) [] step j.members apart).1 (clean_close_to u.build disk.now (same_sources u events disk apart sound) step j.members j.closure) inside;
       is_fresh = j.is_fresh;
     }

@@ -21,15 +21,15 @@ use Rattle.b2_runs.proofs.OneEventMore.{done_in_start, start_in_start, start_in_
 -- a closure by what is settled is one by the clean build, all of it settled
 pub closure_on_settled : ClosureOnSettled
 closure_on_settled u events step members apart = (
-  λ close. (closure_stays (on_settled u events) (Clean u.build) u.build step members (λ p x s. s.1) (clean_is_one u.build apart) close, λ p x c. (close.each p x c).1.0),
-  λ close all. close_back u.build (on_settled u events) (Clean u.build) step members (λ p x s. s.1) (clean_is_one u.build apart) close (λ p x c. (all p x c, (close.each p x c).1)),
+  λ closure. (closure_stays (on_settled u events) (Clean u.build) u.build step members (λ p x s. s.1) (clean_is_one u.build apart) closure, λ p x c. (closure.each p x c).1.0),
+  λ closure all. close_back u.build (on_settled u events) (Clean u.build) step members (λ p x s. s.1) (clean_is_one u.build apart) closure (λ p x c. (all p x c, (closure.each p x c).1)),
 )
 
 -- two closures of one step by the clean build are the same
 pub same_members : (u : Update) → Apart u.build.steps u.build.roots → (i : ℕ) (step other : Step) → step_at u.build.steps i ≡ Some step → step_at u.build.steps i ≡ Some other → (members others : List (List ℕ × Value))
     → IsClosure u.build (Clean u.build) step members → IsClosure u.build (Clean u.build) other others → members ≡ others
-same_members u apart i step other at at_other members others close close_other =
-    closure_is_one (Clean u.build) u.build step members others (clean_is_one u.build apart) close
+same_members u apart i step other at at_other members others closure close_other =
+    closure_is_one (Clean u.build) u.build step members others (clean_is_one u.build apart) closure
     (subst (λ s. IsClosure u.build (Clean u.build) s others) (sym (one_step u.build.steps i step other at at_other)) close_other)
 
 -- an output of a step that runs is not settled
@@ -37,7 +37,7 @@ pub open_not_settled : (u : Update) (events : List ChildEvent) → Apart u.build
 open_not_settled u events apart i opened step path makes (source p bytes s) = source_not_made u.build apart p bytes s i step makes
 open_not_settled u events apart i opened step path makes (done_well k s p makes_k done) =
     opened.1 true (subst (λ j. Contains events (Done j true)) (apart.one_maker k i s step p makes_k makes) done)
-open_not_settled u events apart i opened step path makes (fresh k s p members makes_k not_started close inside f) =
+open_not_settled u events apart i opened step path makes (fresh k s p members makes_k not_started closure inside f) =
     not_started (subst (λ j. Contains events (Start j)) (apart.one_maker i k step s p makes makes_k) opened.0)
 
 -- a step that is fresh is so after other events, where none more makes a member
@@ -77,24 +77,24 @@ none_done_less u events event members none m x k s well c makes d = none m x k s
 pub settled_after_start : SettledAfterStart
 settled_after_start u events i path apart can (source p bytes s) = source p bytes s
 settled_after_start u events i path apart can (done_well k s p makes done) = done_well k s p makes (Contains-append_left events (Start i ∷ []) (Done k true) done)
-settled_after_start u events i path apart can (fresh k s p members makes not_started close inside f) =
+settled_after_start u events i path apart can (fresh k s p members makes not_started closure inside f) =
     fresh k s p members makes
     (λ c. elim (start_in_start events i k c) [ inl d ↦ not_started d | inr e ↦ other e ])
-    close (λ m x c. settled_after_start u events i m apart can (inside m x c)) (fresh_events u events (events ++ Start i ∷ []) s members (none_done_start u events i members) f)
+    closure (λ m x c. settled_after_start u events i m apart can (inside m x c)) (fresh_events u events (events ++ Start i ∷ []) s members (none_done_start u events i members) f)
   where
     other : i ≡ k → ⊥
     other e =
         let at : step_at u.build.steps k ≡ Some can.step = subst (λ n. step_at u.build.steps n ≡ Some can.step) e can.at in
         let same : can.step ≡ s = one_step u.build.steps k can.step s at makes.at in
-        let one : can.members ≡ members = same_members u apart k can.step s at makes.at can.members members ((closure_on_settled u events can.step can.members apart).0 can.close).0 close in
+        let one : can.members ≡ members = same_members u apart k can.step s at makes.at can.members members ((closure_on_settled u events can.step can.members apart).0 can.closure).0 closure in
         can.stale (subst₂ (λ t ms. IsFresh u events t ms) (sym same) (sym one) f)
 
 -- and as a step ends
 pub settled_after_end : SettledAfterEnd
 settled_after_end u events i well path apart opened (source p bytes s) = source p bytes s
 settled_after_end u events i well path apart opened (done_well k s p makes done) = done_well k s p makes (Contains-append_left events (Done i well ∷ []) (Done k true) done)
-settled_after_end u events i well path apart opened (fresh k s p members makes not_started close inside f) =
-    fresh k s p members makes (λ c. not_started (start_in_done events i k well c)) close (λ m x c. settled_after_end u events i well m apart opened (inside m x c))
+settled_after_end u events i well path apart opened (fresh k s p members makes not_started closure inside f) =
+    fresh k s p members makes (λ c. not_started (start_in_done events i k well c)) closure (λ m x c. settled_after_end u events i well m apart opened (inside m x c))
     (fresh_events u events (events ++ Done i well ∷ []) s members (none_done_end u events apart i well members opened inside) f)
 
 -- and by each event of a run
@@ -124,5 +124,5 @@ verdict_stays u events (Done i well) step members apart may inside = (
 
 -- and so does its closure
 pub closure_on_settled_stays : ClosureOnSettledStays
-closure_on_settled_stays u events event step members apart may close =
-    closure_stays (on_settled u events) (on_settled u (events ++ event ∷ [])) u.build step members (λ p x s. (settled_grows u events apart event may p s.0, s.1)) (λ p x y s t. clean_is_one u.build apart p x y s.1 t.1) close
+closure_on_settled_stays u events event step members apart may closure =
+    closure_stays (on_settled u events) (on_settled u (events ++ event ∷ [])) u.build step members (λ p x s. (settled_grows u events apart event may p s.0, s.1)) (λ p x y s t. clean_is_one u.build apart p x y s.1 t.1) closure

@@ -21,17 +21,17 @@ use Rattle.b2_runs.proofs.FailedIsNotSettled.{failed_is_not_settled}
 pub settled_given : (u : Update) (events : List ChildEvent) (path : List ℕ) → Settled u events path → IsGiven u.build path
 settled_given u events path (source p bytes s) = inl (bytes, s)
 settled_given u events path (done_well i step p makes done) = inr (i, step, makes)
-settled_given u events path (fresh i step p members makes not_started close inside f) = inr (i, step, makes)
+settled_given u events path (fresh i step p members makes not_started closure inside f) = inr (i, step, makes)
 
 pub outputs_settle_together : OutputsSettleTogether
 outputs_settle_together u events i step path apart makes (source p bytes s) = absurd (source_not_made u.build apart p bytes s i step makes)
 outputs_settle_together u events i step path apart makes (done_well k t p makes_k done) = λ other q makes_q.
     done_well i other q makes_q (subst (λ j. Contains events (Done j true)) (apart.one_maker k i t step p makes_k makes) done)
-outputs_settle_together u events i step path apart makes (fresh k t p members makes_k not_started close inside f) = λ other q makes_q.
+outputs_settle_together u events i step path apart makes (fresh k t p members makes_k not_started closure inside f) = λ other q makes_q.
     let number : k ≡ i = apart.one_maker k i t step p makes_k makes in
     let at : step_at u.build.steps i ≡ Some t = subst (λ j. step_at u.build.steps j ≡ Some t) number makes_k.at in
     let same : other ≡ t = one_step u.build.steps i other t makes_q.at at in
-    fresh i t q members (record { at = at; among = subst (λ (s : Step). Contains s.outs q) same makes_q.among }) (λ c. not_started (subst (λ j. Contains events (Start j)) (sym number) c)) close inside f
+    fresh i t q members (record { at = at; among = subst (λ (s : Step). Contains s.outs q) same makes_q.among }) (λ c. not_started (subst (λ j. Contains events (Start j)) (sym number) c)) closure inside f
 
 -- what is skipped is left
 pub skipped_left : (u : Update) (events : List ChildEvent) (i : ℕ) → Skipped u events i → IsLeft u events i
@@ -61,13 +61,13 @@ lost_is_skipped u events i step path apart run needed at known lost = go lost
       not_settled = λ settled.
           let (out, c) = some_element step.outs (apart.some_out i step at) in
           let makes : Makes u.build.steps i step out = record { at = at; among = c } in
-          let (members, close) = settled_closure u events apart run i step out makes (settled step out makes) in
-          let (x, d) = close.whole path known in
-          not_closed step at (close.each path x d).1.0;
+          let (members, closure) = settled_closure u events apart run i step out makes (settled step out makes) in
+          let (x, d) = closure.whole path known in
+          not_closed step at (closure.each path x d).1.0;
       not_failed = λ bad.
-          let (members, close) = started_has_closure u events i step apart run (done_was_started u events i false run bad) at in
-          let (x, d) = close.whole path known in
-          not_closed step at (close.each path x d).1.0;
+          let (members, closure) = started_has_closure u events i step apart run (done_was_started u events i false run bad) at in
+          let (x, d) = closure.whole path known in
+          not_closed step at (closure.each path x d).1.0;
     }
 
     go : IsLost u events path → Skipped u events i
@@ -104,7 +104,7 @@ all_went_misses_nothing u events path apart run went missed = elim missed.asked 
   | inr (i, step, needed, at, c) ↦
       (let (out, among) = some_element step.outs (apart.some_out i step at) in
       let makes : Makes u.build.steps i step out = record { at = at; among = among } in
-      let (members, close) = settled_closure u events apart run i step out makes (needed_settled u events went i needed step out makes) in
-      let (x, d) = close.whole path (input path c) in
-      missed.missing (settled_given u events path (close.each path x d).1.0))
+      let (members, closure) = settled_closure u events apart run i step out makes (needed_settled u events went i needed step out makes) in
+      let (x, d) = closure.whole path (input path c) in
+      missed.missing (settled_given u events path (closure.each path x d).1.0))
 ]

@@ -30,19 +30,19 @@ stale_step_stays u events event i apart may s = record {
   step = s.step;
   at = s.at;
   members = s.members;
-  close = closure_on_settled_stays u events event s.step s.members apart may s.close;
-  stale = λ f. s.stale ((verdict_stays u events event s.step s.members apart may ((closure_on_settled u events s.step s.members apart).0 s.close).1).1 f);
+  closure = closure_on_settled_stays u events event s.step s.members apart may s.closure;
+  stale = λ f. s.stale ((verdict_stays u events event s.step s.members apart may ((closure_on_settled u events s.step s.members apart).0 s.closure).1).1 f);
 }
 
 pub fresh_step_stays : FreshStepStays
 fresh_step_stays u events event step apart may f = record {
   members = f.members;
-  close = closure_on_settled_stays u events event step f.members apart may f.close;
-  is_fresh = (verdict_stays u events event step f.members apart may ((closure_on_settled u events step f.members apart).0 f.close).1).0 f.is_fresh;
+  closure = closure_on_settled_stays u events event step f.members apart may f.closure;
+  is_fresh = (verdict_stays u events event step f.members apart may ((closure_on_settled u events step f.members apart).0 f.closure).1).0 f.is_fresh;
 }
 
 pub fresh_step_settles : FreshStepSettles
 fresh_step_settles u events i step apart at not_started f = λ other path makes.
     let same : other ≡ step = one_step u.build.steps i other step makes.at at in
-    let (close, inside) = (closure_on_settled u events step f.members apart).0 f.close in
-    fresh i step path f.members (subst (λ s. Makes u.build.steps i s path) same makes) not_started close inside f.is_fresh
+    let (closure, inside) = (closure_on_settled u events step f.members apart).0 f.closure in
+    fresh i step path f.members (subst (λ s. Makes u.build.steps i s path) same makes) not_started closure inside f.is_fresh

@@ -32,19 +32,19 @@ read_same now (w ∷ ws) hold =
 -- the child of a step that can start is given its closure
 pub start_gives_closure : StartGivesClosure
 start_gives_closure u events disk i can apart sound =
-    let (close, inside) = (closure_on_settled u events can.step can.members apart).0 can.close in
+    let (closure, inside) = (closure_on_settled u events can.step can.members apart).0 can.closure in
     record {
       step = can.step;
       at = can.at;
       members = can.members;
-      close = close;
+      closure = closure;
       step_is = refl;
       text = refl;
       ins = refl;
       outs = refl;
       held = read_same disk.now (with_bytes can.members) (λ path bytes c.
           let m = with_bytes_in can.members path bytes c in
-          settled_holds u events disk apart sound path (Some bytes) (inside path (Some bytes) m) (close.each path (Some bytes) m).1);
+          settled_holds u events disk apart sound path (Some bytes) (inside path (Some bytes) m) (closure.each path (Some bytes) m).1);
     }
 
 -- the members of an open step's closure are settled
@@ -52,7 +52,7 @@ pub open_inside : (u : Update) (events : List ChildEvent) → Apart u.build.step
 open_inside u events apart run child a m y c =
     let (others, on) = started_has_closure u events child.step a.given_closure.step apart run a.is_open.0 a.given_closure.at in
     let (close_other, inside) = (closure_on_settled u events a.given_closure.step others apart).0 on in
-    inside m y (subst (λ ms. Contains ms (m, y)) (same_members u apart child.step a.given_closure.step a.given_closure.step a.given_closure.at a.given_closure.at a.given_closure.members others a.given_closure.close close_other) c)
+    inside m y (subst (λ ms. Contains ms (m, y)) (same_members u apart child.step a.given_closure.step a.given_closure.step a.given_closure.at a.given_closure.at a.given_closure.members others a.given_closure.closure close_other) c)
 
 -- an output of a step that can start is not settled
 can_not_settled : (u : Update) (events : List ChildEvent) → Apart u.build.steps u.build.roots → IsRunSoFar u events → (i : ℕ) (can : CanStart u events i) (path : List ℕ) → Contains can.step.outs path → Settled u events path → ⊥
@@ -65,11 +65,11 @@ can_not_settled u events apart run i can path c settled = go path settled refl
     go p (source q bytes s) e = s.outside (apart.under_root i can.step q (subst (Makes u.build.steps i can.step) (sym e) makes))
     go p (done_well k s q makes_k done) e =
         can.not_started (subst (λ j. Contains events (Start j)) (apart.one_maker k i s can.step q makes_k (subst (Makes u.build.steps i can.step) (sym e) makes)) (done_was_started u events k true run done))
-    go p (fresh k s q members makes_k not_started close inside f) e =
+    go p (fresh k s q members makes_k not_started closure inside f) e =
         let same_number : k ≡ i = apart.one_maker k i s can.step q makes_k (subst (Makes u.build.steps i can.step) (sym e) makes) in
         let at : step_at u.build.steps i ≡ Some s = subst (λ n. step_at u.build.steps n ≡ Some s) same_number makes_k.at in
         let same : s ≡ can.step = one_step u.build.steps i s can.step at can.at in
-        let one : members ≡ can.members = same_members u apart i s can.step at can.at members can.members close ((closure_on_settled u events can.step can.members apart).0 can.close).0 in
+        let one : members ≡ can.members = same_members u apart i s can.step at can.at members can.members closure ((closure_on_settled u events can.step can.members apart).0 can.closure).0 in
         can.stale (subst (λ ms. IsFresh u events can.step ms) one (subst (λ z. IsFresh u events z members) same f))
 
 -- a step that can start reads and writes nothing that children at work write, and writes nothing that they read
@@ -86,7 +86,7 @@ start_may_begin u events running i can apart run at_work = record {
   ins_outs = λ child c path read written.
       let a = at_work.each child c in
       let (bytes, named) = path_in_back (with_bytes can.members) path read in
-      let (close, inside) = (closure_on_settled u events can.step can.members apart).0 can.close in
+      let (closure, inside) = (closure_on_settled u events can.step can.members apart).0 can.closure in
       open_not_settled u events apart child.step a.is_open a.given_closure.step path (record { at = a.given_closure.at; among = subst (λ l. Contains l path) (a.outs ∙ a.given_closure.outs) written })
       (inside path (Some bytes) (with_bytes_in can.members path bytes named));
 }

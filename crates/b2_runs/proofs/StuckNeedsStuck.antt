@@ -38,16 +38,16 @@ stuck_not_started u events i run stuck started = run.none_open i (started, λ we
 -- a step that is stuck could start, if all of its closure were settled
 stuck_could_start : (u : Update) (events : List ChildEvent) (i : ℕ) (step : Step) (members : List (List ℕ × Value)) → Apart u.build.steps u.build.roots → 1 ≤ u.jobs → IsRun u events → IsStuck u events i → step_at u.build.steps i ≡ Some step
     → IsClosure u.build (on_settled u events) step members → CanStart u events i
-stuck_could_start u events i step members apart jobs run stuck at close =
+stuck_could_start u events i step members apart jobs run stuck at closure =
     let not_started : Contains events (Start i) → ⊥ = stuck_not_started u events i run stuck in
-    let (by_clean, inside) = (closure_on_settled u events step members apart).0 close in
+    let (by_clean, inside) = (closure_on_settled u events step members apart).0 closure in
     record {
       step = step;
       at = at;
       needed = stuck.left.needed;
       not_started = not_started;
       members = members;
-      close = close;
+      closure = closure;
       stale = λ f. stuck.left.not_settled (λ other path makes.
           let same : step ≡ other = one_step u.build.steps i step other at makes.at in
           fresh i step path members (subst (λ s. Makes u.build.steps i s path) (sym same) makes) not_started by_clean inside f);

@@ -32,7 +32,7 @@ too_big_is_large u events disk path size apart sound (to_digest bytes to size_is
   where
     go : IsToDigest u events disk.now path bytes → bytes_at disk.now path ≡ Some bytes
     go (input on read s) = stands_so u events disk path bytes apart sound s
-    go (output out members on owes close still stands) = stands
+    go (output out members on owes closure still stands) = stands
 
 pub nothing_too_big : NothingTooBig
 nothing_too_big u events disk path size apart sound none (to_scan bytes to size_is more) = let low : length bytes ≤ scan_limit = none.scanned path bytes to in omega (arith, low, size_is, more)
@@ -40,9 +40,9 @@ nothing_too_big u events disk path size apart sound none (to_digest bytes to siz
   where
     go : IsToDigest u events disk.now path bytes → length bytes ≤ digest_limit
     go (input on read s) = none.inputs on path bytes read s
-    go (output out members on owes close (inl not_started) stands) =
+    go (output out members on owes closure (inl not_started) stands) =
         none.at_entry on path bytes out (ap (option_map (λ (file : File). file.bytes)) (sym (unstarted_kept u events disk apart sound out.number out.step path out.makes not_started)) ∙ stands)
-    go (output out members on owes close (inr well) stands) =
+    go (output out members on owes closure (inr well) stands) =
         let (value, clean, holds) = sound.done_well out.number out.step path out.makes well in
         let (b, e) = out_bytes u.build apart (length u.build.steps) out.number out.step path value out.makes owes clean in
         let at : bytes_at disk.now path ≡ Some b = subst (Holds disk.now path) e holds in
@@ -69,9 +69,9 @@ too_big_through_end u events now path size i well apart opened big = go big
 
     digested : (bytes : List ℕ) → IsToDigest u events now path bytes → IsToDigest u (events ++ Done i well ∷ []) now path bytes
     digested bytes (input on read s) = input on (input_up u events (events ++ Done i well ∷ []) path grows read) (grows path s.0, s.1)
-    digested bytes (output out members on owes close still stands) =
+    digested bytes (output out members on owes closure still stands) =
         output (out_up u events (events ++ Done i well ∷ []) path grows out) members on owes
-        (closure_stays (on_settled u events) (on_settled u (events ++ Done i well ∷ [])) u.build out.step members (λ p x s. (grows p s.0, s.1)) (λ p x y s t. clean_is_one u.build apart p x y s.1 t.1) close)
+        (closure_stays (on_settled u events) (on_settled u (events ++ Done i well ∷ [])) u.build out.step members (λ p x s. (grows p s.0, s.1)) (λ p x y s t. clean_is_one u.build apart p x y s.1 t.1) closure)
         (elim still [ inl not_started ↦ inl (λ c. not_started (start_in_done events i out.number well c)) | inr done ↦ inr (Contains-append_left events (Done i well ∷ []) (Done out.number true) done) ])
         stands
 
@@ -85,8 +85,8 @@ too_big_through_change u events before after path size apart d (to_digest bytes 
   where
     go : IsToDigest u events before.now path bytes → IsToDigest u events after.now path bytes
     go (input on read s) = input on read s
-    go (output out members on owes close (inl not_started) stands) =
-        output out members on owes close (inl not_started)
+    go (output out members on owes closure (inl not_started) stands) =
+        output out members on owes closure (inl not_started)
         (ap (option_map (λ (file : File). file.bytes)) (d.others path (out_not_log u.build apart out.number out.step path out.makes) (λ k other makes loose. not_started (subst (λ j. Contains events (Start j)) (apart.one_maker k out.number other out.step path makes out.makes) loose.0))) ∙ stands)
-    go (output out members on owes close (inr done) stands) =
-        output out members on owes close (inr done) (ap (option_map (λ (file : File). file.bytes)) (settled_still u events before after apart d path (done_well out.number out.step path out.makes done)) ∙ stands)
+    go (output out members on owes closure (inr done) stands) =
+        output out members on owes closure (inr done) (ap (option_map (λ (file : File). file.bytes)) (settled_still u events before after apart d path (done_well out.number out.step path out.makes done)) ∙ stands)

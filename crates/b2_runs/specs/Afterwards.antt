@@ -41,7 +41,7 @@ pub record IsNotedStep (u : Update) (now : List ℕ → Option File) (log : List
 pub record IsMigrated (u : Update) (events : List ChildEvent) (now : List ℕ → Option File) (log : List LogLine) (step : Step) : Type 0 where
   pub by_digest : u.by_digest ≡ true
   pub members : List (List ℕ × Value)
-  pub close : IsClosure u.build (Clean u.build) step members
+  pub closure : IsClosure u.build (Clean u.build) step members
   pub inside : (member : List ℕ) (value : Value) → Contains members (member, value) → Settled u events member
   pub noted : IsNotedStep u now log step members
 
@@ -60,5 +60,5 @@ pub record IsNoted (u : Update) (events : List ChildEvent) (now : List ℕ → O
 -- The step's closure is defined on what is settled, and with it the step is fresh.
 pub record IsFreshStep (u : Update) (events : List ChildEvent) (step : Step) : Type 0 where
   pub members : List (List ℕ × Value)
-  pub close : IsClosure u.build (on_settled u events) step members
+  pub closure : IsClosure u.build (on_settled u events) step members
   pub is_fresh : IsFresh u events step members

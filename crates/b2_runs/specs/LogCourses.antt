@@ -54,7 +54,7 @@ pub record IsToMigrate (u : Update) (events : List ChildEvent) (step : Step) (me
   pub at : step_at u.build.steps number ≡ Some step
   pub needed : Needed u events number
   pub not_started : Contains events (Start number) → ⊥
-  pub close : IsClosure u.build (on_settled u events) step members
+  pub closure : IsClosure u.build (on_settled u events) step members
   pub is_fresh : IsFresh u events step members
 
 -- The lines of the log after events, from those that the update began with, by the files as they stand. A step that is done

@@ -41,7 +41,7 @@ pub record IsStaleStep (u : Update) (events : List ChildEvent) (i : ℕ) : Type 
   pub step : Step
   pub at : step_at u.build.steps i ≡ Some step
   pub members : List (List ℕ × Value)
-  pub close : IsClosure u.build (on_settled u events) step members
+  pub closure : IsClosure u.build (on_settled u events) step members
   pub stale : IsStale u events step members
 
 -- the least set of numbers with the first ones and with all that those in it need

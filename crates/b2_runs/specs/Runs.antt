@@ -37,7 +37,7 @@ pub record CanStart (u : Update) (events : List ChildEvent) (i : ℕ) : Type 0 w
   pub needed : Needed u events i
   pub not_started : Contains events (Start i) → ⊥
   pub members : List (List ℕ × Value)
-  pub close : IsClosure u.build (on_settled u events) step members
+  pub closure : IsClosure u.build (on_settled u events) step members
   pub stale : IsStale u events step members
   pub room : count_by is_start events < count_by is_done events + u.jobs
   pub goes_on : u.quit ≡ true → (k : ℕ) → Contains events (Done k false) → ⊥
@@ -87,7 +87,7 @@ pub record IsGivenClosure (u : Update) (i : ℕ) (given : Given) : Type 0 where
   pub step : Step
   pub at : step_at u.build.steps i ≡ Some step
   pub members : List (List ℕ × Value)
-  pub close : IsClosure u.build (Clean u.build) step members
+  pub closure : IsClosure u.build (Clean u.build) step members
   pub step_is : given.step ≡ i
   pub text : given.text ≡ step.text
   pub ins : given.ins ≡ paths_with_bytes members

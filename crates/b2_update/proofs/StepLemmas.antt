@@ -90,7 +90,7 @@ has_started u made old i step ins fam events disk due core even inputs =
       needed = due.needed;
       not_started = due.not_started;
       members = members_by value inputs.names;
-      close = close_by u due.whole (on_settled u events) step value inputs.names inputs.rising inputs.same (λ path c. (due.settled path c, (known path c).clean));
+      closure = close_by u due.whole (on_settled u events) step value inputs.names inputs.rising inputs.same (λ path c. (due.settled path c, (known path c).clean));
       stale = none_fresh u due.whole events step (members_by value inputs.names);
       room = (let j = due.whole.one in omega arith);
       goes_on = λ quits k bad. due.whole.goes_on quits;

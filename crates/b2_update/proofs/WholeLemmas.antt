@@ -35,7 +35,7 @@ by_stamp u w disk on = absurd (w.by_stamp on)
 pub settled_cases : (u : Update) → IsWhole u → (events : List ChildEvent) (path : List ℕ) → Settled u events path → ((bytes : List ℕ) × IsSource u.build path bytes) ⊎ ((i : ℕ) × (step : Step) × Makes u.build.steps i step path × Contains events (Done i true))
 settled_cases u w events path (source p bytes s) = inl (bytes, s)
 settled_cases u w events path (done_well i step p makes done) = inr (i, step, makes, done)
-settled_cases u w events path (fresh i step p members makes not_started close inside f) = absurd (none_fresh u w events step members f)
+settled_cases u w events path (fresh i step p members makes not_started closure inside f) = absurd (none_fresh u w events step members f)
 
 -- an output that is settled is that of a step that was done well
 pub settled_done : (u : Update) → IsWhole u → (events : List ChildEvent) (i : ℕ) (step : Step) (path : List ℕ) → Makes u.build.steps i step path → Settled u events path → Contains events (Done i true)
@@ -93,4 +93,4 @@ lacks_input u w events i l = record { step = l.step; at = l.at; path = l.path; a
 
 -- each input of a step that can start is settled
 pub can_inputs : (u : Update) (events : List ChildEvent) (i : ℕ) → (can : CanStart u events i) → (path : List ℕ) → Contains can.step.ins path → Settled u events path
-can_inputs u events i can path c = let (value, inside) = can.close.whole path (input path c) in (can.close.each path value inside).1.0
+can_inputs u events i can path c = let (value, inside) = can.closure.whole path (input path c) in (can.closure.each path value inside).1.0
