@@ -117,19 +117,19 @@ impl Registry {
         Some(value.as_str())
     }
 
-    fn is_taken(&self, value: &str) -> bool
+    fn is_implicit(&self, value: &str) -> bool
         ensures { result ≡ is_implicit self.now value.now }
     {
         self.implicit_of(value).is_some()
     }
 
-    /// Puts a value among the earlier ones, and tells whether it was taken or among them.
+    /// Puts a value among the earlier ones, and tells whether it is implicit or was among them.
     fn is_there(&self, earlier: &mut TextMap<()>, value: &Text) -> Result<bool, OutOfMemory>
         ensures there { IfOk result (λ there. there ≡ (is_implicit self.now value.now || is_some (map.get earlier.old value.now))) }
         ensures known { OnOk result ((q : List ℕ) → is_some (map.get earlier.new q) ≡ (is_some (map.get earlier.old q) || bytes_eq q value.now)) }
     {
         let before = earlier.insert(value.copy()?, ())?;
-        Ok(self.is_taken(value.as_str()) || before.is_some())
+        Ok(self.is_implicit(value.as_str()) || before.is_some())
     }
 
     fn check_values(&self, values: &[Text]) -> Result<(), FeatureFault>
