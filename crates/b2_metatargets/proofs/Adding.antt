@@ -1,5 +1,6 @@
 use Rattle.std.proofs.Common.{◌≡◌, ℕ, ◌++◌, List, Ok, length, refl, sym, ◌∙◌, ap, subst}
 use Rattle.std.specs.Prelude.{Result}
+use Rattle.b2_base.specs.Results.{and_then}
 use Rattle.b2_features.specs.Table.{Declared}
 use Rattle.b2_declarations.specs.declared.declaration.Attributes.{Attributes}
 use Rattle.b2_declarations.specs.declared.declaration.MainTarget.{MainTarget}
@@ -12,7 +13,7 @@ use Rattle.b2_metatargets.specs.declared.place.Place.{Place}
 use Rattle.b2_metatargets.specs.declared.place.Target.{Target}
 use Rattle.b2_metatargets.specs.declared.place.IndirectRule.{IndirectRule}
 use Rattle.b2_metatargets.specs.declared.gathered.Gathered.{Gathered as Drawn}
-use Rattle.b2_metatargets.specs.Outcomes.{and_then, IsFaultOf}
+use Rattle.b2_metatargets.specs.Outcomes.{IsFaultOf}
 use Rattle.b2_metatargets.specs.Gathering.{Gathered, lists_in, rules_in, with_place, attributed, with_own_id, one_target_more, with_attributes, with_target}
 use Rattle.b2_metatargets.specs.Views.{brought}
 use Rattle.b2_metatargets.proofs.Stepping.{fault_then, then_next}

@@ -4,6 +4,7 @@ use Rattle.std.specs.List.{cons_option}
 use Rattle.std.proofs.lemmas.List.{append-nil, map-append, length-map}
 use Rattle.std.proofs.lemmas.List.Elements.{All-nil, All-append, All-push, All-weaker, All-map}
 use Rattle.b2_base.specs.Segments.{path_from}
+use Rattle.b2_base.specs.Results.{and_then}
 use Rattle.b2_features.specs.Table.{Declared}
 use Rattle.b2_declarations.specs.declared.declaration.Declaration.{Declaration}
 use Rattle.b2_declarations.specs.declared.declaration.Declaration.TheVariants.{Project, Main, Explicit, BuildProject, UseProject, Using, Feature, Compose, FileType, Generator, Import}
@@ -16,7 +17,6 @@ use Rattle.b2_metatargets.specs.declared.visit.Call.{Call}
 use Rattle.b2_metatargets.specs.declared.place.Place.{Place}
 use Rattle.b2_metatargets.specs.declared.place.Target.{Target}
 use Rattle.b2_metatargets.specs.declared.place.IndirectRule.{IndirectRule}
-use Rattle.b2_metatargets.specs.Outcomes.{and_then}
 use Rattle.b2_metatargets.specs.Calls.{visit_of}
 use Rattle.b2_metatargets.specs.Gathering.{Gathered, lists_in, numbered, rules_in, plain, with_place, attributed, with_own_id, bare, target_with, one_target_more, with_attributes, with_target, with_explicit, with_build, with_use, gathered_of, gathering, nothing_gathered, gathered_by}
 use Rattle.b2_metatargets.specs.Laws.{visited, main_in, mains, named, AreNumbered, IsSound}

@@ -1,6 +1,7 @@
 use Rattle.std.proofs.Common.{◌≡◌, ℕ, Bool, true, false, cond, ◌||◌, List, [], ◌∷◌, ◌++◌, Option, Some, None, Ok, Err, fold, refl, sym, ◌∙◌, ap, ap₂, subst, append_assoc}
 use Rattle.std.specs.Prelude.{Result, slice_set}
 use Rattle.std.proofs.lemmas.List.{append-nil, map-append}
+use Rattle.b2_base.specs.Results.{and_then}
 use Rattle.b2_features.specs.declared.fault.FeatureFault.{FeatureFault}
 use Rattle.b2_features.specs.Table.{Declared, declared, composed, is_named, with_parts as with_more_parts}
 use Rattle.b2_features.specs.Faults.{feature_fault, compose_fault}
@@ -17,7 +18,7 @@ use Rattle.b2_declarations.specs.Declarations.{is_refused}
 use Rattle.b2_metatargets.specs.declared.fault.DeclaringFault.{DeclaringFault}
 use Rattle.b2_metatargets.specs.declared.visit.Visit.{Visit}
 use Rattle.b2_metatargets.specs.declared.visit.Call.{Call}
-use Rattle.b2_metatargets.specs.Outcomes.{and_then, all_steps}
+use Rattle.b2_metatargets.specs.Outcomes.{all_steps}
 use Rattle.b2_metatargets.specs.Calls.{visit_of, unless, unless_fault, after_reading}
 use Rattle.b2_metatargets.specs.Carrying.{Tables, with_features, with_registered, has_begun, gcc_tables, is_gcc_refused, with_project, with_gcc, with_feature, with_parts, with_compose, with_type, with_row, with_generator, with_declaration, with_accepted, carried_out, carrying, no_tables, tables_of, properties_in}
 use Rattle.b2_metatargets.specs.Laws.{names, features_in, has_gcc_after, feature_names}

@@ -3,11 +3,12 @@ use Rattle.std.specs.Prelude.{Result}
 use Rattle.std.specs.List.{filter_map, cons_option}
 use Rattle.std.proofs.lemmas.List.{append-nil}
 use Rattle.std.proofs.lemmas.List.Elements.{All-head, All-tail}
+use Rattle.b2_base.specs.Results.{and_then}
 use Rattle.b2_props.proofs.Gaining.{next_take}
 use Rattle.b2_texts.proofs.Listing.{around}
 use Rattle.b2_metatargets.specs.declared.fault.DeclaringFault.{DeclaringFault}
 use Rattle.b2_metatargets.specs.declared.fault.DeclaringFault.TheVariants.{Declaration, Feature, OutOfMemory}
-use Rattle.b2_metatargets.specs.Outcomes.{and_then, all_steps, IsFaultOf}
+use Rattle.b2_metatargets.specs.Outcomes.{all_steps, IsFaultOf}
 
 -- a fault is also that of all that would follow
 pub fault_then : {X Y : Type 0} (next : X → Result Y DeclaringFault) (a : Result X DeclaringFault) (f : DeclaringFault) → IsFaultOf a f → IsFaultOf (and_then next a) f

@@ -1,10 +1,10 @@
 -- What the declaring calls of a load make of it.
 use Rattle.std.specs.Prelude.{List, Result, Ok}
+use Rattle.b2_base.specs.Results.{and_then}
 use Rattle.b2_metatargets.specs.declared.fault.DeclaringFault.{DeclaringFault}
 use Rattle.b2_metatargets.specs.declared.visit.Visit.{Visit}
 use Rattle.b2_metatargets.specs.declared.visit.Call.{Call}
 use Rattle.b2_metatargets.specs.declared.whole.Declared.{Declared}
-use Rattle.b2_metatargets.specs.Outcomes.{and_then}
 use Rattle.b2_metatargets.specs.Carrying.{Tables, tables_of}
 use Rattle.b2_metatargets.specs.Gathering.{Gathered, gathered_by}
 

@@ -5,6 +5,7 @@ use Rattle.std.specs.Option.{option_map_or}
 use Rattle.std.specs.Map.{lookup}
 use Rattle.std.specs.Str.{bytes_eq}
 use Rattle.b2_base.specs.Segments.{path_from}
+use Rattle.b2_base.specs.Results.{and_then}
 use Rattle.b2_features.specs.declared.fault.FeatureFault.{FeatureFault}
 use Rattle.b2_features.specs.Table.{Declared}
 use Rattle.b2_props.specs.Sets.{Pair}
@@ -29,7 +30,7 @@ use Rattle.b2_metatargets.specs.declared.lists.Lists.{Lists}
 use Rattle.b2_metatargets.specs.declared.place.Place.{Place}
 use Rattle.b2_metatargets.specs.declared.place.Target.{Target}
 use Rattle.b2_metatargets.specs.declared.place.IndirectRule.{IndirectRule}
-use Rattle.b2_metatargets.specs.Outcomes.{and_then, all_steps}
+use Rattle.b2_metatargets.specs.Outcomes.{all_steps}
 use Rattle.b2_metatargets.specs.Calls.{visit_of, unless, after_reading}
 use Rattle.b2_metatargets.specs.Carrying.{properties_in}
 

@@ -1,12 +1,8 @@
 -- Steps that may be refused.
 use Rattle.std.specs.Prelude.{◌≡◌, List, [], ◌∷◌, Result, Ok, Err}
+use Rattle.b2_base.specs.Results.{and_then}
 use Rattle.b2_metatargets.specs.declared.fault.DeclaringFault.{DeclaringFault}
 use Rattle.b2_metatargets.specs.declared.fault.DeclaringFault.TheVariants.{OutOfMemory}
-
--- what follows from a value, unless there is a fault
-abbrev pub and_then : {X Y : Type 0} → (X → Result Y DeclaringFault) → Result X DeclaringFault → Result Y DeclaringFault
-and_then next (Ok x) = next x
-and_then next (Err fault) = Err fault
 
 -- what the steps for some things make of a state, one after another, or the first fault
 abbrev pub all_steps : {S X : Type 0} → (S → X → Result S DeclaringFault) → S → List X → Result S DeclaringFault

@@ -6,6 +6,7 @@ use Rattle.std.specs.declared.vec.Vec.{Vec}
 use Rattle.std.specs.declared.alloc.Global.{Global}
 use Rattle.std.proofs.lemmas.List.{take_all}
 use Rattle.std.proofs.lemmas.Option.{same_Some, slice_get_read, slice_get_within}
+use Rattle.b2_base.specs.Results.{and_then}
 use Rattle.b2_features.specs.declared.fault.FeatureFault.{FeatureFault}
 use Rattle.b2_features.specs.declared.fault.FeatureFault.TheVariants as features
 use Rattle.b2_gcc.specs.BuildText.{command_in, gcc_text}
@@ -13,7 +14,7 @@ use Rattle.b2_metatargets.specs.declared.fault.DeclaringFault.{DeclaringFault}
 use Rattle.b2_metatargets.specs.declared.fault.DeclaringFault.TheVariants as declaring_faults
 use Rattle.b2_metatargets.specs.declared.visit.Visit.{Visit}
 use Rattle.b2_metatargets.specs.declared.visit.Call.{Call}
-use Rattle.b2_metatargets.specs.Outcomes.{and_then, all_steps, IsFaultOf}
+use Rattle.b2_metatargets.specs.Outcomes.{all_steps, IsFaultOf}
 use Rattle.b2_metatargets.specs.Carrying.{Tables, no_tables, carrying, tables_of}
 use Rattle.b2_metatargets.specs.Gathering.{gathered_by}
 use Rattle.b2_metatargets.specs.Declaring.{whole, declared}

@@ -2,12 +2,13 @@ use Rattle.std.proofs.Common.{◌≡◌, ℕ, zero, suc, ◌<◌, ◌≤◌, ◌
 use Rattle.std.specs.List.{count_by}
 use Rattle.std.proofs.lemmas.Bool.{cases_lt}
 use Rattle.std.proofs.lemmas.List.Sums.{length-filter}
+use Rattle.b2_base.specs.Results.{and_then}
 use Rattle.b2_features.specs.Table.{Declared}
 use Rattle.b2_props.specs.Sets.{Pair}
 use Rattle.b2_props.specs.Refinement.{refined}
 use Rattle.b2_props.specs.declared.requirement.Requirement.{Requirement}
 use Rattle.b2_refine.specs.Answers.{Answer}
-use Rattle.b2_refine.specs.Conditions.{is_other, others, given, and_then, first_set, next_set, round_set, last_round, IsSettled, IsUnstable}
+use Rattle.b2_refine.specs.Conditions.{is_other, others, given, first_set, next_set, round_set, last_round, IsSettled, IsUnstable}
 use Rattle.b2_refine.specs.Faults.{IsAskedBy}
 use Rattle.b2_refine.specs.Evaluating.{IsOutcome, AreLastTwo}
 use Rattle.b2_refine.specs.declared.fault.RefineFault.{RefineFault}

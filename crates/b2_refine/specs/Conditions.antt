@@ -1,5 +1,6 @@
 use Rattle.std.specs.Prelude.{◌≡◌, ◌≢◌, ℕ, zero, suc, ◌≤◌, Bool, true, false, List, [], ◌∷◌, ◌++◌, Result, Ok, Err, length, filter, if◌then◌else◌}
 use Rattle.std.specs.List.{flat_map}
+use Rattle.b2_base.specs.Results.{and_then}
 use Rattle.b2_features.specs.Table.{Declared}
 use Rattle.b2_props.specs.Sets.{Pair}
 use Rattle.b2_props.specs.Membership.{has_all}
@@ -43,11 +44,6 @@ joined (Err fault) rest = Err fault
 abbrev pub given : {F : Type 0} → Answer F → List Pair → List Requirement → Result (List Pair) F
 given answer set [] = Ok []
 given answer set (requirement ∷ more) = joined (gives answer set requirement) (given answer set more)
-
--- what follows from pairs, unless they are a fault
-abbrev pub and_then : {F : Type 0} → (List Pair → Result (List Pair) F) → Result (List Pair) F → Result (List Pair) F
-and_then next (Ok pairs) = next pairs
-and_then next (Err fault) = Err fault
 
 -- the set of round 0: the request refined by what is required without conditions
 abbrev pub first_set : List Declared → List Pair → List Requirement → List Pair

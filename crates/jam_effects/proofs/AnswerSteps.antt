@@ -2,7 +2,8 @@
 use Rattle.std.proofs.Common.{◌≡◌, ◌⊎◌, inl, inr, ℕ, List, [], ◌∷◌, ◌++◌, Option, Some, None, Result, Ok, Err, refl, sym, ap, subst}
 use Rattle.b2_base.specs.declared.expand_fault.ExpandFault.{ExpandFault}
 use Rattle.b2_base.specs.declared.expand_fault.ExpandFault.TheVariants as expansions
-use Rattle.jam_expand.specs.Limits.{and_then, within}
+use Rattle.b2_base.specs.Results.{and_then}
+use Rattle.jam_expand.specs.Limits.{within}
 use Rattle.jam_expand.proofs.GatherLemmas.{fault_stays}
 use Rattle.jam_journal.specs.Tables.{Text}
 use Rattle.jam_journal.specs.Scopes.{Value}
@@ -59,6 +60,6 @@ module _ {R : Type 0} where
     where
       go : (list : Result Value ExpandFault)
           → then_do (expanded list spot s) (λ v. λ s₁. call budget deep name (v ∷ rest) spot s₁)
-          ≡ then_do (answer_at (and_then list (λ v. Ok (Some (name, v ∷ rest)))) spot s) (λ c. λ s₁. called_or budget deep c spot s₁)
+          ≡ then_do (answer_at (and_then (λ v. Ok (Some (name, v ∷ rest))) list) spot s) (λ c. λ s₁. called_or budget deep c spot s₁)
       go (Ok v) = refl
       go (Err f) = refl

@@ -2,7 +2,8 @@
 use Rattle.std.specs.Prelude.{◌≡◌, ◌⊎◌, List, [], ◌∷◌, ◌++◌, Option, Some, None, Result, Ok, Err}
 use Rattle.b2_base.specs.declared.expand_fault.ExpandFault.{ExpandFault}
 use Rattle.b2_base.specs.declared.expand_fault.ExpandFault.TheVariants as expansions
-use Rattle.jam_expand.specs.Limits.{and_then, within}
+use Rattle.b2_base.specs.Results.{and_then}
+use Rattle.jam_expand.specs.Limits.{within}
 use Rattle.jam_journal.specs.Tables.{Text}
 use Rattle.jam_journal.specs.Scopes.{Value}
 use Rattle.jam_eval.specs.Faults.{Spot, expand}
@@ -24,7 +25,7 @@ IsAnswered view answer spot (Err e) = (e ≡ faults.OutOfMemory) ⊎ ((fault : E
 abbrev pub named : Value → List Value → Result (Option (Text × List Value)) ExpandFault
 named [] given = Ok None
 named (name ∷ more) [] = Ok (Some (name, more ∷ []))
-named (name ∷ more) (first ∷ rest) = and_then (within (more ++ first)) (λ list. Ok (Some (name, list ∷ rest)))
+named (name ∷ more) (first ∷ rest) = and_then (λ list. Ok (Some (name, list ∷ rest))) (within (more ++ first))
 
 abbrev pub named_of : Option Named → Option (Text × List Value)
 named_of None = None

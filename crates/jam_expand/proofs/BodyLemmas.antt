@@ -11,7 +11,8 @@ use Rattle.std.proofs.lemmas.Bool.Decides.{nat_tests}
 use Rattle.b2_base.specs.Bytes.{HasNoZero, is_white}
 use Rattle.b2_base.specs.declared.expand_fault.ExpandFault.{ExpandFault}
 use Rattle.b2_base.specs.declared.expand_fault.ExpandFault.TheVariants as faults
-use Rattle.jam_expand.specs.Limits.{Answer, and_then, within}
+use Rattle.b2_base.specs.Results.{and_then}
+use Rattle.jam_expand.specs.Limits.{Answer, within}
 use Rattle.jam_expand.specs.Expansions.{expansion}
 use Rattle.jam_expand.specs.Bodies.{words, spaces, interleaved, body_texts}
 use Rattle.jam_expand.specs.BodyCuts.{IsCut}
@@ -159,35 +160,35 @@ cut_no_zero text word white rest c h =
 
 -- the texts with that of one more word
 abbrev pub with_word : (List ℕ → List (List ℕ)) → List (List ℕ) → List ℕ → Answer
-with_word names texts word = and_then (expansion names word) (λ elements. within (texts ++ join_with_byte 32 elements ∷ []))
+with_word names texts word = and_then (λ elements. within (texts ++ join_with_byte 32 elements ∷ [])) (expansion names word)
 
-pub opened : (names : List ℕ → List (List ℕ)) (texts : List (List ℕ)) (word : List ℕ) (more : List (List ℕ)) → body_texts names texts (word ∷ more) ≡ and_then (with_word names texts word) (λ longer. body_texts names longer more)
+pub opened : (names : List ℕ → List (List ℕ)) (texts : List (List ℕ)) (word : List ℕ) (more : List (List ℕ)) → body_texts names texts (word ∷ more) ≡ and_then (λ longer. body_texts names longer more) (with_word names texts word)
 unfolding body_texts
 opened names texts word more = and_then_more (expansion names word) (λ elements. within (texts ++ join_with_byte 32 elements ∷ [])) (λ longer. body_texts names longer more)
 
 -- one more word
 pub word_ok : (names : List ℕ → List (List ℕ)) (texts longer : List (List ℕ)) (text word : List ℕ) (white : ℕ) (rest : List ℕ) → IsCut text word white rest → with_word names texts word ≡ Ok longer → body_texts names longer (words rest) ≡ body_texts names texts (words text)
 word_ok names texts longer text word white rest c e =
-    sym (ap (body_texts names texts) (words_cut text word white rest c) ∙ opened names texts word (words rest) ∙ ap (λ found. and_then found (λ more. body_texts names more (words rest))) e)
+    sym (ap (body_texts names texts) (words_cut text word white rest c) ∙ opened names texts word (words rest) ∙ ap (λ found. and_then (λ more. body_texts names more (words rest)) found) e)
 
 pub word_fault : (names : List ℕ → List (List ℕ)) (texts : List (List ℕ)) (text word : List ℕ) (white : ℕ) (rest : List ℕ) (fault : ExpandFault) (answer : Answer) → IsCut text word white rest → body_texts names texts (words text) ≡ answer
     → (fault ≡ faults.OutOfMemory) ⊎ (with_word names texts word ≡ Err fault) → (fault ≡ faults.OutOfMemory) ⊎ (answer ≡ Err fault)
 word_fault names texts text word white rest fault answer c so_far (inl e) = inl e
 word_fault names texts text word white rest fault answer c so_far (inr e) =
-    inr (sym so_far ∙ ap (body_texts names texts) (words_cut text word white rest c) ∙ opened names texts word (words rest) ∙ ap (λ found. and_then found (λ more. body_texts names more (words rest))) e)
+    inr (sym so_far ∙ ap (body_texts names texts) (words_cut text word white rest c) ∙ opened names texts word (words rest) ∙ ap (λ found. and_then (λ more. body_texts names more (words rest)) found) e)
 
 -- the last word
-last_word : (names : List ℕ → List (List ℕ)) (texts : List (List ℕ)) (text : List ℕ) → All (λ byte. is_white byte ≡ false) text → body_texts names texts (words text) ≡ and_then (with_word names texts text) (λ longer. body_texts names longer [])
+last_word : (names : List ℕ → List (List ℕ)) (texts : List (List ℕ)) (text : List ℕ) → All (λ byte. is_white byte ≡ false) text → body_texts names texts (words text) ≡ and_then (λ longer. body_texts names longer []) (with_word names texts text)
 last_word names texts text none = ap (body_texts names texts) (slice_split_none is_white text none) ∙ opened names texts text []
 
 pub last_ok : (names : List ℕ → List (List ℕ)) (texts longer : List (List ℕ)) (text : List ℕ) (answer : Answer) → All (λ byte. is_white byte ≡ false) text → body_texts names texts (words text) ≡ answer → with_word names texts text ≡ Ok longer → answer ≡ Ok longer
 unfolding body_texts
-last_ok names texts longer text answer none so_far e = sym so_far ∙ last_word names texts text none ∙ ap (λ found. and_then found (λ more. body_texts names more [])) e
+last_ok names texts longer text answer none so_far e = sym so_far ∙ last_word names texts text none ∙ ap (λ found. and_then (λ more. body_texts names more []) found) e
 
 pub last_fault : (names : List ℕ → List (List ℕ)) (texts : List (List ℕ)) (text : List ℕ) (fault : ExpandFault) (answer : Answer) → All (λ byte. is_white byte ≡ false) text → body_texts names texts (words text) ≡ answer
     → (fault ≡ faults.OutOfMemory) ⊎ (with_word names texts text ≡ Err fault) → (fault ≡ faults.OutOfMemory) ⊎ (answer ≡ Err fault)
 last_fault names texts text fault answer none so_far (inl e) = inl e
-last_fault names texts text fault answer none so_far (inr e) = inr (sym so_far ∙ last_word names texts text none ∙ ap (λ found. and_then found (λ more. body_texts names more [])) e)
+last_fault names texts text fault answer none so_far (inr e) = inr (sym so_far ∙ last_word names texts text none ∙ ap (λ found. and_then (λ more. body_texts names more []) found) e)
 
 -- ---- texts and white space
 

@@ -10,7 +10,8 @@ use Rattle.jam_expand.specs.Shown.{shown}
 use Rattle.b2_base.specs.Bytes.{HasNoZero}
 use Rattle.b2_base.specs.declared.expand_fault.ExpandFault.{ExpandFault}
 use Rattle.b2_base.specs.declared.expand_fault.ExpandFault.TheVariants as faults
-use Rattle.jam_expand.specs.Limits.{Answer, and_then, within}
+use Rattle.b2_base.specs.Results.{and_then}
+use Rattle.jam_expand.specs.Limits.{Answer, within}
 use Rattle.jam_expand.specs.Words.{Piece, text, part, inside_len, before_pieces, piece_at, pieces_after, pieces_of, any_part, too_deep, bytes_of}
 use Rattle.jam_expand.specs.Products.{product}
 use Rattle.jam_expand.specs.Values.{values_of_all}
@@ -21,7 +22,7 @@ pub after_lists : List (List (List ℕ)) → Result (List (List (List ℕ))) Exp
 after_lists found (Ok lists) = Ok (found ++ lists)
 after_lists found (Err fault) = Err fault
 
-found_more : (found : List (List (List ℕ))) (list : List (List ℕ)) (rest : Result (List (List (List ℕ))) ExpandFault) → after_lists found (and_then rest (λ lists. Ok (list ∷ lists))) ≡ after_lists (found ++ list ∷ []) rest
+found_more : (found : List (List (List ℕ))) (list : List (List ℕ)) (rest : Result (List (List (List ℕ))) ExpandFault) → after_lists found (and_then (λ lists. Ok (list ∷ lists)) rest) ≡ after_lists (found ++ list ∷ []) rest
 unfolding after_lists
 found_more found list (Ok lists) = ap (λ s. Ok s) (sym (append_assoc found (list ∷ []) lists))
 found_more found list (Err fault) = refl
@@ -36,7 +37,7 @@ pub found_piece : (values : List ℕ → Answer) (found : List (List (List ℕ))
     → after_lists (found ++ list ∷ []) (lists_of values (drop (place + 1) pieces)) ≡ after_lists found (lists_of values (drop place pieces))
 found_piece values found pieces place piece d list inside here e =
     sym (ap (λ s. after_lists found (lists_of values s)) (drop_more pieces place d inside ∙ ap (λ s. s ∷ drop (place + 1) pieces) (sym here))
-    ∙ ap (λ r. after_lists found (and_then r (λ first. and_then (lists_of values (drop (place + 1) pieces)) (λ lists. Ok (first ∷ lists))))) e
+    ∙ ap (λ r. after_lists found (and_then (λ first. and_then (λ lists. Ok (first ∷ lists)) (lists_of values (drop (place + 1) pieces))) r)) e
     ∙ found_more found list (lists_of values (drop (place + 1) pieces)))
 
 pub piece_fault : (values : List ℕ → Answer) (found : List (List (List ℕ))) (word : List ℕ) (place : ℕ) (piece d : Piece) (fault : ExpandFault) → place < length (pieces_of word) → piece ≡ get_or (pieces_of word) place d
@@ -48,14 +49,14 @@ piece_fault values found word place piece d fault inside here so_far (inr e) =
     let pieces = pieces_of word in
     let all : lists_of values pieces ≡ Err fault =
     sym so_far ∙ ap (λ s. after_lists found (lists_of values s)) (drop_more pieces place d inside ∙ ap (λ s. s ∷ drop (place + 1) pieces) (sym here))
-    ∙ ap (λ r. after_lists found (and_then r (λ first. and_then (lists_of values (drop (place + 1) pieces)) (λ lists. Ok (first ∷ lists))))) e in
-    inr (ap (λ r. and_then r (λ lists. within (product lists))) all)
+    ∙ ap (λ r. after_lists found (and_then (λ first. and_then (λ lists. Ok (first ∷ lists)) (lists_of values (drop (place + 1) pieces))) r)) e in
+    inr (ap (λ r. and_then (λ lists. within (product lists)) r) all)
 
 pub found_all : (values : List ℕ → Answer) (found : List (List (List ℕ))) (word : List ℕ) (place : ℕ) → length (pieces_of word) ≤ place
     → after_lists found (lists_of values (drop place (pieces_of word))) ≡ lists_of values (pieces_of word) → product_of values word ≡ within (product found)
 unfolding after_lists
 found_all values found word place end so_far =
-    ap (λ r. and_then r (λ lists. within (product lists)))
+    ap (λ r. and_then (λ lists. within (product lists)) r)
     (sym so_far ∙ ap (λ s. after_lists found (lists_of values s)) (drop_of_length-le (pieces_of word) end) ∙ ap (λ s. Ok s) (append-nil found))
 
 -- the bytes of the pieces of a word are among those of the word
@@ -147,7 +148,7 @@ unfolding elements_at
 elements_zero zero names word e = refl
 elements_zero (suc levels) names word e = absurd (omega (arith, e))
 
-pub elements_more : (levels : ℕ) (names : List ℕ → List (List ℕ)) (word : List ℕ) → levels ≢ 0 → elements_at levels names word ≡ product_of (λ inside. and_then (elements_at (levels - 1) names inside) (values_of_all names)) word
+pub elements_more : (levels : ℕ) (names : List ℕ → List (List ℕ)) (word : List ℕ) → levels ≢ 0 → elements_at levels names word ≡ product_of (λ inside. and_then (values_of_all names) (elements_at (levels - 1) names inside)) word
 unfolding elements_at
 elements_more zero names word e = absurd (e refl)
 elements_more (suc levels) names word e = let less : suc levels - 1 ≡ levels = omega arith in rw less refl

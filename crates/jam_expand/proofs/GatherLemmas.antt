@@ -4,8 +4,9 @@ use Rattle.std.proofs.lemmas.List.{map-append, append_assoc, take_more, drop_mor
 use Rattle.std.proofs.Math.ListN.{drop_of_length-le}
 use Rattle.b2_base.specs.declared.expand_fault.ExpandFault.{ExpandFault}
 use Rattle.b2_base.specs.declared.expand_fault.ExpandFault.TheVariants as faults
+use Rattle.b2_base.specs.Results.{and_then}
 use Rattle.jam_expand.specs.declared.modifiers.Modifiers.{Modifiers}
-use Rattle.jam_expand.specs.Limits.{first_above, unless_above, within, and_then}
+use Rattle.jam_expand.specs.Limits.{first_above, unless_above, within}
 use Rattle.jam_expand.specs.Values.{values_of, joined_after}
 use Rattle.jam_expand.specs.Modifiers.{changed}
 use Rattle.jam_expand.proofs.LimitLemmas.{above_stays, and_then_more}
@@ -43,27 +44,27 @@ each_fault list modifiers texts place text now made fault inside here made_is no
     inr (ap (λ s. within (list ++ s)) all ∙ ap within (sym (append_assoc list front back))
     ∙ fault_stays (list ++ front) back fault (ap within (sym (each_longer list modifiers texts place text now made inside here made_is now_is)) ∙ e))
 
-opened : (names : List ℕ → List (List ℕ)) (list : List (List ℕ)) (text : List ℕ) (texts : List (List ℕ)) → joined_after names list (text ∷ texts) ≡ and_then (and_then (values_of names text) (λ values. within (list ++ values))) (λ longer. joined_after names longer texts)
+opened : (names : List ℕ → List (List ℕ)) (list : List (List ℕ)) (text : List ℕ) (texts : List (List ℕ)) → joined_after names list (text ∷ texts) ≡ and_then (λ longer. joined_after names longer texts) (and_then (λ values. within (list ++ values)) (values_of names text))
 unfolding joined_after
 opened names list text texts = and_then_more (values_of names text) (λ values. within (list ++ values)) (λ longer. joined_after names longer texts)
 
 -- the values of one more text are joined
 join_text : (names : List ℕ → List (List ℕ)) (list : List (List ℕ)) (texts : List (List ℕ)) (place : ℕ) (text : List ℕ) → place < length texts → text ≡ get_or texts place text
-    → joined_after names list (drop place texts) ≡ and_then (and_then (values_of names text) (λ values. within (list ++ values))) (λ longer. joined_after names longer (drop (place + 1) texts))
+    → joined_after names list (drop place texts) ≡ and_then (λ longer. joined_after names longer (drop (place + 1) texts)) (and_then (λ values. within (list ++ values)) (values_of names text))
 join_text names list texts place text inside here =
     ap (joined_after names list) (drop_more texts place text inside ∙ ap (λ s. s ∷ drop (place + 1) texts) (sym here)) ∙ opened names list text (drop (place + 1) texts)
 
 pub join_ok : (names : List ℕ → List (List ℕ)) (list longer : List (List ℕ)) (texts : List (List ℕ)) (place : ℕ) (text : List ℕ) → place < length texts → text ≡ get_or texts place text
-    → and_then (values_of names text) (λ values. within (list ++ values)) ≡ Ok longer → joined_after names longer (drop (place + 1) texts) ≡ joined_after names list (drop place texts)
+    → and_then (λ values. within (list ++ values)) (values_of names text) ≡ Ok longer → joined_after names longer (drop (place + 1) texts) ≡ joined_after names list (drop place texts)
 join_ok names list longer texts place text inside here e =
-    sym (join_text names list texts place text inside here ∙ ap (λ found. and_then found (λ more. joined_after names more (drop (place + 1) texts))) e)
+    sym (join_text names list texts place text inside here ∙ ap (λ found. and_then (λ more. joined_after names more (drop (place + 1) texts)) found) e)
 
 pub join_fault : (names : List ℕ → List (List ℕ)) (list : List (List ℕ)) (texts : List (List ℕ)) (place : ℕ) (text : List ℕ) (fault : ExpandFault) (answer : Result (List (List ℕ)) ExpandFault) → place < length texts → text ≡ get_or texts place text
     → joined_after names list (drop place texts) ≡ answer
-    → (fault ≡ faults.OutOfMemory) ⊎ (and_then (values_of names text) (λ values. within (list ++ values)) ≡ Err fault) → (fault ≡ faults.OutOfMemory) ⊎ (answer ≡ Err fault)
+    → (fault ≡ faults.OutOfMemory) ⊎ (and_then (λ values. within (list ++ values)) (values_of names text) ≡ Err fault) → (fault ≡ faults.OutOfMemory) ⊎ (answer ≡ Err fault)
 join_fault names list texts place text fault answer inside here so_far (inl e) = inl e
 join_fault names list texts place text fault answer inside here so_far (inr e) =
-    inr (sym so_far ∙ join_text names list texts place text inside here ∙ ap (λ found. and_then found (λ more. joined_after names more (drop (place + 1) texts))) e)
+    inr (sym so_far ∙ join_text names list texts place text inside here ∙ ap (λ found. and_then (λ more. joined_after names more (drop (place + 1) texts)) found) e)
 
 pub join_end : (names : List ℕ → List (List ℕ)) (list : List (List ℕ)) (texts : List (List ℕ)) (place : ℕ) → length texts ≤ place → joined_after names list (drop place texts) ≡ Ok list
 unfolding joined_after

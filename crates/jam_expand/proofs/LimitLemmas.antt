@@ -3,10 +3,11 @@ use Rattle.std.proofs.Common.{◌≡◌, ℕ, ◌<◌, ◌≤◌, ◌+◌, Bool,
 use Rattle.std.proofs.lemmas.Bool.{ltb-false, lt-ltb}
 use Rattle.b2_base.specs.declared.expand_fault.ExpandFault.{ExpandFault}
 use Rattle.b2_base.specs.declared.expand_fault.ExpandFault.TheVariants as faults
-use Rattle.jam_expand.specs.Limits.{limit, Answer, and_then, first_above, unless_above, within, total, IsWithin}
+use Rattle.b2_base.specs.Results.{and_then}
+use Rattle.jam_expand.specs.Limits.{limit, Answer, first_above, unless_above, within, total, IsWithin}
 
 -- two steps after an answer
-pub and_then_more : (first : Answer) (second third : List (List ℕ) → Answer) → and_then first (λ value. and_then (second value) third) ≡ and_then (and_then first second) third
+pub and_then_more : (first : Answer) (second third : List (List ℕ) → Answer) → and_then (λ value. and_then third (second value)) first ≡ and_then third (and_then second first)
 and_then_more (Ok value) second third = refl
 and_then_more (Err fault) second third = refl
 

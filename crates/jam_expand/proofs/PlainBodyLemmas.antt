@@ -5,10 +5,11 @@ use Rattle.std.proofs.lemmas.List.{append_assoc, append-nil}
 use Rattle.std.proofs.lemmas.List.Elements.{recursion_from_All}
 use Rattle.std.proofs.lemmas.List.Splits.{length-slice_split}
 use Rattle.std.proofs.lemmas.Bool.{ltb-false, le-ltb}
-use Rattle.jam_expand.specs.Limits.{and_then, limit, first_above, unless_above, within, total}
+use Rattle.jam_expand.specs.Limits.{limit, first_above, unless_above, within, total}
 use Rattle.jam_expand.specs.Expansions.{expansion}
 use Rattle.jam_expand.specs.Bodies.{words, spaces, interleaved, trimmed, body_texts, body_expansion}
 use Rattle.b2_base.specs.Bytes.{is_white}
+use Rattle.b2_base.specs.Results.{and_then}
 use Rattle.jam_expand.proofs.LimitLemmas.{above_after, above_stays}
 use Rattle.jam_expand.proofs.BodyLemmas.{opened}
 use Rattle.jam_expand.proofs.PlainWordLemmas.{plain_expansion}
@@ -90,13 +91,13 @@ plain_texts names texts (word ∷ more) plain h =
     let elements : expansion names word ≡ Ok (word ∷ []) = plain_expansion names word plain.0 ∙ one_within texts word more h in
     let front : within (texts ++ word ∷ []) ≡ Ok (texts ++ word ∷ []) = ap (unless_above (texts ++ word ∷ [])) (prefix_within (texts ++ word ∷ []) more longer) in
     opened names texts word more
-    ∙ ap (λ found. and_then (and_then found (λ elements. within (texts ++ join_with_byte 32 elements ∷ []))) (λ list. body_texts names list more)) elements
-    ∙ ap (λ found. and_then found (λ list. body_texts names list more)) front
+    ∙ ap (λ found. and_then (λ list. body_texts names list more) (and_then (λ elements. within (texts ++ join_with_byte 32 elements ∷ [])) found)) elements
+    ∙ ap (λ found. and_then (λ list. body_texts names list more) found) front
     ∙ plain_texts names (texts ++ word ∷ []) more plain.1 longer
     ∙ ap (λ s. Ok s) whole
 
 pub body_is_itself : (names : List ℕ → List (List ℕ)) (body : List ℕ) → All (λ byte. byte ≢ 36) body → within (words body) ≡ Ok (words body) → body_expansion names body ≡ Ok (trimmed body)
 body_is_itself names body all h =
     let plain : AllByRecursion (AllByRecursion (λ byte. byte ≢ 36)) (words body) = words_all (λ byte. byte ≢ 36) body (recursion_from_All (λ byte. byte ≢ 36) body all) in
-    ap (λ found. and_then found (λ texts. Ok (trimmed (interleaved texts (spaces body))))) (plain_texts names [] (words body) plain h)
+    ap (λ found. and_then (λ texts. Ok (trimmed (interleaved texts (spaces body)))) found) (plain_texts names [] (words body) plain h)
     ∙ ap (λ s. Ok (trimmed s)) (words_interleaved body)

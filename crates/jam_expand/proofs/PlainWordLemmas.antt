@@ -5,9 +5,10 @@ use Rattle.std.proofs.lemmas.List.{append-nil}
 use Rattle.std.proofs.lemmas.List.Elements.{recursion_from_All}
 use Rattle.std.proofs.lemmas.Bool.{ne_eqb, le-ltb}
 use Rattle.b2_base.specs.declared.expand_fault.ExpandFault.TheVariants as faults
+use Rattle.b2_base.specs.Results.{and_then}
 use Rattle.jam_expand.specs.Cuts.{up_to, from_on}
 use Rattle.jam_expand.specs.Indexes.{selected}
-use Rattle.jam_expand.specs.Limits.{Answer, and_then, limit, first_above, unless_above, within}
+use Rattle.jam_expand.specs.Limits.{Answer, limit, first_above, unless_above, within}
 use Rattle.jam_expand.specs.Modifiers.{no_modifiers, modified_after, edited}
 use Rattle.jam_expand.specs.References.{reference_of}
 use Rattle.jam_expand.specs.Values.{values_of, joined_after, values_of_all}
@@ -31,16 +32,16 @@ literal_flat : (test : List ℕ → Bool) (word : List ℕ) → any_part test (l
 literal_flat test [] = refl
 literal_flat test (byte ∷ bytes) = refl
 
-literal_lists : (values : List ℕ → Answer) (word : List ℕ) → and_then (lists_of values (literal_of word)) (λ lists. within (product lists)) ≡ within (word ∷ [])
+literal_lists : (values : List ℕ → Answer) (word : List ℕ) → and_then (λ lists. within (product lists)) (lists_of values (literal_of word)) ≡ within (word ∷ [])
 literal_lists values [] = refl
 literal_lists values (byte ∷ bytes) = ap (λ s. within (s ∷ [])) (append-nil (byte ∷ bytes))
 
 literal_product : (values : List ℕ → Answer) (word : List ℕ) → pieces_of word ≡ literal_of word → product_of values word ≡ within (word ∷ [])
-literal_product values word h = ap (λ pieces. and_then (lists_of values pieces) (λ lists. within (product lists))) h ∙ literal_lists values word
+literal_product values word h = ap (λ pieces. and_then (λ lists. within (product lists)) (lists_of values pieces)) h ∙ literal_lists values word
 
 literal_elements : (levels : ℕ) (names : List ℕ → List (List ℕ)) (word : List ℕ) → pieces_of word ≡ literal_of word → elements_at levels names word ≡ within (word ∷ [])
 literal_elements zero names word h = elements_zero 0 names word refl
-literal_elements (suc levels) names word h = elements_more (suc levels) names word (λ e. omega (arith, e)) ∙ literal_product (λ inside. and_then (elements_at (suc levels - 1) names inside) (values_of_all names)) word h
+literal_elements (suc levels) names word h = elements_more (suc levels) names word (λ e. omega (arith, e)) ∙ literal_product (λ inside. and_then (values_of_all names) (elements_at (suc levels - 1) names inside)) word h
 
 literal_depth : (levels : ℕ) (word : List ℕ) → pieces_of word ≡ literal_of word → deeper levels word ≡ false
 literal_depth levels word h = ap (any_part (too_deep levels)) h ∙ literal_flat (too_deep levels) word
@@ -113,36 +114,36 @@ unchanged (first ∷ texts) = ap (λ s. first ∷ s) (unchanged texts)
 name_values : (names : List ℕ → List (List ℕ)) (name : List ℕ) → AllByRecursion IsNameByte name → values_of names name ≡ Ok (names name)
 name_values names name h =
     let ends : (up_to (91 ∷ 58 ∷ []) name ≡ name) × (from_on (91 ∷ 58 ∷ []) name ≡ []) = name_ends name h in
-    ap (λ s. and_then (reference_of s) (λ found. Ok (edited found.modifiers (selected found.index (names (up_to (91 ∷ 58 ∷ []) name)))))) ends.1
-    ∙ ap (λ r. and_then r (λ found. Ok (edited found.modifiers (selected found.index (names (up_to (91 ∷ 58 ∷ []) name)))))) no_reference
+    ap (λ s. and_then (λ found. Ok (edited found.modifiers (selected found.index (names (up_to (91 ∷ 58 ∷ []) name))))) (reference_of s)) ends.1
+    ∙ ap (λ r. and_then (λ found. Ok (edited found.modifiers (selected found.index (names (up_to (91 ∷ 58 ∷ []) name))))) r) no_reference
     ∙ ap (λ s. Ok s) (unchanged (names (up_to (91 ∷ 58 ∷ []) name)))
     ∙ ap (λ s. Ok (names s)) ends.0
 
-given_on : (answer : Answer) → and_then answer (λ value. Ok value) ≡ answer
+given_on : (answer : Answer) → and_then (λ value. Ok value) answer ≡ answer
 given_on (Ok value) = refl
 given_on (Err fault) = refl
 
 joined_one : (names : List ℕ → List (List ℕ)) (name : List ℕ) (list : List (List ℕ)) → values_of names name ≡ Ok list → values_of_all names (name ∷ []) ≡ within list
 unfolding joined_after
-joined_one names name list e = ap (λ found. and_then found (λ values. and_then (within ([] ++ values)) (λ longer. joined_after names longer []))) e ∙ given_on (within list)
+joined_one names name list e = ap (λ found. and_then (λ values. and_then (λ longer. joined_after names longer []) (within ([] ++ values))) found) e ∙ given_on (within list)
 
 small_name : (name : List ℕ) → length name < limit → within (name ∷ []) ≡ Ok (name ∷ [])
 small_name name h = let small : ltb limit (0 + (length name + 1)) ≡ false = le-ltb limit (0 + (length name + 1)) (omega (arith, h)) in rw small refl
 
-name_list : (levels : ℕ) (names : List ℕ → List (List ℕ)) (name : List ℕ) → AllByRecursion IsNameByte name → length name < limit → and_then (elements_at levels names name) (values_of_all names) ≡ within (names name)
+name_list : (levels : ℕ) (names : List ℕ → List (List ℕ)) (name : List ℕ) → AllByRecursion IsNameByte name → length name < limit → and_then (values_of_all names) (elements_at levels names name) ≡ within (names name)
 name_list levels names name h small =
-    ap (λ r. and_then r (values_of_all names)) (literal_elements levels names name (plain_pieces name (no_dollars name h)) ∙ small_name name small)
+    ap (λ r. and_then (values_of_all names) r) (literal_elements levels names name (plain_pieces name (no_dollars name h)) ∙ small_name name small)
     ∙ joined_one names name (names name) (name_values names name h)
 
-one_list : (list : List (List ℕ)) → and_then (and_then (within list) (λ first. Ok (first ∷ []))) (λ lists. within (product lists)) ≡ within list
+one_list : (list : List (List ℕ)) → and_then (λ lists. within (product lists)) (and_then (λ first. Ok (first ∷ [])) (within list)) ≡ within list
 one_list list = go (first_above 0 list) refl
   where
-    go : (found : Option ℕ) → first_above 0 list ≡ found → and_then (and_then (unless_above list found) (λ first. Ok (first ∷ []))) (λ lists. within (product lists)) ≡ unless_above list found
+    go : (found : Option ℕ) → first_above 0 list ≡ found → and_then (λ lists. within (product lists)) (and_then (λ first. Ok (first ∷ [])) (unless_above list found)) ≡ unless_above list found
     go None e = ap within (cross_right list) ∙ ap (unless_above list) e
     go (Some bytes) e = refl
 
-name_product : (values : List ℕ → Answer) (name : List ℕ) (list : List (List ℕ)) → values name ≡ within list → and_then (lists_of values (part name ∷ [])) (λ lists. within (product lists)) ≡ within list
-name_product values name list e = ap (λ r. and_then (and_then r (λ first. Ok (first ∷ []))) (λ lists. within (product lists))) e ∙ one_list list
+name_product : (values : List ℕ → Answer) (name : List ℕ) (list : List (List ℕ)) → values name ≡ within list → and_then (λ lists. within (product lists)) (lists_of values (part name ∷ [])) ≡ within list
+name_product values name list e = ap (λ r. and_then (λ lists. within (product lists)) (and_then (λ first. Ok (first ∷ [])) r)) e ∙ one_list list
 
 name_pieces : (name : List ℕ) → AllByRecursion IsNameByte name → pieces_of (36 ∷ 40 ∷ (name ++ 41 ∷ [])) ≡ part name ∷ []
 name_pieces name h = sym (cut_is_one (36 ∷ 40 ∷ (name ++ 41 ∷ [])) (part name ∷ []) (at_part name [] [] (name_balanced name h) at_end))
@@ -161,5 +162,5 @@ name_is_its_list names name all small =
     let word : List ℕ = 36 ∷ 40 ∷ (name ++ 41 ∷ []) in
     unless_deep (deeper 16 word) (elements_at 16 names word) (name_depth name h)
     ∙ elements_more 16 names word (λ e. omega (arith, e))
-    ∙ ap (λ pieces. and_then (lists_of (λ inside. and_then (elements_at (16 - 1) names inside) (values_of_all names)) pieces) (λ lists. within (product lists))) (name_pieces name h)
-    ∙ name_product (λ inside. and_then (elements_at (16 - 1) names inside) (values_of_all names)) name (names name) (name_list (16 - 1) names name h small)
+    ∙ ap (λ pieces. and_then (λ lists. within (product lists)) (lists_of (λ inside. and_then (values_of_all names) (elements_at (16 - 1) names inside)) pieces)) (name_pieces name h)
+    ∙ name_product (λ inside. and_then (values_of_all names) (elements_at (16 - 1) names inside)) name (names name) (name_list (16 - 1) names name h small)

@@ -3,7 +3,8 @@ use Rattle.std.specs.Prelude.{ℕ, ◌-◌, List, [], ◌∷◌, ◌++◌, filte
 use Rattle.std.specs.List.{slice_split, join_with_byte, prefix_len, suffix_len}
 use Rattle.b2_base.specs.Bytes.{is_white}
 use Rattle.b2_base.specs.declared.expand_fault.ExpandFault.{ExpandFault}
-use Rattle.jam_expand.specs.Limits.{Answer, and_then, within}
+use Rattle.b2_base.specs.Results.{and_then}
+use Rattle.jam_expand.specs.Limits.{Answer, within}
 use Rattle.jam_expand.specs.Expansions.{expansion}
 
 -- The body's words: it is cut at each byte of white space. A word is empty where two of them meet.
@@ -32,8 +33,8 @@ trimmed text = without_end (drop (prefix_len is_white text) text)
 -- list they are within the limit, each time one is added.
 unfoldable pub body_texts : (List ℕ → List (List ℕ)) → List (List ℕ) → List (List ℕ) → Answer
 body_texts names texts [] = Ok texts
-body_texts names texts (word ∷ more) = and_then (expansion names word) (λ elements. and_then (within (texts ++ join_with_byte 32 elements ∷ [])) (λ longer. body_texts names longer more))
+body_texts names texts (word ∷ more) = and_then (λ elements. and_then (λ longer. body_texts names longer more) (within (texts ++ join_with_byte 32 elements ∷ []))) (expansion names word)
 
 -- what a body stands for: its white space stays, but for both ends of the result
 abbrev pub body_expansion : (List ℕ → List (List ℕ)) → List ℕ → Result (List ℕ) ExpandFault
-body_expansion names body = and_then (body_texts names [] (words body)) (λ texts. Ok (trimmed (interleaved texts (spaces body))))
+body_expansion names body = and_then (λ texts. Ok (trimmed (interleaved texts (spaces body)))) (body_texts names [] (words body))

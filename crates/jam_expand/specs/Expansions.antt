@@ -2,7 +2,8 @@
 use Rattle.std.specs.Prelude.{ℕ, zero, suc, List, [], ◌∷◌, Result, Ok, Err, if◌then◌else◌}
 use Rattle.b2_base.specs.declared.expand_fault.ExpandFault.{ExpandFault}
 use Rattle.b2_base.specs.declared.expand_fault.ExpandFault.TheVariants as faults
-use Rattle.jam_expand.specs.Limits.{Answer, and_then, within}
+use Rattle.b2_base.specs.Results.{and_then}
+use Rattle.jam_expand.specs.Limits.{Answer, within}
 use Rattle.jam_expand.specs.Words.{Piece, text, part, pieces_of, deeper}
 use Rattle.jam_expand.specs.Products.{product}
 use Rattle.jam_expand.specs.Values.{values_of_all}
@@ -15,17 +16,17 @@ list_of values (part inside) = values inside
 -- the lists of the pieces, or the first fault among them
 abbrev pub lists_of : (List ℕ → Answer) → List Piece → Result (List (List (List ℕ))) ExpandFault
 lists_of values [] = Ok []
-lists_of values (piece ∷ pieces) = and_then (list_of values piece) (λ list. and_then (lists_of values pieces) (λ lists. Ok (list ∷ lists)))
+lists_of values (piece ∷ pieces) = and_then (λ list. and_then (λ lists. Ok (list ∷ lists)) (lists_of values pieces)) (list_of values piece)
 
 -- the elements of a word, where `values` says what the inside of a part gives
 abbrev pub product_of : (List ℕ → Answer) → List ℕ → Answer
-product_of values word = and_then (lists_of values (pieces_of word)) (λ lists. within (product lists))
+product_of values word = and_then (λ lists. within (product lists)) (lists_of values (pieces_of word))
 
 -- The elements of a word whose parts are nested at most so many deep. The inside of a part is expanded first, and each of
 -- its elements is read as a name with index and modifiers.
 unfoldable pub elements_at : ℕ → (List ℕ → List (List ℕ)) → List ℕ → Answer
 elements_at zero names word = within (word ∷ [])
-elements_at (suc levels) names word = product_of (λ inside. and_then (elements_at levels names inside) (values_of_all names)) word
+elements_at (suc levels) names word = product_of (λ inside. and_then (values_of_all names) (elements_at levels names inside)) word
 
 -- The elements of a word for what the names stand for. Parts that are nested more than 16 deep are refused before all else.
 abbrev pub expansion : (List ℕ → List (List ℕ)) → List ℕ → Answer

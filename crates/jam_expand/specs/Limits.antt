@@ -7,11 +7,6 @@ use Rattle.b2_base.specs.declared.expand_fault.ExpandFault.TheVariants as faults
 abbrev pub Answer : Type 0
 Answer = Result (List (List ℕ)) ExpandFault
 
--- what follows an answer; a fault stays
-abbrev pub and_then : {A B : Type 0} → Result A ExpandFault → (A → Result B ExpandFault) → Result B ExpandFault
-and_then (Ok value) next = next value
-and_then (Err fault) next = Err fault
-
 -- the most that the bytes and the elements of a list may be together
 abbrev pub limit : ℕ
 limit = 16777216

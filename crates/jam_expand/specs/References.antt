@@ -3,15 +3,15 @@ use Rattle.std.specs.Prelude.{◌≡◌, ◌⊎◌, ℕ, List, Option, Some, Non
 use Rattle.std.specs.Borrow.{Bor}
 use Rattle.b2_base.specs.declared.expand_fault.ExpandFault.{ExpandFault}
 use Rattle.b2_base.specs.declared.expand_fault.ExpandFault.TheVariants as faults
+use Rattle.b2_base.specs.Results.{and_then}
 use Rattle.jam_expand.specs.declared.index.Index.{Index}
 use Rattle.jam_expand.specs.declared.reference.Reference.{Reference}
 use Rattle.jam_expand.specs.Indexes.{Indexed, indexed}
-use Rattle.jam_expand.specs.Limits.{and_then}
 use Rattle.jam_expand.specs.Modifiers.{modified}
 
 -- the index and the modifiers; the index is read first
 abbrev pub reference_of : List ℕ → Result Reference ExpandFault
-reference_of text = and_then (indexed text) (λ found. and_then (modified found.1) (λ modifiers. Ok (record { index = found.0; modifiers = modifiers })))
+reference_of text = and_then (λ found. and_then (λ modifiers. Ok (record { index = found.0; modifiers = modifiers })) (modified found.1)) (indexed text)
 
 -- a call's result is the index and the text after it, or the fault, unless memory ran out
 abbrev pub IsIndexedBy : Result (Option Index × Bor (List ℕ)) ExpandFault → Indexed → Type 0

@@ -2,10 +2,11 @@
 ghost use Rattle.std.specs.Prelude.{◌≡◌, ◌≢◌, ◌-◌, true, false, [], ◌∷◌, ◌++◌, MatchOption, OnOk, All, Ok, IfOk, length, string_bytes};
 ghost use Rattle.std.specs.List.{join_with_byte, position_or_len, prefix_len, suffix_len};
 ghost use Rattle.b2_base.specs.Bytes.{HasNoZero, is_white};
+ghost use Rattle.b2_base.specs.Results.{and_then};
 ghost use Rattle.jam_expand.specs.Bodies.{words, spaces, interleaved, trimmed, body_texts, body_expansion};
 ghost use Rattle.jam_expand.specs.BodyCuts.{IsCut};
 ghost use Rattle.jam_expand.specs.Expansions.{expansion};
-ghost use Rattle.jam_expand.specs.Limits.{and_then, within, IsGivenBy, IsLeftBy};
+ghost use Rattle.jam_expand.specs.Limits.{within, IsGivenBy, IsLeftBy};
 
 use crate::expand::expand;
 use crate::limit::Gathered;
@@ -87,7 +88,7 @@ fn add_word<L: Look>(
     look: &L,
 ) -> Result<(), ExpandFault>
     requires { HasNoZero word.now }
-    ensures { IsLeftBy result gathered.new (and_then (expansion (L.answer look.now) word.now) (λ elements. within (gathered.old ++ join_with_byte 32 elements ∷ []))) }
+    ensures { IsLeftBy result gathered.new (and_then (λ elements. within (gathered.old ++ join_with_byte 32 elements ∷ [])) (expansion (L.answer look.now) word.now)) }
 {
     let elements = expand(alloc, word, look)?;
     let text = joined(alloc, elements.as_slice())?;

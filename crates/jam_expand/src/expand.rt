@@ -1,8 +1,9 @@
 //! What a word stands for.
 ghost use Rattle.std.specs.Prelude.{◌≡◌, ◌≢◌, [], ◌∷◌, ◌++◌, All, IfOk, OnOk};
 ghost use Rattle.b2_base.specs.Bytes.{HasNoZero};
+ghost use Rattle.b2_base.specs.Results.{and_then};
 ghost use Rattle.jam_expand.specs.Expansions.{list_of, elements_at, expansion};
-ghost use Rattle.jam_expand.specs.Limits.{and_then, within, IsGivenBy};
+ghost use Rattle.jam_expand.specs.Limits.{within, IsGivenBy};
 ghost use Rattle.jam_expand.specs.Shown.{shown};
 ghost use Rattle.jam_expand.specs.Values.{values_of_all};
 ghost use Rattle.jam_expand.specs.Words.{bytes_of, deeper, too_deep};
@@ -74,7 +75,7 @@ fn values_at<L: Look>(
     look: &L,
 ) -> Result<TextList, ExpandFault>
     requires { HasNoZero inside.now }
-    ensures { IsGivenBy result (and_then (elements_at levels (L.answer look.now) inside.now) (values_of_all (L.answer look.now))) }
+    ensures { IsGivenBy result (and_then (values_of_all (L.answer look.now)) (elements_at levels (L.answer look.now) inside.now)) }
 {
     let texts = elements_at(alloc, levels, inside, look)?;
     values_of_all(alloc, texts.as_slice(), look)
@@ -89,7 +90,7 @@ fn list_of<L: Look>(
     look: &L,
 ) -> Result<TextList, ExpandFault>
     requires { HasNoZero (bytes_of (shown piece.now)) }
-    ensures { IsGivenBy result (list_of (λ inside. and_then (elements_at levels (L.answer look.now) inside) (values_of_all (L.answer look.now))) (shown piece.now)) }
+    ensures { IsGivenBy result (list_of (λ inside. and_then (values_of_all (L.answer look.now)) (elements_at levels (L.answer look.now) inside)) (shown piece.now)) }
 {
     match piece {
         Piece::Literal(text) => Ok(single(alloc, text)?),

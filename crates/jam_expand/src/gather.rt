@@ -1,6 +1,7 @@
 //! What a text within a part stands for.
 ghost use Rattle.std.specs.Prelude.{◌++◌, ◌∷◌, ◌<◌, [], Ok, map};
-ghost use Rattle.jam_expand.specs.Limits.{within, and_then, IsGivenBy, IsLeftBy};
+ghost use Rattle.b2_base.specs.Results.{and_then};
+ghost use Rattle.jam_expand.specs.Limits.{within, IsGivenBy, IsLeftBy};
 ghost use Rattle.jam_expand.specs.Modifiers.{changed, edited, glued, glued_text};
 ghost use Rattle.jam_expand.specs.Values.{values_of, values_of_all};
 
@@ -89,7 +90,7 @@ fn add_values<L: Look>(
     text: &Text,
     look: &L,
 ) -> Result<(), ExpandFault>
-    ensures { IsLeftBy result gathered.new (and_then (values_of (L.answer look.now) text.now) (λ values. within (gathered.old ++ values))) }
+    ensures { IsLeftBy result gathered.new (and_then (λ values. within (gathered.old ++ values)) (values_of (L.answer look.now) text.now)) }
 {
     let (name, rest) = split_before(text.as_str(), b"[:");
     let reference = read_reference(alloc, rest)?;

@@ -1,6 +1,6 @@
 use Rattle.std.proofs.Common.{◌∙◌, Ok, map, length, sym, ap, subst}
 use Rattle.std.proofs.lemmas.Result.{err_from_is_err_and}
-use Rattle.b2_metatargets.specs.Outcomes.{and_then}
+use Rattle.b2_base.specs.Results.{and_then}
 use Rattle.b2_metatargets.specs.Carrying.{Tables}
 use Rattle.b2_metatargets.specs.Gathering.{Gathered, gathered_by}
 use Rattle.b2_metatargets.specs.Views.{seen, brought}

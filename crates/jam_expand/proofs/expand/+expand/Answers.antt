@@ -1,6 +1,7 @@
 use Rattle.std.proofs.Common.{ℕ, List, ◌-◌, map, ◌∙◌, ap, rules}
 use Rattle.std.proofs.lemmas.Result.{err_from_is_err_and}
-use Rattle.jam_expand.specs.Limits.{Answer, and_then}
+use Rattle.b2_base.specs.Results.{and_then}
+use Rattle.jam_expand.specs.Limits.{Answer}
 use Rattle.jam_expand.specs.Shown.{shown}
 use Rattle.jam_expand.specs.Values.{values_of_all}
 use Rattle.jam_expand.specs.Expansions.{elements_at}
@@ -8,7 +9,7 @@ use Rattle.jam_expand.proofs.ExpandLemmas.{found_nothing, held_no_zero, held_fau
 use Rattle.jam_expand.proofs.expand.+expand.Goals as goal
 
 abbrev values : ℕ → (List ℕ → List (List ℕ)) → List ℕ → Answer
-values levels names inside = and_then (elements_at levels names inside) (values_of_all names)
+values levels names inside = and_then (values_of_all names) (elements_at levels names inside)
 
 pub elements_at-returns-then-levels-eq0 : goal.elements_at-returns-then-levels-eq0
 elements_at-returns-then-levels-eq0 g t c = rw (elements_zero c.args.levels (g.L.Look.answer c.args.look.now) c.args.word.now c.if-levels-eq0.true) c.itself.ensures

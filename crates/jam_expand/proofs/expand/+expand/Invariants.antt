@@ -1,5 +1,5 @@
 use Rattle.std.proofs.Common.{◌≡◌, ◌+◌, ◌*◌, ◌-◌, drop}
-use Rattle.jam_expand.specs.Limits.{and_then}
+use Rattle.b2_base.specs.Results.{and_then}
 use Rattle.jam_expand.specs.Values.{values_of_all}
 use Rattle.jam_expand.specs.Words.{pieces_of}
 use Rattle.jam_expand.specs.Expansions.{elements_at, lists_of}
@@ -17,5 +17,5 @@ decreases-values_at g l = 3 * l.levels + 1
 
 abbrev pub invariant-elements_at-loop-piece : goal.invariant-elements_at-loop-piece
 invariant-elements_at-loop-piece g l =
-    after_lists l.lists.items (lists_of (λ inside. and_then (elements_at (l.levels - 1) (g.L.Look.answer l.look) inside) (values_of_all (g.L.Look.answer l.look))) (drop l.piece-index (pieces_of l.word)))
-    ≡ lists_of (λ inside. and_then (elements_at (l.levels - 1) (g.L.Look.answer l.look) inside) (values_of_all (g.L.Look.answer l.look))) (pieces_of l.word)
+    after_lists l.lists.items (lists_of (λ inside. and_then (values_of_all (g.L.Look.answer l.look)) (elements_at (l.levels - 1) (g.L.Look.answer l.look) inside)) (drop l.piece-index (pieces_of l.word)))
+    ≡ lists_of (λ inside. and_then (values_of_all (g.L.Look.answer l.look)) (elements_at (l.levels - 1) (g.L.Look.answer l.look) inside)) (pieces_of l.word)
