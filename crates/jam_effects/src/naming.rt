@@ -5,7 +5,7 @@ ghost use Rattle.std.specs.FinMap as map;
 ghost use Rattle.jam_expand.specs.Limits.{limit, within, IsWithin, IsLeftBy};
 ghost use Rattle.jam_grammar.specs.declared.tree.Sign.TheVariants as signs;
 ghost use Rattle.jam_grammar.specs.Trees.{block_tree, lists_of};
-ghost use Rattle.jam_journal.specs.Scopes.{assign};
+ghost use Rattle.jam_journal.specs.Scopes.{assign, bind};
 ghost use Rattle.jam_journal.specs.Sizes.{size_of, capped};
 ghost use Rattle.jam_scope.specs.Changes.{changed, rescoped, set_on, define_rule as with_rule, define_actions as with_actions};
 ghost use Rattle.jam_eval.specs.Forms.{bind_names as names_bound};
@@ -29,6 +29,21 @@ use jam_scope::world::World;
 use std::alloc::Global;
 use std::rc::Rc;
 
+/// Binds a name to a copy of a value in the newest frame, which is there. After an error the world is as before.
+fn bind_copy(
+    alloc: Global,
+    world: &mut World,
+    name: &Text,
+    value: &[Text],
+) -> Result<(), OutOfMemory>
+    requires { world.old.now.scopes.frames ≢ [] }
+    ensures ok { OnOk result (world.new ≡ rescoped (bind name.now value.now) world.old) }
+    ensures err { OnErr result (world.new ≡ world.old) }
+{
+    let value = copy_texts(alloc, value)?;
+    world.bind(name.as_str(), value)
+}
+
 /// Binds names to copies of a value in the newest frame, which is there. After an error some are bound.
 pub fn bind_names(
     alloc: Global,
@@ -41,8 +56,7 @@ pub fn bind_names(
     ensures same { SameFrames world.old world.new }
 {
     for name in names {
-        let value = copy_texts(alloc, value)?;
-        world.bind(name.as_str(), value)?;
+        bind_copy(alloc, world, name, value)?;
     }
     Ok(())
 }
