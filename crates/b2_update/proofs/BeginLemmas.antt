@@ -18,6 +18,7 @@ use Rattle.b2_sched.specs.declared.state.State.{State}
 use Rattle.b2_sched.specs.declared.state.State.TheVariants as states
 use Rattle.b2_sched.specs.Schedules.{Schedule, state_of, IsUnjudged, IsSettled, IsFailed, IsStep, Needs, IsFirst}
 use Rattle.b2_sched.specs.Calls.{IsNew, looked_at, with_lack, with_stale}
+use Rattle.b2_sched.proofs.KeepLemmas.{needed_more}
 use Rattle.b2_update.specs.Plain.{Made, plan_build}
 use Rattle.b2_update.specs.Inputs.{FoundAs, SameSources}
 use Rattle.b2_update.specs.Needs.{TellsNeeds}
@@ -25,7 +26,6 @@ use Rattle.b2_update.specs.Boards.{IsUntold, LooksOn}
 use Rattle.b2_update.specs.Turns.{Follows, HadTurns}
 use Rattle.b2_update.specs.Progress.{IsWhole}
 use Rattle.b2_update.proofs.BoardLemmas.{not_both}
-use Rattle.b2_update.proofs.KeepLemmas.{needed_more}
 use Rattle.b2_update.proofs.RoundLemmas.{state_within}
 
 -- ---- the sources stay

@@ -12,10 +12,11 @@ use Rattle.b2_sched.specs.NumberSets.{Has}
 use Rattle.b2_sched.specs.Schedules.{Schedule, state_of, IsUnjudged, IsSettled, IsStep, Needs, IsFirst, IsNeeded, CanLook}
 use Rattle.b2_sched.specs.Calls.{IsNew, with_stale}
 use Rattle.b2_sched.specs.Sound.{IsSound}
+use Rattle.b2_sched.proofs.NumberSetLemmas.{has_other}
+use Rattle.b2_sched.proofs.KeepLemmas.{needed_more}
 use Rattle.b2_update.specs.Inputs.{ReadsStep}
 use Rattle.b2_update.specs.Boards.{WaitsOn, WaitsFor, IsReady, IsBoardOf}
 use Rattle.b2_update.proofs.BoardLemmas.{not_both, needed_is_step}
-use Rattle.b2_update.proofs.KeepLemmas.{has_other, needed_more}
 
 unjudged_or_not : (x : State) → (x ≡ Unjudged) ⊎ (x ≡ Unjudged → ⊥)
 unjudged_or_not Unjudged = inl refl

@@ -1,52 +1,22 @@
 -- What is known of the steps is kept, as the schedule is told more.
-use Rattle.std.proofs.Common.{◌≡◌, ◌⊎◌, ◌↔◌, inl, inr, ℕ, ◌+◌, ◌<◌, ◌≤◌, Bool, true, false, List, [], length, get_or, set, sym, ◌∙◌, ap, subst, arith}
+use Rattle.std.proofs.Common.{◌≡◌, ◌⊎◌, ◌↔◌, inl, inr, ℕ, ◌+◌, ◌<◌, Bool, true, false, List, [], length, get_or, set, sym, ◌∙◌, ap, subst, arith}
 use Rattle.std.specs.List.{Contains}
 use Rattle.std.proofs.Math.ListN.{length-set}
-use Rattle.std.proofs.lemmas.Bool.{cases_eq, cases_lt}
-use Rattle.std.proofs.lemmas.List.{get_or-set_same, get_or-set_other, get_or_past}
+use Rattle.std.proofs.lemmas.Bool.{cases_eq}
+use Rattle.std.proofs.lemmas.List.{get_or-set_same, get_or-set_other}
 use Rattle.b2_plan.specs.declared.step.Step.{Step}
-use Rattle.b2_runs.specs.Numbers.{NeededOf, NeededOf.first, NeededOf.of_needed}
+use Rattle.b2_runs.specs.Numbers.{NeededOf.first, NeededOf.of_needed}
 use Rattle.b2_sched.specs.declared.state.State.TheVariants.{Settled}
 use Rattle.b2_sched.specs.NumberSets.{Has}
 use Rattle.b2_sched.specs.Schedules.{Schedule, state_of, IsUnjudged, IsSettled, IsStep, Needs, IsFirst, IsNeeded, CanLook}
 use Rattle.b2_sched.specs.Calls.{looked_at, with_lack}
+use Rattle.b2_sched.proofs.NumberSetLemmas.{has_set, has_still, had_or_is, has_other}
+use Rattle.b2_sched.proofs.KeepLemmas.{needed_more}
 use Rattle.b2_update.specs.Inputs.{ReadsStep}
 use Rattle.b2_update.specs.Needs.{TellsNeeds}
 use Rattle.b2_update.specs.Boards.{WaitsOn, WaitsFor, IsReady, IsBoardOf}
 
--- ---- flags
-
-pub has_within : (flags : List Bool) (i : ℕ) → Has flags i → i < length flags
-has_within flags i h = go (cases_lt i (length flags))
-  where
-    go : (i < length flags) ⊎ (length flags ≤ i) → i < length flags
-    go (inl w) = w
-    go (inr past) = absurd (let e : false ≡ true = sym (get_or_past flags i false past) ∙ h in cc)
-
-pub has_set : (flags : List Bool) (i : ℕ) → i < length flags → Has (set flags i true) i
-has_set flags i w = get_or-set_same flags i true false w
-
-pub has_still : (flags : List Bool) (i k : ℕ) → i < length flags → Has flags k → Has (set flags i true) k
-has_still flags i k w h = elim (cases_eq k i) [
-  | inl e ↦ subst (λ (n : ℕ). Has (set flags i true) n) (sym e) (has_set flags i w)
-  | inr ne ↦ get_or-set_other flags i k true false ne ∙ h
-]
-
-pub had_or_is : (flags : List Bool) (i k : ℕ) → Has (set flags i true) k → (k ≡ i) ⊎ Has flags k
-had_or_is flags i k h = elim (cases_eq k i) [
-  | inl e ↦ inl e
-  | inr ne ↦ inr (sym (get_or-set_other flags i k true false ne) ∙ h)
-]
-
--- another flag stays set as one is cleared
-pub has_other : (flags : List Bool) (i k : ℕ) → (k ≡ i → ⊥) → Has flags k → Has (set flags i false) k
-has_other flags i k ne h = get_or-set_other flags i k false false ne ∙ h
-
 -- ---- what is needed
-
-pub needed_more : (First More : ℕ → Type 0) (R S : ℕ → ℕ → Type 0) → ((i : ℕ) → First i → More i) → ((i k : ℕ) → R i k → S i k) → (i : ℕ) → NeededOf First R i → NeededOf More S i
-needed_more First More R S firsts grows i (first k f) = first k (firsts k f)
-needed_more First More R S firsts grows i (of_needed k j n r) = of_needed k j (needed_more First More R S firsts grows j n) (grows j k r)
 
 -- what has a need told is needed
 pub needed_by : (steps : List Step) (wanted : List (List ℕ)) (but : ℕ) (s : Schedule) (seen lacking : List Bool) (waiting : List (List ℕ)) → IsBoardOf steps wanted but s seen lacking waiting → (j k : ℕ) → Needs s j k → IsNeeded s k

@@ -7,12 +7,12 @@ use Rattle.b2_runs.specs.Staleness.{Update}
 use Rattle.b2_runs.proofs.NumberHasOneStep.{one_step}
 use Rattle.b2_sched.specs.NumberSets.{Has}
 use Rattle.b2_sched.specs.Schedules.{IsNeeded}
+use Rattle.b2_sched.proofs.NumberSetLemmas.{has_set, has_still, had_or_is}
 use Rattle.b2_update.specs.declared.board.Board.{Board}
 use Rattle.b2_update.specs.declared.sights.Sights.{Sights}
 use Rattle.b2_update.specs.Inputs.{LacksInput}
 use Rattle.b2_update.specs.Boards.{IsSeen, IsLacking}
 use Rattle.b2_update.specs.Sightings.{IsFoundAs, WasFound, AreSights, SeesMore, MissesOf, IsSighted}
-use Rattle.b2_update.proofs.KeepLemmas.{has_set, has_still, had_or_is}
 
 -- a path was found to be one thing
 pub found_once : (s : Sights) (path : List ℕ) (x y : Bool) → IsFoundAs s path x → IsFoundAs s path y → x ≡ y

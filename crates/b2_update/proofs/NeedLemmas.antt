@@ -10,8 +10,8 @@ use Rattle.b2_sched.specs.declared.state.State.TheVariants.{Settled}
 use Rattle.b2_sched.specs.NumberSets.{Has}
 use Rattle.b2_sched.specs.Schedules.{Schedule, dependents_of, IsSettled, IsStep, Needs, CanLook}
 use Rattle.b2_sched.specs.Calls.{with_need, is_empty}
+use Rattle.b2_sched.proofs.NumberSetLemmas.{has_set, has_still}
 use Rattle.b2_update.specs.Needs.{itself, looks_left, IsEven, TellsNeeds}
-use Rattle.b2_update.proofs.KeepLemmas.{has_set, has_still}
 
 -- nothing was told yet
 pub tells_none : (step : ℕ) (s : Schedule) → TellsNeeds step [] s s

@@ -18,6 +18,7 @@ use Rattle.b2_runs.specs.Moments.{Moment}
 use Rattle.b2_sched.specs.declared.state.State.TheVariants as states
 use Rattle.b2_sched.specs.Schedules.{Schedule, state_of, IsStale, IsRunning, IsFailed, IsStep, Needs, IsFirst, IsNeeded, CanLook}
 use Rattle.b2_sched.specs.Calls.{with_start, with_failure, Settles, StartsNext, StartsNone}
+use Rattle.b2_sched.proofs.KeepLemmas.{needed_more}
 use Rattle.b2_update.specs.declared.board.Board.{Board}
 use Rattle.b2_update.specs.declared.sights.Sights.{Sights}
 use Rattle.b2_update.specs.declared.stop.Stop.{Stop}
@@ -31,7 +32,6 @@ use Rattle.b2_update.specs.Starts.{may_start, left_to_start, EndsIn, RunsNext}
 use Rattle.b2_update.specs.Turns.{TurnTold, HadTurns, StoppedTurns}
 use Rattle.b2_update.specs.Progress.{IsWhole, IsDue, IsGoing, StepsRan, DueTold}
 use Rattle.b2_update.proofs.BoardLemmas.{not_both}
-use Rattle.b2_update.proofs.KeepLemmas.{needed_more}
 use Rattle.b2_update.proofs.RoundLemmas.{board_starts, ends_states, left_changes}
 use Rattle.b2_update.proofs.TurnLemmas.{ended_state, had_turn, had_stopped, next_stopped}
 use Rattle.b2_update.proofs.FollowLemmas.{idle_looks}

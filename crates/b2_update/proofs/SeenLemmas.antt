@@ -17,6 +17,7 @@ use Rattle.b2_sched.specs.Schedules.{Schedule, state_of, IsUnjudged, IsSettled, 
 use Rattle.b2_sched.specs.Calls.{IsNew, MakesOneOf, looked_at, with_lack, with_stale}
 use Rattle.b2_sched.specs.Keeping.{LooksNext}
 use Rattle.b2_sched.specs.Sound.{IsSound}
+use Rattle.b2_sched.proofs.NumberSetLemmas.{has_within, has_set}
 use Rattle.b2_update.specs.declared.board.Board.{Board}
 use Rattle.b2_update.specs.declared.sights.Sights.{Sights}
 use Rattle.b2_update.specs.Sightings.{IsSighted}
@@ -26,7 +27,7 @@ use Rattle.b2_update.specs.Boards.{waiting_of, IsReady, IsBoardOf, IsBoard, IsSe
 use Rattle.b2_update.specs.Looks.{Forgets, Judges, Sees, HasLooked}
 use Rattle.b2_update.proofs.BoardLemmas.{read_is_step, needed_is_step, not_zero}
 use Rattle.b2_update.proofs.LookLemmas.{sighted_along}
-use Rattle.b2_update.proofs.KeepLemmas.{has_within, has_set, board_looked, board_told, board_seen, board_lacks}
+use Rattle.b2_update.proofs.KeepLemmas.{board_looked, board_told, board_seen, board_lacks}
 use Rattle.b2_update.proofs.ChangeLemmas.{board_new, board_forgets, board_waits, board_stale}
 use Rattle.b2_update.proofs.BeginLemmas.{looks_taken, looks_told, looks_lacking, looks_stale}
 use Rattle.b2_update.proofs.FollowLemmas.{looks_then}
