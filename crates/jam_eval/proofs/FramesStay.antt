@@ -62,7 +62,7 @@ chosen : (b : Bool) (s t : Scopes) (fs : List (Text × (Option Text × List Text
 chosen true s t fs one two = one
 chosen false s t fs one two = two
 
-assigned_bounds : (name : Text) (value : Value) (s : Scopes) → bounds (assign name value s).frames ≡ bounds s.frames
+pub assigned_bounds : (name : Text) (value : Value) (s : Scopes) → bounds (assign name value s).frames ≡ bounds s.frames
 assigned_bounds name value s = chosen _ (record s { frames = rebound_in (module_of s.frames) s.frames name value }) _ _ (rebound_bounds (module_of s.frames) s.frames name value) refl
 
 -- a binding changes the newest frame alone

@@ -226,7 +226,7 @@ module _ (older : Layers) (r : Registers) (es : List Scope) (cs : List (Replaced
 
 -- ---- leaving
 
-drop_with : (b : Binding) (fs : List Frame) → drop 1 (with_binding b fs) ≡ drop 1 fs
+pub drop_with : (b : Binding) (fs : List Frame) → drop 1 (with_binding b fs) ≡ drop 1 fs
 drop_with b [] = refl
 drop_with b (f ∷ fs) = refl
 

@@ -7,7 +7,7 @@ abbrev is_nothing : List Frame → Type 0
 is_nothing [] = Unit {0}
 is_nothing (frame ∷ frames) = ⊥
 
-still_framed : (b : Binding) (frames : List Frame) → frames ≢ [] → with_binding b frames ≢ []
+pub still_framed : (b : Binding) (frames : List Frame) → frames ≢ [] → with_binding b frames ≢ []
 still_framed b [] h e = h refl
 still_framed b (frame ∷ frames) h e = absurd (subst is_nothing (sym e) tt)
 

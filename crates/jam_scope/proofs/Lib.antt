@@ -1,5 +1,5 @@
 pub mod LineLemmas
 mod NoteLemmas
 mod TextLemmas
-mod BindLemmas
+pub mod BindLemmas
 mod RootLemmas
