@@ -1,5 +1,5 @@
 -- Reading arguments.
-use Rattle.std.proofs.Common.{eq-eqb, inl, inr, ◌≡◌, ℕ, suc, ◌+◌, ◌<◌, ◌-◌, List, [], ◌∷◌, ◌++◌, true, false, Some, None, nat_le, if◌then◌else◌, refl, sym, ap, ◌∙◌, subst, arith, append_assoc}
+use Rattle.std.proofs.Common.{inl, inr, ◌≡◌, ℕ, suc, ◌+◌, ◌<◌, ◌-◌, List, [], ◌∷◌, ◌++◌, true, false, Some, None, nat_le, if◌then◌else◌, refl, sym, ap, ◌∙◌, subst, arith, append_assoc}
 use Rattle.std.proofs.lemmas.List.{append-nil}
 use Rattle.std.proofs.lemmas.Bool.{cases_lt}
 use Rattle.std.specs.declared.vec.Vec.{Vec}
@@ -8,12 +8,13 @@ use Rattle.b2_base.specs.declared.token.Token.{Token}
 use Rattle.jam_grammar.specs.declared.tree.Arg.{Arg}
 use Rattle.jam_grammar.specs.declared.mark.Mark.{Mark}
 use Rattle.jam_grammar.specs.declared.mark.Mark.TheVariants.{Plain, Query, Star, Plus, Body, SquareOpen, SquareClose, Colon, On, Return}
-use Rattle.jam_grammar.specs.Marks.{mark_of_token, is_word, same_mark, number}
+use Rattle.jam_grammar.specs.Marks.{mark_of_token, is_word, same_mark}
 use Rattle.jam_grammar.specs.Grammar.{Part, OneArg, OneWord, OneInner, InnerTail, Args, More, opens}
 use Rattle.jam_grammar.specs.Grammar as part
 use Rattle.jam_grammar.specs.Machine.{move_key, move, feed, before, go_on, run}
 use Rattle.jam_grammar.specs.Spelling.{Key, Says, Raw, Never, Spells, arg_syms, args_syms, further_syms, lists_syms}
 use Rattle.jam_grammar.specs.Gives.{Leads, Ends}
+use Rattle.jam_grammar.proofs.MarkNumbers.{same_mark_refl}
 use Rattle.jam_parser.specs.Parts.{ComesTo, IsRead}
 use Rattle.jam_parser.specs.Starts.{begins_arg, starts_arg, starts_word, starts_with, StandsAfter}
 use Rattle.jam_parser.proofs.Sequences.{turned, takes_past}
@@ -117,10 +118,6 @@ inner_comes a d h = turned (InnerTail ∷ []) (OneInner ∷ []) a d (omega arith
     comes : (a : List Token) → starts_with Return a ≡ false → Leads (InnerTail ∷ []) a d (OneInner ∷ []) a
     comes [] h k o = refl
     comes (t ∷ ts) h k o = ap (λ x. go_on x (run ts) (t ∷ ts)) (same k (mark_of_token t) h)
-
--- a mark is the same as itself
-pub same_mark_refl : (m : Mark) → same_mark m m ≡ true
-same_mark_refl m = eq-eqb (number m) (number m) refl
 
 -- a key is read
 pub key_reads : (m : Mark) (a b : List Token) (d : ℕ) → StandsAfter m a b → IsRead (part.Key m ∷ []) a d (Key m ∷ []) b

@@ -7,16 +7,14 @@ use Rattle.jam_grammar.specs.Marks.{mark_of_token}
 use Rattle.jam_grammar.specs.Grammar as part
 use Rattle.jam_grammar.specs.Grammar.{Part, opens}
 use Rattle.jam_grammar.specs.Machine.{Take, Room, Refuse, move, by_move, feed, go_on, run}
-use Rattle.jam_grammar.specs.Spelling.{Sym, Key, Says, Named, Raw, From, Never, Spells}
+use Rattle.jam_grammar.specs.Spelling.{Sym, Key}
 use Rattle.jam_grammar.specs.Gives.{Leads, Ends}
+use Rattle.jam_grammar.proofs.Moves.{opens_append}
+use Rattle.jam_grammar.proofs.PartsCompose.{spells_append}
 use Rattle.jam_parser.specs.declared.reading.Fault.{Fault}
 use Rattle.jam_parser.specs.declared.reading.Fault.TheVariants as faults
 use Rattle.jam_parser.specs.Starts.{StandsAfter}
 use Rattle.jam_parser.specs.Parts.{EndsBy, least_of, least, ComesTo, IsRead, Completes}
-
-pub opens_append : (a b : List Part) → opens (a ++ b) ≡ opens a + opens b
-opens_append [] b = omega arith
-opens_append (p ∷ a) b = omega (arith, opens_append a b)
 
 pub least_append : (a b : List Part) → least (a ++ b) ≡ least a + least b
 least_append [] b = omega arith
@@ -25,20 +23,6 @@ least_append (p ∷ a) b = omega (arith, least_append a b)
 least_is_one : (p : Part) → least_of p ≤ 1
 least_is_one (part.Key m) = omega arith
 least_is_one _ = omega arith
-
-pub spells_append : (a b c : List Token) (s r : List Sym) → Spells a s b → Spells b r c → Spells a (s ++ r) c
-spells_append a b c [] r h k = subst (λ x. Spells x r c) (sym h) k
-spells_append a b c (From n ∷ s) r h k = (h.0, spells_append a b c s r h.1 k)
-spells_append [] b c (Key m ∷ s) r h k = absurd h
-spells_append [] b c (Says m ∷ s) r h k = absurd h
-spells_append [] b c (Named m ∷ s) r h k = absurd h
-spells_append [] b c (Raw m ∷ s) r h k = absurd h
-spells_append [] b c (Never ∷ s) r h k = absurd h
-spells_append (t ∷ a) b c (Key m ∷ s) r h k = (h.0, spells_append a b c s r h.1 k)
-spells_append (t ∷ a) b c (Says m ∷ s) r h k = (h.0, spells_append a b c s r h.1 k)
-spells_append (t ∷ a) b c (Named m ∷ s) r h k = (h.0, spells_append a b c s r h.1 k)
-spells_append (t ∷ a) b c (Raw m ∷ s) r h k = (h.0, spells_append a b c s r h.1 k)
-spells_append (t ∷ a) b c (Never ∷ s) r h k = absurd h
 
 -- a part is read, and then the others are left
 pub chain : (p q others : List Part) {s r : List Sym} {a b c : List Token} (d e : ℕ) → opens others + d ≡ e → ComesTo p (q ++ others) a d s b → IsRead q b e r c → ComesTo p others a d (s ++ r) c
