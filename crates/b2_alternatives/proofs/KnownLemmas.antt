@@ -4,9 +4,9 @@ use Rattle.std.specs.List.{list_any}
 use Rattle.std.specs.FinMap.{get, insert}
 use Rattle.std.specs.Str.{bytes_eq}
 use Rattle.std.proofs.lemmas.List.Folds.{list_any-append}
-use Rattle.b2_props.proofs.Gaining.{get_put}
 use Rattle.b2_props.proofs.Pairs.{text_is}
 use Rattle.b2_references.specs.Names.{Name, is_same, is_among}
+use Rattle.b2_features.proofs.TwiceLemmas.{get_put}
 use Rattle.b2_alternatives.specs.declared.known.KnownNames.{KnownNames}
 use Rattle.b2_alternatives.specs.Standing.{projects_of, is_known, AreKnown}
 

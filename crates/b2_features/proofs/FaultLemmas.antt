@@ -8,10 +8,7 @@ use Rattle.b2_features.specs.Attributes.{has}
 use Rattle.b2_features.specs.Table.{Declared, declared, is_implicit_in, is_whole}
 use Rattle.b2_features.specs.Faults.{is_name, is_bad_name, is_declared, twice_value, twice_word, bad_word, feature_fault, is_implicit}
 use Rattle.b2_features.proofs.TextTests.{none_passes}
-
-first_none : {X Y : Type 0} (f : X → Y) (o : Option X) (p : Option Y) → option_or (option_map f o) p ≡ None → o ≡ None
-first_none f None p e = refl
-first_none f (Some x) p e = cc
+use Rattle.b2_features.proofs.FindingLemmas.{first_none}
 
 -- where no value of some is there twice, none is taken
 none_taken : (table : List Declared) (before values : List (List ℕ)) → twice_value table before values ≡ None → find (is_implicit table) values ≡ None

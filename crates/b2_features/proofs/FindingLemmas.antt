@@ -24,11 +24,11 @@ find-push {X} p (x ∷ xs) y = go (p x) (find-push p xs y)
     go true more = refl
     go false more = more
 
-or_none : {X : Type 0} (o : Option X) → option_or o None ≡ o
+pub or_none : {X : Type 0} (o : Option X) → option_or o None ≡ o
 or_none None = refl
 or_none (Some x) = refl
 
-none_of : {X : Type 0} (o : Option X) → is_some o ≡ false → o ≡ None
+pub none_of : {X : Type 0} (o : Option X) → is_some o ≡ false → o ≡ None
 none_of None e = refl
 none_of (Some x) e = cc
 
@@ -53,7 +53,7 @@ finds_push table f absent untaken = record {
   other_values = λ value apart. implicit-push table f value ∙ ap (λ b. option_or (implicit_of table value) (cond b (Some f.name) None)) apart ∙ or_none (implicit_of table value);
 }
 
-first_none : {X Y : Type 0} (f : X → Y) (o : Option X) (p : Option Y) → option_or (option_map f o) p ≡ None → o ≡ None
+pub first_none : {X Y : Type 0} (f : X → Y) (o : Option X) (p : Option Y) → option_or (option_map f o) p ≡ None → o ≡ None
 first_none f None p e = refl
 first_none f (Some x) p e = cc
 

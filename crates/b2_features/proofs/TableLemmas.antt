@@ -14,6 +14,7 @@ use Rattle.b2_features.specs.Table.{Declared, HasDistinctNames, seen, is_whole, 
 use Rattle.b2_features.specs.Faults.{is_implicit}
 use Rattle.b2_features.specs.Index.{IsIndexed}
 use Rattle.b2_features.proofs.Lookups.{option_map-cond, position-map, find-at_position, find-none, position-push, position-none, keys-set_value, values-set_value}
+use Rattle.b2_features.proofs.FindingLemmas.{or_none}
 
 -- the table that entries show
 abbrev pub shown : List (String Global × Feature) → List Declared
@@ -144,10 +145,6 @@ absent_key name es keys none = go (lookup (λ k. bytes_eq name (string_bytes k))
 nothing : (o : Option Declared) → is_some (option_map (λ f. f.name) o) ≡ false → o ≡ None
 nothing None e = refl
 nothing (Some f) e = cc
-
-or_none : {X : Type 0} (o : Option X) → option_or o None ≡ o
-or_none None = refl
-or_none (Some x) = refl
 
 -- a feature with a new name, whose implicit values are not taken, keeps the table indexed
 pub indexed_push : (es : List (String Global × Feature)) (old new : List (List ℕ × ℕ)) (k : String Global) (f : Feature) (place : ℕ) → IsIndexed es old → string_bytes k ≡ f.name → place ≡ length (shown es)

@@ -8,7 +8,8 @@ use Rattle.std.proofs.lemmas.List.Folds.{list_any-append, list_any_more}
 use Rattle.b2_base.specs.Numbers.{is_among}
 use Rattle.b2_props.specs.Sets.{Pair}
 use Rattle.b2_props.proofs.Pairs.{text_is, text_itself}
-use Rattle.b2_props.proofs.Gaining.{get_put, next_take}
+use Rattle.b2_props.proofs.Gaining.{next_take}
+use Rattle.b2_features.proofs.TwiceLemmas.{get_put}
 use Rattle.b2_generators.specs.declared.generator.Generator.{Generator}
 use Rattle.b2_generators.specs.Table.{has_text}
 use Rattle.b2_generators.specs.Places.{gives_at, sources_at, is_taken_by}

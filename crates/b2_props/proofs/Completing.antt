@@ -10,10 +10,11 @@ use Rattle.std.proofs.Math.Seq.{drop-cons}
 use Rattle.b2_features.specs.declared.attribute.Attribute.TheVariants.{Free}
 use Rattle.b2_features.specs.Table.{Declared}
 use Rattle.b2_features.specs.Faults.{is_with}
+use Rattle.b2_features.proofs.TwiceLemmas.{get_put}
 use Rattle.b2_props.specs.Sets.{Pair, value_of}
 use Rattle.b2_props.specs.Refinement.{names, parts_in, components, brought, completed, completed_from}
 use Rattle.b2_props.proofs.Pairs.{value_of-append}
-use Rattle.b2_props.proofs.Gaining.{get_put, next_take, components_next}
+use Rattle.b2_props.proofs.Gaining.{next_take, components_next}
 
 is_some-or : {X : Type 0} (a b : Option X) → is_some (option_or a b) ≡ (is_some a || is_some b)
 is_some-or None b = refl

@@ -8,8 +8,7 @@ use Rattle.std.specs.declared.cmp.Ordering.{Ordering}
 use Rattle.std.specs.declared.cmp.Ordering.TheVariants.{Less, Equal, Greater}
 use Rattle.std.specs.Str.{bytes_eq}
 use Rattle.std.specs.BTreeSet.{contains}
-use Rattle.std.specs.FinMap.{FinMap, get, insert, get-insert}
-use Rattle.std.proofs.lemmas.Cmp.{nat_list_cmp_total}
+use Rattle.std.specs.FinMap.{get}
 use Rattle.std.proofs.lemmas.Map.Text.{is_eq-slice_cmp}
 use Rattle.std.proofs.lemmas.List.{append-nil, reverse-append, take_more}
 use Rattle.std.proofs.lemmas.List.Concat.{flat_map-append}
@@ -19,15 +18,12 @@ use Rattle.std.proofs.lemmas.List.Folds.{list_any-append}
 use Rattle.b2_features.specs.declared.attribute.Attribute.TheVariants.{Free}
 use Rattle.b2_features.specs.Table.{Declared}
 use Rattle.b2_features.specs.Faults.{is_with}
+use Rattle.b2_features.proofs.TwiceLemmas.{get_put}
 use Rattle.b2_props.specs.declared.draft.Draft.{Draft}
 use Rattle.b2_props.specs.Sets.{Pair, same, value_of, firsts, free_of}
 use Rattle.b2_props.specs.Refinement.{parts_in, components, default_pair, defaults}
 use Rattle.b2_props.specs.Holding.{Gains, Takes, HasOneMore, HasValue, pair_cmp}
 use Rattle.b2_props.proofs.Pairs.{value_of-append, option_or-none, option_or-assoc, text_is, same_sym, firsts_push}
-
--- what a map has at a text after a text was given a value
-pub get_put : {V : Type 0} (m : FinMap (slice_cmp nat_cmp) V) (text : List ℕ) (value : V) (other : List ℕ) → get (insert m text value) other ≡ cond (bytes_eq other text) (Some value) (get m other)
-get_put m text value other = get-insert nat_list_cmp_total m text value other ∙ ap (λ b. cond b (Some value) (get m other)) (is_eq-slice_cmp other text)
 
 -- two pairs tie where they are one
 pub pair_ties : (p q : Pair) → is_eq (pair_cmp p q) ≡ same p q
@@ -88,10 +84,6 @@ take_free table p old new free more = record {
     known = known_after table pairs p old new free more holds.known;
   };
 }
-
-absent : (o : Option (List ℕ)) → is_some o ≡ false → o ≡ None
-absent None e = refl
-absent (Some x) e = cc
 
 -- a value where there was none
 pub gain_value : (table : List Declared) (p : Pair) (old new : Draft) → is_with Free table p.0 ≡ false → get old.values p.0 ≡ None → HasValue p old new → Gains table (p ∷ []) old new

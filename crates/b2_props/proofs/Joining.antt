@@ -3,13 +3,13 @@ use Rattle.std.proofs.Math.ListN.{set}
 use Rattle.std.specs.FinMap.{get, insert}
 use Rattle.std.specs.Option.{option_map, option_or}
 use Rattle.std.specs.Str.{bytes_eq}
+use Rattle.b2_features.proofs.TwiceLemmas.{get_put}
 use Rattle.b2_props.specs.declared.choice.Choice.{Choice}
 use Rattle.b2_props.specs.declared.choice.Factor.{Factor}
 use Rattle.b2_props.specs.declared.ways.WayList.{WayList}
 use Rattle.b2_props.specs.Requests.{Ways, is_key, joined}
 use Rattle.b2_props.specs.Ways.{ways_of, ways_in, place_of, longer_at, IsPlaced}
-use Rattle.b2_props.proofs.Pairs.{text_is, text_sym}
-use Rattle.b2_props.proofs.Gaining.{get_put}
+use Rattle.b2_props.proofs.Pairs.{text_is, text_sym, option_or-none}
 
 -- ---- places
 
@@ -87,15 +87,11 @@ longer_set (z ∷ zs) (suc i) f made more l is keys choices = ap (λ ws. ways_of
 pub placed_longer : (old : WayList) (i : ℕ) (more : List Choice) (news : List Ways) → news ≡ longer_at i more (ways_in old) → IsPlaced old → (q : List ℕ) → get old.places q ≡ place_of (Some q) news
 placed_longer old i more news is placed q = placed.places q ∙ sym (ap (place_of (Some q)) is ∙ place_longer (Some q) i more (ways_in old))
 
-or_none : (o : Option ℕ) → option_or o None ≡ o
-or_none None = refl
-or_none (Some n) = refl
-
 -- one factor more, which has no key
 pub placed_plain : (old : WayList) (news : List Ways) (w : Ways) → news ≡ ways_in old ++ w ∷ [] → w.key ≡ None → IsPlaced old → (q : List ℕ) → get old.places q ≡ place_of (Some q) news
 placed_plain old news w is no_key placed q =
     placed.places q
-    ∙ sym (ap (place_of (Some q)) is ∙ place_push (Some q) (ways_in old) w ∙ ap (λ k. option_or (place_of (Some q) (ways_in old)) (cond (is_key k (Some q)) (Some (length (ways_in old))) None)) no_key ∙ or_none (place_of (Some q) (ways_in old)))
+    ∙ sym (ap (place_of (Some q)) is ∙ place_push (Some q) (ways_in old) w ∙ ap (λ k. option_or (place_of (Some q) (ways_in old)) (cond (is_key k (Some q)) (Some (length (ways_in old))) None)) no_key ∙ option_or-none (place_of (Some q) (ways_in old)))
 
 -- one factor more, with a key that no other has
 pub placed_keyed : (old : WayList) (news : List Ways) (w : Ways) (f : List ℕ) (n : ℕ) → news ≡ ways_in old ++ w ∷ [] → w.key ≡ Some f → n ≡ length (ways_in old) → place_of w.key (ways_in old) ≡ None → IsPlaced old → (q : List ℕ) → get (insert old.places f n) q ≡ place_of (Some q) news
@@ -107,4 +103,4 @@ placed_keyed old news w f n is key place absent placed q =
     go true e there =
         let none : place_of (Some q) (ways_in old) ≡ None = ap (λ k. place_of k (ways_in old)) (ap Some (text_is q f e) ∙ sym key) ∙ absent in
         ap Some place ∙ sym (ap₂ (λ (o : Option ℕ) (b : Bool). option_or o (cond b (Some (length (ways_in old))) None)) none (text_sym f q ∙ e))
-    go false e there = there ∙ sym (or_none (place_of (Some q) (ways_in old))) ∙ sym (ap (λ b. option_or (place_of (Some q) (ways_in old)) (cond b (Some (length (ways_in old))) None)) (text_sym f q ∙ e))
+    go false e there = there ∙ sym (option_or-none (place_of (Some q) (ways_in old))) ∙ sym (ap (λ b. option_or (place_of (Some q) (ways_in old)) (cond b (Some (length (ways_in old))) None)) (text_sym f q ∙ e))

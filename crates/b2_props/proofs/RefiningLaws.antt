@@ -9,6 +9,7 @@ use Rattle.b2_features.specs.declared.attribute.Attribute.TheVariants.{Free, Opt
 use Rattle.b2_features.specs.Attributes.{has}
 use Rattle.b2_features.specs.Table.{Declared, HasDistinctNames, is_whole, feature_of, default_value}
 use Rattle.b2_features.specs.Faults.{is_with}
+use Rattle.b2_features.proofs.FindingLemmas.{none_of}
 use Rattle.b2_props.specs.Sets.{Pair, same, value_of, firsts, free_of, written, IsSet}
 use Rattle.b2_props.specs.Refinement.{names, parts_in, components, brought, completed_from, completed, default_pair, defaults, expanded, refined}
 use Rattle.b2_props.specs.Laws.{is_single, HasRequired, KeepsOthers, KeepsValues, HasAllValues, is_among, KeepsFree}
@@ -47,10 +48,6 @@ last_of_some (x ∷ xs) q named = ap is_some (last_of-cons x xs q) ∙ go (bytes
     go b (Some y) e more = refl
     go true None e more = refl
     go false None e more = more e
-
-none_of : (o : Option (List ℕ)) → is_some o ≡ false → o ≡ None
-none_of None e = refl
-none_of (Some x) e = cc
 
 or_left : (a b : Bool) → (a || b) ≡ false → a ≡ false
 or_left true b e = e

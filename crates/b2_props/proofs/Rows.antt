@@ -9,12 +9,13 @@ use Rattle.std.proofs.lemmas.List.{append-nil, map-append}
 use Rattle.std.proofs.lemmas.List.Concat.{flat_map-append, flat_map_single}
 use Rattle.std.proofs.lemmas.List.Elements.{filter-append}
 use Rattle.b2_features.specs.Attributes.{has}
+use Rattle.b2_features.proofs.TwiceLemmas.{get_put}
 use Rattle.b2_props.specs.declared.choice.Choice.{Choice}
 use Rattle.b2_props.specs.declared.clashes.Clashes.{Clashes}
 use Rattle.b2_props.specs.Requests.{product, choices_at, differing}
 use Rattle.b2_props.specs.Meeting.{first_value, other_word, Meets, HasChoice}
 use Rattle.b2_props.proofs.Pairs.{text_is, option_or-none}
-use Rattle.b2_props.proofs.Gaining.{next_take, get_put}
+use Rattle.b2_props.proofs.Gaining.{next_take}
 
 -- ---- products
 

@@ -8,8 +8,8 @@ use Rattle.std.proofs.lemmas.List.{length-set}
 use Rattle.std.proofs.lemmas.List.Folds.{position_or_len-set}
 use Rattle.std.proofs.lemmas.List.Sums.{fold-append, passes_at_first}
 use Rattle.b2_features.proofs.Lookups.{position-push}
+use Rattle.b2_features.proofs.TwiceLemmas.{get_put}
 use Rattle.b2_props.specs.Sets.{Pair}
-use Rattle.b2_props.proofs.Gaining.{get_put}
 use Rattle.b2_props.proofs.Pairs.{text_is, option_or-none}
 use Rattle.b2_references.specs.declared.groups.Groups.{Groups}
 use Rattle.b2_references.specs.Grouping.{AreGroups}

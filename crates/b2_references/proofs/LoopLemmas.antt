@@ -16,11 +16,12 @@ use Rattle.b2_features.specs.declared.attribute.Attribute.TheVariants.{Free}
 use Rattle.b2_features.specs.Table.{Declared}
 use Rattle.b2_features.specs.Faults.{is_with}
 use Rattle.b2_features.proofs.Lookups.{position-push}
+use Rattle.b2_features.proofs.TwiceLemmas.{get_put}
 use Rattle.b2_props.specs.Sets.{Pair, same, firsts}
 use Rattle.b2_props.specs.Membership.{has}
 use Rattle.b2_props.specs.Refinement.{names}
 use Rattle.b2_props.specs.Requests.{product}
-use Rattle.b2_props.proofs.Gaining.{next_take, next_at, get_put, options_next as options_at}
+use Rattle.b2_props.proofs.Gaining.{next_take, next_at, options_next as options_at}
 use Rattle.b2_props.proofs.Pairs.{text_is, text_sym, option_or-none, firsts_push, same_sym}
 use Rattle.b2_props.proofs.Rows.{product-push}
 use Rattle.b2_references.specs.Names.{first_list, lineage_in}

@@ -10,8 +10,9 @@ use Rattle.std.proofs.lemmas.List.Folds.{list_any-append}
 use Rattle.b2_features.specs.declared.attribute.Attribute.TheVariants.{Free}
 use Rattle.b2_features.specs.Table.{Declared}
 use Rattle.b2_features.specs.Faults.{is_with}
+use Rattle.b2_features.proofs.TwiceLemmas.{get_put}
 use Rattle.b2_props.specs.Sets.{Pair, value_of}
-use Rattle.b2_props.proofs.Gaining.{next_take, get_put}
+use Rattle.b2_props.proofs.Gaining.{next_take}
 use Rattle.b2_props.proofs.Pairs.{value_of-append, text_is, text_itself, option_or-none}
 use Rattle.b2_texts.specs.Clashes.{is_second_value}
 use Rattle.b2_texts.proofs.Listing.{around}
