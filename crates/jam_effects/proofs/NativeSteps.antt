@@ -10,7 +10,7 @@ use Rattle.jam_scope.specs.Worlds.{Worlds}
 use Rattle.jam_eval.specs.declared.native_answer.NativeStep.{NativeStep}
 use Rattle.jam_eval.specs.declared.native_answer.NativeError.{NativeError}
 use Rattle.jam_eval.specs.declared.native_answer.NativeError.TheVariants as errors
-use Rattle.jam_eval.specs.Faults.{Spot, Cause, native, arity, expand, refused_in}
+use Rattle.jam_eval.specs.Faults.{Spot, Cause, native, arity, refused_in}
 use Rattle.jam_eval.specs.Laws.{bounds}
 use Rattle.jam_eval.specs.States.{State}
 use Rattle.jam_eval.specs.Settings.{Sight, IsSight, Told, Meaning, Setting}
@@ -44,7 +44,6 @@ looks_disk : {A : Type 0} (before after : Outside) (r : Result A NativeError) �
 looks_disk before after (Ok a) h = ap (λ o. o.disk) h
 looks_disk before after (Err (errors.Fault f)) h = ap (λ o. o.disk) h
 looks_disk before after (Err errors.Arity) h = ap (λ o. o.disk) h
-looks_disk before after (Err (errors.Expand f)) h = ap (λ o. o.disk) h
 looks_disk before after (Err errors.Host) h = ap (λ o. o.disk) h.same
 looks_disk before after (Err errors.OutOfMemory) h = ap (λ o. o.disk) h
 
@@ -52,7 +51,6 @@ looks_children : {A : Type 0} (before after : Outside) (r : Result A NativeError
 looks_children before after (Ok a) h = ap (λ o. o.children) h
 looks_children before after (Err (errors.Fault f)) h = ap (λ o. o.children) h
 looks_children before after (Err errors.Arity) h = ap (λ o. o.children) h
-looks_children before after (Err (errors.Expand f)) h = ap (λ o. o.children) h
 looks_children before after (Err errors.Host) h = ap (λ o. o.children) h.same
 looks_children before after (Err errors.OutOfMemory) h = ap (λ o. o.children) h
 
@@ -60,7 +58,6 @@ looks_keeps : {A : Type 0} (before after : Outside) (r : Result A NativeError) �
 looks_keeps before after (Ok a) h = keeps_same before after h
 looks_keeps before after (Err (errors.Fault f)) h = keeps_same before after h
 looks_keeps before after (Err errors.Arity) h = keeps_same before after h
-looks_keeps before after (Err (errors.Expand f)) h = keeps_same before after h
 looks_keeps before after (Err errors.Host) h = keeps_fails before after h
 looks_keeps before after (Err errors.OutOfMemory) h = keeps_same before after h
 
@@ -78,18 +75,12 @@ refused_so (errors.Fault f) name spot (fault.At path line why) h = inr (ap refus
 refused_so errors.Arity name spot fault.Host h = absurd h
 refused_so errors.Arity name spot fault.OutOfMemory h = inl refl
 refused_so errors.Arity name spot (fault.At path line why) h = inr (ap refused_in h.1)
-refused_so (errors.Expand f) name spot e (inl memory, same) = inl memory
-refused_so (errors.Expand f) name spot fault.Host (inr h, same) = absurd h
-refused_so (errors.Expand f) name spot fault.OutOfMemory (inr h, same) = inl refl
-refused_so (errors.Expand f) name spot (fault.At path line why) (inr h, same) = inr (ap refused_in h.1)
 refused_so errors.Host name spot e h = inr (subst (λ x. refused_of {A = NativeStep} (Err x) ≡ None) (sym h) refl)
 refused_so errors.OutOfMemory name spot e h = inl h
 
 error_counts : (error : NativeError) (name : Text) (spot : Spot) (e : EvalFault) (o after : Outside) → IsNativeFault error name spot e → LooksAt {A = NativeStep} o after (Err error) → Counts {A = NativeStep} (Err e) o after
 error_counts (errors.Fault f) name spot e o after h looks = fault_of spot (native f) e o after h looks
 error_counts errors.Arity name spot e o after h looks = fault_of spot (arity name) e o after h looks
-error_counts (errors.Expand f) name spot e o after (inl memory, same) looks = subst (λ x. Counts {A = NativeStep} (Err x) o after) (sym memory) tt
-error_counts (errors.Expand f) name spot e o after (inr h, same) looks = fault_of spot (expand f) e o after h looks
 error_counts errors.Host name spot e o after h looks = subst (λ x. Counts {A = NativeStep} (Err x) o after) (sym h) looks.rose
 error_counts errors.OutOfMemory name spot e o after h looks = subst (λ x. Counts {A = NativeStep} (Err x) o after) (sym h) tt
 
@@ -97,8 +88,6 @@ error_counts errors.OutOfMemory name spot e o after h looks = subst (λ x. Count
 pub error_whole : (error : NativeError) (name : Text) (spot : Spot) (e : EvalFault) → IsNativeFault error name spot e → HoldsNoMemory e
 error_whole (errors.Fault f) name spot e h = fault_whole spot (native f) e h
 error_whole errors.Arity name spot e h = fault_whole spot (arity name) e h
-error_whole (errors.Expand f) name spot e (inl memory, same) = subst HoldsNoMemory (sym memory) tt
-error_whole (errors.Expand f) name spot e (inr h, same) = fault_whole spot (expand f) e h
 error_whole errors.Host name spot e h = subst HoldsNoMemory (sym h) tt
 error_whole errors.OutOfMemory name spot e h = subst HoldsNoMemory (sym h) tt
 
@@ -133,8 +122,6 @@ module _ {R : Type 0} where
       → IsNativeFault error name spot e → IsMeant told (Err error) ws k → Agrees view (Err e) (heard name spot s told) (as_told ws k s)
   fault_heard view (errors.Fault f) name spot e told s ws k h is = fault_agrees view spot (native f) e (heard name spot s told) (as_told ws k s) h (ap (heard name spot s) is)
   fault_heard view errors.Arity name spot e told s ws k h is = fault_agrees view spot (arity name) e (heard name spot s told) (as_told ws k s) h (ap (heard name spot s) is)
-  fault_heard view (errors.Expand f) name spot e told s ws k (inl memory, same) is = subst (λ x. Agrees view (Err x) (heard name spot s told) (as_told ws k s)) (sym memory) tt
-  fault_heard view (errors.Expand f) name spot e told s ws k (inr h, same) is = fault_agrees view spot (expand f) e (heard name spot s told) (as_told ws k s) h (ap (heard name spot s) is)
   fault_heard view errors.Host name spot e told s ws k h is = subst (λ x. Agrees view (Err x) (heard name spot s told) (as_told ws k s)) (sym h) tt
   fault_heard view errors.OutOfMemory name spot e told s ws k h is = subst (λ x. Agrees view (Err x) (heard name spot s told) (as_told ws k s)) (sym h) tt
 

@@ -9,7 +9,7 @@ use Rattle.jam_scope.specs.Worlds.{Worlds}
 use Rattle.jam_scope.specs.Lines.{actions_place}
 use Rattle.jam_eval.specs.declared.native_answer.NativeError.{NativeError}
 use Rattle.jam_eval.specs.declared.native_answer.NativeError.TheVariants as errors
-use Rattle.jam_eval.specs.Faults.{Spot, native, arity, expand, refused_in}
+use Rattle.jam_eval.specs.Faults.{Spot, native, arity, refused_in}
 use Rattle.jam_eval.specs.Laws.{bounds}
 use Rattle.jam_eval.specs.States.{State}
 use Rattle.jam_eval.specs.Outcomes.{gives}
@@ -36,8 +36,6 @@ quiet error name spot fault.OutOfMemory o h not_ = tt
 quiet error name spot (fault.At path line why) o h not_ = refl
 quiet (errors.Fault f) name spot fault.Host o h not_ = absurd h
 quiet errors.Arity name spot fault.Host o h not_ = absurd h
-quiet (errors.Expand f) name spot fault.Host o (inl memory, same) not_ = cc
-quiet (errors.Expand f) name spot fault.Host o (inr h, same) not_ = absurd h
 quiet errors.Host name spot fault.Host o h not_ = absurd (not_ refl)
 quiet errors.OutOfMemory name spot fault.Host o h not_ = cc
 
@@ -47,8 +45,6 @@ none_refused error name spot fault.Host h none = refl
 none_refused error name spot fault.OutOfMemory h none = refl
 none_refused (errors.Fault f) name spot (fault.At path line why) h none = ap refused_in h.1 ∙ none
 none_refused errors.Arity name spot (fault.At path line why) h none = ap refused_in h.1
-none_refused (errors.Expand f) name spot (fault.At path line why) (inl memory, same) none = cc
-none_refused (errors.Expand f) name spot (fault.At path line why) (inr h, same) none = ap refused_in h.1
 none_refused errors.Host name spot (fault.At path line why) h none = cc
 none_refused errors.OutOfMemory name spot (fault.At path line why) h none = cc
 
@@ -76,8 +72,6 @@ module _ {R : Type 0} where
       → IsNativeFault error name spot e → IsMeant told (Err error) ws k → Agrees truth (Err e) (noted_by name spot s told) (as_told ws k s)
   fault_noted (errors.Fault f) name spot e told s ws k h is = fault_agrees truth spot (native f) e (noted_by name spot s told) (as_told ws k s) h (ap (noted_by name spot s) is)
   fault_noted errors.Arity name spot e told s ws k h is = fault_agrees truth spot (arity name) e (noted_by name spot s told) (as_told ws k s) h (ap (noted_by name spot s) is)
-  fault_noted (errors.Expand f) name spot e told s ws k (inl memory, same) is = subst (λ x. Agrees truth (Err x) (noted_by name spot s told) (as_told ws k s)) (sym memory) tt
-  fault_noted (errors.Expand f) name spot e told s ws k (inr h, same) is = fault_agrees truth spot (expand f) e (noted_by name spot s told) (as_told ws k s) h (ap (noted_by name spot s) is)
   fault_noted errors.Host name spot e told s ws k h is = subst (λ x. Agrees truth (Err x) (noted_by name spot s told) (as_told ws k s)) (sym h) tt
   fault_noted errors.OutOfMemory name spot e told s ws k h is = subst (λ x. Agrees truth (Err x) (noted_by name spot s told) (as_told ws k s)) (sym h) tt
 

@@ -15,7 +15,6 @@ use Rattle.jam_effects.specs.declared.at.At.{At}
 use Rattle.jam_effects.specs.declared.fault.EvalFault.{EvalFault}
 use Rattle.jam_effects.specs.declared.fault.EvalFault.TheVariants as faults
 use Rattle.jam_effects.specs.Causes.{IsFault}
-use Rattle.jam_effects.specs.Answers.{IsExpandFault}
 use Rattle.jam_effects.specs.Spots.{spot_of}
 
 module _ {R : Type 0} where
@@ -44,6 +43,5 @@ module _ {R : Type 0} where
 abbrev pub IsNativeFault : NativeError → Text → Spot → EvalFault → Type 0
 IsNativeFault (errors.Fault fault) name spot e = IsFault spot (native fault) e
 IsNativeFault errors.Arity name spot e = IsFault spot (arity name) e
-IsNativeFault (errors.Expand fault) name spot e = IsExpandFault fault spot e
 IsNativeFault errors.Host name spot e = e ≡ faults.Host
 IsNativeFault errors.OutOfMemory name spot e = e ≡ faults.OutOfMemory

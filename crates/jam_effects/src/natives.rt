@@ -9,7 +9,6 @@ ghost use Rattle.jam_effects.specs.Views.{truth, step};
 
 use crate::at::At;
 use crate::fault::{EvalCause, EvalFault};
-use crate::words::expand_fault;
 use b2_base::text::Text;
 use b2_base::text_list::TextList;
 use b2_host::files::Files;
@@ -24,7 +23,6 @@ fn native_fault(error: NativeError, name: &Text, at: &At<'_>) -> EvalFault
     match error {
         NativeError::Fault(fault) => at.fault(EvalCause::Native(fault)),
         NativeError::Arity => arity(name, at),
-        NativeError::Expand(fault) => expand_fault(fault, at),
         NativeError::Host => EvalFault::Host,
         NativeError::OutOfMemory => EvalFault::OutOfMemory,
     }

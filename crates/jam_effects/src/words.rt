@@ -21,7 +21,7 @@ use jam_values::joining::join;
 use std::alloc::Global;
 
 /// The fault of an expansion, at a place.
-pub fn expand_fault(fault: ExpandFault, at: &At<'_>) -> EvalFault
+pub(crate) fn expand_fault(fault: ExpandFault, at: &At<'_>) -> EvalFault
     ensures { IsExpandFault fault (spot_of at.now) result }
 {
     match fault {

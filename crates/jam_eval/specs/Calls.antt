@@ -4,13 +4,13 @@ use Rattle.jam_journal.specs.Tables.{Text, Key}
 use Rattle.jam_journal.specs.Scopes.{Value, Binding, bind_each, enter_call}
 use Rattle.jam_eval.specs.declared.native_answer.NativeStep.{NativeStep}
 use Rattle.jam_eval.specs.declared.native_answer.NativeStep.TheVariants as steps
-use Rattle.jam_eval.specs.Faults.{Spot, Cause, unknown_rule, arity, expand, exit, native}
+use Rattle.jam_eval.specs.Faults.{Spot, Cause, unknown_rule, arity, exit, native}
 use Rattle.jam_scope.specs.Rules.{Rule}
 use Rattle.jam_scope.specs.Worlds.{Worlds}
 use Rattle.jam_scope.specs.Lines.{find_rule, actions_place}
 use Rattle.jam_eval.specs.States.{State, with_scopes}
 use Rattle.jam_eval.specs.Refused.{refused_here}
-use Rattle.jam_eval.specs.Settings.{NativeCause, of_native, of_arity, of_expansion, Told, answers, refuses, Setting}
+use Rattle.jam_eval.specs.Settings.{NativeCause, of_native, of_arity, Told, answers, refuses, Setting}
 use Rattle.jam_eval.specs.Outcomes.{Outcome, gives, faults, Flow, goes_on, returns, then_do, fault_at, either, joined, close_frame}
 use Rattle.jam_eval.specs.Levels.{Levels}
 use Rattle.jam_eval.specs.Params.{call_binds}
@@ -19,7 +19,6 @@ use Rattle.jam_eval.specs.Conds.{is_true}
 abbrev pub cause_of : Text → NativeCause → Cause
 cause_of name (of_native fault) = native fault
 cause_of name of_arity = arity name
-cause_of name (of_expansion fault) = expand fault
 
 abbrev pub kept_if : Bool → Text → Value → Value
 kept_if true item items = item ∷ items

@@ -13,7 +13,7 @@ use Rattle.jam_eval.specs.declared.native_answer.NativeStep.{NativeStep}
 use Rattle.jam_eval.specs.declared.native_answer.NativeError.{NativeError}
 use Rattle.jam_eval.specs.declared.native_answer.NativeError.TheVariants as errors
 use Rattle.jam_eval.specs.Faults.{refused_by}
-use Rattle.jam_eval.specs.Settings.{Sight, IsSight, Told, answers, refuses, of_native, of_arity, of_expansion, Meaning}
+use Rattle.jam_eval.specs.Settings.{Sight, IsSight, Told, answers, refuses, of_native, of_arity, Meaning}
 
 module _ {A R : Type 0} where
   -- the answer is what is told of the call, with the worlds and what is kept after it; nothing is told of faults of the host and
@@ -22,7 +22,6 @@ module _ {A R : Type 0} where
   IsMeant told (Ok answer) worlds kept = told ≡ answers answer worlds kept
   IsMeant told (Err (errors.Fault fault)) worlds kept = told ≡ refuses (of_native fault) worlds kept
   IsMeant told (Err errors.Arity) worlds kept = told ≡ refuses of_arity worlds kept
-  IsMeant told (Err (errors.Expand fault)) worlds kept = told ≡ refuses (of_expansion fault) worlds kept
   IsMeant told (Err errors.Host) worlds kept = Unit {0}
   IsMeant told (Err errors.OutOfMemory) worlds kept = Unit {0}
 
@@ -31,7 +30,6 @@ module _ {A R : Type 0} where
   StaysKept (Ok answer) kept now = Unit {0}
   StaysKept (Err (errors.Fault fault)) kept now = Unit {0}
   StaysKept (Err errors.Arity) kept now = Unit {0}
-  StaysKept (Err (errors.Expand fault)) kept now = Unit {0}
   StaysKept (Err errors.Host) kept now = now ≡ kept
   StaysKept (Err errors.OutOfMemory) kept now = now ≡ kept
 
@@ -41,7 +39,6 @@ module _ {A : Type 0} where
   refused_of (Ok answer) = None
   refused_of (Err (errors.Fault fault)) = refused_by fault
   refused_of (Err errors.Arity) = None
-  refused_of (Err (errors.Expand fault)) = None
   refused_of (Err errors.Host) = None
   refused_of (Err errors.OutOfMemory) = None
 
@@ -50,7 +47,6 @@ module _ {A : Type 0} where
   LooksAt before after (Ok answer) = after ≡ before
   LooksAt before after (Err (errors.Fault fault)) = after ≡ before
   LooksAt before after (Err errors.Arity) = after ≡ before
-  LooksAt before after (Err (errors.Expand fault)) = after ≡ before
   LooksAt before after (Err errors.Host) = Fails before after
   LooksAt before after (Err errors.OutOfMemory) = after ≡ before
 
@@ -97,7 +93,6 @@ abbrev pub PutsPartly : {A : Type 0} → Result A NativeError → World → Worl
 PutsPartly (Ok answer) before after = Unit {0}
 PutsPartly (Err (errors.Fault fault)) before after = Unit {0}
 PutsPartly (Err errors.Arity) before after = Unit {0}
-PutsPartly (Err (errors.Expand fault)) before after = Unit {0}
 PutsPartly (Err errors.Host) before after = Unit {0}
 PutsPartly (Err errors.OutOfMemory) before after = PutsPart before after
 

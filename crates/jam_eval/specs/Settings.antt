@@ -1,7 +1,6 @@
 -- What evaluation is given and never changes.
 use Rattle.std.specs.Prelude.{◌≡◌, ◌↔◌, ℕ, ◌<◌, ◌≤◌, Bool, IsTrue, List, length, Option, Some, None, Err}
 use Rattle.std.specs.Str.{chars}
-use Rattle.b2_base.specs.declared.expand_fault.ExpandFault.{ExpandFault}
 use Rattle.b2_base.specs.declared.token.Token.{Token}
 use Rattle.b2_host.specs.Disks.{Folder, bytes_at}
 use Rattle.b2_host.specs.Listings.{IsListed}
@@ -36,7 +35,6 @@ pub record IsSight (sight : Sight) : Type 0 where
 pub data NativeCause : Type 0 where
   of_native : NativeFault → NativeCause
   of_arity : NativeCause
-  of_expansion : ExpandFault → NativeCause
 
 -- what a native rule answers, or what the recording of a call answers, with the worlds and what the natives keep after it
 pub data Told (A R : Type 0) : Type 0 where

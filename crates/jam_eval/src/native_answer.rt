@@ -1,5 +1,4 @@
 //! What native rules answer.
-use b2_base::expand_fault::ExpandFault;
 use b2_base::fault::OutOfMemory;
 use b2_base::text::Text;
 use b2_base::text_list::TextList;
@@ -32,8 +31,6 @@ pub enum NativeError {
     Fault(NativeFault),
     /// The lists are not those that the rule takes.
     Arity,
-    /// A list has no expansion, or is too large.
-    Expand(ExpandFault),
     /// A call of the host failed.
     Host,
     /// No memory was left.

@@ -18,7 +18,6 @@ abbrev pub IsRead : Result NativeStep NativeError → (Option Text → Result Na
 IsRead (Ok step) meant = meant None ≡ Ok step
 IsRead (Err (errors.Fault cause)) meant = meant (refused_by cause) ≡ Err cause
 IsRead (Err errors.Arity) meant = ⊥
-IsRead (Err (errors.Expand cause)) meant = ⊥
 IsRead (Err errors.Host) meant = ⊥
 IsRead (Err errors.OutOfMemory) meant = Unit {0}
 
@@ -27,7 +26,6 @@ abbrev pub IsPut : Result NativeStep NativeError → (Worlds → Kept → Answer
 IsPut (Ok step) meant before after = (kept : Kept) → meant before kept ≡ answers step after kept
 IsPut (Err (errors.Fault cause)) meant before after = (refused_by cause ≡ None) × ((kept : Kept) → meant before kept ≡ refuses (of_native cause) after kept)
 IsPut (Err errors.Arity) meant before after = (kept : Kept) → meant before kept ≡ refuses of_arity after kept
-IsPut (Err (errors.Expand cause)) meant before after = ⊥
 IsPut (Err errors.Host) meant before after = ⊥
 IsPut (Err errors.OutOfMemory) meant before after = PutsPart before.now after.now
 
@@ -36,7 +34,6 @@ abbrev pub IsDeclared : Result NativeStep NativeError → (Worlds → Kept → A
 IsDeclared (Ok step) meant before after kept now = (meant before kept ≡ answers step after now) × KeepsFrames before after
 IsDeclared (Err (errors.Fault cause)) meant before after kept now = ⊥
 IsDeclared (Err errors.Arity) meant before after kept now = ⊥
-IsDeclared (Err (errors.Expand cause)) meant before after kept now = ⊥
 IsDeclared (Err errors.Host) meant before after kept now = ⊥
 IsDeclared (Err errors.OutOfMemory) meant before after kept now = (after ≡ before) × (now ≡ kept)
 

@@ -71,7 +71,6 @@ fn push_error(answer: &mut Answer, error: &NativeError) {
     match error {
         NativeError::Fault(fault) => push_fault(answer, fault),
         NativeError::Arity => answer.push_line("wrong lists"),
-        NativeError::Expand(_) => answer.push_line("no expansion"),
         NativeError::Host => answer.push_line("host fault"),
         NativeError::OutOfMemory => answer.cut(),
     }
