@@ -68,7 +68,7 @@ pub(crate) fn keep<'a>(
 }
 
 /// The segments as one text.
-#[tactic(auto, using(crate::proofs::JoinedSegments::joined))]
+#[tactic(auto, using(crate::proofs::BothJoinsMakeOneText::joined))]
 pub(crate) fn join(alloc: Global, rooted: bool, found: &[&str]) -> Result<String, OutOfMemory>
     ensures { IfOk result (λ text. string_bytes text ≡ written rooted (texts found.now)) }
 {

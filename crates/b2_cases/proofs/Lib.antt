@@ -1,1 +1,1 @@
-pub mod UntoldLemmas
+pub mod CallsHoldWithFilesHidden

@@ -1,4 +1,4 @@
-pub mod Calls
-pub mod LoopSteps
+pub mod CallsDeclareProperNames
+pub mod ListsGrowByOne
 pub mod SameRuleName
-pub mod Trailing
+pub mod EmptyLastListsChangeNothing

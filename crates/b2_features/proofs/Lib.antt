@@ -1,7 +1,7 @@
-pub mod Lookups
-pub mod TableLemmas
-pub mod TextTests
-pub mod FaultLemmas
-pub mod Outcomes
-pub mod TwiceLemmas
-pub mod FindingLemmas
+pub mod ListSearchesAgree
+pub mod MapEntriesShowTheTable
+pub mod TextsAreSoughtInLists
+pub mod FaultlessIsUntakenAndWhole
+pub mod OutcomesPassOnWhatHolds
+pub mod NewValuesKeepAllApart
+pub mod TablesFindWhatWasAdded

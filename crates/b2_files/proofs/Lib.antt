@@ -1,8 +1,8 @@
-pub mod KeyLists
-pub mod NameLemmas
-pub mod Gathering
-pub mod Standing
-pub mod KnownPaths
-pub mod Keeping
-pub mod PlaceMaps
-pub mod StorePut
+pub mod KeysAreTheSortedPaths
+pub mod NameIsRestWithoutSlash
+pub mod GatheredNamesAreTheListing
+pub mod PlacedWriteIsWhatStands
+pub mod KnownPathsStayKnown
+pub mod WritesStayAsTheyWere
+pub mod OtherPathsKeepTheirPlaces
+pub mod PuttingWritesTheDisk

@@ -1,8 +1,8 @@
-mod TellLemmas
-mod StopLemmas
-mod AgainLemmas
-mod PlanLemmas
-mod OverLemmas
-mod LoadLemmas
-mod SettingLemmas
+mod FaultsAreToldAsAnswers
+mod RefusalsHoldNoHostFault
+mod RefusedPatternGivesNoPlan
+mod RequestGetsPlanOrRefusal
+mod LentHostTellsTheSame
+mod AnswerIsWhatFilesMean
+mod LoadSettingIsRight
 mod OneMeaning

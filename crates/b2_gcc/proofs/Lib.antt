@@ -1,4 +1,4 @@
-pub mod Clean
-pub mod Faults
-pub mod Fresh
-pub mod Spelled
+pub mod CleanTextsHaveNoZero
+pub mod FirstCauseIsTheFault
+pub mod FreshTablesRefuseNothing
+pub mod OneWordIsItsSpelling

@@ -1,31 +1,31 @@
-mod StackLemmas
-mod RememberLemmas
-mod MeasureLemmas
-mod TurnLemmas
-mod OneLemmas
-pub mod NodeLemmas
-mod AgainLemmas
-mod NameKeys
-mod MachineLemmas
-mod TakingLemmas
-mod MakingLemmas
-mod GatherLemmas
-mod MadeLemmas
-pub mod NameFacts
-mod DateLemmas
-mod ExitLemmas
-mod OpeningLemmas
-pub mod LeadLemmas
-mod GoLemmas
-mod LawLemmas
-mod StepLemmas
-mod CourseLemmas
-mod CloseLemmas
-mod DueLemmas
-mod DoneLemmas
-mod RequestLemmas
-mod AddLemmas
-mod PieceLemmas
-mod PlanLaws
-pub mod PlaceLemmas
-mod ClearLemmas
+mod StackLeadsToTheOutcome
+mod OutcomeIsTheSameAgain
+mod BoundOnTurnsFalls
+mod EachStepLeavesFewerTurns
+mod TargetHasOneOutcome
+pub mod OlderNodesStay
+mod NodesAreGivenAgain
+mod MapHasWhatEntriesHave
+mod NewNodeKeepsOpenTargets
+mod NodeIsTakenOrClashes
+mod SuppliesAreThoseDefined
+mod SupplyGathersPartByPart
+mod StepsAreThoseDefined
+pub mod SameNamesAreEqual
+mod NewNodeIsDatedRightly
+mod EarlyExitGivesTheFault
+mod CycleListsOpenTargets
+pub mod OpeningLeadsOn
+mod OpenTargetsAreKeptRightly
+mod MakingAgainGivesTheSame
+mod TurnKeepsItsPromise
+mod TakingLeadsOn
+mod ClosingLeadsOn
+mod DueTargetIsDeclared
+mod NewNodeLeadsOn
+mod TurnsAnswerTheRequest
+mod GivenStaysWithMoreNodes
+mod PiecesAnswerTheRequest
+mod RequestHasOnePlan
+pub mod OwnRowThenChildrensRows
+mod DatesOrMarksShowClear

@@ -1,7 +1,7 @@
-mod ValueLemmas
-mod MadeLemmas
-mod SameLemmas
-mod RowLemmas
-mod ApartLemmas
-mod KeepLemmas
-mod PlanLemmas
+mod EarlierStepsDoNotMatter
+mod TargetsComeFromTheirNeeds
+mod TargetAndSetDecideAnswer
+mod OwnRowThenThoseOpened
+mod JoinedStepsStayApart
+mod MakingKeepsOutputsApart
+mod PlanOutputsAreApart

@@ -1,3 +1,3 @@
 pub mod NamesHold
-pub mod EvalSteps
-pub mod QuestionSteps
+pub mod EvaluationsGiveWhatIsTold
+pub mod GivenFaultChangesOneQuestion

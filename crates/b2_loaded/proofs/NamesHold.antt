@@ -15,7 +15,7 @@ use Rattle.b2_base.specs.Normal.{parts}
 use Rattle.b2_host.specs.Disks.{File, Folder, Disk, Past, IsConsistent}
 use Rattle.b2_host.specs.Listings.{IsDirectlyIn, IsListed}
 use Rattle.jam_journal.specs.Tables.{Text}
-use Rattle.b2_sights.proofs.RisingLists.{Rises, here, there, here_or_there, none_there, rises_at}
+use Rattle.b2_sights.proofs.PuttingKeepsListsRising.{Rises, here, there, here_or_there, none_there, rises_at}
 use Rattle.b2_loaded.specs.Names.{one_after, unless_up, are_same, name_in, put_by, put, put_if, names_of, names_in}
 
 -- ---- texts in byte order

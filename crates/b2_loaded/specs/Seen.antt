@@ -6,7 +6,7 @@ use Rattle.jam_journal.specs.Tables.{Text}
 use Rattle.jam_eval.specs.Settings.{Sight, Setting}
 use Rattle.jam_natives.specs.Keeping.{Kept}
 use Rattle.jam_natives.specs.Rows.{jam_meaning}
-use Rattle.b2_sights.proofs.DecidedMatches.{match_told}
+use Rattle.b2_sights.proofs.EveryMatchIsDecided.{match_told}
 use Rattle.b2_loaded.specs.Names.{names_in}
 use Rattle.b2_loaded.specs.Readings.{reads}
 use Rattle.b2_loaded.specs.Turns.{turns}

@@ -10,7 +10,7 @@ use Rattle.b2_host.specs.ChildProcesses.{Given, Child, IsWritten, ChangesOnlyOut
 use Rattle.b2_files.specs.declared.entry.Entry.{Entry}
 use Rattle.b2_files.specs.Writes.{all_written}
 use Rattle.b2_files.specs.Stores.{PlaceMap, is_known, all_known}
-use Rattle.b2_files.proofs.KnownPaths.{both, and_true}
+use Rattle.b2_files.proofs.KnownPathsStayKnown.{both, and_true}
 use Rattle.b2_memory.specs.declared.running.Running.{Running}
 use Rattle.b2_memory.specs.Results.{made_of}
 use Rattle.b2_memory.specs.ChildWrites.{writes_of}

@@ -1,10 +1,10 @@
-pub mod Counts
-pub mod Notes
-pub mod Countdowns
-pub mod LoopSteps
+pub mod CountsRiseUntilFull
+pub mod ReadsKeepTheirPaths
+pub mod EachCountdownFallsInTurn
+pub mod LoopsAddOneMore
 pub mod ChildWrites
 pub mod ChildEnds
-pub mod Records
-pub mod Effects
-mod StableSort
-mod InputOrder
+pub mod EqualPartsMakeEqualRecords
+pub mod CallsDoWhatHostsPromise
+mod StableSortIsInsertionSort
+mod InputOrderDoesNotMatter

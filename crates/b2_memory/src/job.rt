@@ -40,7 +40,7 @@ fn hold_one(
 }
 
 /// The inputs that stand, with their bytes.
-#[tactic(auto, using(crate::proofs::LoopSteps::read_more))]
+#[tactic(auto, using(crate::proofs::LoopsAddOneMore::read_more))]
 fn hold(alloc: Global, store: &Store, ins: &[Path]) -> Result<Vec<Entry>, OutOfMemory>
     ensures { IfOk result (λ held. map write_of held.items ≡ read_all (told store.now).now ins.now) }
 {

@@ -36,7 +36,7 @@ impl ReadNotes {
     }
 
     /// One more read. After an error the reads are as before.
-    #[tactic(auto, using(crate::proofs::Notes::reads_more))]
+    #[tactic(auto, using(crate::proofs::ReadsKeepTheirPaths::reads_more))]
     pub fn add(
         &mut self,
         path: &Path,
@@ -54,7 +54,7 @@ impl ReadNotes {
     }
 
     /// In the order of the reads; a path that was read twice stands twice.
-    #[tactic(auto, using(crate::proofs::Notes::paths_are))]
+    #[tactic(auto, using(crate::proofs::ReadsKeepTheirPaths::paths_are))]
     pub fn paths(&self) -> &[Path]
         ensures { map (λ read. read.path) (noted_reads self.now) ≡ result.now }
     {

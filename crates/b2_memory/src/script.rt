@@ -132,7 +132,7 @@ fn place_of_pick(pick: Option<u32>, children: usize) -> usize
 }
 
 /// A count that goes up, unless it stands at the greatest.
-#[tactic(auto, using(crate::proofs::Counts::raised_is))]
+#[tactic(auto, using(crate::proofs::CountsRiseUntilFull::raised_is))]
 pub fn raise(count: u64) -> u64
     ensures { result ≡ raised count }
 {

@@ -13,7 +13,7 @@ use Rattle.b2_metatargets.specs.declared.visit.Call.{Call}
 use Rattle.b2_metatargets.specs.Outcomes.{IsFaultOf}
 use Rattle.b2_metatargets.specs.Calls.{refusal, unless, unless_fault, after_reading, at_call, IsRefusal, IsFeatureRefusal}
 use Rattle.b2_metatargets.specs.Carrying.{Tables, gcc_tables, is_gcc_refused, properties_in, with_gcc, with_parts, with_compose, with_row, with_generator}
-use Rattle.b2_metatargets.proofs.Refusing.{read_fault_then, read_then, read_then_fault, unless_refused, unrefused, faultless, faultless_fault, cause_is_fault}
+use Rattle.b2_metatargets.proofs.RefusalIsTheStepsFault.{read_fault_then, read_then, read_then_fault, unless_refused, unrefused, faultless, faultless_fault, cause_is_fault}
 
 -- ---- `using gcc`
 

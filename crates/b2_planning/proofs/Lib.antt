@@ -1,5 +1,5 @@
-mod PlanLemmas
-mod RowLemmas
-mod RowKeys
-mod WalkLemmas
-mod WalkSteps
+mod PlanIsWhatWasGenerated
+mod RepeatedRowsAreLeftOut
+mod KnownRowsAreThoseFound
+mod WalkFindsEachRowOnce
+mod OpeningPushesChildren

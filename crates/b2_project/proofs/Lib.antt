@@ -1,8 +1,8 @@
 mod OneEnding
 mod CallsFirst
-mod RuleTables
-mod ToolsetSteps
-mod EndSteps
-mod RunSteps
-mod LoadSteps
-mod AnswerLemmas
+mod RecordedRulesAreDeclaring
+mod FirstToolsetCallDecides
+mod LoadsEndAsCallsDeclare
+mod ToolsetRunsAfterTheWalk
+mod LoadsWalkRunThenDeclare
+mod LoadsAnswerWhatIsDeclared

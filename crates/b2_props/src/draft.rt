@@ -71,7 +71,7 @@ impl Draft {
     }
 
     /// Adds a pair. A feature that is not free and has a value keeps it.
-    #[tactic(auto, using(crate::proofs::Gaining::gain_free, crate::proofs::Gaining::gain_value, crate::proofs::Gaining::gain_nothing))]
+    #[tactic(auto, using(crate::proofs::DraftHoldsEachGainedPair::gain_free, crate::proofs::DraftHoldsEachGainedPair::gain_value, crate::proofs::DraftHoldsEachGainedPair::gain_nothing))]
     pub(crate) fn add(
         &mut self,
         registry: &Registry,
@@ -91,7 +91,7 @@ impl Draft {
     }
 
     /// Adds a pair. A feature that is not free gets this value.
-    #[tactic(auto, using(crate::proofs::Gaining::take_free, crate::proofs::Gaining::take_value))]
+    #[tactic(auto, using(crate::proofs::DraftHoldsEachGainedPair::take_free, crate::proofs::DraftHoldsEachGainedPair::take_value))]
     pub(crate) fn put(
         &mut self,
         registry: &Registry,

@@ -1,1 +1,1 @@
-pub mod JobLemmas
+pub mod WaitEndsOneJob

@@ -1,7 +1,7 @@
-pub mod NameLemmas
-pub mod EntryLemmas
-pub mod WalkLemmas
-pub mod ListLemmas
-pub mod GroupLemmas
-pub mod LoopLemmas
-pub mod RequestLemmas
+pub mod FiltersKeepFirstNames
+pub mod EntriesGrowByOneTarget
+pub mod TurnsAreEnough
+pub mod ListedAreNotExplicit
+pub mod GroupsGrowByOnePair
+pub mod LoopsTakeOneMore
+pub mod AskedSetsAreProper

@@ -9,10 +9,10 @@ use Rattle.b2_refine.specs.Choices.{counted, clashes, IsFirstClash, IsChoiceOf}
 use Rattle.b2_refine.specs.Laws.{SettlesOnOne, SettledIsStable, SettledHasNoFault, UnstableHasNoFault, MeetsOneFault, OneIsChosen, OneChoice, SameUpToNumbers, OrderChangesNumbers}
 use Rattle.b2_refine.specs.declared.choice.Choice.{Choice}
 use Rattle.b2_refine.specs.declared.choice.Choice.TheVariants as choices
-use Rattle.b2_refine.proofs.Subsets.{better_not_back}
-use Rattle.b2_refine.proofs.Searching.{clash_parts, counted_others, choice_of_sole}
-use Rattle.b2_refine.proofs.Rounds.{stays, fault_stays}
-use Rattle.b2_refine.proofs.Orders.{Rearranged, permutation_rearranges, permutation_length, viable_forth, viable_back, chosen_forth}
+use Rattle.b2_refine.proofs.BetterIsAStrictOrder.{better_not_back}
+use Rattle.b2_refine.proofs.RivalMeansNoneIsChosen.{clash_parts, counted_others, choice_of_sole}
+use Rattle.b2_refine.proofs.LastTwoRoundsDecide.{stays, fault_stays}
+use Rattle.b2_refine.proofs.AnyOrderKeepsTheChosen.{Rearranged, permutation_rearranges, permutation_length, viable_forth, viable_back, chosen_forth}
 
 -- ---- requirements
 

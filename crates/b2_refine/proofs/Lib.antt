@@ -1,6 +1,6 @@
-pub mod Subsets
-pub mod Searching
-pub mod GivenPairs
-pub mod Rounds
-pub mod Orders
+pub mod BetterIsAStrictOrder
+pub mod RivalMeansNoneIsChosen
+pub mod RequirementsGiveOneByOne
+pub mod LastTwoRoundsDecide
+pub mod AnyOrderKeepsTheChosen
 pub mod LawProofs

@@ -65,7 +65,7 @@ fn takes_over(full: &Props, conditions: &[Condition], place: usize, best: Option
 }
 
 /// A viable alternative than which no viable one is better.
-#[tactic(auto, using(crate::proofs::Searching::favourite_stays, crate::proofs::Searching::favourite_changes))]
+#[tactic(auto, using(crate::proofs::RivalMeansNoneIsChosen::favourite_stays, crate::proofs::RivalMeansNoneIsChosen::favourite_changes))]
 fn favourite(full: &Props, conditions: &[Condition]) -> Option<usize>
     ensures { IsFavourite full.now conditions.now (length conditions.now) result }
 {

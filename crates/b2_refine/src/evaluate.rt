@@ -59,7 +59,7 @@ fn first_set(
     refine(alloc, registry, request, pairs.as_slice())
 }
 
-#[tactic(auto, using(crate::proofs::GivenPairs::other_by_length))]
+#[tactic(auto, using(crate::proofs::RequirementsGiveOneByOne::other_by_length))]
 fn is_other(requirement: &Requirement) -> bool
     ensures { result ≡ is_other requirement.now }
 {
@@ -79,7 +79,7 @@ fn count_others(required: &[Requirement]) -> usize
         .count()
 }
 
-#[tactic(auto, using(crate::proofs::Rounds::refined_outcome, crate::proofs::Rounds::refused_outcome))]
+#[tactic(auto, using(crate::proofs::LastTwoRoundsDecide::refined_outcome, crate::proofs::LastTwoRoundsDecide::refused_outcome))]
 fn next_set<A: Ask>(
     alloc: Global,
     registry: &Registry,

@@ -33,7 +33,7 @@ fn ask_rule<A: Ask>(
     }
 }
 
-#[tactic(auto, using(crate::proofs::GivenPairs::given_none, crate::proofs::GivenPairs::given_met))]
+#[tactic(auto, using(crate::proofs::RequirementsGiveOneByOne::given_none, crate::proofs::RequirementsGiveOneByOne::given_met))]
 fn is_given(index: &PairIndex, conditions: &PairList) -> bool
     ensures { (pairs : List Pair) → IsIndexOf pairs index.now → result ≡ is_given pairs conditions.now }
 {
@@ -59,7 +59,7 @@ fn give_plain(
     Ok(made)
 }
 
-#[tactic(auto, using(crate::proofs::GivenPairs::plain_outcome, crate::proofs::GivenPairs::indirect_outcome))]
+#[tactic(auto, using(crate::proofs::RequirementsGiveOneByOne::plain_outcome, crate::proofs::RequirementsGiveOneByOne::indirect_outcome))]
 fn give<A: Ask>(
     alloc: Global,
     set: &Props,

@@ -1,2 +1,2 @@
-pub mod TextLemmas
-pub mod RefusedLemmas
+pub mod TextsGrowByOneElement
+pub mod FailuresAreRefusals

@@ -38,7 +38,7 @@ use Rattle.b2_runs.proofs.CutLogIsTrue.{whole_is_cut}
 use Rattle.b2_runs.proofs.StopLeavesNone.{update_counts_fault, stop_counts_fault}
 use Rattle.b2_run_examples.proofs.OneStepPlan.{one_of, only_is, only_number, only_out, makes_out}
 use Rattle.b2_run_examples.proofs.CopyingHolds.{apart, run, went, closure, none_older, log_true, one_each_after, stands_after, others_after}
-use Rattle.b2_run_examples.proofs.CopyingFiled.{begins_empty, counts, course, whole}
+use Rattle.b2_run_examples.proofs.LogIsTrueEvenTorn.{begins_empty, counts, course, whole}
 
 -- ---- the disk
 

@@ -1,7 +1,7 @@
 pub mod OneStepPlan
 pub mod CopyingHolds
 pub mod CopyingJudged
-pub mod CopyingFiled
+pub mod LogIsTrueEvenTorn
 pub mod CirclingHolds
 pub mod ThreeCopies
 pub mod OverlapHolds

@@ -9,8 +9,8 @@ use Rattle.b2_log.specs.Lines.{spelling, log_bytes}
 use Rattle.b2_log.specs.Good.{IsGood}
 use Rattle.b2_log.specs.Readings.{IsReading}
 use Rattle.b2_log.specs.Finding.{find_record, kept}
-use Rattle.b2_log.proofs.WholeLines.{line_long}
-use Rattle.b2_log.proofs.ReadLogs.{reading_whole}
+use Rattle.b2_log.proofs.LinesHaveOneReading.{line_long}
+use Rattle.b2_log.proofs.BytesHaveOneReading.{reading_whole}
 use Rattle.b2_runs.specs.Logs.{Making, LogTrue}
 use Rattle.b2_runs.specs.LogFiles.{log_limit, IsLogOf, IsTrueFile, IsLogHeld}
 use Rattle.b2_runs.specs.Staleness.{Update, making}

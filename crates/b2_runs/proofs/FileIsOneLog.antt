@@ -7,9 +7,9 @@ use Rattle.b2_log.specs.Lines.{spelling, log_bytes}
 use Rattle.b2_log.specs.Good.{IsGood}
 use Rattle.b2_log.specs.Readings.{Begins, IsReading}
 use Rattle.b2_log.specs.Finding.{told, find_record}
-use Rattle.b2_log.proofs.WholeLines.{line_long, line_shorter}
-use Rattle.b2_log.proofs.Parts.{ReadSo}
-use Rattle.b2_log.proofs.ReadLogs.{one_spelling, one_reading, reading_ends}
+use Rattle.b2_log.proofs.LinesHaveOneReading.{line_long, line_shorter}
+use Rattle.b2_log.proofs.JoinedPartsHaveOneReading.{ReadSo}
+use Rattle.b2_log.proofs.BytesHaveOneReading.{one_spelling, one_reading, reading_ends}
 use Rattle.b2_runs.specs.LogFiles.{log_limit, IsLogOf.is_read, IsLogOf.is_large}
 use Rattle.b2_runs.specs.LogFileLaws.{FileIsOneLog, FileIsSomeLog, ReadFileTells}
 use Rattle.b2_runs.proofs.FirstElementOrLater.{Contains_here, Contains_there, Contains_cases, Contains_nil}

@@ -6,7 +6,7 @@ use Rattle.b2_log.specs.declared.subject.Subject.TheVariants as subjects
 use Rattle.b2_log.specs.Lines.{log_bytes}
 use Rattle.b2_log.specs.Good.{IsGood}
 use Rattle.b2_log.specs.Finding.{told, record_in, scan_in, kept}
-use Rattle.b2_log.proofs.ReadLogs.{one_reading, reading_whole}
+use Rattle.b2_log.proofs.BytesHaveOneReading.{one_reading, reading_whole}
 use Rattle.b2_runs.specs.LogFiles.{IsLogOf, IsLogOf.is_read, IsLogOf.is_large}
 use Rattle.b2_runs.specs.LogCourses.{IsLong, FirstLines, FirstLines.as_it_is, FirstLines.torn, FirstLines.long, FirstLines.large}
 use Rattle.b2_runs.specs.LogCourseLaws.{FirstLinesAreOne, BeginTellsRecords, BeginTellsScans, BeginIsRead, LinesAreRead}

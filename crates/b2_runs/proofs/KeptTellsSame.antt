@@ -6,8 +6,8 @@ use Rattle.b2_log.specs.Good.{IsGood}
 use Rattle.b2_log.specs.declared.subject.Subject.{Subject}
 use Rattle.b2_log.specs.declared.subject.Subject.TheVariants as subjects
 use Rattle.b2_log.specs.Finding.{is_kept, told, record_in, find_record, kept}
-use Rattle.b2_log.proofs.ReadLogs.{reading_whole}
-use Rattle.b2_log.proofs.KeptLines.{kept_again}
+use Rattle.b2_log.proofs.BytesHaveOneReading.{reading_whole}
+use Rattle.b2_log.proofs.KeptLinesTellTheSame.{kept_again}
 use Rattle.b2_runs.specs.LogFiles.{log_limit, IsLogOf, IsLogOf.is_read, IsLogOf.is_large}
 use Rattle.b2_runs.specs.LogFileLaws.{KeptTellsSame}
 use Rattle.b2_runs.proofs.FirstElementOrLater.{Contains_here, Contains_there, Contains_cases}

@@ -8,7 +8,7 @@ use Rattle.b2_log.specs.declared.line.LogLine.TheVariants as lines
 use Rattle.b2_log.specs.declared.subject.Subject.{Subject}
 use Rattle.b2_log.specs.declared.subject.Subject.TheVariants as subjects
 use Rattle.b2_log.specs.Finding.{path_of, subject_of, told, record_in, scan_in, find_record, find_scan}
-use Rattle.b2_log.proofs.LastLines as telling
+use Rattle.b2_log.proofs.LastLineHasLastWord as telling
 use Rattle.b2_runs.specs.LogLaws.{FoundIsThere, ScanIsThere, LastRecord, LastDrop, OthersUnsaid, OthersUnsaidThoughTorn}
 
 -- the outputs of a subject

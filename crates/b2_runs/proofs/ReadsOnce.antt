@@ -9,7 +9,7 @@ use Rattle.b2_host.specs.FileCalls.{log_path}
 use Rattle.b2_log.specs.declared.line.LogLine.{LogLine}
 use Rattle.b2_log.specs.Readings.{IsReading}
 use Rattle.b2_log.specs.Finding.{find_scan}
-use Rattle.b2_log.proofs.ReadLogs.{one_reading}
+use Rattle.b2_log.proofs.BytesHaveOneReading.{one_reading}
 use Rattle.b2_runs.specs.Staleness.{Update}
 use Rattle.b2_runs.specs.Runs.{MayCome}
 use Rattle.b2_runs.specs.FileReads.{IsInput, IsNeededOut, IsLogThen, IsCalledFor, IsCalledFor.to_scan as called_to_scan, IsCalledFor.to_digest as called_to_digest}

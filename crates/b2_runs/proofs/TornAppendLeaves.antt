@@ -4,7 +4,7 @@ use Rattle.b2_log.specs.Lines.{spelling}
 use Rattle.b2_log.specs.Good.{IsGood}
 use Rattle.b2_log.specs.Readings.{IsReading}
 use Rattle.b2_log.specs.Finding.{told, find_record}
-use Rattle.b2_log.proofs.ReadLogs.{read_back, torn_line}
+use Rattle.b2_log.proofs.BytesHaveOneReading.{read_back, torn_line}
 use Rattle.b2_runs.specs.LogFiles.{log_limit, IsLogOf, IsLogOf.is_read}
 use Rattle.b2_runs.specs.LogFileLaws.{AppendAdds, TornAppendLeaves, TornTellsOthers}
 use Rattle.b2_runs.proofs.LastLineIsFound as logs

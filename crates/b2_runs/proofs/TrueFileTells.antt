@@ -5,7 +5,7 @@ use Rattle.b2_log.specs.declared.line.LogLine.TheVariants as lines
 use Rattle.b2_log.specs.Lines.{spelling, log_bytes}
 use Rattle.b2_log.specs.Readings.{IsReading}
 use Rattle.b2_log.specs.Finding.{kept}
-use Rattle.b2_log.proofs.ReadLogs.{read_back, reading_whole}
+use Rattle.b2_log.proofs.BytesHaveOneReading.{read_back, reading_whole}
 use Rattle.b2_runs.specs.Logs.{Making, LogTrue}
 use Rattle.b2_runs.specs.LogFiles.{log_limit, IsLogOf.is_read, IsLogOf.is_large}
 use Rattle.b2_runs.specs.LogFileLaws.{TrueFileTells, EmptyFileIsTrue, FileTrueAsPastGrows, TrueFront, TrueWithSpelling, TrueWithTornSpelling, TrueOfKept}

@@ -1,5 +1,5 @@
-pub mod DecidedMatches
-pub mod RisingLists
+pub mod EveryMatchIsDecided
+pub mod PuttingKeepsListsRising
 pub mod NamesAtPaths
 pub mod SightOfDisk
 pub mod SettingOfDisk

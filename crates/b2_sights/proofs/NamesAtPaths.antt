@@ -9,7 +9,7 @@ use Rattle.b2_base.specs.Normal.{parts}
 use Rattle.b2_host.specs.Disks.{File, Folder, Disk, Past, IsConsistent}
 use Rattle.b2_host.specs.Listings.{IsDirectlyIn, IsListed}
 use Rattle.jam_journal.specs.Tables.{Text}
-use Rattle.b2_sights.proofs.RisingLists.{Rises, rises_at, here_or_there, none_there, Placed, put}
+use Rattle.b2_sights.proofs.PuttingKeepsListsRising.{Rises, rises_at, here_or_there, none_there, Placed, put}
 
 abbrev Either : Type 0 → Type 0
 Either P = P ⊎ (P → ⊥)

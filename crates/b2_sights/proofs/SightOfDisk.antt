@@ -5,7 +5,7 @@ use Rattle.std.specs.Str.{chars}
 use Rattle.b2_host.specs.Disks.{Disk, IsConsistent}
 use Rattle.jam_eval.specs.Settings.{IsSight}
 use Rattle.b2_sights.specs.Sights.{HasMatching, CanBeSeen, HasSight}
-use Rattle.b2_sights.proofs.DecidedMatches.{match_told}
+use Rattle.b2_sights.proofs.EveryMatchIsDecided.{match_told}
 use Rattle.b2_sights.proofs.NamesAtPaths.{listed}
 
 pub has_matching : HasMatching

@@ -1,7 +1,7 @@
-pub mod Cutting
-pub mod Naming
-pub mod Pieces
-pub mod Pairs
-pub mod Listing
-pub mod Meeting
-pub mod FilterLemmas
+pub mod CutIsAtFirstMark
+pub mod NamesBeginWithTheirSign
+pub mod JoiningAddsNoZeroBytes
+pub mod SplitGivesTheNamedPair
+pub mod ReadingStopsAtFirstFault
+pub mod EarlierPairsTellClashes
+pub mod SameTestsFilterAlike

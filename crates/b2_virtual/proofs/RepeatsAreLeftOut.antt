@@ -7,7 +7,7 @@ use Rattle.std.proofs.lemmas.Cmp.{nat_list_cmp_total}
 use Rattle.std.proofs.lemmas.List.Sums.{fold-append}
 use Rattle.std.proofs.lemmas.List.Concat.{flat_map-append}
 use Rattle.std.proofs.lemmas.List.Elements.{filter-append}
-use Rattle.b2_props.proofs.Gaining.{next_take}
+use Rattle.b2_props.proofs.DraftHoldsEachGainedPair.{next_take}
 use Rattle.b2_virtual.specs.declared.entry.Supply.{Supply}
 use Rattle.std.specs.Str.{bytes_eq}
 use Rattle.std.specs.Ordering.{nat_cmp}
@@ -16,7 +16,7 @@ use Rattle.std.specs.FinMap.{FinMap, get, insert, from_entries, get-from_entries
 use Rattle.std.proofs.lemmas.List.{append-nil}
 use Rattle.std.proofs.lemmas.List.Folds.{list_any-append}
 use Rattle.b2_plan.proofs.MakersGrowByOne.{get_put}
-use Rattle.b2_props.proofs.Pairs.{text_is, text_sym}
+use Rattle.b2_props.proofs.RepeatedPairsAddNothing.{text_is, text_sym}
 use Rattle.b2_virtual.specs.declared.entry.Entry.{Entry}
 use Rattle.b2_virtual.specs.Supplies.{is_library, without_repeats}
 use Rattle.b2_virtual.specs.Repeats.{has_path, with_entry, HasPaths}

@@ -51,7 +51,7 @@ fn lexed(fault: LexFault, path: &Path, at: &At<'_>) -> EvalFault
 }
 
 /// The statements of a file that was read, or the fault of the include.
-#[tactic(auto, using(crate::proofs::Steps::fault_whole))]
+#[tactic(auto, using(crate::proofs::OrderedCallsDoAsDefined::fault_whole))]
 fn statements(reading: FileReading, path: &Path, at: &At<'_>) -> Result<Tree, EvalFault>
     ensures tree { IsTreeOf (read_of (reading_of reading) path.now (spot_of at.now)) result }
     ensures whole { IfErr result HoldsNoMemory }
@@ -91,7 +91,7 @@ fn too_big(path: &Path, size: u64, at: &At<'_>) -> EvalFault
 
 /// Reads the file of a name, relative to the project's directory. No output root is added from then on; a file below one counts
 /// as missing.
-#[tactic(auto, using(crate::proofs::Steps::fault_whole))]
+#[tactic(auto, using(crate::proofs::OrderedCallsDoAsDefined::fault_whole))]
 pub fn read_include<F: Files>(
     alloc: Global,
     world: &mut World,

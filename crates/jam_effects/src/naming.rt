@@ -62,7 +62,7 @@ pub fn bind_names(
 }
 
 /// Sets a name to one text. After an error the world is as before.
-#[tactic(auto, using(crate::proofs::SameSteps::same_assigned, crate::proofs::SameSteps::same_equal))]
+#[tactic(auto, using(crate::proofs::ChangesKeepTheFrames::same_assigned, crate::proofs::ChangesKeepTheFrames::same_equal))]
 pub fn set_item(
     alloc: Global,
     world: &mut World,
@@ -114,7 +114,7 @@ fn fits(found: &[Text], size: u64, more: &[Text]) -> Result<(), ExpandFault>
 }
 
 /// Adds a value to what a name is set to, unless it is too large then.
-#[tactic(auto, using(crate::proofs::SameSteps::same_appended, crate::proofs::SameSteps::same_equal))]
+#[tactic(auto, using(crate::proofs::ChangesKeepTheFrames::same_appended, crate::proofs::ChangesKeepTheFrames::same_equal))]
 fn add_name(world: &mut World, name: &Text, value: &[Text], at: &At<'_>) -> Result<(), EvalFault>
     ensures made { IsMade (set_name_in signs.Add value.now name.now world.old) (spot_of at.now) result world.new }
     ensures same { SameFrames world.old world.new }
@@ -142,7 +142,7 @@ fn put_name(
 }
 
 /// Assigns, appends, or assigns where the name has no value yet, as the sign says.
-#[tactic(auto, using(crate::proofs::SameSteps::same_assigned, crate::proofs::SameSteps::same_equal))]
+#[tactic(auto, using(crate::proofs::ChangesKeepTheFrames::same_assigned, crate::proofs::ChangesKeepTheFrames::same_equal))]
 fn set_name(
     alloc: Global,
     world: &mut World,
@@ -193,7 +193,7 @@ fn own_value<'a>(world: &'a World, target: &str, name: &str) -> &'a [Text]
 }
 
 /// Adds a value to an own value of a target, unless it is too large then.
-#[tactic(auto, using(crate::proofs::SameSteps::same_set_on, crate::proofs::SameSteps::same_equal))]
+#[tactic(auto, using(crate::proofs::ChangesKeepTheFrames::same_set_on, crate::proofs::ChangesKeepTheFrames::same_equal))]
 fn add_own_name(
     world: &mut World,
     target: &Text,
@@ -229,7 +229,7 @@ fn put_own_name(
 }
 
 /// Sets an own value of a target.
-#[tactic(auto, using(crate::proofs::SameSteps::same_set_on, crate::proofs::SameSteps::same_equal))]
+#[tactic(auto, using(crate::proofs::ChangesKeepTheFrames::same_set_on, crate::proofs::ChangesKeepTheFrames::same_equal))]
 fn set_own_name(
     alloc: Global,
     world: &mut World,

@@ -9,7 +9,7 @@ use Rattle.jam_lexer.specs.Tokens.{AreTokens}
 use Rattle.jam_lexer.proofs.SomeAnswer.{some_answer}
 use Rattle.jam_grammar.specs.Grammar.{IsFile}
 use Rattle.jam_grammar.specs.Readings.{marks, IsFirstFault}
-use Rattle.jam_grammar.proofs.FirstFault.{file_or_fault}
+use Rattle.jam_grammar.proofs.MachineStopsAtFirstFault.{file_or_fault}
 use Rattle.jam_grammar.proofs.TreeOfFile.{file_has_tree}
 use Rattle.jam_journal.specs.Tables.{Text}
 use Rattle.jam_eval.specs.Settings.{Reading, is_missing, is_too_big, has_no_tokens, has_no_tree, is_file, file_limit, IsReading}

@@ -1,7 +1,7 @@
 mod CallsHold
 mod EachFileReads
 mod ExamplesHold
-mod FewerTurns
+mod MoreTurnsKeepTheOutcome
 mod FoundInFlatWorlds
 pub mod FramesStay
 pub mod IsKept

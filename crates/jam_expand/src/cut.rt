@@ -42,7 +42,7 @@ pub fn first_ascii(text: &str) -> Option<(u8, &str)>
 }
 
 /// The text after a sign that stands first; the sign is ASCII and not zero.
-#[tactic(auto, using(crate::proofs::CutLemmas::begins_not))]
+#[tactic(auto, using(crate::proofs::TextsAreCutAtSigns::begins_not))]
 pub fn after_sign(text: &str, sign: u8) -> Option<&str>
     requires positive { 0 < sign }
     requires ascii { sign < 128 }

@@ -32,7 +32,7 @@ fn all_digits(bytes: &[u8]) -> bool
 }
 
 /// The number that 1 to 9 digits write.
-#[tactic(auto, using(crate::proofs::IndexLemmas::digit_at, crate::proofs::IndexLemmas::digit_more, crate::proofs::IndexLemmas::digits_fit))]
+#[tactic(auto, using(crate::proofs::IndexSelectsOneSlice::digit_at, crate::proofs::IndexSelectsOneSlice::digit_more, crate::proofs::IndexSelectsOneSlice::digits_fit))]
 fn number_of(digits: &[u8]) -> Option<usize>
     ensures { result ≡ number_of digits.now }
 {

@@ -7,7 +7,7 @@ use Rattle.jam_grammar.specs.Grammar.{Stmts, Begins}
 use Rattle.jam_grammar.specs.Machine.{Bad, run}
 use Rattle.jam_grammar.specs.Readings.{marks, IsFirstFault, line_at, text_at}
 use Rattle.jam_grammar.specs.Examples.{AssignmentReads, OneEmptyList, NoParams, TwoParams, ConditionReads, ActionsRead, UnendedFaults, SemicolonFaults, OneMoreFaults, IfTooDeep, ElseIfTooDeep, OnTooDeep, TenListsFault, MarkedIsLast, StarIsLast, MarkIsNoName, SixtyFourBegin, braces, assignment, empty_list, no_lists, two_lists, condition, two_statements}
-use Rattle.jam_grammar.proofs.FirstFault.{whole_is_file, first_fault, told_fault}
+use Rattle.jam_grammar.proofs.MachineStopsAtFirstFault.{whole_is_file, first_fault, told_fault}
 
 fault : (tokens at : List Token) → run tokens (Stmts ∷ []) ≡ Bad at → IsFirstFault tokens (line_at tokens at) (text_at at)
 fault tokens at h = told_fault tokens at (first_fault tokens at h)

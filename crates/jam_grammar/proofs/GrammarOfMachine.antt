@@ -6,8 +6,8 @@ use Rattle.jam_grammar.specs.Marks.{same_mark, is_word}
 use Rattle.jam_grammar.specs.Grammar.{Part, Key, OneWord, Shut, Stmts, OneStmt, Tail, Assigned, LocalTail, ForTail, RuleTail, OneElse, ElseTail, OneBlock, CaseBlock, Cases, BodyBlock, ParamBlock, Params, MoreParams, Names, NameTail, OneArg, OneInner, InnerTail, Args, More, OneExpr, Both, Single, OrTail, AndTail, Compared, closes, opens, Line, Derives}
 use Rattle.jam_grammar.specs.Grammar as g
 use Rattle.jam_grammar.specs.Machine.{Move, Take, Room, Skip, Refuse, move, before, or_skip, move_key, move_word, move_arg, move_inner, move_inner_tail, move_colon, move_block, move_stmt, move_assigned, move_tail, move_for_tail, move_else_tail, move_rule_tail, move_name_tail, move_single, by_move, feed}
-use Rattle.jam_grammar.proofs.MarkNumbers.{same_mark_true}
-use Rattle.jam_grammar.proofs.OpenParts.{needs, HasRoom, rooms, room_opens}
+use Rattle.jam_grammar.proofs.EveryMarkIsTested.{same_mark_true}
+use Rattle.jam_grammar.proofs.WhatIsReadHasRoom.{needs, HasRoom, rooms, room_opens}
 
 -- a key that closes nothing, and a word
 pub read_key : {parts : List Part} {marks : List Mark} (mark : Mark) → closes (Key mark) ≡ 0 → Derives parts marks → Derives (Key mark ∷ parts) (mark ∷ marks)

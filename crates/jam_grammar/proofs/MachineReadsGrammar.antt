@@ -6,9 +6,9 @@ use Rattle.jam_grammar.specs.Marks.{same_mark}
 use Rattle.jam_grammar.specs.Grammar.{Part, Key, OneWord, Shut, Stmts, OneStmt, Tail, Assigned, LocalTail, ForTail, RuleTail, OneElse, ElseTail, OneBlock, CaseBlock, Cases, BodyBlock, ParamBlock, Params, MoreParams, Names, NameTail, OneArg, OneInner, InnerTail, Args, More, OneExpr, Both, Single, OrTail, AndTail, Compared, closes, opens, Line, Derives}
 use Rattle.jam_grammar.specs.Grammar as g
 use Rattle.jam_grammar.specs.Machine.{Move, Take, Room, Skip, Refuse, move, move_key, move_word, is_read, by_move, feed, may_end, may_be_empty}
-use Rattle.jam_grammar.proofs.Moves.{followed, lead, feed_lead}
-use Rattle.jam_grammar.proofs.MarkNumbers.{every_mark, at_each, both, first_true, second_true, same_mark_refl, same_mark_true}
-use Rattle.jam_grammar.proofs.OpenParts.{need, HasRoom, rooms, need_append, keeps}
+use Rattle.jam_grammar.proofs.MovesCompose.{followed, lead, feed_lead}
+use Rattle.jam_grammar.proofs.EveryMarkIsTested.{every_mark, at_each, both, first_true, second_true, same_mark_refl, same_mark_true}
+use Rattle.jam_grammar.proofs.WhatIsReadHasRoom.{need, HasRoom, rooms, need_append, keeps}
 
 -- whether marks are read, whole
 abbrev pub and_then : Option (List Part) → (List Part → Bool) → Bool

@@ -5,7 +5,7 @@ use Rattle.jam_grammar.specs.declared.mark.Mark.TheVariants as m
 use Rattle.jam_grammar.specs.Trees.{ArgTree, Word, Bracket, InnerTree, CallOf, OnInner, OnReturn, ArgTrees, NoArgs, ArgAnd, ListTrees, NoLists, ListAnd}
 use Rattle.jam_grammar.specs.Spelling.{Sym, Key, Spells, spell_arg, spell_inner, spell_args, spell_lists, spell_further}
 use Rattle.jam_grammar.proofs.PartsCompose.{spells_split}
-use Rattle.jam_grammar.proofs.FirstTokens.{first_mark, tail, key_first, key_tail, word_at, says_first, says_text, says_tail, never_spelled, clash, same_first, begins_arg, begins_list, at_first, no_list_no_arg, word_begins_arg, cong}
+use Rattle.jam_grammar.proofs.FirstSymbolTellsFirstToken.{first_mark, tail, key_first, key_tail, word_at, says_first, says_text, says_tail, never_spelled, clash, same_first, begins_arg, begins_list, at_first, no_list_no_arg, word_begins_arg, cong}
 
 pub arg_first : (a : ArgTree) (ts u : List Token) → Spells ts (spell_arg a) u → at_first begins_arg (first_mark ts) ≡ true
 arg_first (Word text) ts u s = word_begins_arg (first_mark ts) (says_first text [] ts u s)

@@ -6,7 +6,7 @@ use Rattle.jam_grammar.specs.declared.mark.Mark.TheVariants as m
 use Rattle.jam_grammar.specs.Trees.{ArgTree, ArgTrees, ExprTree, Or, And, Not, Group, Bare, Equal, Differ, Within, ExprTrees, NoExprs, ExprAnd}
 use Rattle.jam_grammar.specs.Spelling.{Key, Spells, Level, Anywhere, WithinOr, WithinAnd, spell_arg, spell_args, spell_expr, spell_pair, spell_second, spell_joined}
 use Rattle.jam_grammar.proofs.PartsCompose.{spells_split}
-use Rattle.jam_grammar.proofs.FirstTokens.{first_mark, tail, key_first, key_tail, never_spelled, clash, same_first, begins_arg, begins_compared, begins_and, begins_or, at_first, no_compared_no_arg, no_and_no_compared, no_or_no_and, and_is_or, cong}
+use Rattle.jam_grammar.proofs.FirstSymbolTellsFirstToken.{first_mark, tail, key_first, key_tail, never_spelled, clash, same_first, begins_arg, begins_compared, begins_and, begins_or, at_first, no_compared_no_arg, no_and_no_compared, no_or_no_and, and_is_or, cong}
 use Rattle.jam_grammar.proofs.OneArg.{arg_first, arg_then_first, arg_one, args_one, moved}
 
 -- with what a condition goes on where it stands

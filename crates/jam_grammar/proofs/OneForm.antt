@@ -8,7 +8,7 @@ use Rattle.jam_grammar.specs.declared.tree.Sign.TheVariants as signs
 use Rattle.jam_grammar.specs.Trees.{ArgTrees, NoArgs, ArgAnd, ListTrees, NoLists, ListAnd, FormTree, Braces, Local, Assign, AssignOn, Include, Return, If, For, While, Switch, Module, Rule, Actions, On, Call, OtherTree, Nothing, ElseBraces, ElseIf, StmtTrees, NoStmts, StmtAnd, CaseTrees, NoCases, CaseAnd}
 use Rattle.jam_grammar.specs.Spelling.{Sym, Key, Says, Raw, From, Spells, Anywhere, spell_arg, spell_args, spell_lists, spell_further, spell_expr, params_syms, sign_mark, set_syms, value_syms, local_syms, braced, only, is_if, spell_form, spell_other, spell_stmts, spell_cases}
 use Rattle.jam_grammar.proofs.PartsCompose.{spells_split}
-use Rattle.jam_grammar.proofs.FirstTokens.{first_mark, tail, key_first, key_tail, says_text, says_first, says_tail, word_at, raw_text, raw_tail, line_is, never_spelled, clash, same_first, begins_arg, begins_list, begins_or, at_first, cong, cong3, cong4}
+use Rattle.jam_grammar.proofs.FirstSymbolTellsFirstToken.{first_mark, tail, key_first, key_tail, says_text, says_first, says_tail, word_at, raw_text, raw_tail, line_is, never_spelled, clash, same_first, begins_arg, begins_list, begins_or, at_first, cong, cong3, cong4}
 use Rattle.jam_grammar.proofs.OneArg.{arg_then_first, arg_one, args_one, lists_one, moved}
 use Rattle.jam_grammar.proofs.OneExpr.{expr_one}
 use Rattle.jam_grammar.proofs.OneParam.{params_one}

@@ -9,7 +9,7 @@ use Rattle.jam_grammar.specs.declared.tree.Param.{Param}
 use Rattle.jam_grammar.specs.Spelling.{Sym, Key, Never, Spells, mark_syms, param_syms, no_mark, takes_all, plist_syms, further_params, params_syms}
 use Rattle.jam_grammar.proofs.PartsCompose.{spells_split}
 use Rattle.jam_grammar.proofs.OneArg.{moved}
-use Rattle.jam_grammar.proofs.FirstTokens.{first_mark, tail, key_first, key_tail, named_first, named_text, named_tail, never_spelled, clash, same_first, at_first, cong}
+use Rattle.jam_grammar.proofs.FirstSymbolTellsFirstToken.{first_mark, tail, key_first, key_tail, named_first, named_text, named_tail, never_spelled, clash, same_first, at_first, cong}
 
 -- the marks of parameters, and how a list of them goes on
 abbrev pub marks_param : Mark → Bool

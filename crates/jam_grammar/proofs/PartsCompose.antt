@@ -6,7 +6,7 @@ use Rattle.jam_grammar.specs.Grammar.{Part, opens}
 use Rattle.jam_grammar.specs.Machine.{go_on, run, feed, by_move, move}
 use Rattle.jam_grammar.specs.Spelling.{Sym, Key, Says, Named, Raw, From, Never, Spells}
 use Rattle.jam_grammar.specs.Gives.{Leads, Ends, ReadsPart}
-use Rattle.jam_grammar.proofs.Moves.{opens_append, lead, feed_lead}
+use Rattle.jam_grammar.proofs.MovesCompose.{opens_append, lead, feed_lead}
 
 -- a part isn't read, and so the whole isn't
 pub then_ends : (parts part others : List Part) (tokens mid at : List Token) (depth deeper : ℕ) → Leads parts tokens depth (part ++ others) mid → Ends part mid deeper at → opens others + depth ≡ deeper → Ends parts tokens depth at

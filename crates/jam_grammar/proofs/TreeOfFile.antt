@@ -17,9 +17,9 @@ use Rattle.jam_grammar.specs.Spelling as s
 use Rattle.jam_grammar.specs.Readings.{marks}
 use Rattle.jam_grammar.specs.Laws.{FileHasTree}
 use Rattle.jam_grammar.proofs.PartsCompose.{spells_append}
-use Rattle.jam_grammar.proofs.FirstTokens.{first_line, never_spelled}
-use Rattle.jam_grammar.proofs.SameSaying.{leads, leads_form}
-use Rattle.jam_grammar.proofs.TokenTexts.{plain_no_star}
+use Rattle.jam_grammar.proofs.FirstSymbolTellsFirstToken.{first_line, never_spelled}
+use Rattle.jam_grammar.proofs.SameSayingReadsAlike.{leads, leads_form}
+use Rattle.jam_grammar.proofs.MarkTellsWhatTokenSays.{plain_no_star}
 
 -- what some parts stand for: what stands after an argument, after `else`, after `on arg`, and after what is compared
 data TailTree : Type 0 where

@@ -7,10 +7,10 @@ use Rattle.jam_grammar.specs.Trees.{FormTree, Braces, Local, Assign, AssignOn, I
 use Rattle.jam_grammar.specs.Spelling.{Sym, Key, Says, Named, Raw, From, Never, Spells, StartsOn, Anywhere, spell_arg, spell_args, spell_expr, params_syms, local_syms, braced, only, is_if, spell_form, spell_other, spell_stmts, spell_cases}
 use Rattle.jam_grammar.specs.Alike.{unlined, lineless, lineless_form, lineless_other, lineless_cases}
 use Rattle.jam_grammar.specs.Laws.{OneTree, OneUpToLines, SameUpToLines, ReadsAlso}
-use Rattle.jam_grammar.proofs.FirstTokens.{cong}
+use Rattle.jam_grammar.proofs.FirstSymbolTellsFirstToken.{cong}
 use Rattle.jam_grammar.proofs.OneForm.{tree_one}
-use Rattle.jam_grammar.proofs.Steady.{Steady, steady_arg, steady_args, steady_expr, steady_params, steady_set, steady_local, steady_assign, steady_assign_on, steady_locals, steady_call}
-use Rattle.jam_grammar.proofs.SameSaying.{leads, Fixed, fixed_stmts}
+use Rattle.jam_grammar.proofs.InnerSpellingsTellNoLines.{Steady, steady_arg, steady_args, steady_expr, steady_params, steady_set, steady_local, steady_assign, steady_assign_on, steady_locals, steady_call}
+use Rattle.jam_grammar.proofs.SameSayingReadsAlike.{leads, Fixed, fixed_stmts}
 
 -- symbols with 0 for each line
 abbrev zeroed : List Sym → List Sym

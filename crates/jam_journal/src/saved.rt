@@ -50,7 +50,7 @@ impl<T: Drop> Saved<T> {
     }
 
     /// Replaces the present value. Takes no memory.
-    #[tactic(auto, using(crate::proofs::SavedLemmas::saved_set))]
+    #[tactic(auto, using(crate::proofs::FirstChangeSavesTheOld::saved_set))]
     pub fn set(&mut self, value: T)
         ensures { self.new ≡ changed (λ _. value) self.old }
     {

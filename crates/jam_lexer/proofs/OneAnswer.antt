@@ -13,10 +13,10 @@ use Rattle.jam_lexer.specs.Tokens.{Next, NextWord, NextBody, NextBrace, next_aft
 use Rattle.jam_lexer.specs.Answers.{MeetsOpenQuote, MeetsOpenActions, IsOpenQuote, IsOpenActions, IsAnswer}
 use Rattle.jam_lexer.specs.declared.fault.LexFault.{LexFault}
 use Rattle.jam_lexer.specs.declared.fault.LexFault.TheVariants as faults
-use Rattle.jam_lexer.proofs.FirstBad.{one_bad, bad_is_no_text}
-use Rattle.jam_lexer.proofs.Slices.{slice_none, slice_more, slice_split}
-use Rattle.jam_lexer.proofs.Words.{letters_append, letters_plain}
-use Rattle.jam_lexer.proofs.Bodies.{count_more}
+use Rattle.jam_lexer.proofs.FirstBadByteEndsText.{one_bad, bad_is_no_text}
+use Rattle.jam_lexer.proofs.SlicesJoinAndStayTexts.{slice_none, slice_more, slice_split}
+use Rattle.jam_lexer.proofs.WordsGrowLetterByLetter.{letters_append, letters_plain}
+use Rattle.jam_lexer.proofs.DepthCountsOpenBraces.{count_more}
 
 -- ---- gaps
 

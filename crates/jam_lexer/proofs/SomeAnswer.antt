@@ -16,11 +16,11 @@ use Rattle.jam_lexer.specs.Body.{IsMatched, IsBody}
 use Rattle.jam_lexer.specs.Tokens.{NextWord, is_the_key, IsText}
 use Rattle.jam_lexer.specs.Answers.{IsFirstBad, IsAnswer}
 use Rattle.jam_lexer.specs.Progress.{HasRead, HasOpened}
-use Rattle.jam_lexer.proofs.Gaps.{gap_of_nothing, comment_of_nothing, gap_white, comment_white, gap_comment, comment_line_feed, gap_line}
-use Rattle.jam_lexer.proofs.Words.{IsReading, reading_start, reading_plain, reading_quote, reading_literal, word_before_white, word_before_end, open_word}
-use Rattle.jam_lexer.proofs.Bodies.{IsAtDepth, depth_start, depth_open, depth_close, depth_other, body_here}
-use Rattle.jam_lexer.proofs.FirstBad.{zero_is_bad, invalid_is_bad}
-use Rattle.jam_lexer.proofs.Progress.{the_word, word_read, word_opens, word_goes, body_read, nothing_read, all_read, meets_open_quote, meets_open_actions}
+use Rattle.jam_lexer.proofs.SpaceAndCommentsAreGaps.{gap_of_nothing, comment_of_nothing, gap_white, comment_white, gap_comment, comment_line_feed, gap_line}
+use Rattle.jam_lexer.proofs.WordsGrowLetterByLetter.{IsReading, reading_start, reading_plain, reading_quote, reading_literal, word_before_white, word_before_end, open_word}
+use Rattle.jam_lexer.proofs.DepthCountsOpenBraces.{IsAtDepth, depth_start, depth_open, depth_close, depth_other, body_here}
+use Rattle.jam_lexer.proofs.FirstBadByteEndsText.{zero_is_bad, invalid_is_bad}
+use Rattle.jam_lexer.proofs.ReadingGoesTokenByToken.{the_word, word_read, word_opens, word_goes, body_read, nothing_read, all_read, meets_open_quote, meets_open_actions}
 
 -- In what follows `fuel` is at least the number of bytes that are left.
 

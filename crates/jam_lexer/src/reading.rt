@@ -38,7 +38,7 @@ fn line_feeds(bytes: &[u8]) -> usize
 }
 
 /// The line of a place, counted on from an earlier one.
-#[tactic(auto, using(crate::proofs::Lines::lines_more))]
+#[tactic(auto, using(crate::proofs::LinesGrowByLineFeeds::lines_more))]
 fn line_after(bytes: &[u8], from: usize, line: u32, to: usize) -> u32
     requires small { length bytes.now ≤ 1048576 }
     requires line_is { line ≡ line_of bytes.now from }

@@ -25,7 +25,7 @@ fn stands_in(path: &Path, paths: &[Path]) -> bool
     paths.iter().any(|other| path == other)
 }
 
-#[tactic(auto, using(crate::proofs::TargetLemmas::any_joined))]
+#[tactic(auto, using(crate::proofs::TextsNameNormalPaths::any_joined))]
 fn is_named(path: &Path, named: &Named<'_>) -> bool
     ensures { result ≡ list_any (bytes_eq path.now) (paths_in named.now) }
 {

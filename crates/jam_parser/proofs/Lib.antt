@@ -1,6 +1,6 @@
-pub mod Sequences
-pub mod ReadArgs
-pub mod ReadExprs
-pub mod ReadParams
-pub mod ReadStmts
-pub mod Endings
+pub mod ReadingsCompose
+pub mod ArgumentsAreReadInTurn
+pub mod MembersMakeTheCondition
+pub mod ParametersAreReadInTurn
+pub mod StatementsAreReadInTurn
+pub mod FirstFaultIsTold

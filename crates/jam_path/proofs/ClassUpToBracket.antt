@@ -5,7 +5,7 @@ use Rattle.std.proofs.lemmas.Bool.{ne_eqb, lt-leb, and_right}
 use Rattle.std.proofs.lemmas.List.{length-append, nil_from_length, get_or_at, take_at, drop_at, drop-drop}
 use Rattle.std.proofs.lemmas.Str.{encode_ascii, chars-nil, encodes-chars, chars-append, chars_past_char, IsUtf8-take, IsUtf8-drop, IsCharBoundary-before_ascii, IsCharBoundary-after_ascii}
 use Rattle.b2_base.specs.Bytes.{Lacks}
-use Rattle.b2_base.proofs.LastCuts.{has_not, has_at, lacks_from_places}
+use Rattle.b2_base.proofs.NamesAreCutAtLastSigns.{has_not, has_at, lacks_from_places}
 use Rattle.jam_path.specs.Patterns.{is_member}
 use Rattle.jam_path.specs.Steps.{IsUnclosed, after_dash, after_exact, after_class, after_bracket}
 use Rattle.jam_path.proofs.CutAtSign.{before_at, after_at}

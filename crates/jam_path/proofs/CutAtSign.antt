@@ -2,7 +2,7 @@ use Rattle.std.proofs.Common.{◌≡◌, ◌≢◌, ℕ, ◌<◌, ◌+◌, ◌-�
 use Rattle.std.proofs.lemmas.Bool.{ne_eqb, eq-eqb, eqb-true, eqb-false, or_parts, and_left, false_from_ne_true}
 use Rattle.std.proofs.lemmas.List.{length-append, length-take, length-drop, get_or-take, get_or-drop, get_or-append_right, get_or_at, take-append-drop, take_all, take_more, drop_more}
 use Rattle.b2_base.specs.Bytes.{Lacks}
-use Rattle.b2_base.proofs.LastCuts.{lacks_from_places, has_at, after_last_at, before_last_at}
+use Rattle.b2_base.proofs.NamesAreCutAtLastSigns.{lacks_from_places, has_at, after_last_at, before_last_at}
 use Rattle.jam_path.specs.Names.{has, before, after, begins_with, closes_with, grist_of, path_of, or_root, dir_of, has_member, without_last, member_of, stem_of, suffix_of}
 
 -- ---- a sign that stands nowhere

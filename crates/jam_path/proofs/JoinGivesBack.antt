@@ -3,7 +3,7 @@ use Rattle.std.proofs.lemmas.Bool.{ne_eqb, true≢false, or_right}
 use Rattle.std.proofs.lemmas.List.{length-append, append-nil, append_cancel_left}
 use Rattle.b2_base.specs.Bytes.{Lacks}
 use Rattle.b2_base.specs.Segments.{file_name, without_suffix}
-use Rattle.b2_base.proofs.LastCuts.{has_not, has_at, before_last_at, file_name_at}
+use Rattle.b2_base.proofs.NamesAreCutAtLastSigns.{has_not, has_at, before_last_at, file_name_at}
 use Rattle.jam_path.specs.Names.{has, begins_with, closes_with, before_end, grist_of, path_of, dir_of, has_member, member_of, stem_of, suffix_of, is_empty, grist_text, slash_text, member_text, joined, parts_of, IsPlain}
 use Rattle.jam_path.proofs.CutAtSign.{Last, dir_at, stem_at, member_at, has_member_at}
 use Rattle.jam_path.proofs.PartsMakeTheText.{Archive, last_or, member_or, whole_grist, grist_begins, whole_suffix}

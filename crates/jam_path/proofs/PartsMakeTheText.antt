@@ -5,7 +5,7 @@ use Rattle.std.proofs.lemmas.List.{length-append, append-nil}
 use Rattle.std.proofs.lemmas.List.Elements.{All-from_recursion, recursion_from_All}
 use Rattle.b2_base.specs.Bytes.{HasNoZero, Lacks}
 use Rattle.b2_base.specs.Segments.{file_name, without_suffix}
-use Rattle.b2_base.proofs.LastCuts.{has_not, file_name_at, without_suffix_at}
+use Rattle.b2_base.proofs.NamesAreCutAtLastSigns.{has_not, file_name_at, without_suffix_at}
 use Rattle.jam_path.specs.Names.{has, begins_with, closes_with, has_grist, grist_of, path_of, or_root, dir_of, has_member, member_of, stem_of, suffix_of, grist_text, slash_text, member_text, path_text, joined}
 use Rattle.jam_path.specs.declared.name_parts.NameParts.{NameParts}
 use Rattle.jam_path.proofs.CutAtSign.{First, Last, grist_at, path_at, dir_at, suffix_at, stem_at, member_at, no_member}

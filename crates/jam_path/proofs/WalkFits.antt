@@ -4,7 +4,7 @@ use Rattle.std.proofs.lemmas.Bool.{ne_eqb, eq-eqb, eqb-true, eqb-false}
 use Rattle.std.proofs.lemmas.Option.{cond_some, none-some, same_Some}
 use Rattle.std.proofs.lemmas.List.{drop-drop}
 use Rattle.b2_base.specs.Bytes.{Lacks}
-use Rattle.b2_base.proofs.LastCuts.{has_not, has_at}
+use Rattle.b2_base.proofs.NamesAreCutAtLastSigns.{has_not, has_at}
 use Rattle.jam_path.specs.Patterns.{is_taken, IsItself, Takes, Match}
 use Rattle.jam_path.specs.Patterns.Takes.{any, escaped, class, itself}
 use Rattle.jam_path.specs.Patterns.Match.{ends, run, one}

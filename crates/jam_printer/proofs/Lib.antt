@@ -1,3 +1,3 @@
-pub mod Pushed
+pub mod PartsAreWrittenInTurn
 pub mod LexemesCanStand
 pub mod PrintReadsBack

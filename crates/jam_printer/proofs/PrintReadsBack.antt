@@ -11,13 +11,13 @@ use Rattle.jam_grammar.specs.Trees.{StmtTrees}
 use Rattle.jam_grammar.specs.Spelling.{Sym, Key, Says, Named, Raw, From, Never, spell_stmts}
 use Rattle.jam_grammar.specs.Readings.{ReadsTree}
 use Rattle.jam_grammar.specs.Alike.{Said, said_of, asked, mark_said, word_said, body_said, ReadsUpToLines}
-use Rattle.jam_grammar.proofs.SameSaying.{says_asked, asked_reads}
+use Rattle.jam_grammar.proofs.SameSayingReadsAlike.{says_asked, asked_reads}
 use Rattle.jam_grammar.proofs.UpToLines.{one_up_to_lines}
 use Rattle.jam_spelling.specs.declared.lexeme.Lexeme.{Lexeme}
 use Rattle.jam_spelling.specs.Spelling.{bytes_of}
 use Rattle.jam_spelling.specs.Standing.{CanStand}
 use Rattle.jam_spelling.specs.Readings.{lexeme_of, ReadsAs, AreTexts}
-use Rattle.jam_spelling.proofs.LexedTexts.{SaysRight, lexed_right}
+use Rattle.jam_spelling.proofs.LexedTextsFitTheirKind.{SaysRight, lexed_right}
 use Rattle.jam_spelling.proofs.SpelledReadsBack.{all_said}
 use Rattle.jam_printer.specs.Lexemes.{lexeme_saying, written_as}
 use Rattle.jam_printer.specs.ReadsBack.{ReadsBack}

@@ -1,5 +1,5 @@
-pub mod LineLemmas
-mod NoteLemmas
-mod TextLemmas
-pub mod BindLemmas
-mod RootLemmas
+pub mod ParentLinesAlwaysEnd
+mod MarksKeepTheirNotes
+mod TextMeansNoZeroByte
+pub mod NamesAreBoundInTurn
+mod OutputRootsStayInFront

@@ -72,7 +72,7 @@ impl Parents {
     }
 
     /// Whether a module may be put above another one: it is another, and the other is not above it. Takes no memory.
-    #[tactic(auto, using(crate::proofs::LineLemmas::among_next, crate::proofs::LineLemmas::among_end, crate::proofs::LineLemmas::among_here))]
+    #[tactic(auto, using(crate::proofs::ParentLinesAlwaysEnd::among_next, crate::proofs::ParentLinesAlwaysEnd::among_end, crate::proofs::ParentLinesAlwaysEnd::among_here))]
     pub(crate) fn may_be_above(&self, owner: &str, parent: &str) -> bool
         ensures { result ≡ may_be_above self.now.0 parent.now owner.now }
     {

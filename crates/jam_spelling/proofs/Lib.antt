@@ -1,7 +1,7 @@
-pub mod BareWords
-pub mod QuotedWords
-pub mod Places
-pub mod WrittenTexts
+pub mod PlainTextsNeedNoQuotes
+pub mod QuotedTextsAreWords
+pub mod SpelledPiecesAreTokens
+pub mod SpelledLexemesAreText
 pub mod SpelledReadsBack
-pub mod LexedTexts
-pub mod Progress
+pub mod LexedTextsFitTheirKind
+pub mod WritingGoesLexemeByLexeme

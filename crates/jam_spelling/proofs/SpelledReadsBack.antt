@@ -16,10 +16,10 @@ use Rattle.jam_spelling.specs.declared.lexeme.Lexeme.{Lexeme}
 use Rattle.jam_spelling.specs.Spelling.{spelling, ends_line, begins_body, separator, bytes_of}
 use Rattle.jam_spelling.specs.Standing.{word, key, body, IsRaw, CanStand, nothing, a_word, a_key, an_action}
 use Rattle.jam_spelling.specs.Readings.{lexeme_of, ReadsAs, AreTexts}
-use Rattle.jam_spelling.proofs.BareWords.{IsWordOf, key_word}
-use Rattle.jam_spelling.proofs.QuotedWords.{spelled_word}
-use Rattle.jam_spelling.proofs.WrittenTexts.{text_of_lexemes}
-use Rattle.jam_spelling.proofs.Places.{IsAt, at_length, at_byte, at_more, IsWhite, white_gap, EndsWord, the_token, word_token, body_token}
+use Rattle.jam_spelling.proofs.PlainTextsNeedNoQuotes.{IsWordOf, key_word}
+use Rattle.jam_spelling.proofs.QuotedTextsAreWords.{spelled_word}
+use Rattle.jam_spelling.proofs.SpelledLexemesAreText.{text_of_lexemes}
+use Rattle.jam_spelling.proofs.SpelledPiecesAreTokens.{IsAt, at_length, at_byte, at_more, IsWhite, white_gap, EndsWord, the_token, word_token, body_token}
 
 -- ---- what stands after a lexeme
 

@@ -7,7 +7,7 @@ use Rattle.b2_base.specs.declared.expand_fault.ExpandFault.{ExpandFault}
 use Rattle.b2_base.specs.declared.expand_fault.ExpandFault.TheVariants as faults
 use Rattle.b2_base.specs.Lists.{list_at, rest_of}
 use Rattle.jam_expand.specs.Limits.{within}
-use Rattle.jam_expand.proofs.GatherLemmas.{fault_stays}
+use Rattle.jam_expand.proofs.ListsGrowTextByText.{fault_stays}
 use Rattle.jam_journal.specs.Tables.{Text}
 use Rattle.jam_journal.specs.Scopes.{Value}
 use Rattle.jam_eval.specs.Params.{numbered}

@@ -8,7 +8,7 @@ use Rattle.jam_lexer.specs.Tokens.{AreTokens}
 use Rattle.jam_lexer.specs.Answers.{IsAnswer}
 use Rattle.jam_lexer.proofs.OneAnswer.{one_answer}
 use Rattle.jam_grammar.specs.Readings.{ReadsTree, IsFirstFault, line_at, text_at}
-use Rattle.jam_grammar.proofs.FirstFault.{never_both, one_fault}
+use Rattle.jam_grammar.proofs.MachineStopsAtFirstFault.{never_both, one_fault}
 use Rattle.jam_grammar.proofs.UpToLines.{one_tree}
 use Rattle.jam_journal.specs.Tables.{Text}
 use Rattle.jam_eval.specs.Settings.{Reading, is_missing, is_too_big, has_no_tokens, has_no_tree, is_file, file_limit, IsReading}

@@ -6,7 +6,7 @@ use Rattle.std.specs.Str.{bytes_eq}
 use Rattle.std.proofs.lemmas.List.Folds.{list_any_more}
 use Rattle.jam_journal.specs.Tables.{Text, Names}
 use Rattle.jam_journal.specs.Scopes.{Value}
-use Rattle.jam_journal.proofs.UnsetLemmas.{noted_one}
+use Rattle.jam_journal.proofs.UnsetNamesHaveNoVariable.{noted_one}
 
 or_none : (b : Bool) → (b || false) ≡ b
 or_none true = refl

@@ -142,37 +142,37 @@ impl Files for CaseHost {
 
     ghost reads_alike = { λ host. refl };
 
-    #[tactic(auto, using(crate::proofs::UntoldLemmas::looks_hidden))]
+    #[tactic(auto, using(crate::proofs::CallsHoldWithFilesHidden::looks_hidden))]
     fn stat(&mut self, path: &Path) -> Result<Option<u64>, Failed> {
         self.calls.stat = self.calls.stat.saturating_add(1);
         self.memory.stat(path)
     }
 
-    #[tactic(auto, using(crate::proofs::UntoldLemmas::reads_hidden))]
+    #[tactic(auto, using(crate::proofs::CallsHoldWithFilesHidden::reads_hidden))]
     fn read(&mut self, path: &Path, most: u64) -> Result<ReadAnswer, IoFault> {
         self.calls.read = self.calls.read.saturating_add(1);
         self.memory.read(path, most)
     }
 
-    #[tactic(auto, using(crate::proofs::UntoldLemmas::io_looks_hidden))]
+    #[tactic(auto, using(crate::proofs::CallsHoldWithFilesHidden::io_looks_hidden))]
     fn list(&mut self, dir: &Path) -> Result<TextList, IoFault> {
         self.calls.list = self.calls.list.saturating_add(1);
         self.memory.list(dir)
     }
 
-    #[tactic(auto, using(crate::proofs::UntoldLemmas::writes_hidden))]
+    #[tactic(auto, using(crate::proofs::CallsHoldWithFilesHidden::writes_hidden))]
     fn append(&mut self, path: &Path, piece: &[u8]) -> Result<(), IoFault> {
         self.calls.append = self.calls.append.saturating_add(1);
         self.memory.append(path, piece)
     }
 
-    #[tactic(auto, using(crate::proofs::UntoldLemmas::writes_hidden))]
+    #[tactic(auto, using(crate::proofs::CallsHoldWithFilesHidden::writes_hidden))]
     fn replace(&mut self, path: &Path, piece: &[u8]) -> Result<(), IoFault> {
         self.calls.replace = self.calls.replace.saturating_add(1);
         self.memory.replace(path, piece)
     }
 
-    #[tactic(auto, using(crate::proofs::UntoldLemmas::removes_hidden))]
+    #[tactic(auto, using(crate::proofs::CallsHoldWithFilesHidden::removes_hidden))]
     fn remove(&mut self, path: &Path) -> Result<(), Failed> {
         self.calls.remove = self.calls.remove.saturating_add(1);
         self.memory.remove(path)

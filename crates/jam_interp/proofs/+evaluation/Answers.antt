@@ -6,7 +6,7 @@ use Rattle.std.specs.declared.alloc.Global.{Global}
 use Rattle.b2_base.specs.Lists.{first_of}
 use Rattle.jam_grammar.specs.declared.tree.Stmt.{out-Stmt}
 use Rattle.jam_grammar.specs.Trees.{arg_tree, args_tree, lists_tree, value_tree, expr_tree, form_tree, block_tree, stmts_tree, cases_tree, other_tree, params_of, inner_tree}
-use Rattle.jam_grammar.proofs.RowTrees.{call_is, on_return_is}
+use Rattle.jam_grammar.proofs.TreesAreThoseOfElements.{call_is, on_return_is}
 use Rattle.jam_grammar.specs.Trees as tree
 use Rattle.jam_journal.specs.Scopes.{enter}
 use Rattle.jam_scope.specs.Changes.{rescoped, define_rule, define_actions}
@@ -22,22 +22,22 @@ use Rattle.jam_interp.specs.Parts.{arg_at, args_at, bracket_at, args_rest, lists
 use Rattle.jam_effects.specs.Answers.{named_of}
 use Rattle.jam_effects.specs.declared.flow.Flow.TheVariants as ways
 use Rattle.jam_effects.specs.declared.fault.EvalFault.TheVariants as fault
-use Rattle.jam_effects.proofs.StaysLemmas.{may_leave, stays_same, stays_then}
-use Rattle.jam_effects.proofs.Steps.{leads_same, value_now, out_of_memory, weaker}
-use Rattle.jam_effects.proofs.LoopLemmas.{next_item}
-use Rattle.jam_interp.proofs.CondSteps.{made_fails, made_ends, two_first_fails, two_second_fails, two_end, any_fails, any_holds, any_goes, any_none, all_fails, all_fail, all_goes, all_hold, not_fails, not_ends, differ_fails, differ_ends}
-use Rattle.jam_interp.proofs.LevelSteps.{some_left}
-use Rattle.jam_interp.proofs.TreeSteps.{block_holds, test_does, or_does, and_does, form_does, switch_does, other_does, defines, value_given, value_empty}
-use Rattle.jam_interp.proofs.OnSteps.{memory_here, memory_after, memory_led, by_texts, on_inner_fails, on_inner_does, on_return_fails, on_return_does, memory_in}
-use Rattle.jam_interp.proofs.LoopSteps.{started_ends_early, rounds_ends_early, rounds_set_fails, rounds_begins, while_more, while_ends_early, round_begins, args_step_fails, args_step_goes, transformed_step_fails, transformed_step_goes, filtered_step_goes}
-use Rattle.jam_interp.proofs.FormSteps.{deeper_deep, deeper_opens, block_does, returned_fails, returned_ends, if_fails, if_then, if_else, started_runs, stmts_fails, stmts_returns, stmts_goes, stmts_end, assign_name_fails, assign_value_fails, assign_refused, assign_ends, rounds_fails, rounds_returns, rounds_goes, rounds_end, switch_fails, switch_none, switch_picks, called_fails, called_ends}
-use Rattle.jam_interp.proofs.BlockSteps.{local_names_fail, local_value_fails, local_valued, local_bind_fails, local_ends, own_names_fail, own_named, own_targets_fail, own_placed, own_value_fails, own_made, own_refused, own_ends, include_fails, include_none, include_first, module_fails, module_does, on_fails, on_does, for_fails, for_here, for_own, while_first, while_fails, while_ends, round_fails, round_returns, round_goes}
-use Rattle.jam_interp.proofs.IncludeSteps.{read_fails, read_leads, included_runs}
-use Rattle.jam_interp.proofs.ArgSteps.{does_at, gives_at, leads_at, arg_word, arg_bracket, inside_by, bracket_deep, bracket_opens, args_arg_fails, args_end, lists_begin, lists_list_fails, lists_goes, lists_end, call_of_head_fails, call_of_lists_fail, call_of_calls, head_fails, head_none, head_calls}
-use Rattle.jam_interp.proofs.CallSteps.{call_ends_early, call_ends_deep, call_turned, applied_rule, applied_none, ruled_fails, ruled_untold, ruled_ends, rule_arity, unruled_untold, unruled_recorded, unruled_fails, unruled_steps, gives_in_call, stepped_unknown, stepped_value, stepped_exit, stepped_filters, stepped_transforms, bracket_call_deep, bracket_call_opens, transformed_fails, transformed_end, filtered_begin, filtered_fails, filtered_end}
-use Rattle.jam_interp.proofs.RunSteps.{found_binds, rule_does}
-use Rattle.jam_interp.proofs.HandedOn.{handed_on, handed_on_in_call}
-use Rattle.jam_interp.proofs.SetForms.{these_set, no_others_set}
+use Rattle.jam_effects.proofs.WhatEachKeepsAllKeep.{may_leave, stays_same, stays_then}
+use Rattle.jam_effects.proofs.OrderedCallsDoAsDefined.{leads_same, value_now, out_of_memory, weaker}
+use Rattle.jam_effects.proofs.RestBeginsWithNextItem.{next_item}
+use Rattle.jam_interp.proofs.ConditionsDoAsDefined.{made_fails, made_ends, two_first_fails, two_second_fails, two_end, any_fails, any_holds, any_goes, any_none, all_fails, all_fail, all_goes, all_hold, not_fails, not_ends, differ_fails, differ_ends}
+use Rattle.jam_interp.proofs.OneLevelLessOrFault.{some_left}
+use Rattle.jam_interp.proofs.CodeDoesWhatTreesDo.{block_holds, test_does, or_does, and_does, form_does, switch_does, other_does, defines, value_given, value_empty}
+use Rattle.jam_interp.proofs.TargetBracketsDoAsDefined.{memory_here, memory_after, memory_led, by_texts, on_inner_fails, on_inner_does, on_return_fails, on_return_does, memory_in}
+use Rattle.jam_interp.proofs.RoundsLeadOnOrEnd.{started_ends_early, rounds_ends_early, rounds_set_fails, rounds_begins, while_more, while_ends_early, round_begins, args_step_fails, args_step_goes, transformed_step_fails, transformed_step_goes, filtered_step_goes}
+use Rattle.jam_interp.proofs.StatementsDoAsDefined.{deeper_deep, deeper_opens, block_does, returned_fails, returned_ends, if_fails, if_then, if_else, started_runs, stmts_fails, stmts_returns, stmts_goes, stmts_end, assign_name_fails, assign_value_fails, assign_refused, assign_ends, rounds_fails, rounds_returns, rounds_goes, rounds_end, switch_fails, switch_none, switch_picks, called_fails, called_ends}
+use Rattle.jam_interp.proofs.FramedStatementsDoAsDefined.{local_names_fail, local_value_fails, local_valued, local_bind_fails, local_ends, own_names_fail, own_named, own_targets_fail, own_placed, own_value_fails, own_made, own_refused, own_ends, include_fails, include_none, include_first, module_fails, module_does, on_fails, on_does, for_fails, for_here, for_own, while_first, while_fails, while_ends, round_fails, round_returns, round_goes}
+use Rattle.jam_interp.proofs.IncludesDoAsDefined.{read_fails, read_leads, included_runs}
+use Rattle.jam_interp.proofs.ArgumentsDoAsDefined.{does_at, gives_at, leads_at, arg_word, arg_bracket, inside_by, bracket_deep, bracket_opens, args_arg_fails, args_end, lists_begin, lists_list_fails, lists_goes, lists_end, call_of_head_fails, call_of_lists_fail, call_of_calls, head_fails, head_none, head_calls}
+use Rattle.jam_interp.proofs.CallsDoAsDefined.{call_ends_early, call_ends_deep, call_turned, applied_rule, applied_none, ruled_fails, ruled_untold, ruled_ends, rule_arity, unruled_untold, unruled_recorded, unruled_fails, unruled_steps, gives_in_call, stepped_unknown, stepped_value, stepped_exit, stepped_filters, stepped_transforms, bracket_call_deep, bracket_call_opens, transformed_fails, transformed_end, filtered_begin, filtered_fails, filtered_end}
+use Rattle.jam_interp.proofs.RulesRunAsDefined.{found_binds, rule_does}
+use Rattle.jam_interp.proofs.FaultsAreHandedOn.{handed_on, handed_on_in_call}
+use Rattle.jam_interp.proofs.OnlyThreeFormsSetVariables.{these_set, no_others_set}
 use Rattle.jam_interp.proofs.+evaluation.Goals as goal
 
 -- ---- conditions

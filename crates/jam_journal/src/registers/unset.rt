@@ -17,7 +17,7 @@ fn is_unset(home: &str, owner: &str, before: &Option<Cell>) -> bool
 }
 
 /// Adds a name to the set, if `is_noted`.
-#[tactic(auto, using(crate::proofs::UnsetLemmas::noted_none, crate::proofs::UnsetLemmas::noted_one))]
+#[tactic(auto, using(crate::proofs::UnsetNamesHaveNoVariable::noted_none, crate::proofs::UnsetNamesHaveNoVariable::noted_one))]
 fn note_name(
     alloc: Global,
     name: &str,
@@ -34,7 +34,7 @@ fn note_name(
 }
 
 /// Notes the name that an entry binds in a module where nothing stood, and answers the present module before the entry.
-#[tactic(auto, using(crate::proofs::UnsetLemmas::noted_none))]
+#[tactic(auto, using(crate::proofs::UnsetNamesHaveNoVariable::noted_none))]
 fn note_entry<'a>(
     alloc: Global,
     entry: &'a Scope,

@@ -4,8 +4,8 @@ use Rattle.b2_base.specs.declared.token.Token.{Token}
 use Rattle.jam_lexer.specs.declared.fault.LexFault.{LexFault}
 use Rattle.jam_lexer.specs.declared.fault.LexFault.TheVariants as faults
 use Rattle.jam_lexer.specs.Answers.{IsFirstBad}
-use Rattle.jam_lexer.proofs.FirstBad.{one_bad, bad_is_no_text}
-use Rattle.jam_lexer.proofs.GivenAnswer.{bad_given, text_given, text_is_no_bad}
+use Rattle.jam_lexer.proofs.FirstBadByteEndsText.{one_bad, bad_is_no_text}
+use Rattle.jam_lexer.proofs.CallGivesTheOnlyAnswer.{bad_given, text_given, text_is_no_bad}
 use Rattle.jam_lexer.proofs.lex.Goals as goal
 
 as_error : LexFault → Result (Vec Token) LexFault

@@ -1,7 +1,7 @@
 use Rattle.std.proofs.Common.{arith, ap, ◌∙◌, ◌≡◌, ◌+◌, drop}
 use Rattle.std.proofs.lemmas.List.{take_rest}
 use Rattle.jam_spelling.specs.Spelling.{separator}
-use Rattle.jam_spelling.proofs.Progress.{written_more, all_texts, all_written, read_back}
+use Rattle.jam_spelling.proofs.WritingGoesLexemeByLexeme.{written_more, all_texts, all_written, read_back}
 use Rattle.jam_spelling.proofs.spelled.Goals as goal
 
 pub loop-place-preserved : goal.loop-place-preserved

@@ -1,4 +1,4 @@
-use Rattle.jam_spelling.proofs.Progress.{HasWritten}
+use Rattle.jam_spelling.proofs.WritingGoesLexemeByLexeme.{HasWritten}
 use Rattle.jam_spelling.proofs.spelled.Given as goal
 
 abbrev pub invariant-loop-place : goal.invariant-loop-place

@@ -1,6 +1,6 @@
 use Rattle.std.proofs.Common.{subst}
 use Rattle.b2_alternatives.specs.Picking.{IsSelected}
-use Rattle.b2_alternatives.proofs.SettlingLemmas.{choose_none}
+use Rattle.b2_alternatives.proofs.ChoiceFollowsSettling.{choose_none}
 use Rattle.b2_alternatives.proofs.choosing.choose_by.Goals as goal
 
 pub returns-in-Err : goal.returns-in-Err

@@ -7,7 +7,7 @@ use Rattle.b2_refine.specs.Choices.{IsChoice}
 use Rattle.b2_refine.specs.declared.choice.Choice.TheVariants as choices
 use Rattle.b2_references.specs.Names.{features, alternatives}
 use Rattle.b2_alternatives.specs.Choosing.{condition}
-use Rattle.b2_alternatives.proofs.PickLemmas.{choice_is, place_within, is_at}
+use Rattle.b2_alternatives.proofs.ChoiceIsAnAlternative.{choice_is, place_within, is_at}
 use Rattle.b2_alternatives.proofs.choosing.pick.Goals as goal
 
 pub returns-in-None : goal.returns-in-None

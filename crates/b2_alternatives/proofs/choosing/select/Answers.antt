@@ -1,7 +1,7 @@
 use Rattle.std.proofs.Common.{◌∙◌, Err, refl, sym, ap, subst}
 use Rattle.std.proofs.lemmas.Result.{err_from_is_err_and}
 use Rattle.b2_alternatives.specs.Picking.{IsPicked, IsSelected, IsUnpicked}
-use Rattle.b2_alternatives.proofs.ChoosingLemmas.{refuses_none, refuses_two}
+use Rattle.b2_alternatives.proofs.ChosenIfOneSettles.{refuses_none, refuses_two}
 use Rattle.b2_alternatives.proofs.choosing.select.Goals as goal
 
 pub returns-in_err-full : goal.returns-in_err-full

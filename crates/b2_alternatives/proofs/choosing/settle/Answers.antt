@@ -4,7 +4,7 @@ use Rattle.b2_props.specs.Sets.{IsSet}
 use Rattle.b2_metatargets.specs.declared.whole.Declared.{Declared}
 use Rattle.b2_references.specs.Names.{Name, features, target_text}
 use Rattle.b2_alternatives.specs.declared.fault.ChoiceFault.TheVariants.{Unstable}
-use Rattle.b2_alternatives.proofs.SettlingLemmas.{memory, settle_ok, settle_asked, settle_unstable}
+use Rattle.b2_alternatives.proofs.ChoiceFollowsSettling.{memory, settle_ok, settle_asked, settle_unstable}
 use Rattle.b2_alternatives.proofs.choosing.settle.Goals as goal
 
 pub evaluate-requires-clause-set : goal.evaluate-requires-clause-set

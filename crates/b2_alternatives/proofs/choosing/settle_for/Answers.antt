@@ -5,7 +5,7 @@ use Rattle.b2_props.specs.Requirements.{AsksBelow}
 use Rattle.b2_references.specs.Names.{Name}
 use Rattle.b2_alternatives.specs.Choosing.{requirements}
 use Rattle.b2_alternatives.specs.Settling.{IsSettling}
-use Rattle.b2_alternatives.proofs.SettlingLemmas.{memory}
+use Rattle.b2_alternatives.proofs.ChoiceFollowsSettling.{memory}
 use Rattle.b2_alternatives.proofs.choosing.settle_for.Goals as goal
 
 pub settle-requires-clause-rules : goal.settle-requires-clause-rules

@@ -1,5 +1,5 @@
-use Rattle.b2_alternatives.proofs.NumberLemmas.{requirements_ask}
-use Rattle.b2_alternatives.proofs.SettlingLemmas.{choose_ok, choose_err}
+use Rattle.b2_alternatives.proofs.RequirementsAskKnownRules.{requirements_ask}
+use Rattle.b2_alternatives.proofs.ChoiceFollowsSettling.{choose_ok, choose_err}
 use Rattle.b2_alternatives.proofs.choosing.settle_on.Goals as goal
 
 pub settle_for-requires-clause-set : goal.settle_for-requires-clause-set

@@ -3,7 +3,7 @@ use Rattle.std.specs.List.{filter}
 use Rattle.std.proofs.lemmas.List.Elements.{filter-append}
 use Rattle.b2_props.specs.Sets.{Pair}
 use Rattle.b2_refine.specs.Conditions.{own_pairs, unconditional}
-use Rattle.b2_refine.proofs.GivenPairs.{own_next}
+use Rattle.b2_refine.proofs.RequirementsGiveOneByOne.{own_next}
 use Rattle.b2_alternatives.specs.Choosing.{is_base}
 use Rattle.b2_alternatives.proofs.conditions.condition.Goals as goal
 

@@ -1,6 +1,6 @@
 use Rattle.std.proofs.Common.{◌∙◌, ◌++◌, List, ap₂, sym}
 use Rattle.b2_props.specs.declared.requirement.Requirement.{Requirement}
-use Rattle.b2_alternatives.proofs.ListLemmas.{flat_next}
+use Rattle.b2_alternatives.proofs.MapsComposeAndGrow.{flat_next}
 use Rattle.b2_alternatives.proofs.conditions.inherited.Goals as goal
 
 pub loop-place-preserved : goal.loop-place-preserved

@@ -3,7 +3,7 @@ use Rattle.std.specs.Borrow.{Bor}
 use Rattle.std.specs.List.{flat_map}
 use Rattle.b2_props.specs.declared.requirement.Requirement.{Requirement}
 use Rattle.b2_metatargets.specs.declared.place.Place.{Place}
-use Rattle.b2_alternatives.proofs.ListLemmas.{flat_after}
+use Rattle.b2_alternatives.proofs.MapsComposeAndGrow.{flat_after}
 use Rattle.b2_alternatives.proofs.conditions.requirements.Goals as goal
 
 pub returns : goal.returns

@@ -1,4 +1,4 @@
-use Rattle.b2_alternatives.proofs.NeedLemmas.{due_new}
+use Rattle.b2_alternatives.proofs.FirstUnmetNeedComesNext.{due_new}
 use Rattle.b2_alternatives.specs.Needs.{needs}
 use Rattle.b2_alternatives.proofs.laws.due_is_new.Goals as goal
 

@@ -1,5 +1,5 @@
 use Rattle.std.proofs.Common.{◌∙◌, sym}
-use Rattle.b2_alternatives.proofs.NeedLemmas.{finds_here, finds_none}
+use Rattle.b2_alternatives.proofs.FirstUnmetNeedComesNext.{finds_here, finds_none}
 use Rattle.b2_alternatives.proofs.need_list.first_next.Goals as goal
 
 pub returns-then-not-is_complete : goal.returns-then-not-is_complete

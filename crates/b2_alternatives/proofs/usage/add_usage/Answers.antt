@@ -1,7 +1,7 @@
 use Rattle.std.proofs.Common.{◌∙◌, ◌++◌, ◌∷◌, [], List, ℕ, ap, ap₂, sym}
 use Rattle.std.proofs.lemmas.List.{append-nil}
 use Rattle.b2_props.specs.Sets.{Pair}
-use Rattle.b2_alternatives.proofs.UsageLemmas.{usage_met, usage_unmet}
+use Rattle.b2_alternatives.proofs.LevelsYieldToThoseBelow.{usage_met, usage_unmet}
 use Rattle.b2_alternatives.proofs.usage.add_usage.Goals as goal
 
 pub returns-in_ok-push : goal.returns-in_ok-push

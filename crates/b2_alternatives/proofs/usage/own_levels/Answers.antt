@@ -2,7 +2,7 @@ use Rattle.std.proofs.Common.{◌∙◌, ◌++◌, ◌∷◌, [], List, map, ap,
 use Rattle.b2_props.specs.Sets.{Pair}
 use Rattle.b2_props.specs.Indexing.{IsIndexOf}
 use Rattle.b2_alternatives.specs.Usage.{usage_in}
-use Rattle.b2_alternatives.proofs.ListLemmas.{map_after}
+use Rattle.b2_alternatives.proofs.MapsComposeAndGrow.{map_after}
 use Rattle.b2_alternatives.proofs.usage.own_levels.Goals as goal
 
 pub returns : goal.returns

@@ -1,6 +1,6 @@
 use Rattle.std.proofs.Common.{◌∙◌, ◌++◌, ap, sym}
 use Rattle.b2_alternatives.specs.Usage.{usage_pairs}
-use Rattle.b2_alternatives.proofs.UsageLemmas.{usage_next}
+use Rattle.b2_alternatives.proofs.LevelsYieldToThoseBelow.{usage_next}
 use Rattle.b2_alternatives.proofs.usage.usage_in.Goals as goal
 
 pub loop-requirement-preserved : goal.loop-requirement-preserved

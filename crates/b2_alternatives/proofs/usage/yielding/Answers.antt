@@ -7,7 +7,7 @@ use Rattle.std.proofs.lemmas.List.{at_drop_all}
 use Rattle.b2_props.specs.Sets.{Pair}
 use Rattle.b2_props.specs.Refinement.{names}
 use Rattle.b2_alternatives.specs.Usage.{yielding}
-use Rattle.b2_alternatives.proofs.UsageLemmas.{yield_more, taken_below}
+use Rattle.b2_alternatives.proofs.LevelsYieldToThoseBelow.{yield_more, taken_below}
 use Rattle.b2_alternatives.proofs.usage.yielding.Goals as goal
 
 pub loop-place-init : goal.loop-place-init

@@ -1,4 +1,4 @@
-use Rattle.b2_base.proofs.Ends.{normal_is_simplest}
+use Rattle.b2_base.proofs.NormalFormIsOnlyEnd.{normal_is_simplest}
 use Rattle.b2_base.proofs.laws.normal_is_simplest.Goals as goal
 
 pub returns : goal.returns

@@ -1,4 +1,4 @@
-use Rattle.b2_base.proofs.Ends.{normal_root, normal_reached, normal_simplest, normal_only}
+use Rattle.b2_base.proofs.NormalFormIsOnlyEnd.{normal_root, normal_reached, normal_simplest, normal_only}
 use Rattle.b2_base.proofs.laws.normal_is_the_end.Goals as goal
 
 pub returns-clause-root : goal.returns-clause-root

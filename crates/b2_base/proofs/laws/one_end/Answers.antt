@@ -1,4 +1,4 @@
-use Rattle.b2_base.proofs.Steps.{step_shortens, one_end}
+use Rattle.b2_base.proofs.StepsLeadToOneEnd.{step_shortens, one_end}
 use Rattle.b2_base.proofs.laws.one_end.Goals as goal
 
 pub returns-clause-ends : goal.returns-clause-ends

@@ -3,7 +3,7 @@ use Rattle.std.proofs.lemmas.Bool.{true≢false}
 use Rattle.std.proofs.lemmas.Bool.Decides.{Decides-eqb}
 use Rattle.std.proofs.lemmas.Slice.Eq.{bytes_eq-Decides, starts_is}
 use Rattle.std.proofs.lemmas.Str.Pattern.{starts_text}
-use Rattle.b2_base.proofs.Under.{begins}
+use Rattle.b2_base.proofs.BeginningTellsWhatIsUnder.{begins}
 use Rattle.b2_base.proofs.segments.begins_above.Goals as goal
 
 pub returns-else-eq : goal.returns-else-eq

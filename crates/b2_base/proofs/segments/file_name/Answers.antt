@@ -1,5 +1,5 @@
 use Rattle.std.proofs.Common.{lit<, sym, Some, None}
-use Rattle.b2_base.proofs.LastCuts.{rsplit_parts, file_name_at, file_name_whole}
+use Rattle.b2_base.proofs.NamesAreCutAtLastSigns.{rsplit_parts, file_name_at, file_name_whole}
 use Rattle.b2_base.proofs.segments.file_name.Goals as goal
 
 pub returns-in-None : goal.returns-in-None

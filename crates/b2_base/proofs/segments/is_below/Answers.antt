@@ -1,4 +1,4 @@
-use Rattle.b2_base.proofs.Under.{under_on, on_under}
+use Rattle.b2_base.proofs.BeginningTellsWhatIsUnder.{under_on, on_under}
 use Rattle.b2_base.proofs.segments.is_below.Goals as goal
 
 pub returns-in_default : goal.returns-in_default

@@ -1,6 +1,6 @@
 use Rattle.std.proofs.Common.{ap, not, codes, sym, ◌∙◌, refl}
 use Rattle.std.proofs.lemmas.Bool.{true≢false}
-use Rattle.b2_base.proofs.Under.{under_here, here_above, differs, not_true}
+use Rattle.b2_base.proofs.BeginningTellsWhatIsUnder.{under_here, here_above, differs, not_true}
 use Rattle.b2_base.proofs.segments.is_below_here.Goals as goal
 use Rattle.b2_base.proofs.segments.is_below_here.Goals.{then-ne, else-ne}
 

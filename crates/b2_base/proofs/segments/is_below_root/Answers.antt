@@ -1,5 +1,5 @@
 use Rattle.std.proofs.Common.{codes, sym, ◌∙◌}
-use Rattle.b2_base.proofs.Under.{under_root, differs}
+use Rattle.b2_base.proofs.BeginningTellsWhatIsUnder.{under_root, differs}
 use Rattle.b2_base.proofs.segments.is_below_root.Goals as goal
 
 pub returns-then-ne : goal.returns-then-ne

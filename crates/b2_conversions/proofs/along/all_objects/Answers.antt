@@ -3,9 +3,9 @@ use Rattle.std.proofs.Common.{◌+◌, ◌++◌, List, Err, refl, sym, subst, dr
 use Rattle.b2_virtual.specs.declared.entry.Entry.{Entry}
 use Rattle.b2_conversions.specs.Acts.{for_all}
 use Rattle.b2_conversions.specs.Conversions.{to_objects}
-use Rattle.b2_conversions.proofs.ActLemmas.{for_all_next}
-use Rattle.b2_conversions.proofs.DidLemmas.{UnderWay, under_way_start, under_way_next, under_way_end, under_way_refused, under_way_memory}
-use Rattle.b2_conversions.proofs.Exits.{exit}
+use Rattle.b2_conversions.proofs.ActsCompose.{for_all_next}
+use Rattle.b2_conversions.proofs.PromisesCompose.{UnderWay, under_way_start, under_way_next, under_way_end, under_way_refused, under_way_memory}
+use Rattle.b2_conversions.proofs.ExitsKeepThePromise.{exit}
 use Rattle.b2_conversions.proofs.along.all_objects.Goals as goal
 
 pub loop-entry-init : goal.loop-entry-init

@@ -1,6 +1,6 @@
 use Rattle.b2_conversions.specs.Acts.{for_all}
 use Rattle.b2_conversions.specs.Conversions.{to_objects}
-use Rattle.b2_conversions.proofs.DidLemmas.{UnderWay}
+use Rattle.b2_conversions.proofs.PromisesCompose.{UnderWay}
 use Rattle.b2_conversions.proofs.along.all_objects.Given as goal
 
 -- the entries so far became objects

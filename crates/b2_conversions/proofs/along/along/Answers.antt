@@ -4,9 +4,9 @@ use Rattle.std.proofs.lemmas.Result.{err_from_is_err_and}
 use Rattle.b2_conversions.specs.declared.output.Output.{Output}
 use Rattle.b2_conversions.specs.Doing.{GivesSome, if_last}
 use Rattle.b2_conversions.specs.Conversions.{first_tail}
-use Rattle.b2_conversions.proofs.ChainLemmas.{naming_some}
-use Rattle.b2_conversions.proofs.AlongLemmas.{given_next, step_at, outputs_at, along_start, along_more, along_end, along_fault, along_memory}
-use Rattle.b2_conversions.proofs.Exits.{exit}
+use Rattle.b2_conversions.proofs.ChainGeneratorsGiveOutputs.{naming_some}
+use Rattle.b2_conversions.proofs.ChainRunsStepByStep.{given_next, step_at, outputs_at, along_start, along_more, along_end, along_fault, along_memory}
+use Rattle.b2_conversions.proofs.ExitsKeepThePromise.{exit}
 use Rattle.b2_conversions.proofs.along.along.Goals as goal
 
 pub loop-place-init : goal.loop-place-init

@@ -3,7 +3,7 @@ use Rattle.std.specs.List.{AllByRecursion}
 use Rattle.std.specs.Option.{option_copied}
 use Rattle.b2_conversions.specs.Doing.{GivesSome}
 use Rattle.b2_conversions.proofs.along.along.Given as goal
-use Rattle.b2_conversions.proofs.AlongLemmas.{GoesAlong}
+use Rattle.b2_conversions.proofs.ChainRunsStepByStep.{GoesAlong}
 
 -- what comes of the rest of the chain comes of all
 abbrev pub invariant-loop-place : goal.invariant-loop-place

@@ -2,8 +2,8 @@ use Rattle.std.proofs.lemmas.Result.{err_from_is_err_and}
 use Rattle.std.proofs.Common.{IfOk, sym, subst}
 use Rattle.std.specs.List.{AllByRecursion}
 use Rattle.b2_conversions.specs.Doing.{GivesSome}
-use Rattle.b2_conversions.proofs.ChainLemmas.{chain_ok, chain_err, chain_gives}
-use Rattle.b2_conversions.proofs.Exits.{exit_alone}
+use Rattle.b2_conversions.proofs.ChainGeneratorsGiveOutputs.{chain_ok, chain_err, chain_gives}
+use Rattle.b2_conversions.proofs.ExitsKeepThePromise.{exit_alone}
 use Rattle.b2_conversions.proofs.along.chain_ids.Goals as goal
 
 pub returns : goal.returns

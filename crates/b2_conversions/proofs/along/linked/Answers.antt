@@ -5,9 +5,9 @@ use Rattle.std.specs.Option.{option_map_or}
 use Rattle.b2_virtual.specs.declared.entry.Entry.{Entry}
 use Rattle.b2_virtual.specs.Supplies.{is_of}
 use Rattle.std.proofs.lemmas.Result.{err_from_is_err_and}
-use Rattle.b2_conversions.proofs.ChainLemmas.{chain_read}
-use Rattle.b2_conversions.proofs.Exits.{exit, exit_after}
-use Rattle.b2_conversions.proofs.KindLemmas.{link_unchained, link_refused, link_made}
+use Rattle.b2_conversions.proofs.ChainGeneratorsGiveOutputs.{chain_read}
+use Rattle.b2_conversions.proofs.ExitsKeepThePromise.{exit, exit_after}
+use Rattle.b2_conversions.proofs.KindsAreMadeAsPromised.{link_unchained, link_refused, link_made}
 use Rattle.b2_conversions.proofs.along.linked.Goals as goal
 
 pub returns-in_err-ids : goal.returns-in_err-ids

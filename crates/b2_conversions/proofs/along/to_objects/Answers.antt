@@ -1,9 +1,9 @@
 use Rattle.std.proofs.Common.{Ok, Err, refl}
 use Rattle.std.specs.Prelude.{codes}
 use Rattle.std.proofs.lemmas.Result.{err_from_is_err_and}
-use Rattle.b2_conversions.proofs.ChainLemmas.{chain_read}
-use Rattle.b2_conversions.proofs.Exits.{exit, exit_first}
-use Rattle.b2_conversions.proofs.KindLemmas.{source_unchained, source_refused, source_made}
+use Rattle.b2_conversions.proofs.ChainGeneratorsGiveOutputs.{chain_read}
+use Rattle.b2_conversions.proofs.ExitsKeepThePromise.{exit, exit_first}
+use Rattle.b2_conversions.proofs.KindsAreMadeAsPromised.{source_unchained, source_refused, source_made}
 use Rattle.b2_conversions.proofs.along.to_objects.Goals as goal
 
 pub returns-in_err-ids : goal.returns-in_err-ids

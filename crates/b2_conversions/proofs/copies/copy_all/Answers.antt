@@ -6,10 +6,10 @@ use Rattle.b2_conversions.specs.Acts.{for_each}
 use Rattle.b2_conversions.specs.Contexts.{context_of, site_of}
 use Rattle.b2_conversions.specs.Steps.{location_of}
 use Rattle.b2_conversions.specs.Conversions.{copies_at}
-use Rattle.b2_conversions.proofs.ActLemmas.{IsSoFar, so_far_start}
-use Rattle.b2_conversions.proofs.DidLemmas.{grows_none, grows_then}
-use Rattle.b2_conversions.proofs.CopyLemmas.{copy_stops, copy_next, copy_ends}
-use Rattle.b2_conversions.proofs.Exits.{exit_alone, exit_alone_memory}
+use Rattle.b2_conversions.proofs.ActsCompose.{IsSoFar, so_far_start}
+use Rattle.b2_conversions.proofs.PromisesCompose.{grows_none, grows_then}
+use Rattle.b2_conversions.proofs.CopiesAreMadeInTurn.{copy_stops, copy_next, copy_ends}
+use Rattle.b2_conversions.proofs.ExitsKeepThePromise.{exit_alone, exit_alone_memory}
 use Rattle.b2_conversions.proofs.copies.copy_all.Goals as goal
 
 pub loop-entry-init : goal.loop-entry-init

@@ -4,7 +4,7 @@ use Rattle.b2_evaluation.specs.Answers.{Answers}
 use Rattle.b2_conversions.specs.Answers.{Grows}
 use Rattle.b2_conversions.specs.Steps.{location_of}
 use Rattle.b2_conversions.specs.Conversions.{copies_at}
-use Rattle.b2_conversions.proofs.ActLemmas.{IsSoFar}
+use Rattle.b2_conversions.proofs.ActsCompose.{IsSoFar}
 use Rattle.b2_conversions.proofs.copies.copy_all.Given as goal
 
 -- the entries so far are copied

@@ -2,9 +2,9 @@ use Rattle.std.proofs.lemmas.Result.{err_from_is_err_and}
 use Rattle.std.proofs.Common.{List, ℕ, Ok, Err, subst}
 use Rattle.std.specs.Option.{option_copied}
 use Rattle.b2_conversions.specs.Doing.{IsCopiedTo}
-use Rattle.b2_conversions.proofs.Exits.{exit_alone, exit_alone_memory}
-use Rattle.b2_conversions.proofs.DidLemmas.{grows_none}
-use Rattle.b2_conversions.proofs.CopyLemmas.{copy_outside, copy_refused, copy_done, copy_grows}
+use Rattle.b2_conversions.proofs.ExitsKeepThePromise.{exit_alone, exit_alone_memory}
+use Rattle.b2_conversions.proofs.PromisesCompose.{grows_none}
+use Rattle.b2_conversions.proofs.CopiesAreMadeInTurn.{copy_outside, copy_refused, copy_done, copy_grows}
 use Rattle.b2_conversions.proofs.copies.copy_one.Goals as goal
 
 pub returns-in_err-path : goal.returns-in_err-path

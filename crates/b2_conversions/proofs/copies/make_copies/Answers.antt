@@ -1,8 +1,8 @@
 use Rattle.std.proofs.lemmas.Result.{err_from_is_err_and}
 use Rattle.std.proofs.Common.{◌∙◌}
-use Rattle.b2_conversions.proofs.DidLemmas.{grows_none}
-use Rattle.b2_conversions.proofs.CopyLemmas.{copies_refused, copies_made}
-use Rattle.b2_conversions.proofs.Exits.{exit_alone, exit_alone_memory}
+use Rattle.b2_conversions.proofs.PromisesCompose.{grows_none}
+use Rattle.b2_conversions.proofs.CopiesAreMadeInTurn.{copies_refused, copies_made}
+use Rattle.b2_conversions.proofs.ExitsKeepThePromise.{exit_alone, exit_alone_memory}
 use Rattle.b2_conversions.proofs.copies.make_copies.Goals as goal
 
 pub returns-in_err-entries : goal.returns-in_err-entries

@@ -1,4 +1,4 @@
-use Rattle.b2_conversions.proofs.OneLemmas.{one_kind}
+use Rattle.b2_conversions.proofs.ActsHaveOneOutcome.{one_kind}
 use Rattle.b2_conversions.proofs.laws.one_outcome.Goals as goal
 
 pub returns : goal.returns

@@ -1,4 +1,4 @@
-use Rattle.b2_conversions.proofs.SteadyLemmas.{steady_kind}
+use Rattle.b2_conversions.proofs.EarlierStepsAreKept.{steady_kind}
 use Rattle.b2_conversions.proofs.laws.steps_stay.Goals as goal
 
 pub returns : goal.returns

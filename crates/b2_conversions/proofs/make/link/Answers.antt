@@ -1,7 +1,7 @@
 use Rattle.std.proofs.lemmas.Result.{err_from_is_err_and}
 use Rattle.std.proofs.Common.{◌∙◌, ◌++◌, ap}
-use Rattle.b2_conversions.proofs.Exits.{exit, exit_first, exit_after}
-use Rattle.b2_conversions.proofs.KindLemmas.{links_refused, links_then}
+use Rattle.b2_conversions.proofs.ExitsKeepThePromise.{exit, exit_first, exit_after}
+use Rattle.b2_conversions.proofs.KindsAreMadeAsPromised.{links_refused, links_then}
 use Rattle.b2_conversions.proofs.make.link.Goals as goal
 
 pub returns-in_err-sources : goal.returns-in_err-sources

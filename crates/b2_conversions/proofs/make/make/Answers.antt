@@ -1,6 +1,6 @@
 use Rattle.b2_conversions.specs.Contexts.{context_of, site_of}
 use Rattle.b2_conversions.specs.Conversions.{makes}
-use Rattle.b2_conversions.proofs.ActLemmas.{done_ok, done_err}
+use Rattle.b2_conversions.proofs.ActsCompose.{done_ok, done_err}
 use Rattle.b2_conversions.proofs.make.make.Goals as goal
 
 pub returns : goal.returns

@@ -1,8 +1,8 @@
 use Rattle.std.proofs.lemmas.Result.{err_from_is_err_and}
 use Rattle.std.proofs.Common.{◌∙◌, ◌∷◌, [], ap}
 use Rattle.b2_conversions.specs.declared.output.Output.{Output}
-use Rattle.b2_conversions.proofs.Exits.{exit, exit_first}
-use Rattle.b2_conversions.proofs.KindLemmas.{file_refused, file_made}
+use Rattle.b2_conversions.proofs.ExitsKeepThePromise.{exit, exit_first}
+use Rattle.b2_conversions.proofs.KindsAreMadeAsPromised.{file_refused, file_made}
 use Rattle.b2_conversions.proofs.make.make_file.Goals as goal
 
 pub returns-in_err-ins : goal.returns-in_err-ins

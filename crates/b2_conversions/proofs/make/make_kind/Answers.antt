@@ -2,9 +2,9 @@ use Rattle.std.proofs.Common.{Ok}
 use Rattle.std.proofs.lemmas.Result.{err_from_is_err_and}
 use Rattle.b2_declarations.specs.declared.declaration.Kind.TheVariants.{Exe, Lib, Obj, Alias, Make, Install}
 use Rattle.b2_conversions.specs.Conversions.{makes_copies}
-use Rattle.b2_conversions.proofs.Exits.{exit_first}
-use Rattle.b2_conversions.proofs.DidLemmas.{alone_did}
-use Rattle.b2_conversions.proofs.KindLemmas.{kind_is, passed}
+use Rattle.b2_conversions.proofs.ExitsKeepThePromise.{exit_first}
+use Rattle.b2_conversions.proofs.PromisesCompose.{alone_did}
+use Rattle.b2_conversions.proofs.KindsAreMadeAsPromised.{kind_is, passed}
 use Rattle.b2_conversions.proofs.make.make_kind.Goals as goal
 
 pub returns-in-Obj : goal.returns-in-Obj

@@ -1,6 +1,6 @@
 use Rattle.std.proofs.lemmas.Result.{err_from_is_err_and}
-use Rattle.b2_conversions.proofs.Exits.{exit, exit_first}
-use Rattle.b2_conversions.proofs.KindLemmas.{library_refused, library_made, library_memory}
+use Rattle.b2_conversions.proofs.ExitsKeepThePromise.{exit, exit_first}
+use Rattle.b2_conversions.proofs.KindsAreMadeAsPromised.{library_refused, library_made, library_memory}
 use Rattle.b2_conversions.proofs.make.make_library.Goals as goal
 
 pub returns-in_err-named : goal.returns-in_err-named

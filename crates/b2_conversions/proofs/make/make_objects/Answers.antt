@@ -1,7 +1,7 @@
 use Rattle.std.proofs.lemmas.Result.{err_from_is_err_and}
 use Rattle.std.proofs.Common.{◌∙◌}
-use Rattle.b2_conversions.proofs.Exits.{exit, exit_first}
-use Rattle.b2_conversions.proofs.KindLemmas.{objects_refused, objects_made}
+use Rattle.b2_conversions.proofs.ExitsKeepThePromise.{exit, exit_first}
+use Rattle.b2_conversions.proofs.KindsAreMadeAsPromised.{objects_refused, objects_made}
 use Rattle.b2_conversions.proofs.make.make_objects.Goals as goal
 
 pub returns-in_err-sources : goal.returns-in_err-sources

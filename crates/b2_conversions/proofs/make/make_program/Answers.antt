@@ -1,6 +1,6 @@
 use Rattle.std.proofs.lemmas.Result.{err_from_is_err_and}
-use Rattle.b2_conversions.proofs.Exits.{exit, exit_first}
-use Rattle.b2_conversions.proofs.KindLemmas.{program_refused, program_made}
+use Rattle.b2_conversions.proofs.ExitsKeepThePromise.{exit, exit_first}
+use Rattle.b2_conversions.proofs.KindsAreMadeAsPromised.{program_refused, program_made}
 use Rattle.b2_conversions.proofs.make.make_program.Goals as goal
 
 pub returns-in_err-named : goal.returns-in_err-named

@@ -1,7 +1,7 @@
 use Rattle.std.proofs.Common.{Some, sym, subst}
 use Rattle.std.specs.Option.{option_copied, IfSome}
 use Rattle.b2_base.specs.Bytes.{HasNoZero}
-use Rattle.b2_conversions.proofs.TextLemmas.{clean_library}
+use Rattle.b2_conversions.proofs.MadeTextsHaveNoZero.{clean_library}
 use Rattle.b2_conversions.proofs.named.library_name.Goals as goal
 
 pub from_string-requires-in-Some : goal.from_string-requires-in-Some

@@ -1,6 +1,6 @@
 use Rattle.std.proofs.Common.{◌≡◌, ◌<◌, ◌≤◌, ◌∙◌, List, length, get_or, set, ap, sym, arith}
 use Rattle.b2_conversions.specs.declared.output.Output.{Output}
-use Rattle.b2_conversions.proofs.OutputLemmas.{named_next, named_here, named_none}
+use Rattle.b2_conversions.proofs.NamedOutputReplacesOne.{named_next, named_here, named_none}
 use Rattle.b2_conversions.proofs.output.with_named.Goals as goal
 
 pub loop-place-preserved : goal.loop-place-preserved

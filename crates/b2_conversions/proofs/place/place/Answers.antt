@@ -1,6 +1,6 @@
 use Rattle.std.proofs.lemmas.Result.{err_from_is_err_and}
-use Rattle.b2_conversions.proofs.Exits.{exit_alone, exit_alone_memory}
-use Rattle.b2_conversions.proofs.PartLemmas.{place_ok, place_err}
+use Rattle.b2_conversions.proofs.ExitsKeepThePromise.{exit_alone, exit_alone_memory}
+use Rattle.b2_conversions.proofs.OutputsLieInRoots.{place_ok, place_err}
 use Rattle.b2_conversions.proofs.place.place.Goals as goal
 
 pub returns-in_err-path : goal.returns-in_err-path

@@ -4,8 +4,8 @@ use Rattle.b2_virtual.specs.declared.entry.Entry.{Entry}
 use Rattle.b2_conversions.specs.Acts.{for_each}
 use Rattle.b2_conversions.specs.Contexts.{context_of, site_of}
 use Rattle.b2_conversions.specs.Steps.{places}
-use Rattle.b2_conversions.proofs.ActLemmas.{IsSoFar, for_each_next, so_far_start, so_far_next, so_far_end, so_far_refused, refused_map}
-use Rattle.b2_conversions.proofs.Exits.{exit_alone, exit_alone_memory}
+use Rattle.b2_conversions.proofs.ActsCompose.{IsSoFar, for_each_next, so_far_start, so_far_next, so_far_end, so_far_refused, refused_map}
+use Rattle.b2_conversions.proofs.ExitsKeepThePromise.{exit_alone, exit_alone_memory}
 use Rattle.b2_conversions.proofs.place.place_all.Goals as goal
 
 pub loop-output-init : goal.loop-output-init

@@ -4,7 +4,7 @@ use Rattle.b2_conversions.specs.Acts.{for_each}
 use Rattle.b2_conversions.specs.Contexts.{context_of, site_of}
 use Rattle.b2_evaluation.specs.Answers.{Answers}
 use Rattle.b2_conversions.specs.Steps.{places}
-use Rattle.b2_conversions.proofs.ActLemmas.{IsSoFar}
+use Rattle.b2_conversions.proofs.ActsCompose.{IsSoFar}
 use Rattle.b2_conversions.proofs.place.place_all.Given as goal
 
 -- the outputs so far have their paths

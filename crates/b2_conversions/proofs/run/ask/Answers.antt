@@ -1,7 +1,7 @@
 use Rattle.std.proofs.lemmas.Result.{err_from_is_err_and}
 use Rattle.jam_eval.specs.StepJobs.{job_of}
-use Rattle.b2_conversions.proofs.Exits.{exit}
-use Rattle.b2_conversions.proofs.RunLemmas.{asks_refused, asks_memory, asks_joined}
+use Rattle.b2_conversions.proofs.ExitsKeepThePromise.{exit}
+use Rattle.b2_conversions.proofs.StepsAreMadeAsPromised.{asks_refused, asks_memory, asks_joined}
 use Rattle.b2_conversions.proofs.run.ask.Goals as goal
 
 pub returns-in_err-text : goal.returns-in_err-text

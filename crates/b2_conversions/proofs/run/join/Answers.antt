@@ -1,7 +1,7 @@
 use Rattle.std.proofs.lemmas.Result.{err_from_is_err_and}
 use Rattle.std.proofs.Common.{Err, sym, subst}
 use Rattle.b2_conversions.specs.Doing.{IsJoined}
-use Rattle.b2_conversions.proofs.PartLemmas.{join_ok, join_err}
+use Rattle.b2_conversions.proofs.OutputsLieInRoots.{join_ok, join_err}
 use Rattle.b2_conversions.proofs.run.join.Goals as goal
 
 pub returns : goal.returns

@@ -3,8 +3,8 @@ use Rattle.std.proofs.Common.{sym, ap, subst}
 use Rattle.jam_eval.specs.Rolled.{Job}
 use Rattle.jam_eval.specs.StepJobs.{job_of}
 use Rattle.b2_conversions.specs.Answers.{AreHoused}
-use Rattle.b2_conversions.proofs.Exits.{exit, exit_first}
-use Rattle.b2_conversions.proofs.RunLemmas.{housed, job_read, runs_unplaced, runs_refused, runs_made}
+use Rattle.b2_conversions.proofs.ExitsKeepThePromise.{exit, exit_first}
+use Rattle.b2_conversions.proofs.StepsAreMadeAsPromised.{housed, job_read, runs_unplaced, runs_refused, runs_made}
 use Rattle.b2_conversions.proofs.run.run.Goals as goal
 
 pub ask-requires : goal.ask-requires

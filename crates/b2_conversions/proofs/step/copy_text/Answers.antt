@@ -1,6 +1,6 @@
 use Rattle.std.proofs.Common.{sym, subst}
 use Rattle.b2_base.specs.Bytes.{HasNoZero}
-use Rattle.b2_conversions.proofs.TextLemmas.{clean_copy}
+use Rattle.b2_conversions.proofs.MadeTextsHaveNoZero.{clean_copy}
 use Rattle.b2_conversions.proofs.step.copy_text.Goals as goal
 
 pub from_string-requires : goal.from_string-requires

@@ -1,6 +1,6 @@
 use Rattle.std.proofs.Common.{◌∙◌, ◌++◌, ◌∷◌, [], ap, sym}
 use Rattle.b2_conversions.specs.Steps.{include_dirs}
-use Rattle.b2_conversions.proofs.TextLemmas.{include_next}
+use Rattle.b2_conversions.proofs.MadeTextsHaveNoZero.{include_next}
 use Rattle.b2_conversions.proofs.step.include_dirs.Goals as goal
 
 pub loop-pair-preserved : goal.loop-pair-preserved

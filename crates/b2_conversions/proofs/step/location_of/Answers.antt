@@ -2,9 +2,9 @@ use Rattle.std.proofs.Common.{◌≡◌, ◌∙◌, Bool, List, ℕ, Option, Som
 use Rattle.std.specs.Prelude.{codes}
 use Rattle.std.specs.Str.{bytes_eq}
 use Rattle.std.specs.Option.{option_copied}
-use Rattle.b2_props.proofs.Pairs.{text_sym}
+use Rattle.b2_props.proofs.RepeatedPairsAddNothing.{text_sym}
 use Rattle.b2_conversions.specs.Steps.{location_of}
-use Rattle.b2_conversions.proofs.TextLemmas.{location_next}
+use Rattle.b2_conversions.proofs.MadeTextsHaveNoZero.{location_next}
 use Rattle.b2_conversions.proofs.step.location_of.Goals.{then-eq, else-eq}
 use Rattle.b2_conversions.proofs.step.location_of.Goals as goal
 

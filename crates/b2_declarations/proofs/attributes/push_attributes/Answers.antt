@@ -2,7 +2,7 @@ use Rattle.std.proofs.Common.{◌∷◌, [], ◌++◌, ◌∙◌, ap}
 use Rattle.std.specs.List.{filter_map}
 use Rattle.std.proofs.lemmas.List.Elements.{filter_map-append}
 use Rattle.b2_declarations.specs.Attributes.{property_list}
-use Rattle.b2_declarations.proofs.LoopSteps.{appended}
+use Rattle.b2_declarations.proofs.ListsGrowByOne.{appended}
 use Rattle.b2_declarations.proofs.attributes.push_attributes.Goals as goal
 
 pub loop-list-preserved : goal.loop-list-preserved

@@ -1,4 +1,4 @@
-use Rattle.b2_declarations.proofs.Calls.{given_id, used_id}
+use Rattle.b2_declarations.proofs.CallsDeclareProperNames.{given_id, used_id}
 use Rattle.b2_declarations.proofs.laws.ids_begin_with_a_slash.Goals as goal
 
 pub returns-clause-given : goal.returns-clause-given

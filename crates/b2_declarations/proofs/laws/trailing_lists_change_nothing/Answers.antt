@@ -1,4 +1,4 @@
-use Rattle.b2_declarations.proofs.Trailing.{trailing_same}
+use Rattle.b2_declarations.proofs.EmptyLastListsChangeNothing.{trailing_same}
 use Rattle.b2_declarations.proofs.laws.trailing_lists_change_nothing.Goals as goal
 
 pub returns : goal.returns

@@ -1,6 +1,6 @@
 use Rattle.std.proofs.lemmas.List.Elements.{filter_map-append}
 use Rattle.b2_declarations.specs.Directories.{directory_of, directories}
-use Rattle.b2_declarations.proofs.LoopSteps.{appended}
+use Rattle.b2_declarations.proofs.ListsGrowByOne.{appended}
 use Rattle.b2_declarations.proofs.naming.push_directories.Goals as goal
 
 pub loop-text-preserved : goal.loop-text-preserved

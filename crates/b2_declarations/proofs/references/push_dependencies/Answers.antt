@@ -1,6 +1,6 @@
 use Rattle.std.proofs.lemmas.List.Elements.{filter_map-append}
 use Rattle.b2_declarations.specs.References.{dependency_in, dependencies}
-use Rattle.b2_declarations.proofs.LoopSteps.{appended}
+use Rattle.b2_declarations.proofs.ListsGrowByOne.{appended}
 use Rattle.b2_declarations.proofs.references.push_dependencies.Goals as goal
 
 pub loop-text-preserved : goal.loop-text-preserved

@@ -1,6 +1,6 @@
 use Rattle.std.proofs.Common.{None, Some, sym, ap, lit<}
 use Rattle.std.proofs.lemmas.Str.Pattern.{strip_prefix_char}
-use Rattle.b2_texts.proofs.Naming.{rest_clean}
+use Rattle.b2_texts.proofs.NamesBeginWithTheirSign.{rest_clean}
 use Rattle.b2_declarations.specs.Targets.{rule_name}
 use Rattle.b2_declarations.proofs.SameRuleName.{same_name}
 use Rattle.b2_declarations.proofs.target.rule_name.Goals as goal

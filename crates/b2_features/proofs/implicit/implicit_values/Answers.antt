@@ -2,7 +2,7 @@ use Rattle.std.proofs.Common.{◌&&◌, sym, ◌∙◌, ap}
 use Rattle.std.specs.List.{list_any}
 use Rattle.std.specs.Str.{bytes_eq}
 use Rattle.std.proofs.lemmas.Result.{IfOk-weaker}
-use Rattle.b2_features.proofs.TextTests.{among_strings}
+use Rattle.b2_features.proofs.TextsAreSoughtInLists.{among_strings}
 use Rattle.b2_features.proofs.implicit.implicit_values.Goals as goal
 
 pub returns-then-stands_in : goal.returns-then-stands_in

@@ -1,4 +1,4 @@
-use Rattle.b2_files.proofs.NameLemmas.{after_lead}
+use Rattle.b2_files.proofs.NameIsRestWithoutSlash.{after_lead}
 use Rattle.b2_files.proofs.names.below.Goals as goal
 
 pub returns-in_default : goal.returns-in_default

@@ -1,7 +1,7 @@
 use Rattle.std.proofs.Common.{◌++◌, ap, sym, ◌∙◌, subst}
 use Rattle.b2_base.specs.Bytes.{HasNoZero}
 use Rattle.b2_files.specs.Names.{lead_in}
-use Rattle.b2_files.proofs.NameLemmas.{named, not_named, none_zero}
+use Rattle.b2_files.proofs.NameIsRestWithoutSlash.{named, not_named, none_zero}
 use Rattle.b2_files.proofs.names.name_in.Goals as goal
 
 pub returns-then-has_no_slash-clause-name : goal.returns-then-has_no_slash-clause-name

@@ -3,7 +3,7 @@ use Rattle.b2_host.specs.Outside.{Outside}
 use Rattle.b2_base.specs.Counts.{CountsFault}
 use Rattle.b2_loaded.specs.Faults.{is_host_fault, is_out_of_memory}
 use Rattle.b2_front.specs.Again.{AnswersAgain}
-use Rattle.b2_front.proofs.AgainLemmas.{text_same, answers_again_after, answers_again_text}
+use Rattle.b2_front.proofs.RefusedPatternGivesNoPlan.{text_same, answers_again_after, answers_again_text}
 use Rattle.b2_front.proofs.again.plan_again.Goals as goal
 
 pub returns-then-is_refused-clause-answers_again : goal.returns-then-is_refused-clause-answers_again

@@ -4,8 +4,8 @@ use Rattle.b2_loaded.specs.Held.{Given, given, held}
 use Rattle.b2_loaded.specs.Questions.{with_fault}
 use Rattle.b2_loaded.specs.Worlds.{told_in}
 use Rattle.b2_front.specs.Again.{AnswersAgain}
-use Rattle.b2_front.proofs.OverLemmas.{bin_there}
-use Rattle.b2_front.proofs.AgainLemmas.{refused_here, answers_again_refusing}
+use Rattle.b2_front.proofs.LentHostTellsTheSame.{bin_there}
+use Rattle.b2_front.proofs.RefusedPatternGivesNoPlan.{refused_here, answers_again_refusing}
 use Rattle.b2_front.proofs.again.plan_refusing.Goals as goal
 use Rattle.std.proofs.Common.{Some, ◌≡◌}
 

@@ -1,6 +1,6 @@
 use Rattle.std.proofs.Common.{Err, sym, subst}
 use Rattle.b2_front.specs.Parts.{Asks}
-use Rattle.b2_front.proofs.PlanLemmas.{asks_planned, asks_refused}
+use Rattle.b2_front.proofs.RequestGetsPlanOrRefusal.{asks_planned, asks_refused}
 use Rattle.b2_front.proofs.prepare.ask.Goals as goal
 
 pub returns-in-Ok : goal.returns-in-Ok

@@ -3,8 +3,8 @@ use Rattle.b2_host.specs.OutsideLaws.{Keeps}
 use Rattle.b2_host.specs.Outside.{Outside}
 use Rattle.b2_loaded.specs.Held.{Held}
 use Rattle.b2_front.specs.Again.{Settles}
-use Rattle.b2_front.proofs.OverLemmas.{bin_there, told_own, counted_own}
-use Rattle.b2_front.proofs.PlanLemmas.{settled_over}
+use Rattle.b2_front.proofs.LentHostTellsTheSame.{bin_there, told_own, counted_own}
+use Rattle.b2_front.proofs.RequestGetsPlanOrRefusal.{settled_over}
 use Rattle.b2_front.proofs.prepare.plan_over.Goals as goal
 
 pub new-own-requires-clause-entry : goal.new-own-requires-clause-entry

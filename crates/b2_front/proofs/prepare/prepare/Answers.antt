@@ -1,5 +1,5 @@
 use Rattle.std.proofs.Common.{◌∙◌}
-use Rattle.b2_front.proofs.LoadLemmas.{ready_load, told_prepared, whole_prepared, apart_prepared, disk_prepared, children_prepared, keeps_prepared, counts_prepared}
+use Rattle.b2_front.proofs.AnswerIsWhatFilesMean.{ready_load, told_prepared, whole_prepared, apart_prepared, disk_prepared, children_prepared, keeps_prepared, counts_prepared}
 use Rattle.b2_front.proofs.prepare.prepare.Goals as goal
 
 pub returns-clause-told : goal.returns-clause-told

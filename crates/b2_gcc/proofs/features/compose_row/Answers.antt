@@ -2,7 +2,7 @@ use Rattle.std.proofs.Common.{◌&&◌}
 use Rattle.std.specs.List.{list_all}
 use Rattle.std.proofs.lemmas.Bool.{and_parts}
 use Rattle.b2_gcc.specs.Rows.{pairs, is_clean, is_clean_pair}
-use Rattle.b2_gcc.proofs.Clean.{firsts_no_zero, seconds_no_zero}
+use Rattle.b2_gcc.proofs.CleanTextsHaveNoZero.{firsts_no_zero, seconds_no_zero}
 use Rattle.b2_gcc.proofs.features.compose_row.Goals as goal
 
 pub owned_pairs-requires-clause-features : goal.owned_pairs-requires-clause-features

@@ -3,10 +3,10 @@ use Rattle.std.specs.Option.{option_or}
 use Rattle.std.proofs.lemmas.Result.{err_from_is_err_and, IfErr-weaker}
 use Rattle.b2_features.specs.declared.fault.FeatureFault.{FeatureFault}
 use Rattle.b2_features.specs.Faults.{IsBy}
-use Rattle.b2_features.proofs.Outcomes.{on_ok}
+use Rattle.b2_features.proofs.OutcomesPassOnWhatHolds.{on_ok}
 use Rattle.b2_gcc.specs.Tables.{features, composites}
 use Rattle.b2_gcc.specs.Calls.{features_fault, composites_fault, with_composite, toolset_fault}
-use Rattle.b2_gcc.proofs.Faults.{earlier_fault, later_fault}
+use Rattle.b2_gcc.proofs.FirstCauseIsTheFault.{earlier_fault, later_fault}
 use Rattle.b2_gcc.proofs.features.declare_features.Goals as goal
 
 pub returns-in_err-declare_rows-clause-cause : goal.returns-in_err-declare_rows-clause-cause

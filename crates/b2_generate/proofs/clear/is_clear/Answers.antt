@@ -2,7 +2,7 @@ use Rattle.std.proofs.Common.{◌<◌, sym, subst}
 use Rattle.b2_generate.specs.Machine.{names_of}
 use Rattle.b2_generate.specs.Opening.{frames}
 use Rattle.b2_generate.specs.declared.node.Node.{Node}
-use Rattle.b2_generate.proofs.ClearLemmas.{clear_by_dates}
+use Rattle.b2_generate.proofs.DatesOrMarksShowClear.{clear_by_dates}
 use Rattle.b2_generate.proofs.clear.is_clear.Goals as goal
 
 pub returns-then-nodes-place : goal.returns-then-nodes-place

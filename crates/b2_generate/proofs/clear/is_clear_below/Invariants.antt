@@ -1,7 +1,7 @@
 use Rattle.std.proofs.Common.{reverse}
 use Rattle.b2_generate.specs.Machine.{names_of}
 use Rattle.b2_generate.specs.Opening.{frames}
-use Rattle.b2_generate.proofs.ClearLemmas.{IsGoingDown}
+use Rattle.b2_generate.proofs.DatesOrMarksShowClear.{IsGoingDown}
 use Rattle.b2_generate.proofs.clear.is_clear_below.Given as goal
 
 abbrev pub invariant-loop-left : goal.invariant-loop-left

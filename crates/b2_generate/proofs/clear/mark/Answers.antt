@@ -1,6 +1,6 @@
 use Rattle.std.proofs.Common.{arith, ◌+◌, sym, subst, take}
 use Rattle.b2_generate.specs.Clear.{AreMarked}
-use Rattle.b2_generate.proofs.ClearLemmas.{marked_none, marked_further, marked_past, marked_all}
+use Rattle.b2_generate.proofs.DatesOrMarksShowClear.{marked_none, marked_further, marked_past, marked_all}
 use Rattle.b2_generate.proofs.clear.mark.Goals as goal
 use Rattle.b2_generate.proofs.clear.mark.Goals.{then-place-len, else-place-len}
 

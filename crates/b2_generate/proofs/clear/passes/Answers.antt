@@ -3,7 +3,7 @@ use Rattle.std.proofs.lemmas.List.{get_or_default}
 use Rattle.b2_generate.specs.Clear.{AreMarked}
 use Rattle.b2_generate.specs.Machine.{names_of}
 use Rattle.b2_generate.specs.Opening.{frames}
-use Rattle.b2_generate.proofs.ClearLemmas.{stay_all, passes_unmarked, passes_open}
+use Rattle.b2_generate.proofs.DatesOrMarksShowClear.{stay_all, passes_unmarked, passes_open}
 use Rattle.b2_generate.proofs.clear.passes.Goals as goal
 
 pub returns-then-not-index-clause-stay : goal.returns-then-not-index-clause-stay

@@ -1,4 +1,4 @@
-use Rattle.b2_generate.proofs.DateLemmas.{latest_there, latest_past}
+use Rattle.b2_generate.proofs.NewNodeIsDatedRightly.{latest_there, latest_past}
 use Rattle.b2_generate.proofs.completing.later.Goals as goal
 
 pub returns-in-Some-clause-other : goal.returns-in-Some-clause-other

@@ -1,5 +1,5 @@
 use Rattle.std.proofs.Common.{reverse}
-use Rattle.b2_generate.proofs.DateLemmas.{latest_none, latest_next, latest_all}
+use Rattle.b2_generate.proofs.NewNodeIsDatedRightly.{latest_none, latest_next, latest_all}
 use Rattle.b2_generate.proofs.completing.latest_of.Goals as goal
 
 pub loop-child-init : goal.loop-child-init

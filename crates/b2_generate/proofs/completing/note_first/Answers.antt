@@ -1,7 +1,7 @@
 use Rattle.std.proofs.Common.{ap, sym, ◌∙◌}
 use Rattle.std.specs.Prelude.{unwrap_or}
 use Rattle.std.specs.FinMap as finite
-use Rattle.b2_generate.proofs.DateLemmas.{noted_before, noted_now}
+use Rattle.b2_generate.proofs.NewNodeIsDatedRightly.{noted_before, noted_now}
 use Rattle.b2_generate.proofs.completing.note_first.Goals as goal
 
 pub returns-in-Some-clause-first : goal.returns-in-Some-clause-first

@@ -2,7 +2,7 @@ use Rattle.std.proofs.Common.{◌<◌, ◌∙◌, ℕ, List, Option, IfSome, len
 use Rattle.std.proofs.lemmas.List.{length-reverse}
 use Rattle.b2_generate.specs.Remembered.{IsAskedAt}
 use Rattle.b2_generate.specs.declared.node.Node.{Node}
-use Rattle.b2_generate.proofs.StepLemmas.{is_there}
+use Rattle.b2_generate.proofs.TurnKeepsItsPromise.{is_there}
 use Rattle.b2_generate.proofs.generation.remembered.Goals as goal
 
 pub is_clear-requires-clause-there : goal.is_clear-requires-clause-there

@@ -1,4 +1,4 @@
-use Rattle.b2_generate.proofs.PlanLaws.{again}
+use Rattle.b2_generate.proofs.RequestHasOnePlan.{again}
 use Rattle.b2_generate.proofs.laws.again.Goals as goal
 
 pub returns : goal.returns

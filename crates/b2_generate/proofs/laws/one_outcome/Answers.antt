@@ -1,4 +1,4 @@
-use Rattle.b2_generate.proofs.PlanLaws.{one_outcome}
+use Rattle.b2_generate.proofs.RequestHasOnePlan.{one_outcome}
 use Rattle.b2_generate.proofs.laws.one_outcome.Goals as goal
 
 pub returns : goal.returns

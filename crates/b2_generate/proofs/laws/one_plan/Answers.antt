@@ -1,4 +1,4 @@
-use Rattle.b2_generate.proofs.PlanLaws.{one_plan}
+use Rattle.b2_generate.proofs.RequestHasOnePlan.{one_plan}
 use Rattle.b2_generate.proofs.laws.one_plan.Goals as goal
 
 pub returns : goal.returns

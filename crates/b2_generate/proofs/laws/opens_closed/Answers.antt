@@ -1,4 +1,4 @@
-use Rattle.b2_generate.proofs.PlanLaws.{opens_closed}
+use Rattle.b2_generate.proofs.RequestHasOnePlan.{opens_closed}
 use Rattle.b2_generate.proofs.laws.opens_closed.Goals as goal
 
 pub returns : goal.returns

@@ -1,4 +1,4 @@
-use Rattle.b2_generate.proofs.PlanLaws.{steps_stay}
+use Rattle.b2_generate.proofs.RequestHasOnePlan.{steps_stay}
 use Rattle.b2_generate.proofs.laws.steps_stay.Goals as goal
 
 pub returns : goal.returns

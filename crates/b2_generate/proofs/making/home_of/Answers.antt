@@ -1,7 +1,7 @@
 use Rattle.std.proofs.Common.{◌≡◌, ap, sym, ◌∙◌, codes, [], None, slice_get}
 use Rattle.std.specs.Option.{option_map_or}
 use Rattle.std.proofs.lemmas.Option.{slice_get_past}
-use Rattle.b2_generate.proofs.MakingLemmas.{no_dir}
+use Rattle.b2_generate.proofs.SuppliesAreThoseDefined.{no_dir}
 use Rattle.b2_generate.proofs.making.home_of.Goals as goal
 
 pub returns-in-None : goal.returns-in-None

@@ -6,8 +6,8 @@ use Rattle.b2_references.specs.Names.{dir_of}
 use Rattle.b2_generate.specs.Machine.{standing_of}
 use Rattle.b2_generate.specs.Making.{IsHome}
 use Rattle.b2_generate.specs.Told.{loaded_of}
-use Rattle.b2_generate.proofs.ExitLemmas.{exit_is, none_made, is_refused, out_left}
-use Rattle.b2_generate.proofs.MadeLemmas.{grows_none, acts_are, refusal}
+use Rattle.b2_generate.proofs.EarlyExitGivesTheFault.{exit_is, none_made, is_refused, out_left}
+use Rattle.b2_generate.proofs.StepsAreThoseDefined.{grows_none, acts_are, refusal}
 use Rattle.b2_generate.proofs.making.steps_of.Goals as goal
 
 pub returns-in_err-dir-clause-made : goal.returns-in_err-dir-clause-made

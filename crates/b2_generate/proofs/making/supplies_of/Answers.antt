@@ -1,7 +1,7 @@
 use Rattle.std.proofs.Common.{reverse, ap, ◌∙◌}
 use Rattle.b2_virtual.specs.Supplies.{entries_of, header_directories}
 use Rattle.b2_props.specs.Refinement.{refined}
-use Rattle.b2_generate.proofs.MakingLemmas.{are_supplied}
+use Rattle.b2_generate.proofs.SuppliesAreThoseDefined.{are_supplied}
 use Rattle.b2_generate.proofs.making.supplies_of.Goals as goal
 
 pub returns : goal.returns

@@ -4,7 +4,7 @@ use Rattle.b2_references.specs.Names.{features, is_target}
 use Rattle.b2_alternatives.specs.Choosing.{Chooses}
 use Rattle.b2_alternatives.specs.Picking.{seen}
 use Rattle.b2_generate.specs.Opening.{IsOpened}
-use Rattle.b2_generate.proofs.ExitLemmas.{exit_is, none_made, is_refused, same_left, out_left}
+use Rattle.b2_generate.proofs.EarlyExitGivesTheFault.{exit_is, none_made, is_refused, same_left, out_left}
 use Rattle.b2_generate.proofs.opening.begin.Goals as goal
 
 pub chosen_for-requires : goal.chosen_for-requires

@@ -1,4 +1,4 @@
-use Rattle.b2_generate.proofs.OpeningLemmas.{unchosen}
+use Rattle.b2_generate.proofs.CycleListsOpenTargets.{unchosen}
 use Rattle.b2_generate.proofs.opening.chosen_for.Goals as goal
 
 pub choose-requires : goal.choose-requires

@@ -1,8 +1,8 @@
 use Rattle.std.proofs.Common.{◌++◌, ◌∷◌, [], map, ap, ap₂, ◌∙◌}
 use Rattle.b2_references.specs.Names.{target_text}
 use Rattle.b2_generate.specs.Generation.{from_first}
-use Rattle.b2_generate.proofs.ExitLemmas.{exit_is, none_made}
-use Rattle.b2_generate.proofs.OpeningLemmas.{cycle_is}
+use Rattle.b2_generate.proofs.EarlyExitGivesTheFault.{exit_is, none_made}
+use Rattle.b2_generate.proofs.CycleListsOpenTargets.{cycle_is}
 use Rattle.b2_generate.proofs.opening.cycle.Goals as goal
 
 pub push_from-requires : goal.push_from-requires

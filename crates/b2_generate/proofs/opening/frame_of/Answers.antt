@@ -3,7 +3,7 @@ use Rattle.b2_props.specs.Sets.{IsSet}
 use Rattle.b2_references.specs.Names.{features}
 use Rattle.b2_alternatives.specs.Needs.{at_first}
 use Rattle.b2_alternatives.specs.Standing.{StandAt}
-use Rattle.b2_generate.proofs.ExitLemmas.{exit_is, none_made}
+use Rattle.b2_generate.proofs.EarlyExitGivesTheFault.{exit_is, none_made}
 use Rattle.b2_generate.proofs.opening.frame_of.Goals as goal
 
 pub returns-in_err-first-clause-opened : goal.returns-in_err-first-clause-opened

@@ -2,7 +2,7 @@ use Rattle.std.proofs.Common.{◌≡◌, ◌++◌, ◌∷◌, [], map, take, sub
 use Rattle.std.specs.Prelude.{OnOk}
 use Rattle.b2_references.specs.Names.{target_text}
 use Rattle.b2_generate.specs.Generation.{from_first}
-use Rattle.b2_generate.proofs.OpeningLemmas.{from_next, from_all}
+use Rattle.b2_generate.proofs.CycleListsOpenTargets.{from_next, from_all}
 use Rattle.b2_generate.proofs.opening.push_from.Goals as goal
 
 pub loop-frame-init : goal.loop-frame-init

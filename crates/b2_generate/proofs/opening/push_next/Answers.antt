@@ -2,8 +2,8 @@ use Rattle.std.proofs.Common.{◌==◌, ◌||◌, ◌++◌, ◌∷◌, [], lengt
 use Rattle.std.specs.Prelude.{not}
 use Rattle.std.proofs.lemmas.Result.{on_ok_weaker}
 use Rattle.b2_references.specs.Names.{is_same, target_text}
-use Rattle.b2_generate.proofs.ExitLemmas.{exit_is, none_made}
-use Rattle.b2_generate.proofs.OpeningLemmas.{pushed_next, passed_next}
+use Rattle.b2_generate.proofs.EarlyExitGivesTheFault.{exit_is, none_made}
+use Rattle.b2_generate.proofs.CycleListsOpenTargets.{pushed_next, passed_next}
 use Rattle.b2_generate.proofs.opening.push_next.Goals as goal
 
 pub returns-in_err-target_text : goal.returns-in_err-target_text

@@ -1,5 +1,5 @@
 use Rattle.std.proofs.Common.{refl}
-use Rattle.b2_generate.proofs.PieceLemmas.{main_piece, no_piece}
+use Rattle.b2_generate.proofs.PiecesAnswerTheRequest.{main_piece, no_piece}
 use Rattle.b2_generate.proofs.pieces.give.Goals as goal
 
 pub generate-requires : goal.generate-requires

@@ -2,8 +2,8 @@ use Rattle.std.proofs.Common.{◌≡◌, List, [], ◌∷◌, length, refl, sym,
 use Rattle.std.specs.Vec.Iter.{into_iter_items}
 use Rattle.b2_generate.specs.Generating.{nodes_of}
 use Rattle.b2_generate.specs.Opening.{AreReady}
-use Rattle.b2_generate.proofs.ExitLemmas.{exit_is}
-use Rattle.b2_generate.proofs.PieceLemmas.{way_first, piece_at, way_ends, way_next, way_stops, way_out}
+use Rattle.b2_generate.proofs.EarlyExitGivesTheFault.{exit_is}
+use Rattle.b2_generate.proofs.PiecesAnswerTheRequest.{way_first, piece_at, way_ends, way_next, way_stops, way_out}
 use Rattle.b2_generate.proofs.pieces.give_all.Goals as goal
 
 nothing_left : {X : Type 0} (xs : List X) → length xs ≡ 0 → xs ≡ []

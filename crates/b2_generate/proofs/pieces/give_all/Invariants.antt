@@ -1,7 +1,7 @@
 use Rattle.std.proofs.Common.{◌≡◌}
 use Rattle.std.specs.Vec.Iter.{into_iter_items}
 use Rattle.b2_generate.specs.Generating.{nodes_of}
-use Rattle.b2_generate.proofs.PieceLemmas.{IsOnTheWay}
+use Rattle.b2_generate.proofs.PiecesAnswerTheRequest.{IsOnTheWay}
 use Rattle.b2_generate.proofs.pieces.give_all.Given as goal
 
 -- what comes of the pieces that are left comes of all of them

@@ -3,7 +3,7 @@ use Rattle.std.proofs.lemmas.Result.{on_ok_weaker}
 use Rattle.b2_generate.specs.Nodes.{entry_in}
 use Rattle.b2_generate.specs.Supplies.{of_target, parts_of}
 use Rattle.b2_generate.specs.Gathering.{Gathers}
-use Rattle.b2_generate.proofs.GatherLemmas.{gathers_none, gathers_file}
+use Rattle.b2_generate.proofs.SupplyGathersPartByPart.{gathers_none, gathers_file}
 use Rattle.b2_generate.proofs.supplies.add_need.Goals as goal
 
 pub returns-in-File : goal.returns-in-File

@@ -1,6 +1,6 @@
 use Rattle.std.proofs.Common.{map, reverse}
 use Rattle.b2_generate.specs.Nodes.{entry_in}
-use Rattle.b2_generate.proofs.GatherLemmas.{gathers_none, gathers_need, gathers_needs}
+use Rattle.b2_generate.proofs.SupplyGathersPartByPart.{gathers_none, gathers_need, gathers_needs}
 use Rattle.b2_generate.proofs.supplies.add_needs.Goals as goal
 
 pub loop-need-init : goal.loop-need-init

@@ -4,7 +4,7 @@ use Rattle.std.specs.Option.{option_copied}
 use Rattle.std.proofs.lemmas.Result.{on_ok_weaker}
 use Rattle.b2_alternatives.specs.Standing.{AreKnown}
 use Rattle.b2_generate.specs.Nodes.{entry_in}
-use Rattle.b2_generate.proofs.GatherLemmas.{gathers_seen, gathers_bare, gathers_given}
+use Rattle.b2_generate.proofs.SupplyGathersPartByPart.{gathers_seen, gathers_bare, gathers_given}
 use Rattle.b2_generate.proofs.supplies.add_target.Goals as goal
 
 pub returns-then-has : goal.returns-then-has

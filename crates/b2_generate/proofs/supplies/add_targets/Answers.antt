@@ -1,6 +1,6 @@
 use Rattle.std.proofs.Common.{map, reverse}
 use Rattle.b2_generate.specs.Nodes.{entry_in}
-use Rattle.b2_generate.proofs.GatherLemmas.{gathers_none, gathers_name, gathers_names}
+use Rattle.b2_generate.proofs.SupplyGathersPartByPart.{gathers_none, gathers_name, gathers_names}
 use Rattle.b2_generate.proofs.supplies.add_targets.Goals as goal
 
 pub loop-name-init : goal.loop-name-init

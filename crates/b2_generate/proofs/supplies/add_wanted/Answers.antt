@@ -1,7 +1,7 @@
 use Rattle.std.proofs.Common.{map, reverse, sym, ◌∙◌}
 use Rattle.std.proofs.lemmas.Result.{on_ok_weaker}
 use Rattle.b2_generate.specs.Nodes.{entry_in}
-use Rattle.b2_generate.proofs.GatherLemmas.{gathers_wanted, gathers_unwanted}
+use Rattle.b2_generate.proofs.SupplyGathersPartByPart.{gathers_wanted, gathers_unwanted}
 use Rattle.b2_generate.proofs.supplies.add_wanted.Goals as goal
 
 pub returns-then-wants : goal.returns-then-wants

@@ -1,5 +1,5 @@
 use Rattle.std.proofs.Common.{sym, ◌∙◌}
-use Rattle.b2_generate.proofs.GatherLemmas.{given_none, given_some}
+use Rattle.b2_generate.proofs.SupplyGathersPartByPart.{given_none, given_some}
 use Rattle.b2_generate.proofs.supplies.given.Goals as goal
 
 pub returns-in-None : goal.returns-in-None

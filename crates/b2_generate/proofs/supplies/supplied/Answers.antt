@@ -2,7 +2,7 @@ use Rattle.std.proofs.Common.{◌++◌, [], map, reverse, ap₂, ◌∙◌}
 use Rattle.b2_generate.specs.Nodes.{entry_in}
 use Rattle.b2_generate.specs.Supplies.{supplied}
 use Rattle.b2_generate.specs.Gathering.{named_by}
-use Rattle.b2_generate.proofs.GatherLemmas.{gathers_all}
+use Rattle.b2_generate.proofs.SupplyGathersPartByPart.{gathers_all}
 use Rattle.b2_generate.proofs.supplies.supplied.Goals as goal
 
 pub returns : goal.returns

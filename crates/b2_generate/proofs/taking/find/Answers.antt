@@ -1,5 +1,5 @@
 use Rattle.std.proofs.Common.{refl}
-use Rattle.b2_generate.proofs.NodeLemmas.{node_there}
+use Rattle.b2_generate.proofs.OlderNodesStay.{node_there}
 use Rattle.b2_generate.proofs.taking.find.Goals as goal
 
 pub returns-then-was_asked : goal.returns-then-was_asked

@@ -1,4 +1,4 @@
-use Rattle.b2_generation_laws.proofs.RowLemmas.{own_row_is_first}
+use Rattle.b2_generation_laws.proofs.OwnRowThenThoseOpened.{own_row_is_first}
 use Rattle.b2_generation_laws.proofs.laws.own_row_is_first.Goals as goal
 
 pub returns : goal.returns

@@ -4,8 +4,8 @@ use Rattle.b2_generators.specs.declared.generator.Generator.{Generator}
 use Rattle.b2_generators.specs.declared.fault.ChainFault.{ChainFault}
 use Rattle.b2_generators.specs.Chains.{IsChain, IsOnlyShortest}
 use Rattle.b2_generators.specs.Faults.{IsBetween, IsNoChainBy, IsTwoChainsBy}
-use Rattle.b2_generators.proofs.Meeting.{connected, start_goes_on, apart_no_chain}
-use Rattle.b2_generators.proofs.Finding.{layers_of, apart_of, only_of, tells_two, tells_some, tells_between, IfErr-weaker}
+use Rattle.b2_generators.proofs.WaysDownAreShortestChains.{connected, start_goes_on, apart_no_chain}
+use Rattle.b2_generators.proofs.AnswerNamesShortestChains.{layers_of, apart_of, only_of, tells_two, tells_some, tells_between, IfErr-weaker}
 use Rattle.b2_generators.proofs.chain.chain.Goals as goal
 
 pub find-requires-clause-connected : goal.find-requires-clause-connected

@@ -1,7 +1,7 @@
 use Rattle.std.proofs.Common.{◌≡◌, ℕ, List, [], ◌∷◌, length, refl, sym, ◌∙◌, ap, subst}
 use Rattle.b2_generators.specs.Chains.{ids_of}
 use Rattle.b2_generators.specs.Descents.{CanGoOn, IsSecond}
-use Rattle.b2_generators.proofs.Finding.{found_one, found_two, branch_of}
+use Rattle.b2_generators.proofs.AnswerNamesShortestChains.{found_one, found_two, branch_of}
 use Rattle.b2_generators.proofs.chain.find.Goals as goal
 
 started : (types : List (List ℕ)) (from text : List ℕ) → types ≡ text ∷ [] → text ≡ from → types ≡ from ∷ []

@@ -1,4 +1,4 @@
-use Rattle.b2_generators.proofs.Finding.{ids_more}
+use Rattle.b2_generators.proofs.AnswerNamesShortestChains.{ids_more}
 use Rattle.b2_generators.proofs.chain.ids.Goals as goal
 
 pub loop-place-preserved : goal.loop-place-preserved

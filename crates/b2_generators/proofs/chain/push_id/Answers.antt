@@ -1,4 +1,4 @@
-use Rattle.b2_generators.proofs.Finding.{id_none, id_some}
+use Rattle.b2_generators.proofs.AnswerNamesShortestChains.{id_none, id_some}
 use Rattle.b2_generators.proofs.chain.push_id.Goals as goal
 
 pub returns-in-None : goal.returns-in-None

@@ -2,7 +2,7 @@ use Rattle.std.proofs.Common.{ℕ, List, [], ◌≡◌, ◌++◌, take, sym, ◌
 use Rattle.std.proofs.lemmas.Result.{IfOk-weaker}
 use Rattle.b2_generators.specs.Chains.{ids_of}
 use Rattle.b2_generators.specs.Descents.{CanGoOn, IsSecond}
-use Rattle.b2_generators.proofs.Finding.{second_named}
+use Rattle.b2_generators.proofs.AnswerNamesShortestChains.{second_named}
 use Rattle.b2_generators.proofs.chain.second.Goals as goal
 
 pub descend-requires-clause-start : goal.descend-requires-clause-start

@@ -1,4 +1,4 @@
-use Rattle.b2_generators.proofs.Stocking.{stock_add}
+use Rattle.b2_generators.proofs.StocksFollowAddsAndMoves.{stock_add}
 use Rattle.b2_generators.proofs.givers.add.Goals as goal
 
 pub returns : goal.returns

@@ -1,7 +1,7 @@
 use Rattle.std.proofs.Common.{◌==◌}
 use Rattle.b2_base.specs.Numbers.{is_among}
 use Rattle.b2_generators.specs.Layers.{stock}
-use Rattle.b2_generators.proofs.Stocking.{place_add_more, adds_none}
+use Rattle.b2_generators.proofs.StocksFollowAddsAndMoves.{place_add_more, adds_none}
 use Rattle.b2_generators.proofs.givers.add_at_all.Goals as goal
 
 pub loop-target-init : goal.loop-target-init

@@ -2,7 +2,7 @@ use Rattle.std.proofs.Common.{◌∙◌, ◌==◌, ◌||◌, ◌&&◌, ap}
 use Rattle.b2_base.specs.Numbers.{is_among}
 use Rattle.b2_generators.specs.Places.{gives_at}
 use Rattle.b2_generators.specs.Layers.{stock}
-use Rattle.b2_generators.proofs.Stocking.{stock_none, place_none, place_next}
+use Rattle.b2_generators.proofs.StocksFollowAddsAndMoves.{stock_none, place_none, place_next}
 use Rattle.b2_generators.proofs.givers.givers.Goals as goal
 
 pub loop-place-init : goal.loop-place-init

@@ -1,4 +1,4 @@
-use Rattle.b2_generators.proofs.Stocking.{moved_start, moved_more}
+use Rattle.b2_generators.proofs.StocksFollowAddsAndMoves.{moved_start, moved_more}
 use Rattle.b2_generators.proofs.givers.move_all.Goals as goal
 
 pub loop-target-init : goal.loop-target-init

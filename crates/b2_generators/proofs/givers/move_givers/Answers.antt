@@ -1,5 +1,5 @@
 use Rattle.std.proofs.Common.{◌++◌, ◌∙◌, ap}
-use Rattle.b2_generators.proofs.Stocking.{moved_one}
+use Rattle.b2_generators.proofs.StocksFollowAddsAndMoves.{moved_one}
 use Rattle.b2_generators.proofs.givers.move_givers.Goals as goal
 
 pub returns : goal.returns

@@ -2,7 +2,7 @@ use Rattle.std.proofs.Common.{[], get_or, refl, sym, subst, List, ℕ}
 use Rattle.b2_generators.specs.Table.{has_text}
 use Rattle.b2_generators.specs.Places.{is_taken_by}
 use Rattle.b2_generators.specs.Layers.{Moves}
-use Rattle.b2_generators.proofs.Stocking.{layer_start, layer_more}
+use Rattle.b2_generators.proofs.StocksFollowAddsAndMoves.{layer_start, layer_more}
 use Rattle.b2_generators.proofs.givers.next_layer.Goals as goal
 
 pub loop-place-init : goal.loop-place-init

@@ -3,7 +3,7 @@ use Rattle.std.proofs.lemmas.Bool.{eqb-true}
 use Rattle.std.proofs.lemmas.List.{nil_from_length}
 use Rattle.b2_generators.specs.Layers.{Moves}
 use Rattle.b2_generators.specs.Places.{is_taken_by}
-use Rattle.b2_generators.proofs.Layering.{search_start, search_more, search_found, search_none, no_search}
+use Rattle.b2_generators.proofs.LayersAreFoundInOrder.{search_start, search_more, search_found, search_none, no_search}
 use Rattle.b2_generators.proofs.layers.layers.Goals as goal
 
 pub loop-from-init : goal.loop-from-init

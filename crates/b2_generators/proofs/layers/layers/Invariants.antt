@@ -1,5 +1,5 @@
 use Rattle.std.proofs.Common.{◌-◌, ◌^◌, vec_len}
-use Rattle.b2_generators.proofs.Layering.{HasSearched}
+use Rattle.b2_generators.proofs.LayersAreFoundInOrder.{HasSearched}
 use Rattle.b2_generators.proofs.layers.layers.Given as goal
 
 abbrev pub invariant-loop-from : goal.invariant-loop-from

@@ -1,6 +1,6 @@
 use Rattle.std.proofs.Common.{lit<, sym, Some, None}
-use Rattle.b2_base.proofs.LastCuts.{rsplit_parts}
-use Rattle.b2_generators.proofs.Cuts.{last_suffix_at, last_suffix_none}
+use Rattle.b2_base.proofs.NamesAreCutAtLastSigns.{rsplit_parts}
+use Rattle.b2_generators.proofs.SuffixFollowsLastDot.{last_suffix_at, last_suffix_none}
 use Rattle.b2_generators.proofs.paths.last_suffix.Goals as goal
 
 pub returns-in-None : goal.returns-in-None

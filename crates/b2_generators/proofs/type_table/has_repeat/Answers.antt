@@ -4,10 +4,10 @@ use Rattle.std.specs.Str.{bytes_eq}
 use Rattle.std.specs.FinMap.{get-from_entries}
 use Rattle.std.proofs.lemmas.Cmp.{nat_list_cmp_total}
 use Rattle.std.proofs.lemmas.List.{take-append-drop}
-use Rattle.b2_props.proofs.Gaining.{next_take}
-use Rattle.b2_features.proofs.TwiceLemmas.{get_put}
+use Rattle.b2_props.proofs.DraftHoldsEachGainedPair.{next_take}
+use Rattle.b2_features.proofs.NewValuesKeepAllApart.{get_put}
 use Rattle.b2_generators.specs.Table.{has_text, has_repeat}
-use Rattle.b2_generators.proofs.Tables.{copied_some, some_or, has_text-push, has_repeat-push, has_repeat-more}
+use Rattle.b2_generators.proofs.LookupsAnswerAsListsDo.{copied_some, some_or, has_text-push, has_repeat-push, has_repeat-more}
 use Rattle.b2_generators.proofs.type_table.has_repeat.Goals as goal
 
 pub loop-text-init : goal.loop-text-init

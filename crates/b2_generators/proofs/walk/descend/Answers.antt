@@ -1,7 +1,7 @@
 use Rattle.std.proofs.Common.{◌≡◌, ◌<◌, ◌≤◌, ◌-◌, ℕ, List, [], suc, length, get_or, refl, ◌∙◌, ap, arith}
 use Rattle.std.proofs.lemmas.List.{get_or_read}
 use Rattle.b2_generators.specs.Places.{layer_at}
-use Rattle.b2_generators.proofs.Descending.{walking_start, walking_finds, walking_step, walking_end}
+use Rattle.b2_generators.proofs.WalkDownGivesFirstList.{walking_start, walking_finds, walking_step, walking_end}
 use Rattle.b2_generators.proofs.walk.descend.Goals as goal
 
 pub loop-left-init : goal.loop-left-init

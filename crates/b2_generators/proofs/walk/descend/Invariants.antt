@@ -1,4 +1,4 @@
-use Rattle.b2_generators.proofs.Descending.{IsWalking}
+use Rattle.b2_generators.proofs.WalkDownGivesFirstList.{IsWalking}
 use Rattle.b2_generators.proofs.walk.descend.Given as goal
 
 abbrev pub invariant-loop-left : goal.invariant-loop-left

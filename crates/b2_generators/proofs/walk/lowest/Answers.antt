@@ -1,8 +1,8 @@
 use Rattle.std.proofs.Common.{◌≡◌, ◌<◌, ◌+◌, ◌&&◌, ℕ, Bool, true, List, Option, Some, length, take, get_or, ◌∙◌, sym, subst}
 use Rattle.std.proofs.lemmas.Bool.{and_parts}
 use Rattle.b2_generators.specs.Descents.{is_below, IsLowest}
-use Rattle.b2_generators.proofs.Descending.{passes_test}
-use Rattle.b2_generators.proofs.Lowest.{lowest_none, lowest_changes_at, lowest_stays_at}
+use Rattle.b2_generators.proofs.WalkDownGivesFirstList.{passes_test}
+use Rattle.b2_generators.proofs.LowestPassingPlaceIsKept.{lowest_none, lowest_changes_at, lowest_stays_at}
 use Rattle.b2_generators.proofs.walk.lowest.Goals as goal
 use Rattle.b2_generators.proofs.walk.lowest.Goals.{then-improves, else-improves}
 

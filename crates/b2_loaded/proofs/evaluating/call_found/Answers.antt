@@ -1,5 +1,5 @@
 use Rattle.jam_effects.specs.Spots.{spot_of}
-use Rattle.b2_loaded.proofs.EvalSteps.{no_rule, no_rule_there, rule_there}
+use Rattle.b2_loaded.proofs.EvaluationsGiveWhatIsTold.{no_rule, no_rule_there, rule_there}
 use Rattle.b2_loaded.proofs.evaluating.call_found.Goals as goal
 
 pub returns-then-is_none-clause-does : goal.returns-then-is_none-clause-does

@@ -2,7 +2,7 @@ use Rattle.std.proofs.Common.{ap, ◌∙◌}
 use Rattle.std.proofs.lemmas.Result.{err_from_is_err_and}
 use Rattle.jam_eval.specs.Faults.{Spot}
 use Rattle.b2_loaded.specs.Doing.{in_project_at, texts}
-use Rattle.b2_loaded.proofs.EvalSteps.{no_memory_left, call_entered}
+use Rattle.b2_loaded.proofs.EvaluationsGiveWhatIsTold.{no_memory_left, call_entered}
 use Rattle.b2_loaded.proofs.evaluating.call_in.Goals as goal
 
 pub returns-in_err-enter-clause-does : goal.returns-in_err-enter-clause-does

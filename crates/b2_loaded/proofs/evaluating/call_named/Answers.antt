@@ -4,7 +4,7 @@ use Rattle.jam_interp.specs.Parts.{call_value, call_rolled_at}
 use Rattle.jam_natives.specs.Rows.{jam_meaning}
 use Rattle.jam_natives.specs.Seeing.{kept_of}
 use Rattle.b2_loaded.specs.Doing.{Evaluates}
-use Rattle.b2_loaded.proofs.EvalSteps.{evaluates, turns_are}
+use Rattle.b2_loaded.proofs.EvaluationsGiveWhatIsTold.{evaluates, turns_are}
 use Rattle.b2_loaded.proofs.evaluating.call_named.Goals as goal
 
 pub returns-clause-does : goal.returns-clause-does

@@ -2,7 +2,7 @@ use Rattle.std.proofs.Common.{refl, ◌∙◌}
 use Rattle.std.proofs.lemmas.Result.{err_from_is_err_and}
 use Rattle.jam_effects.specs.Spots.{spot_of}
 use Rattle.b2_loaded.specs.Doing.{call_at, texts}
-use Rattle.b2_loaded.proofs.EvalSteps.{no_memory_left, call_gave, call_failed}
+use Rattle.b2_loaded.proofs.EvaluationsGiveWhatIsTold.{no_memory_left, call_gave, call_failed}
 use Rattle.b2_loaded.proofs.evaluating.call_there.Goals as goal
 
 pub returns-in_err-lists-clause-does : goal.returns-in_err-lists-clause-does

@@ -3,7 +3,7 @@ use Rattle.jam_effects.specs.declared.fault.EvalFault.TheVariants as faults
 use Rattle.jam_effects.specs.Causes.{HoldsNoMemory}
 use Rattle.jam_effects.specs.Spots.{spot_of}
 use Rattle.b2_loaded.specs.Doing.{IsPlaced}
-use Rattle.b2_loaded.proofs.EvalSteps.{placed_empty, placed_whole}
+use Rattle.b2_loaded.proofs.EvaluationsGiveWhatIsTold.{placed_empty, placed_whole}
 use Rattle.b2_loaded.proofs.evaluating.placed.Goals as goal
 
 pub fault-requires : goal.fault-requires

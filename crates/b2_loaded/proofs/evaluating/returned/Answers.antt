@@ -1,6 +1,6 @@
 use Rattle.std.proofs.lemmas.Result.{err_from_is_err_and}
 use Rattle.b2_loaded.specs.Doing.{returned_at, texts}
-use Rattle.b2_loaded.proofs.EvalSteps.{no_memory_left, call_undone, newest, back}
+use Rattle.b2_loaded.proofs.EvaluationsGiveWhatIsTold.{no_memory_left, call_undone, newest, back}
 use Rattle.b2_loaded.proofs.evaluating.returned.Goals as goal
 
 pub returns-in_err-mark-clause-does : goal.returns-in_err-mark-clause-does

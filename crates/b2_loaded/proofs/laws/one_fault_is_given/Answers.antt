@@ -1,4 +1,4 @@
-use Rattle.b2_loaded.proofs.QuestionSteps.{own_ends, other_ends}
+use Rattle.b2_loaded.proofs.GivenFaultChangesOneQuestion.{own_ends, other_ends}
 use Rattle.b2_loaded.proofs.laws.one_fault_is_given.Goals as goal
 
 pub returns : goal.returns

@@ -1,5 +1,5 @@
 use Rattle.std.proofs.Common.{refl}
-use Rattle.b2_loaded.proofs.EvalSteps.{right}
+use Rattle.b2_loaded.proofs.EvaluationsGiveWhatIsTold.{right}
 use Rattle.b2_loaded.proofs.laws.rightly_seen.Goals as goal
 
 pub returns : goal.returns

@@ -1,5 +1,5 @@
 use Rattle.std.proofs.Common.{sym, ◌∙◌}
-use Rattle.b2_log.proofs.Fields.{field_none, field_ends}
+use Rattle.b2_log.proofs.FieldsHaveOneReading.{field_none, field_ends}
 use Rattle.b2_log.proofs.field.bytes_at.Goals as goal
 
 pub returns-in-None-clause-found : goal.returns-in-None-clause-found

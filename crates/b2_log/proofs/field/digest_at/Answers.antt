@@ -1,6 +1,6 @@
-use Rattle.b2_log.proofs.Exits.{handed_on}
-use Rattle.b2_log.proofs.Rising.{failed}
-use Rattle.b2_log.proofs.DigestTexts.{digest_untold, digest_refused}
+use Rattle.b2_log.proofs.RefusalsAreHandedOn.{handed_on}
+use Rattle.b2_log.proofs.OrderedNeighboursAreEnough.{failed}
+use Rattle.b2_log.proofs.DigestsAreTexts.{digest_untold, digest_refused}
 use Rattle.b2_log.proofs.field.digest_at.Goals as goal
 
 pub returns-in_err-text-clause-refused : goal.returns-in_err-text-clause-refused

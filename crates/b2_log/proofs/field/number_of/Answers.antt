@@ -1,6 +1,6 @@
 use Rattle.std.proofs.Common.{ap, sym, ◌∙◌}
 use Rattle.b2_base.specs.Decimals.{has_lead}
-use Rattle.b2_log.proofs.Numbers.{number_parsed, number_lead}
+use Rattle.b2_log.proofs.NumbersHaveOneText.{number_parsed, number_lead}
 use Rattle.b2_log.proofs.field.number_of.Goals as goal
 
 pub returns-then-has_lead : goal.returns-then-has_lead

@@ -1,4 +1,4 @@
-use Rattle.b2_log.proofs.Paths.{path_refused}
+use Rattle.b2_log.proofs.PathsAreInNormalForm.{path_refused}
 use Rattle.b2_log.proofs.field.path_of.Goals as goal
 
 pub returns-else-is_named-clause-refused : goal.returns-else-is_named-clause-refused

@@ -1,5 +1,5 @@
-use Rattle.b2_log.proofs.Exits.{handed_on}
-use Rattle.b2_log.proofs.Parts.{field_refused}
+use Rattle.b2_log.proofs.RefusalsAreHandedOn.{handed_on}
+use Rattle.b2_log.proofs.JoinedPartsHaveOneReading.{field_refused}
 use Rattle.b2_log.proofs.field.text_at.Goals as goal
 
 pub returns-in_err-text-2-clause-refused : goal.returns-in_err-text-2-clause-refused

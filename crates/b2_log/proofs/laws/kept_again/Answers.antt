@@ -1,4 +1,4 @@
-use Rattle.b2_log.proofs.KeptLines as lemmas
+use Rattle.b2_log.proofs.KeptLinesTellTheSame as lemmas
 use Rattle.b2_log.proofs.laws.kept_again.Goals as goal
 
 pub returns : goal.returns

@@ -1,4 +1,4 @@
-use Rattle.b2_log.proofs.ReadLogs as lemmas
+use Rattle.b2_log.proofs.BytesHaveOneReading as lemmas
 use Rattle.b2_log.proofs.laws.one_spelling.Goals as goal
 
 pub returns : goal.returns

@@ -1,4 +1,4 @@
-use Rattle.b2_log.proofs.LastLines as lemmas
+use Rattle.b2_log.proofs.LastLineHasLastWord as lemmas
 use Rattle.b2_log.proofs.laws.told_is_there.Goals as goal
 
 pub returns : goal.returns

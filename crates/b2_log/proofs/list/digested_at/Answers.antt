@@ -1,6 +1,6 @@
-use Rattle.b2_log.proofs.Exits.{handed_on}
-use Rattle.b2_log.proofs.Parts.{digested_is_free, list_ends}
-use Rattle.b2_log.proofs.Digesting.{both_more}
+use Rattle.b2_log.proofs.RefusalsAreHandedOn.{handed_on}
+use Rattle.b2_log.proofs.JoinedPartsHaveOneReading.{digested_is_free, list_ends}
+use Rattle.b2_log.proofs.FilesAndDigestsPairUp.{both_more}
 use Rattle.b2_log.proofs.list.digested_at.Goals as goal
 
 pub returns-in_err-file-clause-refused : goal.returns-in_err-file-clause-refused

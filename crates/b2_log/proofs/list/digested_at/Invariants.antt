@@ -1,4 +1,4 @@
-use Rattle.b2_log.proofs.Digesting.{ReadBoth}
+use Rattle.b2_log.proofs.FilesAndDigestsPairUp.{ReadBoth}
 use Rattle.b2_log.proofs.list.digested_at.Given as goal
 
 abbrev pub invariant-loop : goal.invariant-loop

@@ -1,5 +1,5 @@
-use Rattle.b2_log.proofs.Exits.{handed_on}
-use Rattle.b2_log.proofs.Parts.{digested_digestless}
+use Rattle.b2_log.proofs.RefusalsAreHandedOn.{handed_on}
+use Rattle.b2_log.proofs.JoinedPartsHaveOneReading.{digested_digestless}
 use Rattle.b2_log.proofs.list.digested_file_at.Goals as goal
 
 pub returns-in_err-digest-clause-refused : goal.returns-in_err-digest-clause-refused

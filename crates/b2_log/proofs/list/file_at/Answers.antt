@@ -1,5 +1,5 @@
-use Rattle.b2_log.proofs.Exits.{handed_on}
-use Rattle.b2_log.proofs.Parts.{file_stampless}
+use Rattle.b2_log.proofs.RefusalsAreHandedOn.{handed_on}
+use Rattle.b2_log.proofs.JoinedPartsHaveOneReading.{file_stampless}
 use Rattle.b2_log.proofs.list.file_at.Goals as goal
 
 pub returns-in_err-stamp-clause-refused : goal.returns-in_err-stamp-clause-refused

@@ -1,5 +1,5 @@
-use Rattle.b2_log.proofs.Exits.{handed_on}
-use Rattle.b2_log.proofs.Parts.{include_markless, include_nameless, include_found}
+use Rattle.b2_log.proofs.RefusalsAreHandedOn.{handed_on}
+use Rattle.b2_log.proofs.JoinedPartsHaveOneReading.{include_markless, include_nameless, include_found}
 use Rattle.b2_log.proofs.list.include_at.Goals as goal
 
 pub returns-in_default-clause-refused : goal.returns-in_default-clause-refused

@@ -1,5 +1,5 @@
-use Rattle.b2_log.proofs.Exits.{handed_on}
-use Rattle.b2_log.proofs.Parts.{included_is_free, list_ends, read_pushed}
+use Rattle.b2_log.proofs.RefusalsAreHandedOn.{handed_on}
+use Rattle.b2_log.proofs.JoinedPartsHaveOneReading.{included_is_free, list_ends, read_pushed}
 use Rattle.b2_log.proofs.list.includes_at.Goals as goal
 
 pub returns-in_err-include-clause-refused : goal.returns-in_err-include-clause-refused

@@ -1,6 +1,6 @@
 use Rattle.b2_log.specs.Lines.{included}
 use Rattle.b2_log.specs.Good.{IsIncluded}
-use Rattle.b2_log.proofs.Parts.{ReadSo}
+use Rattle.b2_log.proofs.JoinedPartsHaveOneReading.{ReadSo}
 use Rattle.b2_log.proofs.list.includes_at.Given as goal
 
 abbrev pub invariant-loop : goal.invariant-loop

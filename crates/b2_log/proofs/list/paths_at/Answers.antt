@@ -1,6 +1,6 @@
 use Rattle.b2_log.specs.Good.{IsPath}
-use Rattle.b2_log.proofs.Exits.{handed_on}
-use Rattle.b2_log.proofs.Parts.{field_is_free, list_ends, read_pushed}
+use Rattle.b2_log.proofs.RefusalsAreHandedOn.{handed_on}
+use Rattle.b2_log.proofs.JoinedPartsHaveOneReading.{field_is_free, list_ends, read_pushed}
 use Rattle.b2_log.proofs.list.paths_at.Goals as goal
 
 pub returns-in_err-path-clause-refused : goal.returns-in_err-path-clause-refused

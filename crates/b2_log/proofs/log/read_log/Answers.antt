@@ -1,5 +1,5 @@
 use Rattle.std.proofs.Common.{ap, refl}
-use Rattle.b2_log.proofs.ReadLogs.{reading_ends}
+use Rattle.b2_log.proofs.BytesHaveOneReading.{reading_ends}
 use Rattle.b2_log.proofs.log.read_log.Goals as goal
 
 pub returns : goal.returns

@@ -1,7 +1,7 @@
 use Rattle.std.proofs.Common.{length}
 use Rattle.b2_log.specs.Lines.{spelling}
 use Rattle.b2_log.specs.Good.{IsGood}
-use Rattle.b2_log.proofs.Parts.{ReadSo}
+use Rattle.b2_log.proofs.JoinedPartsHaveOneReading.{ReadSo}
 use Rattle.b2_log.proofs.log.read_log.Given as goal
 
 abbrev pub invariant-loop-log : goal.invariant-loop-log

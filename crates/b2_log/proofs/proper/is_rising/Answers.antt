@@ -1,5 +1,5 @@
 use Rattle.std.proofs.Common.{refl, arith}
-use Rattle.b2_log.proofs.Rising.{rising_from}
+use Rattle.b2_log.proofs.OrderedNeighboursAreEnough.{rising_from}
 use Rattle.b2_log.proofs.proper.is_rising.Goals as goal
 
 pub returns : goal.returns

@@ -1,5 +1,5 @@
-use Rattle.b2_log.proofs.Exits.{handed_on}
-use Rattle.b2_log.proofs.LineFields.{digested_outless, digested_inless, digested_found}
+use Rattle.b2_log.proofs.RefusalsAreHandedOn.{handed_on}
+use Rattle.b2_log.proofs.LineFieldsHaveOneReading.{digested_outless, digested_inless, digested_found}
 use Rattle.b2_log.proofs.read.digested_record_at.Goals as goal
 
 pub returns-in_err-outs-clause-refused : goal.returns-in_err-outs-clause-refused

@@ -1,5 +1,5 @@
-use Rattle.b2_log.proofs.Exits.{handed_on}
-use Rattle.b2_log.proofs.WholeLines.{line_tagless, line_fieldless, line_unended, line_found}
+use Rattle.b2_log.proofs.RefusalsAreHandedOn.{handed_on}
+use Rattle.b2_log.proofs.LinesHaveOneReading.{line_tagless, line_fieldless, line_unended, line_found}
 use Rattle.b2_log.proofs.read.line_at.Goals as goal
 
 pub returns-in_default-clause-refused : goal.returns-in_default-clause-refused

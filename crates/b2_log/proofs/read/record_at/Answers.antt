@@ -1,5 +1,5 @@
-use Rattle.b2_log.proofs.Exits.{handed_on}
-use Rattle.b2_log.proofs.LineFields.{record_outless, record_inless}
+use Rattle.b2_log.proofs.RefusalsAreHandedOn.{handed_on}
+use Rattle.b2_log.proofs.LineFieldsHaveOneReading.{record_outless, record_inless}
 use Rattle.b2_log.proofs.read.record_at.Goals as goal
 
 pub returns-in_err-outs-clause-refused : goal.returns-in_err-outs-clause-refused

@@ -1,5 +1,5 @@
-use Rattle.b2_log.proofs.Exits.{handed_on}
-use Rattle.b2_log.proofs.LineFields.{scan_stampless, scan_includeless}
+use Rattle.b2_log.proofs.RefusalsAreHandedOn.{handed_on}
+use Rattle.b2_log.proofs.LineFieldsHaveOneReading.{scan_stampless, scan_includeless}
 use Rattle.b2_log.proofs.read.scan_at.Goals as goal
 
 pub returns-in_err-stamp-clause-refused : goal.returns-in_err-stamp-clause-refused

@@ -1,5 +1,5 @@
-use Rattle.b2_log.proofs.Counting.{written_start, written_more, written_whole, written_all}
-use Rattle.b2_log.proofs.Digesting.{pair_at, named_files}
+use Rattle.b2_log.proofs.ElementsFollowTheirCount.{written_start, written_more, written_whole, written_all}
+use Rattle.b2_log.proofs.FilesAndDigestsPairUp.{pair_at, named_files}
 use Rattle.b2_log.proofs.write.push_digested.Goals as goal
 
 pub loop-place-init : goal.loop-place-init

@@ -1,7 +1,7 @@
 use Rattle.std.specs.List.{zip}
 use Rattle.b2_log.specs.Lines.{digested}
-use Rattle.b2_log.proofs.Counting.{WrittenSo}
-use Rattle.b2_log.proofs.Digesting.{IsNamed}
+use Rattle.b2_log.proofs.ElementsFollowTheirCount.{WrittenSo}
+use Rattle.b2_log.proofs.FilesAndDigestsPairUp.{IsNamed}
 use Rattle.b2_log.proofs.write.push_digested.Given as goal
 
 abbrev pub invariant-loop-place : goal.invariant-loop-place

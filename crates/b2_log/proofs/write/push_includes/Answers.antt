@@ -1,4 +1,4 @@
-use Rattle.b2_log.proofs.Counting.{written_more, written_all}
+use Rattle.b2_log.proofs.ElementsFollowTheirCount.{written_more, written_all}
 use Rattle.b2_log.proofs.write.push_includes.Goals as goal
 
 pub loop-include-preserved : goal.loop-include-preserved

@@ -1,4 +1,4 @@
-use Rattle.b2_log.proofs.Counting.{written_more, written_all}
+use Rattle.b2_log.proofs.ElementsFollowTheirCount.{written_more, written_all}
 use Rattle.b2_log.proofs.write.push_paths.Goals as goal
 
 pub loop-path-preserved : goal.loop-path-preserved

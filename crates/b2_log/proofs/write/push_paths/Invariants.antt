@@ -1,6 +1,6 @@
 use Rattle.b2_log.specs.Lines.{field}
 use Rattle.b2_log.specs.Good.{IsPath}
-use Rattle.b2_log.proofs.Counting.{WrittenSo}
+use Rattle.b2_log.proofs.ElementsFollowTheirCount.{WrittenSo}
 use Rattle.b2_log.proofs.write.push_paths.Given as goal
 
 abbrev pub invariant-loop-path : goal.invariant-loop-path

@@ -1,4 +1,4 @@
-use Rattle.b2_log.proofs.Counting.{written_more, written_all}
+use Rattle.b2_log.proofs.ElementsFollowTheirCount.{written_more, written_all}
 use Rattle.b2_log.proofs.write.push_stamped.Goals as goal
 
 pub loop-file-preserved : goal.loop-file-preserved

@@ -2,7 +2,7 @@ use Rattle.std.proofs.Common.{◌++◌, ap, sym, ◌∙◌, take}
 use Rattle.std.specs.Option.{option_to_list}
 use Rattle.b2_host.specs.ChildProcesses.{read_at, read_all}
 use Rattle.b2_files.specs.StoreDisks.{told}
-use Rattle.b2_memory.proofs.LoopSteps.{read_more}
+use Rattle.b2_memory.proofs.LoopsAddOneMore.{read_more}
 use Rattle.b2_memory.proofs.job.hold.Goals as goal
 
 pub loop-path-preserved : goal.loop-path-preserved

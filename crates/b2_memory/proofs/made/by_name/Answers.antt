@@ -1,5 +1,5 @@
 use Rattle.std.proofs.Common.{ap, ◌∙◌}
-use Rattle.b2_memory.proofs.LoopSteps.{by_name_more}
+use Rattle.b2_memory.proofs.LoopsAddOneMore.{by_name_more}
 use Rattle.b2_memory.proofs.made.by_name.Goals as goal
 
 pub loop-input-preserved : goal.loop-input-preserved

@@ -1,5 +1,5 @@
 use Rattle.std.proofs.Common.{◌∙◌}
-use Rattle.b2_memory.proofs.LoopSteps.{digits_more}
+use Rattle.b2_memory.proofs.LoopsAddOneMore.{digits_more}
 use Rattle.b2_memory.proofs.made.hexadecimal_text.Goals as goal
 
 pub loop-byte-preserved : goal.loop-byte-preserved

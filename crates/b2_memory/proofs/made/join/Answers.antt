@@ -3,7 +3,7 @@ use Rattle.std.specs.Str.{bytes_eq}
 use Rattle.b2_base.specs.Segments.{texts}
 use Rattle.b2_files.specs.Stores.{write_of}
 use Rattle.b2_memory.specs.Results.{joined}
-use Rattle.b2_memory.proofs.LoopSteps.{join_goes_on}
+use Rattle.b2_memory.proofs.LoopsAddOneMore.{join_goes_on}
 use Rattle.b2_memory.proofs.made.join.Goals as goal
 
 pub loop-name-preserved : goal.loop-name-preserved

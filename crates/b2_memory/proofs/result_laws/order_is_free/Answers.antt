@@ -1,4 +1,4 @@
-use Rattle.b2_memory.proofs.InputOrder.{order_is_free}
+use Rattle.b2_memory.proofs.InputOrderDoesNotMatter.{order_is_free}
 use Rattle.b2_memory.proofs.result_laws.order_is_free.Goals as goal
 
 pub returns : goal.returns

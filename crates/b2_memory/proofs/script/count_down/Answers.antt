@@ -1,5 +1,5 @@
 use Rattle.std.proofs.Common.{◌<◌, set, length, ap, ◌∙◌, arith}
-use Rattle.b2_memory.proofs.Countdowns.{down_more}
+use Rattle.b2_memory.proofs.EachCountdownFallsInTurn.{down_more}
 use Rattle.b2_memory.proofs.script.count_down.Goals as goal
 
 pub loop-start-preserved : goal.loop-start-preserved

@@ -1,5 +1,5 @@
 use Rattle.std.proofs.Common.{◌<◌, set, length, ap, ◌∙◌, arith}
-use Rattle.b2_memory.proofs.Countdowns.{call_after_more}
+use Rattle.b2_memory.proofs.EachCountdownFallsInTurn.{call_after_more}
 use Rattle.b2_memory.proofs.script.pass_all.Goals as goal
 
 pub loop-call-preserved : goal.loop-call-preserved

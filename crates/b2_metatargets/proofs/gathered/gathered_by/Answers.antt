@@ -1,7 +1,7 @@
 use Rattle.std.proofs.Common.{◌∙◌}
 use Rattle.std.proofs.lemmas.Result.{err_from_is_err_and}
 use Rattle.b2_metatargets.specs.Views.{brought}
-use Rattle.b2_metatargets.proofs.Walking.{gathered_next, gathered_stop}
+use Rattle.b2_metatargets.proofs.CallsGoOnUntilRefused.{gathered_next, gathered_stop}
 use Rattle.b2_metatargets.proofs.gathered.gathered_by.Goals as goal
 
 pub returns-in_err-gather-clause-fault : goal.returns-in_err-gather-clause-fault

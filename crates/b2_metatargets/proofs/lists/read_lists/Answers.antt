@@ -1,7 +1,7 @@
 use Rattle.std.proofs.Common.{◌∙◌, ap}
 use Rattle.std.proofs.lemmas.Result.{err_from_is_err_and}
 use Rattle.b2_metatargets.specs.Gathering.{with_lists}
-use Rattle.b2_metatargets.proofs.ReadLists.{list_fault, list_next}
+use Rattle.b2_metatargets.proofs.ListsAreReadInTurn.{list_fault, list_next}
 use Rattle.b2_metatargets.proofs.lists.read_lists.Goals as goal
 
 pub returns-in_err-add-clause-fault : goal.returns-in_err-add-clause-fault

@@ -1,6 +1,6 @@
 use Rattle.std.proofs.Common.{Ok}
 use Rattle.b2_texts.specs.Readings.{property_reading}
-use Rattle.b2_metatargets.proofs.Refusing.{reading_is_fault}
+use Rattle.b2_metatargets.proofs.RefusalIsTheStepsFault.{reading_is_fault}
 use Rattle.b2_metatargets.proofs.lists.read_pair.Goals as goal
 
 pub returns-in-Err-clause-fault : goal.returns-in-Err-clause-fault

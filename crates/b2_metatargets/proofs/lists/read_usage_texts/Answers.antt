@@ -1,6 +1,6 @@
 use Rattle.std.proofs.Common.{Ok}
 use Rattle.b2_metatargets.specs.Gathering.{usages_in}
-use Rattle.b2_metatargets.proofs.Refusing.{reading_is_fault}
+use Rattle.b2_metatargets.proofs.RefusalIsTheStepsFault.{reading_is_fault}
 use Rattle.b2_metatargets.proofs.lists.read_usage_texts.Goals as goal
 
 pub returns-in-Err-clause-fault : goal.returns-in-Err-clause-fault

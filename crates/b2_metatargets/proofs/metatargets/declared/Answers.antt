@@ -6,9 +6,9 @@ use Rattle.b2_metatargets.specs.Gathering.{Gathered, gathered_by}
 use Rattle.b2_metatargets.specs.Views.{seen, brought}
 use Rattle.b2_metatargets.specs.Declaring.{whole}
 use Rattle.b2_metatargets.specs.Laws.{visited, IsSound}
-use Rattle.b2_metatargets.proofs.Stepping.{fault_then, then_fault}
-use Rattle.b2_metatargets.proofs.Advancing.{all_sound, all_visited, all_targets}
-use Rattle.b2_metatargets.proofs.FeatureNames.{names_of_calls}
+use Rattle.b2_metatargets.proofs.StepsComposeUntilAFault.{fault_then, then_fault}
+use Rattle.b2_metatargets.proofs.GatheredStaysSound.{all_sound, all_visited, all_targets}
+use Rattle.b2_metatargets.proofs.FeatureNamesComeFromCalls.{names_of_calls}
 use Rattle.b2_metatargets.proofs.metatargets.declared.Goals as goal
 
 pub returns-in_err-gathered-clause-fault : goal.returns-in_err-gathered-clause-fault

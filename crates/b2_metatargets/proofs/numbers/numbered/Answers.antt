@@ -2,7 +2,7 @@ use Rattle.std.proofs.Common.{◌≡◌, ◌∙◌, ◌++◌, ◌∷◌, [], Lis
 use Rattle.std.specs.Vec.Iter.{into_iter_items}
 use Rattle.std.proofs.lemmas.List.{append-nil}
 use Rattle.b2_metatargets.specs.Gathering.{numbered, rules_in}
-use Rattle.b2_metatargets.proofs.Numbering.{numbered_step, rules_step}
+use Rattle.b2_metatargets.proofs.RuleNumbersGoOn.{numbered_step, rules_step}
 use Rattle.b2_metatargets.proofs.numbers.numbered.Goals as goal
 
 pub loop-text-preserved : goal.loop-text-preserved

@@ -1,7 +1,7 @@
 use Rattle.std.proofs.Common.{◌≡◌, ◌∙◌, ◌++◌, ◌∷◌, [], length, sym, ap}
 use Rattle.std.proofs.lemmas.List.{append-nil}
 use Rattle.std.proofs.lemmas.Result.{IfOk-weaker}
-use Rattle.b2_features.proofs.Outcomes.{on_ok}
+use Rattle.b2_features.proofs.OutcomesPassOnWhatHolds.{on_ok}
 use Rattle.b2_props.specs.declared.requirement.Requirement.{Requirement}
 use Rattle.b2_props.specs.declared.requirement.Requirement.TheVariants as requirements
 use Rattle.b2_metatargets.specs.Gathering.{numbered, rules_in}

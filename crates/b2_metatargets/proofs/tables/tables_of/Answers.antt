@@ -1,7 +1,7 @@
 use Rattle.std.proofs.Common.{◌∙◌}
 use Rattle.std.proofs.lemmas.Result.{err_from_is_err_and}
 use Rattle.b2_metatargets.specs.Views.{seen}
-use Rattle.b2_metatargets.proofs.Walking.{carried_next, carried_stop}
+use Rattle.b2_metatargets.proofs.CallsGoOnUntilRefused.{carried_next, carried_stop}
 use Rattle.b2_metatargets.proofs.tables.tables_of.Goals as goal
 
 pub returns-in_err-carry_out-clause-fault : goal.returns-in_err-carry_out-clause-fault

@@ -1,4 +1,4 @@
-use Rattle.b2_metatargets.proofs.Places.{visit_read}
+use Rattle.b2_metatargets.proofs.PlaceHoldsWhatWasRead.{visit_read}
 use Rattle.b2_metatargets.proofs.visit.visit_of.Goals as goal
 
 pub returns : goal.returns

@@ -2,7 +2,7 @@ use Rattle.std.proofs.Common.{ℕ, List, reverse, ap, subst}
 use Rattle.b2_conversions.specs.Answers.{Grows}
 use Rattle.b2_planning.specs.Plans.{IsResultOf}
 use Rattle.b2_generate.specs.declared.node.Node.{Node}
-use Rattle.b2_planning.proofs.PlanLemmas.{in_roots, begun_ready, pieces_at, result_answered}
+use Rattle.b2_planning.proofs.PlanIsWhatWasGenerated.{in_roots, begun_ready, pieces_at, result_answered}
 use Rattle.b2_planning.proofs.plan.for_pieces.Goals as goal
 
 pub give_all-given-requires : goal.give_all-given-requires

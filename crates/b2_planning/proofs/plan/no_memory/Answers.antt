@@ -1,5 +1,5 @@
 use Rattle.std.proofs.Common.{refl}
-use Rattle.b2_planning.proofs.PlanLemmas.{out_answered}
+use Rattle.b2_planning.proofs.PlanIsWhatWasGenerated.{out_answered}
 use Rattle.b2_planning.proofs.plan.no_memory.Goals as goal
 
 pub returns : goal.returns

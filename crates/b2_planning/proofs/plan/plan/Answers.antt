@@ -1,6 +1,6 @@
 use Rattle.std.proofs.Common.{sym, subst}
 use Rattle.b2_metatargets.specs.Numbered.{IsNumbered}
-use Rattle.b2_planning.proofs.PlanLemmas.{answered_at}
+use Rattle.b2_planning.proofs.PlanIsWhatWasGenerated.{answered_at}
 use Rattle.b2_planning.proofs.plan.plan.Goals as goal
 
 pub new-requires : goal.new-requires

@@ -1,5 +1,5 @@
 use Rattle.std.proofs.Common.{◌∙◌}
-use Rattle.b2_planning.proofs.PlanLemmas.{are_apart}
+use Rattle.b2_planning.proofs.PlanIsWhatWasGenerated.{are_apart}
 use Rattle.b2_planning.proofs.plan.planned.Goals as goal
 
 pub returns-clause-seen : goal.returns-clause-seen

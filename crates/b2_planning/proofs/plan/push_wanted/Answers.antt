@@ -1,7 +1,7 @@
 use Rattle.std.proofs.Common.{◌++◌, map, sym, ap, ◌∙◌}
 use Rattle.std.proofs.lemmas.List.{append-nil}
 use Rattle.std.proofs.lemmas.Result.{on_ok_weaker}
-use Rattle.b2_planning.proofs.PlanLemmas.{wanted_there, wanted_past}
+use Rattle.b2_planning.proofs.PlanIsWhatWasGenerated.{wanted_there, wanted_past}
 use Rattle.b2_planning.proofs.plan.push_wanted.Goals as goal
 
 pub returns-in-None : goal.returns-in-None

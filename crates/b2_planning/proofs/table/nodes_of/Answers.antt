@@ -2,7 +2,7 @@ use Rattle.std.proofs.Common.{reverse}
 use Rattle.std.specs.List.{flat_map}
 use Rattle.b2_generate.specs.Nodes.{entry_in}
 use Rattle.b2_generate.specs.Planning.{first_rows}
-use Rattle.b2_planning.proofs.WalkLemmas.{begun, goes_on, fewer_turns}
+use Rattle.b2_planning.proofs.WalkFindsEachRowOnce.{begun, goes_on, fewer_turns}
 use Rattle.b2_planning.proofs.table.nodes_of.Goals as goal
 
 pub loop-place-init : goal.loop-place-init

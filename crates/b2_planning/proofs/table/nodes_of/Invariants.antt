@@ -3,7 +3,7 @@ use Rattle.std.specs.List.{flat_map}
 use Rattle.b2_generate.specs.Nodes.{entry_in}
 use Rattle.b2_generate.specs.Planning.{first_rows}
 use Rattle.b2_planning.specs.TableRows.{turns_left}
-use Rattle.b2_planning.proofs.WalkLemmas.{IsGoingOn}
+use Rattle.b2_planning.proofs.WalkFindsEachRowOnce.{IsGoingOn}
 use Rattle.b2_planning.proofs.table.nodes_of.Given as goal
 
 -- the walk leads to the first rows of all that was asked for

@@ -1,4 +1,4 @@
-use Rattle.b2_planning.proofs.RowLemmas.{written}
+use Rattle.b2_planning.proofs.RepeatedRowsAreLeftOut.{written}
 use Rattle.b2_planning.proofs.table.table_of.Goals as goal
 
 pub returns : goal.returns

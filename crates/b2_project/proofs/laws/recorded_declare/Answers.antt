@@ -1,4 +1,4 @@
-use Rattle.b2_project.proofs.RuleTables.{recorded_declare}
+use Rattle.b2_project.proofs.RecordedRulesAreDeclaring.{recorded_declare}
 use Rattle.b2_project.proofs.laws.recorded_declare.Goals as goal
 
 pub returns : goal.returns

@@ -1,4 +1,4 @@
-use Rattle.b2_project.proofs.AnswerLemmas.{declared_of}
+use Rattle.b2_project.proofs.LoadsAnswerWhatIsDeclared.{declared_of}
 use Rattle.b2_project.proofs.load.declares.Goals as goal
 
 pub returns-in-Ok : goal.returns-in-Ok

@@ -1,5 +1,5 @@
 use Rattle.std.proofs.lemmas.Result.{err_from_is_err_and}
-use Rattle.b2_project.proofs.LoadSteps.{walk_stopped, went_through}
+use Rattle.b2_project.proofs.LoadsWalkRunThenDeclare.{walk_stopped, went_through}
 use Rattle.b2_project.proofs.load.go_through.Goals as goal
 
 pub returns-in_err-load_all : goal.returns-in_err-load_all

@@ -1,6 +1,6 @@
 use Rattle.std.proofs.Common.{◌<◌, length, refl, sym, ◌∙◌, arith}
 use Rattle.std.proofs.lemmas.Option.{slice_get_read}
-use Rattle.b2_project.proofs.ToolsetSteps.{is_brought, is_not_brought}
+use Rattle.b2_project.proofs.FirstToolsetCallDecides.{is_brought, is_not_brought}
 use Rattle.b2_project.proofs.toolset.toolset_at.Goals as goal
 
 pub returns-then-brings_toolset : goal.returns-then-brings_toolset

@@ -1,5 +1,5 @@
 use Rattle.std.specs.Option.{option_copied}
-use Rattle.b2_project.proofs.ToolsetSteps.{text_refused, text_made}
+use Rattle.b2_project.proofs.FirstToolsetCallDecides.{text_refused, text_made}
 use Rattle.b2_project.proofs.toolset.toolset_text.Goals as goal
 
 pub returns-in-Err : goal.returns-in-Err

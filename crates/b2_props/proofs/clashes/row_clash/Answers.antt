@@ -3,7 +3,7 @@ use Rattle.std.proofs.lemmas.Option.{slice_get_within, get_or_from_slice_get}
 use Rattle.b2_features.specs.Table.{seen}
 use Rattle.b2_props.specs.Requests.{brought, feature_clash}
 use Rattle.b2_props.specs.Meeting.{Meets}
-use Rattle.b2_props.proofs.Reading.{first_some, fine_next}
+use Rattle.b2_props.proofs.FirstFaultIsTheCause.{first_some, fine_next}
 use Rattle.b2_props.proofs.clashes.row_clash.Goals as goal
 
 nothing : (o : Option ℕ) → ((n : ℕ) → o ≡ Some n → ⊥) → o ≡ None

@@ -6,7 +6,7 @@ use Rattle.b2_props.specs.Sets.{value_of}
 use Rattle.b2_props.specs.Refinement.{components}
 use Rattle.b2_props.specs.Elements.{shows, element}
 use Rattle.b2_props.specs.Holding.{Holds}
-use Rattle.b2_props.proofs.Showing.{shows_given, elements_next}
+use Rattle.b2_props.proofs.ShownElementsGrowByOne.{shows_given, elements_next}
 use Rattle.b2_props.proofs.elements.elements.Goals as goal
 use Rattle.b2_props.proofs.elements.elements.Goals.{then-shows+in_ok-element+in_ok-push, else-shows}
 

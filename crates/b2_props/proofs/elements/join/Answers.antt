@@ -2,7 +2,7 @@ use Rattle.std.proofs.Common.{◌≡◌, ◌∙◌, ◌++◌, ◌∷◌, ◌<◌
 use Rattle.std.proofs.lemmas.List.Elements.{All-append}
 use Rattle.std.proofs.lemmas.Str.{encode_ascii}
 use Rattle.b2_base.specs.Bytes.{HasNoZero}
-use Rattle.b2_props.proofs.Showing.{join_more, join_first, no_zero_joined}
+use Rattle.b2_props.proofs.ShownElementsGrowByOne.{join_more, join_first, no_zero_joined}
 use Rattle.b2_props.proofs.elements.join.Goals as goal
 use Rattle.b2_props.proofs.elements.join.Goals.{then-i-gt0+in_ok-push, else-i-gt0}
 

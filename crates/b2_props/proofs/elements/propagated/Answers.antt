@@ -5,7 +5,7 @@ use Rattle.b2_features.specs.declared.attribute.Attribute.TheVariants.{Propagate
 use Rattle.b2_features.specs.Faults.{is_with}
 use Rattle.b2_props.specs.Sets.{IsSet}
 use Rattle.b2_props.specs.Elements.{propagated}
-use Rattle.b2_props.proofs.SetLemmas.{filter_set}
+use Rattle.b2_props.proofs.WrittenValuesMakeASet.{filter_set}
 use Rattle.b2_props.proofs.elements.propagated.Goals as goal
 
 pub returns-clause-set : goal.returns-clause-set

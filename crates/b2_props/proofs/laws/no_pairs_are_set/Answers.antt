@@ -1,4 +1,4 @@
-use Rattle.b2_props.proofs.SetLemmas.{empty_set}
+use Rattle.b2_props.proofs.WrittenValuesMakeASet.{empty_set}
 use Rattle.b2_props.proofs.laws.no_pairs_are_set.Goals as goal
 
 pub returns : goal.returns

@@ -1,5 +1,5 @@
 use Rattle.b2_props.specs.Refinement.{completed}
-use Rattle.b2_props.proofs.SetLemmas.{refined_twice}
+use Rattle.b2_props.proofs.WrittenValuesMakeASet.{refined_twice}
 use Rattle.b2_props.proofs.laws.refining_twice.Goals as goal
 
 pub returns : goal.returns

@@ -3,8 +3,8 @@ use Rattle.std.specs.List.{flat_map}
 use Rattle.b2_props.specs.declared.choice.Choice.{Choice}
 use Rattle.b2_props.specs.declared.choice.Factor.{Factor}
 use Rattle.b2_props.specs.Requests.{product}
-use Rattle.b2_props.proofs.Reading.{map_next}
-use Rattle.b2_props.proofs.Rows.{product-push}
+use Rattle.b2_props.proofs.FirstFaultIsTheCause.{map_next}
+use Rattle.b2_props.proofs.RowsGrowChoiceByChoice.{product-push}
 use Rattle.b2_props.proofs.product.product.Goals as goal
 
 pub loop-factor-preserved : goal.loop-factor-preserved

@@ -8,7 +8,7 @@ use Rattle.std.proofs.lemmas.Cmp.{nat_list_cmp_total}
 use Rattle.std.proofs.lemmas.List.{append-nil}
 use Rattle.b2_props.specs.Sets.{Pair}
 use Rattle.b2_props.specs.Refinement.{names, components, completed_from, parts_in, brought}
-use Rattle.b2_props.proofs.Completing.{names-append, seen_next, brought_by, complete_next}
+use Rattle.b2_props.proofs.CompletionGrowsPairByPair.{names-append, seen_next, brought_by, complete_next}
 use Rattle.b2_props.proofs.refinement.complete.Goals as goal
 
 pub loop-pair-init : goal.loop-pair-init

@@ -3,7 +3,7 @@ use Rattle.std.proofs.lemmas.Result.{IfOk-weaker}
 use Rattle.b2_props.specs.Sets.{Pair, value_of}
 use Rattle.b2_props.specs.Refinement.{components, defaults}
 use Rattle.b2_props.specs.Holding.{Gains, Holds}
-use Rattle.b2_props.proofs.Gaining.{gains_more}
+use Rattle.b2_props.proofs.DraftHoldsEachGainedPair.{gains_more}
 use Rattle.b2_props.proofs.refinement.completed_set.Goals as goal
 
 pub returns-clause-value : goal.returns-clause-value

@@ -2,8 +2,8 @@ use Rattle.std.proofs.Common.{◌++◌, List, sym, subst}
 use Rattle.b2_props.specs.Sets.{Pair, IsSet, value_of}
 use Rattle.b2_props.specs.Refinement.{components, defaults}
 use Rattle.b2_props.specs.Laws.{KeepsValues, HasAllValues, KeepsFree}
-use Rattle.b2_props.proofs.SetLemmas.{made_set}
-use Rattle.b2_props.proofs.RefiningLaws.{if_both, if_three, expanded_values, expanded_all, expanded_free}
+use Rattle.b2_props.proofs.WrittenValuesMakeASet.{made_set}
+use Rattle.b2_props.proofs.RequiredWinsOthersStay.{if_both, if_three, expanded_values, expanded_all, expanded_free}
 use Rattle.b2_props.proofs.refinement.expand.Goals as goal
 
 pub returns-clause-set : goal.returns-clause-set

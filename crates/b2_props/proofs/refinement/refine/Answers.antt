@@ -3,8 +3,8 @@ use Rattle.std.specs.Option.{option_or}
 use Rattle.b2_props.specs.Sets.{IsSet, value_of}
 use Rattle.b2_props.specs.Refinement.{completed}
 use Rattle.b2_props.specs.Laws.{HasRequired, KeepsOthers, KeepsFree}
-use Rattle.b2_props.proofs.SetLemmas.{made_set}
-use Rattle.b2_props.proofs.RefiningLaws.{if_both, refined_required, refined_others, refined_free}
+use Rattle.b2_props.proofs.WrittenValuesMakeASet.{made_set}
+use Rattle.b2_props.proofs.RequiredWinsOthersStay.{if_both, refined_required, refined_others, refined_free}
 use Rattle.b2_props.proofs.refinement.refine.Goals as goal
 
 pub returns-clause-set : goal.returns-clause-set

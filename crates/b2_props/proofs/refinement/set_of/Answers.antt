@@ -2,7 +2,7 @@ use Rattle.std.proofs.Common.{[], None, sym, subst}
 use Rattle.std.proofs.lemmas.Result.{IfOk-weaker}
 use Rattle.b2_props.specs.Sets.{IsSet, value_of}
 use Rattle.b2_props.specs.Holding.{Holds}
-use Rattle.b2_props.proofs.SetLemmas.{made_set}
+use Rattle.b2_props.proofs.WrittenValuesMakeASet.{made_set}
 use Rattle.b2_props.proofs.refinement.set_of.Goals as goal
 
 pub returns-clause-value : goal.returns-clause-value

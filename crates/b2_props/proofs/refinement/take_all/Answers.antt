@@ -1,6 +1,6 @@
 use Rattle.std.proofs.Common.{is_some}
 use Rattle.std.specs.FinMap as map
-use Rattle.b2_props.proofs.Completing.{taken_more}
+use Rattle.b2_props.proofs.CompletionGrowsPairByPair.{taken_more}
 use Rattle.b2_props.proofs.refinement.take_all.Goals as goal
 
 pub loop-pair-preserved : goal.loop-pair-preserved

@@ -5,7 +5,7 @@ use Rattle.std.proofs.lemmas.Result.{err_from_is_err_and}
 use Rattle.b2_props.specs.declared.choice.Choice.{Choice}
 use Rattle.b2_props.specs.Words.{IsBy}
 use Rattle.b2_props.specs.Requests.{row_fault}
-use Rattle.b2_props.proofs.Reading.{map_fine, map_cause}
+use Rattle.b2_props.proofs.FirstFaultIsTheCause.{map_fine, map_cause}
 use Rattle.b2_props.proofs.request.check_rows.Goals as goal
 
 pub returns-in_err-check_row-clause-cause : goal.returns-in_err-check_row-clause-cause

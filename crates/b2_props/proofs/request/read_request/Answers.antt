@@ -5,7 +5,7 @@ use Rattle.std.proofs.lemmas.Result.{err_from_is_err_and}
 use Rattle.b2_props.specs.declared.choice.Choice.{Choice}
 use Rattle.b2_props.specs.Words.{IsBy}
 use Rattle.b2_props.specs.Requests.{rows, row_set}
-use Rattle.b2_props.proofs.Requesting.{rows_are, rows_decide}
+use Rattle.b2_props.proofs.RowsDecideTheRequest.{rows_are, rows_decide}
 use Rattle.b2_props.proofs.request.read_request.Goals as goal
 
 pub returns-in_err-check_rows-clause-cause : goal.returns-in_err-check_rows-clause-cause

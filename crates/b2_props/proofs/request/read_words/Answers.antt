@@ -2,8 +2,8 @@ use Rattle.std.proofs.Common.{◌∙◌, ◌++◌, ◌∷◌, [], ap, sym, fold,
 use Rattle.std.proofs.lemmas.Result.{err_from_is_err_and}
 use Rattle.b2_props.specs.Words.{target_words, word_fault}
 use Rattle.b2_props.specs.Requests.{joined, word_ways}
-use Rattle.b2_props.proofs.Reading.{fine_next, first_cause}
-use Rattle.b2_props.proofs.Requesting.{targets_next, ways_next}
+use Rattle.b2_props.proofs.FirstFaultIsTheCause.{fine_next, first_cause}
+use Rattle.b2_props.proofs.RowsDecideTheRequest.{targets_next, ways_next}
 use Rattle.b2_props.proofs.request.read_words.Goals as goal
 
 pub returns-in_err-take_word-clause-cause : goal.returns-in_err-take_word-clause-cause

@@ -3,7 +3,7 @@ use Rattle.std.proofs.lemmas.Iterator.{cases_from_all}
 use Rattle.std.proofs.lemmas.Iterator.Splits.{YieldsList-from_str_split}
 use Rattle.b2_props.specs.Words.{cut}
 use Rattle.b2_features.specs.Faults.{is_implicit}
-use Rattle.b2_props.proofs.Reading.{all_is}
+use Rattle.b2_props.proofs.FirstFaultIsTheCause.{all_is}
 use Rattle.b2_props.proofs.words.all_implicit.Goals as goal
 
 pub returns : goal.returns

@@ -1,6 +1,6 @@
 use Rattle.std.proofs.Common.{subst}
 use Rattle.std.proofs.lemmas.Str.Pattern.{IsSplitOnceResult}
-use Rattle.b2_props.proofs.Reading.{halves_of}
+use Rattle.b2_props.proofs.FirstFaultIsTheCause.{halves_of}
 use Rattle.b2_props.proofs.words.halves.Goals as goal
 
 pub returns : goal.returns

@@ -1,6 +1,6 @@
 use Rattle.std.proofs.Common.{◌∙◌, ap, sym, Some}
 use Rattle.b2_features.specs.Table.{seen, implicit_of}
-use Rattle.b2_props.proofs.Reading.{implicit_there, name_of_found}
+use Rattle.b2_props.proofs.FirstFaultIsTheCause.{implicit_there, name_of_found}
 use Rattle.b2_props.proofs.words.implicit_feature.Goals as goal
 
 pub returns-in-None-find : goal.returns-in-None-find

@@ -3,7 +3,7 @@ use Rattle.std.specs.Option.{option_to_list}
 use Rattle.std.proofs.lemmas.Result.{err_from_is_err_and}
 use Rattle.b2_props.specs.Sets.{Pair}
 use Rattle.b2_props.specs.Words.{pair_fault, implicit_pair}
-use Rattle.b2_props.proofs.Reading.{some_next, some_fine, some_cause}
+use Rattle.b2_props.proofs.FirstFaultIsTheCause.{some_next, some_fine, some_cause}
 use Rattle.b2_props.proofs.words.implicit_pairs.Goals as goal
 
 pub returns-in_err-take_implicit-clause-cause : goal.returns-in_err-take_implicit-clause-cause

@@ -2,7 +2,7 @@ use Rattle.std.proofs.Common.{◌∙◌, ◌++◌, ◌∷◌, [], ap, sym, List,
 use Rattle.std.proofs.lemmas.Result.{err_from_is_err_and}
 use Rattle.b2_props.specs.Sets.{Pair}
 use Rattle.b2_props.specs.Words.{pair_fault}
-use Rattle.b2_props.proofs.Reading.{map_next, map_fine, map_cause}
+use Rattle.b2_props.proofs.FirstFaultIsTheCause.{map_next, map_fine, map_cause}
 use Rattle.b2_props.proofs.words.named_pairs.Goals as goal
 
 pub returns-in_err-take_pair-clause-cause : goal.returns-in_err-take_pair-clause-cause

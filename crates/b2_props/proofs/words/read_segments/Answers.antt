@@ -3,7 +3,7 @@ use Rattle.std.proofs.lemmas.List.{map-append}
 use Rattle.std.proofs.lemmas.Result.{err_from_is_err_and}
 use Rattle.b2_props.specs.Sets.{Pair}
 use Rattle.b2_props.specs.Words.{segment_pairs, segment_fault}
-use Rattle.b2_props.proofs.Reading.{map_next, fine_next, first_cause}
+use Rattle.b2_props.proofs.FirstFaultIsTheCause.{map_next, fine_next, first_cause}
 use Rattle.b2_props.proofs.words.read_segments.Goals as goal
 
 pub returns-in_err-segment_pairs-clause-cause : goal.returns-in_err-segment_pairs-clause-cause

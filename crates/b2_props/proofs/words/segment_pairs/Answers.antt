@@ -1,6 +1,6 @@
 use Rattle.std.proofs.Common.{◌∙◌, ap, subst, IfErr}
 use Rattle.b2_props.specs.Words.{cut, first_of, pair_fault, IsBy}
-use Rattle.b2_props.proofs.Reading.{named_are}
+use Rattle.b2_props.proofs.FirstFaultIsTheCause.{named_are}
 use Rattle.b2_props.proofs.words.segment_pairs.Goals as goal
 
 pub returns-in_ok-values-in-Some-clause-cause : goal.returns-in_ok-values-in-Some-clause-cause

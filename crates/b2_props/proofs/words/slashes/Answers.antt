@@ -5,7 +5,7 @@ use Rattle.std.proofs.lemmas.Result.{IfOk-at_ok}
 use Rattle.b2_base.specs.Bytes.{HasNoZero}
 use Rattle.b2_base.specs.Segments.{texts}
 use Rattle.b2_props.specs.Words.{cut}
-use Rattle.b2_props.proofs.Reading.{parts_no_zero}
+use Rattle.b2_props.proofs.FirstFaultIsTheCause.{parts_no_zero}
 use Rattle.b2_props.proofs.words.slashes.Goals as goal
 
 pub owned_texts-requires : goal.owned_texts-requires

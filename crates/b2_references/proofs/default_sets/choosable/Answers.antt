@@ -1,7 +1,7 @@
 use Rattle.std.proofs.Common.{◌∙◌, ap, not, ◌&&◌}
 use Rattle.b2_features.specs.declared.attribute.Attribute.TheVariants.{Free}
 use Rattle.b2_features.specs.Faults.{is_with}
-use Rattle.b2_references.proofs.LoopLemmas.{choosable_next}
+use Rattle.b2_references.proofs.LoopsTakeOneMore.{choosable_next}
 use Rattle.b2_references.proofs.default_sets.choosable.Goals as goal
 
 pub loop-pair-preserved : goal.loop-pair-preserved

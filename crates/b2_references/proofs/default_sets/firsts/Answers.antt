@@ -2,8 +2,8 @@ use Rattle.std.proofs.Common.{◌∙◌, ap, cond, not, true}
 use Rattle.std.specs.BTreeSet.{contains}
 use Rattle.b2_props.specs.Holding.{pair_cmp}
 use Rattle.b2_props.specs.Sets.{Pair, same}
-use Rattle.b2_props.proofs.Gaining.{pair_ties}
-use Rattle.b2_references.proofs.LoopLemmas.{firsts_next, has_next}
+use Rattle.b2_props.proofs.DraftHoldsEachGainedPair.{pair_ties}
+use Rattle.b2_references.proofs.LoopsTakeOneMore.{firsts_next, has_next}
 use Rattle.b2_references.proofs.default_sets.firsts.Goals as goal
 
 pub loop-pair-preserved : goal.loop-pair-preserved

@@ -3,7 +3,7 @@ use Rattle.b2_features.specs.Table.{Declared as Feature}
 use Rattle.b2_props.specs.Requests.{product}
 use Rattle.b2_props.specs.Sets.{Pair, set_of}
 use Rattle.b2_references.specs.Requests.{open_values, sets_for}
-use Rattle.b2_references.proofs.LoopLemmas.{if_ok, map-map}
+use Rattle.b2_references.proofs.LoopsTakeOneMore.{if_ok, map-map}
 use Rattle.b2_references.proofs.default_sets.joined_sets.Goals as goal
 
 pub returns : goal.returns

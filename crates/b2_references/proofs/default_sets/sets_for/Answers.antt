@@ -2,8 +2,8 @@ use Rattle.std.proofs.Common.{ap, sym, subst}
 use Rattle.std.specs.List.{AllByRecursion}
 use Rattle.b2_features.specs.Table.{HasDistinctNames}
 use Rattle.b2_props.specs.Sets.{IsSet}
-use Rattle.b2_references.proofs.LoopLemmas.{if_ok}
-use Rattle.b2_references.proofs.RequestLemmas.{sets_are}
+use Rattle.b2_references.proofs.LoopsTakeOneMore.{if_ok}
+use Rattle.b2_references.proofs.AskedSetsAreProper.{sets_are}
 use Rattle.b2_references.proofs.default_sets.sets_for.Goals as goal
 
 pub returns-clause-sets : goal.returns-clause-sets

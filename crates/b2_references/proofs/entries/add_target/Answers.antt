@@ -1,7 +1,7 @@
 use Rattle.std.proofs.Common.{length, refl}
 use Rattle.std.proofs.lemmas.Option.{slice_get_read}
-use Rattle.b2_references.proofs.EntryLemmas.{entry_push, entries_push}
-use Rattle.b2_references.proofs.LoopLemmas.{on_ok_both}
+use Rattle.b2_references.proofs.EntriesGrowByOneTarget.{entry_push, entries_push}
+use Rattle.b2_references.proofs.LoopsTakeOneMore.{on_ok_both}
 use Rattle.b2_references.proofs.entries.add_target.Goals as goal
 
 pub returns-clause-added : goal.returns-clause-added

@@ -1,4 +1,4 @@
-use Rattle.b2_references.proofs.EntryLemmas.{empty_entries_are}
+use Rattle.b2_references.proofs.EntriesGrowByOneTarget.{empty_entries_are}
 use Rattle.b2_references.proofs.entries.empty_entries.Goals as goal
 
 pub returns-clause-none : goal.returns-clause-none

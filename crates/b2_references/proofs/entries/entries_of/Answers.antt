@@ -1,6 +1,6 @@
 use Rattle.std.proofs.Common.{◌∙◌, take, sym, subst, arith}
 use Rattle.std.proofs.lemmas.List.{length-take-le}
-use Rattle.b2_props.proofs.Gaining.{next_take}
+use Rattle.b2_props.proofs.DraftHoldsEachGainedPair.{next_take}
 use Rattle.b2_references.specs.Indexing.{AreEntries}
 use Rattle.b2_references.proofs.entries.entries_of.Goals as goal
 

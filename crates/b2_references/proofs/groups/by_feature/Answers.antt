@@ -1,6 +1,6 @@
 use Rattle.std.proofs.Common.{take, sym, subst}
 use Rattle.b2_references.specs.Grouping.{AreGroups}
-use Rattle.b2_props.proofs.Gaining.{next_take}
+use Rattle.b2_props.proofs.DraftHoldsEachGainedPair.{next_take}
 use Rattle.b2_references.proofs.groups.by_feature.Goals as goal
 
 pub loop-pair-preserved : goal.loop-pair-preserved

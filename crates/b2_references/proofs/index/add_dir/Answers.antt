@@ -1,6 +1,6 @@
 use Rattle.std.proofs.Common.{◌∙◌, ap}
 use Rattle.std.specs.FinMap.{get}
-use Rattle.b2_references.proofs.LoopLemmas.{put_absent, keep_present}
+use Rattle.b2_references.proofs.LoopsTakeOneMore.{put_absent, keep_present}
 use Rattle.b2_references.proofs.index.add_dir.Goals as goal
 
 pub returns-in-Some : goal.returns-in-Some

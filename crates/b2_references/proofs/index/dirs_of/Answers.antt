@@ -5,7 +5,7 @@ use Rattle.std.specs.Cmp.Lexicographic.{slice_cmp}
 use Rattle.std.specs.Option.{option_or}
 use Rattle.std.specs.Str.{bytes_eq}
 use Rattle.std.proofs.Common.{cond, Some, None}
-use Rattle.b2_references.proofs.LoopLemmas.{dirs_next}
+use Rattle.b2_references.proofs.LoopsTakeOneMore.{dirs_next}
 use Rattle.b2_references.proofs.index.dirs_of.Goals as goal
 
 pub loop-place-init : goal.loop-place-init

@@ -1,6 +1,6 @@
 use Rattle.std.specs.Borrow.{Bor}
 use Rattle.b2_metatargets.specs.declared.place.Place.{Place}
-use Rattle.b2_references.proofs.LoopLemmas.{first_here, first_not_here}
+use Rattle.b2_references.proofs.LoopsTakeOneMore.{first_here, first_not_here}
 use Rattle.b2_references.proofs.lookups.first_of_places.Goals as goal
 
 pub returns-then-not-is_empty : goal.returns-then-not-is_empty

@@ -1,6 +1,6 @@
 use Rattle.std.proofs.Common.{◌∙◌, ◌++◌, ◌∷◌, [], List, ap, sym, map}
 use Rattle.b2_props.specs.Sets.{Pair}
-use Rattle.b2_references.proofs.LoopLemmas.{flat_next}
+use Rattle.b2_references.proofs.LoopsTakeOneMore.{flat_next}
 use Rattle.b2_references.proofs.products.grown.Goals as goal
 
 pub loop-row-preserved : goal.loop-row-preserved

@@ -1,7 +1,7 @@
 use Rattle.std.proofs.Common.{◌∙◌, ◌++◌, ◌∷◌, [], List, ap₂, map}
 use Rattle.std.specs.List.{flat_map}
 use Rattle.b2_props.specs.Sets.{Pair}
-use Rattle.b2_references.proofs.LoopLemmas.{rows_next}
+use Rattle.b2_references.proofs.LoopsTakeOneMore.{rows_next}
 use Rattle.b2_references.proofs.products.rows_after.Goals as goal
 
 pub loop-list-preserved : goal.loop-list-preserved

@@ -3,7 +3,7 @@ use Rattle.std.specs.FinMap.{get, get-empty}
 use Rattle.std.specs.Ordering.{nat_cmp}
 use Rattle.std.specs.Cmp.Lexicographic.{slice_cmp}
 use Rattle.std.specs.Str.{bytes_eq}
-use Rattle.b2_references.proofs.LoopLemmas.{known_put, any_next}
+use Rattle.b2_references.proofs.LoopsTakeOneMore.{known_put, any_next}
 use Rattle.b2_references.proofs.projects.known_names.Goals as goal
 
 pub loop-name-init : goal.loop-name-init

@@ -1,6 +1,6 @@
 use Rattle.std.proofs.Common.{◌∙◌, ◌++◌, ap, sym, get_or}
 use Rattle.b2_references.specs.References.{listed_targets}
-use Rattle.b2_references.proofs.LoopLemmas.{flat_more}
+use Rattle.b2_references.proofs.LoopsTakeOneMore.{flat_more}
 use Rattle.b2_references.proofs.projects.listed.Goals as goal
 
 pub loop-project-preserved : goal.loop-project-preserved

@@ -1,7 +1,7 @@
 use Rattle.std.proofs.Common.{◌≡◌, ◌++◌, is_some, subst}
 use Rattle.std.specs.Prelude.{OnOk}
 use Rattle.std.specs.FinMap.{get}
-use Rattle.b2_references.proofs.ListLemmas.{listed}
+use Rattle.b2_references.proofs.ListedAreNotExplicit.{listed}
 use Rattle.b2_references.proofs.projects.push_listed.Goals as goal
 
 pub returns : goal.returns

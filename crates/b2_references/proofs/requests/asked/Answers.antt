@@ -2,8 +2,8 @@ use Rattle.std.proofs.Common.{ap, sym, subst}
 use Rattle.std.specs.List.{AllByRecursion}
 use Rattle.b2_features.specs.Table.{HasDistinctNames}
 use Rattle.b2_references.specs.Requests.{HasSet}
-use Rattle.b2_references.proofs.LoopLemmas.{if_ok}
-use Rattle.b2_references.proofs.RequestLemmas.{asked_sets}
+use Rattle.b2_references.proofs.LoopsTakeOneMore.{if_ok}
+use Rattle.b2_references.proofs.AskedSetsAreProper.{asked_sets}
 use Rattle.b2_references.proofs.requests.asked.Goals as goal
 
 pub returns-clause-sets : goal.returns-clause-sets

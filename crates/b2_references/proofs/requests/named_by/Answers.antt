@@ -1,6 +1,6 @@
 use Rattle.std.proofs.Common.{◌≡◌, ◌∙◌, ◌++◌, ◌∷◌, [], IfOk, true, false, length, eqb, ap, ap₂, sym, subst}
-use Rattle.b2_references.proofs.NameLemmas.{number_is}
-use Rattle.b2_references.proofs.RequestLemmas.{named_none, named_some}
+use Rattle.b2_references.proofs.FiltersKeepFirstNames.{number_is}
+use Rattle.b2_references.proofs.AskedSetsAreProper.{named_none, named_some}
 use Rattle.b2_references.proofs.requests.named_by.Goals as goal
 
 pub returns-then-is_empty : goal.returns-then-is_empty

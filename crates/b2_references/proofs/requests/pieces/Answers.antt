@@ -2,7 +2,7 @@ use Rattle.std.proofs.Common.{◌∙◌, List, ap}
 use Rattle.std.specs.List.{flat_map}
 use Rattle.b2_references.specs.declared.word.Word.{Word}
 use Rattle.b2_references.specs.Requests.{asked_of, asked}
-use Rattle.b2_references.proofs.LoopLemmas.{if_ok}
+use Rattle.b2_references.proofs.LoopsTakeOneMore.{if_ok}
 use Rattle.b2_references.proofs.requests.pieces.Goals as goal
 
 pub returns : goal.returns

@@ -1,7 +1,7 @@
 use Rattle.std.proofs.Common.{◌∙◌, ◌++◌, List, ap, sym}
 use Rattle.b2_references.specs.declared.asked.Asked.{Asked}
 use Rattle.b2_references.specs.Requests.{asked_of}
-use Rattle.b2_references.proofs.LoopLemmas.{flat_next}
+use Rattle.b2_references.proofs.LoopsTakeOneMore.{flat_next}
 use Rattle.b2_references.proofs.requests.pieces_of.Goals as goal
 
 pub loop-set-preserved : goal.loop-set-preserved

@@ -1,7 +1,7 @@
 use Rattle.std.proofs.Common.{◌∙◌, ◌++◌, ap, sym, append_assoc, take}
 use Rattle.std.specs.List.{flat_map}
 use Rattle.b2_references.specs.Requests.{asked_for}
-use Rattle.b2_references.proofs.LoopLemmas.{flat_next}
+use Rattle.b2_references.proofs.LoopsTakeOneMore.{flat_next}
 use Rattle.b2_references.proofs.requests.push_targets.Goals as goal
 
 pub loop-name-preserved : goal.loop-name-preserved

@@ -3,7 +3,7 @@ use Rattle.std.specs.List.{flat_map}
 use Rattle.b2_references.specs.declared.asked.Asked.{Asked}
 use Rattle.b2_references.specs.declared.word.Word.{Word}
 use Rattle.b2_references.specs.Requests.{asked_by}
-use Rattle.b2_references.proofs.LoopLemmas.{flat_next}
+use Rattle.b2_references.proofs.LoopsTakeOneMore.{flat_next}
 use Rattle.b2_references.proofs.requests.push_words.Goals as goal
 
 pub loop-word-preserved : goal.loop-word-preserved

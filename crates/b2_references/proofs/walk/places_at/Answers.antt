@@ -1,7 +1,7 @@
 use Rattle.std.proofs.Common.{◌∙◌, ◌++◌, ap₂, sym}
 use Rattle.std.specs.Option.{option_to_list}
 use Rattle.b2_references.specs.References.{place_at}
-use Rattle.b2_references.proofs.LoopLemmas.{options_next}
+use Rattle.b2_references.proofs.LoopsTakeOneMore.{options_next}
 use Rattle.b2_references.proofs.walk.places_at.Goals as goal
 
 pub loop-dir-preserved : goal.loop-dir-preserved

@@ -1,7 +1,7 @@
 use Rattle.std.proofs.Common.{◌<◌, subst, sym}
 use Rattle.b2_references.specs.References.{projects_under}
 use Rattle.b2_references.specs.Walking.{turns_left}
-use Rattle.b2_references.proofs.WalkLemmas.{LeadsTo, walk_begins_at, walk_goes_on, fewer_turns}
+use Rattle.b2_references.proofs.TurnsAreEnough.{LeadsTo, walk_begins_at, walk_goes_on, fewer_turns}
 use Rattle.b2_references.proofs.walk.projects_under.Goals as goal
 
 pub loop-next-init : goal.loop-next-init

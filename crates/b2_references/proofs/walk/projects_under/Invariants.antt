@@ -1,6 +1,6 @@
 use Rattle.b2_references.specs.References.{projects_under}
 use Rattle.b2_references.specs.Walking.{IsWalk, turns_left}
-use Rattle.b2_references.proofs.WalkLemmas.{LeadsTo}
+use Rattle.b2_references.proofs.TurnsAreEnough.{LeadsTo}
 use Rattle.b2_references.proofs.walk.projects_under.Given as goal
 
 -- the walk leads to the projects that the project stands for

@@ -1,4 +1,4 @@
-use Rattle.b2_refine.proofs.Searching.{choice_of_others}
+use Rattle.b2_refine.proofs.RivalMeansNoneIsChosen.{choice_of_others}
 use Rattle.b2_refine.proofs.choice.choose.Goals as goal
 
 pub returns : goal.returns

@@ -1,4 +1,4 @@
-use Rattle.b2_refine.proofs.Searching.{clash_choice}
+use Rattle.b2_refine.proofs.RivalMeansNoneIsChosen.{clash_choice}
 use Rattle.b2_refine.proofs.choice.choose_among.Goals as goal
 
 pub returns : goal.returns

@@ -1,7 +1,7 @@
 use Rattle.std.proofs.Common.{◌∙◌, ap₂, List}
 use Rattle.b2_props.specs.Sets.{Pair}
 use Rattle.b2_refine.specs.Choices.{is_strict_subset}
-use Rattle.b2_refine.proofs.Subsets.{past_not_better, not_better_than_past, better_where_strict}
+use Rattle.b2_refine.proofs.BetterIsAStrictOrder.{past_not_better, not_better_than_past, better_where_strict}
 use Rattle.b2_refine.proofs.choice.is_better.Goals as goal
 
 pub returns-in-None : goal.returns-in-None

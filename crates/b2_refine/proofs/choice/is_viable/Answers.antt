@@ -1,7 +1,7 @@
 use Rattle.std.proofs.Common.{◌∙◌, ap₂, List}
 use Rattle.b2_props.specs.Sets.{Pair}
 use Rattle.b2_props.specs.Membership.{has_all}
-use Rattle.b2_refine.proofs.Subsets.{past_not_viable, viable_where_met}
+use Rattle.b2_refine.proofs.BetterIsAStrictOrder.{past_not_viable, viable_where_met}
 use Rattle.b2_refine.proofs.choice.is_viable.Goals as goal
 
 pub returns-in-None : goal.returns-in-None

@@ -1,7 +1,7 @@
 use Rattle.std.proofs.Common.{◌≡◌, ◌≤◌, ◌+◌, ◌∙◌, suc, inl, inr, sym, subst, arith}
 use Rattle.std.proofs.lemmas.Result.{err_from_is_err_and}
 use Rattle.b2_props.specs.Sets.{IsSet}
-use Rattle.b2_refine.proofs.Rounds.{first_round, second_round, later_round, round_counted, round_counted_twice, two_here, round_within, asked_later}
+use Rattle.b2_refine.proofs.LastTwoRoundsDecide.{first_round, second_round, later_round, round_counted, round_counted_twice, two_here, round_within, asked_later}
 use Rattle.b2_refine.proofs.evaluate.last_two.Goals as goal
 
 pub loop-init : goal.loop-init

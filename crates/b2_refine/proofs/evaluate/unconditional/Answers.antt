@@ -1,6 +1,6 @@
 use Rattle.std.proofs.Common.{◌∙◌, ◌++◌, ap, sym}
 use Rattle.b2_refine.specs.Conditions.{own_pairs}
-use Rattle.b2_refine.proofs.GivenPairs.{own_next}
+use Rattle.b2_refine.proofs.RequirementsGiveOneByOne.{own_next}
 use Rattle.b2_refine.proofs.evaluate.unconditional.Goals as goal
 
 pub loop-requirement-preserved : goal.loop-requirement-preserved

@@ -1,7 +1,7 @@
 use Rattle.std.proofs.Common.{◌∙◌, ap, sym, List, Result, Ok}
 use Rattle.b2_props.specs.Sets.{Pair}
 use Rattle.std.proofs.lemmas.Result.{err_from_is_err_and}
-use Rattle.b2_refine.proofs.GivenPairs.{given_next, given_fault}
+use Rattle.b2_refine.proofs.RequirementsGiveOneByOne.{given_next, given_fault}
 use Rattle.b2_refine.proofs.giving.given.Goals as goal
 
 pub loop-requirement-preserved : goal.loop-requirement-preserved

@@ -1,6 +1,6 @@
 use Rattle.std.proofs.Common.{◌∙◌}
 use Rattle.b2_alternatives.specs.Choosing.{property_text}
-use Rattle.b2_refusals.proofs.TextLemmas.{conflict_joined}
+use Rattle.b2_refusals.proofs.TextsGrowByOneElement.{conflict_joined}
 use Rattle.b2_refusals.proofs.generations.usage_conflict_text.Goals as goal
 
 pub returns : goal.returns

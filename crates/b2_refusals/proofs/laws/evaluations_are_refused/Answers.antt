@@ -1,4 +1,4 @@
-use Rattle.b2_refusals.proofs.RefusedLemmas as by
+use Rattle.b2_refusals.proofs.FailuresAreRefusals as by
 use Rattle.b2_refusals.proofs.laws.evaluations_are_refused.Goals as goal
 
 pub returns : goal.returns

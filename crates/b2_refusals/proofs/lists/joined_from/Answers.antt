@@ -1,5 +1,5 @@
 use Rattle.std.proofs.Common.{◌++◌, ◌∙◌, ap, string_bytes}
-use Rattle.b2_refusals.proofs.TextLemmas.{one_more}
+use Rattle.b2_refusals.proofs.TextsGrowByOneElement.{one_more}
 use Rattle.b2_refusals.proofs.lists.joined_from.Goals as goal
 
 pub loop-other-preserved : goal.loop-other-preserved

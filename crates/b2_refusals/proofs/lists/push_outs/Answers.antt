@@ -1,6 +1,6 @@
 use Rattle.std.proofs.Common.{◌++◌, ◌∙◌, ap, string_bytes, codes}
 use Rattle.b2_runs.specs.Reports.{first_out}
-use Rattle.b2_refusals.proofs.TextLemmas.{one_more_at}
+use Rattle.b2_refusals.proofs.TextsGrowByOneElement.{one_more_at}
 use Rattle.b2_refusals.proofs.lists.push_outs.Goals as goal
 
 pub loop-number-preserved : goal.loop-number-preserved

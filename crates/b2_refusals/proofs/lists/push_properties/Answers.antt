@@ -1,6 +1,6 @@
 use Rattle.std.proofs.Common.{◌++◌, ◌∙◌, ap, string_bytes, codes}
 use Rattle.b2_alternatives.specs.Choosing.{property_text}
-use Rattle.b2_refusals.proofs.TextLemmas.{one_more}
+use Rattle.b2_refusals.proofs.TextsGrowByOneElement.{one_more}
 use Rattle.b2_refusals.proofs.lists.push_properties.Goals as goal
 
 pub loop-pair-preserved : goal.loop-pair-preserved

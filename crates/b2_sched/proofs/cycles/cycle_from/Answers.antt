@@ -1,7 +1,7 @@
 use Rattle.std.proofs.Common.{◌≡◌, ℕ, ◌<◌, List, false, length, get_or, set, sym, ◌∙◌, subst, arith, true}
 use Rattle.std.proofs.lemmas.List.{get_or_default}
 use Rattle.b2_sched.specs.Cycles.{IsPathTo, IsRestFrom}
-use Rattle.b2_sched.proofs.CycleLemmas.{path_goes_on, path_ends}
+use Rattle.b2_sched.proofs.WalkComesToTheCycle.{path_goes_on, path_ends}
 use Rattle.b2_sched.proofs.cycles.cycle_from.Goals as goal
 
 pub loop-seen-preserved : goal.loop-seen-preserved

@@ -1,6 +1,6 @@
 use Rattle.std.proofs.Common.{List, ℕ, subst}
 use Rattle.b2_sched.specs.Cycles.{IsWalkOf}
-use Rattle.b2_sched.proofs.CycleLemmas.{cycle_is}
+use Rattle.b2_sched.proofs.WalkComesToTheCycle.{cycle_is}
 use Rattle.b2_sched.proofs.cycles.cycle_of.Goals as goal
 
 pub returns-in_ok-list-in-Some : goal.returns-in_ok-list-in-Some

@@ -2,7 +2,7 @@ use Rattle.std.proofs.Common.{◌≡◌, ℕ, ◌+◌, ◌-◌, ◌<◌, List, [
 use Rattle.std.specs.List.{Contains}
 use Rattle.std.proofs.lemmas.List.{get_or_default}
 use Rattle.b2_sched.specs.Cycles.{ArePointed, LeadTo}
-use Rattle.b2_sched.proofs.CycleLemmas.{leads_point}
+use Rattle.b2_sched.proofs.WalkComesToTheCycle.{leads_point}
 use Rattle.b2_sched.proofs.cycles.next_flagged.Goals as goal
 
 pub point-requires : goal.point-requires

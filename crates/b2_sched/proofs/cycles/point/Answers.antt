@@ -1,6 +1,6 @@
 use Rattle.std.proofs.Common.{get_or, refl, arith}
 use Rattle.std.proofs.lemmas.List.Elements.{Contains-get_or}
-use Rattle.b2_sched.proofs.CycleLemmas.{pointed_more}
+use Rattle.b2_sched.proofs.WalkComesToTheCycle.{pointed_more}
 use Rattle.b2_sched.proofs.cycles.point.Goals as goal
 
 pub index_mut-requires : goal.index_mut-requires

@@ -1,7 +1,7 @@
 use Rattle.std.proofs.Common.{List, ℕ, ◌-◌, length, drop, sym, ◌∙◌, subst, arith, length-drop}
 use Rattle.std.proofs.lemmas.List.{take_all}
 use Rattle.b2_sched.specs.Cycles.{IsRestFrom}
-use Rattle.b2_sched.proofs.CycleLemmas.{cut_at, place_within}
+use Rattle.b2_sched.proofs.WalkComesToTheCycle.{cut_at, place_within}
 use Rattle.b2_sched.proofs.cycles.rest_from.Goals as goal
 
 pub returns : goal.returns

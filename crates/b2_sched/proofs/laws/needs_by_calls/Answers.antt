@@ -1,4 +1,4 @@
-use Rattle.b2_sched.proofs.HistoryLemmas.{needs_by_calls}
+use Rattle.b2_sched.proofs.CallsTellTheState.{needs_by_calls}
 use Rattle.b2_sched.proofs.laws.needs_by_calls.Goals as goal
 
 pub returns : goal.returns

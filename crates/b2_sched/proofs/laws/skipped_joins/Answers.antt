@@ -1,4 +1,4 @@
-use Rattle.b2_sched.proofs.JoinLemmas.{skipped_joins}
+use Rattle.b2_sched.proofs.SetsAgreeWithTheRun.{skipped_joins}
 use Rattle.b2_sched.proofs.laws.skipped_joins.Goals as goal
 
 pub returns : goal.returns

@@ -3,7 +3,7 @@ use Rattle.std.proofs.lemmas.List.{get_or_default}
 use Rattle.b2_sched.specs.declared.state.State.TheVariants.{Unjudged, Settled}
 use Rattle.std.proofs.lemmas.List.Elements.{Contains-get_or}
 use Rattle.b2_sched.specs.Keeping.{is_unjudged}
-use Rattle.b2_sched.proofs.WakeLemmas.{woken_more}
+use Rattle.b2_sched.proofs.DependentsWakeOneByOne.{woken_more}
 use Rattle.b2_sched.proofs.needs.wake.Goals as goal
 
 pub bounds-states-number : goal.bounds-states-number

@@ -1,5 +1,5 @@
 use Rattle.std.proofs.Common.{sym, ◌∙◌, arith}
-use Rattle.b2_sched.proofs.WantLemmas.{maker_within}
+use Rattle.b2_sched.proofs.WantedFilesAddTheirMakers.{maker_within}
 use Rattle.b2_sched.proofs.needs.want.Goals as goal
 
 pub index_mut-list-requires : goal.index_mut-list-requires

@@ -2,7 +2,7 @@ use Rattle.std.proofs.Common.{ℕ, List, [], sym, ap, ◌∙◌, subst}
 use Rattle.std.proofs.lemmas.List.{get_or_default, take_all}
 use Rattle.b2_plan.specs.Plans.{maker_of}
 use Rattle.b2_sched.specs.Keeping.{AreWanted}
-use Rattle.b2_sched.proofs.WantLemmas.{wanted_more}
+use Rattle.b2_sched.proofs.WantedFilesAddTheirMakers.{wanted_more}
 use Rattle.b2_sched.proofs.needs.want_all.Goals as goal
 
 pub loop-path-init : goal.loop-path-init

@@ -2,7 +2,7 @@ use Rattle.std.proofs.Common.{◌≡◌, ℕ, ◌<◌, get_or, sym, ◌∙◌, a
 use Rattle.std.proofs.lemmas.List.{get_or_default}
 use Rattle.b2_sched.specs.declared.state.State.TheVariants.{Unjudged, Settled, Failed}
 use Rattle.b2_sched.specs.Keeping.{is_failed}
-use Rattle.b2_sched.proofs.ListedLemmas.{listed_more, listed_same, failed_yes, failed_back, failed_within}
+use Rattle.b2_sched.proofs.ListsGrowByOneNumber.{listed_more, listed_same, failed_yes, failed_back, failed_within}
 use Rattle.b2_sched.proofs.numbers.failed_of.Goals as goal
 
 pub loop-number-preserved : goal.loop-number-preserved

@@ -1,6 +1,6 @@
 use Rattle.std.proofs.Common.{false, get_or}
 use Rattle.b2_sched.specs.NumberSets.{Has}
-use Rattle.b2_sched.proofs.ListedLemmas.{listed_more}
+use Rattle.b2_sched.proofs.ListsGrowByOneNumber.{listed_more}
 use Rattle.b2_sched.proofs.numbers.numbers_of.Goals as goal
 
 pub loop-number-preserved : goal.loop-number-preserved

@@ -7,7 +7,7 @@ use Rattle.std.proofs.lemmas.Cmp.{nat_list_cmp_total}
 use Rattle.b2_features.specs.declared.attribute.Attribute.TheVariants.{Free}
 use Rattle.b2_features.specs.Faults.{is_with}
 use Rattle.b2_texts.specs.Clashes.{is_second_value}
-use Rattle.b2_texts.proofs.Meeting.{second_is, second_found, values_next, single_next, and_false}
+use Rattle.b2_texts.proofs.EarlierPairsTellClashes.{second_is, second_found, values_next, single_next, and_false}
 use Rattle.b2_texts.proofs.clashes.has_two_values.Goals as goal
 use Rattle.b2_texts.proofs.clashes.has_two_values.Goals.{else-not-is_with-via-then-not-is_with+else-differs, else-not-is_with-via-else-not-is_with}
 

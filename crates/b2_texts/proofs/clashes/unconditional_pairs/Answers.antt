@@ -2,7 +2,7 @@ use Rattle.std.proofs.Common.{◌≡◌, ◌∙◌, ◌++◌, ◌∷◌, [], Lis
 use Rattle.std.specs.Option.{option_to_list, option_copied}
 use Rattle.std.proofs.lemmas.List.{append-nil}
 use Rattle.b2_props.specs.Sets.{Pair}
-use Rattle.b2_props.proofs.Reading.{some_next}
+use Rattle.b2_props.proofs.FirstFaultIsTheCause.{some_next}
 use Rattle.b2_texts.specs.Clashes.{unconditional_pair}
 use Rattle.b2_texts.proofs.clashes.unconditional_pairs.Goals as goal
 use Rattle.b2_texts.proofs.clashes.unconditional_pairs.Goals.{in-Some+in_ok-copy+in_ok-copy-2+in_ok-push, in_default}

@@ -1,7 +1,7 @@
 use Rattle.std.proofs.Common.{sym, subst}
 use Rattle.std.specs.Prelude.{codes}
 use Rattle.b2_base.specs.Bytes.{HasNoZero}
-use Rattle.b2_texts.proofs.Pieces.{clean_pieces, clean_slashes}
+use Rattle.b2_texts.proofs.JoiningAddsNoZeroBytes.{clean_pieces, clean_slashes}
 use Rattle.b2_texts.proofs.completion.reference_to.Goals as goal
 
 pub from_string-requires : goal.from_string-requires

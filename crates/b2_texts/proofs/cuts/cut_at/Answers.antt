@@ -1,4 +1,4 @@
-use Rattle.b2_texts.proofs.Cutting.{cut_of, cut_clean}
+use Rattle.b2_texts.proofs.CutIsAtFirstMark.{cut_of, cut_clean}
 use Rattle.b2_texts.proofs.cuts.cut_at.Goals as goal
 
 pub returns-clause-cut : goal.returns-clause-cut

@@ -1,7 +1,7 @@
 use Rattle.std.proofs.Common.{◌∙◌, None, Some, sym, ap, lit<}
 use Rattle.std.proofs.lemmas.Str.Pattern.{strip_prefix_char}
 use Rattle.b2_texts.specs.Cuts.{named_pair}
-use Rattle.b2_texts.proofs.Naming.{named_none, rest_clean}
+use Rattle.b2_texts.proofs.NamesBeginWithTheirSign.{named_none, rest_clean}
 use Rattle.b2_texts.proofs.cuts.named_pair.Goals as goal
 
 pub returns-in-None-clause-named : goal.returns-in-None-clause-named

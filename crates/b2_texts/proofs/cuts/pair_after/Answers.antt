@@ -1,4 +1,4 @@
-use Rattle.b2_texts.proofs.Pairs.{pair_of, pair_clean}
+use Rattle.b2_texts.proofs.SplitGivesTheNamedPair.{pair_of, pair_clean}
 use Rattle.b2_texts.proofs.cuts.pair_after.Goals as goal
 
 pub returns-clause-named : goal.returns-clause-named

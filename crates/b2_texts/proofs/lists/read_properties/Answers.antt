@@ -1,7 +1,7 @@
 use Rattle.std.proofs.Common.{◌∙◌, Ok, sym, ap}
 use Rattle.std.proofs.lemmas.Result.{err_from_is_err_and}
 use Rattle.b2_texts.specs.Readings.{property_reading}
-use Rattle.b2_texts.proofs.Listing.{reads_next, reads_stop}
+use Rattle.b2_texts.proofs.ReadingStopsAtFirstFault.{reads_next, reads_stop}
 use Rattle.b2_texts.proofs.lists.read_properties.Goals as goal
 
 pub returns-in_err-feature-clause-fault : goal.returns-in_err-feature-clause-fault

@@ -2,7 +2,7 @@ use Rattle.std.proofs.Common.{◌∙◌, ◌++◌, List, not, is_some, ap, ap₂
 use Rattle.std.specs.FinMap as map
 use Rattle.b2_props.specs.Sets.{Pair}
 use Rattle.b2_props.specs.Refinement.{names}
-use Rattle.b2_texts.proofs.FilterLemmas.{same_filter}
+use Rattle.b2_texts.proofs.SameTestsFilterAlike.{same_filter}
 use Rattle.b2_texts.proofs.missing.with_missing.Goals as goal
 
 pub returns : goal.returns

@@ -1,5 +1,5 @@
 use Rattle.std.proofs.Common.{◌∙◌, Some, sym, ap}
-use Rattle.b2_texts.proofs.Listing.{all_next, all_none}
+use Rattle.b2_texts.proofs.ReadingStopsAtFirstFault.{all_next, all_none}
 use Rattle.b2_texts.proofs.properties.all_of.Goals as goal
 
 pub returns-in_default : goal.returns-in_default

@@ -1,6 +1,6 @@
 use Rattle.std.proofs.Common.{None, Some, sym, lit<}
 use Rattle.std.proofs.lemmas.Str.Pattern.{strip_prefix_char}
-use Rattle.b2_texts.proofs.Naming.{rule_none, rest_clean}
+use Rattle.b2_texts.proofs.NamesBeginWithTheirSign.{rule_none, rest_clean}
 use Rattle.b2_texts.proofs.reading.rule_name.Goals as goal
 
 pub returns-in-None-clause-rule : goal.returns-in-None-clause-rule

@@ -9,7 +9,7 @@ use Rattle.b2_plan.specs.Plans.{Apart}
 use Rattle.b2_update.specs.Moments.{moment}
 use Rattle.b2_top.specs.Writing.{AnswersStop}
 use Rattle.b2_top.specs.Running.{Carries}
-use Rattle.b2_top.proofs.BuildLemmas.{carried, stopped, left_from}
+use Rattle.b2_top.proofs.BuildsAnswerAsPromised.{carried, stopped, left_from}
 use Rattle.b2_top.proofs.build.build.Goals as goal
 
 pub carry_out-requires-clause-idle : goal.carry_out-requires-clause-idle

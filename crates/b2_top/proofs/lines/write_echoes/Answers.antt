@@ -3,7 +3,7 @@ use Rattle.std.proofs.lemmas.Result.{err_from_is_err_and}
 use Rattle.b2_runs.specs.Reports.{line}
 use Rattle.b2_top.specs.Reports.{echo_lines}
 use Rattle.b2_top.specs.Writing.{Writes}
-use Rattle.b2_top.proofs.WritingLemmas.{written_none, writes_err, list_more, list_stops, list_done, made_again}
+use Rattle.b2_top.proofs.PiecesWrittenMakeTheWhole.{written_none, writes_err, list_more, list_stops, list_done, made_again}
 use Rattle.b2_top.proofs.lines.write_echoes.Goals as goal
 
 pub loop-echo-init : goal.loop-echo-init

@@ -1,6 +1,6 @@
 use Rattle.std.proofs.Common.{List, ℕ, subst, ◌∙◌}
 use Rattle.b2_top.specs.Writing.{Writes}
-use Rattle.b2_top.proofs.WritingLemmas.{writes_nothing, made_bytes}
+use Rattle.b2_top.proofs.PiecesWrittenMakeTheWhole.{writes_nothing, made_bytes}
 use Rattle.b2_top.proofs.lines.write_made.Goals as goal
 
 pub returns-in-Ok : goal.returns-in-Ok

@@ -3,7 +3,7 @@ use Rattle.std.proofs.lemmas.Result.{err_from_is_err_and}
 use Rattle.b2_refusals.specs.Lines.{refusal_line}
 use Rattle.b2_top.specs.Reports.{echo_lines, refusal_report}
 use Rattle.b2_top.specs.Writing.{Writes}
-use Rattle.b2_top.proofs.WritingLemmas.{writes_err, writes_stop, writes_then}
+use Rattle.b2_top.proofs.PiecesWrittenMakeTheWhole.{writes_err, writes_stop, writes_then}
 use Rattle.b2_top.proofs.lines.write_refusal.Goals as goal
 
 pub returns-in_err-write_echoes : goal.returns-in_err-write_echoes

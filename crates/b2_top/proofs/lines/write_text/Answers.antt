@@ -1,4 +1,4 @@
-use Rattle.b2_top.proofs.WritingLemmas.{prints_writes, writes_empty}
+use Rattle.b2_top.proofs.PiecesWrittenMakeTheWhole.{prints_writes, writes_empty}
 use Rattle.b2_top.proofs.lines.write_text.Goals as goal
 
 pub returns-then-is_empty : goal.returns-then-is_empty

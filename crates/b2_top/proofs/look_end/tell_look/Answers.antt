@@ -1,7 +1,7 @@
 use Rattle.b2_top.specs.declared.answer.Answer.TheVariants as answers
 use Rattle.b2_planning.specs.Plans.{seen}
 use Rattle.b2_top.specs.Looks.{look_report}
-use Rattle.b2_top.proofs.WritingLemmas.{says_done, says_not}
+use Rattle.b2_top.proofs.PiecesWrittenMakeTheWhole.{says_done, says_not}
 use Rattle.b2_top.proofs.look_end.tell_look.Goals as goal
 
 pub returns-in-Ok : goal.returns-in-Ok

@@ -4,7 +4,7 @@ use Rattle.b2_planning.specs.Plans.{seen}
 use Rattle.b2_top.specs.Reports.{echo_lines}
 use Rattle.b2_top.specs.Looks.{view_lines, look_report}
 use Rattle.b2_top.specs.Writing.{Writes}
-use Rattle.b2_top.proofs.WritingLemmas.{writes_err, writes_stop, writes_then}
+use Rattle.b2_top.proofs.PiecesWrittenMakeTheWhole.{writes_err, writes_stop, writes_then}
 use Rattle.b2_top.proofs.look_lines.write_look.Goals as goal
 
 pub returns-in_err-write_echoes : goal.returns-in_err-write_echoes

@@ -3,7 +3,7 @@ use Rattle.std.proofs.lemmas.Result.{err_from_is_err_and}
 use Rattle.b2_runs.specs.Reports.{start_line}
 use Rattle.b2_refusals.specs.Lines.{text_line, step_lines}
 use Rattle.b2_top.specs.Writing.{Writes}
-use Rattle.b2_top.proofs.WritingLemmas.{writes_err, writes_stop, writes_then}
+use Rattle.b2_top.proofs.PiecesWrittenMakeTheWhole.{writes_err, writes_stop, writes_then}
 use Rattle.b2_top.proofs.look_lines.write_step.Goals as goal
 
 pub returns-in_err-write_made : goal.returns-in_err-write_made

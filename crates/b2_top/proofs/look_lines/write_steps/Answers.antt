@@ -3,7 +3,7 @@ use Rattle.std.proofs.lemmas.Result.{err_from_is_err_and}
 use Rattle.b2_refusals.specs.Lines.{step_lines}
 use Rattle.b2_top.specs.Looks.{steps_lines}
 use Rattle.b2_top.specs.Writing.{Writes}
-use Rattle.b2_top.proofs.WritingLemmas.{written_none, writes_err, list_more, list_stops, list_done}
+use Rattle.b2_top.proofs.PiecesWrittenMakeTheWhole.{written_none, writes_err, list_more, list_stops, list_done}
 use Rattle.b2_top.proofs.look_lines.write_steps.Goals as goal
 
 pub loop-step-init : goal.loop-step-init

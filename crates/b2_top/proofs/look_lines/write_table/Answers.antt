@@ -4,7 +4,7 @@ use Rattle.b2_planning.specs.declared.planned.Built.{Built}
 use Rattle.b2_refusals.specs.Lines.{table_line}
 use Rattle.b2_top.specs.Looks.{table_lines}
 use Rattle.b2_top.specs.Writing.{Writes}
-use Rattle.b2_top.proofs.WritingLemmas.{written_none, writes_err, list_more, list_stops, list_done, made_again}
+use Rattle.b2_top.proofs.PiecesWrittenMakeTheWhole.{written_none, writes_err, list_more, list_stops, list_done, made_again}
 use Rattle.b2_top.proofs.look_lines.write_table.Goals as goal
 
 abbrev row_line : Built → List ℕ

@@ -1,7 +1,7 @@
 use Rattle.std.proofs.Common.{List, ℕ, ap, sym, ◌∙◌, codes}
 use Rattle.std.specs.Str.{bytes_eq}
 use Rattle.b2_top.specs.Modes.{is_view}
-use Rattle.b2_top.proofs.LookWordLemmas.{ends_here, view_here, word_passed, no_word}
+use Rattle.b2_top.proofs.ViewIsFoundBeforeDashes.{ends_here, view_here, word_passed, no_word}
 use Rattle.b2_top.proofs.mode.has_view.Goals as goal
 
 pub returns-then-eq : goal.returns-then-eq

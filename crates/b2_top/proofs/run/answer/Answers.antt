@@ -1,6 +1,6 @@
 use Rattle.std.proofs.Common.{refl, inl, ap, Err}
 use Rattle.b2_host.specs.OutsideLaws.{keeps_same}
-use Rattle.b2_top.proofs.StillLemmas.{still_same, still_usage, still_short}
+use Rattle.b2_top.proofs.StillCallsAnswerAsPromised.{still_same, still_usage, still_short}
 use Rattle.b2_top.proofs.run.answer.Goals as goal
 
 pub returns-in-Err-Usage-clause-answered : goal.returns-in-Err-Usage-clause-answered

@@ -1,7 +1,7 @@
 use Rattle.std.proofs.Common.{inl, refl, sym, ◌∙◌}
 use Rattle.b2_host.specs.OutsideLaws.{keeps_same}
-use Rattle.b2_top.proofs.StillLemmas.{still_same, still_short, option_refused}
-use Rattle.b2_top.proofs.WordLemmas.{has_items}
+use Rattle.b2_top.proofs.StillCallsAnswerAsPromised.{still_same, still_short, option_refused}
+use Rattle.b2_top.proofs.BuildWordsFollowTheGrammar.{has_items}
 use Rattle.b2_top.proofs.run.build_words.Goals as goal
 
 pub unbuilt_option-requires : goal.unbuilt_option-requires

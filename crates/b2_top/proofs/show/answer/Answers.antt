@@ -1,5 +1,5 @@
 use Rattle.std.proofs.Common.{refl, ap, Err}
-use Rattle.b2_top.proofs.ShowLemmas.{answered_usage, ended_short}
+use Rattle.b2_top.proofs.LooksAnswerAsPromised.{answered_usage, ended_short}
 use Rattle.b2_top.proofs.show.answer.Goals as goal
 
 pub returns-in-Err-Usage-clause-answered : goal.returns-in-Err-Usage-clause-answered

@@ -1,7 +1,7 @@
 use Rattle.std.proofs.Common.{ℕ, List, IfSome, subst}
 use Rattle.b2_host.specs.Disks.{Disk}
 use Rattle.b2_front.specs.Preparing.{IsPrepared}
-use Rattle.b2_top.proofs.ShowLemmas.{answered}
+use Rattle.b2_top.proofs.LooksAnswerAsPromised.{answered}
 use Rattle.b2_top.proofs.show.show.Goals as goal
 
 pub returns-clause-shows : goal.returns-clause-shows

@@ -3,7 +3,7 @@ use Rattle.b2_front.specs.Refusals.{IsWholeRefusal}
 use Rattle.b2_front.specs.declared.refusal.Refusal.{Refusal}
 use Rattle.b2_front.specs.declared.refusal.Refusal.TheVariants as refusals
 use Rattle.b2_top.specs.RefusalCauses.{fault_of}
-use Rattle.b2_top.proofs.FaultLemmas.{whole_of}
+use Rattle.b2_top.proofs.OnlyPatternsRefuseAPlan.{whole_of}
 use Rattle.b2_top.proofs.tell.fault_of.Goals as goal
 
 pub returns-in-Load-clause-fault : goal.returns-in-Load-clause-fault

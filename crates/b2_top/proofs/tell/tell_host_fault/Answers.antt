@@ -1,6 +1,6 @@
 use Rattle.std.proofs.Common.{Err, ap, ◌∙◌}
 use Rattle.b2_top.specs.Reports.{fault_report}
-use Rattle.b2_top.proofs.WritingLemmas.{fault_done, fault_not, fault_short}
+use Rattle.b2_top.proofs.PiecesWrittenMakeTheWhole.{fault_done, fault_not, fault_short}
 use Rattle.b2_top.proofs.tell.tell_host_fault.Goals as goal
 
 pub returns-in-Ok : goal.returns-in-Ok

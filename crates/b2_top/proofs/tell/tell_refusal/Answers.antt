@@ -1,6 +1,6 @@
 use Rattle.b2_top.specs.declared.answer.Answer.TheVariants as answers
 use Rattle.b2_top.specs.Reports.{refusal_report}
-use Rattle.b2_top.proofs.WritingLemmas.{says_done, says_not}
+use Rattle.b2_top.proofs.PiecesWrittenMakeTheWhole.{says_done, says_not}
 use Rattle.b2_top.proofs.tell.tell_refusal.Goals as goal
 
 pub returns-in-Ok : goal.returns-in-Ok

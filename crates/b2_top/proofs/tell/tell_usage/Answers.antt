@@ -1,7 +1,7 @@
 use Rattle.std.proofs.Common.{List, ℕ, subst}
 use Rattle.b2_top.specs.declared.answer.Answer.TheVariants as answers
 use Rattle.b2_top.specs.Writing.{Says}
-use Rattle.b2_top.proofs.WritingLemmas.{says_done, says_not}
+use Rattle.b2_top.proofs.PiecesWrittenMakeTheWhole.{says_done, says_not}
 use Rattle.b2_top.proofs.tell.tell_usage.Goals as goal
 
 pub returns-in-Ok : goal.returns-in-Ok

@@ -1,6 +1,6 @@
 use Rattle.std.proofs.Common.{sym, ap, ◌∙◌}
 use Rattle.b2_top.specs.Found.{in_next}
-use Rattle.b2_top.proofs.WalkLemmas.{name_here, ends_here, word_passed, no_word}
+use Rattle.b2_top.proofs.FirstFoundIsFirstUnbuilt.{name_here, ends_here, word_passed, no_word}
 use Rattle.b2_top.proofs.unbuilt.first_found.Goals as goal
 
 pub returns-in-Unbuilt : goal.returns-in-Unbuilt

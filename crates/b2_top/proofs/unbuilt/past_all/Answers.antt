@@ -1,4 +1,4 @@
-use Rattle.b2_top.proofs.FoundLemmas.{past_each}
+use Rattle.b2_top.proofs.FoundIsWhatItemsSay.{past_each}
 use Rattle.b2_top.proofs.unbuilt.past_all.Goals as goal
 
 pub returns-clause-rest : goal.returns-clause-rest

@@ -1,6 +1,6 @@
 use Rattle.std.proofs.Common.{None, Some, sym, ap, ◌∙◌}
 use Rattle.b2_top.specs.Unbuilt.{first_scanned}
-use Rattle.b2_top.proofs.FileLemmas.{of_both}
+use Rattle.b2_top.proofs.FirstScannedPathIsFound.{of_both}
 use Rattle.b2_top.proofs.unbuilt.scanned_of.Goals as goal
 
 pub returns-in-Some : goal.returns-in-Some

@@ -1,5 +1,5 @@
 use Rattle.std.proofs.Common.{sym}
-use Rattle.b2_top.proofs.FileLemmas.{step_found, step_passed, no_step}
+use Rattle.b2_top.proofs.FirstScannedPathIsFound.{step_found, step_passed, no_step}
 use Rattle.b2_top.proofs.unbuilt.unbuilt_file.Goals as goal
 
 pub returns-in-Some : goal.returns-in-Some

@@ -1,5 +1,5 @@
 use Rattle.std.proofs.Common.{◌≡◌, IfOk, subst}
-use Rattle.b2_top.proofs.WalkLemmas.{first_is}
+use Rattle.b2_top.proofs.FirstFoundIsFirstUnbuilt.{first_is}
 use Rattle.b2_top.proofs.unbuilt.unbuilt_option.Goals as goal
 
 pub returns : goal.returns

@@ -1,6 +1,6 @@
 use Rattle.std.proofs.Common.{◌≡◌, ◌+◌, false, length, replicate, ap}
-use Rattle.b2_update.proofs.BeginLemmas.{new_untold}
-use Rattle.b2_update.proofs.SeenLemmas.{board_begins, none_in}
+use Rattle.b2_update.proofs.LooksStartNoStep.{new_untold}
+use Rattle.b2_update.proofs.EachLookJudgesOrWaits.{board_begins, none_in}
 use Rattle.b2_update.proofs.board.new_board.Goals as goal
 
 pub returns-clause-board : goal.returns-clause-board

@@ -3,7 +3,7 @@ use Rattle.b2_host.specs.Outside.{Outside}
 use Rattle.b2_host.specs.Output.{Output}
 use Rattle.b2_host.specs.ChildCalls.{started as after_start}
 use Rattle.b2_update.specs.Moments.{moment}
-use Rattle.b2_update.proofs.NextStepLemmas.{child_ran}
+use Rattle.b2_update.proofs.MissingOutputMeansBadEnd.{child_ran}
 use Rattle.b2_update.proofs.child.run_child.Goals as goal
 
 pub returns-clause-run : goal.returns-clause-run

@@ -1,5 +1,5 @@
-use Rattle.b2_update.proofs.LineLemmas.{empty_text, some_text}
-use Rattle.b2_update.proofs.WritingLemmas.{says_nothing, on_err}
+use Rattle.b2_update.proofs.NameComesBeforePath.{empty_text, some_text}
+use Rattle.b2_update.proofs.WrittenPartsAddUp.{says_nothing, on_err}
 use Rattle.b2_update.proofs.child.tell_start.Goals as goal
 
 pub returns-then-is_empty-clause-said : goal.returns-then-is_empty-clause-said

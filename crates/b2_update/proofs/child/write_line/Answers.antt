@@ -1,6 +1,6 @@
 use Rattle.std.proofs.Common.{sym, subst, Err}
 use Rattle.b2_update.specs.Stops.{Says, sink_stop_of}
-use Rattle.b2_update.proofs.WritingLemmas.{says_failed}
+use Rattle.b2_update.proofs.WrittenPartsAddUp.{says_failed}
 use Rattle.b2_update.proofs.child.write_line.Goals as goal
 
 pub returns-in-Err : goal.returns-in-Err

@@ -4,8 +4,8 @@ use Rattle.std.proofs.lemmas.List.Filters.{dedup_is}
 use Rattle.std.proofs.lemmas.List.Kept.{IsStrictlySortedBy-dedup, Contains-dedup, Contains-from_dedup}
 use Rattle.std.proofs.lemmas.List.Sorted.{Contains-permutation, IsPermutation-sym}
 use Rattle.std.specs.Cmp.Lexicographic.{texts_ties, nat_list_eq_equiv, nat_list_cmp_total}
-use Rattle.b2_update.proofs.MakerLemmas.{same_bytes}
-use Rattle.b2_update.proofs.OrderLemmas.{pairs_in_order}
+use Rattle.b2_update.proofs.FoundMakerMakesPath.{same_bytes}
+use Rattle.b2_update.proofs.SortedPairsAreInOrder.{pairs_in_order}
 use Rattle.b2_update.proofs.distinct.distinct.Goals as goal
 
 pub returns-clause-rising : goal.returns-clause-rising

@@ -9,8 +9,8 @@ use Rattle.b2_update.specs.Answers.{lists_of}
 use Rattle.b2_update.specs.Moments.{moment}
 use Rattle.b2_update.specs.Stops.{StopLooks, Says}
 use Rattle.b2_update.specs.Ends.{EndRan}
-use Rattle.b2_update.proofs.BoardLemmas.{are_judged}
-use Rattle.b2_update.proofs.CloseLemmas.{end_memory, end_cycle, end_look, end_writing, end_written}
+use Rattle.b2_update.proofs.OnlyStepsAreNeeded.{are_judged}
+use Rattle.b2_update.proofs.EachEndIsAsPromised.{end_memory, end_cycle, end_look, end_writing, end_written}
 use Rattle.b2_update.proofs.end.end_update.Goals as goal
 
 pub stuck-requires : goal.stuck-requires

@@ -3,7 +3,7 @@ use Rattle.std.specs.List.{Contains}
 use Rattle.b2_runs.specs.Outcomes.{IsListOf}
 use Rattle.b2_sched.specs.Schedules.{IsFailed, IsSkipped}
 use Rattle.b2_update.specs.Sightings.{WasFound, MissesOf}
-use Rattle.b2_update.proofs.CloseLemmas.{all_listed}
+use Rattle.b2_update.proofs.EachEndIsAsPromised.{all_listed}
 use Rattle.b2_update.proofs.end.list_end.Goals as goal
 
 pub returns-clause-answer : goal.returns-clause-answer

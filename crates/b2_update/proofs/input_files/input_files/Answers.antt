@@ -1,7 +1,7 @@
 use Rattle.std.proofs.Common.{◌∙◌, ◌++◌, ◌∷◌, [], cond, ap}
 use Rattle.b2_update.specs.Inputs.{is_file, files_of}
-use Rattle.b2_update.proofs.ListLemmas.{take_whole}
-use Rattle.b2_update.proofs.ReadLemmas.{files_more}
+use Rattle.b2_update.proofs.PrefixesGrowByOne.{take_whole}
+use Rattle.b2_update.proofs.MakersAndFilesGrow.{files_more}
 use Rattle.b2_update.proofs.input_files.input_files.Goals as goal
 
 pub loop-path-preserved : goal.loop-path-preserved

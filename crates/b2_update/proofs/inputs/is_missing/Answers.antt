@@ -3,7 +3,7 @@ use Rattle.b2_host.specs.Disks.{Disk}
 use Rattle.b2_plan.specs.Sources.{IsSource}
 use Rattle.b2_update.specs.Inputs.{FoundAs}
 use Rattle.b2_update.specs.Plain.{plan_build}
-use Rattle.b2_update.proofs.InputLemmas.{told_all, told_map, made_given, source_given}
+use Rattle.b2_update.proofs.MadeOrSourceIsGiven.{told_all, told_map, made_given, source_given}
 use Rattle.b2_update.proofs.inputs.is_missing.Goals as goal
 
 pub returns-then-is_some-clause-answer : goal.returns-then-is_some-clause-answer

@@ -2,7 +2,7 @@ use Rattle.std.proofs.Common.{◌≡◌, ◌↔◌, ℕ, List, IsTrue, sym, subs
 use Rattle.b2_host.specs.Disks.{Disk, StatTold}
 use Rattle.b2_plan.specs.Sources.{IsInRoots, IsSource}
 use Rattle.b2_update.specs.Plain.{plan_build}
-use Rattle.b2_update.proofs.InputLemmas.{told_all, told_at, stat_source}
+use Rattle.b2_update.proofs.MadeOrSourceIsGiven.{told_all, told_at, stat_source}
 use Rattle.b2_update.proofs.inputs.is_source.Goals as goal
 
 pub returns-clause-answer : goal.returns-clause-answer

@@ -1,6 +1,6 @@
 use Rattle.std.proofs.Common.{◌≡◌, ◌≢◌, ◌∙◌, ◌++◌, [], codes, string_bytes, append_assoc, sym}
 use Rattle.b2_base.specs.Lists.{first_of}
-use Rattle.b2_update.proofs.LineLemmas.{some_text, named_some}
+use Rattle.b2_update.proofs.NameComesBeforePath.{some_text, named_some}
 use Rattle.b2_update.proofs.lines.title.Goals as goal
 
 pub returns : goal.returns

@@ -6,7 +6,7 @@ use Rattle.b2_runs.specs.Reports.{missing_line, summary_line, end_lines}
 use Rattle.b2_update.specs.Answers.{lists_of}
 use Rattle.b2_update.specs.Writings.{Adds, AddsPart, skipped_lines}
 use Rattle.b2_update.specs.Stops.{Says}
-use Rattle.b2_update.proofs.WritingLemmas.{says_err, says_from, says_map, says_no_memory, part_of_more, part_whole, adds_both, adds_then_part}
+use Rattle.b2_update.proofs.WrittenPartsAddUp.{says_err, says_from, says_map, says_no_memory, part_of_more, part_whole, adds_both, adds_then_part}
 use Rattle.b2_update.proofs.lists.tell_end.Goals as goal
 
 pub returns-in_err-tell_missing : goal.returns-in_err-tell_missing

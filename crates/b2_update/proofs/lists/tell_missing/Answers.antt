@@ -5,8 +5,8 @@ use Rattle.b2_host.specs.Output.{Output}
 use Rattle.b2_runs.specs.Reports.{missing_line}
 use Rattle.b2_update.specs.Writings.{Adds, AddsPart}
 use Rattle.b2_update.specs.Stops.{Says}
-use Rattle.b2_update.proofs.ListLemmas.{take_whole}
-use Rattle.b2_update.proofs.WritingLemmas.{says_err, says_from, says_no_memory, says_all, part_taken, part_more, adds_more}
+use Rattle.b2_update.proofs.PrefixesGrowByOne.{take_whole}
+use Rattle.b2_update.proofs.WrittenPartsAddUp.{says_err, says_from, says_no_memory, says_all, part_taken, part_more, adds_more}
 use Rattle.b2_update.proofs.lists.tell_missing.Goals as goal
 
 pub returns-in_err-line : goal.returns-in_err-line

@@ -5,8 +5,8 @@ use Rattle.b2_plan.specs.Plans.{step_at}
 use Rattle.b2_runs.specs.Reports.{skipped_line, said_of}
 use Rattle.b2_update.specs.Writings.{Adds, skipped_lines}
 use Rattle.b2_update.specs.Stops.{Says}
-use Rattle.b2_update.proofs.ListLemmas.{take_whole}
-use Rattle.b2_update.proofs.WritingLemmas.{says_err, says_from, says_all, part_more, adds_more}
+use Rattle.b2_update.proofs.PrefixesGrowByOne.{take_whole}
+use Rattle.b2_update.proofs.WrittenPartsAddUp.{says_err, says_from, says_all, part_more, adds_more}
 use Rattle.b2_update.proofs.lists.tell_skipped.Goals as goal
 
 pub returns-in_err-tell_one_skipped : goal.returns-in_err-tell_one_skipped

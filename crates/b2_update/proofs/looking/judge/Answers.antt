@@ -1,7 +1,7 @@
 use Rattle.std.proofs.Common.{◌≡◌, ℕ, List, [], true, false, get_or, refl, sym, subst, ◌∙◌}
 use Rattle.std.specs.List.{Contains}
 use Rattle.std.proofs.lemmas.List.{get_or_default}
-use Rattle.b2_update.proofs.SeenLemmas.{judges_waiting, judges_lacking, judges_stale}
+use Rattle.b2_update.proofs.EachLookJudgesOrWaits.{judges_waiting, judges_lacking, judges_stale}
 use Rattle.b2_update.proofs.looking.judge.Goals.{else-over-via-then-over+else-not-index, else-over-via-else-over}
 use Rattle.b2_update.proofs.looking.judge.Goals as goal
 

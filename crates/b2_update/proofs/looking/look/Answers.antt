@@ -1,5 +1,5 @@
 use Rattle.b2_update.specs.Plain.{update_of}
-use Rattle.b2_update.proofs.SeenLemmas.{needed_then, unjudged_then, lists_then, waits_for_steps, has_looked, judged_sighted}
+use Rattle.b2_update.proofs.EachLookJudgesOrWaits.{needed_then, unjudged_then, lists_then, waits_for_steps, has_looked, judged_sighted}
 use Rattle.b2_update.proofs.looking.look.Goals as goal
 
 pub judge-requires-clause-lacking : goal.judge-requires-clause-lacking

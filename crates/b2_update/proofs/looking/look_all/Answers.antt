@@ -2,9 +2,9 @@ use Rattle.std.proofs.Common.{refl, sym, subst, ap, ◌∙◌}
 use Rattle.b2_host.specs.Outside.{Outside}
 use Rattle.b2_sched.specs.Schedules.{IsNeeded}
 use Rattle.b2_update.specs.Plain.{update_of}
-use Rattle.b2_update.proofs.FollowLemmas.{looks_then}
-use Rattle.b2_update.proofs.LookLemmas.{sighted_along}
-use Rattle.b2_update.proofs.SeenLemmas.{taken_board, taken_looks, taken_step, taken_needed, taken_unjudged, fewer_left}
+use Rattle.b2_update.proofs.ScheduleFollowsEvents.{looks_then}
+use Rattle.b2_update.proofs.SeenStepsHaveKnownInputs.{sighted_along}
+use Rattle.b2_update.proofs.EachLookJudgesOrWaits.{taken_board, taken_looks, taken_step, taken_needed, taken_unjudged, fewer_left}
 use Rattle.b2_update.proofs.looking.look_all.Goals as goal
 
 pub look-requires-clause-board : goal.look-requires-clause-board

@@ -3,9 +3,9 @@ use Rattle.std.specs.List.{Contains}
 use Rattle.b2_update.specs.Needs.{TellsNeeds}
 use Rattle.b2_update.specs.Plain.{update_of}
 use Rattle.b2_update.specs.Sightings.{MissesOf}
-use Rattle.b2_update.proofs.BoardLemmas.{read_is_step, needed_is_step}
-use Rattle.b2_update.proofs.LookLemmas.{see_sighted}
-use Rattle.b2_update.proofs.SeenLemmas.{makers_read_are, in_lists, lists_even, told_step, sees}
+use Rattle.b2_update.proofs.OnlyStepsAreNeeded.{read_is_step, needed_is_step}
+use Rattle.b2_update.proofs.SeenStepsHaveKnownInputs.{see_sighted}
+use Rattle.b2_update.proofs.EachLookJudgesOrWaits.{makers_read_are, in_lists, lists_even, told_step, sees}
 use Rattle.b2_update.proofs.looking.see.Goals as goal
 
 pub tell_needs-requires-clause-on : goal.tell_needs-requires-clause-on

@@ -1,6 +1,6 @@
 use Rattle.std.proofs.Common.{false, sym, ◌∙◌}
 use Rattle.std.proofs.lemmas.List.{get_or_default}
-use Rattle.b2_update.proofs.SeenLemmas.{in_lists, sees_again}
+use Rattle.b2_update.proofs.EachLookJudgesOrWaits.{in_lists, sees_again}
 use Rattle.b2_update.proofs.looking.see_once.Goals as goal
 
 pub returns-then-index-clause-sees : goal.returns-then-index-clause-sees

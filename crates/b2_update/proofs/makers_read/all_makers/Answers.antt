@@ -3,8 +3,8 @@ use Rattle.std.specs.List.{Contains}
 use Rattle.b2_plan.specs.Plans.{maker_of}
 use Rattle.b2_sched.specs.Calls.{MakesOneOf}
 use Rattle.b2_update.specs.Inputs.{one_of}
-use Rattle.b2_update.proofs.ListLemmas.{take_whole}
-use Rattle.b2_update.proofs.ReadLemmas.{makers_more}
+use Rattle.b2_update.proofs.PrefixesGrowByOne.{take_whole}
+use Rattle.b2_update.proofs.MakersAndFilesGrow.{makers_more}
 use Rattle.b2_update.proofs.makers_read.all_makers.Goals as goal
 
 pub loop-path-preserved : goal.loop-path-preserved

@@ -2,10 +2,10 @@ use Rattle.std.proofs.Common.{ℕ, take, get_or, sym, subst}
 use Rattle.std.proofs.lemmas.List.{take_more}
 use Rattle.std.proofs.lemmas.List.Elements.{Contains-get_or}
 use Rattle.b2_sched.specs.Schedules.{IsFirst, Needs}
-use Rattle.b2_sched.proofs.KeepLemmas.{needed_more}
+use Rattle.b2_sched.proofs.ChangesKeepTheInvariant.{needed_more}
 use Rattle.b2_update.specs.Needs.{TellsNeeds}
-use Rattle.b2_update.proofs.ListLemmas.{take_whole}
-use Rattle.b2_update.proofs.NeedLemmas.{tells_none, tells_more, still_step}
+use Rattle.b2_update.proofs.PrefixesGrowByOne.{take_whole}
+use Rattle.b2_update.proofs.ToldNeedsGrowByOne.{tells_none, tells_more, still_step}
 use Rattle.b2_update.proofs.needs.tell_needs.Goals as goal
 
 pub loop-need-init : goal.loop-need-init

@@ -2,7 +2,7 @@ use Rattle.std.proofs.Common.{◌≡◌, get_or, sym, subst, ap, ◌∙◌}
 use Rattle.b2_host.specs.Outside.{Outside}
 use Rattle.b2_host.specs.OutsideLaws.{Keeps, keeps_then, keeps_removed, keeps_removes}
 use Rattle.b2_host.specs.FileCalls.{removed}
-use Rattle.b2_update.proofs.OutputLemmas.{clears_failed, clears_all, clears_more, gone_more}
+use Rattle.b2_update.proofs.OnlyOutputsAreRemoved.{clears_failed, clears_all, clears_more, gone_more}
 use Rattle.b2_update.proofs.outputs.remove_all.Goals as goal
 
 pub returns-in_err-remove-clause-keeps : goal.returns-in_err-remove-clause-keeps

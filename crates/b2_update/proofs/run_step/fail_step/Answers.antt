@@ -5,9 +5,9 @@ use Rattle.b2_update.specs.declared.stop.Stop.TheVariants as stops
 use Rattle.b2_update.specs.Moments.{moment}
 use Rattle.b2_update.specs.Stops.{Says}
 use Rattle.b2_update.specs.Outputs.{AreGone, Clears}
-use Rattle.b2_update.proofs.WritingLemmas.{says_part}
-use Rattle.b2_update.proofs.StopLemmas.{goes_err, says_stops, host_stops, no_sink}
-use Rattle.b2_update.proofs.StepLemmas.{ended_stopped, ended_kept, ended_part, ended_failed}
+use Rattle.b2_update.proofs.WrittenPartsAddUp.{says_part}
+use Rattle.b2_update.proofs.EachStopHasItsCause.{goes_err, says_stops, host_stops, no_sink}
+use Rattle.b2_update.proofs.StartedStepEndsOrStops.{ended_stopped, ended_kept, ended_part, ended_failed}
 use Rattle.b2_update.proofs.run_step.fail_step.Goals as goal
 
 pub returns-in_err-remove_all-clause-told : goal.returns-in_err-remove_all-clause-told

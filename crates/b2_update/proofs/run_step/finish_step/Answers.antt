@@ -4,12 +4,12 @@ use Rattle.b2_host.specs.OutsideLaws.{Keeps}
 use Rattle.b2_update.specs.Moments.{moment}
 use Rattle.b2_update.specs.Stops.{StopLooks, ChangesFiles, FaultsTold}
 use Rattle.b2_update.specs.Progress.{HasEndedChild}
-use Rattle.b2_update.proofs.StopLemmas.{goes_err, look_stops, look_told, look_files, look_keeps, faults_err}
+use Rattle.b2_update.proofs.EachStopHasItsCause.{goes_err, look_stops, look_told, look_files, look_keeps, faults_err}
 use Rattle.b2_update.specs.Turns.{EndedAs}
-use Rattle.b2_update.proofs.InputLemmas.{if_ok_map}
-use Rattle.b2_update.proofs.TurnLemmas.{left_out_told}
-use Rattle.b2_update.proofs.NextStepLemmas.{stopped_look, stands_along, ended_along, ended_badly}
-use Rattle.b2_update.proofs.StepLemmas.{ended_stopped, ended_settled}
+use Rattle.b2_update.proofs.MadeOrSourceIsGiven.{if_ok_map}
+use Rattle.b2_update.proofs.EventsAreTurnsInOrder.{left_out_told}
+use Rattle.b2_update.proofs.MissingOutputMeansBadEnd.{stopped_look, stands_along, ended_along, ended_badly}
+use Rattle.b2_update.proofs.StartedStepEndsOrStops.{ended_stopped, ended_settled}
 use Rattle.b2_update.proofs.run_step.finish_step.Goals as goal
 
 pub returns-in_err-left-clause-counts : goal.returns-in_err-left-clause-counts

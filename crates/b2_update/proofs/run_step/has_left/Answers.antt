@@ -1,4 +1,4 @@
-use Rattle.b2_update.proofs.OutputLemmas.{all_left}
+use Rattle.b2_update.proofs.OnlyOutputsAreRemoved.{all_left}
 use Rattle.b2_update.proofs.run_step.has_left.Goals as goal
 
 pub returns-clause-answer : goal.returns-clause-answer

@@ -9,9 +9,9 @@ use Rattle.b2_update.specs.Moments.{moment}
 use Rattle.b2_update.specs.Turns.{EndedAs, TurnTold}
 use Rattle.b2_update.specs.Runners.{HasStopped}
 use Rattle.b2_update.specs.Stops.{Halts}
-use Rattle.b2_update.proofs.StopLemmas.{goes_err, no_sink, halts_err, calm_here, calm_memory, calm_then}
-use Rattle.b2_update.proofs.StepLemmas.{AreInputs, has_ended_child, has_stopped, stands_stopped}
-use Rattle.b2_update.proofs.TurnLemmas.{ran_turn, stop_turn}
+use Rattle.b2_update.proofs.EachStopHasItsCause.{goes_err, no_sink, halts_err, calm_here, calm_memory, calm_then}
+use Rattle.b2_update.proofs.StartedStepEndsOrStops.{AreInputs, has_ended_child, has_stopped, stands_stopped}
+use Rattle.b2_update.proofs.EventsAreTurnsInOrder.{ran_turn, stop_turn}
 use Rattle.b2_update.proofs.run_step.run_step.Goals as goal
 
 pub returns-in_err-names-clause-keeps : goal.returns-in_err-names-clause-keeps

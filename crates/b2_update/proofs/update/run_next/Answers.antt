@@ -2,8 +2,8 @@ use Rattle.std.proofs.Common.{◌≡◌, length, Some, refl, ap, subst, arith}
 use Rattle.std.proofs.lemmas.Result.{err_from_is_err_and}
 use Rattle.b2_plan.specs.Plans.{step_at}
 use Rattle.b2_update.specs.Moments.{moment}
-use Rattle.b2_update.proofs.RoundLemmas.{board_ends, idle_ends}
-use Rattle.b2_update.proofs.RunLemmas.{running_is_step, ends_in, left_ends, runs_err}
+use Rattle.b2_update.proofs.BoardHoldsThroughRound.{board_ends, idle_ends}
+use Rattle.b2_update.proofs.PromisesHoldBetweenRounds.{running_is_step, ends_in, left_ends, runs_err}
 use Rattle.b2_update.proofs.update.run_next.Goals as goal
 
 pub step_of-step-requires-clause-some : goal.step_of-step-requires-clause-some

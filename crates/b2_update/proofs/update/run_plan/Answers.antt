@@ -2,7 +2,7 @@ use Rattle.std.proofs.Common.{sym, subst, Err}
 use Rattle.std.proofs.lemmas.Result.{err_from_is_err_and}
 use Rattle.b2_update.specs.Moments.{moment}
 use Rattle.b2_update.specs.Progress.{StepsRan, PlanRan}
-use Rattle.b2_update.proofs.PlanLemmas.{plan_memory, steps_stopped, plan_ran}
+use Rattle.b2_update.proofs.PlanRunsAsPromised.{plan_memory, steps_stopped, plan_ran}
 use Rattle.b2_update.proofs.update.run_plan.Goals as goal
 
 pub returns-in_err-board : goal.returns-in_err-board

@@ -6,7 +6,7 @@ use Rattle.b2_update.specs.Moments.{moment}
 use Rattle.b2_update.specs.Stops.{StopLooks}
 use Rattle.b2_update.specs.Starts.{RunsNext}
 use Rattle.b2_update.specs.Progress.{StepsRan}
-use Rattle.b2_update.proofs.RunLemmas.{IsBetween, stale_is_step, byte_is, byte_small, next_runs, next_alone, round_smaller, board_same, between_begins, between_looked, look_stopped, round_ran, round_stopped, started_board, none_is_stale}
+use Rattle.b2_update.proofs.PromisesHoldBetweenRounds.{IsBetween, stale_is_step, byte_is, byte_small, next_runs, next_alone, round_smaller, board_same, between_begins, between_looked, look_stopped, round_ran, round_stopped, started_board, none_is_stale}
 use Rattle.b2_update.proofs.update.run_steps.Goals as goal
 
 pub returns-in_err-look_all-clause-ran : goal.returns-in_err-look_all-clause-ran

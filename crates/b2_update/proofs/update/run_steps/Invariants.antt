@@ -1,7 +1,7 @@
 use Rattle.b2_sched.specs.Schedules.{CanLook}
 use Rattle.b2_update.specs.Moments.{moment}
 use Rattle.b2_update.specs.Starts.{left_to_start}
-use Rattle.b2_update.proofs.RunLemmas.{IsBetween}
+use Rattle.b2_update.proofs.PromisesHoldBetweenRounds.{IsBetween}
 use Rattle.b2_update.proofs.update.run_steps.Given as goal
 
 abbrev pub invariant-loop-number : goal.invariant-loop-number

@@ -6,8 +6,8 @@ use Rattle.b2_update.specs.Plain.{update_of}
 use Rattle.b2_update.specs.Answers.{answer_of, stop_answer}
 use Rattle.b2_runs.specs.UpdateAnswers.{HasHappened}
 use Rattle.b2_update.specs.Updates.{HasRunAll, HasWritten}
-use Rattle.b2_update.proofs.EndLemmas.{both_from, finished_updated, finished_written, stop_is_end}
-use Rattle.b2_update.proofs.StopLemmas.{ended_counts, stopped_counts}
+use Rattle.b2_update.proofs.AnswerTellsWhatHappened.{both_from, finished_updated, finished_written, stop_is_end}
+use Rattle.b2_update.proofs.EachStopHasItsCause.{ended_counts, stopped_counts}
 use Rattle.b2_update.proofs.update.update.Goals as goal
 
 pub returns-in-Ok-clause-counts : goal.returns-in-Ok-clause-counts

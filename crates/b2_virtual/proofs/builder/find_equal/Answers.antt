@@ -1,7 +1,7 @@
 use Rattle.std.proofs.Common.{◌≡◌, true, List, length, get_or, Some, ap, sym, ◌∙◌, arith}
 use Rattle.b2_plan.specs.declared.step.Step.{Step}
 use Rattle.b2_virtual.specs.Joining.{is_same}
-use Rattle.b2_virtual.proofs.JoiningLemmas.{found_at}
+use Rattle.b2_virtual.proofs.JoinedStepsKeepTheirNumbers.{found_at}
 use Rattle.b2_virtual.proofs.builder.find_equal.Goals as goal
 
 pub returns-then-is_same : goal.returns-then-is_same

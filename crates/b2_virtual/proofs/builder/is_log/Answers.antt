@@ -5,8 +5,8 @@ use Rattle.std.proofs.lemmas.Slice.Eq.{bytes_eq-Decides, starts_is}
 use Rattle.std.proofs.lemmas.Str.Pattern.{starts_text}
 use Rattle.b2_base.specs.Normal.{IsNormal, IsUnder}
 use Rattle.b2_host.specs.FileCalls.{log_path}
-use Rattle.b2_base.proofs.Under.{under_on, on_under}
-use Rattle.b2_virtual.proofs.LogLemmas.{normal_log, log_not_here, log_not_root}
+use Rattle.b2_base.proofs.BeginningTellsWhatIsUnder.{under_on, on_under}
+use Rattle.b2_virtual.proofs.LogPathIsNormal.{normal_log, log_not_here, log_not_root}
 use Rattle.b2_virtual.proofs.builder.is_log.Goals as goal
 
 pub returns-else-eq-clause-log : goal.returns-else-eq-clause-log

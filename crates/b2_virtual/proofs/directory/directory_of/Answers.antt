@@ -1,8 +1,8 @@
 use Rattle.std.proofs.Common.{◌≡◌, ◌∙◌, List, ℕ, Some, None, IfOk, lit<, ap, sym, subst}
 use Rattle.b2_base.specs.Segments.{normal_of}
 use Rattle.b2_virtual.specs.Paths.{folder_of}
-use Rattle.b2_base.proofs.LastCuts.{rsplit_parts}
-use Rattle.b2_virtual.proofs.Cuts.{folder_at, folder_none}
+use Rattle.b2_base.proofs.NamesAreCutAtLastSigns.{rsplit_parts}
+use Rattle.b2_virtual.proofs.FolderEndsAtLastSlash.{folder_at, folder_none}
 use Rattle.b2_virtual.proofs.directory.directory_of.Goals as goal
 
 pub returns-in-None : goal.returns-in-None

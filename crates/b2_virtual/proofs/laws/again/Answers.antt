@@ -1,4 +1,4 @@
-use Rattle.b2_virtual.proofs.JoiningLemmas.{again_same, again_number, stays_distinct, nothing_else}
+use Rattle.b2_virtual.proofs.JoinedStepsKeepTheirNumbers.{again_same, again_number, stays_distinct, nothing_else}
 use Rattle.b2_virtual.proofs.laws.again.Goals as goal
 
 pub returns-clause-same : goal.returns-clause-same

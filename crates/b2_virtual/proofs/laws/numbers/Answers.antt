@@ -1,4 +1,4 @@
-use Rattle.b2_virtual.proofs.JoiningLemmas.{number_own, numbers_stay}
+use Rattle.b2_virtual.proofs.JoinedStepsKeepTheirNumbers.{number_own, numbers_stay}
 use Rattle.b2_virtual.proofs.laws.numbers.Goals as goal
 
 pub returns-clause-own : goal.returns-clause-own

@@ -1,4 +1,4 @@
-use Rattle.b2_virtual.proofs.JoiningLemmas.{one_clash, fitting_none}
+use Rattle.b2_virtual.proofs.JoinedStepsKeepTheirNumbers.{one_clash, fitting_none}
 use Rattle.b2_virtual.proofs.laws.one_answer.Goals as goal
 
 pub returns-clause-first : goal.returns-clause-first

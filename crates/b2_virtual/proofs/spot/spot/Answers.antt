@@ -1,6 +1,6 @@
 use Rattle.std.proofs.Common.{ap, sym, ◌∙◌}
 use Rattle.b2_virtual.specs.Spots.{spot}
-use Rattle.b2_virtual.proofs.SpotLemmas.{spot_here, spot_root}
+use Rattle.b2_virtual.proofs.FolderSpotBeginsThoseInside.{spot_here, spot_root}
 use Rattle.b2_virtual.proofs.spot.spot.Goals as goal
 
 pub returns-in_ok-new-in-text : goal.returns-in_ok-new-in-text

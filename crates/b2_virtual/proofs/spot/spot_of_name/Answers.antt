@@ -3,7 +3,7 @@ use Rattle.std.proofs.lemmas.Bool.{cond-true, cond-false}
 use Rattle.b2_base.specs.Segments.{is_rooted, is_up}
 use Rattle.b2_base.specs.Normal.{first_part}
 use Rattle.b2_virtual.specs.Spots.{spot}
-use Rattle.b2_virtual.proofs.SpotLemmas.{spot_is}
+use Rattle.b2_virtual.proofs.FolderSpotBeginsThoseInside.{spot_is}
 use Rattle.b2_virtual.proofs.spot.spot_of_name.Goals as goal
 
 pub returns-then-is_led : goal.returns-then-is_led

@@ -4,9 +4,9 @@ use Rattle.std.specs.Option.{option_copied}
 use Rattle.b2_base.specs.Bytes.{HasNoZero}
 use Rattle.b2_base.specs.Segments.{normal_of, file_name, without_suffix}
 use Rattle.b2_virtual.specs.Paths.{folder_of, dotted}
-use Rattle.b2_virtual.proofs.PieceLemmas.{clean_both, clean_slash, clean_parts, clean_stem, clean_dotted}
-use Rattle.b2_base.proofs.LastCuts.{rsplit_parts, file_name_at, file_name_whole}
-use Rattle.b2_virtual.proofs.Cuts.{folder_at, folder_none}
+use Rattle.b2_virtual.proofs.PiecesBringNoZero.{clean_both, clean_slash, clean_parts, clean_stem, clean_dotted}
+use Rattle.b2_base.proofs.NamesAreCutAtLastSigns.{rsplit_parts, file_name_at, file_name_whole}
+use Rattle.b2_virtual.proofs.FolderEndsAtLastSlash.{folder_at, folder_none}
 use Rattle.b2_virtual.proofs.tails.converted_tail.Goals as goal
 
 pub returns-in_ok-name-in-None : goal.returns-in_ok-name-in-None

@@ -1,6 +1,6 @@
 use Rattle.std.proofs.Common.{◌∙◌, List, ℕ, ap, sym, subst}
 use Rattle.b2_base.specs.Bytes.{HasNoZero}
-use Rattle.b2_virtual.proofs.PieceLemmas.{clean_both, clean_root, clean_nothing, clean_ups}
+use Rattle.b2_virtual.proofs.PiecesBringNoZero.{clean_both, clean_root, clean_nothing, clean_ups}
 use Rattle.b2_virtual.proofs.tails.source_tail.Goals as goal
 use Rattle.b2_virtual.proofs.tails.source_tail.Goals.{then-is_rooted, else-is_rooted}
 

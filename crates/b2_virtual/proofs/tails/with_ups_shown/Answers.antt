@@ -1,7 +1,7 @@
 use Rattle.std.proofs.Common.{List, map, ap, ◌∙◌}
 use Rattle.std.specs.List.{join_with_byte}
 use Rattle.b2_base.specs.Segments.{texts}
-use Rattle.b2_base.proofs.JoinedSegments.{joined}
+use Rattle.b2_base.proofs.BothJoinsMakeOneText.{joined}
 use Rattle.b2_virtual.specs.Paths.{up_shown}
 use Rattle.b2_virtual.proofs.tails.with_ups_shown.Goals as goal
 

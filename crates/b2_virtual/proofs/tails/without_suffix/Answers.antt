@@ -1,5 +1,5 @@
 use Rattle.std.proofs.Common.{lit<, sym, Some, None}
-use Rattle.b2_base.proofs.LastCuts.{rsplit_parts, without_suffix_at, without_suffix_whole}
+use Rattle.b2_base.proofs.NamesAreCutAtLastSigns.{rsplit_parts, without_suffix_at, without_suffix_whole}
 use Rattle.b2_virtual.proofs.tails.without_suffix.Goals as goal
 
 pub returns-in-None : goal.returns-in-None

@@ -1,5 +1,5 @@
 use Rattle.std.proofs.Common.{◌∙◌}
-use Rattle.b2_base.proofs.JoinedSegments.{joined}
+use Rattle.b2_base.proofs.BothJoinsMakeOneText.{joined}
 use Rattle.b2_walk.proofs.directories.joined.Goals as goal
 
 pub returns : goal.returns

@@ -1,7 +1,7 @@
 use Rattle.std.proofs.Common.{sym, ap, subst, ◌∙◌, ◌++◌}
 use Rattle.std.specs.Prelude.{codes}
 use Rattle.b2_base.specs.Bytes.{HasNoZero}
-use Rattle.b2_walk.proofs.WayLemmas.{clean_name}
+use Rattle.b2_walk.proofs.BeginningsGrowByOne.{clean_name}
 use Rattle.b2_walk.proofs.directories.module_name.Goals as goal
 
 pub from_string-requires : goal.from_string-requires

@@ -3,8 +3,8 @@ use Rattle.std.specs.List.{join_with_byte}
 use Rattle.std.proofs.lemmas.List.{length-map, take-map}
 use Rattle.b2_base.specs.Bytes.{HasNoZero}
 use Rattle.b2_base.specs.Segments.{normal_of, texts}
-use Rattle.b2_walk.proofs.CleanLemmas.{beginning_clean}
-use Rattle.b2_walk.proofs.WayLemmas.{paths_more}
+use Rattle.b2_walk.proofs.CuttingAddsNoZeroBytes.{beginning_clean}
+use Rattle.b2_walk.proofs.BeginningsGrowByOne.{paths_more}
 use Rattle.b2_walk.proofs.directories.paths_of.Goals as goal
 
 pub loop-place-preserved : goal.loop-place-preserved

@@ -1,7 +1,7 @@
 use Rattle.std.proofs.Common.{◌∙◌, All, sym, ap, subst}
 use Rattle.b2_base.specs.Bytes.{HasNoZero}
 use Rattle.b2_base.specs.Segments.{segments, texts}
-use Rattle.b2_walk.proofs.CleanLemmas.{segments_clean}
+use Rattle.b2_walk.proofs.CuttingAddsNoZeroBytes.{segments_clean}
 use Rattle.b2_walk.proofs.directories.way_to.Goals as goal
 
 pub paths_of-requires : goal.paths_of-requires

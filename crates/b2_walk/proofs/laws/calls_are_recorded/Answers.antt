@@ -1,4 +1,4 @@
-use Rattle.b2_walk.proofs.RecordSteps.{calls_recorded}
+use Rattle.b2_walk.proofs.CallsAreThoseRecorded.{calls_recorded}
 use Rattle.b2_walk.proofs.laws.calls_are_recorded.Goals as goal
 
 pub returns : goal.returns

@@ -1,4 +1,4 @@
-use Rattle.b2_walk.proofs.FindSteps.{looks_ok}
+use Rattle.b2_walk.proofs.FirstFileThereIsFound.{looks_ok}
 use Rattle.b2_walk.proofs.project_file.read.Goals as goal
 
 pub returns-in-Ok-clause-effect : goal.returns-in-Ok-clause-effect

@@ -1,5 +1,5 @@
 use Rattle.std.proofs.Common.{true, false}
-use Rattle.b2_walk.proofs.FindSteps.{in_roots, seen_below, seen_if, looks_nowhere}
+use Rattle.b2_walk.proofs.FirstFileThereIsFound.{in_roots, seen_below, seen_if, looks_nowhere}
 use Rattle.b2_walk.proofs.project_file.read_seen.Goals as goal
 
 pub returns-then-is_below_any-clause-told : goal.returns-then-is_below_any-clause-told

@@ -1,7 +1,7 @@
 use Rattle.std.proofs.Common.{List, ℕ, ap, sym, ◌∙◌, codes}
 use Rattle.std.specs.Str.{bytes_eq}
 use Rattle.b2_words.specs.Grouped.{is_grouped}
-use Rattle.b2_words.proofs.Grouping.{ends_here, grouped_here, word_passed, no_word}
+use Rattle.b2_words.proofs.EachDecidesOrRestDoes.{ends_here, grouped_here, word_passed, no_word}
 use Rattle.b2_words.proofs.grouped.any_grouped.Goals as goal
 
 pub returns-then-eq : goal.returns-then-eq

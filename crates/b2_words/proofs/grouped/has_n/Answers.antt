@@ -1,4 +1,4 @@
-use Rattle.b2_words.proofs.Grouping.{n_found, j_found, letter_passed, no_letter}
+use Rattle.b2_words.proofs.EachDecidesOrRestDoes.{n_found, j_found, letter_passed, no_letter}
 use Rattle.b2_words.proofs.grouped.has_n.Goals as goal
 
 pub returns-then-letter-eq110 : goal.returns-then-letter-eq110

@@ -1,4 +1,4 @@
-use Rattle.b2_words.proofs.Leads.{stripped}
+use Rattle.b2_words.proofs.StripPrefixGivesWhatFollows.{stripped}
 use Rattle.b2_words.proofs.lead.after_lead.Goals as goal
 
 pub returns-clause-rest : goal.returns-clause-rest

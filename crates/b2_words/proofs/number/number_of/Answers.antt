@@ -1,5 +1,5 @@
 use Rattle.std.proofs.Common.{arith}
-use Rattle.b2_words.proofs.Numerals.{number_found, number_outside, number_untold}
+use Rattle.b2_words.proofs.OnlyDecimalsAreNumbers.{number_found, number_outside, number_untold}
 use Rattle.b2_words.proofs.number.number_of.Goals as goal
 use Rattle.b2_words.proofs.number.number_of.Goals.{else-n-gt0-via-then-n-gt0+else-n-most, else-n-gt0-via-else-n-gt0}
 

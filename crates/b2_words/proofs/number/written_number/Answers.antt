@@ -1,6 +1,6 @@
 use Rattle.std.proofs.Common.{ap, sym, ◌∙◌}
 use Rattle.b2_base.specs.Decimals.{has_lead}
-use Rattle.b2_words.proofs.Numerals.{number_parsed, number_lead}
+use Rattle.b2_words.proofs.OnlyDecimalsAreNumbers.{number_parsed, number_lead}
 use Rattle.b2_words.proofs.number.written_number.Goals as goal
 
 pub returns-then-has_lead : goal.returns-then-has_lead

@@ -1,5 +1,5 @@
 use Rattle.std.proofs.Common.{ℕ, List, All, IsUtf8, map, subst, sym, Bor, ◌∙◌}
-use Rattle.b2_words.proofs.Meanings.{build_grouped}
+use Rattle.b2_words.proofs.RequestsReadAsGrammarSays.{build_grouped}
 use Rattle.b2_words.proofs.reader.read_build.Goals as goal
 
 pub returns-then-any_grouped-clause-usage : goal.returns-then-any_grouped-clause-usage

@@ -4,7 +4,7 @@ use Rattle.clap.specs.Words.{App, Text, app_of, fault_of, found_of, is_simple, i
 use Rattle.clap.specs.Kinds.{IsAmong}
 use Rattle.clap.specs.Values.{kind_of}
 use Rattle.b2_words.specs.Parser.{build_app}
-use Rattle.b2_words.proofs.Readings.{simple, simple_and_free, matched, unmatched}
+use Rattle.b2_words.proofs.ClapReadsWhatGrammarGives.{simple, simple_and_free, matched, unmatched}
 use Rattle.b2_words.proofs.reader.read_ungrouped.Goals as goal
 
 pub asked_in-requires : goal.asked_in-requires

@@ -1,7 +1,7 @@
 use Rattle.std.proofs.lemmas.Result.{err_from_is_err_and}
 use Rattle.jam_effects.specs.Views.{value}
 use Rattle.jam_effects.specs.Spots.{spot_of}
-use Rattle.jam_effects.proofs.AnswerSteps.{answered_more}
+use Rattle.jam_effects.proofs.AnswersDoAsDefined.{answered_more}
 use Rattle.jam_effects.proofs.calling.joined.Goals as goal
 
 pub returns-in_err-join_at : goal.returns-in_err-join_at

@@ -1,9 +1,9 @@
 use Rattle.std.proofs.Common.{◌≡◌, List, take, ap, ◌∙◌}
 use Rattle.jam_journal.specs.Scopes.{Binding, bind, bind_each}
 use Rattle.jam_scope.specs.Changes.{rescoped}
-use Rattle.jam_scope.proofs.BindLemmas.{on_err}
+use Rattle.jam_scope.proofs.NamesAreBoundInTurn.{on_err}
 use Rattle.jam_values.specs.Bindings.{bindings_of}
-use Rattle.jam_effects.proofs.OpenSteps.{bound_more, framed_after}
+use Rattle.jam_effects.proofs.ClosingUndoesOpening.{bound_more, framed_after}
 use Rattle.jam_effects.proofs.frames.bind_all.Goals as goal
 
 pub loop-bound-preserved : goal.loop-bound-preserved

@@ -1,7 +1,7 @@
 use Rattle.std.proofs.Common.{refl}
 use Rattle.jam_journal.specs.Scopes.{enter_call}
 use Rattle.jam_values.specs.Bindings.{bindings_of}
-use Rattle.jam_effects.proofs.OpenSteps.{closed_again, may_close, some_frame}
+use Rattle.jam_effects.proofs.ClosingUndoesOpening.{closed_again, may_close, some_frame}
 use Rattle.jam_effects.proofs.frames.enter_call.Goals as goal
 
 pub bind_all-requires : goal.bind_all-requires

@@ -1,7 +1,7 @@
 use Rattle.std.proofs.Common.{[], ◌∷◌, refl}
 use Rattle.jam_journal.specs.Scopes.{enter}
 use Rattle.jam_scope.specs.Changes.{module_in}
-use Rattle.jam_effects.proofs.OpenSteps.{closed_again, may_close, some_frame}
+use Rattle.jam_effects.proofs.ClosingUndoesOpening.{closed_again, may_close, some_frame}
 use Rattle.jam_effects.proofs.frames.enter_loop.Goals as goal
 
 pub bind-requires : goal.bind-requires

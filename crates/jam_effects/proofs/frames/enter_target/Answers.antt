@@ -1,7 +1,7 @@
 use Rattle.std.proofs.Common.{take, refl}
 use Rattle.jam_journal.specs.Scopes.{enter}
 use Rattle.jam_scope.specs.Changes.{module_in, own_of}
-use Rattle.jam_effects.proofs.OpenSteps.{closed_again, may_close, some_frame}
+use Rattle.jam_effects.proofs.ClosingUndoesOpening.{closed_again, may_close, some_frame}
 use Rattle.jam_effects.proofs.frames.enter_target.Goals as goal
 
 pub bind_own-requires : goal.bind_own-requires

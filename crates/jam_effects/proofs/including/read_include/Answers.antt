@@ -5,7 +5,7 @@ use Rattle.jam_eval.specs.Includes.{is_in_roots}
 use Rattle.jam_values.specs.FileReadings.{reading_of}
 use Rattle.jam_effects.specs.Including.{read_of, FileTold}
 use Rattle.jam_effects.specs.Spots.{spot_of}
-use Rattle.jam_effects.proofs.ReadSteps.{file_fault, below_roots, told_below, told_read}
+use Rattle.jam_effects.proofs.FilesAreToldAsRead.{file_fault, below_roots, told_below, told_read}
 use Rattle.jam_effects.proofs.including.read_include.Goals as goal
 
 pub returns-then-is_below_any-clause-told : goal.returns-then-is_below_any-clause-told

@@ -4,7 +4,7 @@ use Rattle.jam_eval.specs.Includes.{in_file}
 use Rattle.jam_values.specs.FileReadings.{reading_of}
 use Rattle.jam_effects.specs.Including.{read_of}
 use Rattle.jam_effects.specs.Spots.{spot_of}
-use Rattle.jam_effects.proofs.ReadSteps.{read_fault}
+use Rattle.jam_effects.proofs.FilesAreToldAsRead.{read_fault}
 use Rattle.jam_effects.proofs.including.statements.Goals as goal
 
 pub returns-in-Missing-clause-tree : goal.returns-in-Missing-clause-tree

@@ -1,6 +1,6 @@
 use Rattle.jam_effects.specs.Spots.{spot_of}
-use Rattle.jam_effects.proofs.NamingSteps.{add_refused}
-use Rattle.jam_effects.proofs.SameSteps.{same_appended}
+use Rattle.jam_effects.proofs.SettingNamesIsOneChange.{add_refused}
+use Rattle.jam_effects.proofs.ChangesKeepTheFrames.{same_appended}
 use Rattle.jam_effects.proofs.naming.add_name.Goals as goal
 
 pub returns-in-Err-clause-made : goal.returns-in-Err-clause-made

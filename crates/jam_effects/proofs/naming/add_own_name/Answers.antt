@@ -1,5 +1,5 @@
 use Rattle.jam_effects.specs.Spots.{spot_of}
-use Rattle.jam_effects.proofs.NamingSteps.{own_too_large}
+use Rattle.jam_effects.proofs.SettingNamesIsOneChange.{own_too_large}
 use Rattle.jam_effects.proofs.naming.add_own_name.Goals as goal
 
 pub returns-in-Err-clause-made : goal.returns-in-Err-clause-made

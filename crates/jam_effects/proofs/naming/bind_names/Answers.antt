@@ -1,6 +1,6 @@
-use Rattle.jam_effects.proofs.OpenSteps.{framed_after}
-use Rattle.jam_effects.proofs.SameSteps.{same_then, same_bound, same_equal}
-use Rattle.jam_effects.proofs.ChangeLoops.{next_bound, all_bound}
+use Rattle.jam_effects.proofs.ClosingUndoesOpening.{framed_after}
+use Rattle.jam_effects.proofs.ChangesKeepTheFrames.{same_then, same_bound, same_equal}
+use Rattle.jam_effects.proofs.ChangesGoTextByText.{next_bound, all_bound}
 use Rattle.jam_effects.proofs.naming.bind_names.Goals as goal
 
 pub loop-name-preserved : goal.loop-name-preserved

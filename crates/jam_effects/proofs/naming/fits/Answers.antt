@@ -1,7 +1,7 @@
 use Rattle.std.proofs.Common.{◌++◌}
 use Rattle.std.proofs.lemmas.Result.{err_from_is_err_and}
-use Rattle.jam_expand.proofs.LimitLemmas.{sum_small, within_is_ok}
-use Rattle.jam_effects.proofs.SumSteps.{too_large}
+use Rattle.jam_expand.proofs.SumTellsIfTooLarge.{sum_small, within_is_ok}
+use Rattle.jam_effects.proofs.SumsTellWhatFits.{too_large}
 use Rattle.jam_effects.proofs.naming.fits.Goals as goal
 
 pub summed-requires : goal.summed-requires

@@ -1,4 +1,4 @@
-use Rattle.jam_effects.proofs.SameSteps.{same_either}
+use Rattle.jam_effects.proofs.ChangesKeepTheFrames.{same_either}
 use Rattle.jam_effects.proofs.naming.set_item.Goals as goal
 
 pub returns-clause-same : goal.returns-clause-same

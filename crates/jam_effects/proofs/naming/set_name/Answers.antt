@@ -1,4 +1,4 @@
-use Rattle.jam_effects.proofs.SameSteps.{same_assigned}
+use Rattle.jam_effects.proofs.ChangesKeepTheFrames.{same_assigned}
 use Rattle.jam_effects.proofs.naming.set_name.Goals as goal
 
 pub returns-in_ok-put_name-in-Set-clause-same : goal.returns-in_ok-put_name-in-Set-clause-same

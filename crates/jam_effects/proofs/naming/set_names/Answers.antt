@@ -1,8 +1,8 @@
 use Rattle.std.proofs.lemmas.Result.{err_from_is_err_and}
 use Rattle.jam_effects.specs.Naming.{set_name_in}
 use Rattle.jam_effects.specs.Spots.{spot_of}
-use Rattle.jam_effects.proofs.SameSteps.{same_then}
-use Rattle.jam_effects.proofs.ChangeLoops.{next_made, next_refused, all_made}
+use Rattle.jam_effects.proofs.ChangesKeepTheFrames.{same_then}
+use Rattle.jam_effects.proofs.ChangesGoTextByText.{next_made, next_refused, all_made}
 use Rattle.jam_effects.proofs.naming.set_names.Goals as goal
 
 pub loop-name-preserved : goal.loop-name-preserved

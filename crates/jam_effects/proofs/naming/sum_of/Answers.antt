@@ -1,5 +1,5 @@
 use Rattle.std.proofs.Common.{[], arith}
-use Rattle.jam_effects.proofs.SumSteps.{empty_sum, sized_within}
+use Rattle.jam_effects.proofs.SumsTellWhatFits.{empty_sum, sized_within}
 use Rattle.jam_effects.proofs.naming.sum_of.Goals as goal
 
 pub returns-then-size-gt-LIMIT : goal.returns-then-size-gt-LIMIT

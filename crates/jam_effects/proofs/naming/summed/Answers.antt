@@ -2,7 +2,7 @@ use Rattle.std.proofs.Common.{sym, subst}
 use Rattle.std.proofs.lemmas.List.{append-nil}
 use Rattle.std.proofs.lemmas.Result.{err_from_is_err_and}
 use Rattle.jam_expand.specs.Limits.{IsWithin}
-use Rattle.jam_effects.proofs.SumSteps.{given_small, sum_more, sum_fault}
+use Rattle.jam_effects.proofs.SumsTellWhatFits.{given_small, sum_more, sum_fault}
 use Rattle.jam_effects.proofs.naming.summed.Goals as goal
 
 pub loop-text-init : goal.loop-text-init

@@ -1,7 +1,7 @@
 use Rattle.std.proofs.Common.{◌++◌}
 use Rattle.jam_expand.specs.Limits.{within}
 use Rattle.jam_effects.specs.Spots.{spot_of}
-use Rattle.jam_effects.proofs.AnswerSteps.{answered_err}
+use Rattle.jam_effects.proofs.AnswersDoAsDefined.{answered_err}
 use Rattle.jam_effects.proofs.words.join_at.Goals as goal
 
 pub returns-in-Err : goal.returns-in-Err

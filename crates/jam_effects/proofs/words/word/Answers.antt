@@ -2,7 +2,7 @@ use Rattle.jam_journal.specs.Scopes.{look}
 use Rattle.jam_expand.specs.Expansions.{expansion}
 use Rattle.jam_effects.specs.Views.{value}
 use Rattle.jam_effects.specs.Spots.{spot_of}
-use Rattle.jam_effects.proofs.AnswerSteps.{answered_err}
+use Rattle.jam_effects.proofs.AnswersDoAsDefined.{answered_err}
 use Rattle.jam_effects.proofs.words.word.Goals as goal
 
 pub returns-in-Err : goal.returns-in-Err

@@ -1,6 +1,6 @@
 use Rattle.std.proofs.Common.{ap}
 use Rattle.jam_eval.specs.Refused.{refused_here}
-use Rattle.jam_eval.proofs.FewerTurns.{run_few, run_call_few}
+use Rattle.jam_eval.proofs.MoreTurnsKeepTheOutcome.{run_few, run_call_few}
 use Rattle.jam_eval.proofs.laws.turns_only_run_out.Goals as goal
 
 pub returns-clause-file : goal.returns-clause-file

@@ -1,7 +1,7 @@
 use Rattle.std.proofs.Common.{◌∙◌, []}
 use Rattle.std.proofs.lemmas.Result.{err_from_is_err_and}
 use Rattle.jam_expand.specs.Bodies.{words, body_texts}
-use Rattle.jam_expand.proofs.BodyLemmas.{word_ok, word_fault, last_ok, last_fault, cut_no_zero, rest_utf8}
+use Rattle.jam_expand.proofs.BodyGoesWordByWord.{word_ok, word_fault, last_ok, last_fault, cut_no_zero, rest_utf8}
 use Rattle.jam_expand.proofs.body.body_texts.Goals as goal
 
 pub returns-in_err-add_word : goal.returns-in_err-add_word

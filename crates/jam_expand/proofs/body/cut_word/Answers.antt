@@ -1,7 +1,7 @@
 use Rattle.std.proofs.Common.{◌≡◌, ◌<◌, length, get_or, ap, ◌∙◌, arith}
 use Rattle.std.specs.List.{position_or_len}
 use Rattle.b2_base.specs.Bytes.{is_white}
-use Rattle.jam_expand.proofs.BodyLemmas.{cut_at, cut_none, word_boundary, rest_boundary}
+use Rattle.jam_expand.proofs.BodyGoesWordByWord.{cut_at, cut_none, word_boundary, rest_boundary}
 use Rattle.jam_expand.proofs.body.cut_word.Goals as goal
 
 pub range-requires-clause-end_boundary : goal.range-requires-clause-end_boundary

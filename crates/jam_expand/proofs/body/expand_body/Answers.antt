@@ -1,6 +1,6 @@
 use Rattle.std.proofs.Common.{subst}
 use Rattle.jam_expand.specs.Limits.{IsGivenBy}
-use Rattle.jam_expand.proofs.PlainBodyLemmas.{body_is_itself}
+use Rattle.jam_expand.proofs.PlainBodyIsItself.{body_is_itself}
 use Rattle.jam_expand.proofs.body.expand_body.Goals as goal
 
 pub returns-clause-itself : goal.returns-clause-itself

@@ -1,6 +1,6 @@
 use Rattle.std.proofs.Common.{◌∙◌, string_bytes}
 use Rattle.jam_expand.specs.Bodies.{interleaved, spaces}
-use Rattle.jam_expand.proofs.BodyLemmas.{interleaved_more, interleaved_last, rest_utf8}
+use Rattle.jam_expand.proofs.BodyGoesWordByWord.{interleaved_more, interleaved_last, rest_utf8}
 use Rattle.jam_expand.proofs.body.interleave.Goals as goal
 
 pub returns-in_default-clause-value : goal.returns-in_default-clause-value

@@ -1,5 +1,5 @@
 use Rattle.std.proofs.Common.{◌≡◌, ◌∙◌, ◌++◌, ◌∷◌, [], List, ℕ, ap, ap₂, string_bytes}
-use Rattle.jam_expand.proofs.BodyLemmas.{joined_more, joined_first}
+use Rattle.jam_expand.proofs.BodyGoesWordByWord.{joined_more, joined_first}
 use Rattle.jam_expand.proofs.body.joined.Goals as goal
 use Rattle.jam_expand.proofs.body.joined.Goals.{then-place-gt0+in_ok-push_white, else-place-gt0}
 

@@ -2,7 +2,7 @@ use Rattle.std.proofs.Common.{◌≡◌, ◌<◌, ◌-◌, length, ap, sym, ◌�
 use Rattle.std.specs.List.{prefix_len, suffix_len}
 use Rattle.std.specs.Str.{IsCharBoundary}
 use Rattle.b2_base.specs.Bytes.{is_white}
-use Rattle.jam_expand.proofs.BodyLemmas.{front_boundary, end_boundary}
+use Rattle.jam_expand.proofs.BodyGoesWordByWord.{front_boundary, end_boundary}
 use Rattle.jam_expand.proofs.body.trim.Goals as goal
 
 pub range_from-rest-requires : goal.range_from-rest-requires

@@ -1,6 +1,6 @@
 use Rattle.std.proofs.Common.{subst, sym, string_bytes}
 use Rattle.b2_base.specs.Bytes.{HasNoZero}
-use Rattle.jam_expand.proofs.ChangeLemmas.{cased_no_zero}
+use Rattle.jam_expand.proofs.ChangeAddsNoZero.{cased_no_zero}
 use Rattle.jam_expand.proofs.change.changed.Goals as goal
 
 pub from_string-requires : goal.from_string-requires

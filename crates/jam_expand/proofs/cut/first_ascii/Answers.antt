@@ -1,5 +1,5 @@
 use Rattle.std.proofs.Common.{sym, ◌∙◌}
-use Rattle.jam_expand.proofs.CutLemmas.{ascii_boundary}
+use Rattle.jam_expand.proofs.TextsAreCutAtSigns.{ascii_boundary}
 use Rattle.jam_expand.proofs.cut.first_ascii.Goals as goal
 
 pub split_at-requires : goal.split_at-requires

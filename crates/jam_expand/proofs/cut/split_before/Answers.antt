@@ -1,7 +1,7 @@
 use Rattle.std.proofs.Common.{◌≡◌, length, ◌∙◌, ap, drop, take}
 use Rattle.std.proofs.lemmas.Str.{IsCharBoundary-before_ascii}
 use Rattle.jam_expand.specs.Cuts.{up_to}
-use Rattle.jam_expand.proofs.CutLemmas.{up_to_within, taken, left, at_sign}
+use Rattle.jam_expand.proofs.TextsAreCutAtSigns.{up_to_within, taken, left, at_sign}
 use Rattle.jam_expand.proofs.cut.split_before.Goals as goal
 
 pub split_at-requires : goal.split_at-requires

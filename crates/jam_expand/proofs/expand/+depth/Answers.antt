@@ -1,7 +1,7 @@
 use Rattle.std.proofs.Common.{map, sym, ◌∙◌, ap}
 use Rattle.jam_expand.specs.Words.{too_deep}
 use Rattle.jam_expand.specs.Shown.{shown}
-use Rattle.jam_expand.proofs.ExpandLemmas.{deep_part, flat_part, no_part, deep_zero, deep_more}
+use Rattle.jam_expand.proofs.PiecesExpandOneByOne.{deep_part, flat_part, no_part, deep_zero, deep_more}
 use Rattle.jam_expand.proofs.expand.+depth.Goals.{is_deeper-in-Part+in_ok-is_too_deep+else-branch, is_deeper-in_default}
 use Rattle.jam_expand.proofs.expand.+depth.Goals as goal
 

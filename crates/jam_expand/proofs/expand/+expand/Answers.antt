@@ -5,7 +5,7 @@ use Rattle.jam_expand.specs.Limits.{Answer}
 use Rattle.jam_expand.specs.Shown.{shown}
 use Rattle.jam_expand.specs.Values.{values_of_all}
 use Rattle.jam_expand.specs.Expansions.{elements_at}
-use Rattle.jam_expand.proofs.ExpandLemmas.{found_nothing, held_no_zero, held_fault, held_more, held_all, elements_zero, elements_more}
+use Rattle.jam_expand.proofs.PiecesExpandOneByOne.{found_nothing, held_no_zero, held_fault, held_more, held_all, elements_zero, elements_more}
 use Rattle.jam_expand.proofs.expand.+expand.Goals as goal
 
 abbrev values : ℕ → (List ℕ → List (List ℕ)) → List ℕ → Answer

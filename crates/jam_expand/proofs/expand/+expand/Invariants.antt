@@ -3,7 +3,7 @@ use Rattle.b2_base.specs.Results.{and_then}
 use Rattle.jam_expand.specs.Values.{values_of_all}
 use Rattle.jam_expand.specs.Words.{pieces_of}
 use Rattle.jam_expand.specs.Expansions.{elements_at, lists_of}
-use Rattle.jam_expand.proofs.ExpandLemmas.{after_lists}
+use Rattle.jam_expand.proofs.PiecesExpandOneByOne.{after_lists}
 use Rattle.jam_expand.proofs.expand.+expand.Given as goal
 
 abbrev pub decreases-elements_at : goal.decreases-elements_at

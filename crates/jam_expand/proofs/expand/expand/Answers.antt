@@ -1,6 +1,6 @@
 use Rattle.std.proofs.Common.{subst}
 use Rattle.jam_expand.specs.Limits.{IsGivenBy}
-use Rattle.jam_expand.proofs.PlainWordLemmas.{word_is_itself}
+use Rattle.jam_expand.proofs.PlainWordsExpandToThemselves.{word_is_itself}
 use Rattle.jam_expand.proofs.expand.expand.Goals as goal
 
 pub returns-clause-itself : goal.returns-clause-itself

@@ -1,7 +1,7 @@
 use Rattle.std.proofs.Common.{◌∙◌, ap}
 use Rattle.std.proofs.lemmas.Result.{err_from_is_err_and}
 use Rattle.jam_expand.specs.Limits.{within}
-use Rattle.jam_expand.proofs.GatherLemmas.{each_longer, each_fault}
+use Rattle.jam_expand.proofs.ListsGrowTextByText.{each_longer, each_fault}
 use Rattle.jam_expand.proofs.gather.add_each.Goals as goal
 
 pub returns-in_err-push : goal.returns-in_err-push

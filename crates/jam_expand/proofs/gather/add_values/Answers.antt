@@ -1,6 +1,6 @@
 use Rattle.std.proofs.Common.{subst, sym, ◌∷◌, []}
 use Rattle.b2_base.specs.Bytes.{HasNoZero}
-use Rattle.jam_expand.proofs.CutLemmas.{from_on_no_zero}
+use Rattle.jam_expand.proofs.TextsAreCutAtSigns.{from_on_no_zero}
 use Rattle.jam_expand.proofs.gather.add_values.Goals as goal
 
 pub read_reference-requires : goal.read_reference-requires

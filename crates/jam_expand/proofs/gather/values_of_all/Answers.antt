@@ -1,6 +1,6 @@
 use Rattle.std.proofs.Common.{sym, ◌∙◌, ap, Ok}
 use Rattle.std.proofs.lemmas.Result.{err_from_is_err_and}
-use Rattle.jam_expand.proofs.GatherLemmas.{join_ok, join_fault, join_end}
+use Rattle.jam_expand.proofs.ListsGrowTextByText.{join_ok, join_fault, join_end}
 use Rattle.jam_expand.proofs.gather.values_of_all.Goals as goal
 
 pub returns-in_err-add_values : goal.returns-in_err-add_values

@@ -1,7 +1,7 @@
 use Rattle.std.proofs.Common.{take, map, subst, sym, ◌++◌}
 use Rattle.jam_expand.specs.Glue.{IsGlued}
 use Rattle.jam_expand.specs.Modifiers.{changed, glued_text}
-use Rattle.jam_expand.proofs.GlueLemmas.{glue_first, glue_next}
+use Rattle.jam_expand.proofs.GlueStandsBetweenTexts.{glue_first, glue_next}
 use Rattle.jam_expand.proofs.glue.glue_texts.Goals.{then-place-gt0+in_ok-append, else-place-gt0}
 use Rattle.jam_expand.proofs.glue.glue_texts.Goals as goal
 

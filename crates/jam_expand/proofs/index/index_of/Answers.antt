@@ -1,5 +1,5 @@
 use Rattle.std.proofs.Common.{◌≡◌, ◌∷◌}
-use Rattle.jam_expand.proofs.IndexLemmas.{index_cut}
+use Rattle.jam_expand.proofs.IndexSelectsOneSlice.{index_cut}
 use Rattle.jam_expand.proofs.index.index_of.Goals as goal
 
 pub returns : goal.returns

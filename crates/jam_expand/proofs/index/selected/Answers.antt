@@ -1,6 +1,6 @@
 use Rattle.std.proofs.Common.{length, ap, sym, ◌∙◌}
 use Rattle.jam_expand.specs.Indexes.{place_in, selected}
-use Rattle.jam_expand.proofs.IndexLemmas.{selected_slice}
+use Rattle.jam_expand.proofs.IndexSelectsOneSlice.{selected_slice}
 use Rattle.jam_expand.proofs.index.selected.Goals as goal
 
 pub returns : goal.returns

@@ -1,4 +1,4 @@
-use Rattle.jam_expand.proofs.PlainWordLemmas.{name_is_its_list}
+use Rattle.jam_expand.proofs.PlainWordsExpandToThemselves.{name_is_its_list}
 use Rattle.jam_expand.proofs.laws.name_is_its_list.Goals as goal
 
 pub returns : goal.returns

@@ -1,4 +1,4 @@
-use Rattle.jam_expand.proofs.SizeLemmas.{product_size}
+use Rattle.jam_expand.proofs.SizesOfListsMultiply.{product_size}
 use Rattle.jam_expand.proofs.laws.product_has_size.Goals as goal
 
 pub returns : goal.returns

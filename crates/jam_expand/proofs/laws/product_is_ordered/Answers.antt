@@ -1,4 +1,4 @@
-use Rattle.jam_expand.proofs.SizeLemmas.{product_at}
+use Rattle.jam_expand.proofs.SizesOfListsMultiply.{product_at}
 use Rattle.jam_expand.proofs.laws.product_is_ordered.Goals as goal
 
 pub returns : goal.returns

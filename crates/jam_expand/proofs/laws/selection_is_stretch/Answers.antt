@@ -1,4 +1,4 @@
-use Rattle.jam_expand.proofs.SizeLemmas.{selected_stretch}
+use Rattle.jam_expand.proofs.SizesOfListsMultiply.{selected_stretch}
 use Rattle.jam_expand.proofs.laws.selection_is_stretch.Goals as goal
 
 pub returns : goal.returns

@@ -1,4 +1,4 @@
-use Rattle.jam_expand.proofs.WordCutLemmas.{cut_exactly}
+use Rattle.jam_expand.proofs.PiecesAreTheOnlyCut.{cut_exactly}
 use Rattle.jam_expand.proofs.laws.word_has_one_cut.Goals as goal
 
 pub returns : goal.returns

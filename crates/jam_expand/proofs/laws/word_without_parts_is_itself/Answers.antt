@@ -1,4 +1,4 @@
-use Rattle.jam_expand.proofs.PlainWordLemmas.{no_part_is_itself, no_signs_is_itself}
+use Rattle.jam_expand.proofs.PlainWordsExpandToThemselves.{no_part_is_itself, no_signs_is_itself}
 use Rattle.jam_expand.proofs.laws.word_without_parts_is_itself.Goals as goal
 
 pub returns-clause-no_part : goal.returns-clause-no_part

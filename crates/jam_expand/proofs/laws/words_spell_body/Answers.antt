@@ -1,4 +1,4 @@
-use Rattle.jam_expand.proofs.PlainBodyLemmas.{words_interleaved}
+use Rattle.jam_expand.proofs.PlainBodyIsItself.{words_interleaved}
 use Rattle.jam_expand.proofs.laws.words_spell_body.Goals as goal
 
 pub returns : goal.returns

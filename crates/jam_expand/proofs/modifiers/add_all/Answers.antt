@@ -3,8 +3,8 @@ use Rattle.std.proofs.lemmas.Bool.{eqb-true, true≢false}
 use Rattle.std.proofs.lemmas.List.{nil_from_length}
 use Rattle.b2_base.specs.declared.expand_fault.ExpandFault.TheVariants as faults
 use Rattle.jam_expand.specs.Modifiers.{modified_after}
-use Rattle.jam_expand.proofs.ModifierLemmas.{read_colon, read_nothing, bad_letter, bad_or_none}
-use Rattle.jam_expand.proofs.CutLemmas.{rest_no_zero}
+use Rattle.jam_expand.proofs.EachLetterModifiesOrFails.{read_colon, read_nothing, bad_letter, bad_or_none}
+use Rattle.jam_expand.proofs.TextsAreCutAtSigns.{rest_no_zero}
 use Rattle.jam_expand.proofs.modifiers.add_all.Goals as goal
 
 pub letters-preserved-then-letter-eq58 : goal.letters-preserved-then-letter-eq58

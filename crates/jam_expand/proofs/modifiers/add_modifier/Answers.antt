@@ -1,7 +1,7 @@
 use Rattle.std.proofs.Common.{◌≡◌, Err}
 use Rattle.b2_base.specs.declared.expand_fault.ExpandFault.TheVariants as faults
 use Rattle.jam_expand.specs.Modifiers.{modified_after}
-use Rattle.jam_expand.proofs.ModifierLemmas.{read_alone, bad_alone, bad_or_none}
+use Rattle.jam_expand.proofs.EachLetterModifiesOrFails.{read_alone, bad_alone, bad_or_none}
 use Rattle.jam_expand.proofs.modifiers.add_modifier.Goals as goal
 
 pub returns-then-add_alone-clause-read : goal.returns-then-add_alone-clause-read

@@ -3,7 +3,7 @@ use Rattle.std.specs.Str.{IsUtf8}
 use Rattle.b2_base.specs.Bytes.{HasNoZero}
 use Rattle.b2_base.specs.declared.expand_fault.ExpandFault.TheVariants as faults
 use Rattle.jam_expand.specs.Modifiers.{valued, modified_after}
-use Rattle.jam_expand.proofs.ModifierLemmas.{read_valued, bad_valued, bad_or_none, value_no_zero, end_after_value}
+use Rattle.jam_expand.proofs.EachLetterModifiesOrFails.{read_valued, bad_valued, bad_or_none, value_no_zero, end_after_value}
 use Rattle.jam_expand.proofs.modifiers.add_with_value.Goals as goal
 
 pub new-requires : goal.new-requires

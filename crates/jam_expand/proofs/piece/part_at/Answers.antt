@@ -1,7 +1,7 @@
 use Rattle.std.proofs.Common.{◌≡◌, ◌+◌, ◌-◌, ap, subst, sym, drop, take, Some, ◌∙◌, arith}
 use Rattle.jam_expand.specs.Words.{inside_len}
 use Rattle.jam_expand.specs.Shown.{IsPartAt}
-use Rattle.jam_expand.proofs.WordLemmas.{PartPlaces, part_places}
+use Rattle.jam_expand.proofs.PiecesGrowAlongTheWord.{PartPlaces, part_places}
 use Rattle.jam_expand.proofs.piece.part_at.Goals as goal
 
 places : (c : goal.In_ok-len) → PartPlaces c.args.word.now c.args.at c.in_ok-len.len

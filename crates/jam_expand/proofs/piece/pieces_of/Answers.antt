@@ -4,8 +4,8 @@ use Rattle.std.proofs.lemmas.List.Elements.{All-same}
 use Rattle.jam_expand.specs.Words.{Piece, part, inside_len, literal_of}
 use Rattle.jam_expand.specs.Shown.{shown}
 use Rattle.jam_expand.specs.Unclosed.{unclosed_after}
-use Rattle.jam_expand.proofs.WordLemmas.{cut_nothing, cut_literal, cut_part, cut_all}
-use Rattle.jam_expand.proofs.UnclosedLemmas.{no_parts, last_place, places_left}
+use Rattle.jam_expand.proofs.PiecesGrowAlongTheWord.{cut_nothing, cut_literal, cut_part, cut_all}
+use Rattle.jam_expand.proofs.ReadingBackFindsUnclosed.{no_parts, last_place, places_left}
 use Rattle.jam_expand.proofs.piece.pieces_of.Goals as goal
 
 -- no part begins at the place

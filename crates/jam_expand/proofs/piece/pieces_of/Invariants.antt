@@ -2,7 +2,7 @@ use Rattle.std.proofs.Common.{◌≡◌, length, ◌-◌, map, drop, None}
 use Rattle.std.specs.List.{All}
 use Rattle.jam_expand.specs.Shown.{shown}
 use Rattle.jam_expand.specs.Words.{inside_len}
-use Rattle.jam_expand.proofs.WordLemmas.{HasCut}
+use Rattle.jam_expand.proofs.PiecesGrowAlongTheWord.{HasCut}
 use Rattle.jam_expand.proofs.piece.pieces_of.Given as goal
 
 abbrev pub invariant-bytes : goal.invariant-bytes

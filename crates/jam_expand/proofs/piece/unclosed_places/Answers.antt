@@ -1,5 +1,5 @@
 use Rattle.std.proofs.Common.{◌≡◌, ◌-◌, ◌++◌, ◌∷◌, [], ◌&&◌, cond, eqb, get_or, refl, arith}
-use Rattle.jam_expand.proofs.UnclosedLemmas.{spare_fits, read_back, kept_place, no_dollar, no_sign, is_sign, is_other}
+use Rattle.jam_expand.proofs.ReadingBackFindsUnclosed.{spare_fits, read_back, kept_place, no_dollar, no_sign, is_sign, is_other}
 use Rattle.jam_expand.proofs.piece.unclosed_places.Goals as goal
 use Rattle.jam_expand.proofs.piece.unclosed_places.Goals.{then-opens+then-byte-eq36+in_ok-push, else-opens, else-opens-via-then-opens+else-byte-eq36, else-opens-via-else-opens, then-byte-eq40, else-byte-eq40}
 

@@ -1,4 +1,4 @@
-use Rattle.jam_expand.proofs.UnclosedLemmas.{IsRead}
+use Rattle.jam_expand.proofs.ReadingBackFindsUnclosed.{IsRead}
 use Rattle.jam_expand.proofs.piece.unclosed_places.Given as goal
 
 abbrev pub invariant-bytes : goal.invariant-bytes

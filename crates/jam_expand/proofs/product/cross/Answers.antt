@@ -1,5 +1,5 @@
 use Rattle.std.proofs.Common.{◌∙◌, ap, ◌++◌, map, List, ℕ}
-use Rattle.jam_expand.proofs.ProductLemmas.{cross_more}
+use Rattle.jam_expand.proofs.ProductGrowsFromLastList.{cross_more}
 use Rattle.jam_expand.proofs.product.cross.Goals as goal
 
 pub loop-text-preserved : goal.loop-text-preserved

@@ -1,7 +1,7 @@
 use Rattle.std.proofs.Common.{◌≡◌, ◌-◌, [], ap, ◌∙◌, arith, length, take, ◌++◌}
 use Rattle.std.proofs.lemmas.Result.{err_from_is_err_and}
 use Rattle.jam_expand.specs.Heads.{heads}
-use Rattle.jam_expand.proofs.ProductLemmas.{made_nothing, before_last, made_fault, made_more, made_all}
+use Rattle.jam_expand.proofs.ProductGrowsFromLastList.{made_nothing, before_last, made_fault, made_more, made_all}
 use Rattle.jam_expand.proofs.product.filled_product.Goals as goal
 
 pub lists-init : goal.lists-init

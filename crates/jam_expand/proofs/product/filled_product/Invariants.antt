@@ -1,5 +1,5 @@
 use Rattle.std.proofs.Common.{vec_len}
-use Rattle.jam_expand.proofs.ProductLemmas.{HasMade}
+use Rattle.jam_expand.proofs.ProductGrowsFromLastList.{HasMade}
 use Rattle.jam_expand.proofs.product.filled_product.Given as goal
 
 abbrev pub invariant-lists : goal.invariant-lists

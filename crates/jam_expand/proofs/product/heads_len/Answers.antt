@@ -1,6 +1,6 @@
 use Rattle.std.proofs.Common.{◌∙◌, ap, ◌+◌, length, take}
 use Rattle.jam_expand.specs.Heads.{heads}
-use Rattle.jam_expand.proofs.ProductLemmas.{heads_more}
+use Rattle.jam_expand.proofs.ProductGrowsFromLastList.{heads_more}
 use Rattle.jam_expand.proofs.product.heads_len.Goals as goal
 
 pub loop-list-preserved : goal.loop-list-preserved

@@ -1,6 +1,6 @@
 use Rattle.std.proofs.Common.{subst, sym, ◌∙◌}
 use Rattle.b2_base.specs.Bytes.{HasNoZero}
-use Rattle.jam_expand.proofs.ChangeLemmas.{no_zero_append}
+use Rattle.jam_expand.proofs.ChangeAddsNoZero.{no_zero_append}
 use Rattle.jam_expand.proofs.product.joined.Goals as goal
 
 pub from_string-requires : goal.from_string-requires

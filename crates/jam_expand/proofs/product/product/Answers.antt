@@ -1,8 +1,8 @@
 use Rattle.std.proofs.Common.{ap, sym, subst, ◌∙◌, []}
 use Rattle.jam_expand.specs.Limits.{within, IsGivenBy}
 use Rattle.jam_expand.specs.Products.{product}
-use Rattle.jam_expand.proofs.ProductLemmas.{product_empty}
-use Rattle.jam_expand.proofs.MergedLemmas.{merged_same, merged_filled}
+use Rattle.jam_expand.proofs.ProductGrowsFromLastList.{product_empty}
+use Rattle.jam_expand.proofs.MergingKeepsTheProduct.{merged_same, merged_filled}
 use Rattle.jam_expand.proofs.product.product.Goals as goal
 
 pub returns-then-any_empty : goal.returns-then-any_empty

@@ -1,6 +1,6 @@
 use Rattle.std.proofs.Common.{ap, arith, length}
 use Rattle.std.proofs.lemmas.Result.{err_from_is_err_and}
-use Rattle.jam_expand.proofs.SumLemmas.{sum_text, sum_fault, sum_next_small}
+use Rattle.jam_expand.proofs.ProductLengthsAddUp.{sum_text, sum_fault, sum_next_small}
 use Rattle.jam_expand.proofs.product.sum_after.Goals as goal
 
 pub returns-in_err-sum-clause-sum : goal.returns-in_err-sum-clause-sum

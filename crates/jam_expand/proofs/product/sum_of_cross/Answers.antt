@@ -3,7 +3,7 @@ use Rattle.std.proofs.lemmas.List.{length-append}
 use Rattle.std.proofs.lemmas.Result.{err_from_is_err_and}
 use Rattle.jam_expand.specs.Limits.{IsWithin}
 use Rattle.jam_expand.specs.Products.{cross}
-use Rattle.jam_expand.proofs.SumLemmas.{cross_sum_more, cross_sum_fault}
+use Rattle.jam_expand.proofs.ProductLengthsAddUp.{cross_sum_more, cross_sum_fault}
 use Rattle.jam_expand.proofs.product.sum_of_cross.Goals as goal
 
 pub returns-in_err-sum : goal.returns-in_err-sum

@@ -1,7 +1,7 @@
 use Rattle.std.proofs.Common.{subst, sym, ◌∷◌, []}
 use Rattle.b2_base.specs.Bytes.{HasNoZero}
-use Rattle.jam_expand.proofs.CutLemmas.{rest_no_zero, up_to_no_zero, from_on_no_zero}
-use Rattle.jam_expand.proofs.IndexedLemmas.{closed_no_zero}
+use Rattle.jam_expand.proofs.TextsAreCutAtSigns.{rest_no_zero, up_to_no_zero, from_on_no_zero}
+use Rattle.jam_expand.proofs.NoZeroFollowsAnIndex.{closed_no_zero}
 use Rattle.jam_expand.proofs.reference.read_index.Goals as goal
 
 pub bad_index-requires : goal.bad_index-requires

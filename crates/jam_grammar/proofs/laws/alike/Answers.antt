@@ -1,4 +1,4 @@
-use Rattle.jam_grammar.proofs.SameSaying.{says_asked, asked_reads}
+use Rattle.jam_grammar.proofs.SameSayingReadsAlike.{says_asked, asked_reads}
 use Rattle.jam_grammar.proofs.laws.alike.Goals as goal
 
 pub returns-clause-says : goal.returns-clause-says

@@ -1,4 +1,4 @@
-use Rattle.jam_grammar.proofs.FirstFault.{file_or_fault, never_both, one_fault}
+use Rattle.jam_grammar.proofs.MachineStopsAtFirstFault.{file_or_fault, never_both, one_fault}
 use Rattle.jam_grammar.proofs.TreeOfFile.{file_has_tree}
 use Rattle.jam_grammar.proofs.laws.first_fault_or_tree.Goals as goal
 

@@ -1,4 +1,4 @@
-use Rattle.jam_grammar.proofs.FirstFault.{whole_is_file, file_is_whole, first_fault, fault_is_bad}
+use Rattle.jam_grammar.proofs.MachineStopsAtFirstFault.{whole_is_file, file_is_whole, first_fault, fault_is_bad}
 use Rattle.jam_grammar.proofs.laws.machine_is_grammar.Goals as goal
 
 pub returns-clause-whole : goal.returns-clause-whole

@@ -6,8 +6,8 @@ use Rattle.jam_effects.specs.Does.{Tells}
 use Rattle.jam_effects.specs.Views.{value}
 use Rattle.jam_interp.specs.Parts.{call_rolled_at}
 use Rattle.jam_interp.specs.Parts.{call_value}
-use Rattle.jam_interp.proofs.StepSteps.{newest_again}
-use Rattle.jam_interp.proofs.RolledSteps.{call_rolls, same_fault}
+use Rattle.jam_interp.proofs.StepTextsAreMadeAside.{newest_again}
+use Rattle.jam_interp.proofs.MarkedWorldsComeBack.{call_rolls, same_fault}
 use Rattle.jam_interp.proofs.rolled.call_rolled.Goals as goal
 
 pub roll_back-requires : goal.roll_back-requires

@@ -4,10 +4,10 @@ use Rattle.jam_effects.specs.Machines.{machine}
 use Rattle.jam_effects.specs.Does.{Does}
 use Rattle.jam_effects.specs.Views.{flow_of}
 use Rattle.jam_interp.specs.Parts.{stmts_at}
-use Rattle.jam_effects.proofs.StaysLemmas.{may_leave}
-use Rattle.jam_interp.proofs.TreeSteps.{block_holds}
-use Rattle.jam_effects.proofs.FrameSteps.{all_frames}
-use Rattle.jam_interp.proofs.RolledSteps.{file_runs, run_ends, run_fails}
+use Rattle.jam_effects.proofs.WhatEachKeepsAllKeep.{may_leave}
+use Rattle.jam_interp.proofs.CodeDoesWhatTreesDo.{block_holds}
+use Rattle.jam_effects.proofs.FramesCloseEvenAfterFaults.{all_frames}
+use Rattle.jam_interp.proofs.MarkedWorldsComeBack.{file_runs, run_ends, run_fails}
 use Rattle.jam_interp.proofs.run.run.Goals as goal
 
 pub leave-requires : goal.leave-requires

@@ -1,6 +1,6 @@
 use Rattle.jam_effects.specs.Machines.{machine}
 use Rattle.jam_eval.specs.StepJobs.{job_of}
-use Rattle.jam_interp.proofs.StepSteps.{step_rolls, back_again, newest_again}
+use Rattle.jam_interp.proofs.StepTextsAreMadeAside.{step_rolls, back_again, newest_again}
 use Rattle.jam_interp.proofs.step.step_text.Goals as goal
 
 pub roll_back-requires : goal.roll_back-requires

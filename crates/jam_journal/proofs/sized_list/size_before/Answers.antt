@@ -1,4 +1,4 @@
-use Rattle.jam_journal.proofs.SizeLemmas.{cut}
+use Rattle.jam_journal.proofs.CuttingSubtractsTheSize.{cut}
 use Rattle.jam_journal.proofs.sized_list.size_before.Goals as goal
 
 pub overflow_sub-result : goal.overflow_sub-result

@@ -2,7 +2,7 @@ use Rattle.std.proofs.Common.{◌≤◌, string_bytes, vec_len, sym, ap, subst, 
 use Rattle.std.specs.List.{insert}
 use Rattle.jam_journal.specs.Tables.{lent_row}
 use Rattle.jam_journal.specs.Slots.{smaller, with_entry}
-use Rattle.jam_journal.proofs.SlotLemmas.{smaller_within, lent_insert}
+use Rattle.jam_journal.proofs.SlotsActLikeMapEntries.{smaller_within, lent_insert}
 use Rattle.jam_journal.proofs.slots.add_entry.Goals as goal
 
 pub insert-requires : goal.insert-requires

@@ -1,7 +1,7 @@
 use Rattle.std.proofs.Common.{List, None, refl, sym, ap, subst, ◌∙◌}
 use Rattle.jam_journal.specs.declared.slots.Slot.{Slot}
 use Rattle.jam_journal.specs.Slots.{fixed_name, IsGrown}
-use Rattle.jam_journal.proofs.SlotLemmas.{fixed_is, grown_none, grown_more}
+use Rattle.jam_journal.proofs.SlotsActLikeMapEntries.{fixed_is, grown_none, grown_more}
 use Rattle.jam_journal.proofs.slots.add_vacant.Goals as goal
 
 pub returns-in_err-key-clause-grown : goal.returns-in_err-key-clause-grown

@@ -1,4 +1,4 @@
-use Rattle.jam_journal.proofs.SlotLemmas.{grown_none, grown_then}
+use Rattle.jam_journal.proofs.SlotsActLikeMapEntries.{grown_none, grown_then}
 use Rattle.jam_journal.proofs.slots.grow.Goals as goal
 
 pub slots-init : goal.slots-init

@@ -1,6 +1,6 @@
 use Rattle.std.proofs.Common.{◌<◌, ◌≤◌, sym, ap, subst, ◌∙◌}
 use Rattle.jam_journal.specs.Slots.{with_value}
-use Rattle.jam_journal.proofs.SlotLemmas.{value_index, value_outside, set_is, set_outside}
+use Rattle.jam_journal.proofs.SlotsActLikeMapEntries.{value_index, value_outside, set_is, set_outside}
 use Rattle.jam_journal.proofs.slots.set.Goals as goal
 
 pub returns-then-place-len-clause-before : goal.returns-then-place-len-clause-before

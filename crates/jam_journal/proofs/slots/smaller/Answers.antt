@@ -1,7 +1,7 @@
 use Rattle.std.proofs.Common.{string_bytes, arith, sym, ap, ◌∙◌}
 use Rattle.std.specs.Ordering.{nat_cmp, is_lt}
 use Rattle.std.specs.Cmp.Lexicographic.{slice_cmp}
-use Rattle.jam_journal.proofs.SlotLemmas.{stops_at, goes_on, ends_at}
+use Rattle.jam_journal.proofs.SlotsActLikeMapEntries.{stops_at, goes_on, ends_at}
 use Rattle.jam_journal.proofs.slots.smaller.Goals as goal
 
 pub returns-then-not-is_smaller : goal.returns-then-not-is_smaller

@@ -1,5 +1,5 @@
 use Rattle.std.proofs.Common.{sym, ap, ◌∙◌}
-use Rattle.jam_journal.proofs.SlotLemmas.{value_index, value_outside}
+use Rattle.jam_journal.proofs.SlotsActLikeMapEntries.{value_index, value_outside}
 use Rattle.jam_journal.proofs.slots.value_of.Goals as goal
 
 pub returns-then-place-slots : goal.returns-then-place-slots

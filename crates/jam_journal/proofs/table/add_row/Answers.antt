@@ -3,8 +3,8 @@ use Rattle.std.specs.Ordering.{nat_cmp}
 use Rattle.std.specs.Cmp.Lexicographic.{slice_cmp}
 use Rattle.std.specs.FinMap as map
 use Rattle.jam_journal.specs.Tables.{table_of}
-use Rattle.jam_journal.proofs.NameLemmas.{at_name, at_changed}
-use Rattle.jam_journal.proofs.TableLemmas.{put_rows, row_at}
+use Rattle.jam_journal.proofs.ReplacingTouchesOneName.{at_name, at_changed}
+use Rattle.jam_journal.proofs.ReplacingTouchesOnePair.{put_rows, row_at}
 use Rattle.jam_journal.proofs.table.add_row.Goals as goal
 
 pub returns-clause-ok : goal.returns-clause-ok

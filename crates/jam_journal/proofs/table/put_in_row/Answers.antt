@@ -1,8 +1,8 @@
 use Rattle.std.proofs.Common.{string_bytes, Some, is_some, ap, sym, ◌∙◌}
 use Rattle.std.specs.Option.{option_copied_mut}
 use Rattle.jam_journal.specs.Tables.{back_name}
-use Rattle.jam_journal.proofs.NameLemmas.{at_changed}
-use Rattle.jam_journal.proofs.TableLemmas.{back_rows, back_no_row}
+use Rattle.jam_journal.proofs.ReplacingTouchesOneName.{at_changed}
+use Rattle.jam_journal.proofs.ReplacingTouchesOnePair.{back_rows, back_no_row}
 use Rattle.jam_journal.proofs.table.put_in_row.Goals as goal
 
 pub returns-in-Some-clause-table : goal.returns-in-Some-clause-table

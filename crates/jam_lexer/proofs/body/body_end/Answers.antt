@@ -1,5 +1,5 @@
 use Rattle.std.proofs.Common.{◌+◌, sym, subst}
-use Rattle.jam_lexer.proofs.Bodies.{IsAtDepth, depth_open, depth_close, depth_other}
+use Rattle.jam_lexer.proofs.DepthCountsOpenBraces.{IsAtDepth, depth_open, depth_close, depth_other}
 use Rattle.jam_lexer.proofs.body.body_end.Goals.{then-byte-eq123, else-byte-eq123+then-byte-eq125+else-depth-eq0, else-byte-eq123+else-byte-eq125}
 use Rattle.jam_lexer.proofs.body.body_end.Goals as goal
 

@@ -1,4 +1,4 @@
-use Rattle.jam_lexer.proofs.Bodies.{IsAtDepth}
+use Rattle.jam_lexer.proofs.DepthCountsOpenBraces.{IsAtDepth}
 use Rattle.jam_lexer.proofs.body.body_end.Given as goal
 
 abbrev pub invariant-loop-at : goal.invariant-loop-at

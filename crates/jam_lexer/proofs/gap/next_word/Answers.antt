@@ -1,6 +1,6 @@
 use Rattle.std.proofs.Common.{◌≡◌, get_or, subst, sym, ◌∙◌, arith}
 use Rattle.jam_lexer.specs.Gap.{IsGap}
-use Rattle.jam_lexer.proofs.Gaps.{gap_white, comment_white, gap_comment, comment_line_feed, gap_line}
+use Rattle.jam_lexer.proofs.SpaceAndCommentsAreGaps.{gap_white, comment_white, gap_comment, comment_line_feed, gap_line}
 use Rattle.jam_lexer.proofs.gap.next_word.Goals as goal
 
 pub returns-then-end-bytes-clause-none : goal.returns-then-end-bytes-clause-none

@@ -1,4 +1,4 @@
-use Rattle.jam_lexer.proofs.FirstBad.{bad_is_no_text}
+use Rattle.jam_lexer.proofs.FirstBadByteEndsText.{bad_is_no_text}
 use Rattle.jam_lexer.proofs.OneAnswer.{tokens_no_quote, tokens_no_actions}
 use Rattle.jam_lexer.proofs.laws.no_fault.Goals as goal
 

@@ -1,6 +1,6 @@
 use Rattle.std.proofs.Common.{arith}
 use Rattle.std.proofs.lemmas.Str.{IsCharBoundary-before_ascii}
-use Rattle.jam_lexer.proofs.Slices.{text_between}
+use Rattle.jam_lexer.proofs.SlicesJoinAndStayTexts.{text_between}
 use Rattle.jam_lexer.proofs.reading.body_token.Goals as goal
 
 pub text_from-requires : goal.text_from-requires

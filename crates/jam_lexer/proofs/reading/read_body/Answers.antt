@@ -1,4 +1,4 @@
-use Rattle.jam_lexer.proofs.Progress.{body_read, meets_open_actions}
+use Rattle.jam_lexer.proofs.ReadingGoesTokenByToken.{body_read, meets_open_actions}
 use Rattle.jam_lexer.proofs.reading.read_body.Goals as goal
 
 pub returns-in_default-clause-err : goal.returns-in_default-clause-err

@@ -2,7 +2,7 @@ use Rattle.std.proofs.Common.{false, List, sym, subst}
 use Rattle.b2_base.specs.declared.token.Token.{Token}
 use Rattle.jam_lexer.specs.Tokens.{NextWord}
 use Rattle.jam_lexer.specs.Progress.{HasRead}
-use Rattle.jam_lexer.proofs.Progress.{nothing_read, all_read}
+use Rattle.jam_lexer.proofs.ReadingGoesTokenByToken.{nothing_read, all_read}
 use Rattle.jam_lexer.proofs.reading.read_text.Goals as goal
 
 pub loop-start-init : goal.loop-start-init

@@ -1,6 +1,6 @@
 use Rattle.std.proofs.Common.{◌<◌, arith}
-use Rattle.jam_lexer.proofs.Boundaries.{start_boundary}
-use Rattle.jam_lexer.proofs.Progress.{word_read, word_opens, word_goes, meets_open_quote}
+use Rattle.jam_lexer.proofs.WordsCutNoCharacter.{start_boundary}
+use Rattle.jam_lexer.proofs.ReadingGoesTokenByToken.{word_read, word_opens, word_goes, meets_open_quote}
 use Rattle.jam_lexer.proofs.reading.read_word.Goals as goal
 
 pub returns-in_default-clause-err : goal.returns-in_default-clause-err

@@ -1,5 +1,5 @@
-use Rattle.jam_lexer.proofs.Slices.{text_between}
-use Rattle.jam_lexer.proofs.Boundaries.{word_end_boundary}
+use Rattle.jam_lexer.proofs.SlicesJoinAndStayTexts.{text_between}
+use Rattle.jam_lexer.proofs.WordsCutNoCharacter.{word_end_boundary}
 use Rattle.jam_lexer.proofs.reading.word_token.Goals as goal
 
 pub word_text-requires : goal.word_text-requires

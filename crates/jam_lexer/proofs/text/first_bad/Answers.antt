@@ -1,4 +1,4 @@
-use Rattle.jam_lexer.proofs.FirstBad.{zero_is_bad, invalid_is_bad}
+use Rattle.jam_lexer.proofs.FirstBadByteEndsText.{zero_is_bad, invalid_is_bad}
 use Rattle.jam_lexer.proofs.text.first_bad.Goals as goal
 
 pub returns-in-Some-clause-found : goal.returns-in-Some-clause-found

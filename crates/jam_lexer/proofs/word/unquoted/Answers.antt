@@ -1,5 +1,5 @@
 use Rattle.std.proofs.Common.{refl}
-use Rattle.jam_lexer.proofs.Texts.{step_literal, step_backslash, step_quote, step_plain}
+use Rattle.jam_lexer.proofs.UnquotingGoesByteByByte.{step_literal, step_backslash, step_quote, step_plain}
 use Rattle.jam_lexer.proofs.word.unquoted.Goals.{then-literal+in_ok-push, else-literal+then-byte-eq92, else-literal+else-byte-eq92+then-byte-ne34+in_ok-push-2, else-literal+else-byte-eq92+else-byte-ne34}
 use Rattle.jam_lexer.proofs.word.unquoted.Goals as goal
 

@@ -1,6 +1,6 @@
 use Rattle.std.proofs.Common.{◌≡◌, ◌++◌, drop}
 use Rattle.jam_lexer.specs.Word.{text_of}
-use Rattle.jam_lexer.proofs.Texts.{text_after}
+use Rattle.jam_lexer.proofs.UnquotingGoesByteByByte.{text_after}
 use Rattle.jam_lexer.proofs.word.unquoted.Given as goal
 
 abbrev pub invariant-loop-byte : goal.invariant-loop-byte

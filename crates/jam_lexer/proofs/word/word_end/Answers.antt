@@ -1,7 +1,7 @@
 use Rattle.std.proofs.Common.{◌≡◌, true, get_or, sym, ◌∙◌, subst}
 use Rattle.std.proofs.lemmas.Bool.{true≢false}
 use Rattle.b2_base.specs.Bytes.{is_white}
-use Rattle.jam_lexer.proofs.Words.{IsReading, reading_plain, reading_quote, reading_literal}
+use Rattle.jam_lexer.proofs.WordsGrowLetterByLetter.{IsReading, reading_plain, reading_quote, reading_literal}
 use Rattle.jam_lexer.proofs.word.word_end.Goals.{else-is_white-via-then-is_white+else-not-quoted, else-is_white-via-else-is_white}
 use Rattle.jam_lexer.proofs.word.word_end.Goals as goal
 

@@ -1,5 +1,5 @@
 use Rattle.std.proofs.Common.{◌-◌, length}
-use Rattle.jam_lexer.proofs.Words.{IsReading}
+use Rattle.jam_lexer.proofs.WordsGrowLetterByLetter.{IsReading}
 use Rattle.jam_lexer.proofs.word.word_end.Given as goal
 
 abbrev pub invariant-loop-at : goal.invariant-loop-at

@@ -1,6 +1,6 @@
 use Rattle.std.proofs.Common.{sym, ◌∙◌, subst}
 use Rattle.jam_lexer.specs.Tokens.{IsText}
-use Rattle.jam_lexer.proofs.Texts.{text_of_text}
+use Rattle.jam_lexer.proofs.UnquotingGoesByteByByte.{text_of_text}
 use Rattle.jam_lexer.proofs.word.word_text.Goals as goal
 
 pub text_from-requires : goal.text_from-requires

@@ -1,6 +1,6 @@
 use Rattle.std.proofs.Common.{◌++◌, ◌∙◌, List, ℕ, sym, ap}
 use Rattle.jam_natives.specs.Searches.{picks}
-use Rattle.jam_natives.proofs.GlobLemmas.{found_here}
+use Rattle.jam_natives.proofs.SearchesFindNameByName.{found_here}
 use Rattle.jam_natives.proofs.glob.add_found.Goals as goal
 
 pub returns-clause-found : goal.returns-clause-found

@@ -1,7 +1,7 @@
 use Rattle.std.proofs.Common.{◌≡◌, ◌++◌, ◌∷◌, [], List, ℕ, ap, ◌∙◌, OnOk}
 use Rattle.b2_base.specs.Segments.{normal_of, path_from, file_name}
 use Rattle.jam_path.specs.Names.{dir_of}
-use Rattle.jam_natives.proofs.GlobLemmas.{same_found}
+use Rattle.jam_natives.proofs.SearchesFindNameByName.{same_found}
 use Rattle.jam_natives.proofs.glob.add_globbed.Goals as goal
 
 pub returns-clause-found : goal.returns-clause-found

@@ -1,6 +1,6 @@
 use Rattle.std.proofs.Common.{◌∙◌, ap}
 use Rattle.b2_base.specs.Segments.{normal_of}
-use Rattle.jam_natives.proofs.GlobLemmas.{glob_step, glob_done}
+use Rattle.jam_natives.proofs.SearchesFindNameByName.{glob_step, glob_done}
 use Rattle.jam_natives.proofs.glob.glob.Goals as goal
 
 pub loop-dir-preserved : goal.loop-dir-preserved

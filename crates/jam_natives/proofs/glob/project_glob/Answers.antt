@@ -1,5 +1,5 @@
 use Rattle.std.proofs.Common.{◌∙◌}
-use Rattle.jam_natives.proofs.GlobLemmas.{project_step, project_done}
+use Rattle.jam_natives.proofs.SearchesFindNameByName.{project_step, project_done}
 use Rattle.jam_natives.proofs.glob.project_glob.Goals as goal
 
 pub loop-pattern-preserved : goal.loop-pattern-preserved

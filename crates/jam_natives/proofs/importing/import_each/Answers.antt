@@ -1,7 +1,7 @@
 use Rattle.std.proofs.Common.{◌∙◌, ap₂, take, List, ℕ}
 use Rattle.std.proofs.lemmas.Result.{err_from_is_err_and}
 use Rattle.jam_scope.specs.Changes.{changed, import_rule}
-use Rattle.jam_natives.proofs.PartLemmas.{imported_step, imported_part, imported_frames}
+use Rattle.jam_natives.proofs.PartsTakeNothingAway.{imported_step, imported_part, imported_frames}
 use Rattle.jam_natives.proofs.importing.import_each.Goals as goal
 
 pub loop-index-preserved : goal.loop-index-preserved

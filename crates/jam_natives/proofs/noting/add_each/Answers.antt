@@ -1,7 +1,7 @@
 use Rattle.std.proofs.Common.{◌∙◌, ap, take}
 use Rattle.std.proofs.lemmas.Result.{err_from_is_err_and}
 use Rattle.b2_base.specs.Segments.{normal_of}
-use Rattle.jam_natives.proofs.PartLemmas.{added_step, added_part, added_frames}
+use Rattle.jam_natives.proofs.PartsTakeNothingAway.{added_step, added_part, added_frames}
 use Rattle.jam_natives.proofs.noting.add_each.Goals as goal
 
 pub loop-source-preserved : goal.loop-source-preserved

@@ -1,7 +1,7 @@
 use Rattle.std.proofs.Common.{None}
 use Rattle.std.proofs.lemmas.Result.{err_from_is_err_and}
 use Rattle.jam_natives.specs.Matches.{with_match}
-use Rattle.jam_natives.proofs.MatchLemmas.{run_more, run_done, pattern_refused}
+use Rattle.jam_natives.proofs.OneRefusalRefusesAll.{run_more, run_done, pattern_refused}
 use Rattle.jam_natives.proofs.pattern_match.add_matches.Goals as goal
 
 pub returns-in_err-add_match-clause-refused : goal.returns-in_err-add_match-clause-refused

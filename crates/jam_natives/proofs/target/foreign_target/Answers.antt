@@ -1,7 +1,7 @@
 use Rattle.std.proofs.Common.{◌∙◌, not, sym, List, ℕ}
 use Rattle.jam_natives.specs.Named.{paths_in}
 use Rattle.jam_natives.specs.Targets.{names_one}
-use Rattle.jam_natives.proofs.LoopSteps.{found_here, found_later}
+use Rattle.jam_natives.proofs.TakenListsGrowByOne.{found_here, found_later}
 use Rattle.jam_natives.proofs.target.foreign_target.Goals as goal
 
 pub returns-then-foreign : goal.returns-then-foreign

@@ -1,7 +1,7 @@
 use Rattle.std.proofs.Common.{◌∙◌, ap}
 use Rattle.jam_natives.specs.Named.{paths_in}
 use Rattle.jam_natives.specs.Targets.{names_one}
-use Rattle.jam_natives.proofs.TargetLemmas.{named_text}
+use Rattle.jam_natives.proofs.TextsNameNormalPaths.{named_text}
 use Rattle.jam_natives.proofs.target.names_one.Goals as goal
 
 pub returns : goal.returns

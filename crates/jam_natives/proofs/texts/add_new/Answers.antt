@@ -1,4 +1,4 @@
-use Rattle.jam_natives.proofs.SeenLemmas.{seen_after}
+use Rattle.jam_natives.proofs.SeenTextsAreAddedOnce.{seen_after}
 use Rattle.jam_natives.proofs.texts.add_new.Goals as goal
 
 pub returns-clause-seen : goal.returns-clause-seen

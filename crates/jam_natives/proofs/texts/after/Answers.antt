@@ -1,6 +1,6 @@
 use Rattle.std.proofs.Common.{subst, sym}
 use Rattle.b2_base.specs.Bytes.{HasNoZero}
-use Rattle.jam_natives.proofs.TextLemmas.{stripped, stripped_no_zero}
+use Rattle.jam_natives.proofs.StrippingLeavesTheRest.{stripped, stripped_no_zero}
 use Rattle.jam_natives.proofs.texts.after.Goals as goal
 
 pub returns-clause-value : goal.returns-clause-value

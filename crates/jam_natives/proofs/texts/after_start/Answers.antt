@@ -1,7 +1,7 @@
 use Rattle.std.proofs.Common.{[]}
 use Rattle.jam_natives.specs.Texts.{after_start}
-use Rattle.jam_natives.proofs.LoopSteps.{appended}
-use Rattle.jam_natives.proofs.TextLemmas.{after_start-append}
+use Rattle.jam_natives.proofs.TakenListsGrowByOne.{appended}
+use Rattle.jam_natives.proofs.StrippingLeavesTheRest.{after_start-append}
 use Rattle.jam_natives.proofs.texts.after_start.Goals as goal
 
 pub loop-text-preserved : goal.loop-text-preserved

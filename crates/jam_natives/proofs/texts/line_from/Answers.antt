@@ -1,4 +1,4 @@
-use Rattle.jam_natives.proofs.TextLemmas.{word_more}
+use Rattle.jam_natives.proofs.StrippingLeavesTheRest.{word_more}
 use Rattle.jam_natives.proofs.texts.line_from.Goals as goal
 
 pub loop-other-preserved : goal.loop-other-preserved

@@ -1,5 +1,5 @@
 use Rattle.std.proofs.Common.{◌++◌, ◌∷◌, [], sym, ap, ◌∙◌, append-nil}
-use Rattle.jam_natives.proofs.TextLemmas.{none_after, one_after}
+use Rattle.jam_natives.proofs.StrippingLeavesTheRest.{none_after, one_after}
 use Rattle.jam_natives.proofs.texts.push_after.Goals as goal
 
 pub returns-in-None : goal.returns-in-None

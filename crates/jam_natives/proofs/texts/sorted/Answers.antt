@@ -1,6 +1,6 @@
 use Rattle.std.proofs.Common.{ap, ◌∙◌}
 use Rattle.jam_natives.specs.Texts.{sorted}
-use Rattle.jam_natives.proofs.SortLemmas.{sorted_from_sort}
+use Rattle.jam_natives.proofs.StableSortPutsInPlace.{sorted_from_sort}
 use Rattle.jam_natives.proofs.texts.sorted.Goals as goal
 
 pub returns-clause-exact : goal.returns-clause-exact

@@ -2,7 +2,7 @@ use Rattle.std.proofs.Common.{ap, sym, ◌∙◌, is_some}
 use Rattle.std.specs.List.{list_any}
 use Rattle.std.specs.Str.{bytes_eq}
 use Rattle.std.specs.FinMap.{get}
-use Rattle.jam_natives.proofs.SeenLemmas.{seen_none, fold_step}
+use Rattle.jam_natives.proofs.SeenTextsAreAddedOnce.{seen_none, fold_step}
 use Rattle.jam_natives.proofs.texts.without_repeats.Goals as goal
 
 pub loop-text-init : goal.loop-text-init

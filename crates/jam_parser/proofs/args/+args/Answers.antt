@@ -4,9 +4,9 @@ use Rattle.jam_grammar.specs.declared.mark.Mark.TheVariants as marks
 use Rattle.jam_grammar.specs.Spelling as spelling
 use Rattle.jam_grammar.specs.Spelling.{spell_inner, arg_syms, args_syms, lists_syms, inner_syms}
 use Rattle.jam_grammar.specs.Grammar.{OneArg, Args, More, OneInner, InnerTail, Shut, Key}
-use Rattle.jam_parser.proofs.Sequences.{chain, chain_fault, then_all, then_fault, composed, led, in_order, shut, shut_fault, takes_past, opens_past}
-use Rattle.jam_grammar.proofs.RowTrees.{call_is, on_return_is}
-use Rattle.jam_parser.proofs.ReadArgs.{arg_comes, more_args, call_comes, inner_comes, more_lists, colon_comes, lists_stop}
+use Rattle.jam_parser.proofs.ReadingsCompose.{chain, chain_fault, then_all, then_fault, composed, led, in_order, shut, shut_fault, takes_past, opens_past}
+use Rattle.jam_grammar.proofs.TreesAreThoseOfElements.{call_is, on_return_is}
+use Rattle.jam_parser.proofs.ArgumentsAreReadInTurn.{arg_comes, more_args, call_comes, inner_comes, more_lists, colon_comes, lists_stop}
 use Rattle.jam_parser.proofs.args.+args.Goals as goal
 
 pub arg-returns-in-Some : goal.arg-returns-in-Some

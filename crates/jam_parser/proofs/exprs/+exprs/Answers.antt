@@ -5,9 +5,9 @@ use Rattle.jam_grammar.specs.Trees.{expr_tree}
 use Rattle.jam_grammar.specs.Spelling as spelling
 use Rattle.jam_grammar.specs.Spelling.{Anywhere, WithinOr, WithinAnd, spell_expr, expr_syms}
 use Rattle.jam_grammar.specs.Grammar.{OneExpr, Both, OrTail, Single, AndTail, Shut, Key}
-use Rattle.jam_grammar.proofs.RowTrees.{or_is, and_is}
-use Rattle.jam_parser.proofs.Sequences.{chain, chain_fault, then_all, then_fault, composed, led, in_order, first_fault, later_fault, shut, shut_fault, takes_past, opens_past, stay}
-use Rattle.jam_parser.proofs.ReadExprs.{raise_and, raise_or, first_signed, more_signed, last_signed, or_comes, and_comes, no_or_comes, no_and_comes}
+use Rattle.jam_grammar.proofs.TreesAreThoseOfElements.{or_is, and_is}
+use Rattle.jam_parser.proofs.ReadingsCompose.{chain, chain_fault, then_all, then_fault, composed, led, in_order, first_fault, later_fault, shut, shut_fault, takes_past, opens_past, stay}
+use Rattle.jam_parser.proofs.MembersMakeTheCondition.{raise_and, raise_or, first_signed, more_signed, last_signed, or_comes, and_comes, no_or_comes, no_and_comes}
 use Rattle.jam_parser.proofs.exprs.+exprs.Goals as goal
 
 pub single-returns-in-Some : goal.single-returns-in-Some

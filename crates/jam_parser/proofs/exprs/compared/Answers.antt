@@ -4,8 +4,8 @@ use Rattle.std.proofs.lemmas.Result.{MatchResult-weaker}
 use Rattle.jam_grammar.specs.declared.mark.Mark.TheVariants as marks
 use Rattle.jam_grammar.specs.Spelling.{WithinAnd, expr_syms, arg_syms}
 use Rattle.jam_grammar.specs.Grammar.{Compared, OneArg, Args}
-use Rattle.jam_parser.proofs.Sequences.{then_fault, takes_past, continued}
-use Rattle.jam_parser.proofs.ReadExprs.{bare_comes}
+use Rattle.jam_parser.proofs.ReadingsCompose.{then_fault, takes_past, continued}
+use Rattle.jam_parser.proofs.MembersMakeTheCondition.{bare_comes}
 use Rattle.jam_parser.proofs.exprs.compared.Goals as goal
 
 pub returns-in-Some : goal.returns-in-Some

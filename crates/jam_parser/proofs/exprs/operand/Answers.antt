@@ -1,6 +1,6 @@
 use Rattle.std.proofs.Common.{◌∷◌, [], arith}
 use Rattle.jam_grammar.specs.Grammar.{OneArg, Compared}
-use Rattle.jam_parser.proofs.Sequences.{in_order}
+use Rattle.jam_parser.proofs.ReadingsCompose.{in_order}
 use Rattle.jam_parser.proofs.exprs.operand.Goals as goal
 
 pub returns : goal.returns

@@ -2,10 +2,10 @@ use Rattle.std.proofs.Common.{◌∷◌, [], length, ap, ◌∙◌, arith}
 use Rattle.std.specs.Prelude.{codes}
 use Rattle.std.specs.Str.{bytes_eq}
 use Rattle.jam_grammar.specs.Grammar.{Names, NameTail}
-use Rattle.jam_grammar.proofs.TokenTexts.{plain_no_star}
+use Rattle.jam_grammar.proofs.MarkTellsWhatTokenSays.{plain_no_star}
 use Rattle.jam_parser.specs.Params.{after_name}
-use Rattle.jam_parser.proofs.Sequences.{composed}
-use Rattle.jam_parser.proofs.ReadParams.{still_names, more_names, name_comes, nothing_least}
+use Rattle.jam_parser.proofs.ReadingsCompose.{composed}
+use Rattle.jam_parser.proofs.ParametersAreReadInTurn.{still_names, more_names, name_comes, nothing_least}
 use Rattle.jam_parser.proofs.params.names.Goals as goal
 
 pub each-smaller : goal.each-smaller

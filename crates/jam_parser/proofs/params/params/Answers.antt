@@ -1,8 +1,8 @@
 use Rattle.std.proofs.Common.{◌∷◌, []}
 use Rattle.jam_grammar.specs.Grammar.{Params}
 use Rattle.jam_parser.specs.Params.{after_list}
-use Rattle.jam_parser.proofs.Sequences.{composed}
-use Rattle.jam_parser.proofs.ReadParams.{more_lists, list_comes}
+use Rattle.jam_parser.proofs.ReadingsCompose.{composed}
+use Rattle.jam_parser.proofs.ParametersAreReadInTurn.{more_lists, list_comes}
 use Rattle.jam_parser.proofs.params.params.Goals as goal
 
 pub colon-preserved : goal.colon-preserved

@@ -1,7 +1,7 @@
 use Rattle.std.proofs.Common.{◌∷◌, [], ◌++◌, ◌<◌, length, take, sym, ap, ◌∙◌, arith}
 use Rattle.std.proofs.lemmas.List.{take_more}
 use Rattle.jam_grammar.specs.Readings.{last_line}
-use Rattle.jam_parser.proofs.Endings.{last_is}
+use Rattle.jam_parser.proofs.FirstFaultIsTold.{last_is}
 use Rattle.jam_parser.proofs.parse.last_line.Goals as goal
 
 pub loop-token-preserved : goal.loop-token-preserved

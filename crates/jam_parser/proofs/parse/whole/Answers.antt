@@ -3,9 +3,9 @@ use Rattle.std.proofs.lemmas.Result.{err_from_is_err_and}
 use Rattle.jam_grammar.specs.Grammar.{Stmts}
 use Rattle.jam_grammar.specs.Machine.{Whole, Bad, run}
 use Rattle.jam_grammar.specs.Spelling.{Spells, spell_stmts, stmts_syms}
-use Rattle.jam_grammar.proofs.RowTrees.{block_is}
-use Rattle.jam_grammar.proofs.FirstFault.{first_fault, whole_is_file}
-use Rattle.jam_parser.proofs.Endings.{fault_is}
+use Rattle.jam_grammar.proofs.TreesAreThoseOfElements.{block_is}
+use Rattle.jam_grammar.proofs.MachineStopsAtFirstFault.{first_fault, whole_is_file}
+use Rattle.jam_parser.proofs.FirstFaultIsTold.{fault_is}
 use Rattle.jam_parser.proofs.parse.whole.Goals as goal
 
 pub returns-in_err-stmts : goal.returns-in_err-stmts

@@ -1,4 +1,4 @@
-use Rattle.jam_parser.proofs.ReadArgs.{body_reads}
+use Rattle.jam_parser.proofs.ArgumentsAreReadInTurn.{body_reads}
 use Rattle.jam_parser.proofs.reading.body_here.Goals as goal
 
 pub returns-in_ok-copy-in-Some : goal.returns-in_ok-copy-in-Some

@@ -1,4 +1,4 @@
-use Rattle.jam_parser.proofs.ReadArgs.{key_reads}
+use Rattle.jam_parser.proofs.ArgumentsAreReadInTurn.{key_reads}
 use Rattle.jam_parser.proofs.reading.key_here.Goals as goal
 
 pub returns-in-Some : goal.returns-in-Some

@@ -1,4 +1,4 @@
-use Rattle.jam_parser.proofs.ReadArgs.{word_reads, no_word}
+use Rattle.jam_parser.proofs.ArgumentsAreReadInTurn.{word_reads, no_word}
 use Rattle.jam_parser.proofs.reading.word_here.Goals as goal
 
 pub returns-in_ok-copy-in-Some : goal.returns-in_ok-copy-in-Some

@@ -3,7 +3,7 @@ use Rattle.jam_grammar.specs.declared.mark.Mark.TheVariants as marks
 use Rattle.jam_grammar.specs.Spelling as spelling
 use Rattle.jam_grammar.specs.Spelling.{arg_syms, args_syms, set_syms, sign_mark}
 use Rattle.jam_grammar.specs.Grammar.{Args, Assigned, Key}
-use Rattle.jam_parser.proofs.Sequences.{in_order, then_all}
+use Rattle.jam_parser.proofs.ReadingsCompose.{in_order, then_all}
 use Rattle.jam_parser.proofs.simple.assign_on.Goals as goal
 
 pub returns : goal.returns

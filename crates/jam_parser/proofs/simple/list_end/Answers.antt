@@ -1,7 +1,7 @@
 use Rattle.std.proofs.Common.{◌∷◌, [], arith}
 use Rattle.jam_grammar.specs.declared.mark.Mark.TheVariants as marks
 use Rattle.jam_grammar.specs.Grammar.{Args, Key}
-use Rattle.jam_parser.proofs.Sequences.{in_order}
+use Rattle.jam_parser.proofs.ReadingsCompose.{in_order}
 use Rattle.jam_parser.proofs.simple.list_end.Goals as goal
 
 pub returns : goal.returns

@@ -1,6 +1,6 @@
 use Rattle.std.proofs.Common.{◌∷◌, [], arith, refl}
 use Rattle.jam_grammar.specs.Grammar.{Args, LocalTail}
-use Rattle.jam_parser.proofs.Sequences.{in_order}
+use Rattle.jam_parser.proofs.ReadingsCompose.{in_order}
 use Rattle.jam_parser.proofs.simple.local.Goals as goal
 
 pub returns : goal.returns

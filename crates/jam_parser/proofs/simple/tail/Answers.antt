@@ -12,7 +12,7 @@ use Rattle.jam_grammar.specs.Gives.{Leads}
 use Rattle.jam_grammar.specs.Spelling.{arg_syms, form_syms, sign_mark}
 use Rattle.jam_parser.specs.Parts.{ComesTo}
 use Rattle.jam_parser.specs.Starts.{starts_with, starts_sign, is_sign}
-use Rattle.jam_parser.proofs.Sequences.{then_all, then_fault, takes_past, turned, continued}
+use Rattle.jam_parser.proofs.ReadingsCompose.{then_all, then_fault, takes_past, turned, continued}
 use Rattle.jam_parser.proofs.simple.tail.Goals as goal
 
 -- a list follows on each sign

@@ -5,11 +5,11 @@ use Rattle.jam_grammar.specs.Trees.{params_of}
 use Rattle.jam_grammar.specs.Spelling as spelling
 use Rattle.jam_grammar.specs.Spelling.{spell_stmts, spell_form, arg_syms, block_syms, stmt_syms, stmts_syms, cases_syms, params_syms, braced}
 use Rattle.jam_grammar.specs.Grammar.{Stmts, OneStmt, OneBlock, OneExpr, OneElse, ElseTail, CaseBlock, Cases, OneWord, OneArg, Args, Params, Shut, Key}
-use Rattle.jam_grammar.proofs.RowTrees.{block_is, switch_is}
+use Rattle.jam_grammar.proofs.TreesAreThoseOfElements.{block_is, switch_is}
 use Rattle.jam_parser.specs.Params.{params_read}
-use Rattle.jam_parser.proofs.Sequences.{chain, chain_fault, then_all, then_fault, composed, led, in_order, later_fault, shut, shut_fault, takes_past, opens_past}
-use Rattle.jam_parser.proofs.ReadParams.{in_parens}
-use Rattle.jam_parser.proofs.ReadStmts.{stmt_comes, more_stmts, more_cases, case_is, lined}
+use Rattle.jam_parser.proofs.ReadingsCompose.{chain, chain_fault, then_all, then_fault, composed, led, in_order, later_fault, shut, shut_fault, takes_past, opens_past}
+use Rattle.jam_parser.proofs.ParametersAreReadInTurn.{in_parens}
+use Rattle.jam_parser.proofs.StatementsAreReadInTurn.{stmt_comes, more_stmts, more_cases, case_is, lined}
 use Rattle.jam_parser.proofs.stmts.+stmts.Goals as goal
 
 pub block-returns-in_ok-after-in-Some : goal.block-returns-in_ok-after-in-Some

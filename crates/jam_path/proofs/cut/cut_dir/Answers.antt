@@ -1,5 +1,5 @@
 use Rattle.std.proofs.Common.{◌∙◌, lit<, refl, sym, Some, None}
-use Rattle.b2_base.proofs.LastCuts.{has_not, rsplit_parts, file_name_at}
+use Rattle.b2_base.proofs.NamesAreCutAtLastSigns.{has_not, rsplit_parts, file_name_at}
 use Rattle.jam_path.proofs.CutAtSign.{dir_at}
 use Rattle.jam_path.proofs.cut.cut_dir.Goals as goal
 

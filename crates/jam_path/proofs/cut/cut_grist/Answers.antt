@@ -2,7 +2,7 @@ use Rattle.std.proofs.Common.{◌∙◌, ◌+◌, ◌++◌, ◌∷◌, [], drop,
 use Rattle.std.proofs.lemmas.Bool.{and_right}
 use Rattle.std.proofs.lemmas.List.{take_more}
 use Rattle.std.proofs.lemmas.Str.Pattern.{find_char, starts_char}
-use Rattle.b2_base.proofs.LastCuts.{has_not, lacks_from_places}
+use Rattle.b2_base.proofs.NamesAreCutAtLastSigns.{has_not, lacks_from_places}
 use Rattle.jam_path.specs.Names.{begins_with, has}
 use Rattle.jam_path.proofs.CutAtSign.{lacks_before, cut_at, grist_at, path_at}
 use Rattle.jam_path.proofs.cut.cut_grist.Goals as goal

@@ -1,6 +1,6 @@
 use Rattle.std.proofs.Common.{◌∙◌, ◌++◌, ◌∷◌, lit<, refl, ap, sym, Some, None}
 use Rattle.std.proofs.lemmas.Str.Pattern.{split_parts, strip_suffix_char}
-use Rattle.b2_base.proofs.LastCuts.{lacks_from_places}
+use Rattle.b2_base.proofs.NamesAreCutAtLastSigns.{lacks_from_places}
 use Rattle.jam_path.proofs.CutAtSign.{no_member, stem_at, member_at}
 use Rattle.jam_path.proofs.cut.cut_member.Goals as goal
 

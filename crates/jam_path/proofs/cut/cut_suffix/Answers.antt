@@ -1,7 +1,7 @@
 use Rattle.std.proofs.Common.{◌∙◌, ◌+◌, ◌∷◌, drop, take, lit<, refl, ap, sym, Some, None}
 use Rattle.std.proofs.lemmas.List.{drop_more}
 use Rattle.std.proofs.lemmas.Str.Pattern.{rfind_char}
-use Rattle.b2_base.proofs.LastCuts.{has_not, lacks_from_places, without_suffix_at}
+use Rattle.b2_base.proofs.NamesAreCutAtLastSigns.{has_not, lacks_from_places, without_suffix_at}
 use Rattle.jam_path.proofs.CutAtSign.{lacks_after, cut_at, suffix_at}
 use Rattle.jam_path.proofs.cut.cut_suffix.Goals as goal
 

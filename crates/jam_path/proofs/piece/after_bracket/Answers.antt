@@ -1,7 +1,7 @@
 use Rattle.std.proofs.Common.{◌∙◌, sym, ap, subst, lit<, cond, Some, None}
 use Rattle.std.specs.Str.{chars}
 use Rattle.std.proofs.lemmas.Str.Pattern.{split_parts}
-use Rattle.b2_base.proofs.LastCuts.{lacks_from_places}
+use Rattle.b2_base.proofs.NamesAreCutAtLastSigns.{lacks_from_places}
 use Rattle.jam_path.specs.Steps.{Leads}
 use Rattle.jam_path.proofs.ClassUpToBracket.{open_bracket, class_at, after_cut, utf8_back, none_closed}
 use Rattle.jam_path.proofs.piece.after_bracket.Goals as goal

@@ -1,8 +1,8 @@
 use Rattle.std.proofs.Common.{ap, ◌∙◌, arith}
 use Rattle.std.proofs.lemmas.List.{append_assoc}
 use Rattle.jam_grammar.specs.Spelling.{arg_syms, args_syms, further_syms, inner_syms, spell_inner}
-use Rattle.jam_printer.proofs.Pushed.{written_append, at_end, args_flat, after_colon, further_flat}
-use Rattle.jam_grammar.proofs.RowTrees.{call_is, on_return_is}
+use Rattle.jam_printer.proofs.PartsAreWrittenInTurn.{written_append, at_end, args_flat, after_colon, further_flat}
+use Rattle.jam_grammar.proofs.TreesAreThoseOfElements.{call_is, on_return_is}
 use Rattle.jam_printer.proofs.args.+args.Goals as goal
 
 pub push_args-returns : goal.push_args-returns

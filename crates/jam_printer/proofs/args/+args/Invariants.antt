@@ -1,7 +1,7 @@
 use Rattle.std.proofs.Common.{◌≡◌, ◌++◌, ◌+◌, ◌*◌, take}
 use Rattle.std.specs.List.{flat_map}
 use Rattle.jam_grammar.specs.Spelling.{arg_syms}
-use Rattle.jam_printer.proofs.Pushed.{after_colon}
+use Rattle.jam_printer.proofs.PartsAreWrittenInTurn.{after_colon}
 use Rattle.jam_printer.specs.Lexemes.{written_as}
 use Rattle.jam_printer.proofs.args.+args.Given as goal
 

@@ -1,9 +1,9 @@
 use Rattle.std.proofs.Common.{ap, ◌∙◌, arith}
-use Rattle.jam_grammar.proofs.RowTrees.{or_is, and_is}
+use Rattle.jam_grammar.proofs.TreesAreThoseOfElements.{or_is, and_is}
 use Rattle.jam_grammar.specs.Spelling.{Anywhere, spell_expr, joined_syms, expr_syms}
 use Rattle.jam_printer.specs.Joints.{joint_mark, joint_level}
 use Rattle.jam_printer.specs.Lexemes.{written_as}
-use Rattle.jam_printer.proofs.Pushed.{at_end, joined_flat, after_mark}
+use Rattle.jam_printer.proofs.PartsAreWrittenInTurn.{at_end, joined_flat, after_mark}
 use Rattle.jam_printer.proofs.exprs.+exprs.Goals as goal
 
 pub push_after-returns : goal.push_after-returns

@@ -1,6 +1,6 @@
 use Rattle.std.proofs.Common.{◌≡◌, ◌++◌, ◌+◌, ◌*◌, take}
 use Rattle.std.specs.List.{flat_map}
-use Rattle.jam_printer.proofs.Pushed.{after_mark}
+use Rattle.jam_printer.proofs.PartsAreWrittenInTurn.{after_mark}
 use Rattle.jam_printer.specs.Lexemes.{written_as}
 use Rattle.jam_printer.proofs.exprs.+exprs.Given as goal
 

@@ -2,7 +2,7 @@ use Rattle.std.proofs.Common.{arith, ap, ◌∙◌, ◌++◌}
 use Rattle.std.proofs.lemmas.List.{take_all}
 use Rattle.std.specs.List.{flat_map}
 use Rattle.jam_printer.specs.Lexemes.{written_as}
-use Rattle.jam_printer.proofs.Pushed.{further_params_flat, params_after_colon}
+use Rattle.jam_printer.proofs.PartsAreWrittenInTurn.{further_params_flat, params_after_colon}
 use Rattle.jam_printer.proofs.params.push_further.Goals as goal
 
 pub returns : goal.returns

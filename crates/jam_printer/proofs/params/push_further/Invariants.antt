@@ -1,6 +1,6 @@
 use Rattle.std.proofs.Common.{◌≡◌, ◌++◌, take}
 use Rattle.std.specs.List.{flat_map}
-use Rattle.jam_printer.proofs.Pushed.{params_after_colon}
+use Rattle.jam_printer.proofs.PartsAreWrittenInTurn.{params_after_colon}
 use Rattle.jam_printer.specs.Lexemes.{written_as}
 use Rattle.jam_printer.proofs.params.push_further.Given as goal
 

@@ -1,6 +1,6 @@
 use Rattle.std.proofs.Common.{map}
 use Rattle.std.proofs.lemmas.List.{append_assoc}
-use Rattle.jam_printer.proofs.Pushed.{params_are}
+use Rattle.jam_printer.proofs.PartsAreWrittenInTurn.{params_are}
 use Rattle.jam_printer.proofs.params.push_parens.Goals as goal
 
 pub returns : goal.returns

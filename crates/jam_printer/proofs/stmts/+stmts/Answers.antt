@@ -1,8 +1,8 @@
 use Rattle.std.proofs.Common.{length, ap, ◌∙◌, arith}
 use Rattle.jam_grammar.specs.declared.tree.Block.{out-Block}
-use Rattle.jam_grammar.proofs.RowTrees.{switch_is}
+use Rattle.jam_grammar.proofs.TreesAreThoseOfElements.{switch_is}
 use Rattle.jam_grammar.specs.Spelling.{spell_form, stmt_syms, stmts_syms, case_syms, cases_syms, form_syms}
-use Rattle.jam_printer.proofs.Pushed.{at_end, block_holds, stmts_flat, cases_flat}
+use Rattle.jam_printer.proofs.PartsAreWrittenInTurn.{at_end, block_holds, stmts_flat, cases_flat}
 use Rattle.jam_printer.proofs.stmts.+stmts.Goals as goal
 
 pub push_stmts-returns : goal.push_stmts-returns

@@ -1,5 +1,5 @@
 use Rattle.std.proofs.lemmas.List.Elements.{All-weaker}
-use Rattle.jam_spelling.proofs.LexedTexts.{SaysRight, lexed_right}
+use Rattle.jam_spelling.proofs.LexedTextsFitTheirKind.{SaysRight, lexed_right}
 use Rattle.jam_spelling.proofs.laws.lexed_stand.Goals as goal
 
 pub returns-clause-keys : goal.returns-clause-keys

@@ -1,6 +1,6 @@
 use Rattle.std.proofs.Common.{◌∙◌, ◌++◌, take, sym, ap}
 use Rattle.std.specs.Option.{option_copied}
-use Rattle.b2_alternatives.proofs.ConflictLemmas.{met_more}
+use Rattle.b2_alternatives.proofs.ConflictsShowPairByPair.{met_more}
 use Rattle.b2_alternatives.proofs.conflict.Values.meet.Goals as goal
 
 pub loop-pair-preserved : goal.loop-pair-preserved

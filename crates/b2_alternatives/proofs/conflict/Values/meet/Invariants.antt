@@ -1,7 +1,7 @@
 use Rattle.std.proofs.Common.{List}
 use Rattle.b2_props.specs.Sets.{Pair}
 use Rattle.b2_alternatives.specs.Standing.{AreValues}
-use Rattle.b2_alternatives.proofs.ConflictLemmas.{IsMet}
+use Rattle.b2_alternatives.proofs.ConflictsShowPairByPair.{IsMet}
 use Rattle.b2_alternatives.proofs.conflict.Values.meet.Given as goal
 
 -- none of the pairs so far conflicts, and their values are kept

@@ -7,7 +7,7 @@ use Rattle.b2_references.specs.Names.{features}
 use Rattle.b2_alternatives.specs.Needs.{conflict_after, after}
 use Rattle.b2_alternatives.specs.Standing.{AreValues, StandAt}
 use Rattle.b2_alternatives.specs.Conflicting.{KeptIfNone}
-use Rattle.b2_alternatives.proofs.DependencyLemmas.{none_of, nothing_left, stand_still, stand_after}
+use Rattle.b2_alternatives.proofs.StandFollowsEachTarget.{none_of, nothing_left, stand_still, stand_after}
 use Rattle.b2_alternatives.proofs.dependencies.Dependencies.add.Goals as goal
 use Rattle.b2_alternatives.proofs.dependencies.Dependencies.add.Goals.{then-not-is_empty+in_ok-take, else-not-is_empty}
 

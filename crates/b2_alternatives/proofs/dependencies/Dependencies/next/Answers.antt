@@ -1,7 +1,7 @@
 use Rattle.std.proofs.Common.{◌∙◌, sym, ap}
 use Rattle.std.proofs.lemmas.Result.{IfOk-weaker}
 use Rattle.b2_alternatives.specs.Needs.{source_needs, property_needs, next_among}
-use Rattle.b2_alternatives.proofs.NeedLemmas.{joined_complete, joined_open, not_complete}
+use Rattle.b2_alternatives.proofs.FirstUnmetNeedComesNext.{joined_complete, joined_open, not_complete}
 use Rattle.b2_alternatives.proofs.dependencies.Dependencies.next.Goals as goal
 
 pub returns-in-Complete-clause-next : goal.returns-in-Complete-clause-next

@@ -1,7 +1,7 @@
 use Rattle.std.proofs.Common.{◌∙◌, ◌++◌, ◌∷◌, [], List, ℕ, ap, ap₂}
 use Rattle.std.specs.FinMap as map
 use Rattle.b2_alternatives.specs.Standing.{projects_of}
-use Rattle.b2_alternatives.proofs.KnownLemmas.{known_more}
+use Rattle.b2_alternatives.proofs.KnownNamesGrowByOne.{known_more}
 use Rattle.b2_alternatives.proofs.known.KnownNames.add.Goals as goal
 
 pub returns : goal.returns

@@ -1,6 +1,6 @@
 use Rattle.std.proofs.Common.{sym, subst}
 use Rattle.b2_base.specs.Bytes.{HasNoZero}
-use Rattle.b2_base.proofs.LastCuts.{file_name_clean}
+use Rattle.b2_base.proofs.NamesAreCutAtLastSigns.{file_name_clean}
 use Rattle.b2_base.proofs.path.Path.file_name.Goals as goal
 
 pub returns-clause-no_zero : goal.returns-clause-no_zero

@@ -1,6 +1,6 @@
 use Rattle.std.proofs.Common.{ap₂, ◌∙◌}
 use Rattle.b2_base.specs.Below.{is_below}
-use Rattle.b2_base.proofs.Below.{below_is}
+use Rattle.b2_base.proofs.TestTellsWhatIsBelow.{below_is}
 use Rattle.b2_base.proofs.path.Path.under.Goals as goal
 
 pub returns-clause-exact : goal.returns-clause-exact

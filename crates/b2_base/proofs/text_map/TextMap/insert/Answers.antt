@@ -1,7 +1,7 @@
 use Rattle.std.proofs.Common.{ap, sym, ◌∙◌, ◌≡◌, None}
 use Rattle.std.specs.FinMap as map
 use Rattle.std.proofs.lemmas.Result.{err_from_is_err_and}
-use Rattle.b2_base.proofs.TextKeys.{get_text, one_text}
+use Rattle.b2_base.proofs.MapsHoldWhatEntriesHold.{get_text, one_text}
 use Rattle.b2_base.proofs.text_map.TextMap.insert.Goals as goal
 
 pub returns-clause-before : goal.returns-clause-before

@@ -1,6 +1,6 @@
 use Rattle.std.proofs.Common.{is_some, ap, sym, ◌∙◌}
 use Rattle.std.specs.Option.{option_copied_mut}
-use Rattle.b2_base.proofs.TextKeys.{set_found, set_absent}
+use Rattle.b2_base.proofs.MapsHoldWhatEntriesHold.{set_found, set_absent}
 use Rattle.b2_base.proofs.text_map.TextMap.set.Goals as goal
 use Rattle.b2_base.proofs.text_map.TextMap.set.Goals.{in-Some, in_default}
 

@@ -1,6 +1,6 @@
 use Rattle.std.proofs.Common.{◌+◌, sym}
 use Rattle.std.specs.Option.{option_copied}
-use Rattle.b2_conversions.proofs.OutputLemmas.{last_none}
+use Rattle.b2_conversions.proofs.NamedOutputReplacesOne.{last_none}
 use Rattle.b2_conversions.proofs.along.Route.named_at.Goals as goal
 
 pub returns-then-place-self : goal.returns-then-place-self

@@ -1,7 +1,7 @@
 use Rattle.std.proofs.Common.{◌∙◌, sym, ap, Some}
 use Rattle.std.specs.Option.{option_copied, option_map}
 use Rattle.std.specs.Str.{bytes_eq}
-use Rattle.b2_features.proofs.Lookups.{lookup-found}
+use Rattle.b2_features.proofs.ListSearchesAgree.{lookup-found}
 use Rattle.b2_features.proofs.feature.Feature.parts_of.Goals as goal
 
 pub returns : goal.returns

@@ -3,7 +3,7 @@ use Rattle.std.specs.Ordering.{nat_cmp}
 use Rattle.std.specs.Cmp.Lexicographic.{slice_cmp}
 use Rattle.std.specs.FinMap as map
 use Rattle.std.specs.FinMap.{get-empty}
-use Rattle.b2_features.proofs.TwiceLemmas.{apart_none, apart_next}
+use Rattle.b2_features.proofs.NewValuesKeepAllApart.{apart_none, apart_next}
 use Rattle.b2_features.proofs.registry.Registry.check_values.Goals as goal
 
 pub loop-value-init : goal.loop-value-init

@@ -1,6 +1,6 @@
 use Rattle.std.proofs.Common.{is_some}
 use Rattle.std.specs.FinMap as map
-use Rattle.b2_features.proofs.TwiceLemmas.{AreApart}
+use Rattle.b2_features.proofs.NewValuesKeepAllApart.{AreApart}
 use Rattle.b2_features.proofs.registry.Registry.check_values.Given as goal
 
 -- no value so far is there twice

@@ -1,7 +1,7 @@
 use Rattle.std.proofs.Common.{◌≡◌, ◌∙◌, ℕ, List, sym, ap₂, subst}
 use Rattle.b2_features.specs.Table.{composed}
 use Rattle.b2_features.specs.Finding.{FindsParts}
-use Rattle.b2_features.proofs.FindingLemmas.{finds_parts}
+use Rattle.b2_features.proofs.TablesFindWhatWasAdded.{finds_parts}
 use Rattle.b2_features.proofs.registry.Registry.compose.Goals as goal
 
 pub returns-clause-found : goal.returns-clause-found

@@ -1,7 +1,7 @@
 use Rattle.std.proofs.Common.{◌∙◌, ap, sym, subst}
 use Rattle.std.specs.List.{list_all}
 use Rattle.b2_features.specs.Table.{HasDistinctNames, is_whole}
-use Rattle.b2_features.proofs.TableLemmas.{names_apart}
+use Rattle.b2_features.proofs.MapEntriesShowTheTable.{names_apart}
 use Rattle.b2_features.proofs.registry.Registry.count.Goals as goal
 
 pub returns-clause-distinct : goal.returns-clause-distinct

@@ -1,8 +1,8 @@
 use Rattle.std.proofs.Common.{◌≡◌, ◌∙◌, ◌++◌, ◌∷◌, [], sym, ap, subst}
 use Rattle.b2_features.specs.Table.{declared, is_implicit_in, is_whole}
 use Rattle.b2_features.specs.Finding.{FindsOneMore}
-use Rattle.b2_features.proofs.FaultLemmas.{untaken, whole_declared}
-use Rattle.b2_features.proofs.FindingLemmas.{finds_push, undeclared}
+use Rattle.b2_features.proofs.FaultlessIsUntakenAndWhole.{untaken, whole_declared}
+use Rattle.b2_features.proofs.TablesFindWhatWasAdded.{finds_push, undeclared}
 use Rattle.b2_features.proofs.registry.Registry.feature.Goals as goal
 
 pub put-requires-clause-untaken : goal.put-requires-clause-untaken

@@ -1,7 +1,7 @@
 use Rattle.std.proofs.Common.{◌∙◌, ap}
 use Rattle.std.specs.Option.{option_map}
 use Rattle.b2_features.specs.Table.{seen, feature_of}
-use Rattle.b2_features.proofs.TableLemmas.{feature_at, seen_now}
+use Rattle.b2_features.proofs.MapEntriesShowTheTable.{feature_at, seen_now}
 use Rattle.b2_features.proofs.registry.Registry.find.Goals as goal
 
 pub returns : goal.returns

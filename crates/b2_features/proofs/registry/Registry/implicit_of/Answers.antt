@@ -1,7 +1,7 @@
 use Rattle.std.proofs.Common.{◌∙◌, sym, ap, Some, slice_get}
 use Rattle.std.specs.Option.{option_copied}
 use Rattle.b2_features.specs.Table.{seen, implicit_of}
-use Rattle.b2_features.proofs.TableLemmas.{implicit_at, implicit_nowhere}
+use Rattle.b2_features.proofs.MapEntriesShowTheTable.{implicit_at, implicit_nowhere}
 use Rattle.b2_features.proofs.registry.Registry.implicit_of.Goals as goal
 
 pub returns : goal.returns

@@ -1,7 +1,7 @@
 use Rattle.std.proofs.Common.{◌∙◌, ◌||◌, ap, is_some}
 use Rattle.std.specs.Str.{bytes_eq}
 use Rattle.std.specs.FinMap as map
-use Rattle.b2_features.proofs.TwiceLemmas.{known_put}
+use Rattle.b2_features.proofs.NewValuesKeepAllApart.{known_put}
 use Rattle.b2_features.proofs.registry.Registry.is_there.Goals as goal
 
 pub returns-then-is_implicit-clause-known : goal.returns-then-is_implicit-clause-known

@@ -1,6 +1,6 @@
 use Rattle.std.proofs.Common.{◌∙◌, ap}
 use Rattle.b2_features.specs.Table.{place_of}
-use Rattle.b2_features.proofs.TableLemmas.{place_at}
+use Rattle.b2_features.proofs.MapEntriesShowTheTable.{place_at}
 use Rattle.b2_features.proofs.registry.Registry.place_of.Goals as goal
 
 pub returns : goal.returns

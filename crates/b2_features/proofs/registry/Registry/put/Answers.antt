@@ -10,7 +10,7 @@ use Rattle.std.proofs.lemmas.Result.{IfOk-at_ok}
 use Rattle.b2_features.specs.Table.{seen, feature_of}
 use Rattle.b2_features.specs.Faults.{is_implicit}
 use Rattle.b2_features.specs.Index.{IsIndexed}
-use Rattle.b2_features.proofs.TableLemmas.{shown, absent_key, indexed_push, shown_push}
+use Rattle.b2_features.proofs.MapEntriesShowTheTable.{shown, absent_key, indexed_push, shown_push}
 use Rattle.b2_features.proofs.registry.Registry.put.Goals as goal
 
 pub invariant_of-self-2 : goal.invariant_of-self-2

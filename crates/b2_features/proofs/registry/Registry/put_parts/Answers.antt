@@ -2,9 +2,9 @@ use Rattle.std.proofs.Common.{◌≡◌, ◌∙◌, sym, ap, subst, string_bytes
 use Rattle.std.specs.Str.{bytes_eq}
 use Rattle.b2_features.specs.Table.{seen, composed}
 use Rattle.b2_features.specs.Index.{IsIndexed}
-use Rattle.b2_features.proofs.Lookups.{values-set_value}
-use Rattle.b2_features.proofs.Outcomes.{on_ok, on_err, on_both}
-use Rattle.b2_features.proofs.TableLemmas.{shown, bare, shown_composed, composed_none, stays_indexed}
+use Rattle.b2_features.proofs.ListSearchesAgree.{values-set_value}
+use Rattle.b2_features.proofs.OutcomesPassOnWhatHolds.{on_ok, on_err, on_both}
+use Rattle.b2_features.proofs.MapEntriesShowTheTable.{shown, bare, shown_composed, composed_none, stays_indexed}
 use Rattle.b2_features.proofs.registry.Registry.put_parts.Goals as goal
 
 pub invariant_of-self : goal.invariant_of-self

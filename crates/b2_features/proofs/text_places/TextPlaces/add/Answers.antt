@@ -7,7 +7,7 @@ use Rattle.std.specs.Vec.Iter.{into_iter_items}
 use Rattle.std.proofs.lemmas.List.{append-nil}
 use Rattle.std.proofs.lemmas.List.Folds.{list_any-append}
 use Rattle.std.proofs.lemmas.Map.Text.{text_keys}
-use Rattle.b2_features.proofs.Lookups.{lookup-map_keys}
+use Rattle.b2_features.proofs.ListSearchesAgree.{lookup-map_keys}
 use Rattle.b2_features.proofs.text_places.TextPlaces.add.Goals as goal
 
 pub loop-text-preserved : goal.loop-text-preserved

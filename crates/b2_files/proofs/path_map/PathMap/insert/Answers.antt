@@ -1,6 +1,6 @@
 use Rattle.std.proofs.Common.{ap, ◌∙◌}
 use Rattle.std.specs.FinMap as map
-use Rattle.b2_base.proofs.TextKeys.{one_text}
+use Rattle.b2_base.proofs.MapsHoldWhatEntriesHold.{one_text}
 use Rattle.b2_files.proofs.path_map.PathMap.insert.Goals as goal
 
 pub returns-clause-ok : goal.returns-clause-ok

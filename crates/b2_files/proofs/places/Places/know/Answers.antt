@@ -1,5 +1,5 @@
 use Rattle.std.proofs.Common.{not, ap, refl, sym, ◌∙◌}
-use Rattle.b2_files.proofs.PlaceMaps.{made_known, absent_at, put_known, put_stays, put_places, none_copied}
+use Rattle.b2_files.proofs.OtherPathsKeepTheirPlaces.{made_known, absent_at, put_known, put_stays, put_places, none_copied}
 use Rattle.b2_files.proofs.places.Places.know.Goals as goal
 
 pub returns-in_ok-insert-clause-known : goal.returns-in_ok-insert-clause-known

@@ -1,6 +1,6 @@
 use Rattle.std.proofs.Common.{ap, refl, ◌∙◌}
 use Rattle.b2_files.specs.Stores.{place_of, is_known}
-use Rattle.b2_files.proofs.PlaceMaps.{place_set, set_known, set_places}
+use Rattle.b2_files.proofs.OtherPathsKeepTheirPlaces.{place_set, set_known, set_places}
 use Rattle.b2_files.proofs.places.Places.set.Goals as goal
 
 pub returns-clause-known : goal.returns-clause-known

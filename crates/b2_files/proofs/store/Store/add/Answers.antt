@@ -5,8 +5,8 @@ use Rattle.b2_host.specs.FileCalls.{with_piece}
 use Rattle.b2_files.specs.Buffers.{buffers_of, bytes_in}
 use Rattle.b2_files.specs.Stores.{Write, write_in, IsPlaced, disk_of}
 use Rattle.b2_files.specs.StoreDisks.{told, writes_told}
-use Rattle.b2_files.proofs.Keeping.{keep_writes, keep_within, write_here}
-use Rattle.b2_files.proofs.Standing.{bytes_here}
+use Rattle.b2_files.proofs.WritesStayAsTheyWere.{keep_writes, keep_within, write_here}
+use Rattle.b2_files.proofs.PlacedWriteIsWhatStands.{bytes_here}
 use Rattle.b2_files.proofs.store.Store.add.Goals as goal
 
 pub invariant_of-self : goal.invariant_of-self

@@ -3,8 +3,8 @@ use Rattle.std.proofs.lemmas.List.{length-map}
 use Rattle.b2_files.specs.Buffers.{buffers_of}
 use Rattle.b2_files.specs.Stores.{write_in}
 use Rattle.b2_files.specs.StoreDisks.{writes_told}
-use Rattle.b2_files.proofs.Keeping.{write_here}
-use Rattle.b2_files.proofs.Standing.{file_here}
+use Rattle.b2_files.proofs.WritesStayAsTheyWere.{write_here}
+use Rattle.b2_files.proofs.PlacedWriteIsWhatStands.{file_here}
 use Rattle.b2_files.proofs.store.Store.held.Goals as goal
 
 pub returns-in_ok-path-in-Some : goal.returns-in_ok-path-in-Some

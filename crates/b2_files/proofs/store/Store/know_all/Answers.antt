@@ -1,6 +1,6 @@
 use Rattle.std.proofs.Common.{ap, sym, ◌∙◌}
 use Rattle.b2_files.specs.Stores.{is_known}
-use Rattle.b2_files.proofs.KnownPaths.{known_more}
+use Rattle.b2_files.proofs.KnownPathsStayKnown.{known_more}
 use Rattle.b2_files.proofs.store.Store.know_all.Goals as goal
 
 pub loop-entry-preserved : goal.loop-entry-preserved

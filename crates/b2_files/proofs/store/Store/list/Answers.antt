@@ -6,7 +6,7 @@ use Rattle.b2_base.specs.Segments.{texts}
 use Rattle.b2_files.specs.Keys.{AreKeys}
 use Rattle.b2_files.specs.Stores.{is_known}
 use Rattle.b2_files.specs.StoreDisks.{writes_told}
-use Rattle.b2_files.proofs.Gathering.{all_listed}
+use Rattle.b2_files.proofs.GatheredNamesAreTheListing.{all_listed}
 use Rattle.b2_files.proofs.store.Store.list.Goals as goal
 
 pub list_names-requires : goal.list_names-requires

@@ -2,7 +2,7 @@ use Rattle.std.proofs.Common.{[], sym, subst}
 use Rattle.b2_base.specs.Segments.{texts}
 use Rattle.b2_files.specs.Names.{Gathered}
 use Rattle.b2_files.specs.StoreDisks.{told}
-use Rattle.b2_files.proofs.Gathering.{gathered_none, gathered_step, gathered_all}
+use Rattle.b2_files.proofs.GatheredNamesAreTheListing.{gathered_none, gathered_step, gathered_all}
 use Rattle.b2_files.proofs.store.Store.list_names.Goals as goal
 
 pub loop-path-init : goal.loop-path-init

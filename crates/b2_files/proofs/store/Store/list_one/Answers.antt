@@ -1,6 +1,6 @@
 use Rattle.std.proofs.Common.{[], ◌∷◌, ◌++◌, not, ap, ◌∙◌}
 use Rattle.b2_files.specs.StoreDisks.{told}
-use Rattle.b2_files.proofs.Keeping.{adds}
+use Rattle.b2_files.proofs.WritesStayAsTheyWere.{adds}
 use Rattle.b2_files.proofs.store.Store.list_one.Goals as goal
 
 pub returns-in_ok-push : goal.returns-in_ok-push

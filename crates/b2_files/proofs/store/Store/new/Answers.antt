@@ -1,4 +1,4 @@
-use Rattle.b2_files.proofs.StorePut.{placed_none}
+use Rattle.b2_files.proofs.PuttingWritesTheDisk.{placed_none}
 use Rattle.b2_files.proofs.store.Store.new.Goals as goal
 
 pub invariant_of-result-clause-placed : goal.invariant_of-result-clause-placed

@@ -3,7 +3,7 @@ use Rattle.std.proofs.lemmas.List.{length-map}
 use Rattle.b2_files.specs.Buffers.{buffers_of}
 use Rattle.b2_files.specs.Stores.{write_in}
 use Rattle.b2_files.specs.StoreDisks.{writes_told}
-use Rattle.b2_files.proofs.StorePut.{place_within}
+use Rattle.b2_files.proofs.PuttingWritesTheDisk.{place_within}
 use Rattle.b2_files.proofs.store.Store.place.Goals as goal
 
 pub returns-clause-within : goal.returns-clause-within

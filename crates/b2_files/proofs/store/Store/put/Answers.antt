@@ -4,8 +4,8 @@ use Rattle.std.proofs.lemmas.List.Folds.{list_all-append}
 use Rattle.b2_files.specs.declared.version.Version.{Version}
 use Rattle.b2_files.specs.Buffers.{buffers_of, is_within}
 use Rattle.b2_files.specs.Stores.{Write, write_in, writes_in, all_within, disk_of, IsPlaced}
-use Rattle.b2_files.proofs.KnownPaths.{and_true}
-use Rattle.b2_files.proofs.StorePut.{has_put, placed_put, disk_put}
+use Rattle.b2_files.proofs.KnownPathsStayKnown.{and_true}
+use Rattle.b2_files.proofs.PuttingWritesTheDisk.{has_put, placed_put, disk_put}
 use Rattle.b2_files.proofs.store.Store.put.Goals as goal
 
 pub invariant_of-self : goal.invariant_of-self

@@ -2,7 +2,7 @@ use Rattle.std.proofs.Common.{ap, sym, ◌∙◌, map, length, arith}
 use Rattle.b2_files.specs.Writes.{all_written}
 use Rattle.b2_files.specs.Stores.{is_known, all_known, write_of}
 use Rattle.b2_files.specs.StoreDisks.{told}
-use Rattle.b2_files.proofs.KnownPaths.{both, known_stays}
+use Rattle.b2_files.proofs.KnownPathsStayKnown.{both, known_stays}
 use Rattle.b2_files.proofs.store.Store.put_all.Goals as goal
 
 pub loop-entry-preserved : goal.loop-entry-preserved

@@ -1,6 +1,6 @@
 use Rattle.std.proofs.Common.{arith, ◌≡◌, ◌++◌, ◌∷◌, [], ap, sym, ◌∙◌, length, reverse, subst}
 use Rattle.b2_generate.specs.Turning.{IsCompleted}
-use Rattle.b2_generate.proofs.DateLemmas.{completes}
+use Rattle.b2_generate.proofs.NewNodeIsDatedRightly.{completes}
 use Rattle.b2_generate.proofs.completing.Nodes.complete.Goals as goal
 
 pub returns : goal.returns

@@ -2,7 +2,7 @@ use Rattle.std.proofs.Common.{arith, ◌≡◌, ap, ◌∙◌, length, subst}
 use Rattle.std.specs.Prelude.{unwrap_or}
 use Rattle.std.specs.FinMap as finite
 use Rattle.b2_generate.specs.Turning.{IsNoted}
-use Rattle.b2_generate.proofs.DateLemmas.{latest_as}
+use Rattle.b2_generate.proofs.NewNodeIsDatedRightly.{latest_as}
 use Rattle.b2_generate.proofs.completing.Nodes.note.Goals as goal
 
 pub returns-clause-noted : goal.returns-clause-noted

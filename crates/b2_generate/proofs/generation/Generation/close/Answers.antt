@@ -11,12 +11,12 @@ use Rattle.b2_generate.specs.Taking.{IsTaken}
 use Rattle.b2_generate.specs.Turning.{IsCompleted}
 use Rattle.b2_generate.specs.declared.node.Node.{Node}
 use Rattle.b2_generate.specs.Told.{loaded_of, IsRefusal}
-use Rattle.b2_generate.proofs.CourseLemmas.{clashed}
-use Rattle.b2_generate.proofs.DoneLemmas.{none_below, one_below, done_over, done_adds, done_kept, done_goes, done_made, done_ends, done_leads, done_clashes}
-use Rattle.b2_generate.proofs.ExitLemmas.{exit_is}
-use Rattle.b2_generate.proofs.LeadLemmas.{refusal_weaker}
-use Rattle.b2_generate.proofs.StackLemmas.{falls_last}
-use Rattle.b2_generate.proofs.StepLemmas.{stopped, ran_out, goes, is_over}
+use Rattle.b2_generate.proofs.TakingLeadsOn.{clashed}
+use Rattle.b2_generate.proofs.NewNodeLeadsOn.{none_below, one_below, done_over, done_adds, done_kept, done_goes, done_made, done_ends, done_leads, done_clashes}
+use Rattle.b2_generate.proofs.EarlyExitGivesTheFault.{exit_is}
+use Rattle.b2_generate.proofs.OpeningLeadsOn.{refusal_weaker}
+use Rattle.b2_generate.proofs.StackLeadsToTheOutcome.{falls_last}
+use Rattle.b2_generate.proofs.TurnKeepsItsPromise.{stopped, ran_out, goes, is_over}
 use Rattle.b2_generate.proofs.generation.Generation.close.Goals as goal
 
 pub finish-requires : goal.finish-requires

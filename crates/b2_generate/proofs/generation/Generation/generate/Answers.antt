@@ -2,9 +2,9 @@ use Rattle.std.proofs.Common.{◌∷◌, reverse, refl, sym, subst, ◌∙◌}
 use Rattle.b2_generate.specs.Opening.{frames, AreReady}
 use Rattle.b2_generate.specs.Told.{loaded_of}
 use Rattle.b2_generate.specs.Machine.{AreKept}
-use Rattle.b2_generate.proofs.ExitLemmas.{exit_is}
-use Rattle.b2_generate.proofs.MadeLemmas.{grows_none}
-use Rattle.b2_generate.proofs.RequestLemmas.{request_out, request_stops, unchosen_first, running_first, turn_at, run_on, run_fewer, run_ends, run_stops}
+use Rattle.b2_generate.proofs.EarlyExitGivesTheFault.{exit_is}
+use Rattle.b2_generate.proofs.StepsAreThoseDefined.{grows_none}
+use Rattle.b2_generate.proofs.TurnsAnswerTheRequest.{request_out, request_stops, unchosen_first, running_first, turn_at, run_on, run_fewer, run_ends, run_stops}
 use Rattle.b2_generate.proofs.generation.Generation.generate.Goals as goal
 
 pub returns-in_err-earliest-clause-request : goal.returns-in_err-earliest-clause-request

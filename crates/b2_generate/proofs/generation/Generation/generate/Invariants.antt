@@ -1,7 +1,7 @@
 use Rattle.std.proofs.Common.{◌≡◌, reverse}
 use Rattle.b2_generate.specs.Opening.{frames}
 use Rattle.b2_generate.specs.Turning.{turns_of}
-use Rattle.b2_generate.proofs.RequestLemmas.{IsRunning}
+use Rattle.b2_generate.proofs.TurnsAnswerTheRequest.{IsRunning}
 use Rattle.b2_generate.proofs.generation.Generation.generate.Given as goal
 
 -- the main target that is asked for is the oldest open one

@@ -4,14 +4,14 @@ use Rattle.b2_generate.specs.Machine.{frame_of, standing_of}
 use Rattle.b2_generate.specs.Stack.{IsUnderWay}
 use Rattle.b2_generate.specs.Told.{loaded_of}
 use Rattle.b2_generate.specs.Turning.{GoOn, turns_of}
-use Rattle.b2_generate.proofs.AddLemmas.{none_added}
-use Rattle.b2_generate.proofs.DueLemmas.{due_named}
-use Rattle.b2_generate.proofs.ExitLemmas.{exit_is}
-use Rattle.b2_generate.proofs.GoLemmas.{opened_goes}
-use Rattle.b2_generate.proofs.LawLemmas.{due_is_new}
-use Rattle.b2_generate.proofs.LeadLemmas.{cycle_falls, unchosen_falls, opened_leads}
-use Rattle.b2_generate.proofs.MadeLemmas.{grows_none}
-use Rattle.b2_generate.proofs.StepLemmas.{stopped, ran_out, goes, frames_more}
+use Rattle.b2_generate.proofs.GivenStaysWithMoreNodes.{none_added}
+use Rattle.b2_generate.proofs.DueTargetIsDeclared.{due_named}
+use Rattle.b2_generate.proofs.EarlyExitGivesTheFault.{exit_is}
+use Rattle.b2_generate.proofs.OpenTargetsAreKeptRightly.{opened_goes}
+use Rattle.b2_generate.proofs.MakingAgainGivesTheSame.{due_is_new}
+use Rattle.b2_generate.proofs.OpeningLeadsOn.{cycle_falls, unchosen_falls, opened_leads}
+use Rattle.b2_generate.proofs.StepsAreThoseDefined.{grows_none}
+use Rattle.b2_generate.proofs.TurnKeepsItsPromise.{stopped, ran_out, goes, frames_more}
 use Rattle.b2_generate.proofs.generation.Generation.open.Goals as goal
 
 pub cycle-requires : goal.cycle-requires

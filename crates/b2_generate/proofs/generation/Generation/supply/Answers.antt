@@ -13,14 +13,14 @@ use Rattle.b2_generate.specs.Standing.{conflict}
 use Rattle.b2_generate.specs.Taking.{IsTaken}
 use Rattle.b2_generate.specs.declared.node.Node.{Node}
 use Rattle.b2_generate.specs.Told.{loaded_of}
-use Rattle.b2_generate.proofs.AddLemmas.{none_added}
-use Rattle.b2_generate.proofs.CourseLemmas.{clashed, entry_named, taken_leads, taken_clashes}
-use Rattle.b2_generate.proofs.DueLemmas.{due_named}
-use Rattle.b2_generate.proofs.ExitLemmas.{exit_is}
-use Rattle.b2_generate.proofs.GoLemmas.{taken_goes}
-use Rattle.b2_generate.proofs.LawLemmas.{due_is_new}
-use Rattle.b2_generate.proofs.MadeLemmas.{grows_none}
-use Rattle.b2_generate.proofs.StepLemmas.{ran_out, goes, is_there}
+use Rattle.b2_generate.proofs.GivenStaysWithMoreNodes.{none_added}
+use Rattle.b2_generate.proofs.TakingLeadsOn.{clashed, entry_named, taken_leads, taken_clashes}
+use Rattle.b2_generate.proofs.DueTargetIsDeclared.{due_named}
+use Rattle.b2_generate.proofs.EarlyExitGivesTheFault.{exit_is}
+use Rattle.b2_generate.proofs.OpenTargetsAreKeptRightly.{taken_goes}
+use Rattle.b2_generate.proofs.MakingAgainGivesTheSame.{due_is_new}
+use Rattle.b2_generate.proofs.StepsAreThoseDefined.{grows_none}
+use Rattle.b2_generate.proofs.TurnKeepsItsPromise.{ran_out, goes, is_there}
 use Rattle.b2_generate.proofs.generation.Generation.supply.Goals as goal
 
 pub propagated-requires : goal.propagated-requires

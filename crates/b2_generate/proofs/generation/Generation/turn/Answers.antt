@@ -7,10 +7,10 @@ use Rattle.b2_generate.specs.Machine.{frame_of, standing_of}
 use Rattle.b2_generate.specs.Stack.{opened}
 use Rattle.b2_generate.specs.Standing.{under}
 use Rattle.b2_generate.specs.Told.{loaded_of}
-use Rattle.b2_generate.proofs.ExitLemmas.{exit_is}
-use Rattle.b2_generate.proofs.MadeLemmas.{grows_none}
-use Rattle.b2_generate.proofs.StackLemmas.{falls}
-use Rattle.b2_generate.proofs.StepLemmas.{stopped, ran_out, turn_from, needs_stay, needs_kept, next_there}
+use Rattle.b2_generate.proofs.EarlyExitGivesTheFault.{exit_is}
+use Rattle.b2_generate.proofs.StepsAreThoseDefined.{grows_none}
+use Rattle.b2_generate.proofs.StackLeadsToTheOutcome.{falls}
+use Rattle.b2_generate.proofs.TurnKeepsItsPromise.{stopped, ran_out, turn_from, needs_stay, needs_kept, next_there}
 use Rattle.b2_generate.proofs.generation.Generation.turn.Goals as goal
 
 pub returns-in_err-next-clause-turn : goal.returns-in_err-next-clause-turn

@@ -1,6 +1,6 @@
 use Rattle.std.proofs.Common.{ap, sym, ◌∙◌}
 use Rattle.std.specs.FinMap as map
-use Rattle.b2_generate.proofs.NameKeys.{get_name}
+use Rattle.b2_generate.proofs.MapHasWhatEntriesHave.{get_name}
 use Rattle.b2_generate.proofs.name_table.NameTable.get.Goals as goal
 
 pub returns : goal.returns

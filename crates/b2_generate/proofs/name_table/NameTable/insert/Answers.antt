@@ -1,6 +1,6 @@
 use Rattle.std.proofs.Common.{ap, ◌∙◌}
 use Rattle.std.specs.FinMap as map
-use Rattle.b2_generate.proofs.NameKeys.{one_name}
+use Rattle.b2_generate.proofs.MapHasWhatEntriesHave.{one_name}
 use Rattle.b2_generate.proofs.name_table.NameTable.insert.Goals as goal
 
 pub returns : goal.returns

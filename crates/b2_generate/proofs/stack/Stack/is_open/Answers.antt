@@ -1,7 +1,7 @@
 use Rattle.std.proofs.Common.{ap, sym, ◌∙◌}
 use Rattle.std.specs.List.{list_any}
 use Rattle.b2_references.specs.Names.{is_same}
-use Rattle.b2_generate.proofs.OpeningLemmas.{open_below, open_newest}
+use Rattle.b2_generate.proofs.CycleListsOpenTargets.{open_below, open_newest}
 use Rattle.b2_generate.proofs.stack.Stack.is_open.Goals as goal
 
 pub returns-then-has_name : goal.returns-then-has_name

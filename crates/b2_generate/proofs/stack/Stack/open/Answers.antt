@@ -1,6 +1,6 @@
 use Rattle.std.proofs.Common.{◌++◌, ◌∷◌, [], ap, ◌∙◌}
 use Rattle.std.proofs.lemmas.Result.{err_from_is_err_and}
-use Rattle.b2_generate.proofs.ExitLemmas.{none_made}
+use Rattle.b2_generate.proofs.EarlyExitGivesTheFault.{none_made}
 use Rattle.b2_generate.proofs.stack.Stack.open.Goals as goal
 
 pub returns-in_err-push-clause-newest : goal.returns-in_err-push-clause-newest

@@ -1,6 +1,6 @@
 use Rattle.std.proofs.Common.{◌∙◌, ap}
 use Rattle.b2_generators.specs.Table.{generator_named}
-use Rattle.b2_generators.proofs.Tables.{generator_at}
+use Rattle.b2_generators.proofs.LookupsAnswerAsListsDo.{generator_at}
 use Rattle.b2_generators.proofs.generator_table.GeneratorTable.find.Goals as goal
 
 pub returns : goal.returns

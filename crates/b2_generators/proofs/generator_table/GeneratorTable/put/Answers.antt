@@ -7,7 +7,7 @@ use Rattle.indexmap.specs.IndexMap.{insert_entry}
 use Rattle.indexmap.proofs.CallerLemmas.{insert_entry-new}
 use Rattle.std.proofs.lemmas.Result.{IfOk-at_ok}
 use Rattle.b2_generators.specs.Table.{generator_named}
-use Rattle.b2_generators.proofs.Tables.{generator_at, generator_keys, generator_ids, keys_push, generators_push}
+use Rattle.b2_generators.proofs.LookupsAnswerAsListsDo.{generator_at, generator_keys, generator_ids, keys_push, generators_push}
 use Rattle.b2_generators.proofs.generator_table.GeneratorTable.put.Goals as goal
 
 pub invariant_of-self-2 : goal.invariant_of-self-2

@@ -1,6 +1,6 @@
 use Rattle.std.proofs.Common.{◌∙◌}
 use Rattle.b2_generators.specs.Table.{type_named}
-use Rattle.b2_generators.proofs.Tables.{has_type}
+use Rattle.b2_generators.proofs.LookupsAnswerAsListsDo.{has_type}
 use Rattle.b2_generators.proofs.type_table.TypeTable.has.Goals as goal
 
 pub returns : goal.returns

@@ -10,7 +10,7 @@ use Rattle.std.proofs.lemmas.List.{length-map}
 use Rattle.std.proofs.lemmas.Result.{IfOk-at_ok}
 use Rattle.b2_generators.specs.Table.{FileType, has_text, type_named, type_with}
 use Rattle.b2_generators.specs.Index.{types_in, HasPlaces}
-use Rattle.b2_generators.proofs.Tables.{no_suffixes, types_push, places_push, untaken_at, among}
+use Rattle.b2_generators.proofs.LookupsAnswerAsListsDo.{no_suffixes, types_push, places_push, untaken_at, among}
 use Rattle.b2_generators.proofs.type_table.TypeTable.put.Goals as goal
 
 pub invariant_of-self-2 : goal.invariant_of-self-2

@@ -1,7 +1,7 @@
 use Rattle.std.proofs.Common.{◌∙◌, ap}
 use Rattle.std.specs.Option.{option_map}
 use Rattle.b2_generators.specs.Table.{FileType, type_named}
-use Rattle.b2_generators.proofs.Tables.{suffixes_at}
+use Rattle.b2_generators.proofs.LookupsAnswerAsListsDo.{suffixes_at}
 use Rattle.b2_generators.proofs.type_table.TypeTable.suffixes_of.Goals as goal
 
 pub returns : goal.returns

@@ -1,6 +1,6 @@
 use Rattle.std.proofs.Common.{◌∙◌, sym, ap, slice_get}
 use Rattle.std.specs.Option.{option_copied, option_map}
-use Rattle.b2_features.proofs.Lookups.{find-at_position, find-none}
+use Rattle.b2_features.proofs.ListSearchesAgree.{find-at_position, find-none}
 use Rattle.b2_generators.specs.Table.{FileType, has_text, type_with}
 use Rattle.b2_generators.proofs.type_table.TypeTable.type_with.Goals as goal
 

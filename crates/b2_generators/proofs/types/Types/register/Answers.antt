@@ -1,6 +1,6 @@
 use Rattle.std.proofs.Common.{◌≡◌, ◌∙◌, false, sym, subst}
 use Rattle.b2_generators.specs.Table.{Registered, is_generator_refused, HaveDistinctIds}
-use Rattle.b2_generators.proofs.Registering.{distinct_push}
+use Rattle.b2_generators.proofs.RegisteredIdsStayDistinct.{distinct_push}
 use Rattle.b2_generators.proofs.types.Types.register.Goals as goal
 
 pub invariant_of-self-2 : goal.invariant_of-self-2

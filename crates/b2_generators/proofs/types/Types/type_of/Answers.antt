@@ -1,6 +1,6 @@
 use Rattle.std.proofs.Common.{refl, sym, subst}
 use Rattle.b2_base.specs.Bytes.{HasNoZero}
-use Rattle.b2_generators.proofs.Registering.{no_zero_of}
+use Rattle.b2_generators.proofs.RegisteredIdsStayDistinct.{no_zero_of}
 use Rattle.b2_generators.proofs.types.Types.type_of.Goals as goal
 
 pub returns-in-Some-clause-no_zero : goal.returns-in-Some-clause-no_zero

@@ -1,4 +1,4 @@
-use Rattle.b2_loaded.proofs.EvalSteps.{none_if}
+use Rattle.b2_loaded.proofs.EvaluationsGiveWhatIsTold.{none_if}
 use Rattle.b2_loaded.proofs.own_text.OwnText.new.Goals as goal
 
 pub invariant_of-result : goal.invariant_of-result

@@ -1,4 +1,4 @@
-use Rattle.b2_loaded.proofs.EvalSteps.{asks_text}
+use Rattle.b2_loaded.proofs.EvaluationsGiveWhatIsTold.{asks_text}
 use Rattle.b2_loaded.proofs.own_text.OwnText.text_of.Goals as goal
 
 pub returns-clause-asks : goal.returns-clause-asks

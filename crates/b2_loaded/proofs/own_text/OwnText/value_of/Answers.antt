@@ -1,6 +1,6 @@
 use Rattle.std.proofs.Common.{sym, ap, ◌∙◌}
 use Rattle.std.specs.Option.{option_copied}
-use Rattle.b2_loaded.proofs.EvalSteps.{asks_nothing, asks_returned}
+use Rattle.b2_loaded.proofs.EvaluationsGiveWhatIsTold.{asks_nothing, asks_returned}
 use Rattle.b2_loaded.proofs.own_text.OwnText.value_of.Goals as goal
 
 pub returns-in_default-clause-asks : goal.returns-in_default-clause-asks

@@ -1,5 +1,5 @@
 use Rattle.std.proofs.Common.{refl}
-use Rattle.b2_log.proofs.Places.{steps_put, scans_put}
+use Rattle.b2_log.proofs.PlacesFindTheLastLines.{steps_put, scans_put}
 use Rattle.b2_log.proofs.latest.Latest.put.Goals as goal
 
 pub returns-in_ok-insert-in-Outputs-clause-ok : goal.returns-in_ok-insert-in-Outputs-clause-ok

@@ -1,8 +1,8 @@
 use Rattle.std.proofs.Common.{List, sym, subst}
 use Rattle.b2_log.specs.declared.line.LogLine.{LogLine}
 use Rattle.b2_log.specs.Places.{IsIndexed, place_in}
-use Rattle.b2_log.proofs.Places.{proper_at}
-use Rattle.b2_log.proofs.KeptLines.{kept_more}
+use Rattle.b2_log.proofs.PlacesFindTheLastLines.{proper_at}
+use Rattle.b2_log.proofs.KeptLinesTellTheSame.{kept_more}
 use Rattle.b2_log.proofs.log.Log.kept.Goals as goal
 
 pub loop-place-preserved : goal.loop-place-preserved

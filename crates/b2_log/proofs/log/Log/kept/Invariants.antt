@@ -1,4 +1,4 @@
-use Rattle.b2_log.proofs.KeptLines.{KeptSo}
+use Rattle.b2_log.proofs.KeptLinesTellTheSame.{KeptSo}
 use Rattle.b2_log.proofs.log.Log.kept.Given as goal
 
 abbrev pub invariant-loop-place : goal.invariant-loop-place

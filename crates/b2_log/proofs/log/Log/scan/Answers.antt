@@ -2,7 +2,7 @@ use Rattle.std.proofs.Common.{sym, ap, ◌∙◌, arith}
 use Rattle.std.specs.Prelude.{option_and_then}
 use Rattle.b2_log.specs.declared.subject.Subject.TheVariants as subjects
 use Rattle.b2_log.specs.Finding.{find_scan, scan_in}
-use Rattle.b2_log.proofs.Places.{untold, found_at, scan_told}
+use Rattle.b2_log.proofs.PlacesFindTheLastLines.{untold, found_at, scan_told}
 use Rattle.b2_log.proofs.log.Log.scan.Goals as goal
 
 pub returns-in_err-place : goal.returns-in_err-place

@@ -1,6 +1,6 @@
 use Rattle.std.proofs.Common.{ap, sym, ◌∙◌, arith}
 use Rattle.b2_files.specs.Stores.{all_known}
-use Rattle.b2_files.proofs.KnownPaths.{known_stays}
+use Rattle.b2_files.proofs.KnownPathsStayKnown.{known_stays}
 use Rattle.b2_memory.specs.PendingWrites.{promised}
 use Rattle.b2_memory.proofs.ChildEnds.{promised_push}
 use Rattle.b2_memory.proofs.memory.MemoryHost.admit.Goals as goal

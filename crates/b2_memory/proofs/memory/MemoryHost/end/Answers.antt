@@ -4,7 +4,7 @@ use Rattle.b2_host.specs.ChildProcesses.{Given}
 use Rattle.b2_files.specs.Writes.{all_written}
 use Rattle.b2_files.specs.Stores.{all_known}
 use Rattle.b2_files.specs.StoreDisks.{told}
-use Rattle.b2_files.proofs.KnownPaths.{known_stays}
+use Rattle.b2_files.proofs.KnownPathsStayKnown.{known_stays}
 use Rattle.b2_memory.specs.declared.job.Job.{Job}
 use Rattle.b2_memory.specs.declared.running.Running.{Running}
 use Rattle.b2_memory.specs.ChildWrites.{writes_of}
@@ -12,7 +12,7 @@ use Rattle.b2_memory.specs.Families.{child_with}
 use Rattle.b2_memory.specs.Jobs.{given_of}
 use Rattle.b2_memory.specs.Memories.{without_child}
 use Rattle.b2_memory.specs.Hosts.{memory_of, family_of, running_children, ends_well_of}
-use Rattle.b2_memory.proofs.Records.{same_family, same_memory}
+use Rattle.b2_memory.proofs.EqualPartsMakeEqualRecords.{same_family, same_memory}
 use Rattle.b2_memory.specs.PendingWrites.{promised}
 use Rattle.b2_memory.proofs.ChildEnds.{known_take, get_map, map_remove}
 use Rattle.b2_memory.proofs.memory.MemoryHost.end.Goals as goal

@@ -1,5 +1,5 @@
 use Rattle.std.proofs.Common.{arith}
-use Rattle.b2_files.proofs.KnownPaths.{known_stays}
+use Rattle.b2_files.proofs.KnownPathsStayKnown.{known_stays}
 use Rattle.b2_memory.specs.PendingWrites.{promised}
 use Rattle.b2_memory.proofs.memory.MemoryHost.make_ready.Goals as goal
 

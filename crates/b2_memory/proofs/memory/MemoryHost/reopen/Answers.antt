@@ -7,7 +7,7 @@ use Rattle.b2_memory.specs.Jobs.{given_of}
 use Rattle.b2_memory.specs.Listings.{listed_of}
 use Rattle.b2_memory.specs.Memories.{AllEnded}
 use Rattle.b2_memory.specs.Hosts.{memory_of}
-use Rattle.b2_memory.proofs.Records.{same_listed, reopens}
+use Rattle.b2_memory.proofs.EqualPartsMakeEqualRecords.{same_listed, reopens}
 use Rattle.b2_memory.proofs.memory.MemoryHost.reopen.Goals as goal
 
 pub loop-child-init : goal.loop-child-init

@@ -3,7 +3,7 @@ use Rattle.b2_files.specs.Consistency.{stamp_within}
 use Rattle.b2_files.specs.StoreDisks.{writes_told}
 use Rattle.b2_memory.specs.Hosts.{told_outside, memory_of}
 use Rattle.b2_memory.specs.Scripts.{raised}
-use Rattle.b2_memory.proofs.Effects.{awaits_told}
+use Rattle.b2_memory.proofs.CallsDoWhatHostsPromise.{awaits_told}
 use Rattle.b2_memory.proofs.memory.MemoryHostChildren.wait_one.Goals as goal
 
 pub returns-clause-effect : goal.returns-clause-effect

@@ -9,7 +9,7 @@ use Rattle.b2_memory.specs.Hosts.{told_outside, memory_of}
 use Rattle.b2_memory.specs.Listings.{listed_of}
 use Rattle.b2_memory.specs.Memories.{Memory, Writes}
 use Rattle.b2_memory.specs.Scripts.{left_of}
-use Rattle.b2_memory.proofs.Effects.{writes_same, appends_told}
+use Rattle.b2_memory.proofs.CallsDoWhatHostsPromise.{writes_same, appends_told}
 use Rattle.b2_memory.proofs.memory.MemoryHostFiles.append.Goals as goal
 
 pub returns-clause-exact : goal.returns-clause-exact

@@ -6,7 +6,7 @@ use Rattle.b2_memory.specs.declared.script.CallKind.TheVariants as kinds
 use Rattle.b2_memory.specs.Hosts.{memory_of}
 use Rattle.b2_memory.specs.Listings.{listed_of}
 use Rattle.b2_memory.specs.Scripts.{left_of}
-use Rattle.b2_memory.proofs.Effects.{writes_same, replaces_told}
+use Rattle.b2_memory.proofs.CallsDoWhatHostsPromise.{writes_same, replaces_told}
 use Rattle.b2_memory.proofs.memory.MemoryHostFiles.replace.Goals as goal
 
 pub returns-clause-effect : goal.returns-clause-effect

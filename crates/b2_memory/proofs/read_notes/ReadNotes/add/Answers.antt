@@ -1,4 +1,4 @@
-use Rattle.b2_memory.proofs.Notes.{reads_more}
+use Rattle.b2_memory.proofs.ReadsKeepTheirPaths.{reads_more}
 use Rattle.b2_memory.proofs.read_notes.ReadNotes.add.Goals as goal
 
 pub returns-clause-ok : goal.returns-clause-ok

@@ -2,7 +2,7 @@ use Rattle.std.proofs.Common.{◌∙◌, Ok, sym, ap}
 use Rattle.std.proofs.lemmas.Result.{err_from_is_err_and}
 use Rattle.b2_metatargets.specs.Gathering.{lists_in}
 use Rattle.b2_metatargets.specs.Views.{brought}
-use Rattle.b2_metatargets.proofs.Adding.{attributes_fault_at, attributes_added, attributed_is}
+use Rattle.b2_metatargets.proofs.AddedUnlessListsFail.{attributes_fault_at, attributes_added, attributed_is}
 use Rattle.b2_metatargets.proofs.gathered.Gathered.add_attributes.Goals as goal
 
 pub returns-in_err-lists-clause-fault : goal.returns-in_err-lists-clause-fault

@@ -7,8 +7,8 @@ use Rattle.indexmap.specs.IndexMap.{insert_entry}
 use Rattle.indexmap.proofs.CallerLemmas.{insert_entry-new}
 use Rattle.std.proofs.lemmas.List.{map-append}
 use Rattle.std.proofs.lemmas.Result.{IfOk-at_ok}
-use Rattle.b2_features.proofs.Lookups.{lookup-map_keys}
-use Rattle.b2_texts.proofs.Meeting.{not_there}
+use Rattle.b2_features.proofs.ListSearchesAgree.{lookup-map_keys}
+use Rattle.b2_texts.proofs.EarlierPairsTellClashes.{not_there}
 use Rattle.b2_metatargets.specs.Gathering.{dir_of}
 use Rattle.b2_metatargets.proofs.ids.Ids.add.Goals as goal
 

@@ -1,7 +1,7 @@
 use Rattle.std.proofs.Common.{sym, ◌∙◌, ap, string_bytes}
 use Rattle.std.specs.Str.{bytes_eq}
 use Rattle.std.specs.Map.{lookup}
-use Rattle.b2_features.proofs.Lookups.{lookup-map_keys}
+use Rattle.b2_features.proofs.ListSearchesAgree.{lookup-map_keys}
 use Rattle.b2_metatargets.proofs.ids.Ids.dir_of.Goals as goal
 
 pub returns : goal.returns

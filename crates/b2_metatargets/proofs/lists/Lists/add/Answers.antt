@@ -1,7 +1,7 @@
 use Rattle.std.proofs.Common.{sym, ap, ◌∙◌}
 use Rattle.std.proofs.lemmas.Result.{err_from_is_err_and}
 use Rattle.b2_metatargets.specs.Gathering.{with_texts}
-use Rattle.b2_metatargets.proofs.ReadLists.{texts_fault, clash_fault, list_read}
+use Rattle.b2_metatargets.proofs.ListsAreReadInTurn.{texts_fault, clash_fault, list_read}
 use Rattle.b2_metatargets.proofs.lists.Lists.add.Goals as goal
 
 pub returns-in_err-add_texts-clause-fault : goal.returns-in_err-add_texts-clause-fault

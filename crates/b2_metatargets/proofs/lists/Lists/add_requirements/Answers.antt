@@ -1,7 +1,7 @@
 use Rattle.std.proofs.Common.{◌∙◌, Ok, sym, ap}
 use Rattle.std.proofs.lemmas.Result.{err_from_is_err_and}
 use Rattle.b2_metatargets.specs.declared.lists.Lists.{Lists}
-use Rattle.b2_metatargets.proofs.ReadLists.{requirements_fault, requirements_read}
+use Rattle.b2_metatargets.proofs.ListsAreReadInTurn.{requirements_fault, requirements_read}
 use Rattle.b2_metatargets.proofs.lists.Lists.add_requirements.Goals as goal
 
 pub returns-in_err-more-clause-fault : goal.returns-in_err-more-clause-fault

@@ -3,7 +3,7 @@ use Rattle.b2_features.specs.Table.{composed}
 use Rattle.b2_features.specs.Faults.{compose_fault, IsBy}
 use Rattle.b2_metatargets.specs.Carrying.{with_features, with_parts}
 use Rattle.b2_metatargets.specs.Views.{seen}
-use Rattle.b2_metatargets.proofs.Refusing.{cause_is_fault}
+use Rattle.b2_metatargets.proofs.RefusalIsTheStepsFault.{cause_is_fault}
 use Rattle.b2_metatargets.proofs.tables.Tables.compose.Goals as goal
 
 pub returns-in-Err-clause-fault : goal.returns-in-Err-clause-fault

@@ -3,7 +3,7 @@ use Rattle.b2_features.specs.Table.{declared}
 use Rattle.b2_features.specs.Faults.{feature_fault, IsBy}
 use Rattle.b2_metatargets.specs.Carrying.{with_features, with_feature}
 use Rattle.b2_metatargets.specs.Views.{seen}
-use Rattle.b2_metatargets.proofs.Refusing.{cause_is_fault}
+use Rattle.b2_metatargets.proofs.RefusalIsTheStepsFault.{cause_is_fault}
 use Rattle.b2_metatargets.proofs.tables.Tables.declare_feature.Goals as goal
 
 pub returns-in-Err-clause-fault : goal.returns-in-Err-clause-fault

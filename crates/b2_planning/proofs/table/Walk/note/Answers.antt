@@ -1,4 +1,4 @@
-use Rattle.b2_planning.proofs.RowKeys.{known_found}
+use Rattle.b2_planning.proofs.KnownRowsAreThoseFound.{known_found}
 use Rattle.b2_planning.proofs.table.Walk.note.Goals as goal
 
 pub returns-in_ok-push-clause-walk : goal.returns-in_ok-push-clause-walk

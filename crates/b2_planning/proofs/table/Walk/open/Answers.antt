@@ -1,5 +1,5 @@
 use Rattle.std.proofs.Common.{refl}
-use Rattle.b2_planning.proofs.WalkSteps.{opens_none, opens_some}
+use Rattle.b2_planning.proofs.OpeningPushesChildren.{opens_none, opens_some}
 use Rattle.b2_planning.proofs.table.Walk.open.Goals as goal
 
 pub returns-in-None-clause-opens : goal.returns-in-None-clause-opens

@@ -1,6 +1,6 @@
 use Rattle.std.proofs.Common.{◌∙◌, refl, ap₂, List, ℕ}
 use Rattle.std.specs.FinMap.{insert}
-use Rattle.b2_props.proofs.Rows.{has_first}
+use Rattle.b2_props.proofs.RowsGrowChoiceByChoice.{has_first}
 use Rattle.b2_props.proofs.clashes.Clashes.begin.Goals as goal
 
 pub returns : goal.returns

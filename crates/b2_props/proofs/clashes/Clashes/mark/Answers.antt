@@ -1,6 +1,6 @@
 use Rattle.std.proofs.Common.{◌∙◌, refl, ap, sym}
 use Rattle.std.specs.FinMap.{insert}
-use Rattle.b2_props.proofs.Rows.{has_mark}
+use Rattle.b2_props.proofs.RowsGrowChoiceByChoice.{has_mark}
 use Rattle.b2_props.proofs.clashes.Clashes.mark.Goals as goal
 
 pub returns-in_ok-_before-in-None : goal.returns-in_ok-_before-in-None

@@ -1,4 +1,4 @@
-use Rattle.b2_props.proofs.Rows.{meets_next}
+use Rattle.b2_props.proofs.RowsGrowChoiceByChoice.{meets_next}
 use Rattle.b2_props.proofs.clashes.Clashes.of.Goals as goal
 
 pub loop-choice-preserved : goal.loop-choice-preserved

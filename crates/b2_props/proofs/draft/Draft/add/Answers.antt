@@ -2,7 +2,7 @@ use Rattle.std.proofs.Common.{◌∙◌, sym, ap, not}
 use Rattle.std.specs.FinMap as map
 use Rattle.b2_features.specs.declared.attribute.Attribute.TheVariants.{Free}
 use Rattle.b2_features.specs.Faults.{is_with}
-use Rattle.b2_props.proofs.Gaining.{gain_nothing, found_there}
+use Rattle.b2_props.proofs.DraftHoldsEachGainedPair.{gain_nothing, found_there}
 use Rattle.b2_props.proofs.draft.Draft.add.Goals as goal
 
 pub returns-else-is_none : goal.returns-else-is_none

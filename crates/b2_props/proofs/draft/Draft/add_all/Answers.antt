@@ -1,4 +1,4 @@
-use Rattle.b2_props.proofs.Gaining.{gains_next}
+use Rattle.b2_props.proofs.DraftHoldsEachGainedPair.{gains_next}
 use Rattle.b2_props.proofs.draft.Draft.add_all.Goals as goal
 
 pub loop-pair-preserved : goal.loop-pair-preserved

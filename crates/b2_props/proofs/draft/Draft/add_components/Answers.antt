@@ -1,6 +1,6 @@
 use Rattle.std.proofs.Common.{subst}
 use Rattle.b2_props.specs.Holding.{Gains}
-use Rattle.b2_props.proofs.Gaining.{gains_components}
+use Rattle.b2_props.proofs.DraftHoldsEachGainedPair.{gains_components}
 use Rattle.b2_props.proofs.draft.Draft.add_components.Goals as goal
 
 pub loop-pair-preserved : goal.loop-pair-preserved

@@ -1,5 +1,5 @@
 use Rattle.b2_features.specs.Table.{seen}
-use Rattle.b2_props.proofs.Gaining.{gains_default}
+use Rattle.b2_props.proofs.DraftHoldsEachGainedPair.{gains_default}
 use Rattle.b2_props.proofs.draft.Draft.add_defaults.Goals as goal
 
 pub loop-place-preserved : goal.loop-place-preserved

@@ -3,7 +3,7 @@ use Rattle.std.specs.BTreeSet.{contains}
 use Rattle.std.proofs.lemmas.Bool.{not-true}
 use Rattle.b2_props.specs.Sets.{Pair, same}
 use Rattle.b2_props.specs.Holding.{pair_cmp}
-use Rattle.b2_props.proofs.Gaining.{pair_ties}
+use Rattle.b2_props.proofs.DraftHoldsEachGainedPair.{pair_ties}
 use Rattle.b2_props.proofs.draft.Draft.add_free.Goals as goal
 
 pub returns-in_ok-push : goal.returns-in_ok-push

@@ -2,7 +2,7 @@ use Rattle.std.proofs.Common.{◌∙◌, ◌++◌, List, ap₂}
 use Rattle.std.proofs.lemmas.Result.{IfOk-weaker}
 use Rattle.std.specs.FinMap as map
 use Rattle.b2_props.specs.Sets.{Pair}
-use Rattle.b2_props.proofs.SetLemmas.{all_stand, same_pairs}
+use Rattle.b2_props.proofs.WrittenValuesMakeASet.{all_stand, same_pairs}
 use Rattle.b2_props.proofs.draft.Draft.into_props.Goals as goal
 
 pub returns-clause-value : goal.returns-clause-value

@@ -1,4 +1,4 @@
-use Rattle.b2_props.proofs.Gaining.{takes_next}
+use Rattle.b2_props.proofs.DraftHoldsEachGainedPair.{takes_next}
 use Rattle.b2_props.proofs.draft.Draft.put_all.Goals as goal
 
 pub loop-pair-preserved : goal.loop-pair-preserved

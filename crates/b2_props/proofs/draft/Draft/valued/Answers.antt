@@ -5,7 +5,7 @@ use Rattle.std.specs.FinMap as map
 use Rattle.std.proofs.lemmas.List.{append-nil}
 use Rattle.b2_features.specs.Table.{seen}
 use Rattle.b2_props.specs.Sets.{Pair, pair_of}
-use Rattle.b2_props.proofs.Gaining.{options_next}
+use Rattle.b2_props.proofs.DraftHoldsEachGainedPair.{options_next}
 use Rattle.b2_props.proofs.draft.Draft.valued.Goals as goal
 use Rattle.b2_props.proofs.draft.Draft.valued.Goals.{in-Some+in_ok-push, in_default}
 

@@ -1,8 +1,8 @@
 use Rattle.std.proofs.Common.{◌∙◌, cond, true, ap}
 use Rattle.b2_props.specs.Sets.{Pair, same}
 use Rattle.b2_props.specs.Indexing.{is_indexed}
-use Rattle.b2_props.proofs.Gaining.{pair_ties}
-use Rattle.b2_props.proofs.IndexLemmas.{index_more}
+use Rattle.b2_props.proofs.DraftHoldsEachGainedPair.{pair_ties}
+use Rattle.b2_props.proofs.IndexTellsWhichAreThere.{index_more}
 use Rattle.b2_props.proofs.pair_index.PairIndex.add.Goals as goal
 
 pub returns : goal.returns

@@ -1,7 +1,7 @@
 use Rattle.std.proofs.Common.{subst, sym, take, List}
 use Rattle.b2_props.specs.Sets.{Pair}
 use Rattle.b2_props.specs.Indexing.{IsIndexOf}
-use Rattle.b2_props.proofs.Gaining.{next_take}
+use Rattle.b2_props.proofs.DraftHoldsEachGainedPair.{next_take}
 use Rattle.b2_props.proofs.pair_index.PairIndex.new.Goals as goal
 
 pub loop-pair-preserved : goal.loop-pair-preserved

@@ -3,7 +3,7 @@ use lib.Pointwise.{pointwise}
 use Rattle.std.specs.Bool.{Decides}
 use Rattle.std.proofs.lemmas.Slice.Eq.{slice_eq-Decides}
 use Rattle.b2_props.specs.Sets.{Pair, same}
-use Rattle.b2_props.proofs.Pairs.{same_is, same_itself}
+use Rattle.b2_props.proofs.RepeatedPairsAddNothing.{same_is, same_itself}
 use Rattle.b2_props.proofs.props.Props.equals.Goals as goal
 
 pub returns-then-number : goal.returns-then-number

@@ -1,7 +1,7 @@
 use Rattle.std.proofs.Common.{◌<◌, refl, subst}
 use Rattle.std.proofs.lemmas.List.{length-map}
 use Rattle.b2_props.specs.Ways.{ways_of}
-use Rattle.b2_props.proofs.Joining.{longer_set, placed_longer}
+use Rattle.b2_props.proofs.WaysJoinFirstOfKey.{longer_set, placed_longer}
 use Rattle.b2_props.proofs.ways.WayList.append.Goals as goal
 
 pub returns-clause-ways : goal.returns-clause-ways

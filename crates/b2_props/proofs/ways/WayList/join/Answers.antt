@@ -1,6 +1,6 @@
 use Rattle.std.proofs.Common.{◌≡◌, OnOk, sym, subst}
 use Rattle.b2_props.specs.Ways.{ways_of, ways_in}
-use Rattle.b2_props.proofs.Joining.{place_within, joined_new, joined_at}
+use Rattle.b2_props.proofs.WaysJoinFirstOfKey.{place_within, joined_new, joined_at}
 use Rattle.b2_props.proofs.ways.WayList.join.Goals as goal
 
 pub append-requires-clause-within : goal.append-requires-clause-within

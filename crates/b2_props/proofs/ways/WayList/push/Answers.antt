@@ -2,7 +2,7 @@ use Rattle.std.proofs.Common.{◌≡◌, ◌∙◌, ◌++◌, ◌∷◌, [], Som
 use Rattle.std.specs.FinMap.{get}
 use Rattle.std.proofs.lemmas.List.{map-append, length-map}
 use Rattle.b2_props.specs.Ways.{ways_of, ways_in}
-use Rattle.b2_props.proofs.Joining.{placed_plain, placed_keyed}
+use Rattle.b2_props.proofs.WaysJoinFirstOfKey.{placed_plain, placed_keyed}
 use Rattle.b2_props.proofs.ways.WayList.push.Goals as goal
 use Rattle.b2_props.proofs.ways.WayList.push.Goals.{in-Some+in_ok-copy+in_ok-_before, in_default}
 

@@ -1,6 +1,6 @@
 use Rattle.std.proofs.Common.{◌≡◌, ◌<◌, length, ◌++◌, ◌∷◌, [], arith}
 use Rattle.b2_host.specs.declared.children.ChildEvent.TheVariants.{Done}
-use Rattle.b2_realhost.proofs.JobLemmas.{awaits_at}
+use Rattle.b2_realhost.proofs.WaitEndsOneJob.{awaits_at}
 use Rattle.b2_realhost.proofs.real_host.RealHostChildren.wait_one.Goals as goal
 
 pub returns-in-Ok : goal.returns-in-Ok

@@ -1,7 +1,7 @@
 use Rattle.std.proofs.Common.{◌∙◌, ◌++◌, ◌∷◌, [], List, ℕ, Some, cond, ap}
 use Rattle.std.specs.FinMap.{get}
 use Rattle.std.specs.Str.{bytes_eq}
-use Rattle.b2_references.proofs.LoopLemmas.{put_back}
+use Rattle.b2_references.proofs.LoopsTakeOneMore.{put_back}
 use Rattle.b2_references.proofs.entries.Entry.add.Goals as goal
 
 pub returns-clause-numbers : goal.returns-clause-numbers

@@ -1,8 +1,8 @@
 use Rattle.std.proofs.Common.{◌∙◌, ap, sym, refl}
 use Rattle.std.specs.Prelude.{slice_set}
-use Rattle.b2_features.proofs.Outcomes.{on_ok}
-use Rattle.b2_references.proofs.GroupLemmas.{groups_begin, groups_join}
-use Rattle.b2_references.proofs.LoopLemmas.{on_ok_both}
+use Rattle.b2_features.proofs.OutcomesPassOnWhatHolds.{on_ok}
+use Rattle.b2_references.proofs.GroupsGrowByOnePair.{groups_begin, groups_join}
+use Rattle.b2_references.proofs.LoopsTakeOneMore.{on_ok_both}
 use Rattle.b2_references.proofs.groups.Groups.add.Goals as goal
 
 pub returns-in-None : goal.returns-in-None

@@ -4,8 +4,8 @@ use Rattle.std.specs.List.{filter_map, slice_get}
 use Rattle.std.proofs.lemmas.List.{map-append, take_all}
 use Rattle.b2_metatargets.specs.declared.place.Target.{Target}
 use Rattle.b2_references.specs.Names.{numbers, alternatives}
-use Rattle.b2_references.proofs.EntryLemmas.{numbers_found}
-use Rattle.b2_references.proofs.LoopLemmas.{found_next}
+use Rattle.b2_references.proofs.EntriesGrowByOneTarget.{numbers_found}
+use Rattle.b2_references.proofs.LoopsTakeOneMore.{found_next}
 use Rattle.b2_references.proofs.index.Index.alternatives.Goals as goal
 
 pub loop-number-preserved : goal.loop-number-preserved

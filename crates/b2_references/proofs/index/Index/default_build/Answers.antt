@@ -3,7 +3,7 @@ use Rattle.std.specs.Borrow.{Bor}
 use Rattle.b2_metatargets.specs.declared.place.Place.{Place}
 use Rattle.b2_metatargets.specs.declared.place.Target.{Target}
 use Rattle.b2_references.specs.Names.{alternatives, lineage, default_build, first_list}
-use Rattle.b2_references.proofs.LoopLemmas.{map-map, first_own, first_other}
+use Rattle.b2_references.proofs.LoopsTakeOneMore.{map-map, first_own, first_other}
 use Rattle.b2_references.proofs.index.Index.default_build.Goals as goal
 
 -- the defaults of what references point to

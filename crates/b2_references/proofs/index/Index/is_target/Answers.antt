@@ -1,6 +1,6 @@
 use Rattle.std.proofs.Common.{◌∙◌, not, length, eqb, ap}
 use Rattle.b2_references.specs.Names.{numbers, alternatives}
-use Rattle.b2_references.proofs.EntryLemmas.{same_count}
+use Rattle.b2_references.proofs.EntriesGrowByOneTarget.{same_count}
 use Rattle.b2_references.proofs.index.Index.is_target.Goals as goal
 
 pub returns : goal.returns

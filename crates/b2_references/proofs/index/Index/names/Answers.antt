@@ -2,7 +2,7 @@ use Rattle.std.proofs.Common.{◌∙◌, map, ap, sym}
 use Rattle.std.specs.List.{slice_get}
 use Rattle.b2_references.specs.Indexing.{named_in, targets_in}
 use Rattle.b2_references.specs.Names.{first_names, name_of}
-use Rattle.b2_references.proofs.EntryLemmas.{none_in}
+use Rattle.b2_references.proofs.EntriesGrowByOneTarget.{none_in}
 use Rattle.b2_references.proofs.index.Index.names.Goals as goal
 
 pub returns-in-None : goal.returns-in-None

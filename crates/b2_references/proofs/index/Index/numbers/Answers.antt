@@ -1,6 +1,6 @@
 use Rattle.std.proofs.Common.{◌<◌, ◌∙◌, All, sym, subst, length}
 use Rattle.b2_references.specs.Names.{numbers}
-use Rattle.b2_references.proofs.EntryLemmas.{numbers_within, some_is, none_is}
+use Rattle.b2_references.proofs.EntriesGrowByOneTarget.{numbers_within, some_is, none_is}
 use Rattle.b2_references.proofs.index.Index.numbers.Goals as goal
 
 pub returns-in-None-clause-exact : goal.returns-in-None-clause-exact

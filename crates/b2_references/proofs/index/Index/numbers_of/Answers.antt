@@ -2,7 +2,7 @@ use Rattle.std.proofs.Common.{◌∙◌, ap, sym}
 use Rattle.std.specs.List.{slice_get}
 use Rattle.b2_references.specs.Indexing.{some_of}
 use Rattle.b2_references.specs.Names.{numbers, numbers_from}
-use Rattle.b2_references.proofs.EntryLemmas.{no_numbers}
+use Rattle.b2_references.proofs.EntriesGrowByOneTarget.{no_numbers}
 use Rattle.b2_references.proofs.index.Index.numbers_of.Goals as goal
 
 pub returns-in-None : goal.returns-in-None

@@ -1,5 +1,5 @@
 use Rattle.std.proofs.Common.{◌/◌, ◌<◌, List, Bool, length, sym, subst, arith}
-use Rattle.b2_sched.proofs.NumberSetLemmas.{put_in}
+use Rattle.b2_sched.proofs.IndexFindsTheLowest.{put_in}
 use Rattle.b2_sched.proofs.number_set.NumberSet.insert.Goals as goal
 
 pub invariant_of-self : goal.invariant_of-self

@@ -1,7 +1,7 @@
 use Rattle.std.proofs.Common.{◌≡◌, ℕ, ◌*◌, ◌+◌, length, List, Bool, subst, rules}
 use Rattle.std.specs.Option.{MatchOption}
 use Rattle.b2_sched.specs.NumberSets.{NoneIn, IsFirstIn, HasNone, IsLeast}
-use Rattle.b2_sched.proofs.NumberSetLemmas.{lowest_is}
+use Rattle.b2_sched.proofs.IndexFindsTheLowest.{lowest_is}
 use Rattle.b2_sched.proofs.number_set.NumberSet.lowest.Goals as goal
 
 pub returns : goal.returns

@@ -1,6 +1,6 @@
 use Rattle.std.proofs.Common.{ℕ, ◌*◌, ◌+◌, ◌/◌, ◌<◌, List, Bool, false, length, take, drop, ◌++◌, set, subst, sym, ap, ◌∙◌, rules}
 use Rattle.b2_sched.specs.NumberSets.{NoneIn, IsFirstIn, IsIndexed}
-use Rattle.b2_sched.proofs.NumberSetLemmas.{written_back, found_none, found_some, taken_some, taken_last}
+use Rattle.b2_sched.proofs.IndexFindsTheLowest.{written_back, found_none, found_some, taken_some, taken_last}
 use Rattle.b2_sched.proofs.number_set.NumberSet.remove.Goals as goal
 
 pub invariant_of-self : goal.invariant_of-self

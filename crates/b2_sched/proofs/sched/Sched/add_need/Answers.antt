@@ -2,8 +2,8 @@ use Rattle.std.proofs.Common.{◌≡◌, get_or, ◌<◌, ℕ, List, true, false
 use Rattle.b2_sched.specs.Schedules.{shown, Schedule, IsSettled, IsNeeded, IsStep}
 use Rattle.b2_sched.specs.Calls.{with_need}
 use Rattle.b2_sched.specs.Keeping.{IsKept}
-use Rattle.b2_sched.proofs.KeepLemmas.{kept_need}
-use Rattle.b2_sched.proofs.SchedLemmas.{set_same, need_written}
+use Rattle.b2_sched.proofs.ChangesKeepTheInvariant.{kept_need}
+use Rattle.b2_sched.proofs.CallsDoWhatIsDefined.{set_same, need_written}
 use Rattle.b2_sched.proofs.sched.Sched.add_need.Goals as goal
 
 pub index_mut-list-requires : goal.index_mut-list-requires

@@ -3,8 +3,8 @@ use Rattle.std.proofs.Math.ListN.{length-set}
 use Rattle.b2_sched.specs.declared.state.State.TheVariants.{Unjudged, Stale, Running, Settled}
 use Rattle.b2_sched.specs.Schedules.{shown, Schedule, IsRunning, state_of, is_running}
 use Rattle.b2_sched.specs.Calls.{with_failure, Settles}
-use Rattle.b2_sched.proofs.KeepLemmas.{step_if_not_settled, asked_if_judged, kept_failure, kept_settled, not_two}
-use Rattle.b2_sched.proofs.SchedLemmas.{settles_ended, some_runs, woken_read, read_within}
+use Rattle.b2_sched.proofs.ChangesKeepTheInvariant.{step_if_not_settled, asked_if_judged, kept_failure, kept_settled, not_two}
+use Rattle.b2_sched.proofs.CallsDoWhatIsDefined.{settles_ended, some_runs, woken_read, read_within}
 use Rattle.b2_sched.proofs.sched.Sched.finish.Goals as goal
 
 pub overflow_sub-self : goal.overflow_sub-self

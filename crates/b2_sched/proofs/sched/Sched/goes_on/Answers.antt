@@ -1,6 +1,6 @@
 use Rattle.std.proofs.Common.{◌≡◌, true, refl, sym, subst}
 use Rattle.b2_sched.specs.Schedules.{shown, Schedule, GoesOn}
-use Rattle.b2_sched.proofs.EndLemmas.{goes_running, goes_started, goes_last}
+use Rattle.b2_sched.proofs.RestIsSkippedOrStuck.{goes_running, goes_started, goes_last}
 use Rattle.b2_sched.proofs.sched.Sched.goes_on.Goals as goal
 
 pub returns-then-self-gt0 : goal.returns-then-self-gt0

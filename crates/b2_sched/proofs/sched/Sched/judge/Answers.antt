@@ -4,8 +4,8 @@ use Rattle.b2_sched.specs.declared.state.State.TheVariants.{Unjudged, Stale, Set
 use Rattle.b2_sched.specs.Schedules.{shown, Schedule, IsNeeded, IsUnjudged, state_of, is_running}
 use Rattle.b2_sched.specs.Calls.{with_stale, Settles}
 use Rattle.b2_sched.specs.Keeping.{IsKept}
-use Rattle.b2_sched.proofs.KeepLemmas.{asked_if_needed, step_if_asked, kept_stale, kept_settled, not_two}
-use Rattle.b2_sched.proofs.SchedLemmas.{settles_judged, woken_read, read_within}
+use Rattle.b2_sched.proofs.ChangesKeepTheInvariant.{asked_if_needed, step_if_asked, kept_stale, kept_settled, not_two}
+use Rattle.b2_sched.proofs.CallsDoWhatIsDefined.{settles_judged, woken_read, read_within}
 use Rattle.b2_sched.proofs.sched.Sched.judge.Goals as goal
 
 pub remove-requires : goal.remove-requires

@@ -3,8 +3,8 @@ use Rattle.b2_sched.specs.declared.state.State.{State}
 use Rattle.b2_sched.specs.declared.state.State.TheVariants.{Unjudged, Settled}
 use Rattle.b2_sched.specs.Calls.{IsNew}
 use Rattle.b2_sched.specs.Keeping.{IsKept}
-use Rattle.b2_sched.proofs.WantLemmas.{none_wanted}
-use Rattle.b2_sched.proofs.SchedLemmas.{kept_new, is_new}
+use Rattle.b2_sched.proofs.WantedFilesAddTheirMakers.{none_wanted}
+use Rattle.b2_sched.proofs.CallsDoWhatIsDefined.{kept_new, is_new}
 use Rattle.b2_sched.specs.Schedules.{shown}
 use Rattle.b2_sched.proofs.sched.Sched.new.Goals as goal
 

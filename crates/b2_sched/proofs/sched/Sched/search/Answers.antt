@@ -7,10 +7,10 @@ use Rattle.b2_sched.specs.declared.state.State.TheVariants.{Settled, Failed}
 use Rattle.b2_sched.specs.NumberSets.{Has}
 use Rattle.b2_sched.specs.Schedules.{shown, Schedule}
 use Rattle.b2_sched.specs.Searches.{AreLeftFlags, AreFound, IsSearch}
-use Rattle.b2_sched.proofs.NumberSetLemmas.{has_within}
-use Rattle.b2_sched.proofs.KeepLemmas.{pushed_has}
-use Rattle.b2_sched.proofs.SearchLemmas.{search_begins, search_goes_on}
-use Rattle.b2_sched.proofs.EndLemmas.{pending_within, search_shrinks}
+use Rattle.b2_sched.proofs.IndexFindsTheLowest.{has_within}
+use Rattle.b2_sched.proofs.ChangesKeepTheInvariant.{pushed_has}
+use Rattle.b2_sched.proofs.SearchFindsAllSkipped.{search_begins, search_goes_on}
+use Rattle.b2_sched.proofs.RestIsSkippedOrStuck.{pending_within, search_shrinks}
 use Rattle.b2_sched.proofs.sched.Sched.search.Goals as goal
 
 pub find_all-requires-clause-within : goal.find_all-requires-clause-within

@@ -6,7 +6,7 @@ use Rattle.b2_sched.specs.declared.state.State.TheVariants.{Settled, Failed}
 use Rattle.b2_sched.specs.NumberSets.{Has}
 use Rattle.b2_sched.specs.Schedules.{shown, Schedule, IsFailed, IsSkipped, QuitsNow}
 use Rattle.b2_sched.specs.Searches.{AreLeftFlags}
-use Rattle.b2_sched.proofs.EndLemmas.{skipped_list, quits_list}
+use Rattle.b2_sched.proofs.RestIsSkippedOrStuck.{skipped_list, quits_list}
 use Rattle.b2_sched.proofs.sched.Sched.skipped.Goals as goal
 
 pub returns-then-quits : goal.returns-then-quits

@@ -1,7 +1,7 @@
 use Rattle.std.proofs.Common.{subst}
 use Rattle.b2_sched.specs.Schedules.{shown}
 use Rattle.b2_sched.specs.Sound.{IsSound}
-use Rattle.b2_sched.proofs.SoundLemmas.{sound_if_kept}
+use Rattle.b2_sched.proofs.KeptMeansSound.{sound_if_kept}
 use Rattle.b2_sched.proofs.sched.Sched.sound.Goals as goal
 
 pub returns : goal.returns

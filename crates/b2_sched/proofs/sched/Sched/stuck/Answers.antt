@@ -7,7 +7,7 @@ use Rattle.b2_sched.specs.Ends.{IsCycleOf}
 use Rattle.b2_sched.specs.Cycles.{NeedsIn}
 use Rattle.b2_sched.specs.Keeping.{IsKept}
 use Rattle.b2_sched.specs.Searches.{AreStuckFlags}
-use Rattle.b2_sched.proofs.EndLemmas.{stuck_needs, stuck_found}
+use Rattle.b2_sched.proofs.RestIsSkippedOrStuck.{stuck_needs, stuck_found}
 use Rattle.b2_sched.proofs.sched.Sched.stuck.Goals as goal
 
 pub cycle_of-requires-clause-within : goal.cycle_of-requires-clause-within

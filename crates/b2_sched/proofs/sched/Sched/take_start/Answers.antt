@@ -3,8 +3,8 @@ use Rattle.std.specs.Option.{MatchOption}
 use Rattle.b2_sched.specs.Schedules.{shown, Schedule, running}
 use Rattle.b2_sched.specs.Calls.{with_start, StartsNext, StartsNone}
 use Rattle.b2_sched.specs.Keeping.{IsKept}
-use Rattle.b2_sched.proofs.KeepLemmas.{kept_start}
-use Rattle.b2_sched.proofs.SchedLemmas.{starts_next, starts_none}
+use Rattle.b2_sched.proofs.ChangesKeepTheInvariant.{kept_start}
+use Rattle.b2_sched.proofs.CallsDoWhatIsDefined.{starts_next, starts_none}
 use Rattle.b2_sched.proofs.sched.Sched.take_start.Goals as goal
 
 pub returns-then-self-clause-lowest : goal.returns-then-self-clause-lowest

@@ -1,7 +1,7 @@
 use Rattle.std.proofs.Common.{ℕ, get_or, ap, ◌∙◌, arith, length}
 use Rattle.std.proofs.lemmas.List.Elements.{Contains-get_or}
 use Rattle.b2_sched.specs.Searches.{found_too, pending_too}
-use Rattle.b2_sched.proofs.SearchLemmas.{found_more}
+use Rattle.b2_sched.proofs.SearchFindsAllSkipped.{found_more}
 use Rattle.b2_sched.proofs.skips.Search.find_all.Goals as goal
 
 pub find-requires-clause-within : goal.find-requires-clause-within

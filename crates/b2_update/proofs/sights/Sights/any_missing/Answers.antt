@@ -1,8 +1,8 @@
 use Rattle.std.proofs.Common.{◌≡◌, ◌⊎◌, inl, inr, ℕ, List, true, false, sym, ap, subst, ◌∙◌}
 use Rattle.std.specs.List.{Contains}
 use Rattle.b2_host.specs.Outside.{Outside}
-use Rattle.b2_update.proofs.ListLemmas.{taken_in, take_whole}
-use Rattle.b2_update.proofs.FoundLemmas.{each_more, some_more, none_more, misses_more}
+use Rattle.b2_update.proofs.PrefixesGrowByOne.{taken_in, take_whole}
+use Rattle.b2_update.proofs.FindingsGrowByOne.{each_more, some_more, none_more, misses_more}
 use Rattle.b2_update.proofs.sights.Sights.any_missing.Goals.{then-any, else-any}
 use Rattle.b2_update.proofs.sights.Sights.any_missing.Goals as goal
 

@@ -1,9 +1,9 @@
 use Rattle.b2_host.specs.Disks.{Disk}
 use Rattle.b2_update.specs.Inputs.{FoundAs}
 use Rattle.b2_update.specs.Plain.{plan_build}
-use Rattle.b2_update.proofs.BeginLemmas.{found_at_entry}
-use Rattle.b2_update.proofs.InputLemmas.{told_at}
-use Rattle.b2_update.proofs.SightLemmas.{fresh_at, found_now, sees_more, misses_one, sights_more}
+use Rattle.b2_update.proofs.LooksStartNoStep.{found_at_entry}
+use Rattle.b2_update.proofs.MadeOrSourceIsGiven.{told_at}
+use Rattle.b2_update.proofs.GrowingSightsStayTrue.{fresh_at, found_now, sees_more, misses_one, sights_more}
 use Rattle.b2_update.proofs.sights.Sights.is_missing.Goals as goal
 
 pub returns-clause-answer : goal.returns-clause-answer

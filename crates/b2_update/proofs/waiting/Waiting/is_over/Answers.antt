@@ -1,7 +1,7 @@
 use Rattle.std.proofs.Common.{◌≡◌, ◌-◌, inl, inr, ℕ, List, length, get_or, ap, sym, subst, ◌∙◌}
 use Rattle.std.specs.List.{Contains}
 use Rattle.b2_sched.specs.Schedules.{IsSettled}
-use Rattle.b2_update.proofs.LastLemmas.{last_in, front_in, last_or_front}
+use Rattle.b2_update.proofs.LastElementOrEarlier.{last_in, front_in, last_or_front}
 use Rattle.b2_update.proofs.waiting.Waiting.is_over.Goals as goal
 
 pub settled-requires : goal.settled-requires

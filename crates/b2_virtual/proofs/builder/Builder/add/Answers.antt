@@ -1,5 +1,5 @@
 use Rattle.std.proofs.Common.{◌∙◌, sym}
-use Rattle.b2_virtual.proofs.JoiningLemmas.{absent, stands_not}
+use Rattle.b2_virtual.proofs.JoinedStepsKeepTheirNumbers.{absent, stands_not}
 use Rattle.b2_virtual.proofs.builder.Builder.add.Goals as goal
 
 pub returns-clause-number : goal.returns-clause-number

@@ -1,4 +1,4 @@
-use Rattle.b2_virtual.proofs.ReadyLemmas.{first_spot}
+use Rattle.b2_virtual.proofs.MapHoldsExactlyTheOutputs.{first_spot}
 use Rattle.b2_virtual.proofs.builder.Builder.find.Goals as goal
 
 pub find_by_output-requires : goal.find_by_output-requires

@@ -3,7 +3,7 @@ use Rattle.std.specs.FinMap.{get}
 use Rattle.b2_plan.specs.declared.step.Step.{Step}
 use Rattle.b2_plan.specs.Plans.{step_at}
 use Rattle.b2_virtual.specs.Joining.{number_of}
-use Rattle.b2_virtual.proofs.ReadyLemmas.{none_by_first, same_by_first, other_by_first, in_steps}
+use Rattle.b2_virtual.proofs.MapHoldsExactlyTheOutputs.{none_by_first, same_by_first, other_by_first, in_steps}
 use Rattle.b2_virtual.proofs.builder.Builder.find_by_output.Goals as goal
 
 pub returns-in-None : goal.returns-in-None

@@ -4,7 +4,7 @@ use Rattle.b2_plan.specs.declared.step.Step.{Step}
 use Rattle.b2_virtual.specs.Clashes.{Clashes}
 use Rattle.std.specs.List.{AllByRecursion}
 use Rattle.std.proofs.lemmas.Bool.{true≢false}
-use Rattle.b2_virtual.proofs.ClashLemmas.{first_at, all_of, next_place}
+use Rattle.b2_virtual.proofs.FirstClashHasNoneBefore.{first_at, all_of, next_place}
 use Rattle.b2_virtual.proofs.builder.Builder.first_clash.Goals as goal
 
 pub returns-then-clashes-clause-clash : goal.returns-then-clashes-clause-clash

@@ -1,4 +1,4 @@
-use Rattle.b2_virtual.proofs.ReadyLemmas.{apart}
+use Rattle.b2_virtual.proofs.MapHoldsExactlyTheOutputs.{apart}
 use Rattle.b2_virtual.proofs.builder.Builder.into_steps.Goals as goal
 
 pub returns-clause-once : goal.returns-clause-once

@@ -1,7 +1,7 @@
 use Rattle.std.proofs.Common.{List, sym, subst}
 use Rattle.b2_plan.specs.declared.step.Step.{Step}
 use Rattle.b2_virtual.specs.Ready.{IsReady}
-use Rattle.b2_virtual.proofs.ReadyLemmas.{ready_empty}
+use Rattle.b2_virtual.proofs.MapHoldsExactlyTheOutputs.{ready_empty}
 use Rattle.b2_virtual.proofs.builder.Builder.new.Goals as goal
 
 pub invariant_of-result : goal.invariant_of-result

@@ -5,8 +5,8 @@ use Rattle.std.specs.Str.{bytes_eq}
 use Rattle.b2_plan.specs.declared.step.Step.{Step}
 use Rattle.b2_virtual.specs.Spots.{Numbers}
 use Rattle.b2_virtual.specs.Ready.{IsReady}
-use Rattle.b2_virtual.proofs.MapLemmas.{back, others_done}
-use Rattle.b2_virtual.proofs.ReadyLemmas.{FitsReady, fits_ready, none_yet, ready_joined, ready_again}
+use Rattle.b2_virtual.proofs.OtherSpotsKeepTheirNumbers.{back, others_done}
+use Rattle.b2_virtual.proofs.MapHoldsExactlyTheOutputs.{FitsReady, fits_ready, none_yet, ready_joined, ready_again}
 use Rattle.b2_virtual.proofs.builder.Builder.push.Goals as goal
 
 pub insert_all-requires : goal.insert_all-requires

@@ -1,6 +1,6 @@
 use Rattle.std.proofs.Common.{ap, sym, ◌∙◌}
 use Rattle.std.specs.FinMap as map
-use Rattle.b2_base.proofs.TextKeys.{get_text}
+use Rattle.b2_base.proofs.MapsHoldWhatEntriesHold.{get_text}
 use Rattle.b2_virtual.specs.Spots.{Numbers}
 use Rattle.b2_virtual.proofs.spot_map.SpotMap.get.Goals as goal
 

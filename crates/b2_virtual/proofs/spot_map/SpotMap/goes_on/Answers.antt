@@ -1,6 +1,6 @@
 use Rattle.std.proofs.Common.{List, ℕ, sym}
 use Rattle.std.proofs.lemmas.Bool.{true≢false}
-use Rattle.b2_virtual.proofs.RangeLemmas.{none_from, first_from, first_is}
+use Rattle.b2_virtual.proofs.NearestKeysTellNesting.{none_from, first_from, first_is}
 use Rattle.b2_virtual.proofs.spot_map.SpotMap.goes_on.Goals as goal
 
 pub returns-in-None : goal.returns-in-None

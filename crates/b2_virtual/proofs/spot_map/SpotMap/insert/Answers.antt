@@ -1,7 +1,7 @@
 use Rattle.std.proofs.Common.{Some, cond, ap, ◌∙◌}
 use Rattle.std.specs.FinMap as map
 use Rattle.std.specs.Str.{bytes_eq}
-use Rattle.b2_virtual.proofs.MapLemmas.{put}
+use Rattle.b2_virtual.proofs.OtherSpotsKeepTheirNumbers.{put}
 use Rattle.b2_virtual.specs.Spots.{Numbers}
 use Rattle.b2_virtual.proofs.spot_map.SpotMap.insert.Goals as goal
 

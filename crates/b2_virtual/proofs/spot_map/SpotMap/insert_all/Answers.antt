@@ -1,4 +1,4 @@
-use Rattle.b2_virtual.proofs.MapLemmas.{back, same_numbers}
+use Rattle.b2_virtual.proofs.OtherSpotsKeepTheirNumbers.{back, same_numbers}
 use Rattle.b2_virtual.proofs.spot_map.SpotMap.insert_all.Goals as goal
 
 pub returns-in-Err-clause-err : goal.returns-in-Err-clause-err

@@ -2,7 +2,7 @@ use Rattle.std.proofs.Common.{List, ℕ, Some, cond, ap, ◌∙◌}
 use Rattle.std.specs.FinMap as map
 use Rattle.std.specs.Str.{bytes_eq}
 use Rattle.b2_virtual.specs.Spots.{Numbers}
-use Rattle.b2_virtual.proofs.MapLemmas.{one_more, others_stay}
+use Rattle.b2_virtual.proofs.OtherSpotsKeepTheirNumbers.{one_more, others_stay}
 use Rattle.b2_virtual.proofs.spot_map.SpotMap.insert_each.Goals as goal
 
 pub loop-text-preserved : goal.loop-text-preserved

@@ -1,6 +1,6 @@
 use Rattle.std.proofs.Common.{sym, ◌∙◌}
 use Rattle.std.proofs.lemmas.Bool.{true≢false}
-use Rattle.b2_virtual.proofs.RangeLemmas.{not_there}
+use Rattle.b2_virtual.proofs.NearestKeysTellNesting.{not_there}
 use Rattle.b2_virtual.proofs.spot_map.SpotMap.meets.Goals as goal
 
 pub comes_before-requires-clause-none : goal.comes_before-requires-clause-none

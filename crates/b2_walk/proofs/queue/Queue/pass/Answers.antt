@@ -1,6 +1,6 @@
 use Rattle.std.proofs.Common.{[], ap, sym, ◌∙◌, arith}
 use Rattle.b2_walk.specs.Directories.{is_visited}
-use Rattle.b2_walk.proofs.VisitLemmas.{passed_one, new_at}
+use Rattle.b2_walk.proofs.VisitsGrowByOne.{passed_one, new_at}
 use Rattle.b2_walk.proofs.queue.Queue.pass.Goals as goal
 use Rattle.b2_walk.proofs.queue.Queue.pass.Goals.{then-loop-passed-test+else-has, else-loop-passed-test}
 

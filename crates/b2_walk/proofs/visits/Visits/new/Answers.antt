@@ -1,4 +1,4 @@
-use Rattle.b2_walk.proofs.VisitLemmas.{none_visited}
+use Rattle.b2_walk.proofs.VisitsGrowByOne.{none_visited}
 use Rattle.b2_walk.proofs.visits.Visits.new.Goals as goal
 
 pub invariant_of-result : goal.invariant_of-result

@@ -4,7 +4,7 @@ use Rattle.std.proofs.lemmas.List.{length-append}
 use Rattle.b2_metatargets.specs.declared.visit.Visit.{Visit}
 use Rattle.b2_walk.specs.Directories.{IsBefore, HaveParentsBefore, place_of}
 use Rattle.b2_walk.specs.Indexing.{IsIndex}
-use Rattle.b2_walk.proofs.VisitLemmas.{one_visited, none_added}
+use Rattle.b2_walk.proofs.VisitsGrowByOne.{one_visited, none_added}
 use Rattle.b2_walk.proofs.visits.Visits.push.Goals as goal
 
 pub invariant_of-self-in-Ok : goal.invariant_of-self-in-Ok

@@ -1,7 +1,7 @@
 use Rattle.std.proofs.Common.{◌∙◌, Some, sym, ap}
 use Rattle.std.specs.Option.{option_or, option_map}
 use Rattle.b2_walk.specs.Directories.{first_new}
-use Rattle.b2_walk.proofs.VisitLemmas.{new_append}
+use Rattle.b2_walk.proofs.VisitsGrowByOne.{new_append}
 use Rattle.b2_walk.proofs.walk.Walk.due.Goals as goal
 
 pub returns-in-Some-clause-value : goal.returns-in-Some-clause-value

@@ -1,4 +1,4 @@
-use Rattle.b2_walk.proofs.NewSteps.{new_passed, new_visited, new_told, new_projects, new_step, new_frames, new_marked}
+use Rattle.b2_walk.proofs.NothingIsLeftOpen.{new_passed, new_visited, new_told, new_projects, new_step, new_frames, new_marked}
 use Rattle.b2_walk.proofs.walk.Walk.load_all.Goals as goal
 
 pub load_from_root-requires-clause-passed : goal.load_from_root-requires-clause-passed

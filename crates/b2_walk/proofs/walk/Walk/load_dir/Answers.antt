@@ -2,7 +2,7 @@ use Rattle.std.proofs.Common.{Err, sym, ap, ◌∙◌, subst}
 use Rattle.std.proofs.lemmas.Result.{err_from_is_err_and}
 use Rattle.b2_walk.specs.declared.fault.LoadFault.TheVariants as faults
 use Rattle.b2_walk.specs.Doing.{stand, loads_dir, Does}
-use Rattle.b2_walk.proofs.WalkSteps.{dir_loaded, dir_refused, dir_stopped}
+use Rattle.b2_walk.proofs.WhatIsDueIsVisited.{dir_loaded, dir_refused, dir_stopped}
 use Rattle.b2_walk.proofs.walk.Walk.load_dir.Goals as goal
 
 pub returns-clause-does : goal.returns-clause-does

@@ -1,7 +1,7 @@
 use Rattle.std.proofs.Common.{Err, sym, ap, ◌∙◌, subst}
 use Rattle.std.proofs.lemmas.Result.{err_from_is_err_and}
 use Rattle.b2_walk.specs.Doing.{stand, walked_all, Does}
-use Rattle.b2_walk.proofs.WalkSteps.{root_refused, root_then, all_walked}
+use Rattle.b2_walk.proofs.WhatIsDueIsVisited.{root_refused, root_then, all_walked}
 use Rattle.b2_walk.proofs.walk.Walk.load_from_root.Goals as goal
 
 pub returns-in_err-load_root-clause-does : goal.returns-in_err-load_root-clause-does

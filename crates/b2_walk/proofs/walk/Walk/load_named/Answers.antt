@@ -4,8 +4,8 @@ use Rattle.b2_declarations.specs.Directories.{directories}
 use Rattle.b2_walk.specs.Directories.{here}
 use Rattle.b2_walk.specs.Walks.{Walk}
 use Rattle.b2_walk.specs.Doing.{stand, walked, Does}
-use Rattle.b2_walk.proofs.VisitLemmas.{first_is_new}
-use Rattle.b2_walk.proofs.WalkSteps.{short_on_the_way, leads_on_from, due_told, load_stopped, loaded_one, none_is_due, passed_later, more_visited}
+use Rattle.b2_walk.proofs.VisitsGrowByOne.{first_is_new}
+use Rattle.b2_walk.proofs.WhatIsDueIsVisited.{short_on_the_way, leads_on_from, due_told, load_stopped, loaded_one, none_is_due, passed_later, more_visited}
 use Rattle.b2_walk.proofs.walk.Walk.load_named.Goals as goal
 
 pub returns-in_err-dir-clause-does : goal.returns-in_err-dir-clause-does

@@ -2,7 +2,7 @@ use Rattle.std.proofs.Common.{Ok, Err, sym, ap, ◌∙◌, subst}
 use Rattle.std.proofs.lemmas.Result.{err_from_is_err_and}
 use Rattle.b2_walk.specs.Directories.{is_visited}
 use Rattle.b2_walk.specs.Doing.{stand, visits_dir, loads_root, Does}
-use Rattle.b2_walk.proofs.WalkSteps.{root_loaded, root_lacks, root_stopped}
+use Rattle.b2_walk.proofs.WhatIsDueIsVisited.{root_loaded, root_lacks, root_stopped}
 use Rattle.b2_walk.proofs.walk.Walk.load_root.Goals as goal
 
 pub returns-then-not-has-clause-does : goal.returns-then-not-has-clause-does

@@ -1,4 +1,4 @@
-use Rattle.b2_walk.proofs.TextSteps.{bytes_ran}
+use Rattle.b2_walk.proofs.TextRunsBesideProjects.{bytes_ran}
 use Rattle.b2_walk.proofs.walk.Walk.run_bytes.Goals as goal
 
 pub returns-clause-ran : goal.returns-clause-ran

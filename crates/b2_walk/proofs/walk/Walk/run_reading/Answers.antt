@@ -3,7 +3,7 @@ use Rattle.jam_values.specs.declared.files.FileReading.TheVariants as readings
 use Rattle.jam_values.specs.FileReadings.{reading_of}
 use Rattle.b2_walk.specs.Doing.{stand, reads_text, RunsBeside}
 use Rattle.b2_walk.specs.declared.fault.LoadFault.TheVariants as faults
-use Rattle.b2_walk.proofs.TextSteps.{text_read, text_too_big, text_has_no_tree, text_has_no_tokens}
+use Rattle.b2_walk.proofs.TextRunsBesideProjects.{text_read, text_too_big, text_has_no_tree, text_has_no_tokens}
 use Rattle.b2_walk.proofs.walk.Walk.run_reading.Goals as goal
 
 pub returns-in-TooBig-clause-ran : goal.returns-in-TooBig-clause-ran

@@ -1,6 +1,6 @@
 use Rattle.std.proofs.Common.{Err, refl, sym, subst}
 use Rattle.b2_walk.specs.Doing.{stand, reads_tree, RunsBeside}
-use Rattle.b2_walk.proofs.TextSteps.{text_ended, text_stopped}
+use Rattle.b2_walk.proofs.TextRunsBesideProjects.{text_ended, text_stopped}
 use Rattle.b2_walk.proofs.walk.Walk.run_tree.Goals as goal
 
 pub returns-in-Ok-clause-ran : goal.returns-in-Ok-clause-ran

@@ -1,6 +1,6 @@
 use Rattle.std.proofs.Common.{sym, ◌∙◌, subst}
 use Rattle.b2_walk.specs.Doing.{stand}
-use Rattle.b2_walk.proofs.VisitSteps.{IsFoundAt, file_there}
+use Rattle.b2_walk.proofs.VisitDoesWhatIsDefined.{IsFoundAt, file_there}
 use Rattle.b2_walk.proofs.walk.Walk.visit.Goals as goal
 
 pub returns-in-Some : goal.returns-in-Some

@@ -2,7 +2,7 @@ use Rattle.std.proofs.Common.{drop, ◌+◌, Err, sym, ap, ◌∙◌, subst, ari
 use Rattle.std.proofs.lemmas.List.{drop_all}
 use Rattle.std.proofs.lemmas.Result.{err_from_is_err_and}
 use Rattle.b2_walk.specs.Doing.{stand, visits_all, Does, Leads}
-use Rattle.b2_walk.proofs.WalkSteps.{next_of, visited_one, visit_stopped, all_visited}
+use Rattle.b2_walk.proofs.WhatIsDueIsVisited.{next_of, visited_one, visit_stopped, all_visited}
 use Rattle.b2_walk.proofs.walk.Walk.visit_all.Goals as goal
 
 pub returns-in_err-visit : goal.returns-in_err-visit

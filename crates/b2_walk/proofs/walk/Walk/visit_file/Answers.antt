@@ -3,7 +3,7 @@ use Rattle.jam_values.specs.FileReadings.{reading_of}
 use Rattle.b2_walk.specs.declared.fault.LoadFault.TheVariants as faults
 use Rattle.b2_walk.specs.Doing.{stand, found_as, IsNext, Does}
 use Rattle.b2_walk.specs.Faults.{of_lex}
-use Rattle.b2_walk.proofs.VisitSteps.{is_next, file_too_big, file_has_no_tokens, no_tree_there}
+use Rattle.b2_walk.proofs.VisitDoesWhatIsDefined.{is_next, file_too_big, file_has_no_tokens, no_tree_there}
 use Rattle.b2_walk.proofs.walk.Walk.visit_file.Goals as goal
 
 pub visit_tree-requires : goal.visit_tree-requires

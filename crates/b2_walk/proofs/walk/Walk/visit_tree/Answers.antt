@@ -2,7 +2,7 @@ use Rattle.std.proofs.Common.{Err, length, refl, sym, ap, ◌∙◌, subst}
 use Rattle.jam_grammar.specs.Trees.{whole_tree}
 use Rattle.b2_walk.specs.declared.walk.Walk.{Walk as Walking}
 use Rattle.b2_walk.specs.Doing.{stand, runs_tree, Does}
-use Rattle.b2_walk.proofs.VisitSteps.{tree_stopped, tree_ended, added}
+use Rattle.b2_walk.proofs.VisitDoesWhatIsDefined.{tree_stopped, tree_ended, added}
 use Rattle.b2_walk.proofs.walk.Walk.visit_tree.Goals as goal
 
 pub returns-in-Err : goal.returns-in-Err

@@ -1,6 +1,6 @@
 use Rattle.std.proofs.Common.{◌<◌, ◌+◌, inr, subst, arith, ◌∙◌, ap}
 use Rattle.jam_expand.specs.Limits.{limit}
-use Rattle.jam_expand.proofs.LimitLemmas.{sum_small, too_long}
+use Rattle.jam_expand.proofs.SumTellsIfTooLarge.{sum_small, too_long}
 use Rattle.jam_expand.proofs.limit.Gathered.fault_with.Goals as goal
 
 pub overflow_add-self-inside : goal.overflow_add-self-inside

@@ -2,7 +2,7 @@ use Rattle.std.proofs.Common.{◌≡◌, ◌∷◌, ◌++◌, [], ap, sym, ◌�
 use Rattle.b2_base.specs.declared.expand_fault.ExpandFault.TheVariants as faults
 use Rattle.std.proofs.lemmas.Result.{err_from_is_err_and}
 use Rattle.jam_expand.specs.Limits.{within}
-use Rattle.jam_expand.proofs.LimitLemmas.{sum_small, longer_within, longer_given, within_is_ok}
+use Rattle.jam_expand.proofs.SumTellsIfTooLarge.{sum_small, longer_within, longer_given, within_is_ok}
 use Rattle.jam_expand.proofs.limit.Gathered.push.Goals as goal
 
 pub longer-requires : goal.longer-requires

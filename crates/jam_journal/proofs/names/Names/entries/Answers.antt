@@ -1,7 +1,7 @@
 use Rattle.std.proofs.Common.{ap, ◌∙◌}
 use Rattle.std.specs.FinMap as map
 use Rattle.jam_journal.specs.Slots.{with_entries}
-use Rattle.jam_journal.proofs.SlotLemmas.{entries_here}
+use Rattle.jam_journal.proofs.SlotsActLikeMapEntries.{entries_here}
 use Rattle.jam_journal.proofs.names.Names.entries.Goals as goal
 
 pub returns : goal.returns

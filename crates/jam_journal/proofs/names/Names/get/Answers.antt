@@ -1,7 +1,7 @@
 use Rattle.std.proofs.Common.{Some, None, sym, ap, ◌∙◌}
 use Rattle.std.specs.FinMap as map
 use Rattle.jam_journal.specs.Slots.{slot_value}
-use Rattle.jam_journal.proofs.SlotLemmas.{found_at}
+use Rattle.jam_journal.proofs.SlotsActLikeMapEntries.{found_at}
 use Rattle.jam_journal.proofs.names.Names.get.Goals as goal
 
 pub returns-in-Some : goal.returns-in-Some

@@ -1,7 +1,7 @@
 use Rattle.std.proofs.Common.{Some, None, sym, ap, subst, ◌∙◌}
 use Rattle.std.specs.FinMap as map
 use Rattle.jam_journal.specs.Slots.{with_slots, AreSlots, AreApart}
-use Rattle.jam_journal.proofs.SlotLemmas.{placed, kept, found_at, if_err, grown_same, grown_apart, slot_put, apart_put, put_unplaced}
+use Rattle.jam_journal.proofs.SlotsActLikeMapEntries.{placed, kept, found_at, if_err, grown_same, grown_apart, slot_put, apart_put, put_unplaced}
 use Rattle.jam_journal.proofs.names.Names.insert.Goals as goal
 
 pub grow-requires-clause-slots : goal.grow-requires-clause-slots

@@ -1,4 +1,4 @@
-use Rattle.jam_journal.proofs.SlotLemmas.{first_apart}
+use Rattle.jam_journal.proofs.SlotsActLikeMapEntries.{first_apart}
 use Rattle.jam_journal.proofs.names.Names.new.Goals as goal
 
 pub invariant_of-result : goal.invariant_of-result

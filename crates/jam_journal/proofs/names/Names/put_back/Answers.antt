@@ -1,6 +1,6 @@
 use Rattle.std.proofs.Common.{sym, ap, ◌∙◌}
 use Rattle.jam_journal.specs.Tables.{back_name}
-use Rattle.jam_journal.proofs.NameLemmas.{back_none}
+use Rattle.jam_journal.proofs.ReplacingTouchesOneName.{back_none}
 use Rattle.jam_journal.proofs.names.Names.put_back.Goals as goal
 
 pub returns-in-None : goal.returns-in-None

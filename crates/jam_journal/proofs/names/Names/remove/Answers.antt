@@ -1,7 +1,7 @@
 use Rattle.std.proofs.Common.{Some, None, sym, ap, subst, ◌∙◌}
 use Rattle.std.specs.FinMap as map
 use Rattle.jam_journal.specs.Slots.{with_slots, with_value, AreSlots, AreApart}
-use Rattle.jam_journal.proofs.SlotLemmas.{kept, found_at, value_gone, put_placed, apart_put, put_unplaced}
+use Rattle.jam_journal.proofs.SlotsActLikeMapEntries.{kept, found_at, value_gone, put_placed, apart_put, put_unplaced}
 use Rattle.jam_journal.proofs.names.Names.remove.Goals as goal
 
 pub invariant_of-self : goal.invariant_of-self

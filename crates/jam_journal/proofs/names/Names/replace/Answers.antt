@@ -2,7 +2,7 @@ use Rattle.std.proofs.Common.{Some, None, sym, ap, subst, ◌∙◌}
 use Rattle.std.specs.FinMap as map
 use Rattle.jam_journal.specs.Tables.{back_name}
 use Rattle.jam_journal.specs.Slots.{with_slots, AreSlots, AreApart}
-use Rattle.jam_journal.proofs.SlotLemmas.{found_at, back_slots, back_placed, apart_back, back_unplaced}
+use Rattle.jam_journal.proofs.SlotsActLikeMapEntries.{found_at, back_slots, back_placed, apart_back, back_unplaced}
 use Rattle.jam_journal.proofs.names.Names.replace.Goals as goal
 
 pub invariant_of-self : goal.invariant_of-self

@@ -3,7 +3,7 @@ use Rattle.std.specs.FinMap as map
 use Rattle.std.specs.Map.Iter.{deref_pair}
 use Rattle.std.proofs.lemmas.Iterator.Consumers.{map_from_collect, YieldsList-from_rest}
 use Rattle.std.proofs.lemmas.Result.{IfOk-at_ok}
-use Rattle.jam_journal.proofs.NameLemmas.{shown, shown_lent, entries_shown}
+use Rattle.jam_journal.proofs.ReplacingTouchesOneName.{shown, shown_lent, entries_shown}
 use Rattle.jam_journal.proofs.others.Others.entries.Goals as goal
 
 pub returns : goal.returns

@@ -1,6 +1,6 @@
 use Rattle.std.proofs.Common.{string_bytes, ap, sym, ◌∙◌}
 use Rattle.std.specs.FinMap as map
-use Rattle.jam_journal.proofs.NameLemmas.{by_bytes, get_names}
+use Rattle.jam_journal.proofs.ReplacingTouchesOneName.{by_bytes, get_names}
 use Rattle.jam_journal.proofs.others.Others.get.Goals as goal
 
 pub returns : goal.returns

@@ -1,7 +1,7 @@
 use Rattle.std.proofs.Common.{string_bytes, Some, ap, sym, ◌∙◌}
 use Rattle.std.specs.FinMap as map
 use Rattle.jam_journal.specs.Tables.{names_of}
-use Rattle.jam_journal.proofs.NameLemmas.{by_bytes, get_names, put_tree}
+use Rattle.jam_journal.proofs.ReplacingTouchesOneName.{by_bytes, get_names, put_tree}
 use Rattle.jam_journal.proofs.others.Others.insert.Goals as goal
 
 pub returns-clause-before : goal.returns-clause-before

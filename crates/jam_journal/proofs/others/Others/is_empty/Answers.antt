@@ -1,5 +1,5 @@
 use Rattle.std.proofs.Common.{string_bytes, sym, ◌∙◌}
-use Rattle.jam_journal.proofs.NameLemmas.{none_named, named_none}
+use Rattle.jam_journal.proofs.ReplacingTouchesOneName.{none_named, named_none}
 use Rattle.jam_journal.proofs.others.Others.is_empty.Goals as goal
 
 pub returns : goal.returns

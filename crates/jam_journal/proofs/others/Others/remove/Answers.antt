@@ -1,6 +1,6 @@
 use Rattle.std.proofs.Common.{string_bytes, None, ap, sym, ◌∙◌}
 use Rattle.std.specs.FinMap as map
-use Rattle.jam_journal.proofs.NameLemmas.{by_bytes, get_names, put_tree}
+use Rattle.jam_journal.proofs.ReplacingTouchesOneName.{by_bytes, get_names, put_tree}
 use Rattle.jam_journal.proofs.others.Others.remove.Goals as goal
 
 pub returns-clause-before : goal.returns-clause-before

@@ -2,7 +2,7 @@ use Rattle.std.proofs.Common.{string_bytes, Some, is_some, ap, sym, ◌∙◌}
 use Rattle.std.specs.Option.{option_copied_mut}
 use Rattle.std.specs.FinMap as map
 use Rattle.jam_journal.specs.Tables.{back_name}
-use Rattle.jam_journal.proofs.NameLemmas.{by_bytes, get_names, put_tree, back_found, back_absent}
+use Rattle.jam_journal.proofs.ReplacingTouchesOneName.{by_bytes, get_names, put_tree, back_found, back_absent}
 use Rattle.jam_journal.proofs.others.Others.replace.Goals as goal
 use Rattle.jam_journal.proofs.others.Others.replace.Goals.{in-Some, in-None}
 

@@ -1,6 +1,6 @@
 use Rattle.std.proofs.Common.{reverse, map as each, ap, ◌∙◌}
 use Rattle.std.specs.FinMap as map
-use Rattle.jam_journal.proofs.PastLemmas.{on_both, past_noted}
+use Rattle.jam_journal.proofs.NotedChangesKeepThePast.{on_both, past_noted}
 use Rattle.jam_journal.proofs.past.Past.insert.Goals as goal
 
 pub returns-then-not-is_empty-clause-ok : goal.returns-then-not-is_empty-clause-ok

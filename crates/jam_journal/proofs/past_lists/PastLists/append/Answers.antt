@@ -2,7 +2,7 @@ use Rattle.std.proofs.Common.{◌++◌, reverse, map as each}
 use Rattle.std.specs.FinMap as map
 use Rattle.jam_journal.specs.Tables.{Key}
 use Rattle.jam_journal.specs.Lists.{list_of, before_more, changed_at}
-use Rattle.jam_journal.proofs.ListLemmas.{noted_ok, more_back}
+use Rattle.jam_journal.proofs.NotedListsKeepThePast.{noted_ok, more_back}
 use Rattle.jam_journal.proofs.past_lists.PastLists.append.Goals as goal
 
 pub returns-then-not-is_empty-clause-ok : goal.returns-then-not-is_empty-clause-ok

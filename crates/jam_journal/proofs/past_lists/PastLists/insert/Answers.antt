@@ -3,7 +3,7 @@ use Rattle.std.specs.FinMap as map
 use Rattle.jam_journal.specs.declared.past_lists.Before.TheVariants.{Other}
 use Rattle.jam_journal.specs.Tables.{Key}
 use Rattle.jam_journal.specs.Lists.{changed_at}
-use Rattle.jam_journal.proofs.ListLemmas.{noted_ok, other_back}
+use Rattle.jam_journal.proofs.NotedListsKeepThePast.{noted_ok, other_back}
 use Rattle.jam_journal.proofs.past_lists.PastLists.insert.Goals as goal
 
 pub returns-then-not-is_empty-clause-ok : goal.returns-then-not-is_empty-clause-ok

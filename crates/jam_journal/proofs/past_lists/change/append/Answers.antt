@@ -3,8 +3,8 @@ use Rattle.std.specs.FinMap.{insert}
 use Rattle.std.proofs.lemmas.Result.{on_ok_weaker, on_err_weaker}
 use Rattle.jam_journal.specs.Tables.{Key, put}
 use Rattle.jam_journal.specs.Lists.{list_of}
-use Rattle.jam_journal.proofs.TableLemmas.{put_own}
-use Rattle.jam_journal.proofs.ListLemmas.{twice}
+use Rattle.jam_journal.proofs.ReplacingTouchesOnePair.{put_own}
+use Rattle.jam_journal.proofs.NotedListsKeepThePast.{twice}
 use Rattle.jam_journal.proofs.past_lists.change.append.Goals as goal
 
 pub returns-in-Some-clause-ok : goal.returns-in-Some-clause-ok

@@ -2,8 +2,8 @@ use Rattle.std.proofs.Common.{take, Some, is_some, sym, ap, ◌∙◌}
 use Rattle.std.specs.Option.{option_map}
 use Rattle.std.specs.FinMap.{insert}
 use Rattle.jam_journal.specs.Tables.{Key, put_back}
-use Rattle.jam_journal.proofs.TableLemmas.{back_there}
-use Rattle.jam_journal.proofs.ListLemmas.{twice}
+use Rattle.jam_journal.proofs.ReplacingTouchesOnePair.{back_there}
+use Rattle.jam_journal.proofs.NotedListsKeepThePast.{twice}
 use Rattle.jam_journal.proofs.past_lists.change.shorten.Goals as goal
 
 pub returns-in-Some : goal.returns-in-Some

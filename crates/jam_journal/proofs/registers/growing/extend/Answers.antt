@@ -4,8 +4,8 @@ use Rattle.std.proofs.lemmas.Result.{on_ok_weaker, on_err_weaker}
 use Rattle.jam_journal.specs.declared.registers.Cell.{Cell}
 use Rattle.jam_journal.specs.Tables.{put}
 use Rattle.jam_journal.specs.Stacks.{value_of, stamp_of, put_cell}
-use Rattle.jam_journal.proofs.TableLemmas.{put_own}
-use Rattle.jam_journal.proofs.StepLemmas.{replaced_twice}
+use Rattle.jam_journal.proofs.ReplacingTouchesOnePair.{put_own}
+use Rattle.jam_journal.proofs.GoingBackUndoesSetting.{replaced_twice}
 use Rattle.jam_journal.proofs.registers.growing.extend.Goals as goal
 
 pub returns-in-Some-clause-ok : goal.returns-in-Some-clause-ok

@@ -1,4 +1,4 @@
-use Rattle.jam_journal.proofs.StepLemmas.{taken_back}
+use Rattle.jam_journal.proofs.GoingBackUndoesSetting.{taken_back}
 use Rattle.jam_journal.proofs.registers.opening.bind.Goals as goal
 
 pub returns-in-Err-clause-same_registers : goal.returns-in-Err-clause-same_registers

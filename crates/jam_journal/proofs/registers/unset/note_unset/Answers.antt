@@ -1,7 +1,7 @@
 use Rattle.std.proofs.Common.{◌≡◌, [], ◌∷◌, ◌++◌, reverse, ap, sym, ◌∙◌}
 use Rattle.jam_journal.specs.Stacks.{owner_before, unset_by}
-use Rattle.jam_journal.proofs.PastLemmas.{reverse_push}
-use Rattle.jam_journal.proofs.UnsetLemmas.{owner_then, unset_then, noted_then}
+use Rattle.jam_journal.proofs.NotedChangesKeepThePast.{reverse_push}
+use Rattle.jam_journal.proofs.UnsetNamesHaveNoVariable.{owner_then, unset_then, noted_then}
 use Rattle.jam_journal.proofs.registers.unset.note_unset.Goals as goal
 
 pub entries-preserved : goal.entries-preserved

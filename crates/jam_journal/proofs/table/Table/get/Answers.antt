@@ -1,7 +1,7 @@
 use Rattle.std.proofs.Common.{string_bytes, ap, sym, ◌∙◌}
 use Rattle.std.specs.Option.{option_copied}
 use Rattle.std.specs.FinMap as map
-use Rattle.jam_journal.proofs.TableLemmas.{get_table, row_at}
+use Rattle.jam_journal.proofs.ReplacingTouchesOnePair.{get_table, row_at}
 use Rattle.jam_journal.proofs.table.Table.get.Goals as goal
 
 pub returns-in-Some : goal.returns-in-Some

@@ -2,8 +2,8 @@ use Rattle.std.proofs.Common.{string_bytes, Some, is_some, ap, sym, ◌∙◌}
 use Rattle.std.specs.Option.{option_copied_mut}
 use Rattle.std.specs.FinMap as map
 use Rattle.std.proofs.lemmas.Result.{IfOk-weaker, on_ok_weaker, on_err_weaker}
-use Rattle.jam_journal.proofs.NameLemmas.{at_changed}
-use Rattle.jam_journal.proofs.TableLemmas.{get_table, put_rows, same_rows, row_at}
+use Rattle.jam_journal.proofs.ReplacingTouchesOneName.{at_changed}
+use Rattle.jam_journal.proofs.ReplacingTouchesOnePair.{get_table, put_rows, same_rows, row_at}
 use Rattle.jam_journal.proofs.table.Table.insert.Goals as goal
 
 pub returns-in-Some-clause-before : goal.returns-in-Some-clause-before

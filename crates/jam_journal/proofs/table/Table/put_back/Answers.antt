@@ -1,7 +1,7 @@
 use Rattle.std.proofs.Common.{string_bytes, ap, ◌∙◌}
 use Rattle.jam_journal.specs.Tables.{put_back}
-use Rattle.jam_journal.proofs.NameLemmas.{at_gone}
-use Rattle.jam_journal.proofs.TableLemmas.{row_gone}
+use Rattle.jam_journal.proofs.ReplacingTouchesOneName.{at_gone}
+use Rattle.jam_journal.proofs.ReplacingTouchesOnePair.{row_gone}
 use Rattle.jam_journal.proofs.table.Table.put_back.Goals as goal
 
 pub returns-then-put_in_row : goal.returns-then-put_in_row

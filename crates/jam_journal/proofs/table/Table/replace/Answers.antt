@@ -2,8 +2,8 @@ use Rattle.std.proofs.Common.{string_bytes, Some, is_some, ap, sym, ◌∙◌}
 use Rattle.std.specs.Option.{option_copied_mut}
 use Rattle.std.specs.FinMap as map
 use Rattle.jam_journal.specs.Tables.{back_name, put_back}
-use Rattle.jam_journal.proofs.NameLemmas.{at_changed}
-use Rattle.jam_journal.proofs.TableLemmas.{get_table, back_rows, back_no_row, row_at}
+use Rattle.jam_journal.proofs.ReplacingTouchesOneName.{at_changed}
+use Rattle.jam_journal.proofs.ReplacingTouchesOnePair.{get_table, back_rows, back_no_row, row_at}
 use Rattle.jam_journal.proofs.table.Table.replace.Goals as goal
 use Rattle.jam_journal.proofs.table.Table.replace.Goals.{in-Some, in-None}
 

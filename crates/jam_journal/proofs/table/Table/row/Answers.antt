@@ -3,7 +3,7 @@ use Rattle.std.specs.Option.{option_copied}
 use Rattle.std.specs.FinMap as map
 use Rattle.std.proofs.lemmas.Result.{IfOk-weaker}
 use Rattle.jam_journal.specs.Tables.{row_of}
-use Rattle.jam_journal.proofs.TableLemmas.{row_kept, no_row_kept}
+use Rattle.jam_journal.proofs.ReplacingTouchesOnePair.{row_kept, no_row_kept}
 use Rattle.jam_journal.proofs.table.Table.row.Goals as goal
 
 pub returns-in-Some : goal.returns-in-Some

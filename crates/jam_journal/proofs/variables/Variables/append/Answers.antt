@@ -4,7 +4,7 @@ use Rattle.jam_journal.specs.Marks.{changed}
 use Rattle.jam_journal.specs.Scopes.{append}
 use Rattle.jam_journal.specs.Stacks.{grown}
 use Rattle.jam_journal.specs.Layers.{layers_of}
-use Rattle.jam_journal.proofs.VariableLemmas.{layers_length, set_is_kept, append_is_seen}
+use Rattle.jam_journal.proofs.TheNewestStandsLast.{layers_length, set_is_kept, append_is_seen}
 use Rattle.jam_journal.proofs.variables.Variables.append.Goals as goal
 
 pub invariant_of-self-then-is_fresh : goal.invariant_of-self-then-is_fresh

@@ -4,8 +4,8 @@ use Rattle.jam_journal.specs.Marks.{Marked}
 use Rattle.jam_journal.specs.Scopes.{Scopes, assigned}
 use Rattle.jam_journal.specs.Stacks.{entries_of, value_at}
 use Rattle.jam_journal.specs.Layers.{layers_of}
-use Rattle.jam_journal.proofs.SeeingLemmas.{assigned_is, value_is}
-use Rattle.jam_journal.proofs.ChangeLemmas.{here}
+use Rattle.jam_journal.proofs.LookupsFindWhatCellsHold.{assigned_is, value_is}
+use Rattle.jam_journal.proofs.ChangesKeepWhatWasMarked.{here}
 use Rattle.jam_journal.proofs.variables.Variables.assigned.Goals as goal
 
 pub returns : goal.returns

@@ -4,8 +4,8 @@ use Rattle.jam_journal.specs.Marks.{Marked, changed}
 use Rattle.jam_journal.specs.Scopes.{Scopes, bind}
 use Rattle.jam_journal.specs.Stacks.{with_bound, bound_entry, entries_of}
 use Rattle.jam_journal.specs.Layers.{layers_of}
-use Rattle.jam_journal.proofs.ChangeLemmas.{bind_kept, bind_seen}
-use Rattle.jam_journal.proofs.VariableLemmas.{layers_length, pushed_kept, pushed_seen, is_within}
+use Rattle.jam_journal.proofs.ChangesKeepWhatWasMarked.{bind_kept, bind_seen}
+use Rattle.jam_journal.proofs.TheNewestStandsLast.{layers_length, pushed_kept, pushed_seen, is_within}
 use Rattle.jam_journal.proofs.variables.Variables.bind.Goals as goal
 
 pub invariant_of-self-2 : goal.invariant_of-self-2

@@ -3,8 +3,8 @@ use Rattle.jam_journal.specs.Marks.{Marked}
 use Rattle.jam_journal.specs.Scopes.{Scopes, caller_of}
 use Rattle.jam_journal.specs.Stacks.{entries_of}
 use Rattle.jam_journal.specs.Layers.{layers_of}
-use Rattle.jam_journal.proofs.SeeingLemmas.{caller_is}
-use Rattle.jam_journal.proofs.ChangeLemmas.{here}
+use Rattle.jam_journal.proofs.LookupsFindWhatCellsHold.{caller_is}
+use Rattle.jam_journal.proofs.ChangesKeepWhatWasMarked.{here}
 use Rattle.jam_journal.proofs.variables.Variables.caller.Goals as goal
 
 pub returns : goal.returns

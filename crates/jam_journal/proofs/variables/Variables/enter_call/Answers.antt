@@ -4,8 +4,8 @@ use Rattle.jam_journal.specs.Marks.{changed}
 use Rattle.jam_journal.specs.Scopes.{enter_call}
 use Rattle.jam_journal.specs.Stacks.{in_call}
 use Rattle.jam_journal.specs.Layers.{layers_of}
-use Rattle.jam_journal.proofs.ChangeLemmas.{call_kept, call_seen}
-use Rattle.jam_journal.proofs.VariableLemmas.{pushed_kept, pushed_seen, opened_newer}
+use Rattle.jam_journal.proofs.ChangesKeepWhatWasMarked.{call_kept, call_seen}
+use Rattle.jam_journal.proofs.TheNewestStandsLast.{pushed_kept, pushed_seen, opened_newer}
 use Rattle.jam_journal.proofs.variables.Variables.enter_call.Goals as goal
 
 pub invariant_of-self-2 : goal.invariant_of-self-2

@@ -5,8 +5,8 @@ use Rattle.jam_journal.specs.Marks.{Marked, changed}
 use Rattle.jam_journal.specs.Scopes.{Scopes, leave, frames_at_mark}
 use Rattle.jam_journal.specs.Stacks.{scopes_by, AllKept}
 use Rattle.jam_journal.specs.Layers.{layers_of}
-use Rattle.jam_journal.proofs.ChangeLemmas.{leave_kept, leave_seen}
-use Rattle.jam_journal.proofs.VariableLemmas.{may_leave}
+use Rattle.jam_journal.proofs.ChangesKeepWhatWasMarked.{leave_kept, leave_seen}
+use Rattle.jam_journal.proofs.TheNewestStandsLast.{may_leave}
 use Rattle.jam_journal.proofs.variables.Variables.leave.Goals as goal
 
 pub invariant_of-self : goal.invariant_of-self

@@ -3,8 +3,8 @@ use Rattle.jam_journal.specs.Marks.{Marked}
 use Rattle.jam_journal.specs.Scopes.{Scopes, look}
 use Rattle.jam_journal.specs.Stacks.{entries_of}
 use Rattle.jam_journal.specs.Layers.{layers_of}
-use Rattle.jam_journal.proofs.SeeingLemmas.{look_is}
-use Rattle.jam_journal.proofs.ChangeLemmas.{here}
+use Rattle.jam_journal.proofs.LookupsFindWhatCellsHold.{look_is}
+use Rattle.jam_journal.proofs.ChangesKeepWhatWasMarked.{here}
 use Rattle.jam_journal.proofs.variables.Variables.look.Goals as goal
 
 pub returns : goal.returns

@@ -1,7 +1,7 @@
 use Rattle.std.proofs.Common.{◌++◌, ◌∷◌, [], reverse, ap, ◌∙◌}
 use Rattle.jam_journal.specs.declared.variables.Layer.{Layer}
 use Rattle.jam_journal.specs.Layers.{layers_of}
-use Rattle.jam_journal.proofs.VariableLemmas.{layers_push, mark_is_kept}
+use Rattle.jam_journal.proofs.TheNewestStandsLast.{layers_push, mark_is_kept}
 use Rattle.jam_journal.proofs.variables.Variables.mark.Goals as goal
 
 pub invariant_of-self-2 : goal.invariant_of-self-2

@@ -2,7 +2,7 @@ use Rattle.std.proofs.Common.{length, reverse, sym, ap, ◌∙◌}
 use Rattle.jam_journal.specs.Marks.{Marked}
 use Rattle.jam_journal.specs.Scopes.{Scopes}
 use Rattle.jam_journal.specs.Layers.{layers_of}
-use Rattle.jam_journal.proofs.VariableLemmas.{layers_length, marked_length}
+use Rattle.jam_journal.proofs.TheNewestStandsLast.{layers_length, marked_length}
 use Rattle.jam_journal.proofs.variables.Variables.marks.Goals as goal
 
 pub returns : goal.returns

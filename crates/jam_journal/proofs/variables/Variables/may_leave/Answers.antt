@@ -4,7 +4,7 @@ use Rattle.jam_journal.specs.Marks.{Marked}
 use Rattle.jam_journal.specs.Scopes.{Scopes, frames_at_mark}
 use Rattle.jam_journal.specs.Stacks.{opens}
 use Rattle.jam_journal.specs.Layers.{layers_of}
-use Rattle.jam_journal.proofs.VariableLemmas.{may_leave_is}
+use Rattle.jam_journal.proofs.TheNewestStandsLast.{may_leave_is}
 use Rattle.jam_journal.proofs.variables.Variables.may_leave.Goals as goal
 
 pub returns : goal.returns

@@ -3,8 +3,8 @@ use Rattle.jam_journal.specs.Marks.{Marked}
 use Rattle.jam_journal.specs.Scopes.{Scopes, module_of}
 use Rattle.jam_journal.specs.Stacks.{entries_of}
 use Rattle.jam_journal.specs.Layers.{layers_of}
-use Rattle.jam_journal.proofs.SeeingLemmas.{module_is}
-use Rattle.jam_journal.proofs.ChangeLemmas.{here}
+use Rattle.jam_journal.proofs.LookupsFindWhatCellsHold.{module_is}
+use Rattle.jam_journal.proofs.ChangesKeepWhatWasMarked.{here}
 use Rattle.jam_journal.proofs.variables.Variables.module.Goals as goal
 
 pub returns : goal.returns

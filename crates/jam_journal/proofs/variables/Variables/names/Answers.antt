@@ -8,7 +8,7 @@ use Rattle.jam_journal.specs.Marks.{Marked}
 use Rattle.jam_journal.specs.Scopes.{Scopes}
 use Rattle.jam_journal.specs.Stacks.{entries_of, unset_by}
 use Rattle.jam_journal.specs.Layers.{layers_of}
-use Rattle.jam_journal.proofs.UnsetLemmas.{lent_names, noted_all, variable_names}
+use Rattle.jam_journal.proofs.UnsetNamesHaveNoVariable.{lent_names, noted_all, variable_names}
 use Rattle.jam_journal.proofs.variables.Variables.names.Goals as goal
 
 pub returns : goal.returns

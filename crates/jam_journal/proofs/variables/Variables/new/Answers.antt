@@ -1,6 +1,6 @@
 use Rattle.std.proofs.Common.{reverse, ap}
 use Rattle.jam_journal.specs.Layers.{layers_of}
-use Rattle.jam_journal.proofs.VariableLemmas.{first_is_kept, first_is_seen}
+use Rattle.jam_journal.proofs.TheNewestStandsLast.{first_is_kept, first_is_seen}
 use Rattle.jam_journal.proofs.variables.Variables.new.Goals as goal
 
 pub invariant_of-result : goal.invariant_of-result

@@ -3,7 +3,7 @@ use Rattle.jam_journal.specs.declared.registers.Cell.{Cell}
 use Rattle.jam_journal.specs.Marks.{changed}
 use Rattle.jam_journal.specs.Scopes.{assign}
 use Rattle.jam_journal.specs.Layers.{layers_of}
-use Rattle.jam_journal.proofs.VariableLemmas.{layers_length, set_is_kept, set_is_seen}
+use Rattle.jam_journal.proofs.TheNewestStandsLast.{layers_length, set_is_kept, set_is_seen}
 use Rattle.jam_journal.proofs.variables.Variables.set.Goals as goal
 
 pub invariant_of-self-2 : goal.invariant_of-self-2

@@ -1,8 +1,8 @@
 use Rattle.std.proofs.Common.{◌++◌, reverse, ap, sym, ◌∙◌}
 use Rattle.jam_journal.specs.Stacks.{entries_of, unset_by}
 use Rattle.jam_journal.specs.Layers.{layers_of}
-use Rattle.jam_journal.proofs.UnsetLemmas.{unset_then, noted_then}
-use Rattle.jam_journal.proofs.VariableLemmas.{layers_push}
+use Rattle.jam_journal.proofs.UnsetNamesHaveNoVariable.{unset_then, noted_then}
+use Rattle.jam_journal.proofs.TheNewestStandsLast.{layers_push}
 use Rattle.jam_journal.proofs.variables.layers.note_unset.Goals as goal
 
 pub layers-preserved : goal.layers-preserved

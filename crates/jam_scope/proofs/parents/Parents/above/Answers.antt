@@ -4,7 +4,7 @@ use Rattle.std.specs.FinMap.{get}
 use Rattle.jam_journal.specs.Tables.{Text, Table}
 use Rattle.jam_journal.specs.Marks.{Marked}
 use Rattle.jam_scope.specs.Heights.{AllHaveLines}
-use Rattle.jam_scope.proofs.LineLemmas.{lower}
+use Rattle.jam_scope.proofs.ParentLinesAlwaysEnd.{lower}
 use Rattle.jam_scope.proofs.parents.Parents.above.Goals as goal
 
 pub returns-in-Some-clause-lower : goal.returns-in-Some-clause-lower

@@ -1,7 +1,7 @@
 use Rattle.std.proofs.Common.{◌≡◌}
 use Rattle.std.specs.Str.{IsUtf8}
 use Rattle.jam_scope.specs.Heights.{height}
-use Rattle.jam_scope.proofs.LineLemmas.{is_among}
+use Rattle.jam_scope.proofs.ParentLinesAlwaysEnd.{is_among}
 use Rattle.jam_scope.proofs.parents.Parents.may_be_above.Given as goal
 
 abbrev pub invariant-modules : goal.invariant-modules

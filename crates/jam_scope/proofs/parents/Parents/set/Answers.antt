@@ -4,7 +4,7 @@ use Rattle.jam_journal.specs.Tables.{Text, Table}
 use Rattle.jam_journal.specs.Marks.{Marked}
 use Rattle.jam_scope.specs.Lines.{may_be_above}
 use Rattle.jam_scope.specs.Heights.{AllHaveLinesAtMarks}
-use Rattle.jam_scope.proofs.LineLemmas.{lined_with, may_from}
+use Rattle.jam_scope.proofs.ParentLinesAlwaysEnd.{lined_with, may_from}
 use Rattle.jam_scope.proofs.parents.Parents.set.Goals as goal
 
 pub invariant_of-self-2 : goal.invariant_of-self-2

@@ -1,4 +1,4 @@
-use Rattle.jam_scope.proofs.RootLemmas.{begin_more}
+use Rattle.jam_scope.proofs.OutputRootsStayInFront.{begin_more}
 use Rattle.jam_scope.proofs.roots.Roots.with.Goals as goal
 
 pub invariant_of-result : goal.invariant_of-result

@@ -2,7 +2,7 @@ use Rattle.std.proofs.Common.{reverse, sym, ap, subst, ◌∙◌}
 use Rattle.std.specs.Option.{option_map}
 use Rattle.jam_journal.specs.Marks.{changed}
 use Rattle.jam_scope.specs.Steps.{with_input, notes_by, AllFit}
-use Rattle.jam_scope.proofs.NoteLemmas.{added_by, added_fit}
+use Rattle.jam_scope.proofs.MarksKeepTheirNotes.{added_by, added_fit}
 use Rattle.jam_scope.proofs.steps.Steps.add_depends.Goals as goal
 
 pub invariant_of-self-2 : goal.invariant_of-self-2

@@ -1,8 +1,8 @@
 use Rattle.std.proofs.Common.{◌≡◌, [], ◌∷◌, ◌++◌, reverse, sym, ap, subst, ◌∙◌}
 use Rattle.jam_journal.specs.Marks.{marked}
-use Rattle.jam_journal.proofs.PastLemmas.{reverse_push}
+use Rattle.jam_journal.proofs.NotedChangesKeepThePast.{reverse_push}
 use Rattle.jam_scope.specs.Steps.{notes_by, AllFit}
-use Rattle.jam_scope.proofs.NoteLemmas.{marked_by, marked_fit}
+use Rattle.jam_scope.proofs.MarksKeepTheirNotes.{marked_by, marked_fit}
 use Rattle.jam_scope.proofs.steps.Steps.mark.Goals as goal
 
 pub invariant_of-self-2 : goal.invariant_of-self-2

@@ -1,6 +1,6 @@
 use Rattle.std.proofs.Common.{◌≡◌, None, Some, reverse, sym, ap, subst, ◌∙◌}
 use Rattle.jam_scope.specs.Steps.{notes_by, AllFit}
-use Rattle.jam_scope.proofs.NoteLemmas.{opened_by, opened_fit}
+use Rattle.jam_scope.proofs.MarksKeepTheirNotes.{opened_by, opened_fit}
 use Rattle.jam_scope.proofs.steps.Steps.open.Goals as goal
 
 pub invariant_of-self : goal.invariant_of-self

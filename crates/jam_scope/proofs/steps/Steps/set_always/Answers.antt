@@ -2,7 +2,7 @@ use Rattle.std.proofs.Common.{reverse, sym, ap, subst, ◌∙◌}
 use Rattle.std.specs.Option.{option_map}
 use Rattle.jam_journal.specs.Marks.{changed}
 use Rattle.jam_scope.specs.Steps.{as_always, notes_by, AllFit}
-use Rattle.jam_scope.proofs.NoteLemmas.{always_by, always_fit}
+use Rattle.jam_scope.proofs.MarksKeepTheirNotes.{always_by, always_fit}
 use Rattle.jam_scope.proofs.steps.Steps.set_always.Goals as goal
 
 pub invariant_of-self : goal.invariant_of-self

@@ -1,7 +1,7 @@
 use Rattle.std.proofs.Common.{map, string_bytes, ap, ◌∙◌}
 use Rattle.std.specs.List.{filter}
 use Rattle.std.proofs.lemmas.Result.{IfOk-weaker}
-use Rattle.jam_journal.proofs.UnsetLemmas.{lent_names}
+use Rattle.jam_journal.proofs.UnsetNamesHaveNoVariable.{lent_names}
 use Rattle.jam_scope.specs.Names.{is_text, names_in}
 use Rattle.jam_scope.specs.Worlds.{Worlds}
 use Rattle.jam_scope.proofs.world.World.rule_names.Goals as goal

@@ -1,4 +1,4 @@
-use Rattle.jam_scope.proofs.LineLemmas.{halves_of}
+use Rattle.jam_scope.proofs.ParentLinesAlwaysEnd.{halves_of}
 use Rattle.jam_scope.proofs.world.finding.halves.Goals as goal
 
 pub returns : goal.returns

@@ -1,5 +1,5 @@
 use Rattle.std.proofs.Common.{sym, ◌∙◌}
-use Rattle.jam_scope.proofs.LineLemmas.{goes_next, goes_end, none_of}
+use Rattle.jam_scope.proofs.ParentLinesAlwaysEnd.{goes_next, goes_end, none_of}
 use Rattle.jam_scope.proofs.world.finding.in_line.Goals as goal
 
 pub loop-owner-preserved : goal.loop-owner-preserved

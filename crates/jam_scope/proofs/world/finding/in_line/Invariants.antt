@@ -1,6 +1,6 @@
 use Rattle.std.specs.Str.{IsUtf8}
 use Rattle.jam_scope.specs.Heights.{height}
-use Rattle.jam_scope.proofs.LineLemmas.{Goes}
+use Rattle.jam_scope.proofs.ParentLinesAlwaysEnd.{Goes}
 use Rattle.jam_scope.proofs.world.finding.in_line.Given as goal
 
 abbrev pub invariant-loop-owner : goal.invariant-loop-owner

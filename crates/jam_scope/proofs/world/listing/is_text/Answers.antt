@@ -1,4 +1,4 @@
-use Rattle.jam_scope.proofs.TextLemmas.{is_text_told}
+use Rattle.jam_scope.proofs.TextMeansNoZeroByte.{is_text_told}
 use Rattle.jam_scope.proofs.world.listing.is_text.Goals as goal
 
 pub returns-clause-value : goal.returns-clause-value

@@ -3,7 +3,7 @@ use Rattle.std.proofs.lemmas.List.{map_more}
 use Rattle.jam_journal.specs.Marks.{Marked, changed}
 use Rattle.jam_journal.specs.Scopes.{Value, Binding, Scopes, bind, bind_each}
 use Rattle.jam_journal.specs.Tables.{Text}
-use Rattle.jam_scope.proofs.BindLemmas.{framed_bind, on_err, take_each, bind_more}
+use Rattle.jam_scope.proofs.NamesAreBoundInTurn.{framed_bind, on_err, take_each, bind_more}
 use Rattle.jam_scope.proofs.world.project.bind_row.Goals as goal
 
 pub loop-name-preserved : goal.loop-name-preserved

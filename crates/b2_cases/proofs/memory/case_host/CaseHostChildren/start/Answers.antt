@@ -4,7 +4,7 @@ use Rattle.b2_host.specs.Outside.{Outside}
 use Rattle.b2_host.specs.ChildCalls.{Starts}
 use Rattle.b2_memory.specs.Hosts.{told_outside}
 use Rattle.b2_cases.specs.Untold.{hidden}
-use Rattle.b2_cases.proofs.UntoldLemmas.{may_start, starts_hidden}
+use Rattle.b2_cases.proofs.CallsHoldWithFilesHidden.{may_start, starts_hidden}
 use Rattle.b2_cases.proofs.memory.case_host.CaseHostChildren.start.Goals as goal
 
 pub start-requires : goal.start-requires

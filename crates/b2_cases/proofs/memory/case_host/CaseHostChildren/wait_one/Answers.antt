@@ -4,7 +4,7 @@ use Rattle.b2_host.specs.ChildCalls.{Awaits}
 use Rattle.b2_memory.specs.Hosts.{told_outside}
 use Rattle.b2_memory.specs.Results.{made_of}
 use Rattle.b2_cases.specs.Untold.{hidden}
-use Rattle.b2_cases.proofs.UntoldLemmas.{waits_hidden}
+use Rattle.b2_cases.proofs.CallsHoldWithFilesHidden.{waits_hidden}
 use Rattle.b2_cases.proofs.memory.case_host.CaseHostChildren.wait_one.Goals as goal
 
 pub returns : goal.returns

@@ -1,0 +1,151 @@
+-- A load and the request after it give what the files and words come to, and keep the files, children and counts.
+use Rattle.std.proofs.Common.{◌≡◌, ℕ, is_some, false, Option, Some, None, List, Result, Ok, Err, refl, sym, ap, ◌∙◌, subst}
+use Rattle.std.specs.Prelude.{IfOk, IfErr}
+use Rattle.std.specs.Option.{IfSome, option_map}
+use Rattle.b2_host.specs.Disks.{Disk, IsConsistent}
+use Rattle.b2_host.specs.Outside.{Outside}
+use Rattle.b2_host.specs.OutsideLaws.{Keeps, keeps_then}
+use Rattle.jam_journal.specs.Tables.{Text}
+use Rattle.jam_scope.specs.Worlds.{Worlds}
+use Rattle.jam_eval.specs.Refused.{Refuses}
+use Rattle.jam_effects.specs.declared.fault.EvalFault.{EvalFault}
+use Rattle.jam_effects.specs.declared.turns.Turns.{Turns}
+use Rattle.jam_effects.specs.Machines.{folder_of}
+use Rattle.b2_plan.specs.Plans.{Apart}
+use Rattle.b2_metatargets.specs.declared.whole.Declared.{Declared}
+use Rattle.b2_walk.specs.declared.fault.LoadFault.{LoadFault}
+use Rattle.b2_walk.specs.Faults.{refusal_of as load_refusal, refused_by, IsWhole as IsWholeLoad}
+use Rattle.b2_walk.specs.Finding.{CountsFault as CountsLoad, Counts as CountsLoaded}
+use Rattle.b2_walk.specs.Walking.{IsSettingFor}
+use Rattle.b2_walk.specs.Walks.{Walk, Refusal as LoadRefusal}
+use Rattle.b2_project.specs.declared.project.Project.{Project}
+use Rattle.b2_project.specs.Loading.{IsProject, IsRefused, IsLoaded, TellsLoad}
+use Rattle.b2_metatargets.specs.Numbered.{IsNumbered}
+use Rattle.b2_project.specs.Loads.{Loads, loaded}
+use Rattle.b2_planning.specs.declared.planned.Planned.{Planned as Made}
+use Rattle.b2_generate.specs.Loaded.{Loaded}
+use Rattle.b2_generate.specs.Planning.{Planned}
+use Rattle.b2_front.specs.declared.refusal.Stop.{Stop}
+use Rattle.b2_front.specs.Meaning.{Refusal, of_load, of_request, of_generation, load_turns, load_setting, project_of, Means}
+use Rattle.b2_front.specs.Meaning.{IsRefusedInGeneration, not_loaded, not_asked, not_planned, planned}
+use Rattle.b2_front.specs.Refusals.{stop_of_load}
+use Rattle.b2_front.specs.Preparing.{IfRefusal, Tells, call_of, IsPrepared, IsWhole, Counts}
+use Rattle.b2_front.specs.Parts.{IsReady, IsAsked, IsRefusedFor, GoesOn}
+use Rattle.b2_front.proofs.FaultsAreToldAsAnswers.{load_told, tells_map}
+use Rattle.b2_front.proofs.RefusalsHoldNoHostFault.{load_whole, load_counts}
+use Rattle.b2_front.proofs.RefusedPatternGivesNoPlan.{counts_then}
+use Rattle.b2_front.proofs.LoadSettingIsRight.{right}
+
+-- the call of a pattern is what was refused
+call_refuses : (before after : ℕ) (pattern : Option Text) → Refuses (call_of after pattern) before after pattern
+call_refuses before after None = λ left low high. refl
+call_refuses before after (Some text) = refl
+
+module _ (disk : Disk) (words lines : List Text) where
+  abbrev Comes : Option Text → Result Planned Refusal → Type 0
+  Comes pattern outcome = (left : ℕ) × Means disk (call_of left pattern) words lines outcome
+
+  -- the words over a project that was loaded
+  comes_of : (w : Walk) (found : Declared) → Loads (load_setting disk None) load_turns words (loaded w found)
+      → (outcome : Result Planned Refusal) → IsAsked (project_of disk w.state.worlds found) words outcome → Means disk None words w.state.kept.echoes outcome
+  comes_of w found loads (Ok plan) h = planned w found plan loads h.0 h.1
+  comes_of w found loads (Err (of_load why)) h = absurd h
+  comes_of w found loads (Err (of_request why)) h = not_asked w found why loads h
+  comes_of w found loads (Err (of_generation why)) h = not_planned w found why loads h.0 h.1
+
+  project_is : (w : Walk) (found : Declared) (project : Project) → IsProject w found project
+      → project_of disk project.world project.declared ≡ project_of disk w.state.worlds found
+  project_is w found project is =
+      subst (λ (d : Declared). project_of disk project.world project.declared ≡ project_of disk w.state.worlds d) is.declared
+      (subst (λ (v : Worlds). project_of disk project.world project.declared ≡ project_of disk v project.declared) is.world refl)
+
+  prepared_so : (project : Project) (last : ℕ) → IsLoaded (load_setting disk None) words load_turns last lines (Ok project) → (result : Result Made Stop)
+      → Tells (IsRefusedFor words project.declared project.world disk) (λ pattern outcome. (pattern ≡ None) × IsAsked (project_of disk project.world project.declared) words outcome) result
+      → IsPrepared disk words lines result
+  prepared_so project last (w, found, loads, is, echoes, after) result told =
+      tells_map (IsRefusedFor words project.declared project.world disk) (λ pattern outcome. (pattern ≡ None) × IsAsked (project_of disk project.world project.declared) words outcome)
+      (IsRefusedInGeneration disk words lines) Comes refused follows result told
+    where
+      refused : (fault : EvalFault) → IsRefusedFor words project.declared project.world disk fault → IsRefusedInGeneration disk words lines fault
+      refused fault h =
+          let is_for = subst (λ (d : Declared). IsRefusedFor words d w.state.worlds disk fault) is.declared (subst (λ (v : Worlds). IsRefusedFor words project.declared v disk fault) is.world h) in
+          record { walk = w; found = found; loads = loads; asked = is_for.0; refuses = is_for.1; echoes = echoes }
+
+      follows : (pattern : Option Text) (outcome : Result Planned Refusal) → (pattern ≡ None) × IsAsked (project_of disk project.world project.declared) words outcome → Comes pattern outcome
+      follows pattern outcome h = (
+        0,
+        subst (λ p. Means disk (call_of 0 p) words lines outcome) (sym h.0)
+            (subst (λ ls. Means disk None words ls outcome) (sym echoes)
+            (comes_of w found loads outcome (subst (λ (l : Loaded EvalFault). IsAsked l words outcome) (project_is w found project is) h.1))),
+      )
+
+  refused_so : (fault : LoadFault) (last : ℕ) → IsLoaded (load_setting disk (call_of last (refused_by fault))) words load_turns last lines (Err fault)
+      → IsPrepared disk words lines (Err (stop_of_load fault))
+  refused_so fault last h = load_told (IsRefusedInGeneration disk words lines) Comes fault (go (load_refusal fault) h)
+    where
+      go : (why : Option LoadRefusal) → IsRefused (load_setting disk (call_of last (refused_by fault))) words load_turns last lines why
+          → IfRefusal (Unit {0}) (option_map of_load why) (λ f. Comes (refused_by fault) (Err f))
+      go None g = tt
+      go (Some why) (s, loads, echoes, after) = (last, subst (λ ls. Means disk (call_of last (refused_by fault)) words ls (Err (of_load why))) (sym echoes) (not_loaded why s loads))
+
+-- ---- where the files are visible
+
+setting_for : (outside : Outside) (disk : Disk) → outside.disk ≡ Some disk → IsConsistent disk → (refused : Option (ℕ × Text)) → IsSettingFor (load_setting disk refused) load_turns outside
+setting_for outside disk visible consistent refused = record { budget = refl; natives = refl; folder = ap folder_of visible; right = right disk consistent refused }
+
+module _ (words lines : List Text) (from mid to : Outside) (first last : Turns) (left_is : first.left ≡ load_turns) (budget_is : first.budget ≡ load_turns) where
+  so : (disk : Disk) → from.disk ≡ Some disk → IsConsistent disk → (ended : Result Project LoadFault) → TellsLoad from words first last lines ended
+      → mid.disk ≡ from.disk → (result : Result Made Stop) → GoesOn words ended mid to result → IsPrepared disk words lines result
+  so disk visible consistent (Ok project) told same result goes =
+      prepared_so disk words lines project last.left
+      (subst (λ n. IsLoaded (load_setting disk None) words n last.left lines (Ok project)) left_is
+      (told (load_setting disk None) (subst (λ n. IsSettingFor (load_setting disk None) n from) (sym budget_is) (setting_for from disk visible consistent None)) (λ left low high. refl)))
+      result
+      (subst (λ d. IfSome d (λ (e : Disk). Tells (IsRefusedFor words project.declared project.world e) (λ pattern outcome. (pattern ≡ None) × IsAsked (project_of e project.world project.declared) words outcome) result)) (same ∙ visible) goes.told)
+  so disk visible consistent (Err fault) told same result goes =
+      let call = call_of last.left (refused_by fault) in
+      subst (IsPrepared disk words lines) (sym goes.0)
+      (refused_so disk words lines fault last.left
+      (subst (λ n. IsLoaded (load_setting disk call) words n last.left lines (Err fault)) left_is
+      (told (load_setting disk call) (subst (λ n. IsSettingFor (load_setting disk call) n from) (sym budget_is) (setting_for from disk visible consistent call)) (call_refuses first.left last.left (refused_by fault)))))
+
+  pub told_prepared : IfSome from.disk IsConsistent → (ended : Result Project LoadFault) → TellsLoad from words first last lines ended
+      → mid.disk ≡ from.disk → (result : Result Made Stop) → GoesOn words ended mid to result → IfSome from.disk (λ disk. IsPrepared disk words lines result)
+  told_prepared consistent ended told same result goes = go from.disk refl consistent
+    where
+      go : (d : Option Disk) → from.disk ≡ d → IfSome d IsConsistent → IfSome d (λ disk. IsPrepared disk words lines result)
+      go None e c = tt
+      go (Some disk) e c = so disk e c ended told same result goes
+
+-- ---- over every host
+
+-- what a load promises of its project
+pub ready_load : (ended : Result Project LoadFault) → IfOk ended (λ project. IsNumbered project.declared) → IfOk ended (λ project. is_some project.world.now.step ≡ false) → IfOk ended IsReady
+ready_load (Ok project) places step = record { places = places; step = step }
+ready_load (Err fault) places step = tt
+
+module _ (words : List Text) (mid to : Outside) where
+  pub whole_prepared : (ended : Result Project LoadFault) → IfErr ended IsWholeLoad → (result : Result Made Stop) → GoesOn words ended mid to result → IfErr result IsWhole
+  whole_prepared (Ok project) whole result goes = goes.whole
+  whole_prepared (Err fault) whole result goes = subst (λ r. IfErr r IsWhole) (sym goes.0) (load_whole fault whole)
+
+  pub apart_prepared : (ended : Result Project LoadFault) (result : Result Made Stop) → GoesOn words ended mid to result → IfOk result (λ p. Apart p.plan.steps p.plan.roots)
+  apart_prepared (Ok project) result goes = goes.apart
+  apart_prepared (Err fault) result goes = subst (λ r. IfOk r (λ p. Apart p.plan.steps p.plan.roots)) (sym goes.0) tt
+
+  pub disk_prepared : (ended : Result Project LoadFault) (result : Result Made Stop) → GoesOn words ended mid to result → to.disk ≡ mid.disk
+  disk_prepared (Ok project) result goes = goes.disk
+  disk_prepared (Err fault) result goes = ap (λ (o : Outside). o.disk) goes.1
+
+  pub children_prepared : (ended : Result Project LoadFault) (result : Result Made Stop) → GoesOn words ended mid to result → to.children ≡ mid.children
+  children_prepared (Ok project) result goes = goes.children
+  children_prepared (Err fault) result goes = ap (λ (o : Outside). o.children) goes.1
+
+pub counts_prepared : (words : List Text) (from mid to : Outside) (ended : Result Project LoadFault) → CountsLoaded ended from mid → (result : Result Made Stop) → GoesOn words ended mid to result → Counts result from to
+counts_prepared words from mid to (Ok project) counts result goes = counts_then from mid to counts result goes.counts
+counts_prepared words from mid to (Err fault) counts result goes =
+    subst (λ r. Counts r from to) (sym goes.0) (load_counts fault from to (subst (CountsLoad fault from) (sym goes.1) counts))
+
+pub keeps_prepared : (words : List Text) (from mid to : Outside) → Keeps from mid → (ended : Result Project LoadFault) (result : Result Made Stop) → GoesOn words ended mid to result → Keeps from to
+keeps_prepared words from mid to keeps (Ok project) result goes = keeps_then from mid to keeps goes.keeps
+keeps_prepared words from mid to keeps (Err fault) result goes = subst (Keeps from) (sym goes.1) keeps

@@ -1,0 +1,70 @@
+-- A project's attributes or a target are added once the lists of their call are read; the fault of the lists is theirs.
+use Rattle.std.proofs.Common.{◌≡◌, ℕ, ◌++◌, List, Ok, length, refl, sym, ◌∙◌, ap, subst}
+use Rattle.std.specs.Prelude.{Result}
+use Rattle.b2_base.specs.Results.{and_then}
+use Rattle.b2_features.specs.Table.{Declared}
+use Rattle.b2_declarations.specs.declared.declaration.Attributes.{Attributes}
+use Rattle.b2_declarations.specs.declared.declaration.MainTarget.{MainTarget}
+use Rattle.b2_declarations.specs.declared.declaration.PropertyList.{PropertyList}
+use Rattle.b2_metatargets.specs.declared.fault.DeclaringFault.{DeclaringFault}
+use Rattle.b2_metatargets.specs.declared.lists.Lists.{Lists}
+use Rattle.b2_metatargets.specs.declared.visit.Visit.{Visit}
+use Rattle.b2_metatargets.specs.declared.visit.Call.{Call}
+use Rattle.b2_metatargets.specs.declared.place.Place.{Place}
+use Rattle.b2_metatargets.specs.declared.place.Target.{Target}
+use Rattle.b2_metatargets.specs.declared.place.IndirectRule.{IndirectRule}
+use Rattle.b2_metatargets.specs.declared.gathered.Gathered.{Gathered as Drawn}
+use Rattle.b2_metatargets.specs.Outcomes.{IsFaultOf}
+use Rattle.b2_metatargets.specs.Gathering.{Gathered, lists_in, rules_in, with_place, attributed, with_own_id, one_target_more, with_attributes, with_target}
+use Rattle.b2_metatargets.specs.Views.{brought}
+use Rattle.b2_metatargets.proofs.StepsComposeUntilAFault.{fault_then, then_next}
+
+module _ (features : List Declared) (v : Visit) (c : Call) (g : Gathered) where
+  module _ (a : Attributes) where
+    adds : Lists → Result Gathered DeclaringFault
+    adds l = Ok (record g { places = with_place g.places c.project (attributed (length g.indirect) l); ids = with_own_id g.ids a.id v.dir; indirect = g.indirect ++ rules_in c l.requirements })
+
+    is_so : with_attributes features v c a g ≡ and_then adds (lists_in features v c a.lists)
+    unfolding with_attributes adds
+    is_so = refl
+
+    pub attributes_fault : (f : DeclaringFault) → IsFaultOf (lists_in features v c a.lists) f → IsFaultOf (with_attributes features v c a g) f
+    attributes_fault f fault = subst (λ r. IsFaultOf r f) (sym is_so) (fault_then adds (lists_in features v c a.lists) f fault)
+
+    pub attributes_added : (l : Lists) → lists_in features v c a.lists ≡ Ok l → with_attributes features v c a g ≡ Ok (record g { places = with_place g.places c.project (attributed (length g.indirect) l); ids = with_own_id g.ids a.id v.dir; indirect = g.indirect ++ rules_in c l.requirements })
+    unfolding adds
+    attributes_added l e = is_so ∙ then_next adds (lists_in features v c a.lists) l e
+
+    -- the same of lists that are those of the call
+    pub attributes_fault_at : (lists : List PropertyList) (f : DeclaringFault) → lists ≡ a.lists → IsFaultOf (lists_in features v c lists) f → IsFaultOf (with_attributes features v c a g) f
+    attributes_fault_at lists f same fault = attributes_fault f (subst (λ ls. IsFaultOf (lists_in features v c ls) f) same fault)
+
+  module _ (m : MainTarget) where
+    target_is_so : with_target features v c m g ≡ and_then (λ l. Ok (one_target_more c m l g)) (lists_in features v c m.lists)
+    unfolding with_target
+    target_is_so = refl
+
+    pub target_fault : (f : DeclaringFault) → IsFaultOf (lists_in features v c m.lists) f → IsFaultOf (with_target features v c m g) f
+    target_fault f fault = subst (λ r. IsFaultOf r f) (sym target_is_so) (fault_then (λ l. Ok (one_target_more c m l g)) (lists_in features v c m.lists) f fault)
+
+    pub target_added : (l : Lists) → lists_in features v c m.lists ≡ Ok l → with_target features v c m g ≡ Ok (one_target_more c m l g)
+    target_added l e = target_is_so ∙ then_next (λ l. Ok (one_target_more c m l g)) (lists_in features v c m.lists) l e
+
+    pub target_fault_at : (lists : List PropertyList) (f : DeclaringFault) → lists ≡ m.lists → IsFaultOf (lists_in features v c lists) f → IsFaultOf (with_target features v c m g) f
+    target_fault_at lists f same fault = target_fault f (subst (λ ls. IsFaultOf (lists_in features v c ls) f) same fault)
+
+-- what stands after a project got its lists and its id
+pub attributed_is : (v : Visit) (c : Call) (a : Attributes) (l : Lists) (g : Gathered) (mid new : Drawn)
+    → mid.places.items ≡ with_place g.places c.project (attributed (length g.indirect) l)
+    → mid.indirect ≡ g.indirect ++ rules_in c l.requirements
+    → mid.targets ≡ g.targets
+    → mid.ids ≡ g.ids
+    → new ≡ record mid { ids = with_own_id mid.ids a.id v.dir }
+    → brought new ≡ record g { places = with_place g.places c.project (attributed (length g.indirect) l); ids = with_own_id g.ids a.id v.dir; indirect = g.indirect ++ rules_in c l.requirements }
+attributed_is v c a l g mid new places rules targets ids is =
+    let made : List Place → List Target → List (List ℕ × List ℕ) → List IndirectRule → Gathered = λ ps ts xs rs. record { places = ps; targets = ts; ids = with_own_id xs a.id v.dir; indirect = rs } in
+    ap brought is
+    ∙ ap (λ ps. made ps mid.targets mid.ids mid.indirect) places
+    ∙ ap (λ ts. made (with_place g.places c.project (attributed (length g.indirect) l)) ts mid.ids mid.indirect) targets
+    ∙ ap (λ xs. made (with_place g.places c.project (attributed (length g.indirect) l)) g.targets xs mid.indirect) ids
+    ∙ ap (λ rs. made (with_place g.places c.project (attributed (length g.indirect) l)) g.targets g.ids rs) rules

@@ -1,0 +1,226 @@
+-- Whatever the files and words came to, what a look writes and answers is what the call promises.
+use Rattle.std.proofs.Common.{◌≡◌, ℕ, List, [], ◌∷◌, ◌++◌, Option, Some, None, IfSome, Result, Ok, Err, IfErr, ◌⊎◌, inl, inr, refl, sym, ap, ◌∙◌, subst}
+use Rattle.std.specs.Option.{option_map}
+use Rattle.b2_host.specs.Disks.{Disk}
+use Rattle.b2_base.specs.Counts.{Rose}
+use Rattle.b2_base.specs.Bytes.{IsFrontOf}
+use Rattle.b2_host.specs.Outside.{Outside}
+use Rattle.b2_host.specs.Output.{Output}
+use Rattle.b2_words.specs.Words.{Word}
+use Rattle.b2_planning.specs.declared.planned.Planned.{Planned as Made}
+use Rattle.b2_planning.specs.Plans.{seen}
+use Rattle.b2_front.specs.Laws.{OneMeaning}
+use Rattle.b2_front.specs.Meaning.{Means}
+use Rattle.b2_front.specs.Preparing.{IsPrepared, IsWhole as IsWholeStop, Counts}
+use Rattle.b2_front.specs.Refusals.{IsWholeRefusal}
+use Rattle.b2_front.specs.declared.refusal.Refusal.{Refusal}
+use Rattle.b2_front.specs.declared.refusal.Refusal.TheVariants as refusals
+use Rattle.b2_front.specs.declared.refusal.Stop.{Stop}
+use Rattle.b2_front.specs.declared.refusal.Stop.TheVariants as stops
+use Rattle.b2_runs.specs.Moments.{Moment}
+use Rattle.b2_refusals.specs.Lines.{usage_line}
+use Rattle.b2_top.specs.declared.answer.Answer.{Answer}
+use Rattle.b2_top.specs.declared.answer.Answer.TheVariants as answers
+use Rattle.b2_top.specs.RefusalCauses.{fault_of, IsPatternRefused}
+use Rattle.b2_top.specs.Reports.{refusal_report, fault_report}
+use Rattle.b2_top.specs.Writing.{FailsIn, StopsIn, Says, SaysFault}
+use Rattle.b2_top.specs.Writing.Says.{said, failed, stopped}
+use Rattle.b2_top.specs.Writing.SaysFault.{fault_said, fault_failed, fault_stopped}
+use Rattle.b2_update.specs.Moments.{moment}
+use Rattle.b2_top.specs.declared.look.Look.{Look}
+use Rattle.b2_top.specs.Looks.{look_of, look_report}
+use Rattle.b2_top.specs.Shows.{HasPlan, IsShown, IsRefused, BeginsReport, BeginsSome, IsOfPlanning, IsAnswered}
+use Rattle.b2_top.specs.Shows.BeginsReport.{usage, shown, refused}
+use Rattle.b2_top.specs.Shows.BeginsSome.{nothing, report, host_fault}
+use Rattle.b2_top.specs.Tells.{AnswersWith}
+use Rattle.b2_top.proofs.OnlyPatternsRefuseAPlan.{whole_of, pattern_refused}
+use Rattle.b2_top.proofs.WrittenBytesAreTold.{if_map, if_all, written_told, text_of, faults_of, has_cause}
+
+-- ---- answers, whatever the words are
+
+module _ (words : List Word) (before after : Moment) where
+  -- the call was cut short by a fault of the sink
+  ended_sink : (bytes : List ℕ) → FailsIn bytes before.out after.out → (look_of words ≡ None → after.host ≡ before.host) → after.host.faults ≡ before.host.faults
+      → ((part : List ℕ) → IsFrontOf part bytes → IfSome before.host.disk (λ disk. BeginsReport words disk part)) → IsAnswered words before after answers.SinkFault
+  ended_sink bytes f alone same begins = record {
+    shown = λ e. absurd cc;
+    reported = written_told before after f.part (BeginsReport words) f.written (begins f.part f.begins);
+    counts = (f.rose, same);
+    usage = λ none. inr (inl refl);
+    alone = alone;
+    no_usage = λ e. absurd cc;
+    whole = tt;
+    not_failed = tt;
+    complete = if_all before.host.disk (λ disk plan. inl (inr (inr (inl refl))));
+  }
+
+  -- memory ran out
+  ended_memory : (bytes : List ℕ) → StopsIn bytes before.out after.out → (look_of words ≡ None → after.host ≡ before.host)
+      → ((part : List ℕ) → IsFrontOf part bytes → IfSome before.host.disk (λ disk. BeginsSome words disk before.host.faults after.host.faults part)) → IsAnswered words before after answers.OutOfMemory
+  ended_memory bytes s alone begins = record {
+    shown = λ e. absurd cc;
+    reported =
+        written_told before after s.part (λ disk. BeginsSome words disk before.host.faults after.host.faults) (text_of s.part before.out after.out s.same) (begins s.part s.begins);
+    counts = faults_of s.part before.out after.out s.same;
+    usage = λ none. inr (inr refl);
+    alone = alone;
+    no_usage = λ e. absurd cc;
+    whole = tt;
+    not_failed = tt;
+    complete = if_all before.host.disk (λ disk plan. inl (inr (inr (inr refl))));
+  }
+
+-- nothing was written, for lack of memory
+pub ended_short : (words : List Word) (h0 h1 : Outside) (o0 o1 : Output) → o1 ≡ o0 → (look_of words ≡ None → h1 ≡ h0) → IsAnswered words (moment h0 o0) (moment h1 o1) answers.OutOfMemory
+ended_short words h0 h1 o0 o1 same alone = subst (λ o. IsAnswered words (moment h0 o0) (moment h1 o) answers.OutOfMemory) (sym same) (record {
+  shown = λ e. absurd cc;
+  reported = reported_none h0.disk o0.written;
+  counts = refl;
+  usage = λ none. inr (inr refl);
+  alone = alone;
+  no_usage = λ e. absurd cc;
+  whole = tt;
+  not_failed = tt;
+  complete = if_all h0.disk (λ disk plan. inl (inr (inr (inr refl))));
+})
+  where
+    append_none : (xs : List ℕ) → xs ≡ xs ++ []
+    append_none [] = refl
+    append_none (x ∷ xs) = ap (λ l. x ∷ l) (append_none xs)
+
+    reported_none : (d : Option Disk) (text : Option (List ℕ)) → IfSome d (λ disk. IfSome text (λ so_far. (written : List ℕ) × (text ≡ Some (so_far ++ written)) × BeginsSome words disk h0.faults h1.faults written))
+    reported_none None text = tt
+    reported_none (Some disk) None = tt
+    reported_none (Some disk) (Some so_far) = ([], ap Some (append_none so_far), nothing refl)
+
+-- ---- words that are no look
+
+pub answered_usage : (words : List Word) (host : Outside) (x y : Output) (result : Answer) → look_of words ≡ None → Says answers.Usage usage_line x y result
+    → IsAnswered words (moment host x) (moment host y) result
+answered_usage words host x y result none (said is p) = subst (IsAnswered words (moment host x) (moment host y)) (sym is) (record {
+  shown = λ e. absurd cc;
+  reported = written_told (moment host x) (moment host y) usage_line (λ disk written. written ≡ usage_line) (text_of usage_line x y p) (if_all host.disk (λ disk. refl));
+  counts = record { host = refl; sink = faults_of usage_line x y p };
+  usage = λ e. inl refl;
+  alone = λ e. refl;
+  no_usage = λ e. none;
+  whole = tt;
+  not_failed = tt;
+  complete = if_all host.disk (λ disk plan. let e : None ≡ Some plan.look = sym none ∙ plan.asked in absurd cc);
+})
+answered_usage words host x y result none (failed is f) =
+    subst (IsAnswered words (moment host x) (moment host y)) (sym is) (ended_sink words (moment host x) (moment host y) usage_line f (λ e. refl) refl
+    (λ part front. if_all host.disk (λ disk. usage none front)))
+answered_usage words host x y result none (stopped is s) =
+    subst (IsAnswered words (moment host x) (moment host y)) (sym is) (ended_memory words (moment host x) (moment host y) usage_line s (λ e. refl)
+    (λ part front. if_all host.disk (λ disk. report (usage none front))))
+
+-- ---- a look
+
+is_of_planning : (why : Refusal) → IsOfPlanning (fault_of why)
+is_of_planning (refusals.Load fault) = tt
+is_of_planning (refusals.Request fault) = tt
+is_of_planning (refusals.Generation fault) = tt
+
+module _ (law : OneMeaning) (words : List Word) (look : Look) (asked : look_of words ≡ Some look) (h0 h1 : Outside) (o0 o1 : Output) (echoes : List Word) where
+  not_none : {X : Type 0} → look_of words ≡ None → X
+  not_none none = let e : None ≡ Some look = sym none ∙ asked in absurd cc
+
+  abbrev Promised : Answer → Type 0
+  Promised = IsAnswered words (moment h0 o0) (moment h1 o1)
+
+  -- there is a plan
+  abbrev IsTold : Result Made Stop → Type 0
+  IsTold result = IfSome h0.disk (λ disk. IsPrepared disk look.words echoes result)
+
+  module _ (made : Made) (told : IsTold (Ok made)) (same : h1.faults ≡ h0.faults) where
+    abbrev whole_look : List ℕ
+    whole_look = look_report echoes look.view (seen made)
+
+    is_shown : (disk : Disk) → IsPrepared disk look.words echoes (Ok made) → IsShown words disk whole_look
+    is_shown disk h = record { plan = record { look = look; echoes = echoes; planned = seen made; asked = asked; means = h.1 }; report = refl }
+
+    pub answered_look : (result : Answer) → Says answers.Ok whole_look o0 o1 result → Promised result
+    answered_look result (said is p) =
+        let written = written_told (moment h0 o0) (moment h1 o1) whole_look (IsShown words) (text_of whole_look o0 o1 p) (if_map h0.disk is_shown told) in
+        subst Promised (sym is) (record {
+          shown = λ e. written;
+          reported = written;
+          counts = record { host = same; sink = faults_of whole_look o0 o1 p };
+          usage = λ none. not_none none;
+          alone = λ none. not_none none;
+          no_usage = λ e. absurd cc;
+          whole = tt;
+          not_failed = tt;
+          complete = if_all h0.disk (λ disk plan. inl (inl refl));
+        })
+    answered_look result (failed is f) =
+        subst Promised (sym is) (ended_sink words (moment h0 o0) (moment h1 o1) whole_look f (λ none. not_none none) same
+        (λ part front. if_map h0.disk (λ disk h. shown whole_look (is_shown disk h) front) told))
+    answered_look result (stopped is s) =
+        subst Promised (sym is) (ended_memory words (moment h0 o0) (moment h1 o1) whole_look s (λ none. not_none none)
+        (λ part front. if_map h0.disk (λ disk h. report (shown whole_look (is_shown disk h) front)) told))
+
+  -- there is none
+  module _ (why : Refusal) (told : IsTold (Err (stops.Refused why))) (input : IsWholeRefusal why) (same : h1.faults ≡ h0.faults) where
+    abbrev whole_refusal : List ℕ
+    whole_refusal = refusal_report echoes [] (fault_of why)
+
+    is_refused : (disk : Disk) → IsPrepared disk look.words echoes (Err (stops.Refused why)) → IsRefused words disk (fault_of why) whole_refusal
+    is_refused disk h = record { look = look; echoes = echoes; asked = asked; cause = has_cause disk look.words echoes why h; report = refl }
+
+    same_look : (disk : Disk) (plan : HasPlan words disk) → plan.look ≡ look
+    same_look disk plan = let e : Some plan.look ≡ Some look = sym plan.asked ∙ asked in cc
+
+    pub answered_refusal : (result : Answer) → Says (answers.Refused (fault_of why)) whole_refusal o0 o1 result → Promised result
+    answered_refusal result (said is p) = subst Promised (sym is) (record {
+      shown = λ e. absurd cc;
+      reported = written_told (moment h0 o0) (moment h1 o1) whole_refusal (λ disk. IsRefused words disk (fault_of why)) (text_of whole_refusal o0 o1 p) (if_map h0.disk is_refused told);
+      counts = record { host = same; sink = faults_of whole_refusal o0 o1 p };
+      usage = λ none. not_none none;
+      alone = λ none. not_none none;
+      no_usage = λ e. absurd cc;
+      whole = whole_of why input;
+      not_failed = is_of_planning why;
+      complete = if_map h0.disk (λ disk h plan.
+          inr (subst (λ (l : Look). IsPatternRefused disk l.words (answers.Refused (fault_of why))) (sym (same_look disk plan))
+          (pattern_refused law disk look.words plan.echoes echoes plan.planned (subst (λ (l : Look). Means disk None l.words plan.echoes (Ok plan.planned)) (same_look disk plan) plan.means) why input h))) told;
+    })
+    answered_refusal result (failed is f) =
+        subst Promised (sym is) (ended_sink words (moment h0 o0) (moment h1 o1) whole_refusal f (λ none. not_none none) same
+        (λ part front. if_map h0.disk (λ disk h. refused (fault_of why) whole_refusal (is_refused disk h) front) told))
+    answered_refusal result (stopped is s) =
+        subst Promised (sym is) (ended_memory words (moment h0 o0) (moment h1 o1) whole_refusal s (λ none. not_none none)
+        (λ part front. if_map h0.disk (λ disk h. report (refused (fault_of why) whole_refusal (is_refused disk h) front)) told))
+
+  -- the host failed
+  module _ (rose : Rose h0.faults h1.faults) where
+    ended_host : (bytes : List ℕ) → o1.written ≡ option_map (λ so_far. so_far ++ bytes) o0.written
+        → ((bytes ≡ fault_report echoes) × (o1.faults ≡ o0.faults)) ⊎ (Rose o0.faults o1.faults × IsFrontOf bytes (fault_report echoes)) → Promised answers.HostFault
+    ended_host bytes text ended = record {
+      shown = λ e. absurd cc;
+      reported = written_told (moment h0 o0) (moment h1 o1) bytes _ text (if_all h0.disk (λ disk. record { look = look; echoes = echoes; asked = asked; ended = ended }));
+      counts = rose;
+      usage = λ none. not_none none;
+      alone = λ none. not_none none;
+      no_usage = λ e. absurd cc;
+      whole = tt;
+      not_failed = tt;
+      complete = if_all h0.disk (λ disk plan. inl (inr (inl refl)));
+    }
+
+    pub answered_fault : (result : Answer) → SaysFault (fault_report echoes) o0 o1 result → Promised result
+    answered_fault result (fault_said is p) =
+        subst Promised (sym is) (ended_host (fault_report echoes) (text_of (fault_report echoes) o0 o1 p) (inl (refl, faults_of (fault_report echoes) o0 o1 p)))
+    answered_fault result (fault_failed is f) = subst Promised (sym is) (ended_host f.part f.written (inr (f.rose, f.begins)))
+    answered_fault result (fault_stopped is s) =
+        subst Promised (sym is) (ended_memory words (moment h0 o0) (moment h1 o1) (fault_report echoes) s (λ none. not_none none)
+        (λ part front. if_all h0.disk (λ disk. host_fault echoes rose front)))
+
+  -- whatever the files and the words came to
+  pub answered : (result : Result Made Stop) (answer : Answer) → IsTold result → IfErr result IsWholeStop → Counts result h0 h1 → AnswersWith look.view echoes result o0 o1 answer → Promised answer
+  answered (Ok made) answer told whole counts says = answered_look made told counts answer says
+  answered (Err (stops.Refused why)) answer told whole counts says = answered_refusal why told whole counts answer says
+  answered (Err stops.Host) answer told whole counts says = answered_fault counts answer says
+  answered (Err stops.OutOfMemory) answer told whole counts says =
+      subst Promised (sym says.0) (ended_short words h0 h1 o0 o1 says.1 (λ none. not_none none))
