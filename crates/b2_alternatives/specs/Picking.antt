@@ -1,11 +1,10 @@
 -- What the parts of a choice promise.
-use Rattle.std.specs.Prelude.{◌≡◌, ℕ, suc, List, Some, Result, Ok, Err, slice_get, length}
+use Rattle.std.specs.Prelude.{◌≡◌, ℕ, suc, List, Some, Result, Ok, Err, slice_get}
 use Rattle.b2_props.specs.Sets.{Pair, IsSet}
 use Rattle.b2_refine.specs.Choices.{IsChoice}
 use Rattle.b2_refine.specs.declared.choice.Choice.TheVariants as choices
 use Rattle.b2_metatargets.specs.declared.place.Target.{Target}
 use Rattle.b2_metatargets.specs.declared.whole.Declared.{Declared}
-use Rattle.b2_metatargets.specs.Laws.{IsSound}
 use Rattle.b2_references.specs.Names.{Name, features, alternatives}
 use Rattle.b2_alternatives.specs.Choosing.{Returned, Chosen, full_set, conditions, Chooses}
 use Rattle.b2_alternatives.specs.declared.fault.ChoiceFault.{ChoiceFault}

@@ -18,7 +18,6 @@ use Rattle.b2_declarations.specs.declared.declaration.Attributes.{Attributes}
 use Rattle.b2_declarations.specs.declared.declaration.Declaration.{Declaration}
 use Rattle.b2_declarations.specs.declared.declaration.Declaration.TheVariants as declarations
 use Rattle.b2_declarations.specs.declared.declaration.Kind.{Kind}
-use Rattle.b2_declarations.specs.declared.declaration.Kind.TheVariants.{Exe, Lib, Obj, Alias, Make, Install}
 use Rattle.b2_declarations.specs.declared.declaration.MainTarget.{MainTarget}
 use Rattle.b2_declarations.specs.declared.rule.Rule.{Rule}
 use Rattle.b2_declarations.specs.declared.rule.Rule.TheVariants as rules

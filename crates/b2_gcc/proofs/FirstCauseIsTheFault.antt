@@ -1,5 +1,5 @@
 -- Of two parts the fault is that of the first, or of the second where the first has none; for declaring features.
-use Rattle.std.proofs.Common.{◌≡◌, ◌∙◌, Option, Some, None, ap}
+use Rattle.std.proofs.Common.{◌≡◌, ◌∙◌, Option, None, ap}
 use Rattle.std.specs.Option.{option_or}
 use Rattle.b2_features.specs.declared.fault.FeatureFault.{FeatureFault}
 use Rattle.b2_features.specs.declared.fault.FeatureFault.TheVariants.{Twice, Unknown, BadValue, ComposeConflict, OutOfMemory}

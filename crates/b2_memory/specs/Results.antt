@@ -1,4 +1,4 @@
-use Rattle.std.specs.Prelude.{ℕ, ◌/◌, ◌%◌, ◌==◌, Bool, false, not, List, [], ◌∷◌, ◌++◌, codes, length, filter, fold, take_while, if◌then◌else◌}
+use Rattle.std.specs.Prelude.{ℕ, ◌/◌, ◌%◌, ◌==◌, false, not, List, [], ◌∷◌, ◌++◌, codes, length, filter, fold, take_while, if◌then◌else◌}
 use Rattle.std.specs.List.{flat_map, slice_split}
 use Rattle.std.specs.Str.{bytes_eq}
 use Rattle.std.specs.Ordering.{is_lt, nat_cmp}

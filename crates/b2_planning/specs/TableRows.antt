@@ -1,5 +1,5 @@
 -- The table of main targets, and a walk through what was generated.
-use Rattle.std.specs.Prelude.{◌≡◌, ℕ, ◌==◌, ◌+◌, Bool, true, false, List, [], ◌∷◌, ◌++◌, map, length, reverse, filter, nat_lt, if◌then◌else◌}
+use Rattle.std.specs.Prelude.{◌≡◌, ℕ, ◌==◌, ◌+◌, Bool, true, false, List, [], ◌∷◌, ◌++◌, map, length, reverse, if◌then◌else◌}
 use Rattle.std.specs.List.{list_any}
 use Rattle.std.specs.Option.{option_map_or}
 use Rattle.std.specs.Borrow.{Bor}
@@ -10,8 +10,8 @@ use Rattle.std.specs.declared.cmp.Ordering.{Ordering}
 use Rattle.b2_props.specs.Sets.{Pair}
 use Rattle.b2_props.specs.Holding.{pair_cmp}
 use Rattle.b2_generate.specs.Answers.{Row}
-use Rattle.b2_generate.specs.Nodes.{entry_in, node_in, row_of}
-use Rattle.b2_generate.specs.Places.{rows_at, is_before, children_at, children_left}
+use Rattle.b2_generate.specs.Nodes.{node_in, row_of}
+use Rattle.b2_generate.specs.Places.{children_at, children_left}
 use Rattle.b2_generate.specs.Planning.{Line, is_same_row}
 use Rattle.b2_generate.specs.declared.node.Node.{Node}
 use Rattle.b2_planning.specs.declared.planned.Built.{Built}

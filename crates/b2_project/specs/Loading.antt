@@ -1,5 +1,5 @@
 -- What the answer of a load says.
-use Rattle.std.specs.Prelude.{◌≡◌, ℕ, List, length, map as each, Option, Some, None, Result, Ok, Err}
+use Rattle.std.specs.Prelude.{◌≡◌, ℕ, List, map as each, Option, Some, None, Result, Ok, Err}
 use Rattle.b2_host.specs.Outside.{Outside}
 use Rattle.b2_metatargets.specs.declared.fault.DeclaringFault.{DeclaringFault}
 use Rattle.b2_metatargets.specs.declared.fault.DeclaringFault.TheVariants as declaring_faults
@@ -7,7 +7,7 @@ use Rattle.b2_metatargets.specs.declared.visit.Visit.{Visit}
 use Rattle.b2_metatargets.specs.declared.visit.Call.{Call}
 use Rattle.b2_metatargets.specs.declared.whole.Declared.{Declared}
 use Rattle.b2_metatargets.specs.Declaring.{declared}
-use Rattle.b2_metatargets.specs.Laws.{visited, IsSound}
+use Rattle.b2_metatargets.specs.Laws.{visited}
 use Rattle.jam_journal.specs.Tables.{Text}
 use Rattle.jam_eval.specs.Refused.{Refuses}
 use Rattle.jam_eval.specs.Settings.{Setting}

@@ -1,9 +1,8 @@
 -- An output that clashes is the first where none at an earlier place does; what holds at each place holds of all.
-use Rattle.std.proofs.Common.{◌≡◌, ℕ, ◌+◌, ◌<◌, ◌≤◌, List, [], ◌∷◌, ◌++◌, length, get_or, take, drop, suc, zero, refl, ap, sym, ◌∙◌, subst, arith}
+use Rattle.std.proofs.Common.{◌≡◌, ℕ, ◌+◌, ◌<◌, ◌≤◌, List, [], ◌∷◌, ◌++◌, length, get_or, take, drop, suc, zero, ap, sym, subst, arith}
 use Rattle.std.specs.List.{AllByRecursion}
-use Rattle.b2_base.specs.Normal.{IsNormal}
 use Rattle.b2_plan.specs.declared.step.Step.{Step}
-use Rattle.b2_virtual.specs.Clashes.{Clashes, IsFirstClash, Fits}
+use Rattle.b2_virtual.specs.Clashes.{Clashes, IsFirstClash}
 
 abbrev Paths : Type 0
 Paths = List (List ℕ)

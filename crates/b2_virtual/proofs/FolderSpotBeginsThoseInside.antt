@@ -1,7 +1,6 @@
 -- A path is a folder or lies in it exactly where the folder's spot begins its own; and how a spot is written.
-use Rattle.std.proofs.Common.{◌≡◌, ◌≢◌, ℕ, Bool, true, false, cond, not, ◌||◌, ◌⊎◌, inl, inr, List, [], ◌∷◌, ◌++◌, codes, replicate, refl, ap, ap₂, sym, ◌∙◌, subst, length, length-append, append_assoc, append-nil, arith}
+use Rattle.std.proofs.Common.{◌≡◌, ◌≢◌, ℕ, Bool, true, false, cond, ◌||◌, ◌⊎◌, inl, inr, List, [], ◌∷◌, ◌++◌, codes, replicate, refl, ap, ap₂, sym, ◌∙◌, subst, length-append, append_assoc, append-nil, arith}
 use Rattle.std.specs.List.{AllByRecursion, join_with_byte}
-use Rattle.std.specs.Str.{bytes_eq}
 use Rattle.std.proofs.lemmas.Bool.{true≢false}
 use Rattle.b2_base.specs.Segments.{is_rooted, is_up, is_dropped, written}
 use Rattle.b2_base.specs.Normal.{IsNormal, IsUnder, parts, first_part}

@@ -1,5 +1,5 @@
 -- The path of the log is in normal form, and is neither the folder itself nor the root.
-use Rattle.std.proofs.Common.{◌≢◌, List, [], ◌∷◌, codes, false, refl, arith}
+use Rattle.std.proofs.Common.{◌≢◌, [], ◌∷◌, codes, false, refl, arith}
 use Rattle.b2_base.specs.Normal.{IsName, IsNormal}
 use Rattle.b2_host.specs.FileCalls.{log_path}
 

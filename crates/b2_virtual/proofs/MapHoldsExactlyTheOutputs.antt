@@ -1,6 +1,6 @@
 -- A builder's map, empty and after each step, has just the spots of all outputs, and so tells equal steps and clashes.
 use Rattle.std.proofs.Common.{◌≡◌, ◌≢◌, ℕ, ◌+◌, ◌-◌, ◌<◌, ◌≤◌, Bool, true, false, cond, ◌||◌, ◌⊎◌, inl, inr, ⊎_elim, suc, zero, List, [], ◌∷◌, ◌++◌, map, length, length-append, Option, Some, None, slice_get, get_or, refl, ap, sym, ◌∙◌, subst, append-nil, arith}
-use Rattle.std.specs.Prelude.{codes, slice_index_or}
+use Rattle.std.specs.Prelude.{slice_index_or}
 use Rattle.std.specs.List.{Contains, list_any, AllByRecursion}
 use Rattle.std.specs.Str.{bytes_eq}
 use Rattle.std.specs.FinMap.{get, get-empty, from_entries}
@@ -13,10 +13,10 @@ use Rattle.std.proofs.lemmas.Slice.Eq.{bytes_eq-Decides}
 use Rattle.b2_base.specs.Normal.{IsNormal, IsUnder}
 use Rattle.b2_base.specs.Bytes.{IsFrontOf}
 use Rattle.b2_plan.specs.declared.step.Step.{Step}
-use Rattle.b2_plan.specs.Plans.{step_at, Makes, Apart}
+use Rattle.b2_plan.specs.Plans.{step_at, Makes}
 use Rattle.b2_host.specs.FileCalls.{log_path}
 use Rattle.b2_virtual.specs.Joining.{is_same, stands_in, number_in, number_of}
-use Rattle.b2_virtual.specs.Clashes.{AreNested, Clashes, shared, beside, within, log, below_log, Fits, AreInRoots, AreApart}
+use Rattle.b2_virtual.specs.Clashes.{AreNested, Clashes, shared, beside, within, log, below_log, Fits, AreApart}
 use Rattle.b2_virtual.specs.Spots.{spot, Numbers, GoesOn, ComesBefore, IsFlat}
 use Rattle.b2_virtual.specs.Ready.{IsReady}
 use Rattle.b2_virtual.proofs.JoinedStepsKeepTheirNumbers.{same_is_equal, found, stands, at_front, at_end, at_cases, distinct_joined}

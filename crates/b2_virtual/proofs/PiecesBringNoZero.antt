@@ -1,8 +1,8 @@
 -- Texts with no zero byte stay so when joined or cut: stems, suffixes, and segments of which each `..` becomes `up`.
-use Rattle.std.proofs.Common.{◌≡◌, ℕ, ◌<◌, Bool, true, false, cond, eqb, List, [], ◌∷◌, ◌++◌, Option, Some, None, map, lit<}
+use Rattle.std.proofs.Common.{ℕ, ◌<◌, true, false, cond, eqb, List, [], ◌∷◌, ◌++◌, Option, Some, None, map, lit<}
 use Rattle.std.specs.Prelude.{codes}
 use Rattle.std.specs.Option.{IfSome}
-use Rattle.std.specs.List.{AllByRecursion, slice_split, onto_first, join_with_byte, list_any, before_last}
+use Rattle.std.specs.List.{AllByRecursion, onto_first, join_with_byte, list_any, before_last}
 use Rattle.std.proofs.lemmas.List.Elements.{All-append, All-take, All-from_recursion, recursion_from_All}
 use Rattle.b2_base.specs.Bytes.{HasNoZero}
 use Rattle.b2_base.specs.Segments.{segments, is_up, without_suffix}

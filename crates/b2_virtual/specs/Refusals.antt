@@ -1,5 +1,5 @@
 -- What each refusal says.
-use Rattle.std.specs.Prelude.{◌≡◌, ℕ, false, List, ◌⊎◌, length}
+use Rattle.std.specs.Prelude.{◌≡◌, ℕ, false, List, length}
 use Rattle.b2_plan.specs.declared.step.Step.{Step}
 use Rattle.b2_virtual.specs.declared.fault.VirtualFault.{VirtualFault}
 use Rattle.b2_virtual.specs.declared.fault.VirtualFault.TheVariants.{PathClash, LocationOutside, TooManySteps, OutOfMemory}

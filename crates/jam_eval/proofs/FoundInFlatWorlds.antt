@@ -8,7 +8,7 @@ use Rattle.std.specs.FinMap as map
 use Rattle.jam_expand.specs.Limits.{within}
 use Rattle.jam_expand.specs.Expansions.{expansion}
 use Rattle.jam_grammar.specs.Trees as tree
-use Rattle.jam_grammar.specs.Trees.{ListTrees, InnerTree}
+use Rattle.jam_grammar.specs.Trees.{ListTrees}
 use Rattle.jam_journal.specs.Tables.{Text, Key, Table, key_cmp}
 use Rattle.jam_journal.specs.Scopes.{Value, Binding, look, bind_each, enter_call}
 use Rattle.jam_scope.specs.Rules.{Rule}

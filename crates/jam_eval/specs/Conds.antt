@@ -3,7 +3,7 @@ use Rattle.std.specs.Prelude.{ℕ, Bool, true, false, not, [], ◌∷◌, ◌&&�
 use Rattle.std.specs.List.{list_all, list_any}
 use Rattle.std.specs.Str.{bytes_eq}
 use Rattle.jam_grammar.specs.Trees as tree
-use Rattle.jam_grammar.specs.Trees.{ArgTree, ExprTree, ExprTrees}
+use Rattle.jam_grammar.specs.Trees.{ExprTree, ExprTrees}
 use Rattle.jam_journal.specs.Scopes.{Value}
 use Rattle.jam_eval.specs.Faults.{Spot}
 use Rattle.jam_eval.specs.States.{State}

@@ -6,7 +6,7 @@ use Rattle.b2_base.specs.Lists.{list_at, first_of}
 use Rattle.jam_grammar.specs.declared.tree.Sign.TheVariants as signs
 use Rattle.jam_grammar.specs.declared.tree.Param.{Param}
 use Rattle.jam_grammar.specs.Trees as tree
-use Rattle.jam_grammar.specs.Trees.{ArgTree, ArgTrees, ListTrees, FormTree, StmtTrees}
+use Rattle.jam_grammar.specs.Trees.{ArgTrees, ListTrees, FormTree, StmtTrees}
 use Rattle.jam_journal.specs.Tables.{Text}
 use Rattle.jam_journal.specs.Scopes.{Value, look}
 use Rattle.jam_scope.specs.Worlds.{Worlds}

@@ -3,7 +3,7 @@ use Rattle.std.proofs.Common.{◌≡◌, Bool, true, false, not, List, [], ◌�
 use Rattle.jam_grammar.specs.declared.tree.Arg.{Arg}
 use Rattle.jam_grammar.specs.declared.tree.Expr.{Expr}
 use Rattle.jam_grammar.specs.Trees as tree
-use Rattle.jam_grammar.specs.Trees.{ExprTree, expr_tree, exprs_tree, arg_tree, args_tree}
+use Rattle.jam_grammar.specs.Trees.{ExprTree, expr_tree, exprs_tree, arg_tree}
 use Rattle.jam_journal.specs.Scopes.{Value}
 use Rattle.jam_eval.specs.States.{State}
 use Rattle.jam_eval.specs.Settings.{Setting}

@@ -11,7 +11,7 @@ use Rattle.jam_grammar.specs.declared.tree.Stmt.{Stmt, out-Stmt}
 use Rattle.jam_grammar.specs.declared.tree.Sign.{Sign}
 use Rattle.jam_grammar.specs.declared.tree.Case.{Case}
 use Rattle.jam_grammar.specs.Trees as tree
-use Rattle.jam_grammar.specs.Trees.{StmtTrees, CaseTrees, args_tree, expr_tree, form_tree, block_tree, other_tree, stmts_tree, cases_tree}
+use Rattle.jam_grammar.specs.Trees.{StmtTrees, CaseTrees, form_tree, block_tree, other_tree, stmts_tree, cases_tree}
 use Rattle.jam_journal.specs.Tables.{Text}
 use Rattle.jam_journal.specs.Scopes.{Value, enter, leave, bind_each, assign}
 use Rattle.jam_scope.specs.Worlds.{Worlds}

@@ -1,4 +1,4 @@
-use Rattle.std.proofs.Common.{◌≡◌, true, List, length, get_or, Some, ap, sym, ◌∙◌, arith}
+use Rattle.std.proofs.Common.{◌≡◌, true, List, get_or, Some, ap, sym, ◌∙◌, arith}
 use Rattle.b2_plan.specs.declared.step.Step.{Step}
 use Rattle.b2_virtual.specs.Joining.{is_same}
 use Rattle.b2_virtual.proofs.JoinedStepsKeepTheirNumbers.{found_at}

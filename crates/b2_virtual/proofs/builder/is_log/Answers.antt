@@ -1,9 +1,9 @@
-use Rattle.std.proofs.Common.{◌≡◌, ◌≢◌, ◌⊎◌, inl, inr, codes, drop, List, ◌∷◌, ◌++◌, ℕ, sym, ◌∙◌}
+use Rattle.std.proofs.Common.{◌≡◌, ◌≢◌, inl, inr, codes, drop, List, ◌∷◌, ◌++◌, ℕ, sym, ◌∙◌}
 use Rattle.std.proofs.lemmas.Bool.{true≢false}
 use Rattle.std.proofs.lemmas.Bool.Decides.{Decides-eqb}
 use Rattle.std.proofs.lemmas.Slice.Eq.{bytes_eq-Decides, starts_is}
 use Rattle.std.proofs.lemmas.Str.Pattern.{starts_text}
-use Rattle.b2_base.specs.Normal.{IsNormal, IsUnder}
+use Rattle.b2_base.specs.Normal.{IsNormal}
 use Rattle.b2_host.specs.FileCalls.{log_path}
 use Rattle.b2_base.proofs.BeginningTellsWhatIsUnder.{under_on, on_under}
 use Rattle.b2_virtual.proofs.LogPathIsNormal.{normal_log, log_not_here, log_not_root}

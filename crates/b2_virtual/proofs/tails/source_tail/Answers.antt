@@ -1,4 +1,4 @@
-use Rattle.std.proofs.Common.{◌∙◌, List, ℕ, ap, sym, subst}
+use Rattle.std.proofs.Common.{◌∙◌, ap, sym, subst}
 use Rattle.b2_base.specs.Bytes.{HasNoZero}
 use Rattle.b2_virtual.proofs.PiecesBringNoZero.{clean_both, clean_root, clean_nothing, clean_ups}
 use Rattle.b2_virtual.proofs.tails.source_tail.Goals as goal

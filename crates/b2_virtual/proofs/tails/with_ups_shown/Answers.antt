@@ -1,4 +1,4 @@
-use Rattle.std.proofs.Common.{List, map, ap, ◌∙◌}
+use Rattle.std.proofs.Common.{map, ap, ◌∙◌}
 use Rattle.std.specs.List.{join_with_byte}
 use Rattle.b2_base.specs.Segments.{texts}
 use Rattle.b2_base.proofs.BothJoinsMakeOneText.{joined}

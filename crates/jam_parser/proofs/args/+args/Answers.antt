@@ -2,7 +2,7 @@ use Rattle.std.proofs.Common.{length-append, suc, ◌≡◌, ◌∷◌, [], ◌+
 use Rattle.std.proofs.lemmas.Result.{MatchResult-weaker, err_from_is_err_and}
 use Rattle.jam_grammar.specs.declared.mark.Mark.TheVariants as marks
 use Rattle.jam_grammar.specs.Spelling as spelling
-use Rattle.jam_grammar.specs.Spelling.{spell_inner, arg_syms, args_syms, lists_syms, inner_syms}
+use Rattle.jam_grammar.specs.Spelling.{spell_inner, arg_syms, inner_syms}
 use Rattle.jam_grammar.specs.Grammar.{OneArg, Args, More, OneInner, InnerTail, Shut, Key}
 use Rattle.jam_parser.proofs.ReadingsCompose.{chain, chain_fault, then_all, then_fault, composed, led, in_order, shut, shut_fault, takes_past, opens_past}
 use Rattle.jam_grammar.proofs.TreesAreThoseOfElements.{call_is, on_return_is}

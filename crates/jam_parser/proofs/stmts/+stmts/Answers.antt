@@ -3,7 +3,7 @@ use Rattle.std.proofs.lemmas.Result.{MatchResult-weaker, err_from_is_err_and}
 use Rattle.jam_grammar.specs.declared.mark.Mark.TheVariants as marks
 use Rattle.jam_grammar.specs.Trees.{params_of}
 use Rattle.jam_grammar.specs.Spelling as spelling
-use Rattle.jam_grammar.specs.Spelling.{spell_stmts, spell_form, arg_syms, block_syms, stmt_syms, stmts_syms, cases_syms, params_syms, braced}
+use Rattle.jam_grammar.specs.Spelling.{spell_stmts, spell_form, arg_syms, block_syms, stmt_syms, params_syms, braced}
 use Rattle.jam_grammar.specs.Grammar.{Stmts, OneStmt, OneBlock, OneExpr, OneElse, ElseTail, CaseBlock, Cases, OneWord, OneArg, Args, Params, Shut, Key}
 use Rattle.jam_grammar.proofs.TreesAreThoseOfElements.{block_is, switch_is}
 use Rattle.jam_parser.specs.Params.{params_read}

@@ -1,8 +1,8 @@
-use Rattle.std.proofs.Common.{◌≡◌, ◌⊎◌, inl, inr, List, ℕ, true, false, refl, sym, subst, ◌∙◌}
+use Rattle.std.proofs.Common.{◌⊎◌, inl, inr, List, ℕ, true, false, refl, sym, subst, ◌∙◌}
 use Rattle.std.proofs.lemmas.Bool.{true≢false}
 use Rattle.b2_plan.specs.declared.step.Step.{Step}
 use Rattle.b2_virtual.specs.Clashes.{Clashes}
-use Rattle.b2_virtual.specs.Spots.{GoesOn, ComesBefore, Numbers, spot}
+use Rattle.b2_virtual.specs.Spots.{GoesOn, ComesBefore, Numbers}
 use Rattle.b2_virtual.proofs.MapHoldsExactlyTheOutputs.{flat, goes_on_clash, before_clash, clash_by, own_clash, log_clash}
 use Rattle.b2_virtual.proofs.builder.Builder.clashes.Goals as goal
 

@@ -1,4 +1,4 @@
-use Rattle.std.proofs.Common.{◌≡◌, ℕ, ◌<◌, List, get_or, length, Some, sym, ap, ◌∙◌, subst, arith}
+use Rattle.std.proofs.Common.{◌≡◌, ℕ, ◌<◌, List, get_or, length, sym, ◌∙◌, subst, arith}
 use Rattle.b2_base.specs.Normal.{IsNormal}
 use Rattle.b2_plan.specs.declared.step.Step.{Step}
 use Rattle.b2_virtual.specs.Clashes.{Clashes}

@@ -1,7 +1,6 @@
-use Rattle.std.proofs.Common.{◌≡◌, List, ℕ, None, cond, ap, ◌∙◌, arith}
+use Rattle.std.proofs.Common.{List, ℕ, None, cond, ap, ◌∙◌, arith}
 use Rattle.std.specs.FinMap as map
 use Rattle.std.specs.Str.{bytes_eq}
-use Rattle.b2_virtual.specs.Spots.{Numbers}
 use Rattle.b2_virtual.proofs.OtherSpotsKeepTheirNumbers.{one_more}
 use Rattle.b2_virtual.proofs.spot_map.SpotMap.remove_all.Goals as goal
 

@@ -1,4 +1,4 @@
-use Rattle.std.proofs.Common.{[], ◌∷◌, None, option_map}
+use Rattle.std.proofs.Common.{[], ◌∷◌, option_map}
 use Rattle.jam_scope.specs.Lines.{line, in_each, dotted}
 use Rattle.jam_scope.proofs.ParentLinesAlwaysEnd.{found_first, found_later}
 use Rattle.jam_scope.proofs.world.finding.find.Goals as goal
