@@ -8,3 +8,4 @@ pub mod StepsLeadToOneEnd
 pub mod NormalFormIsOnlyEnd
 pub mod DecimalsLackSignAndPadding
 pub mod NamesAreCutAtLastSigns
+pub mod StableSortIsInsertionSort

@@ -1,7 +1,7 @@
 //! Paths in normal form.
 ghost use Rattle.std.specs.Prelude.{◌≡◌, ◌≢◌, ◌↔◌, ◌++◌, [], codes, IfOk, IsErrOf, IsTrue, string_bytes};
 ghost use Rattle.b2_base.specs.Bytes.{HasNoZero};
-ghost use Rattle.b2_base.specs.Segments.{normal_of, path_from, file_name, is_rooted, segments};
+ghost use Rattle.b2_base.specs.Segments.{here, normal_of, path_from, file_name, is_rooted, segments};
 ghost use Rattle.b2_base.specs.Normal.{IsNormal, IsUnder, parts};
 ghost use Rattle.b2_base.specs.Below.{is_below};
 ghost use Rattle.b2_base.specs.Simpler.{Reaches, IsSimplest, IsOnlyEnd};
@@ -97,6 +97,13 @@ pub fn path_of(alloc: Global, text: &str) -> Result<Path, OutOfMemory>
     } else {
         path_of_some(alloc, text)
     }
+}
+
+/// The directory that relative paths start from, which is `.`.
+pub fn folder(alloc: Global) -> Result<Path, OutOfMemory>
+    ensures { IfOk result (λ path. path ≡ here) }
+{
+    path_of_some(alloc, ".")
 }
 
 /// The path of two texts with a slash between them.

@@ -4,7 +4,7 @@ ghost use Rattle.b2_base.specs.Bytes.{HasNoZero};
 ghost use Rattle.b2_declarations.specs.Directories.{directory_before, directory_of};
 
 use b2_base::fault::OutOfMemory;
-use b2_base::path::{Path, path_from, path_of};
+use b2_base::path::{Path, folder, path_from};
 use b2_base::rooted::is_rooted;
 use b2_texts::cuts::cut_at;
 use std::alloc::Global;
@@ -15,7 +15,7 @@ fn directory_before(alloc: Global, owner: &Path, before: &str) -> Result<Option<
     ensures { IfOk result (λ dir. dir ≡ directory_before owner.now before.now) }
 {
     if before.is_empty() {
-        return Ok(Some(path_of(alloc, ".")?));
+        return Ok(Some(folder(alloc)?));
     }
     if is_rooted(before) {
         return Ok(None);

@@ -13,7 +13,8 @@ use Rattle.std.specs.Ordering.{ordering_reverse}
 use Rattle.std.specs.Str.{bytes_eq}
 use Rattle.b2_memory.specs.Results.{words_of, bytes_named, joined, hexadecimal, digest_line, input_text, by_path, made_by, made_of}
 use Rattle.b2_memory.specs.ResultLaws.{OrderIsFree}
-use Rattle.b2_memory.proofs.StableSortIsInsertionSort.{insert, sorted, insert-past, insert-here, below, below_ranks, map-sorted}
+use Rattle.b2_base.proofs.StableSortIsInsertionSort.{insert, sorted, insert-past, insert-here}
+use Rattle.b2_memory.proofs.SortingPutsInputsByPath.{below, below_ranks, map-sorted}
 
 -- ---- the order
 

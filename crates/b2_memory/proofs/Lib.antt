@@ -6,5 +6,5 @@ pub mod ChildWrites
 pub mod ChildEnds
 pub mod EqualPartsMakeEqualRecords
 pub mod CallsDoWhatHostsPromise
-mod StableSortIsInsertionSort
+mod SortingPutsInputsByPath
 mod InputOrderDoesNotMatter

@@ -1,22 +1,15 @@
 //! What an index tells of projects and main targets.
-ghost use Rattle.std.specs.Prelude.{◌≡◌, ◌<◌, Some, length, map, reverse, slice_get, IfOk, codes};
+ghost use Rattle.std.specs.Prelude.{◌≡◌, ◌<◌, Some, length, map, reverse, slice_get, IfOk};
 ghost use Rattle.std.specs.Option.{option_copied, option_and_then};
 ghost use Rattle.b2_references.specs.Names.{alternatives, lineage, default_build, dir_of, target_text, first_list};
 
 use crate::index::Index;
 use b2_base::fault::OutOfMemory;
-use b2_base::path::{Path, path_of};
+use b2_base::path::{Path, folder};
 use b2_base::text::Text;
 use b2_metatargets::place::{Place, Target};
 use b2_texts::completion::reference_to;
 use std::alloc::Global;
-
-/// The directory in which the program runs, to which all paths are relative: `.`.
-pub(crate) fn folder(alloc: Global) -> Result<Path, OutOfMemory>
-    ensures { IfOk result (λ path. path ≡ codes ".") }
-{
-    path_of(alloc, ".")
-}
 
 /// A project of a list, where it names one that is there.
 fn at<'a>(places: &'a [Place], project: Option<usize>) -> Option<&'a Place>

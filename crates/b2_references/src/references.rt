@@ -5,13 +5,12 @@ ghost use Rattle.b2_references.specs.declared.meaning.Meaning.TheVariants as mea
 ghost use Rattle.b2_references.specs.References.{project_before, target_meaning, reference_meaning, id_meaning, target_or_file, directory_meaning, plain_value_meaning, plain_word_meaning, source_meaning, value_meaning, word_meaning};
 
 use crate::index::Index;
-use crate::lookups::folder;
 use crate::meaning::Meaning;
 use crate::name::{NameList, TargetName};
 use crate::projects::project_meaning;
 use crate::written::cut_reference;
 use b2_base::fault::OutOfMemory;
-use b2_base::path::{Path, path_from};
+use b2_base::path::{Path, folder, path_from};
 use b2_base::rooted::is_rooted;
 use b2_base::text::Text;
 use std::alloc::Global;

@@ -16,7 +16,8 @@ use Rattle.jam_eval.specs.States.{State, with_world, with_scopes}
 use Rattle.jam_natives.specs.declared.decl.Decl.{Decl}
 use Rattle.jam_natives.specs.Keeping.{Kept}
 use Rattle.jam_natives.specs.Rows.{jam_meaning}
-use Rattle.b2_walk.specs.Directories.{here, way_to, project_files, seen, first_file, is_visited, visit_of, module_above}
+use Rattle.b2_walk.specs.Directories.{way_to, project_files, seen, first_file, is_visited, visit_of, module_above}
+use Rattle.b2_base.specs.Segments.{here}
 use Rattle.b2_walk.specs.Laws.{KeepsRecord, FilesKeepRecord, read_as, AreRecorded}
 use Rattle.b2_walk.specs.Walks.{Walk, Refusal, no_jamroot, no_jamfile, Course, goes_on, refused, and_then, prepared, run_project, after_run, visited, visit_file, visit_found, visit, visit_all, unless_visited, load_dir, load_root, no_walk, ComesTo, is_refused, is_whole, leads_on}
 use Rattle.b2_walk.specs.Calls.{call_of}

@@ -14,7 +14,8 @@ use Rattle.std.proofs.lemmas.Slice.Eq.{bytes_eq-Decides}
 use Rattle.std.proofs.lemmas.Map.Text.{is_eq-slice_cmp}
 use Rattle.b2_metatargets.specs.declared.visit.Visit.{Visit}
 use Rattle.jam_journal.specs.Tables.{Text}
-use Rattle.b2_walk.specs.Directories.{IsBefore, HaveParentsBefore, here, way_to, parent_of, place_after, place_of, is_visited, first_new, last_visited}
+use Rattle.b2_walk.specs.Directories.{IsBefore, HaveParentsBefore, way_to, parent_of, place_after, place_of, is_visited, first_new, last_visited}
+use Rattle.b2_base.specs.Segments.{here}
 use Rattle.b2_walk.specs.Indexing.{IsIndex}
 
 -- ---- a further project

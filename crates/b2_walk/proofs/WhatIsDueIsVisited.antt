@@ -14,7 +14,8 @@ use Rattle.b2_metatargets.specs.declared.visit.Visit.{Visit}
 use Rattle.b2_walk.specs.declared.walk.Walk.{Walk as Walking}
 use Rattle.b2_walk.specs.declared.fault.LoadFault.{LoadFault}
 use Rattle.b2_walk.specs.declared.fault.LoadFault.TheVariants as faults
-use Rattle.b2_walk.specs.Directories.{here, way_to, is_visited, first_new}
+use Rattle.b2_walk.specs.Directories.{way_to, is_visited, first_new}
+use Rattle.b2_base.specs.Segments.{here}
 use Rattle.b2_walk.specs.Finding.{CountsFault}
 use Rattle.b2_walk.specs.Faults.{refusal_of, refused_by, refused_of, IsOfWalk}
 use Rattle.b2_walk.specs.Walking.{walk_of, IsRefusedBy, AreVisited, AreAllVisited}

@@ -3,17 +3,13 @@ use Rattle.std.specs.Prelude.{◌≡◌, ◌<◌, ℕ, suc, Bool, List, [], ◌�
 use Rattle.std.specs.Option.{option_or, option_map}
 use Rattle.std.specs.List.{join_with_byte}
 use Rattle.std.specs.Str.{bytes_eq}
-use Rattle.b2_base.specs.Segments.{segments, normal_of, path_from}
+use Rattle.b2_base.specs.Segments.{here, segments, normal_of, path_from}
 use Rattle.b2_base.specs.Below.{is_below}
 use Rattle.b2_metatargets.specs.declared.visit.Visit.{Visit}
 use Rattle.jam_journal.specs.Tables.{Text}
 use Rattle.jam_scope.specs.Worlds.{World}
 use Rattle.jam_eval.specs.Settings.{Reading, is_missing}
 use Rattle.jam_eval.specs.Includes.{is_in_roots}
-
--- the folder itself, the directory of Jamroot
-abbrev pub here : Text
-here = codes "."
 
 -- ---- the way to a directory
 

@@ -17,7 +17,8 @@ use Rattle.jam_effects.specs.declared.turns.Turns.{Turns}
 use Rattle.jam_effects.specs.Machines.{folder_of}
 use Rattle.b2_walk.specs.declared.fault.LoadFault.{LoadFault}
 use Rattle.b2_walk.specs.declared.walk.Walk.{Walk as Walking}
-use Rattle.b2_walk.specs.Directories.{here, is_visited, first_new, visit_of}
+use Rattle.b2_walk.specs.Directories.{is_visited, first_new, visit_of}
+use Rattle.b2_base.specs.Segments.{here}
 use Rattle.b2_walk.specs.Faults.{refusal_of, refused_of}
 use Rattle.b2_walk.specs.Walks.{Walk, no_walk, Refusal, Course, goes_on, refused, RunsText, load_root, ComesTo}
 use Rattle.b2_walk.specs.Calls.{call_of, names_of}

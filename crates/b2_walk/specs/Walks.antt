@@ -18,7 +18,8 @@ use Rattle.jam_eval.specs.Eval.{run}
 use Rattle.jam_natives.specs.Keeping.{Kept}
 use Rattle.jam_values.specs.FileReadings.{ReadsAny}
 use Rattle.b2_walk.specs.Calls.{call_of, names_of}
-use Rattle.b2_walk.specs.Directories.{here, way_to, project_files, seen, first_file, is_visited, first_new, visit_of, module_above}
+use Rattle.b2_walk.specs.Directories.{way_to, project_files, seen, first_file, is_visited, first_new, visit_of, module_above}
+use Rattle.b2_base.specs.Segments.{here}
 
 -- The walk so far: the projects that were visited, in order; the calls of declaring rules that their files made, in order; the
 -- directories that these calls name, in order; and the world, the turns that are left, and what the natives keep.

@@ -3,22 +3,15 @@ ghost use Rattle.std.specs.Prelude.{◌≡◌, ◌∷◌, [], All, map, IfOk, st
 ghost use Rattle.std.specs.List.{join_with_byte};
 ghost use Rattle.std.specs.Str.{bytes_eq};
 ghost use Rattle.b2_base.specs.Bytes.{HasNoZero};
-ghost use Rattle.b2_base.specs.Segments.{texts};
-ghost use Rattle.b2_walk.specs.Directories.{here, beginnings, path_of, way_to, module_name, file_names};
+ghost use Rattle.b2_base.specs.Segments.{texts, here};
+ghost use Rattle.b2_walk.specs.Directories.{beginnings, path_of, way_to, module_name, file_names};
 
 use b2_base::fault::OutOfMemory;
-use b2_base::path::{Path, path_of};
+use b2_base::path::{Path, folder, path_of};
 use b2_base::path_list::PathList;
 use b2_base::segments::cut;
 use b2_base::text::Text;
 use std::alloc::Global;
-
-/// The folder itself.
-pub fn folder(alloc: Global) -> Result<Path, OutOfMemory>
-    ensures { IfOk result (λ path. path ≡ here) }
-{
-    path_of(alloc, ".")
-}
 
 /// Whether it is the folder itself. Takes no memory.
 fn is_folder(dir: &Path) -> bool

@@ -3,9 +3,9 @@ ghost use Rattle.std.specs.Prelude.{◌≡◌, ◌<◌, ◌^◌, ◌++◌, ◌�
 ghost use Rattle.std.specs.Option.{option_map, option_or};
 ghost use Rattle.b2_walk.specs.Directories.{place_of, is_visited, last_visited, parent_of, visit_of, module_above, IsBefore, HaveParentsBefore};
 
-use crate::directories::{folder, module_name, way_to};
+use crate::directories::{module_name, way_to};
 use b2_base::fault::OutOfMemory;
-use b2_base::path::Path;
+use b2_base::path::{Path, folder};
 use b2_base::text_map::TextMap;
 use b2_metatargets::visit::Visit;
 use std::alloc::Global;

@@ -9,7 +9,8 @@ use Rattle.jam_journal.specs.Scopes.{Value, Binding, Scopes, module_of, first_sc
 use Rattle.jam_scope.specs.declared.notes.StepNotes.{StepNotes}
 use Rattle.jam_scope.specs.Rules.{Rule}
 use Rattle.jam_scope.specs.Steps.{with_input, as_always, as_notfile}
-use Rattle.jam_scope.specs.Texts.{here, first_roots}
+use Rattle.jam_scope.specs.Texts.{first_roots}
+use Rattle.b2_base.specs.Segments.{here}
 use Rattle.jam_scope.specs.Worlds.{World, Worlds}
 
 -- the world at first: no frame, nothing in any module, no own value, the directory `.`, three roots that are not frozen, and

@@ -1,14 +1,11 @@
 //! The world of a running build file.
-ghost use Rattle.std.specs.Prelude.{◌≡◌, IfOk};
-ghost use Rattle.jam_scope.specs.Texts.{here};
-
 use crate::body::ActionBody;
 use crate::parents::Parents;
 use crate::roots::Roots;
 use crate::rule::Rule;
 use crate::steps::Steps;
 use b2_base::fault::OutOfMemory;
-use b2_base::path::{Path, path_of};
+use b2_base::path::{Path, folder};
 use jam_journal::past::Past;
 use jam_journal::past_lists::PastLists;
 use jam_journal::saved::Saved;
@@ -95,7 +92,7 @@ impl World {
         ensures { IfOk result (λ made. made ≡ first_worlds) }
     {
         let variables = Variables::new(alloc)?;
-        let place = first_place(alloc)?;
+        let place = folder(alloc)?;
         let roots = Roots::new(alloc)?;
         Ok(World {
             alloc,
@@ -110,11 +107,4 @@ impl World {
             steps: Steps::new(alloc),
         })
     }
-}
-
-/// The directory of the first world.
-fn first_place(alloc: Global) -> Result<Path, OutOfMemory>
-    ensures { IfOk result (λ made. made ≡ here) }
-{
-    path_of(alloc, ".")
 }

@@ -4,7 +4,7 @@ use Rattle.std.proofs.lemmas.Iterator.Consumers.{map_from_collect}
 use Rattle.std.proofs.lemmas.List.Sorted.{answers_always}
 use Rattle.std.proofs.lemmas.Result.{IfOk-at_ok}
 use Rattle.b2_files.specs.Stores.{input_of}
-use Rattle.b2_memory.proofs.StableSortIsInsertionSort.{below, below_ranks, held_in_order}
+use Rattle.b2_memory.proofs.SortingPutsInputsByPath.{below, below_ranks, held_in_order}
 use Rattle.b2_memory.proofs.made.sorted.Goals as goal
 
 pub returns : goal.returns

@@ -1,7 +1,7 @@
 use Rattle.std.proofs.Common.{◌≡◌, ◌++◌, length, Err, Some, None, sym, ap, ◌∙◌, subst, arith}
 use Rattle.std.proofs.lemmas.Result.{err_from_is_err_and}
 use Rattle.b2_declarations.specs.Directories.{directories}
-use Rattle.b2_walk.specs.Directories.{here}
+use Rattle.b2_base.specs.Segments.{here}
 use Rattle.b2_walk.specs.Walks.{Walk}
 use Rattle.b2_walk.specs.Doing.{stand, walked, Does}
 use Rattle.b2_walk.proofs.VisitsGrowByOne.{first_is_new}

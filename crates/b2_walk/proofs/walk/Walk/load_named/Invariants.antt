@@ -1,6 +1,6 @@
 use Rattle.std.proofs.Common.{◌≡◌, ◌-◌, ◌^◌, length}
 use Rattle.b2_declarations.specs.Directories.{directories}
-use Rattle.b2_walk.specs.Directories.{here}
+use Rattle.b2_base.specs.Segments.{here}
 use Rattle.b2_walk.specs.Doing.{stand, walked, ArePassed, Leads}
 use Rattle.b2_walk.proofs.walk.Walk.load_named.Given as goal
 

@@ -1,14 +1,9 @@
--- A stable sort gives what putting each element in its place gives.
-use Rattle.std.proofs.Common.{◌≡◌, ℕ, zero, suc, ◌<◌, ◌≤◌, Bool, true, false, cond, not, List, [], ◌∷◌, length, get_or, filter, map, is_lt, nat_cmp, refl, sym, ap, ◌∙◌, inl, inr, suc-le-suc, zero-le}
+-- A stable sort gives what putting each element in its place gives: two lists that rise and have the same ties are one.
+use Rattle.std.proofs.Common.{◌≡◌, ℕ, zero, suc, ◌<◌, ◌≤◌, Bool, true, false, cond, not, List, [], ◌∷◌, length, get_or, filter, refl, sym, ap, ◌∙◌, inl, inr, suc-le-suc, zero-le}
 use Rattle.std.proofs.lemmas.Bool.{cond-true, cond-false, cases_Bool, and_parts, not-true}
-use Rattle.std.proofs.lemmas.List.Sorted.{sorted_far, ranks_by}
+use Rattle.std.proofs.lemmas.List.Sorted.{sorted_far}
 use Rattle.std.specs.Cmp.{IsStrictWeakOrder}
-use Rattle.std.specs.Cmp.Lexicographic.{slice_cmp, nat_list_cmp_total}
 use Rattle.std.specs.List.Sorted.{IsSortedBy, IsStableBy, ties}
-use Rattle.std.specs.Borrow.{Bor}
-use Rattle.b2_files.specs.declared.entry.Entry.{Entry}
-use Rattle.b2_files.specs.Stores.{write_of, input_of}
-use Rattle.b2_memory.specs.Results.{put_by_path, by_path}
 
 filter-kept : {X : Type 0} (p : X → Bool) (y : X) (ys : List X) → p y ≡ true → filter p (y ∷ ys) ≡ y ∷ filter p ys
 filter-kept p y ys h = cond-true _ _ _ h
@@ -151,37 +146,3 @@ module _ {X : Type 0} {lt : X → X → Bool} (o : IsStrictWeakOrder lt) where
 
   pub sorted_is : (xs ys : List X) → IsSortedBy lt ys → IsStableBy lt xs ys → ys ≡ sorted lt xs
   sorted_is xs ys up stable = same_from_ties ys (sorted lt xs) (Rises-at ys (sorted_far lt o ys up)) (Rises-sorted xs) (λ x. stable x ∙ sym (filter-sorted x xs))
-
--- ---- elements that stand for inputs
-
-module _ {X : Type 0} (input : X → List ℕ × List ℕ) where
-  -- one has a path below the other's
-  abbrev pub below : X → X → Bool
-  below x y = is_lt (slice_cmp nat_cmp (input x).0 (input y).0)
-
-  pub below_ranks : IsStrictWeakOrder below
-  below_ranks = ranks_by nat_list_cmp_total (λ x. (input x).0)
-
-  map-insert : (x : X) (ys : List X) → map input (insert below x ys) ≡ put_by_path (input x) (map input ys)
-  map-insert x [] = refl
-  map-insert x (y ∷ ys) =
-      elim (below y x) as (λ b. map input (cond b (y ∷ insert below x ys) (x ∷ y ∷ ys)) ≡ cond b (input y ∷ put_by_path (input x) (map input ys)) (input x ∷ input y ∷ map input ys)) [
-        | true ↦ ap (λ l. input y ∷ l) (map-insert x ys)
-        | false ↦ refl
-      ]
-
-  pub map-sorted : (xs : List X) → map input (sorted below xs) ≡ by_path (map input xs)
-  map-sorted [] = refl
-  map-sorted (x ∷ xs) = map-insert x (sorted below xs) ∙ ap (put_by_path (input x)) (map-sorted xs)
-
-  -- what a stable sort by path leaves
-  pub by_path_from_sort : (xs ys : List X) → IsSortedBy below ys → IsStableBy below xs ys → map input ys ≡ by_path (map input xs)
-  by_path_from_sort xs ys up stable = ap (map input) (sorted_is below_ranks xs ys up stable) ∙ map-sorted xs
-
--- the inputs that were handed over, as what references point to, once a stable sort by path has moved the references
-pub held_in_order : (held : List Entry) (xs ys : List (Bor Entry)) → map (λ entry. entry.now) xs ≡ held → IsSortedBy (below input_of) ys → IsStableBy (below input_of) xs ys → map input_of ys ≡ by_path (map write_of held)
-held_in_order held xs ys is up stable = by_path_from_sort input_of xs ys up stable ∙ ap by_path (parts xs ∙ ap (map write_of) is)
-  where
-    parts : (xs : List (Bor Entry)) → map input_of xs ≡ map write_of (map (λ entry. entry.now) xs)
-    parts [] = refl
-    parts (x ∷ xs) = ap (λ l. input_of x ∷ l) (parts xs)
