@@ -37,10 +37,7 @@ impl Drop for Feature {
 }
 
 /// The same pairs, in order.
-pub fn copy_pairs(
-    alloc: Global,
-    pairs: &[(Text, Text)],
-) -> Result<Vec<(Text, Text)>, OutOfMemory>
+pub fn copy_pairs(alloc: Global, pairs: &[(Text, Text)]) -> Result<Vec<(Text, Text)>, OutOfMemory>
     ensures { IfOk result (λ made. made.items ≡ pairs.now) }
 {
     let mut made = Vec::new(alloc);

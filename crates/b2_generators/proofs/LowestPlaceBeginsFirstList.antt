@@ -7,7 +7,6 @@ use Rattle.std.specs.declared.cmp.Ordering.TheVariants.{Less, Equal}
 use Rattle.b2_base.specs.Bytes.{Before}
 use Rattle.b2_generators.specs.Descents.{IsFirst, IsOnly, AreFirst}
 
-
 -- after a place, what leads on are the lists from there
 pub record Follows (Has : List ℕ → Type 0) (count place : ℕ) (After : List ℕ → Type 0) : Type 0 where
   pub forth : (rest : List ℕ) → length rest ≡ count → Has (place ∷ rest) → After rest

@@ -12,7 +12,6 @@ use Rattle.b2_generators.specs.Descents.{Descends, CanGoOn, IsConnected, IsOnly,
 use Rattle.b2_generators.proofs.ShortestWaysAreChains.{chain_ends, shortest_from_least, shortest_length}
 use Rattle.b2_generators.proofs.TakenTypesAreOneFurther.{text_found, text_from, alone, alone_is, makes_parts, makes_from, next_least, first_in_layer}
 
-
 module _ (generators : List Generator) (set : List Pair) (end : List ℕ) where
   -- some generators lead from one of the types
   abbrev EndsFrom : List (List ℕ) → List ℕ → Type 0
