@@ -5,8 +5,6 @@ use Rattle.std.specs.List.{flat_map, filter, AllByRecursion}
 use Rattle.std.specs.Option.{option_map_or}
 use Rattle.std.proofs.lemmas.Option.{slice_get_within, get_or_from_slice_get}
 use Rattle.std.proofs.lemmas.List.Elements.{All-append, All-filter, All-from_recursion, recursion_from_All}
-use Rattle.b2_props.specs.declared.requirement.Requirement.{Requirement}
-use Rattle.b2_props.specs.declared.requirement.Requirement.TheVariants.{Plain, Indirect}
 use Rattle.b2_metatargets.specs.declared.place.Place.{Place}
 use Rattle.b2_metatargets.specs.declared.place.Target.{Target}
 use Rattle.b2_metatargets.specs.declared.whole.Declared.{Declared}
@@ -19,15 +17,6 @@ use Rattle.b2_alternatives.specs.Choosing.{requirements}
 -- what holds of all holds of one
 at_place : {X : Type 0} (P : X → Type 0) (xs : List X) (k : ℕ) (x : X) → All P xs → slice_get xs k ≡ Some x → P x
 at_place P xs k x all e = subst P (get_or_from_slice_get xs k x x e) (all k x (slice_get_within xs k x e))
-
--- ---- what asks names
-
-asks_by : (rules : ℕ) (r : Requirement) → NamesBelow rules r → AsksBelow rules r
-asks_by rules (Plain conditions property) is = tt
-asks_by rules (Indirect rule) is = is
-
-all_ask : (rules : ℕ) (rs : List Requirement) → All (NamesBelow rules) rs → All (AsksBelow rules) rs
-all_ask rules rs all = λ k d within. asks_by rules _ (all k d within)
 
 -- ---- projects
 
@@ -51,7 +40,7 @@ from_places rules places all = go places (recursion_from_All (λ (p : Place). Ar
   where
     go : (ps : List Place) → AllByRecursion (λ p. AreNumbered rules p.requirements p.usage) ps → All (AsksBelow rules) (flat_map (λ p. p.requirements) ps)
     go [] all = All-from_recursion (AsksBelow rules) [] tt
-    go (p ∷ ps) all = All-append (AsksBelow rules) p.requirements (flat_map (λ (q : Place). q.requirements) ps) (all_ask rules p.requirements all.0.below) (go ps all.1)
+    go (p ∷ ps) all = All-append (AsksBelow rules) p.requirements (flat_map (λ (q : Place). q.requirements) ps) all.0.below (go ps all.1)
 
 -- the requirements of an alternative ask none but the rules that there are
 pub requirements_ask : (d : Declared) (name : Name) (place : ℕ) (t : Target) → IsNumbered d → slice_get (alternatives d name) place ≡ Some t → All (AsksBelow (length d.indirect)) (requirements d t)
@@ -59,7 +48,7 @@ unfolding alternatives lineage
 requirements_ask d name place t is at =
     All-append (AsksBelow (length d.indirect)) (flat_map (λ (p : Place). p.requirements) (lineage d t.project)) t.requirements
     (from_places (length d.indirect) (lineage d t.project) (in_lineage (λ p. AreNumbered (length d.indirect) p.requirements p.usage) (length d.places) d.places t.project is.in_places))
-    (all_ask (length d.indirect) t.requirements own.below)
+    own.below
   where
     own : AreNumbered (length d.indirect) t.requirements t.usage
     own = at_place (λ (t : Target). AreNumbered (length d.indirect) t.requirements t.usage) (filter (λ t. is_same name (name_of t)) d.targets) place t
