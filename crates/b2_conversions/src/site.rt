@@ -5,7 +5,7 @@ use b2_declarations::declaration::Kind;
 use b2_props::props::Props;
 use b2_virtual::entry::Supply;
 
-/// What the steps of a main target are made from; all parts are borrowed.
+/// What making the steps of a main target reads of it and of its project.
 #[derive(Clone, Copy)]
 pub struct Site<'a> {
     pub kind: Kind,
