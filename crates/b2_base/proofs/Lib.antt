@@ -1,4 +1,5 @@
 pub mod MapsHoldWhatEntriesHold
+pub mod KeysAreTheSortedPaths
 pub mod BothJoinsMakeOneText
 pub mod NormalMakesNormalForms
 pub mod NormalFormsStay
@@ -6,6 +7,7 @@ pub mod BeginningTellsWhatIsUnder
 pub mod TestTellsWhatIsBelow
 pub mod StepsLeadToOneEnd
 pub mod NormalFormIsOnlyEnd
+pub mod SegmentsTellWhatIsNormal
 pub mod DecimalsLackSignAndPadding
 pub mod NamesAreCutAtLastSigns
 pub mod StableSortIsInsertionSort

@@ -65,7 +65,7 @@ dot_is_no_slash b h e = omega (arith, h, e)
 pub whole_dots : IsWhole two_dots
 whole_dots = (dot_is_no_slash 46 refl, (dot_is_no_slash 46 refl, tt))
 
-whole_all : (ups : ℕ) (names : List (List ℕ)) → AllByRecursion IsName names → AllByRecursion IsWhole (replicate ups two_dots ++ names)
+pub whole_all : (ups : ℕ) (names : List (List ℕ)) → AllByRecursion IsName names → AllByRecursion IsWhole (replicate ups two_dots ++ names)
 whole_all zero names a = whole_names names a
 whole_all (suc n) names a = (whole_dots, whole_all n names a)
 

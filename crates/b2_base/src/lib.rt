@@ -1,4 +1,4 @@
-//! Texts, paths, tokens and maps from texts, and how many texts a call's lists have, each seen by contracts as the value that it stands for.
+//! Texts, paths, tokens and maps from texts and paths, and how many texts a call's lists have, each seen by contracts as the value that it stands for.
 #![tactic(auto)]
 
 pub mod decimal;
@@ -9,6 +9,7 @@ pub mod list;
 pub mod look;
 pub mod path;
 pub mod path_list;
+pub mod path_map;
 pub mod rooted;
 pub mod segments;
 pub mod shape;

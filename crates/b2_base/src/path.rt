@@ -1,5 +1,5 @@
 //! Paths in normal form.
-ghost use Rattle.std.specs.Prelude.{◌≡◌, ◌≢◌, ◌↔◌, ◌++◌, [], codes, IfOk, IsErrOf, IsTrue, string_bytes};
+ghost use Rattle.std.specs.Prelude.{◌≡◌, ◌≢◌, ◌↔◌, ◌++◌, [], codes, IfOk, IfSome, IsErrOf, IsSome, IsTrue, string_bytes};
 ghost use Rattle.b2_base.specs.Bytes.{HasNoZero};
 ghost use Rattle.b2_base.specs.Segments.{here, normal_of, path_from, file_name, is_rooted, segments};
 ghost use Rattle.b2_base.specs.Normal.{IsNormal, IsUnder, parts};
@@ -8,11 +8,12 @@ ghost use Rattle.b2_base.specs.Simpler.{Reaches, IsSimplest, IsOnlyEnd};
 
 use crate::fault::OutOfMemory;
 use crate::rooted::is_rooted;
-use crate::segments::{cut, file_name, is_below, join, keep};
+use crate::segments::{cut, file_name, is_below, is_normal, join, keep};
 use crate::text::{Text, has_no_zero};
 use std::alloc::Global;
 use std::cmp::Ordering;
 use std::marker::Model;
+use std::rc::Rc;
 use thiserror::Error;
 
 /// Why a text is no path.
@@ -40,10 +41,10 @@ impl From<OutOfMemory> for PathFault {
 }
 
 /// A path in normal form, seen as its bytes: `.`, `/`, or some `..` and then names, joined by slashes. An absolute path
-/// begins with a slash and has no `..`. Paths are ordered by their bytes.
+/// begins with a slash and has no `..`. Paths are ordered by their bytes. The copies of a path share its text.
 #[derive(Debug)]
 pub struct Path {
-    text: Text,
+    text: Rc<Text>,
 }
 
 /// By hand, so that dropping one is one call.
@@ -60,9 +61,9 @@ impl Model for Path {
 
     ghost Value = { List ℕ };
 
-    ghost view = { λ p. p.text };
+    ghost view = { λ p. p.text.value };
 
-    ghost invariant = { λ p. IsNormal p.text };
+    ghost invariant = { λ p. IsNormal p.text.value };
 }
 
 fn normal_text(alloc: Global, text: &str) -> Result<String, OutOfMemory>
@@ -153,14 +154,36 @@ impl Path {
             return Err(PathFault::Nul);
         }
         let text = Text::from_string(normal_text(alloc, text)?);
+        Ok(Path::of_normal(alloc, text)?)
+    }
+
+    /// The path that a text in normal form is.
+    fn of_normal(alloc: Global, text: Text) -> Result<Path, OutOfMemory>
+        requires { IsNormal text }
+        ensures { IfOk result (λ path. path ≡ text) }
+    {
+        let text = Rc::new(alloc, text)?;
         Ok(Path { text })
     }
 
-    /// The same path.
+    /// The path with exactly this text, which it takes over. Answers None exactly where the text is not in normal form. Reads
+    /// the text once, and takes memory for its shared count alone.
+    pub fn from_text(alloc: Global, text: Text) -> Result<Option<Path>, OutOfMemory>
+        ensures exact { IfOk result (λ found. IfSome found (λ path. path ≡ text)) }
+        ensures normal { IfOk result (λ found. IsSome found ↔ IsNormal text) }
+    {
+        if is_normal(text.as_str()) {
+            Ok(Some(Path::of_normal(alloc, text)?))
+        } else {
+            Ok(None)
+        }
+    }
+
+    /// The same path again, whose text is shared; takes no memory.
     pub fn copy(&self) -> Result<Path, OutOfMemory>
         ensures { IfOk result (λ made. made ≡ self.now) }
     {
-        let text = self.text.copy()?;
+        let text = self.text.clone()?;
         Ok(Path { text })
     }
 
@@ -196,7 +219,7 @@ impl Path {
         ensures exact { result ≡ is_below self.now dir.now }
         ensures under { IsTrue result ↔ IsUnder self.now dir.now }
     {
-        is_below(self.text.as_str(), dir.text.as_str())
+        is_below(self.as_str(), dir.as_str())
     }
 }
 

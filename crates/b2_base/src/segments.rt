@@ -1,7 +1,8 @@
 //! A path's segments: cut at slashes, brought into normal form, and joined again.
 ghost use Rattle.std.specs.Prelude.{◌≡◌, ◌↔◌, ℕ, List, ◌∷◌, ◌++◌, codes, IfOk, IsTrue, OnOk, string_bytes};
+ghost use Rattle.std.specs.List.{list_all};
 ghost use Rattle.b2_base.specs.Normal.{IsNormal, IsUnder, first_part};
-ghost use Rattle.b2_base.specs.Segments.{segments, file_name, is_dropped, is_up, step, kept, written, texts, stack};
+ghost use Rattle.b2_base.specs.Segments.{segments, file_name, is_dropped, is_up, is_name, after_ups, step, kept, written, texts, stack};
 
 use crate::fault::OutOfMemory;
 use crate::rooted::is_rooted;
@@ -80,6 +81,38 @@ pub(crate) fn join(alloc: Global, rooted: bool, found: &[&str]) -> Result<String
         return Ok(String::from_str(alloc, ".")?);
     }
     Ok(names)
+}
+
+fn is_name(segment: &str) -> bool
+    ensures { result ≡ is_name segment.now }
+{
+    !is_dropped_segment(segment) && !is_up_segment(segment)
+}
+
+/// Whether each segment of a text is a name.
+fn are_names(text: &str) -> bool
+    ensures { result ≡ list_all is_name (segments text.now) }
+{
+    text.split('/').all(|segment| is_name(segment))
+}
+
+/// Whether each segment of a text is a name, but for some `..` that stand before all names.
+fn are_ups_and_names(text: &str) -> bool
+    ensures { result ≡ list_all is_name (after_ups (segments text.now)) }
+{
+    text.split('/')
+        .skip_while(|segment| is_up_segment(segment))
+        .all(|segment| is_name(segment))
+}
+
+/// Whether a text is in normal form. Reads it once, and takes no memory.
+pub fn is_normal(text: &str) -> bool
+    ensures { IsTrue result ↔ IsNormal text.now }
+{
+    match text.strip_prefix('/') {
+        Some(names) => names.is_empty() || are_names(names),
+        None => text == "." || are_ups_and_names(text),
+    }
 }
 
 /// The file's name in a path: what stands after the last slash. Takes no memory.

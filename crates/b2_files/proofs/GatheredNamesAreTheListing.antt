@@ -18,7 +18,7 @@ use Rattle.std.proofs.lemmas.Map.Keys.{Less-from_sorted, sorted_tail}
 use Rattle.std.proofs.lemmas.Slice.Eq.{bytes_eq-Decides}
 use Rattle.b2_host.specs.Disks.{File, Folder}
 use Rattle.b2_host.specs.Listings.{IsDirectlyIn, IsListed}
-use Rattle.b2_files.specs.Keys.{AreKeys}
+use Rattle.b2_base.specs.Keys.{AreKeys}
 use Rattle.b2_files.specs.Names.{IsNameIn, lead_in, AddsName, Gathered}
 use Rattle.b2_files.specs.Stores.{Write, PlaceMap, is_known, file_at, standing}
 

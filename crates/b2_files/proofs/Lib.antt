@@ -1,4 +1,3 @@
-pub mod KeysAreTheSortedPaths
 pub mod NameIsRestWithoutSlash
 pub mod GatheredNamesAreTheListing
 pub mod PlacedWriteIsWhatStands

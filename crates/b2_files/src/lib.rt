@@ -5,7 +5,6 @@
 pub mod contents;
 pub mod entry;
 mod names;
-mod path_map;
 pub mod places;
 pub mod store;
 pub mod version;

@@ -2,12 +2,12 @@
 ghost use Rattle.std.specs.Prelude.{◌≡◌, ℕ, List, [], IsTrue, IfOk, OnOk};
 ghost use Rattle.std.specs.FinMap as map;
 ghost use Rattle.b2_base.specs.Segments.{texts};
-ghost use Rattle.b2_files.specs.Keys.{AreKeys};
+ghost use Rattle.b2_base.specs.Keys.{AreKeys};
 ghost use Rattle.b2_files.specs.Stores.{place_of, is_known, place_set};
 
-use crate::path_map::PathMap;
 use b2_base::fault::OutOfMemory;
 use b2_base::path::Path;
+use b2_base::path_map::PathMap;
 use std::alloc::Global;
 use std::marker::Model;
 

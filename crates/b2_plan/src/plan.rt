@@ -8,7 +8,7 @@ use crate::step::StepList;
 use b2_base::fault::OutOfMemory;
 use b2_base::path::Path;
 use b2_base::path_list::PathList;
-use b2_base::text_map::TextMap;
+use b2_base::path_map::PathMap;
 use std::alloc::Global;
 
 /// What is to be built: the steps in order, the wanted files, and the output roots.
@@ -16,7 +16,7 @@ pub struct Plan {
     pub steps: StepList,
     pub wanted: PathList,
     pub roots: PathList,
-    makers: TextMap<u32>,
+    makers: PathMap<u32>,
     ghost makers_are: { (path : List ℕ) → map.get makers path ≡ maker_of steps path },
 }
 
@@ -65,6 +65,6 @@ impl Plan {
     pub fn maker(&self, path: &Path) -> Option<u32>
         ensures { result ≡ maker_of self.now.steps path.now }
     {
-        self.makers.get(path.as_text()).copied()
+        self.makers.get(path).copied()
     }
 }

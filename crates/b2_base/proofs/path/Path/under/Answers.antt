@@ -6,4 +6,4 @@ use Rattle.b2_base.proofs.path.Path.under.Goals as goal
 pub returns-clause-exact : goal.returns-clause-exact
 returns-clause-exact c =
     below_is c.is_below.result c.as_str.result.now c.as_str-2.result.now c.is_below.ensures
-    ∙ ap₂ is_below (c.as_str.ensures.value ∙ c.self.view_is) (c.as_str-2.ensures.value ∙ c.dir.view_is)
+    ∙ ap₂ is_below c.as_str.ensures.value c.as_str-2.ensures.value

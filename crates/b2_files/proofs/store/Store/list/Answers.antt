@@ -3,7 +3,7 @@ use Rattle.std.specs.List.Sorted.{IsStrictlySortedBy}
 use Rattle.std.specs.Ordering.{nat_cmp}
 use Rattle.std.specs.Cmp.Lexicographic.{slice_cmp}
 use Rattle.b2_base.specs.Segments.{texts}
-use Rattle.b2_files.specs.Keys.{AreKeys}
+use Rattle.b2_base.specs.Keys.{AreKeys}
 use Rattle.b2_files.specs.Stores.{is_known}
 use Rattle.b2_files.specs.StoreDisks.{writes_told}
 use Rattle.b2_files.proofs.GatheredNamesAreTheListing.{all_listed}

@@ -10,7 +10,7 @@ use Rattle.std.specs.List.Sorted.{IsStrictlySortedBy}
 use Rattle.std.specs.Str.{bytes_eq}
 use Rattle.std.proofs.lemmas.Map.Text.{is_eq-slice_cmp}
 use Rattle.b2_base.proofs.MapsHoldWhatEntriesHold.{get_text}
-use Rattle.b2_files.specs.Keys.{AreKeys}
+use Rattle.b2_base.specs.Keys.{AreKeys}
 
 -- a test by order is one by bytes
 same_test : (path : List ℕ) (keys : List (List ℕ)) → list_any (eq_by_cmp (slice_cmp nat_cmp) path) keys ≡ list_any (bytes_eq path) keys

@@ -1,8 +1,8 @@
 use Rattle.std.proofs.Common.{is_some, ap, sym, ◌∙◌}
 use Rattle.std.specs.Option.{option_copied_mut}
 use Rattle.b2_base.proofs.MapsHoldWhatEntriesHold.{set_found, set_absent}
-use Rattle.b2_files.proofs.path_map.PathMap.set.Goals as goal
-use Rattle.b2_files.proofs.path_map.PathMap.set.Goals.{in-Some, in_default}
+use Rattle.b2_base.proofs.path_map.PathMap.set.Goals as goal
+use Rattle.b2_base.proofs.path_map.PathMap.set.Goals.{in-Some, in_default}
 
 pub returns : goal.returns
 returns g c = elim c.match-get_mut.branch [

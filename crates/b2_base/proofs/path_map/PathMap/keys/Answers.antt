@@ -5,8 +5,8 @@ use Rattle.std.specs.List.Sorted.{IsStrictlySortedBy}
 use Rattle.std.proofs.lemmas.Iterator.Consumers.{map_from_collect, YieldsList-from_rest}
 use Rattle.std.proofs.lemmas.Result.{IfOk-at_ok}
 use Rattle.b2_base.specs.Segments.{texts}
-use Rattle.b2_files.proofs.KeysAreTheSortedPaths.{keys_are}
-use Rattle.b2_files.proofs.path_map.PathMap.keys.Goals as goal
+use Rattle.b2_base.proofs.KeysAreTheSortedPaths.{keys_are}
+use Rattle.b2_base.proofs.path_map.PathMap.keys.Goals as goal
 
 pub returns : goal.returns
 returns g c =

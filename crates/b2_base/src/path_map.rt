@@ -1,12 +1,12 @@
 //! A map from paths.
-ghost use Rattle.std.specs.Prelude.{◌≡◌, is_some, IfOk, OnOk, OnErr, [], if◌then◌else◌};
+ghost use Rattle.std.specs.Prelude.{◌≡◌, is_some, IfOk, OnOk, OnErr, [], None, if◌then◌else◌};
 ghost use Rattle.std.specs.Option.{option_copied};
 ghost use Rattle.std.specs.FinMap as map;
 ghost use Rattle.b2_base.specs.Segments.{texts};
-ghost use Rattle.b2_files.specs.Keys.{AreKeys};
+ghost use Rattle.b2_base.specs.Keys.{AreKeys};
 
-use b2_base::fault::OutOfMemory;
-use b2_base::path::Path;
+use crate::fault::OutOfMemory;
+use crate::path::Path;
 use std::alloc::Global;
 use std::collections::BTreeMap;
 use std::marker::Model;
@@ -54,10 +54,13 @@ impl<V: Drop> PathMap<V> {
         self.values.get(path)
     }
 
-    /// Gives a path a value, and answers the one before. After an error the map is as before.
+    /// Gives a path a value, and answers the one before. After an error the map is as before, and the path had none:
+    /// a path that has a value takes no memory.
     pub fn insert(&mut self, path: Path, value: V) -> Result<Option<V>, OutOfMemory>
+        ensures before { IfOk result (λ before. before ≡ map.get self.old path) }
         ensures ok { OnOk result (self.new ≡ map.insert self.old path value) }
         ensures err { OnErr result (self.new ≡ self.old) }
+        ensures absent { OnErr result (map.get self.old path ≡ None) }
     {
         Ok(self.values.insert(path, value)?)
     }
