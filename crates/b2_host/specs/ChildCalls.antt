@@ -1,4 +1,4 @@
-use Rattle.std.specs.Prelude.{◌≡◌, ℕ, List, Bool, Result, Ok, Err}
+use Rattle.std.specs.Prelude.{◌≡◌, ℕ, List, Bool, true, false, Result, Ok, Err}
 use Rattle.b2_host.specs.declared.fault.Failed.{Failed}
 use Rattle.b2_host.specs.declared.fault.IoFault.{IoFault}
 use Rattle.b2_host.specs.declared.fault.IoFault.TheVariants as faults
@@ -16,13 +16,17 @@ Starts step text ins outs before after (Ok x) = after ≡ started step text ins 
 Starts step text ins outs before after (Err faults.Failed) = Fails before after
 Starts step text ins outs before after (Err faults.OutOfMemory) = after ≡ before
 
--- One of the children that ran has ended. All that it and the others did is in the files and the child processes.
+-- One of the children that ran has ended, well where none may end badly. All that it and the others did is in the files and
+-- the child processes.
 pub record Awaits (made : List ℕ → List (List ℕ × List ℕ) → List ℕ → List ℕ) (before : Outside) (step : ℕ) (well : Bool) (after : Outside) : Type 0 where
   pub ended : Ends made before.children before.disk step well after.children after.disk
+  pub ends_well : before.risks.may_end_badly ≡ false → well ≡ true
   pub same : after ≡ record before { disk = after.disk; children = after.children }
 
--- A wait failed: both counts rose, the same children run, and they may have written on.
+-- A wait failed, where calls and waits may: both counts rose, the same children run, and they may have written on.
 pub record AwaitFails (before after : Outside) : Type 0 where
+  pub may_fail : before.risks.may_fail ≡ true
+  pub wait_may_fail : before.risks.wait_may_fail ≡ true
   pub rose : Rose before.faults after.faults
   pub waits : Rose before.failed_waits after.failed_waits
   pub worked : BothTold (ChangesOnlyOutputs before.children.running) before.disk after.disk

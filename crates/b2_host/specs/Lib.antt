@@ -4,6 +4,9 @@ pub mod ChildProcesses
 pub mod Outside
 pub mod OutsideLaws
 pub mod FileCalls
+pub mod ReadsAdded
+pub mod LogChanges
 pub mod Listings
 pub mod ChildCalls
 pub mod Output
+pub mod OutputLaws

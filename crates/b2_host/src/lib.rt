@@ -4,4 +4,5 @@
 pub mod children;
 pub mod fault;
 pub mod files;
+pub mod log_file;
 pub mod sink;
