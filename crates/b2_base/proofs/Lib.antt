@@ -9,5 +9,6 @@ pub mod StepsLeadToOneEnd
 pub mod NormalFormIsOnlyEnd
 pub mod SegmentsTellWhatIsNormal
 pub mod DecimalsLackSignAndPadding
+pub mod DigitsGrowByOneByte
 pub mod NamesAreCutAtLastSigns
 pub mod StableSortIsInsertionSort

@@ -4,6 +4,7 @@
 pub mod decimal;
 pub mod expand_fault;
 pub mod fault;
+pub mod hexadecimal;
 pub mod laws;
 pub mod list;
 pub mod look;
