@@ -21,10 +21,10 @@ use Rattle.b2_memory.proofs.ChildWrites.{is_in, in_contains, paths_of, other_pat
 -- ---- the first of several
 
 -- for any type: in a type of many parts the same takes seconds
-first_is : {X : Type 0} (x : X) (xs : List X) (y : X) → slice_get (x ∷ xs) 0 ≡ Some y → x ≡ y
+pub first_is : {X : Type 0} (x : X) (xs : List X) (y : X) → slice_get (x ∷ xs) 0 ≡ Some y → x ≡ y
 first_is x xs y e = cc
 
-none_is : {X : Type 0} (k : ℕ) (y : X) → slice_get [] k ≡ Some y → ⊥
+pub none_is : {X : Type 0} (k : ℕ) (y : X) → slice_get [] k ≡ Some y → ⊥
 none_is k y e = cc
 
 -- ---- what is promised is known

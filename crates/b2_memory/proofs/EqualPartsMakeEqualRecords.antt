@@ -3,8 +3,9 @@ use Rattle.std.proofs.Common.{◌≡◌, ℕ, Bool, List, length, Option, refl, 
 use Rattle.b2_host.specs.declared.children.ChildEvent.{ChildEvent}
 use Rattle.b2_host.specs.Disks.{Disk}
 use Rattle.b2_host.specs.ChildProcesses.{Given, Child, Family}
-use Rattle.b2_memory.specs.Scripts.{Listed, nothing_listed}
-use Rattle.b2_memory.specs.Memories.{Memory, AllEnded, Reopens}
+use Rattle.b2_host.specs.Outside.{Risks}
+use Rattle.b2_memory.specs.Scripts.{Listed, nothing_listed, no_risks}
+use Rattle.b2_memory.specs.Memories.{Memory, with_listed, with_risks, AllEnded, Reopens}
 
 -- records whose parts are equal
 
@@ -18,11 +19,14 @@ same_memory m d e c k f g x y z =
     ∙ ap (λ v. record m { outside = record m.outside { disk = e; children = v }; ends_well = f }) y
     ∙ ap (λ v. record m { outside = record m.outside { disk = e; children = k }; ends_well = v }) z
 
-pub same_listed : (m : Memory) (f g : ℕ) (l k : Listed) → f ≡ g → l ≡ k → ◌≡◌ {A = Memory} (record m { outside = record m.outside { faults = f }; listed = l }) (record m { outside = record m.outside { faults = g }; listed = k })
-same_listed m f g l k a b = ap (λ v. record m { outside = record m.outside { faults = v }; listed = l }) a ∙ ap (λ v. record m { outside = record m.outside { faults = g }; listed = v }) b
+pub same_listed : (m : Memory) (f g : ℕ) (r s : Risks) (l k : Listed) → f ≡ g → r ≡ s → l ≡ k → ◌≡◌ {A = Memory} (record m { outside = record m.outside { faults = f; risks = r }; listed = l }) (record m { outside = record m.outside { faults = g; risks = s }; listed = k })
+same_listed m f g r s l k a b c =
+    ap (λ v. record m { outside = record m.outside { faults = v; risks = r }; listed = l }) a
+    ∙ ap (λ v. record m { outside = record m.outside { faults = g; risks = v }; listed = l }) b
+    ∙ ap (λ v. record m { outside = record m.outside { faults = g; risks = s }; listed = v }) c
 
--- all children have ended, and nothing is listed
-pub reopens : (before drained after : Memory) (n m : ℕ) → n ≡ length before.outside.children.running → m ≡ 0 → ((last : Memory) → AllEnded m drained last → AllEnded n before last) → after ≡ record drained { listed = nothing_listed } → Reopens before after
+-- all children have ended; nothing is listed, and nothing may go wrong
+pub reopens : (before drained after : Memory) (n m : ℕ) → n ≡ length before.outside.children.running → m ≡ 0 → ((last : Memory) → AllEnded m drained last → AllEnded n before last) → after ≡ with_risks (λ risks. no_risks) (with_listed (λ listed. nothing_listed) drained) → Reopens before after
 reopens before drained after n m e none ends same = record {
   drained = drained;
   ended = subst (λ k. AllEnded k before drained) e (ends drained (subst (λ k. AllEnded k drained drained) (sym none) refl));

@@ -8,7 +8,7 @@ use Rattle.b2_files.specs.declared.version.Version.{Version}
 use Rattle.b2_memory.specs.Families.{child_with}
 use Rattle.b2_memory.specs.Jobs.{given_of}
 use Rattle.b2_memory.specs.NotedReads.{noted_reads}
-use Rattle.b2_memory.specs.Listings.{listed_of}
+use Rattle.b2_memory.specs.Listings.{listed_of, risks_told}
 use Rattle.b2_memory.specs.Memories.{Memory}
 use Rattle.b2_memory.specs.declared.child_table.ChildTable.{ChildTable}
 use Rattle.b2_memory.specs.declared.memory.MemoryHost.{MemoryHost}
@@ -42,6 +42,7 @@ told_outside host = record {
   children = family_of host.child_table;
   faults = host.script.faults;
   failed_waits = host.failed_waits;
+  risks = risks_told host.script;
 }
 
 -- all that a host in memory is

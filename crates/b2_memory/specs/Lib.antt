@@ -7,6 +7,7 @@ pub mod Listings
 pub mod Families
 pub mod Jobs
 pub mod PendingWrites
+pub mod GoodEnds
 pub mod ReadNotes
 pub mod NotedReads
 pub mod Memories

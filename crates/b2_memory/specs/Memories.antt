@@ -7,14 +7,14 @@ use Rattle.b2_host.specs.declared.fault.IoFault.TheVariants as faults
 use Rattle.b2_host.specs.declared.children.ChildEvent.TheVariants as events
 use Rattle.b2_host.specs.Disks.{Disk}
 use Rattle.b2_host.specs.ChildProcesses.{Given, Family}
-use Rattle.b2_host.specs.Outside.{Outside}
+use Rattle.b2_host.specs.Outside.{Outside, Risks}
 use Rattle.b2_host.specs.FileCalls.{after_read, removed, with_piece}
 use Rattle.b2_host.specs.ChildCalls.{started}
 use Rattle.b2_files.specs.Writes.{written, all_written, edited, blank}
 use Rattle.b2_memory.specs.declared.script.CallKind.{CallKind}
 use Rattle.b2_memory.specs.declared.script.CallKind.TheVariants as kinds
 use Rattle.b2_memory.specs.Families.{child_with, admitted}
-use Rattle.b2_memory.specs.Scripts.{Listed, nothing_listed, is_to_fail, listed_after, is_bad, starts_after, place_picked, picked, left_of, raised}
+use Rattle.b2_memory.specs.Scripts.{Listed, nothing_listed, is_to_fail, listed_after, is_bad, starts_after, place_picked, picked, left_of, raised, with_calls, with_starts, no_risks, risks_of, risks_with_calls, risks_with_starts, risks_with_fuse}
 use Rattle.b2_memory.specs.ChildWrites.{writes_of}
 
 -- All that a host in memory is: the outside that it tells; what it was told to do; and whether each child that runs is to
@@ -27,7 +27,7 @@ pub record Memory : Type 0 where
 -- a host without files, children, reads and faults, which was told nothing
 abbrev pub new_memory : Memory
 new_memory = record {
-  outside = record { disk = Some blank; reads = Some []; children = record { running = []; events = []; given = Some [] }; faults = 0; failed_waits = 0 };
+  outside = record { disk = Some blank; reads = Some []; children = record { running = []; events = []; given = Some [] }; faults = 0; failed_waits = 0; risks = no_risks };
   listed = nothing_listed;
   ends_well = [];
 }
@@ -40,8 +40,23 @@ with_disk change memory = record memory { outside = record memory.outside { disk
 abbrev pub with_listed : (Listed → Listed) → Memory → Memory
 with_listed change memory = record memory { listed = change memory.listed }
 
-abbrev pub with_fuse : ℕ → Listed → Listed
-with_fuse calls listed = record listed { fuse = Some calls }
+-- the host with other risks
+abbrev pub with_risks : (Risks → Risks) → Memory → Memory
+with_risks change memory = record memory { outside = record memory.outside { risks = change memory.outside.risks } }
+
+-- the host that was told of calls that are to fail, of starts that are to end badly, or of a fuse
+abbrev pub told_calls : List (CallKind × ℕ) → Memory → Memory
+told_calls more memory = with_risks (risks_with_calls more) (with_listed (with_calls more) memory)
+
+abbrev pub told_starts : List ℕ → Memory → Memory
+told_starts more memory = with_risks (risks_with_starts more) (with_listed (with_starts more) memory)
+
+abbrev pub told_fuse : ℕ → Memory → Memory
+told_fuse calls memory = with_risks risks_with_fuse (with_listed (λ listed. record listed { fuse = Some calls }) memory)
+
+-- what may go wrong is what is still listed
+abbrev pub renewed : Memory → Memory
+renewed memory = with_risks (λ risks. risks_of memory.listed) memory
 
 abbrev pub with_tear : ℕ → Listed → Listed
 with_tear bytes listed = record listed { tear = bytes }
@@ -173,8 +188,8 @@ abbrev pub AllEnded : ℕ → Memory → Memory → Type 0
 AllEnded zero before after = after ≡ before
 AllEnded (suc count) before after = (step : ℕ) × (well : Bool) × (next : Memory) × Ended 0 before step well next × AllEnded count next after
 
--- all children that ran have ended, in order of start, and nothing is listed
+-- all children that ran have ended, in order of start; nothing is listed, and nothing may go wrong
 pub record Reopens (before after : Memory) : Type 0 where
   pub drained : Memory
   pub ended : AllEnded (length before.outside.children.running) before drained
-  pub rest : after ≡ record drained { listed = nothing_listed }
+  pub rest : after ≡ with_risks (λ risks. no_risks) (with_listed (λ listed. nothing_listed) drained)

@@ -1,6 +1,7 @@
-use Rattle.std.specs.Prelude.{ℕ, ◌+◌, ◌-◌, ◌==◌, nat_lt, min, Bool, false, ◌&&◌, ◌||◌, List, [], ◌∷◌, ◌++◌, map, take, drop, Option, Some, None, if◌then◌else◌}
+use Rattle.std.specs.Prelude.{◌≡◌, ℕ, ◌+◌, ◌-◌, ◌==◌, nat_lt, min, Bool, true, false, ◌&&◌, ◌||◌, List, [], ◌∷◌, ◌++◌, map, take, drop, Option, Some, None, is_some, if◌then◌else◌}
 use Rattle.std.specs.List.{list_any}
 use Rattle.b2_base.specs.Counts.{greatest_count}
+use Rattle.b2_host.specs.Outside.{Risks}
 use Rattle.b2_memory.specs.declared.script.CallKind.{CallKind}
 use Rattle.b2_memory.specs.declared.script.CallKind.TheVariants as kinds
 
@@ -87,6 +88,64 @@ with_starts more listed = record listed { starts = listed.starts ++ more }
 
 abbrev pub with_picks : List ℕ → Listed → Listed
 with_picks more listed = record listed { picks = listed.picks ++ more }
+
+-- ---- what may go wrong
+
+-- nothing may
+abbrev pub no_risks : Risks
+no_risks = record { may_fail = false; wait_may_fail = false; may_end_badly = false }
+
+-- one of the listed calls is still to fail
+abbrev pub some_call_fails : List (CallKind × ℕ) → Bool
+some_call_fails calls = list_any (λ call. nat_lt 0 call.1) calls
+
+-- one of the listed waits is
+abbrev pub some_wait_fails : List (CallKind × ℕ) → Bool
+some_wait_fails calls = list_any (λ call. is_same kinds.Wait call.0 && nat_lt 0 call.1) calls
+
+-- one of the listed starts is still to end badly
+abbrev pub some_end_badly : List ℕ → Bool
+some_end_badly starts = list_any (λ start. nat_lt 0 start) starts
+
+-- what may go wrong by a fuse, calls and starts that are listed
+abbrev pub risks_by : Option ℕ → List (CallKind × ℕ) → List ℕ → Risks
+risks_by fuse calls starts = record {
+  may_fail = is_some fuse || some_call_fails calls;
+  wait_may_fail = is_some fuse || some_wait_fails calls;
+  may_end_badly = some_end_badly starts;
+}
+
+abbrev pub risks_of : Listed → Risks
+risks_of listed = risks_by listed.fuse listed.calls listed.starts
+
+-- what may go wrong, once calls, starts or a fuse are listed too
+abbrev pub risks_with_calls : List (CallKind × ℕ) → Risks → Risks
+risks_with_calls calls risks = record risks { may_fail = risks.may_fail || some_call_fails calls; wait_may_fail = risks.wait_may_fail || some_wait_fails calls }
+
+abbrev pub risks_with_starts : List ℕ → Risks → Risks
+risks_with_starts starts risks = record risks { may_end_badly = risks.may_end_badly || some_end_badly starts }
+
+abbrev pub risks_with_fuse : Risks → Risks
+risks_with_fuse risks = record risks { may_fail = true; wait_may_fail = true }
+
+-- All that may go wrong by the one may by the other.
+pub record AreAmong (fewer more : Risks) : Type 0 where
+  pub fail : fewer.may_fail ≡ true → more.may_fail ≡ true
+  pub wait : fewer.wait_may_fail ≡ true → more.wait_may_fail ≡ true
+  pub badly : fewer.may_end_badly ≡ true → more.may_end_badly ≡ true
+
+-- a call of the kind may fail
+abbrev pub MayFail : CallKind → Risks → Type 0
+MayFail kinds.Stat risks = risks.may_fail ≡ true
+MayFail kinds.Read risks = risks.may_fail ≡ true
+MayFail kinds.List risks = risks.may_fail ≡ true
+MayFail kinds.Append risks = risks.may_fail ≡ true
+MayFail kinds.Replace risks = risks.may_fail ≡ true
+MayFail kinds.Remove risks = risks.may_fail ≡ true
+MayFail kinds.Start risks = risks.may_fail ≡ true
+MayFail kinds.Wait risks = (risks.may_fail ≡ true) × (risks.wait_may_fail ≡ true)
+
+-- ---- what calls leave
 
 -- what a write of a kind leaves of its piece: the beginning where it fails, else all
 abbrev pub left_of : CallKind → List ℕ → Listed → List ℕ

@@ -1,4 +1,4 @@
-use Rattle.std.specs.Prelude.{◌≡◌, ◌≢◌, ℕ, ◌-◌, List, [], Some, Result, Ok, Err}
+use Rattle.std.specs.Prelude.{◌≡◌, ◌≢◌, ℕ, ◌-◌, false, List, [], Some, Result, Ok, Err}
 use Rattle.b2_host.specs.declared.fault.IoFault.{IoFault}
 use Rattle.b2_host.specs.declared.fault.IoFault.TheVariants as faults
 use Rattle.b2_host.specs.Output.{Output, with_written}
@@ -7,11 +7,11 @@ use Rattle.b2_memory.specs.declared.memory_sink.MemorySink.{MemorySink}
 
 -- what a sink in memory is to its callers
 abbrev pub sink_output : MemorySink → Output
-sink_output sink = record { written = Some sink.bytes.items; faults = sink.faults }
+sink_output sink = record { written = Some sink.bytes.items; faults = sink.faults; may_fail = sink.may_fail }
 
--- nothing was written
+-- nothing was written, and no write may fail
 abbrev pub new_output : Output
-new_output = record { written = Some []; faults = 0 }
+new_output = record { written = Some []; faults = 0; may_fail = false }
 
 -- which write is to fail, counted from now on; 0 for none
 abbrev pub failing_write : MemorySink → ℕ

@@ -1,11 +1,12 @@
 //! A host in memory, whose files and reads are visible, and whose calls fail where they are told to.
-ghost use Rattle.std.specs.Prelude.{◌≡◌, ◌≢◌, ◌+◌, ◌≤◌, ◌<◌, [], Some, IsTrue, IfOk, OnOk, OnErr, map, option_copied, vec_len, vec_capacity};
+ghost use Rattle.std.specs.Prelude.{◌≡◌, ◌≢◌, ◌+◌, ◌≤◌, ◌<◌, [], true, false, Some, IsTrue, IfOk, OnOk, OnErr, map, option_copied, vec_len, vec_capacity};
 ghost use Rattle.std.specs.Option.{IfSome};
 ghost use Rattle.b2_host.specs.Disks.{StatTold};
 ghost use Rattle.b2_host.specs.FileCalls.{log_path};
 ghost use Rattle.b2_files.specs.Buffers.{buffers_of, bytes_in, is_within};
 ghost use Rattle.b2_files.specs.Stores.{all_known, stood};
-ghost use Rattle.b2_memory.specs.Scripts.{with_calls, with_starts, with_picks, left_of};
+ghost use Rattle.b2_memory.specs.GoodEnds.{all_end_well};
+ghost use Rattle.b2_memory.specs.Scripts.{with_picks, left_of};
 ghost use Rattle.b2_memory.specs.PendingWrites.{promised};
 
 use crate::child_table::ChildTable;
@@ -24,6 +25,7 @@ use b2_files::version::Version;
 use b2_host::children::{ChildEvent, Children};
 use b2_host::fault::{Failed, IoFault};
 use b2_host::files::{Files, ReadAnswer};
+use b2_host::log_file::log_file;
 use std::alloc::Global;
 use std::rc::Rc;
 
@@ -44,6 +46,7 @@ pub struct MemoryHost {
     ghost room: { vec_len store.past + child_table.pending ≤ vec_capacity store.past },
     ghost known: { IsTrue (all_known store.places (promised child_table.running.items)) },
     ghost log_is: { log ≡ log_path },
+    ghost end_well: { script.may_end_badly ≡ false → IsTrue (all_end_well child_table.running.items) },
 }
 
 /// By hand, so that dropping one is one call.
@@ -66,29 +69,19 @@ impl Drop for MemoryHost {
     }
 }
 
-/// The same path for every host, so that reads note what stamp the log had.
-fn path_of_log(alloc: Global) -> Result<Path, OutOfMemory>
-    ensures { IfOk result (λ path. path ≡ log_path) }
-{
-    match Path::normal(alloc, "bin/b2.log") {
-        Ok(path) => Ok(path),
-        Err(_fault) => Err(OutOfMemory),
-    }
-}
-
 impl MemoryHost {
     ghost use Rattle.b2_files.specs.StoreDisks.{knows};
     ghost use Rattle.b2_memory.specs.Jobs.{IsLeft, given_of};
-    ghost use Rattle.b2_memory.specs.Memories.{new_memory, with_listed, with_fuse, with_tear, with_edit, with_child, with_entry, Writes, Ended, Reopens};
+    ghost use Rattle.b2_memory.specs.Memories.{new_memory, with_listed, told_calls, told_starts, told_fuse, renewed, with_tear, with_edit, with_child, with_entry, Writes, Ended, Reopens};
     ghost use Rattle.b2_memory.specs.Hosts.{memory_of, running_children, ends_well_of, write_told};
 
-    /// No files, no children, no reads and no faults; nothing is listed.
+    /// No files, no children, no reads and no faults; nothing is listed, and nothing may go wrong.
     pub fn new(alloc: Global) -> Result<MemoryHost, OutOfMemory>
         ensures { IfOk result (λ host. memory_of host ≡ new_memory) }
     {
         Ok(MemoryHost {
             alloc,
-            log: path_of_log(alloc)?,
+            log: log_file(alloc)?,
             script: Script::new(alloc),
             store: Store::new(alloc),
             child_table: ChildTable::new(alloc),
@@ -117,9 +110,10 @@ impl MemoryHost {
         }
     }
 
-    /// Lists calls that are to fail: of each kind, the n-th from now on, counted from 1.
+    /// Lists calls that are to fail: of each kind, the n-th from now on, counted from 1. From now on such calls may fail,
+    /// also once the entry is spent.
     pub fn fail_calls(&mut self, calls: &[(CallKind, u32)]) -> Result<(), OutOfMemory>
-        ensures ok { OnOk result (memory_of self.new ≡ with_listed (with_calls calls.now) (memory_of self.old)) }
+        ensures ok { OnOk result (memory_of self.new ≡ told_calls calls.now (memory_of self.old)) }
         ensures err { OnErr result (memory_of self.new ≡ memory_of self.old) }
     {
         self.script.list_calls(calls)
@@ -128,7 +122,7 @@ impl MemoryHost {
     /// Lists starts whose children are to end badly: the n-th child that starts from now on, counted from 1. Such a
     /// child writes `torn` and a line feed to its first output, and no more.
     pub fn child_fails(&mut self, starts: &[u32]) -> Result<(), OutOfMemory>
-        ensures ok { OnOk result (memory_of self.new ≡ with_listed (with_starts starts.now) (memory_of self.old)) }
+        ensures ok { OnOk result (memory_of self.new ≡ told_starts starts.now (memory_of self.old)) }
         ensures err { OnErr result (memory_of self.new ≡ memory_of self.old) }
     {
         self.script.list_starts(starts)
@@ -152,13 +146,22 @@ impl MemoryHost {
 
     /// After so many more calls every call fails, until the host is opened again.
     pub fn fuse(&mut self, calls: u32)
-        ensures { memory_of self.new ≡ with_listed (with_fuse calls) (memory_of self.old) }
+        ensures { memory_of self.new ≡ told_fuse calls (memory_of self.old) }
     {
-        self.script.fuse = Some(calls);
+        self.script.set_fuse(calls);
     }
 
-    /// The children that run end, in order of start, each as it was to end. Nothing is listed any more. The counts of
-    /// faults stay.
+    /// What may go wrong is worked out anew, of what is still listed: an entry that is spent counts no more. No child may
+    /// run.
+    pub fn renew_risks(&mut self)
+        requires { (memory_of self.old).outside.children.running ≡ [] }
+        ensures { memory_of self.new ≡ renewed (memory_of self.old) }
+    {
+        self.script.renew_risks();
+    }
+
+    /// The children that run end, in order of start, each as it was to end. Nothing is listed any more, and nothing may
+    /// go wrong. The counts of faults stay.
     pub fn reopen(&mut self)
         ensures { Reopens (memory_of self.old) (memory_of self.new) }
     {
@@ -271,7 +274,8 @@ impl MemoryHost {
 
     /// Lets a child run, whose writes are known, once the room for its end is taken.
     fn admit(&mut self, job: Job, well: bool, entries: Vec<Entry>) -> Result<(), OutOfMemory>
-        requires { IsLeft job well entries.items }
+        requires left { IsLeft job well entries.items }
+        requires well { self.old.script.may_end_badly ≡ false → well ≡ true }
         ensures ok { OnOk result (memory_of self.new ≡ with_child (given_of job) well (memory_of self.old)) }
         ensures err { OnErr result (memory_of self.new ≡ memory_of self.old) }
     {

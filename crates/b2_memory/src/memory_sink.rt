@@ -1,5 +1,5 @@
 //! A sink in memory, whose bytes are visible, and of which one write can be made to fail.
-ghost use Rattle.std.specs.Prelude.{◌≡◌, Some};
+ghost use Rattle.std.specs.Prelude.{◌≡◌, ◌<◌, true, nat_lt, Some};
 ghost use Rattle.b2_host.specs.Output.{Prints};
 
 use crate::script::raise;
@@ -13,12 +13,14 @@ pub struct MemorySink {
     bytes: Vec<u8>,
     failing: u32,
     faults: u64,
+    may_fail: bool,
+    ghost covered: { 0 < failing → may_fail ≡ true },
 }
 
 impl MemorySink {
     ghost use Rattle.b2_memory.specs.Sinks.{sink_output, failing_write, new_output};
 
-    /// No bytes, no faults, and no write that is to fail; takes no memory.
+    /// No bytes, no faults, and no write that may fail; takes no memory.
     pub fn new(alloc: Global) -> MemorySink
         ensures output { sink_output result ≡ new_output }
         ensures failing { failing_write result ≡ 0 }
@@ -27,6 +29,7 @@ impl MemorySink {
             bytes: Vec::new(alloc),
             failing: 0,
             faults: 0,
+            may_fail: false,
         }
     }
 
@@ -44,13 +47,14 @@ impl MemorySink {
         self.faults
     }
 
-    /// Lets one write fail and leave no byte: the one with this number from now on, counted from 1. At 0 none fails. It
-    /// takes the place of what was asked before.
+    /// Lets one write fail and leave no byte: the one with this number from now on, counted from 1. At 0 none fails, and
+    /// none may. It takes the place of what was asked before.
     pub fn fail_at(&mut self, write: u32)
         ensures failing { failing_write self.new ≡ write }
-        ensures output { sink_output self.new ≡ sink_output self.old }
+        ensures output { sink_output self.new ≡ record (sink_output self.old) { may_fail = nat_lt 0 write } }
     {
         self.failing = write;
+        self.may_fail = write > 0;
     }
 }
 

@@ -1,7 +1,8 @@
 //! Which calls of a host in memory fail, how its children end, and in which order.
-ghost use Rattle.std.specs.Prelude.{◌≡◌, ◌<◌, ◌≤◌, OnOk, OnErr, vec_len, if◌then◌else◌};
+ghost use Rattle.std.specs.Prelude.{◌≡◌, ◌<◌, ◌≤◌, true, Some, OnOk, OnErr, vec_len, if◌then◌else◌};
+ghost use Rattle.std.specs.Bool.{OnTrue};
 ghost use Rattle.std.specs.Option.{option_to_list};
-ghost use Rattle.b2_memory.specs.Scripts.{number_of, is_same, is_listed, call_after, calls_after, is_spent, fuse_after, is_to_fail, listed_after, is_bad, starts_after, place_picked, picked, left_of, raised, nothing_listed, with_calls, with_starts, with_picks};
+ghost use Rattle.b2_memory.specs.Scripts.{number_of, is_same, is_listed, call_after, calls_after, is_spent, fuse_after, is_to_fail, listed_after, is_bad, starts_after, place_picked, picked, left_of, raised, nothing_listed, with_calls, with_starts, with_picks, no_risks, some_call_fails, some_wait_fails, some_end_badly, risks_by, risks_of, risks_with_calls, risks_with_starts, risks_with_fuse, AreAmong, MayFail};
 
 use b2_base::fault::OutOfMemory;
 use std::alloc::Global;
@@ -45,7 +46,7 @@ impl CallKind {
 
 /// What a host was told: the calls that are to fail, each with its kind and its number from now on; the starts that are to
 /// end badly; which child each wait gives; after how many more calls every call fails; and how many bytes a failed write
-/// leaves. Beside it, how often a call failed.
+/// leaves. Beside it, how often a call failed; and what may go wrong, which goes on to hold where an entry is spent.
 pub struct Script {
     pub calls: Vec<(CallKind, u32)>,
     pub starts: Vec<u32>,
@@ -55,7 +56,13 @@ pub struct Script {
     pub fuse: Option<u32>,
     pub tear: u32,
     pub faults: u64,
+    /// Whether a call may fail, and whether a wait may.
+    pub may_fail: bool,
+    pub wait_may_fail: bool,
+    /// Whether a child may end badly.
+    pub may_end_badly: bool,
     ghost within: { taken ≤ vec_len picks },
+    ghost covered: { AreAmong (risks_by fuse calls.items starts.items) (record { may_fail = may_fail; wait_may_fail = wait_may_fail; may_end_badly = may_end_badly }) },
 }
 
 /// By hand, so that dropping one is one call.
@@ -69,6 +76,9 @@ impl Drop for Script {
             fuse: _,
             tear: _,
             faults: _,
+            may_fail: _,
+            wait_may_fail: _,
+            may_end_badly: _,
         } = self;
         drop(calls);
         drop(starts);
@@ -131,6 +141,29 @@ fn place_of_pick(pick: Option<u32>, children: usize) -> usize
     }
 }
 
+/// Whether one of the listed calls is still to fail.
+fn some_call_fails(calls: &[(CallKind, u32)]) -> bool
+    ensures { result ≡ some_call_fails calls.now }
+{
+    calls.iter().any(|call| call.1 > 0)
+}
+
+/// Whether one of the listed waits is still to fail.
+fn some_wait_fails(calls: &[(CallKind, u32)]) -> bool
+    ensures { result ≡ some_wait_fails calls.now }
+{
+    calls
+        .iter()
+        .any(|call| CallKind::Wait.is_same(call.0) && call.1 > 0)
+}
+
+/// Whether one of the listed starts is still to end badly.
+fn some_end_badly(starts: &[u32]) -> bool
+    ensures { result ≡ some_end_badly starts.now }
+{
+    starts.iter().any(|start| *start > 0)
+}
+
 /// A count that goes up, unless it stands at the greatest.
 #[tactic(auto, using(crate::proofs::CountsRiseUntilFull::raised_is))]
 pub fn raise(count: u64) -> u64
@@ -140,12 +173,13 @@ pub fn raise(count: u64) -> u64
 }
 
 impl Script {
-    ghost use Rattle.b2_memory.specs.Listings.{listed_of};
+    ghost use Rattle.b2_memory.specs.Listings.{listed_of, risks_told};
 
-    /// Nothing is listed.
+    /// Nothing is listed, and nothing may go wrong.
     pub fn new(alloc: Global) -> Script
         ensures listed { listed_of result ≡ nothing_listed }
         ensures faults { result.faults ≡ 0 }
+        ensures risks { risks_told result ≡ no_risks }
     {
         Script {
             calls: Vec::new(alloc),
@@ -155,6 +189,9 @@ impl Script {
             fuse: None,
             tear: 0,
             faults: 0,
+            may_fail: false,
+            wait_may_fail: false,
+            may_end_badly: false,
         }
     }
 
@@ -173,11 +210,13 @@ impl Script {
         is_spent(self.fuse) || self.is_listed(kind)
     }
 
-    /// Whether this call fails. It is counted, and so is its fault.
+    /// Whether this call fails, which it does only where one may. It is counted, and so is its fault.
     pub fn fails(&mut self, kind: CallKind) -> bool
+        ensures may { OnTrue result (MayFail kind (risks_told self.old)) }
         ensures fails { result ≡ is_to_fail kind (listed_of self.old) }
         ensures listed { listed_of self.new ≡ listed_after kind (listed_of self.old) }
         ensures faults { self.new.faults ≡ (if result then raised self.old.faults else self.old.faults) }
+        ensures risks { risks_told self.new ≡ risks_told self.old }
     {
         let fails = self.is_to_fail(kind);
         pass_all(&mut self.calls, kind);
@@ -206,6 +245,7 @@ impl Script {
         ensures within { result < children }
         ensures listed { listed_of self.new ≡ picked (listed_of self.old) }
         ensures faults { self.new.faults ≡ self.old.faults }
+        ensures risks { risks_told self.new ≡ risks_told self.old }
     {
         let pick = self.picks.get(self.taken).copied();
         if pick.is_some() {
@@ -214,9 +254,10 @@ impl Script {
         place_of_pick(pick, children)
     }
 
-    /// Whether the child that starts next is to end badly.
+    /// Whether the child that starts next is to end badly, which it is only where one may.
     pub fn is_bad(&self) -> bool
-        ensures { result ≡ is_bad (listed_of self.now).starts }
+        ensures bad { result ≡ is_bad (listed_of self.now).starts }
+        ensures may { OnTrue result (self.now.may_end_badly ≡ true) }
     {
         self.starts.iter().any(|start| *start == 1)
     }
@@ -225,6 +266,7 @@ impl Script {
     pub fn count_start(&mut self)
         ensures listed { listed_of self.new ≡ record (listed_of self.old) { starts = starts_after (listed_of self.old).starts } }
         ensures faults { self.new.faults ≡ self.old.faults }
+        ensures risks { risks_told self.new ≡ risks_told self.old }
     {
         count_down(&mut self.starts);
     }
@@ -232,20 +274,25 @@ impl Script {
     /// Lists more calls that are to fail. After an error the list is as before.
     pub fn list_calls(&mut self, calls: &[(CallKind, u32)]) -> Result<(), OutOfMemory>
         ensures ok { OnOk result (listed_of self.new ≡ with_calls calls.now (listed_of self.old)) }
-        ensures err { OnErr result (listed_of self.new ≡ listed_of self.old) }
+        ensures risks { OnOk result (risks_told self.new ≡ risks_with_calls calls.now (risks_told self.old)) }
+        ensures err { OnErr result ((listed_of self.new ≡ listed_of self.old) × (risks_told self.new ≡ risks_told self.old)) }
         ensures faults { self.new.faults ≡ self.old.faults }
     {
         self.calls.extend_from_slice(calls)?;
+        self.may_fail = self.may_fail || some_call_fails(calls);
+        self.wait_may_fail = self.wait_may_fail || some_wait_fails(calls);
         Ok(())
     }
 
     /// Lists more starts that are to end badly. After an error the list is as before.
     pub fn list_starts(&mut self, starts: &[u32]) -> Result<(), OutOfMemory>
         ensures ok { OnOk result (listed_of self.new ≡ with_starts starts.now (listed_of self.old)) }
-        ensures err { OnErr result (listed_of self.new ≡ listed_of self.old) }
+        ensures risks { OnOk result (risks_told self.new ≡ risks_with_starts starts.now (risks_told self.old)) }
+        ensures err { OnErr result ((listed_of self.new ≡ listed_of self.old) × (risks_told self.new ≡ risks_told self.old)) }
         ensures faults { self.new.faults ≡ self.old.faults }
     {
         self.starts.extend_from_slice(starts)?;
+        self.may_end_badly = self.may_end_badly || some_end_badly(starts);
         Ok(())
     }
 
@@ -254,15 +301,40 @@ impl Script {
         ensures ok { OnOk result (listed_of self.new ≡ with_picks picks.now (listed_of self.old)) }
         ensures err { OnErr result (listed_of self.new ≡ listed_of self.old) }
         ensures faults { self.new.faults ≡ self.old.faults }
+        ensures risks { risks_told self.new ≡ risks_told self.old }
     {
         self.picks.extend_from_slice(picks)?;
         Ok(())
     }
 
-    /// Nothing is listed any more.
+    /// After so many more calls every call fails.
+    pub fn set_fuse(&mut self, calls: u32)
+        ensures listed { listed_of self.new ≡ record (listed_of self.old) { fuse = Some calls } }
+        ensures faults { self.new.faults ≡ self.old.faults }
+        ensures risks { risks_told self.new ≡ risks_with_fuse (risks_told self.old) }
+    {
+        self.fuse = Some(calls);
+        self.may_fail = true;
+        self.wait_may_fail = true;
+    }
+
+    /// What may go wrong is worked out anew, of what is still listed.
+    pub fn renew_risks(&mut self)
+        ensures listed { listed_of self.new ≡ listed_of self.old }
+        ensures faults { self.new.faults ≡ self.old.faults }
+        ensures risks { risks_told self.new ≡ risks_of (listed_of self.old) }
+    {
+        let burns = self.fuse.is_some();
+        self.may_fail = burns || some_call_fails(&self.calls);
+        self.wait_may_fail = burns || some_wait_fails(&self.calls);
+        self.may_end_badly = some_end_badly(&self.starts);
+    }
+
+    /// Nothing is listed any more, and nothing may go wrong.
     pub fn clear(&mut self)
         ensures listed { listed_of self.new ≡ nothing_listed }
         ensures faults { self.new.faults ≡ self.old.faults }
+        ensures risks { risks_told self.new ≡ no_risks }
     {
         self.calls.clear();
         self.starts.clear();
@@ -270,5 +342,8 @@ impl Script {
         self.taken = 0;
         self.fuse = None;
         self.tear = 0;
+        self.may_fail = false;
+        self.wait_may_fail = false;
+        self.may_end_badly = false;
     }
 }

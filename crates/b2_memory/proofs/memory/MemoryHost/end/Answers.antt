@@ -12,9 +12,11 @@ use Rattle.b2_memory.specs.Families.{child_with}
 use Rattle.b2_memory.specs.Jobs.{given_of}
 use Rattle.b2_memory.specs.Memories.{without_child}
 use Rattle.b2_memory.specs.Hosts.{memory_of, family_of, running_children, ends_well_of}
+use Rattle.b2_memory.specs.GoodEnds.{all_end_well}
 use Rattle.b2_memory.proofs.EqualPartsMakeEqualRecords.{same_family, same_memory}
 use Rattle.b2_memory.specs.PendingWrites.{promised}
 use Rattle.b2_memory.proofs.ChildEnds.{known_take, get_map, map_remove}
+use Rattle.b2_memory.proofs.GoodEndsStayGood.{all_without}
 use Rattle.b2_memory.proofs.memory.MemoryHost.end.Goals as goal
 
 pub put_all-requires-clause-known : goal.put_all-requires-clause-known
@@ -35,6 +37,7 @@ invariant_of-self c =
       room = omega (arith, had, pending, len, room);
       known = ap (λ rs. all_known c.put_all.new.self.places (promised rs)) c.take-job.ensures.running ∙ known_stays host.store.places c.put_all.new.self.places (promised rest) (λ q k. c.put_all.ensures.known q ∙ k) known.1;
       log_is = host.log_is;
+      end_well = λ none. ap all_end_well c.take-job.ensures.running ∙ all_without host.child_table.running.items c.args.place (host.end_well none);
     }
 
 pub returns-clause-ended : goal.returns-clause-ended

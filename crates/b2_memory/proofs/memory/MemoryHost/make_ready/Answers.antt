@@ -12,4 +12,5 @@ invariant_of-self c =
       room = omega (arith, had, len, room);
       known = known_stays c.args.self.now.store.places c.prepare_one.new.self.places (promised c.args.self.now.child_table.running.items) c.prepare_one.ensures.stays c.args.self.now.known;
       log_is = c.args.self.now.log_is;
+      end_well = c.args.self.now.end_well;
     }

@@ -1,10 +1,10 @@
 use Rattle.std.proofs.Common.{◌≡◌, ◌+◌, suc, length, vec_len, zero-add, sym, subst, arith}
 use Rattle.std.proofs.lemmas.List.{length-map}
 use Rattle.b2_memory.specs.declared.running.Running.{Running}
-use Rattle.b2_memory.specs.Scripts.{nothing_listed}
+use Rattle.b2_memory.specs.Scripts.{nothing_listed, no_risks}
 use Rattle.b2_memory.specs.Families.{child_with}
 use Rattle.b2_memory.specs.Jobs.{given_of}
-use Rattle.b2_memory.specs.Listings.{listed_of}
+use Rattle.b2_memory.specs.Listings.{listed_of, risks_told}
 use Rattle.b2_memory.specs.Memories.{AllEnded}
 use Rattle.b2_memory.specs.Hosts.{memory_of}
 use Rattle.b2_memory.proofs.EqualPartsMakeEqualRecords.{same_listed, reopens}
@@ -42,4 +42,4 @@ returns c =
     let none : length c.loop-child.self.child_table.running.items ≡ 0 = omega (arith, left, high, len, size) in
     reopens (memory_of c.args.self.now) (memory_of c.loop-child.self) _ (length c.args.self.now.child_table.running.items) (length c.loop-child.self.child_table.running.items)
     (sym (length-map c.args.self.now.child_table.running.items (λ (r : Running). child_with (given_of r.job.value)))) none c.loop-child.invariant.ends
-    (same_listed (memory_of c.loop-child.self) c.clear.new.self.faults c.loop-child.self.script.faults (listed_of c.clear.new.self) nothing_listed c.clear.ensures.faults c.clear.ensures.listed)
+    (same_listed (memory_of c.loop-child.self) c.clear.new.self.faults c.loop-child.self.script.faults (risks_told c.clear.new.self) no_risks (listed_of c.clear.new.self) nothing_listed c.clear.ensures.faults c.clear.ensures.risks c.clear.ensures.listed)

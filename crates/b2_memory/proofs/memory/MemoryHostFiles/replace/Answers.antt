@@ -13,6 +13,6 @@ pub returns-clause-effect : goal.returns-clause-effect
 returns-clause-effect c =
     let host = c.args.self.now in
     let buffers = buffers_of host.store.contents in
-    replaces_told c.args.path.now c.args.piece.now (memory_of host) (memory_of c.write.new.self) c.write.result (stamp_within (writes_told host.store))
+    replaces_told c.args.path.now c.args.piece.now (memory_of host) (memory_of c.write.new.self) c.write.result (stamp_within (writes_told host.store)) host.script.covered
     (writes_same kinds.Replace c.args.path.now (λ disk. bytes_in buffers c.in_ok-content.content) (λ disk. left_of kinds.Replace c.args.piece.now (listed_of host.script)) (memory_of host) (memory_of c.write.new.self) (told host.store) c.write.result refl
     (c.in_ok-content.ensures.bytes buffers ∙ c.left_of-left.ensures) c.write.ensures)
