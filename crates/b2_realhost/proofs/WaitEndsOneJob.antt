@@ -2,6 +2,7 @@
 use Rattle.std.proofs.Common.{◌≡◌, ℕ, ◌<◌, Bool, List, [], ◌∷◌, ◌++◌, map, take, drop, suc, get_or, length, Some, None, ap, sym, ◌∙◌, refl, arith}
 use Rattle.std.specs.Option.{option_map}
 use Rattle.std.specs.List.{remove}
+use Rattle.std.proofs.lemmas.Bool.{true≢false}
 use Rattle.std.proofs.lemmas.List.{map-append, take-map, drop-map}
 use Rattle.std.proofs.lemmas.Option.{slice_get-map, slice_get-get_or}
 use Rattle.b2_host.specs.declared.children.ChildEvent.{ChildEvent}
@@ -35,6 +36,7 @@ pub awaits_at : (made : List ℕ → List (List ℕ × List ℕ) → List ℕ �
     → Awaits made (outside_of xs es faults waits) j.step well (outside_of ys fs faults waits)
 awaits_at made xs ys j i es fs faults waits well within e rest told = record {
   ended = ends_at made xs ys j i es fs well within e rest told;
+  ends_well = λ none. absurd (true≢false none);
   same = refl;
 }
 

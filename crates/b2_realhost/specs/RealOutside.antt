@@ -1,10 +1,10 @@
-use Rattle.std.specs.Prelude.{ℕ, List, None, map}
+use Rattle.std.specs.Prelude.{ℕ, List, true, None, map}
 use Rattle.b2_host.specs.declared.children.ChildEvent.{ChildEvent}
 use Rattle.b2_host.specs.Outside.{Outside}
 use Rattle.b2_realhost.specs.declared.job.Job.{Job}
 use Rattle.b2_realhost.specs.Jobs.{child_of}
 
--- what the real host is to its callers: its files and reads are not visible
+-- what the real host is to its callers: its files and reads are not visible, and all may go wrong
 abbrev pub outside_of : List Job → List ChildEvent → ℕ → ℕ → Outside
 outside_of jobs events faults failed_waits = record {
   disk = None;
@@ -12,4 +12,5 @@ outside_of jobs events faults failed_waits = record {
   children = record { running = map child_of jobs; events = events; given = None };
   faults = faults;
   failed_waits = failed_waits;
+  risks = record { may_fail = true; wait_may_fail = true; may_end_badly = true };
 }

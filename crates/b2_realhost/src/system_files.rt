@@ -47,11 +47,17 @@ pub fn stamp_of(metadata: &Metadata) -> Option<u64> {
     u64::try_from(since.as_nanos()).ok()
 }
 
-/// The bytes of a file that had no more than `most` when it was asked for its size. It is read no further than one byte
-/// beyond, so that a file which grows or never ends is too big.
-fn bytes_at<R: Disk + AllocGlobal>(rt: &R, path: &str, most: u64) -> io::Result<ReadAnswer> {
+/// The bytes of a file that had `size` of them when it was asked, and no more than `most`. It is read no further than one
+/// byte beyond `most`, so that a file which grows or never ends is too big. The room for `size` bytes is taken at once,
+/// and for one more, so that the end is seen without a larger room.
+fn bytes_at<R: Disk + AllocGlobal>(
+    rt: &R,
+    path: &str,
+    size: u64,
+    most: u64,
+) -> io::Result<ReadAnswer> {
     let file = File::open(rt, path)?;
-    let mut bytes = Vec::new(rt.alloc());
+    let mut bytes = Vec::with_capacity(rt.alloc(), (size as usize).saturating_add(1))?;
     file.take(most.saturating_add(1)).read_to_end(&mut bytes)?;
     let size = bytes.len() as u64;
     if size > most {
@@ -70,7 +76,7 @@ pub fn read_at<R: Disk + AllocGlobal>(rt: &R, path: &str, most: u64) -> io::Resu
             if size > most {
                 Ok(ReadAnswer::TooBig { size })
             } else {
-                bytes_at(rt, path, most)
+                bytes_at(rt, path, size, most)
             }
         }
     }

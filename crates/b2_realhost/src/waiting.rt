@@ -11,7 +11,7 @@ use std::{io, thread};
 const SHORTEST_PAUSE_MICROS: u64 = 100;
 
 /// The pause grows to this, and no further.
-const LONGEST_PAUSE_MICROS: u64 = 4000;
+const LONGEST_PAUSE_MICROS: u64 = 1000;
 
 /// The place of a process that has ended, and whether it ended with status 0; `None` where all of them run.
 fn ended(processes: &mut Vec<Child>) -> io::Result<Option<(usize, bool)>>
