@@ -1,4 +1,5 @@
 use Rattle.std.proofs.Common.{◌≡◌, ℕ, ◌<◌, ◌≤◌, List, [], ◌∷◌, ◌++◌, length, inl, inr, sym, ap, subst, subst₂, ◌∙◌, Option}
+use Rattle.b2_base.specs.Counts.{greatest_count}
 use Rattle.b2_host.specs.ChildProcesses.{ChangesOnlyOutputs}
 use Rattle.b2_runs.specs.LogFiles.{log_limit, IsLogHeld}
 use Rattle.b2_runs.specs.Staleness.{Update}
@@ -40,7 +41,9 @@ update_counts_fault u first last below s = (only_update u host_fault first last 
 pub stop_counts_fault : StopCountsFault
 stop_counts_fault u first last below s =
     let is : IsStop IsUpdate u host_fault first last = only_stop u host_fault first last s in
-    subst (λ (w : Moment). first.host.faults < w.host.faults) (sym is.reopened.same) (is.updated.caused.0.more below)
+    let same : is.fused.host.faults ≡ first.host.faults = ap (λ (w : Moment). w.host.faults) is.fuse in
+    let more = is.updated.caused.0.more (subst (λ n. n < greatest_count) (sym same) below) in
+    subst (λ (w : Moment). first.host.faults < w.host.faults) (sym is.reopened.same) (subst (λ n. n < is.between.host.faults) same more)
 
 pub update_leaves_none : UpdateLeavesNone
 update_leaves_none u answer first last s = (only_update u answer first last s).1

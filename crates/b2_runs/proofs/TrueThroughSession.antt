@@ -70,7 +70,7 @@ true_through_stop u answer before after s t =
     let running = s.between.host.children.running in
     let now : Disk = s.reopened.old in
     let true_now : IsTrueOn (making u) now =
-    subst (IsTrueOn (making u)) (shown_is_one s.between s.updated.new now s.updated.shows_then s.reopened.shows) (s.updated.stays_true (true_shown (making u) before s.updated.old s.updated.shows t)) in
+    subst (IsTrueOn (making u)) (shown_is_one s.between s.updated.new now s.updated.shows_then s.reopened.shows) (s.updated.stays_true (true_shown (making u) s.fused s.updated.old s.updated.shows (subst (IsTrueAt (making u)) (sym s.fuse) t))) in
     subst (IsTrueAt (making u)) (sym s.reopened.same)
     (true_where_still (making u) now s.reopened.new (work_leaves_log u.build.steps u.build.roots running now s.reopened.new s.updated.apart s.updated.planned s.reopened.worked) (past_grows running now s.reopened.new s.reopened.worked) true_now)
 
@@ -79,7 +79,7 @@ true_through_update u answer before after is t = true_at (making u) after is.new
 
 -- an update of the one kind that was stopped is one of the other kind
 stop_of_making : (m : Making) (u : Update) (answer : UpdateAnswer) (before after : Moment) → IsStop (IsUpdateMaking m) u answer before after → (making u ≡ m) × IsStop IsUpdate u answer before after
-stop_of_making m u answer before after s = (s.updated.0, record { between = s.between; updated = s.updated.1; events = s.events; events_are = s.events_are; reopened = s.reopened })
+stop_of_making m u answer before after s = (s.updated.0, record { fused = s.fused; fuse = s.fuse; between = s.between; updated = s.updated.1; events = s.events; events_are = s.events_are; reopened = s.reopened })
 
 pub updates_leave_true : UpdatesLeaveTrue
 updates_leave_true m = record {

@@ -64,13 +64,14 @@ pub record IsUpdate (u : Update) (answer : UpdateAnswer) (before after : Moment)
   pub has : WithLog old.now (λ log. HasUpdated (at_present u old.now log) answer before.host after.host old new) answer
 
 -- The host is opened again after an update with these events: no child runs, and each that ran has ended, and worked until then.
--- What each start gave, the reads and the counts of faults are as they were, and so is the sink.
+-- What each start gave, the reads and the counts of faults are as they were, and so is the sink. Nothing is said of what may go
+-- wrong from then on.
 pub record IsReopened (events : List ChildEvent) (before after : Moment) : Type 0 where
   pub old : Disk
   pub shows : Shows before old
   pub new : Disk
   pub ends : List ChildEvent
-  pub same : after ≡ record before { host = record before.host { disk = Some new; children = record before.host.children { running = []; events = before.host.children.events ++ ends } } }
+  pub same : after ≡ record before { host = record before.host { disk = Some new; children = record before.host.children { running = []; events = before.host.children.events ++ ends }; risks = after.host.risks } }
   pub open_ends : OpenEnds events ends
   pub all_end : (i : ℕ) → IsOpen (events ++ ends) i → ⊥
   pub worked : ChangesOnlyOutputs before.host.children.running old new
@@ -80,11 +81,14 @@ pub record IsReopened (events : List ChildEvent) (before after : Moment) : Type 
 abbrev pub IsUpdateMaking : Making → Update → UpdateAnswer → Moment → Moment → Type 0
 IsUpdateMaking m u answer before after = (making u ≡ m) × IsUpdate u answer before after
 
--- An update was stopped, and the host was opened again. What follows on something that is asked for is a relation of the answer and
--- of the moments before and after: who says that something is a session says what it is, as `IsUpdate` for given plans.
+-- An update was stopped, and the host was opened again. That it would be stopped was told first, by which nothing but what may go
+-- wrong is another. What follows on something that is asked for is a relation of the answer and of the moments before and after: who
+-- says that something is a session says what it is, as `IsUpdate` for given plans.
 pub record IsStop {Asked Answer : Type 0} (Follows : Asked → Answer → Moment → Moment → Type 0) (asked : Asked) (answer : Answer) (before after : Moment) : Type 0 where
+  pub fused : Moment
+  pub fuse : fused ≡ record before { host = record before.host { risks = fused.host.risks } }
   pub between : Moment
-  pub updated : Follows asked answer before between
+  pub updated : Follows asked answer fused between
   pub events : List ChildEvent
   pub events_are : between.host.children.events ≡ before.host.children.events ++ events
   pub reopened : IsReopened events between after
