@@ -9,6 +9,8 @@
 //! | `read_log WORD ..` | how many of the bytes are good; the bytes are those of the text lines and then those of the words, and the log is what is read from them |
 //! | `read_prefixes WORD ..` | of the shortest prefix of the same bytes, and of each longer one of which more are good, its length and how many are good |
 //! | `good` | how many of the bytes that the log was read from are good |
+//! | `line_count` | how many lines the log has |
+//! | `kept_count` | how many of its lines are kept |
 //! | `find PATH ..` | the line of the record that the log has of these outputs, or `none` |
 //! | `scan PATH STAMP` | the line of the scan that the log has of this path at this stamp, or `none` |
 //! | `add LINE` | none; or `not proper`, and the log is as before |

@@ -17,12 +17,12 @@ use Rattle.b2_log.proofs.PlacesFindTheLastLines.{kept_by_place}
 
 -- ---- why a line is kept or not
 
-data KeptCase (line : LogLine) (later : List LogLine) : Type 0 where
+pub data KeptCase (line : LogLine) (later : List LogLine) : Type 0 where
   is_last : is_kept line later ≡ true → is_drop line ≡ false → list_any (is_about (subject_of line)) later ≡ false → KeptCase line later
   is_dropped : is_kept line later ≡ false → is_drop line ≡ true → KeptCase line later
   is_repeated : is_kept line later ≡ false → list_any (is_about (subject_of line)) later ≡ true → KeptCase line later
 
-kept_case : (line : LogLine) (later : List LogLine) → KeptCase line later
+pub kept_case : (line : LogLine) (later : List LogLine) → KeptCase line later
 kept_case line later = elim (cases_Bool (is_drop line)) [
   | inl d ↦ is_dropped (ap (λ (b : Bool). not b && not (list_any (is_about (subject_of line)) later)) d) d
   | inr d ↦ elim (cases_Bool (list_any (is_about (subject_of line)) later)) [
@@ -31,13 +31,13 @@ kept_case line later = elim (cases_Bool (is_drop line)) [
   ]
 ]
 
-kept_cons : (line : LogLine) (later : List LogLine) (b : Bool) → is_kept line later ≡ b → kept (line ∷ later) ≡ cond b (line ∷ kept later) (kept later)
+pub kept_cons : (line : LogLine) (later : List LogLine) (b : Bool) → is_kept line later ≡ b → kept (line ∷ later) ≡ cond b (line ∷ kept later) (kept later)
 kept_cons line later b e = ap (λ (c : Bool). cond c (line ∷ kept later) (kept later)) e
 
 -- ---- the last line of what is kept
 
 -- no line is about the subject
-last_none : (subject : Subject) (xs : List LogLine) → list_any (is_about subject) xs ≡ false → last_line subject xs ≡ None
+pub last_none : (subject : Subject) (xs : List LogLine) → list_any (is_about subject) xs ≡ false → last_line subject xs ≡ None
 last_none subject [] none = refl
 last_none subject (x ∷ xs) none = elim (cases_Bool (is_about subject x)) [
   | inl e ↦ absurd (false_true (sym (rw e at none)))
@@ -90,11 +90,11 @@ or_other (Some z) x = refl
 or_other None x = refl
 
 -- a line about another subject
-told_past : (subject : Subject) (x : LogLine) (xs : List LogLine) → is_about subject x ≡ false → told subject (x ∷ xs) ≡ told subject xs
+pub told_past : (subject : Subject) (x : LogLine) (xs : List LogLine) → is_about subject x ≡ false → told subject (x ∷ xs) ≡ told subject xs
 told_past subject x xs e = told_cons subject x xs false e ∙ ap tells (or_other (last_line subject xs) x)
 
 -- a line about a subject of which no later line is
-told_first : (subject : Subject) (x : LogLine) (xs : List LogLine) → is_about subject x ≡ true → list_any (is_about subject) xs ≡ false → told subject (x ∷ xs) ≡ told_by x
+pub told_first : (subject : Subject) (x : LogLine) (xs : List LogLine) → is_about subject x ≡ true → list_any (is_about subject) xs ≡ false → told subject (x ∷ xs) ≡ told_by x
 told_first subject x xs e none = told_cons subject x xs true e ∙ ap (λ (a : Option LogLine). tells (or_first a true x)) (last_none subject xs none)
 
 there_first : (a : Option LogLine) (b : Bool) (x : LogLine) → IsThere a → tells (or_first a b x) ≡ tells a
@@ -107,10 +107,10 @@ drop_first (Some z) b x d = refl
 drop_first None true x d = ap (λ (t : Bool). cond t None (Some x)) d
 drop_first None false x d = refl
 
-dropped_past : (subject : Subject) (x : LogLine) (xs : List LogLine) → is_drop x ≡ true → told subject (x ∷ xs) ≡ told subject xs
+pub dropped_past : (subject : Subject) (x : LogLine) (xs : List LogLine) → is_drop x ≡ true → told subject (x ∷ xs) ≡ told subject xs
 dropped_past subject x xs d = told_cons subject x xs (is_about subject x) refl ∙ drop_first (last_line subject xs) (is_about subject x) x d
 
-repeated_past : (subject : Subject) (x : LogLine) (xs : List LogLine) → list_any (is_about (subject_of x)) xs ≡ true → told subject (x ∷ xs) ≡ told subject xs
+pub repeated_past : (subject : Subject) (x : LogLine) (xs : List LogLine) → list_any (is_about (subject_of x)) xs ≡ true → told subject (x ∷ xs) ≡ told subject xs
 repeated_past subject x xs some = elim (cases_Bool (is_about subject x)) [
   | inl e ↦
       let here : list_any (is_about subject) xs ≡ true = subst (λ (s : Subject). list_any (is_about s) xs ≡ true) (subject_is (subject_of x) subject e) some in
@@ -162,7 +162,7 @@ contains_cases : {X : Type 0} (x y : X) (xs : List X) → Contains (x ∷ xs) y 
 contains_cases x y xs (zero, h, e) = inl e
 contains_cases x y xs (suc k, h, e) = inr (k, omega arith, e)
 
-no_drop : (x : LogLine) → is_drop x ≡ false → told_by x ≡ Some x
+pub no_drop : (x : LogLine) → is_drop x ≡ false → told_by x ≡ Some x
 no_drop x d = ap (λ (t : Bool). cond t None (Some x)) d
 
 member_told : (log : List LogLine) (line : LogLine) → Contains (kept log) line → told (subject_of line) log ≡ Some line

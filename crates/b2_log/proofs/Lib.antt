@@ -13,3 +13,5 @@ pub mod PlacesFindTheLastLines
 pub mod BytesHaveOneReading
 pub mod OrderedNeighboursAreEnough
 pub mod LinesHaveOneReading
+pub mod KeptLinesAreCounted
+pub mod PlainBytesStandAsTheyAre

@@ -77,7 +77,7 @@ scans_put subject path old new w is stay h other = scans_changed path old new w 
 
 -- ---- one more line
 
-reverse_push : {X : Type 0} (xs : List X) (x : X) → reverse (xs ++ x ∷ []) ≡ x ∷ reverse xs
+pub reverse_push : {X : Type 0} (xs : List X) (x : X) → reverse (xs ++ x ∷ []) ≡ x ∷ reverse xs
 reverse_push xs x = reverse-append xs (x ∷ [])
 
 -- ---- the line at a place

@@ -9,7 +9,7 @@ use Rattle.b2_log.specs.declared.latest.Latest.{Latest}
 use Rattle.b2_log.specs.declared.subject.Subject.{Subject}
 use Rattle.b2_log.specs.declared.subject.Subject.TheVariants as subjects
 use Rattle.b2_log.specs.Good.{IsProper}
-use Rattle.b2_log.specs.Finding.{subject_of, is_about, is_drop}
+use Rattle.b2_log.specs.Finding.{subject_of, is_about, is_drop, kept}
 
 -- the place of the last line about a subject, where the lines are listed with the last one first
 abbrev pub place_of : Subject → List LogLine → Option ℕ
@@ -25,6 +25,15 @@ place_in latest (subjects.Scanned path) = get_by (λ key. slice_cmp nat_cmp path
 pub record IsIndexed (lines : List LogLine) (places : Subject → Option ℕ) : Type 0 where
   pub place : (subject : Subject) → places subject ≡ place_of subject (reverse lines)
   pub proper : AllByRecursion IsProper lines
+
+-- what a log keeps beside its lines: their places, and how many of them are kept
+pub record IsLog (lines : List LogLine) (places : Subject → Option ℕ) (kept_count : ℕ) : Type 0 where
+  pub index : IsIndexed lines places
+  pub count : kept_count ≡ length (kept lines)
+
+-- one where it is so, and else none
+abbrev pub one_if : Bool → ℕ
+one_if b = if b then 1 else 0
 
 -- whether a place is this one
 abbrev pub option_is : Option ℕ → ℕ → Bool

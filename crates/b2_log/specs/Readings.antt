@@ -1,12 +1,12 @@
 -- What bytes begin with.
-use Rattle.std.specs.Prelude.{◌≡◌, ◌≢◌, ℕ, ◌≤◌, Bool, true, false, List, [], ◌∷◌, ◌++◌, length, Option}
+use Rattle.std.specs.Prelude.{◌≡◌, ◌≢◌, ℕ, ◌<◌, ◌≤◌, Bool, true, false, List, [], ◌∷◌, ◌++◌, length, Option}
 use Rattle.std.specs.List.{AllByRecursion}
 use Rattle.b2_log.specs.declared.line.Record.{Record}
 use Rattle.b2_log.specs.declared.line.LogLine.{LogLine}
 use Rattle.b2_log.specs.declared.line.LogLine.TheVariants as lines
 use Rattle.b2_log.specs.declared.tag.Tag.{Tag}
 use Rattle.b2_log.specs.declared.tag.Tag.TheVariants as tags
-use Rattle.b2_log.specs.Lines.{tab, next_bytes, mark, tag_text, tag_of, line_end, log_bytes}
+use Rattle.b2_log.specs.Lines.{tab, escaped, next_bytes, mark, tag_text, tag_of, line_end, log_bytes}
 use Rattle.b2_base.specs.Bytes.{backslash}
 use Rattle.b2_log.specs.Good.{IsText, IsPath, IsStamped, IsCounted, HasDigests, IsProper, IsGoodScan, IsGood}
 
@@ -26,6 +26,10 @@ HasNoNext bytes = (next : Option ℕ) (rest : List ℕ) → bytes ≢ next_bytes
 -- no byte is written as a backslash and this sign
 abbrev pub IsNoEscape : ℕ → Type 0
 IsNoEscape sign = (sign ≢ backslash) × (sign ≢ 116) × (sign ≢ 110)
+
+-- a byte that is written as it is, and is not zero
+abbrev pub IsPlain : ℕ → Type 0
+IsPlain byte = (0 < byte) × (escaped byte ≡ byte ∷ [])
 
 -- a mark with the tab after it
 abbrev pub mark_field : Bool → List ℕ

@@ -1,18 +1,22 @@
 //! Reads fields.
-ghost use Rattle.std.specs.Prelude.{◌≡◌, ◌≢◌, ℕ, ◌^◌, ◌<◌, List, [], ◌∷◌, ◌++◌, length, IfOk, IfSome, IsErrOf, IsTrue, MatchOption, ◌↔◌};
+ghost use Rattle.std.specs.Prelude.{◌≡◌, ◌≢◌, ℕ, ◌^◌, ◌<◌, ◌≤◌, List, [], ◌∷◌, ◌++◌, length, take, IfOk, IfSome, IsErrOf, IsTrue, MatchOption, string_bytes};
+ghost use Rattle.std.specs.List.{All};
+ghost use Rattle.std.specs.Cow.{cow_str_bytes};
 ghost use Rattle.std.specs.Fmt.{decimal};
-ghost use Rattle.b2_log.specs.Lines.{escaped, next_bytes, field, number};
+ghost use Rattle.b2_log.specs.Lines.{tab, escaped, next_bytes, field, number};
 ghost use Rattle.b2_base.specs.Bytes.{backslash};
 ghost use Rattle.b2_log.specs.Good.{IsText, IsPath, IsNumber, IsDigest};
-ghost use Rattle.b2_log.specs.Readings.{Begins, BeginsNone, HasNoNext, IsNoEscape, HasNoMark, mark_field, HasNoTag, tag_field};
+ghost use Rattle.b2_log.specs.Readings.{Begins, BeginsNone, HasNoNext, IsNoEscape, IsPlain, HasNoMark, mark_field, HasNoTag, tag_field};
 
 use crate::proper::is_digest;
 use crate::refusal::Refusal;
 use crate::tag::Tag;
 use b2_base::decimal::has_lead;
-use b2_base::path::{Path, PathFault};
+use b2_base::fault::OutOfMemory;
+use b2_base::path::Path;
 use b2_base::text::{Text, has_no_zero};
 use std::alloc::Global;
+use std::borrow::CowStr;
 
 /// The byte that a backslash and this sign stand for.
 fn unescaped(sign: u8) -> Option<u8>
@@ -42,26 +46,71 @@ fn next_byte(bytes: &[u8]) -> Option<(Option<u8>, &[u8])>
     }
 }
 
-/// The bytes of the first field, and what follows its tab.
-fn bytes_at(alloc: Global, bytes: &[u8]) -> Result<(Vec<u8>, &[u8]), Refusal>
-    ensures found { IfOk result (λ read. bytes.now ≡ field read.0.items ++ read.1.now) }
-    ensures refused { IsErrOf result Refusal.NotGood → (text rest : List ℕ) → bytes.now ≢ field text ++ rest }
+/// Whether a byte is written as it is within a field, and is not zero.
+fn is_plain(byte: u8) -> bool
+    ensures { IsTrue result → IsPlain byte }
 {
-    let mut text = Vec::new(alloc);
-    let mut rest = bytes;
+    !matches!(byte, 0 | b'\t' | b'\n' | b'\\')
+}
+
+/// How many plain bytes stand first.
+fn plain_count(bytes: &[u8]) -> usize
+    ensures within { result ≤ length bytes.now }
+    ensures plain { All IsPlain (take result bytes.now) }
+{
+    for (count, byte) in bytes.iter().enumerate() {
+        if !is_plain(*byte) {
+            return count;
+        }
+    }
+    bytes.len()
+}
+
+/// The plain bytes that stand first, and what follows them.
+fn plain_at(bytes: &[u8]) -> (&[u8], &[u8])
+    ensures split { bytes.now ≡ result.0.now ++ result.1.now }
+    ensures plain { All IsPlain result.0.now }
+{
+    bytes.split_at(plain_count(bytes))
+}
+
+/// What follows a tab that stands first.
+fn after_tab(bytes: &[u8]) -> Option<&[u8]>
+    ensures { IfSome result (λ after. bytes.now ≡ tab ∷ after.now) }
+{
+    match bytes {
+        [b'\t', after @ ..] => Some(after),
+        _ => None,
+    }
+}
+
+/// The bytes of a field of which plain bytes were read, and what follows its tab.
+fn bytes_after<'a>(
+    alloc: Global,
+    plain: &[u8],
+    rest: &'a [u8],
+) -> Result<(Vec<u8>, &'a [u8]), Refusal>
+    requires { All IsPlain plain.now }
+    ensures found { IfOk result (λ read. plain.now ++ rest.now ≡ field read.0.items ++ read.1.now) }
+    ensures refused { IsErrOf result Refusal.NotGood → (text after : List ℕ) → plain.now ++ rest.now ≢ field text ++ after }
+{
+    let mut text = Vec::from_slice(alloc, plain)?;
+    let mut rest = rest;
     while let Some((next, after)) = next_byte(rest) {
         match next {
             None => return Ok((text, after)),
             Some(byte) => text.push(byte)?,
         }
+        let (piece, after) = plain_at(after);
+        text.extend_from_slice(piece)?;
         rest = after;
     }
     Err(Refusal::NotGood)
 }
 
 /// Refused where they are no UTF-8 or have a zero byte, since no field that was written has these.
-fn text_of(bytes: Vec<u8>) -> Result<Text, Refusal>
-    ensures found { IfOk result (λ text. (text ≡ bytes.items) × IsText bytes.items) }
+fn text_of(bytes: Vec<u8>) -> Result<String, Refusal>
+    ensures found { IfOk result (λ text. (string_bytes text ≡ bytes.items) × IsText bytes.items) }
     ensures refused { IsErrOf result Refusal.NotGood → ¬ IsText bytes.items }
 {
     let Ok(text) = String::from_utf8(bytes) else {
@@ -70,6 +119,43 @@ fn text_of(bytes: Vec<u8>) -> Result<Text, Refusal>
     if !has_no_zero(text.as_str()) {
         return Err(Refusal::NotGood);
     }
+    Ok(text)
+}
+
+/// Plain bytes as text; refused where they are no UTF-8.
+fn plain_text(bytes: &[u8]) -> Result<&str, Refusal>
+    requires { All IsPlain bytes.now }
+    ensures found { IfOk result (λ text. (text.now ≡ bytes.now) × IsText bytes.now) }
+    ensures refused { IsErrOf result Refusal.NotGood → ¬ IsText bytes.now }
+{
+    match str::from_utf8(bytes) {
+        Ok(text) => Ok(text),
+        Err(_) => Err(Refusal::NotGood),
+    }
+}
+
+/// The text of the first field, and what follows its tab. It is lent where all its bytes are plain, and takes memory where
+/// a byte was written otherwise.
+fn field_at(alloc: Global, bytes: &[u8]) -> Result<(CowStr<'_>, &[u8]), Refusal>
+    ensures found { IfOk result (λ read. Begins field IsText bytes.now (cow_str_bytes read.0) read.1.now) }
+    ensures refused { IsErrOf result Refusal.NotGood → BeginsNone field IsText bytes.now }
+{
+    let (plain, rest) = plain_at(bytes);
+    if let Some(after) = after_tab(rest) {
+        let text = plain_text(plain)?;
+        return Ok((CowStr::Borrowed(text), after));
+    }
+    let (text, after) = bytes_after(alloc, plain, rest)?;
+    let text = text_of(text)?;
+    Ok((CowStr::Owned(text), after))
+}
+
+/// The text as one of its own.
+fn owned(alloc: Global, text: CowStr<'_>) -> Result<Text, OutOfMemory>
+    requires { IsText (cow_str_bytes text) }
+    ensures { IfOk result (λ made. made ≡ cow_str_bytes text.entry) }
+{
+    let text = text.into_owned(alloc)?;
     Ok(Text::from_string(text))
 }
 
@@ -78,33 +164,20 @@ pub fn text_at(alloc: Global, bytes: &[u8]) -> Result<(Text, &[u8]), Refusal>
     ensures found { IfOk result (λ read. Begins field IsText bytes.now read.0 read.1.now) }
     ensures refused { IsErrOf result Refusal.NotGood → BeginsNone field IsText bytes.now }
 {
-    let (text, rest) = bytes_at(alloc, bytes)?;
-    let text = text_of(text)?;
+    let (text, rest) = field_at(alloc, bytes)?;
+    let text = owned(alloc, text)?;
     Ok((text, rest))
 }
 
-/// Whether the path has this text.
-fn is_named(path: &Path, text: &str) -> bool
-    ensures { IsTrue result ↔ (path.now ≡ text.now) }
-{
-    path.as_str() == text
-}
-
 /// The path that is a text in normal form.
-fn path_of(alloc: Global, text: &str) -> Result<Path, Refusal>
-    ensures found { IfOk result (λ path. (path ≡ text.now) × IsPath text.now) }
-    ensures refused { IsErrOf result Refusal.NotGood → ¬ IsPath text.now }
+fn path_of(alloc: Global, text: Text) -> Result<Path, Refusal>
+    requires { IsText text }
+    ensures found { IfOk result (λ path. (path ≡ text) × IsPath text) }
+    ensures refused { IsErrOf result Refusal.NotGood → ¬ IsPath text }
 {
-    match Path::normal(alloc, text) {
-        Ok(path) => {
-            if is_named(&path, text) {
-                Ok(path)
-            } else {
-                Err(Refusal::NotGood)
-            }
-        }
-        Err(PathFault::OutOfMemory) => Err(Refusal::OutOfMemory),
-        Err(PathFault::Empty | PathFault::Nul) => Err(Refusal::NotGood),
+    match Path::from_text(alloc, text)? {
+        Some(path) => Ok(path),
+        None => Err(Refusal::NotGood),
     }
 }
 
@@ -114,7 +187,7 @@ pub fn path_at(alloc: Global, bytes: &[u8]) -> Result<(Path, &[u8]), Refusal>
     ensures refused { IsErrOf result Refusal.NotGood → BeginsNone field IsPath bytes.now }
 {
     let (text, rest) = text_at(alloc, bytes)?;
-    let path = path_of(alloc, text.as_str())?;
+    let path = path_of(alloc, text)?;
     Ok((path, rest))
 }
 
@@ -133,7 +206,7 @@ pub fn number_at(alloc: Global, bytes: &[u8]) -> Result<(u64, &[u8]), Refusal>
     ensures found { IfOk result (λ read. Begins number IsNumber bytes.now read.0 read.1.now) }
     ensures refused { IsErrOf result Refusal.NotGood → BeginsNone number IsNumber bytes.now }
 {
-    let (text, rest) = text_at(alloc, bytes)?;
+    let (text, rest) = field_at(alloc, bytes)?;
     match number_of(text.as_str()) {
         Some(n) => Ok((n, rest)),
         None => Err(Refusal::NotGood),
@@ -145,11 +218,12 @@ pub fn digest_at(alloc: Global, bytes: &[u8]) -> Result<(Text, &[u8]), Refusal>
     ensures found { IfOk result (λ read. Begins field IsDigest bytes.now read.0 read.1.now) }
     ensures refused { IsErrOf result Refusal.NotGood → BeginsNone field IsDigest bytes.now }
 {
-    let (text, rest) = text_at(alloc, bytes)?;
+    let (text, rest) = field_at(alloc, bytes)?;
     if !is_digest(text.as_str()) {
         return Err(Refusal::NotGood);
     }
-    Ok((text, rest))
+    let digest = owned(alloc, text)?;
+    Ok((digest, rest))
 }
 
 /// Whether the first field is the mark of a name in quotes or in angle brackets, and what follows its tab.

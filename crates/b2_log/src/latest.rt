@@ -1,5 +1,5 @@
 //! The place of the last line about each subject.
-ghost use Rattle.std.specs.Prelude.{◌≡◌, Option, Some, None, if◌then◌else◌, OnOk, OnErr};
+ghost use Rattle.std.specs.Prelude.{◌≡◌, Option, Some, None, if◌then◌else◌, IfOk, OnOk, OnErr};
 ghost use Rattle.b2_log.specs.declared.subject.Subject.{Subject};
 ghost use Rattle.b2_log.specs.Finding.{subject_eq};
 ghost use Rattle.b2_log.specs.Places.{place_in};
@@ -42,29 +42,15 @@ impl Latest {
         self.scans.get(path).copied()
     }
 
-    /// The place of the last line about a subject, from 0; None where there is no such line. Takes no memory.
-    pub fn of(&self, subject: &Subject) -> Option<usize>
-        ensures { result ≡ place_in self.now subject.now }
-    {
-        match subject {
-            Subject::Outputs(outs) => self.of_outputs(outs.as_slice()),
-            Subject::Scanned(path) => self.of_scanned(path),
-        }
-    }
-
-    /// Puts a place for a subject. After an error all is as before.
-    pub fn put(&mut self, subject: Subject, place: usize) -> Result<(), OutOfMemory>
+    /// Puts a place for a subject, and answers the one that it had before. After an error all is as before.
+    pub fn put(&mut self, subject: Subject, place: usize) -> Result<Option<usize>, OutOfMemory>
         ensures ok { OnOk result ((other : Subject) → place_in self.new other ≡ (if subject_eq subject other then Some place else place_in self.old other)) }
+        ensures before { IfOk result (λ before. before ≡ place_in self.old subject) }
         ensures err { OnErr result ((other : Subject) → place_in self.new other ≡ place_in self.old other) }
     {
         match subject {
-            Subject::Outputs(outs) => {
-                let _ = self.steps.insert(outs.into_vec(), place)?;
-            }
-            Subject::Scanned(path) => {
-                let _ = self.scans.insert(path, place)?;
-            }
+            Subject::Outputs(outs) => Ok(self.steps.insert(outs.into_vec(), place)?),
+            Subject::Scanned(path) => Ok(self.scans.insert(path, place)?),
         }
-        Ok(())
     }
 }

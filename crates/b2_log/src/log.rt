@@ -1,18 +1,19 @@
 //! A log: its lines, and the last one about each subject.
-ghost use Rattle.std.specs.Prelude.{◌≡◌, ◌+◌, ◌∷◌, ◌++◌, [], length, IfOk, OnOk, OnErr, IfSome};
-ghost use Rattle.std.specs.List.{AllByRecursion};
+ghost use Rattle.std.specs.Prelude.{◌≡◌, ◌+◌, ◌^◌, ◌<◌, ◌≤◌, false, not, ◌∷◌, ◌++◌, [], length, IfOk, OnOk, OnErr, IfSome, MatchOption};
+ghost use Rattle.std.specs.List.{AllByRecursion, slice_index_or};
 ghost use Rattle.std.specs.Option.{option_copied};
+ghost use Rattle.b2_log.specs.declared.line.LogLine.{LogLine};
 ghost use Rattle.b2_log.specs.declared.line.LogLine.TheVariants as lines;
 ghost use Rattle.b2_log.specs.Lines.{log_bytes};
 ghost use Rattle.b2_log.specs.Good.{IsProper, IsGood};
 ghost use Rattle.b2_log.specs.Readings.{IsReading};
-ghost use Rattle.b2_log.specs.Places.{place_in, option_is, kept_at};
+ghost use Rattle.b2_log.specs.Places.{place_in, option_is, kept_at, one_if};
 ghost use Rattle.b2_log.specs.Finding.{subject_of, is_drop, record_in, scan_in, find_record, find_scan, kept};
 
 use crate::latest::Latest;
 use crate::line::{LogLine, Record, ScanLine};
 use crate::read::next_line;
-use crate::subject::subject_of;
+use crate::subject::{paths_of, subject_of};
 use crate::write::push_line;
 use b2_base::fault::OutOfMemory;
 use b2_base::path::Path;
@@ -24,6 +25,7 @@ pub struct Log {
     alloc: Global,
     lines: Vec<LogLine>,
     latest: Latest,
+    kept_count: usize,
     good: usize,
 }
 
@@ -34,6 +36,7 @@ impl Drop for Log {
             alloc: _,
             lines,
             latest,
+            kept_count: _,
             good: _,
         } = self;
         drop(lines);
@@ -46,11 +49,11 @@ impl Model for Log {
 
     ghost Value = { Contents };
 
-    ghost use Rattle.b2_log.specs.Places.{place_in, IsIndexed};
+    ghost use Rattle.b2_log.specs.Places.{place_in, IsLog};
 
     ghost view = { λ l. record { lines = l.lines.items; good = l.good } };
 
-    ghost invariant = { λ l. IsIndexed l.lines.items (place_in l.latest) };
+    ghost invariant = { λ l. IsLog l.lines.items (place_in l.latest) l.kept_count };
 }
 
 fn is_drop(line: &LogLine) -> bool
@@ -68,6 +71,20 @@ fn is_place(found: Option<usize>, place: usize) -> bool
     }
 }
 
+/// The place of the last line about the subject of a line.
+fn last_place(alloc: Global, latest: &Latest, line: &LogLine) -> Result<Option<usize>, OutOfMemory>
+    ensures { IfOk result (λ place. place ≡ place_in latest.now (subject_of line.now)) }
+{
+    match line {
+        LogLine::Record(record) => {
+            let outs = paths_of(alloc, record.outs.as_slice())?;
+            Ok(latest.of_outputs(outs.as_slice()))
+        }
+        LogLine::Drop(outs) => Ok(latest.of_outputs(outs.as_slice())),
+        LogLine::Scan(scan) => Ok(latest.of_scanned(&scan.path)),
+    }
+}
+
 /// Whether the last line about the subject of a line stands at this place.
 fn is_last(
     alloc: Global,
@@ -77,8 +94,32 @@ fn is_last(
 ) -> Result<bool, OutOfMemory>
     ensures { IfOk result (λ last. last ≡ option_is (place_in latest.now (subject_of line.now)) place) }
 {
-    let subject = subject_of(alloc, line)?;
-    Ok(is_place(latest.of(&subject), place))
+    let last = last_place(alloc, latest, line)?;
+    Ok(is_place(last, place))
+}
+
+/// Whether a line stands at this place that is no drop.
+fn is_told_at(lines: &[LogLine], place: Option<usize>) -> bool
+    requires { IfSome place (λ found. found < length lines.now) }
+    ensures { MatchOption place (result ≡ false) (λ found. (d : LogLine) → result ≡ not (is_drop (slice_index_or lines.now found d))) }
+{
+    match place {
+        None => false,
+        Some(found) => !is_drop(&lines[found]),
+    }
+}
+
+/// How many lines are kept after one more line, which may be kept itself, and of which an earlier one may be kept no longer.
+fn count_after(count: usize, gains: bool, loses: bool) -> usize
+    requires room { count + one_if gains < 2 ^ 64 }
+    requires one { one_if loses ≤ count + one_if gains }
+    ensures { result + one_if loses ≡ count + one_if gains }
+{
+    match (gains, loses) {
+        (true, false) => count + 1,
+        (false, true) => count - 1,
+        _ => count,
+    }
 }
 
 /// Appends a line at a place where it is kept: where it is no drop, and no later line is about its subject.
@@ -128,6 +169,7 @@ impl Log {
             alloc,
             lines: Vec::new(alloc),
             latest: Latest::new(alloc),
+            kept_count: 0,
             good: 0,
         }
     }
@@ -137,6 +179,20 @@ impl Log {
         ensures { result ≡ self.now.good }
     {
         self.good
+    }
+
+    /// How many lines the log has: those that were read, and those that were added. In constant time.
+    pub fn line_count(&self) -> usize
+        ensures { result ≡ length self.now.lines }
+    {
+        self.lines.len()
+    }
+
+    /// How many lines are kept: the records and scans whose subject no later line has. In constant time.
+    pub fn kept_count(&self) -> usize
+        ensures { result ≡ length (kept self.now.lines) }
+    {
+        self.kept_count
     }
 
     /// The record of the last line about exactly these outputs in this order. There is none where that line is a drop or
@@ -164,10 +220,15 @@ impl Log {
         ensures err { OnErr result (self.new ≡ self.old) }
     {
         let subject = subject_of(self.alloc, &line)?;
-        let place = self.lines.as_slice().len();
+        let place = self.lines.len();
+        let gains = !is_drop(&line);
         self.lines.push(line)?;
         match self.latest.put(subject, place) {
-            Ok(()) => Ok(()),
+            Ok(before) => {
+                let loses = is_told_at(self.lines.as_slice(), before);
+                self.kept_count = count_after(self.kept_count, gains, loses);
+                Ok(())
+            }
             Err(_) => {
                 self.lines.pop();
                 Err(OutOfMemory)

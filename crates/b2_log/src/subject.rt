@@ -17,15 +17,16 @@ pub enum Subject {
     Scanned(Path),
 }
 
-/// The paths of files with stamps.
-fn paths_of(alloc: Global, files: &[(Path, u64)]) -> Result<PathList, OutOfMemory>
+/// The paths of files with stamps. Takes memory once.
+pub fn paths_of(alloc: Global, files: &[(Path, u64)]) -> Result<PathList, OutOfMemory>
     ensures { IfOk result (λ paths. paths ≡ map path_of files.now) }
 {
-    let mut paths = PathList::new(alloc);
+    let mut paths = Vec::new(alloc);
+    paths.reserve_exact(files.len())?;
     for file in files {
         paths.push(file.0.copy()?)?;
     }
-    Ok(paths)
+    Ok(PathList::from_vec(paths))
 }
 
 /// What a line is about: the outputs of a record or a drop, the path of a scan.

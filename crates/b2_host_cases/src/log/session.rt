@@ -89,9 +89,20 @@ fn line_command(alloc: Global, command: &Command) -> Result<Answer, CaseFault> {
     }
 }
 
-fn good(alloc: Global, log: &Log, words: &[Word]) -> Result<Answer, CaseFault> {
+fn number(alloc: Global, words: &[Word], number: usize) -> Result<Answer, CaseFault> {
     no_words(words)?;
-    Answer::number(alloc, log.good() as u64)
+    Answer::number(alloc, number as u64)
+}
+
+/// Carries out a command that asks for a number of the log, or one on lines alone.
+fn count_command(alloc: Global, log: &Log, command: &Command) -> Result<Answer, CaseFault> {
+    let words = command.words();
+    match command.name() {
+        "good" => number(alloc, words, log.good()),
+        "line_count" => number(alloc, words, log.line_count()),
+        "kept_count" => number(alloc, words, log.kept_count()),
+        _ => line_command(alloc, command),
+    }
 }
 
 fn kept(alloc: Global, log: &Log, words: &[Word]) -> Result<Answer, CaseFault> {
@@ -122,12 +133,11 @@ fn scanned(alloc: Global, log: &Log, words: &[Word]) -> Result<Answer, CaseFault
 fn look_command(alloc: Global, log: &Log, command: &Command) -> Result<Answer, CaseFault> {
     let words = command.words();
     match command.name() {
-        "good" => good(alloc, log, words),
         "kept" => kept(alloc, log, words),
         "find" => found(alloc, log, words),
         "scan" => scanned(alloc, log, words),
         "read_prefixes" => prefixes_answer(alloc, given(alloc, command)?.as_slice()),
-        _ => line_command(alloc, command),
+        _ => count_command(alloc, log, command),
     }
 }
 
