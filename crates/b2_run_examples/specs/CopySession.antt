@@ -1,8 +1,8 @@
-use Rattle.std.specs.Prelude.{[], ◌∷◌, Some, None}
+use Rattle.std.specs.Prelude.{[], ◌∷◌, false, Some, None}
 use Rattle.b2_host.specs.declared.children.ChildEvent.TheVariants.{Start}
 use Rattle.b2_host.specs.Disks.{Disk, Past}
 use Rattle.b2_host.specs.ChildProcesses.{Family}
-use Rattle.b2_host.specs.Outside.{Read}
+use Rattle.b2_host.specs.Outside.{Read, Risks}
 use Rattle.b2_host.specs.FileCalls.{log_path}
 use Rattle.b2_runs.specs.LogCourses.{IsLogCut}
 use Rattle.b2_runs.specs.Reports.{no_lists, report}
@@ -26,16 +26,20 @@ family_idle = record { running = []; events = []; given = Some [] }
 abbrev pub log_read : Read
 log_read = record { path = log_path; stamp = None; log = None }
 
+-- nothing may go wrong
+abbrev pub no_risks : Risks
+no_risks = record { may_fail = false; wait_may_fail = false; may_end_badly = false }
+
 abbrev pub moment_before : Moment
 moment_before = record {
-  host = record { disk = Some disk_before; reads = Some []; children = family_idle; faults = 0; failed_waits = 0 };
-  out = record { written = Some []; faults = 0 };
+  host = record { disk = Some disk_before; reads = Some []; children = family_idle; faults = 0; failed_waits = 0; risks = no_risks };
+  out = record { written = Some []; faults = 0; may_fail = false };
 }
 
 abbrev pub moment_after : Moment
 moment_after = record {
-  host = record { disk = Some disk_logged; reads = Some (log_read ∷ []); children = family_after; faults = 0; failed_waits = 0 };
-  out = record { written = Some (report copying.build.steps copied no_lists); faults = 0 };
+  host = record { disk = Some disk_logged; reads = Some (log_read ∷ []); children = family_after; faults = 0; failed_waits = 0; risks = no_risks };
+  out = record { written = Some (report copying.build.steps copied no_lists); faults = 0; may_fail = false };
 }
 
 -- The update that copies has done all that an update does which answers that all went well; so it alone is a session.
