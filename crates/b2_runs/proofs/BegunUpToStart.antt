@@ -24,20 +24,20 @@ start_not_done before (Done k well ∷ rest) ends i c = elim (Contains_cases (Do
 ]
 
 -- each start of what has begun is before the ends
-start_before : (u : Update) (events : List ChildEvent) (b : IsBegun u events) (i : ℕ) → Contains events (Start i) → Contains b.front (Start i)
+pub start_before : (u : Update) (events : List ChildEvent) (b : IsBegun u events) (i : ℕ) → Contains events (Start i) → Contains b.front (Start i)
 start_before u events b i c = elim (Contains-append_cases b.front b.rest (Start i) (subst (λ l. Contains l (Start i)) b.whole c)) [
   | inl d ↦ d
   | inr d ↦ absurd (start_not_done b.front b.rest b.ends i d)
 ]
 
 -- each event before the ends is one of all
-event_after : (u : Update) (events : List ChildEvent) (b : IsBegun u events) (event : ChildEvent) → Contains b.front event → Contains events event
+pub event_after : (u : Update) (events : List ChildEvent) (b : IsBegun u events) (event : ChildEvent) → Contains b.front event → Contains events event
 event_after u events b event c = subst (λ l. Contains l event) (sym b.whole) (Contains-append_left b.front b.rest event c)
 
 pub run_is_begun : RunIsBegun
 run_is_begun u events run = (record { front = events; rest = []; whole = sym (append-nil events); run = run; ends = tt }, refl)
 
-more_ends : (before rest : List ChildEvent) (i : ℕ) (well : Bool) → OpenEnds before rest → IsOpen (before ++ rest) i → OpenEnds before (rest ++ Done i well ∷ [])
+pub more_ends : (before rest : List ChildEvent) (i : ℕ) (well : Bool) → OpenEnds before rest → IsOpen (before ++ rest) i → OpenEnds before (rest ++ Done i well ∷ [])
 more_ends before [] i well ends opened = (subst (λ l. IsOpen l i) (append-nil before) opened, tt)
 more_ends before (event ∷ rest) i well ends opened = (ends.0, more_ends (before ++ event ∷ []) rest i well ends.1 (subst (λ l. IsOpen l i) (sym (append_assoc before (event ∷ []) rest)) opened))
 
@@ -86,7 +86,7 @@ sound_before_ends u events disk b s = record {
 loose_before : (u : Update) (events : List ChildEvent) (b : IsBegun u events) (i : ℕ) → IsLoose events i → IsLoose b.front i
 loose_before u events b i l = (start_before u events b i l.0, λ done. l.1 (event_after u events b (Done i true) done))
 
-change_before : (u : Update) (events : List ChildEvent) (before after : Disk) (b : IsBegun u events) → IsAllowedChange u events before after → IsAllowedChange u b.front before after
+pub change_before : (u : Update) (events : List ChildEvent) (before after : Disk) (b : IsBegun u events) → IsAllowedChange u events before after → IsAllowedChange u b.front before after
 change_before u events before after b d = record {
   keeps = d.keeps;
   others = λ path not_log unmade. d.others path not_log (λ i step makes loose. unmade i step makes (loose_before u events b i loose));

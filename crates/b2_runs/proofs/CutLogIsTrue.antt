@@ -1,5 +1,6 @@
-use Rattle.std.proofs.Common.{◌≡◌, ◌⊎◌, ℕ, ◌≤◌, true, List, [], ◌∷◌, ◌++◌, length, inl, inr, refl, sym, ap, subst, ◌∙◌, append_assoc, append-nil, length-append, arith, Option, Some, None}
-use Rattle.std.specs.List.{AllByRecursion}
+use Rattle.std.proofs.Common.{◌≡◌, ◌⊎◌, ℕ, ◌<◌, ◌≤◌, true, List, [], ◌∷◌, ◌++◌, length, inl, inr, refl, sym, ap, subst, ◌∙◌, append_assoc, append-nil, length-append, arith, Option, Some, None}
+use Rattle.std.specs.List.{Contains, AllByRecursion}
+use Rattle.std.specs.Prelude.{unwrap_or}
 use Rattle.std.proofs.lemmas.List.Concat.{flat_map-append}
 use Rattle.b2_host.specs.declared.children.ChildEvent.{ChildEvent}
 use Rattle.b2_host.specs.declared.children.ChildEvent.TheVariants.{Start, Done}
@@ -14,13 +15,15 @@ use Rattle.b2_log.proofs.BytesHaveOneReading.{reading_whole}
 use Rattle.b2_runs.specs.Logs.{Making, LogTrue}
 use Rattle.b2_runs.specs.LogFiles.{log_limit, IsLogOf, IsTrueFile, IsLogHeld}
 use Rattle.b2_runs.specs.Staleness.{Update, making}
+use Rattle.b2_runs.specs.Events.{IsOpen}
 use Rattle.b2_runs.specs.Runs.{OpenEnds, IsBegun}
-use Rattle.b2_runs.specs.Afterwards.{IsNoted}
-use Rattle.b2_runs.specs.LogCourses.{FirstLines, FirstLines.as_it_is, IsLogAfter, held_bytes, log_file, left_file, IsLogCut, IsLogCut.untouched, IsLogCut.replacing, IsLogCut.between, IsLogCut.within}
-use Rattle.b2_runs.specs.LogCourseLaws.{WholeLogCounts, WholeIsCut, WholeLogIsAppendedTo, CutLogIsTrue, CutLogIsNoted, FinishedIsKept, FinishedIsNotStarted}
+use Rattle.b2_runs.specs.Afterwards.{NoneDoneOlder, IsNoted}
+use Rattle.b2_runs.specs.LogCourses.{Opening.to_update, FirstLines, FirstLines.as_it_is, BeginsWith, IsLogAfter, held_bytes, log_file, left_file, IsLogCut, IsLogCut.untouched, IsLogCut.replacing, IsLogCut.between, IsLogCut.within}
+use Rattle.b2_runs.specs.LogCourseLaws.{GoodBytesAreSpelled, AppendLeavesFile, WholeLogCounts, WholeIsCut, WholeLogIsAppendedTo, CutLogThroughEnd, CutLogThroughChange, CutLogIsTrue, CutLogIsNoted, FinishedIsKept, FinishedIsNotStarted}
+use Rattle.b2_runs.proofs.FirstElementOrLater.{Contains_nil}
 use Rattle.b2_runs.proofs.TrueWithLine.{true_with_fewer}
 use Rattle.b2_runs.proofs.RunGoesOn.{run_has_begun}
-use Rattle.b2_runs.proofs.BegunUpToStart.{sound_before_ends, begun_holds_earlier}
+use Rattle.b2_runs.proofs.BegunUpToStart.{event_after, change_before, more_ends, sound_before_ends, begun_holds_earlier}
 use Rattle.b2_runs.proofs.NoWorkIsLost.{finished_is_recorded, no_work_is_lost}
 use Rattle.b2_runs.proofs.FileIsOneLog.{file_is_one_log}
 use Rattle.b2_runs.proofs.KeptTellsSame.{kept_among}
@@ -28,9 +31,8 @@ use Rattle.b2_runs.proofs.TrueFileTells.{true_front}
 use Rattle.b2_runs.proofs.TornAppendLeaves.{torn_append_leaves}
 use Rattle.b2_runs.proofs.FirstLinesAreOne.{is_from, begins_with_one, begin_tells_records, begin_is_read, lines_are_read}
 use Rattle.b2_runs.proofs.LogTellsOthers.{log_grows}
-use Rattle.b2_runs.proofs.LogStaysTrue.{log_stays_true}
+use Rattle.b2_runs.proofs.LogStaysTrue.{log_moves, log_stays_true}
 use Rattle.b2_runs.proofs.LogIsNoted.{log_is_noted}
-use Rattle.b2_runs.proofs.LogStaysGood.{log_stays_good}
 
 -- ---- bytes and lines
 
@@ -59,7 +61,7 @@ held_is_one : (o : Option (List ℕ)) (log other : List LogLine) → IsLogHeld o
 held_is_one o log other is is_other = file_is_one_log (held_bytes o) log other (held_counts o log is) (held_counts o other is_other)
 
 -- bytes all of which are good are the spelling of their lines
-whole_bytes : (bytes : List ℕ) (log : List LogLine) → IsReading bytes log (length bytes) → bytes ≡ log_bytes log
+pub whole_bytes : GoodBytesAreSpelled
 whole_bytes bytes log r = go r.rest r.split
   where
     go : (rest : List ℕ) → bytes ≡ log_bytes log ++ rest → bytes ≡ log_bytes log
@@ -69,10 +71,24 @@ whole_bytes bytes log r = go r.rest r.split
 bytes_pushed : (log : List LogLine) (line : LogLine) → log_bytes (log ++ line ∷ []) ≡ log_bytes log ++ spelling line
 bytes_pushed log line = flat_map-append spelling log (line ∷ []) ∙ ap (λ (w : List ℕ). log_bytes log ++ w) (append-nil (spelling line))
 
+-- one line more in the file that is left
+pub append_leaves_file : AppendLeavesFile
+append_leaves_file before disk log line is =
+    ap (λ (o : Option (List ℕ)). Some (unwrap_or o [] ++ spelling line)) is ∙ go before (log_bytes log) ∙ ap (left_file before) (sym (bytes_pushed log line))
+  where
+    some : (bytes : List ℕ) → 0 < length bytes → Some bytes ≡ left_file None bytes
+    some [] more = absurd (omega (arith, more))
+    some (byte ∷ bytes) more = refl
+
+    go : (o : Option (List ℕ)) (bytes : List ℕ) → Some (unwrap_or (left_file o bytes) [] ++ spelling line) ≡ left_file o (bytes ++ spelling line)
+    go (Some old) bytes = refl
+    go None [] = some (spelling line) (line_long line)
+    go None (byte ∷ bytes) = refl
+
 -- what an update begins with is true where its log at entry is
-first_true : (m : Making) (past : List Past) (bytes : List ℕ) (first : List LogLine) → IsTrueFile m past bytes → FirstLines bytes first → LogTrue m past first
+first_true : (m : Making) (past : List Past) (bytes : List ℕ) (first : List LogLine) → IsTrueFile m past bytes → FirstLines to_update bytes first → LogTrue m past first
 first_true m past bytes first whole b =
-    let f = is_from bytes first b in
+    let f = is_from to_update bytes first b in
     elim f.same [
       | inl e ↦ subst (LogTrue m past) (sym e) (whole f.log f.counts)
       | inr e ↦ subst (LogTrue m past) (sym e) (true_with_fewer m past f.log (kept f.log) (kept_among f.log) (whole f.log f.counts))
@@ -85,12 +101,10 @@ part_true m past log part missing each whole e = true_front m past part missing 
 -- ---- where an update ended, or was cut off
 
 pub whole_log_counts : WholeLogCounts
-whole_log_counts u events now w apart good fits_in =
-    let each = log_stays_good u now w.first w.log events apart good (begin_is_read (held_bytes (log_file u.build.folder)) w.first w.begins).0 w.course in
-    subst (λ o. IsLogHeld o w.log) (sym w.file) (left_counts (log_file u.build.folder) w.log each fits_in)
+whole_log_counts u events now w fits_in = subst (λ o. IsLogHeld o w.log) (sym w.file) (left_counts (log_file u.build.folder) w.log w.good fits_in)
 
 pub whole_is_cut : WholeIsCut
-whole_is_cut u events now run w = between w.first w.log events [] (sym (append-nil events)) run tt w.begins w.course w.file
+whole_is_cut u events now run w = between w.first w.log events [] (sym (append-nil events)) run tt w.begins w.course w.good w.file
 
 -- ends that follow others follow those before
 ends_later : (before more rest : List ChildEvent) → OpenEnds before (more ++ rest) → OpenEnds (before ++ more) rest
@@ -107,29 +121,65 @@ healthy_grows u events now bytes log at fits_in r short cut = go cut
     same : log_bytes log ≡ bytes
     same = sym (whole_bytes bytes log r)
 
-    first_same : (first : List LogLine) → FirstLines (held_bytes (log_file u.build.folder)) first → log_bytes first ≡ bytes
-    first_same first b = ap log_bytes (begins_with_one bytes first log (subst (λ o. FirstLines (held_bytes o) first) at b) (as_it_is log fits_in r short)) ∙ same
+    first_same : (first : List LogLine) → BeginsWith u first → log_bytes first ≡ bytes
+    first_same first b = ap log_bytes (begins_with_one to_update bytes first log (subst (λ o. FirstLines to_update (held_bytes o) first) at b) (as_it_is log fits_in r short)) ∙ same
 
-    more_of : (first later : List LogLine) (front : List ChildEvent) → FirstLines (held_bytes (log_file u.build.folder)) first → IsLogAfter u now first front later → (more : List ℕ) × (log_bytes later ≡ bytes ++ more)
+    more_of : (first later : List LogLine) (front : List ChildEvent) → BeginsWith u first → IsLogAfter u now first front later → (more : List ℕ) × (log_bytes later ≡ bytes ++ more)
     more_of first later front b c = let (more, e) = grown u now first later front c in (more, e ∙ ap (λ (w : List ℕ). w ++ more) (first_same first b))
 
     go : IsLogCut u events now → (more : List ℕ) × (log_file now ≡ Some (bytes ++ more))
     go (untouched none still) = ([], still ∙ at ∙ ap Some (sym (append-nil bytes)))
     go (replacing first part missing none b other split is) = absurd (other (first_same first b ∙ ap held_bytes (sym at)))
-    go (between first later front rest e run ends b c is) =
+    go (between first later front rest e run ends b c good is) =
         let (more, f) = more_of first later front b c in
         (more, is ∙ ap (λ (o : Option (List ℕ)). left_file o (log_bytes later)) at ∙ ap Some f)
-    go (within first later line front more rest part missing e run ends b c d split is) =
+    go (within first later line front more rest part missing e run ends b c d good split is) =
         let (grew, f) = more_of first later front b c in
         (grew ++ part, is ∙ ap (λ (w : List ℕ). Some (w ++ part)) f ∙ ap Some (append_assoc bytes grew part))
 
-pub cut_log_is_true : CutLogIsTrue
-cut_log_is_true u events disk apart sound good entry cut = go cut
+-- a child that ends after the update stopped leaves the log as it is
+pub cut_log_through_end : CutLogThroughEnd
+cut_log_through_end u events now i well opened cut = go cut
   where
-    each_first : (first : List LogLine) → FirstLines (held_bytes (log_file u.build.folder)) first → AllByRecursion IsGood first
-    each_first first b = (begin_is_read (held_bytes (log_file u.build.folder)) first b).0
+    pushed : (front rest : List ChildEvent) → events ≡ front ++ rest → events ++ Done i well ∷ [] ≡ front ++ (rest ++ Done i well ∷ [])
+    pushed front rest e = ap (λ (l : List ChildEvent). l ++ Done i well ∷ []) e ∙ append_assoc front rest (Done i well ∷ [])
 
-    true_lines : (first log : List LogLine) (b : IsBegun u events) → FirstLines (held_bytes (log_file u.build.folder)) first → IsLogAfter u disk.now first b.front log → LogTrue (making u) disk.past log
+    ends_on : (front rest : List ChildEvent) → events ≡ front ++ rest → OpenEnds front rest → OpenEnds front (rest ++ Done i well ∷ [])
+    ends_on front rest e ends = more_ends front rest i well ends (subst (λ l. IsOpen l i) e opened)
+
+    go : IsLogCut u events now → IsLogCut u (events ++ Done i well ∷ []) now
+    go (untouched none still) = absurd (Contains_nil (Start i) (subst (λ l. Contains l (Start i)) none opened.0))
+    go (replacing first part missing none b other split is) = absurd (Contains_nil (Start i) (subst (λ l. Contains l (Start i)) none opened.0))
+    go (between first log front rest e run ends b c good is) = between first log front (rest ++ Done i well ∷ []) (pushed front rest e) run (ends_on front rest e ends) b c good is
+    go (within first log line front more rest part missing e run ends b c d good split is) =
+        within first log line front more (rest ++ Done i well ∷ []) part missing (pushed (front ++ more) rest e) run
+        (subst (OpenEnds front) (append_assoc more rest (Done i well ∷ [])) (ends_on front (more ++ rest) (e ∙ append_assoc front more rest) ends)) b c d good split is
+
+-- and so do children that run on
+pub cut_log_through_change : CutLogThroughChange
+cut_log_through_change u events before after apart d same cut = go cut
+  where
+    moved : (first log : List LogLine) (b : IsBegun u events) → IsLogAfter u before.now first b.front log → IsLogAfter u after.now first b.front log
+    moved first log b c = log_moves u b.front before after first log apart b.run (change_before u events before after b d) c
+
+    go : IsLogCut u events before.now → IsLogCut u events after.now
+    go (untouched none still) = untouched none (same ∙ still)
+    go (replacing first part missing none b other split is) = replacing first part missing none b other split (same ∙ is)
+    go (between first log front rest e run ends b c good is) =
+        between first log front rest e run ends b (moved first log (record { front = front; rest = rest; whole = e; run = run; ends = ends }) c) good (same ∙ is)
+    go (within first log line front more rest part missing e run ends b c k good split is) =
+        within first log line front more rest part missing e run ends b
+        (moved first log (record { front = front; rest = more ++ rest; whole = e ∙ append_assoc front more rest; run = run_has_begun u front more run; ends = ends }) c)
+        (moved first (log ++ line ∷ []) (record { front = front ++ more; rest = rest; whole = e; run = run; ends = ends_later front more rest ends }) k)
+        good split (same ∙ is)
+
+pub cut_log_is_true : CutLogIsTrue
+cut_log_is_true u events disk apart sound entry cut = go cut
+  where
+    each_first : (first : List LogLine) → BeginsWith u first → AllByRecursion IsGood first
+    each_first first b = (begin_is_read to_update (held_bytes (log_file u.build.folder)) first b).0
+
+    true_lines : (first log : List LogLine) (b : IsBegun u events) → BeginsWith u first → IsLogAfter u disk.now first b.front log → LogTrue (making u) disk.past log
     true_lines first log b begins c =
         log_stays_true u b.front disk first log apart b.run (sound_before_ends u events disk b sound) (first_true (making u) disk.past (held_bytes (log_file u.build.folder)) first entry begins) c
 
@@ -138,45 +188,47 @@ cut_log_is_true u events disk apart sound good entry cut = go cut
     go (replacing first part missing none b other split is) =
         subst (λ o. IsTrueFile (making u) disk.past (held_bytes o)) (sym is)
         (part_true (making u) disk.past first part missing (each_first first b) (first_true (making u) disk.past (held_bytes (log_file u.build.folder)) first entry b) split)
-    go (between first log front rest e run ends b c is) =
-        let each = log_stays_good u disk.now first log front apart good (each_first first b) c in
-        let whole = part_true (making u) disk.past log (log_bytes log) [] each (true_lines first log (record { front = front; rest = rest; whole = e; run = run; ends = ends }) b c) (sym (append-nil (log_bytes log))) in
+    go (between first log front rest e run ends b c good is) =
+        let whole = part_true (making u) disk.past log (log_bytes log) [] good (true_lines first log (record { front = front; rest = rest; whole = e; run = run; ends = ends }) b c) (sym (append-nil (log_bytes log))) in
         subst (IsTrueFile (making u) disk.past) (sym (ap held_bytes is ∙ held_left (log_file u.build.folder) (log_bytes log))) whole
-    go (within first log line front more rest part missing e run ends b c d split is) =
+    go (within first log line front more rest part missing e run ends b c d good split is) =
         let begun : IsBegun u events = record { front = front ++ more; rest = rest; whole = e; run = run; ends = ends_later front more rest ends } in
-        let each = log_stays_good u disk.now first (log ++ line ∷ []) (front ++ more) apart good (each_first first b) d in
         let spelled = bytes_pushed log line ∙ ap (λ (w : List ℕ). log_bytes log ++ w) split ∙ sym (append_assoc (log_bytes log) part missing) in
         subst (λ o. IsTrueFile (making u) disk.past (held_bytes o)) (sym is)
-        (part_true (making u) disk.past (log ++ line ∷ []) (log_bytes log ++ part) missing each (true_lines first (log ++ line ∷ []) begun b d) spelled)
+        (part_true (making u) disk.past (log ++ line ∷ []) (log_bytes log ++ part) missing good (true_lines first (log ++ line ∷ []) begun b d) spelled)
+
+-- in the run so far no output that was made is older either
+older_front : (u : Update) (events : List ChildEvent) (now : Folder) (b : IsBegun u events) → NoneDoneOlder u events now → NoneDoneOlder u b.front now
+older_front u events now b older i step members at done file closure = older i step members at (event_after u events b (Done i true) done) file closure
 
 pub cut_log_is_noted : CutLogIsNoted
-cut_log_is_noted u events now log apart good older entry cut limit counts = go cut
+cut_log_is_noted u events now log apart older entry cut limit counts = go cut
   where
-    same : (first : List LogLine) → FirstLines (held_bytes (log_file u.build.folder)) first → (outs : List (List ℕ)) → find_record outs first ≡ find_record outs u.log
-    same first b outs = begin_tells_records (held_bytes (log_file u.build.folder)) first u.log outs b (held_counts (log_file u.build.folder) u.log entry)
+    same : (first : List LogLine) → BeginsWith u first → (outs : List (List ℕ)) → find_record outs first ≡ find_record outs u.log
+    same first b outs = begin_tells_records to_update (held_bytes (log_file u.build.folder)) first u.log outs b (held_counts (log_file u.build.folder) u.log entry)
 
-    each_of : (first later : List LogLine) (front : List ChildEvent) → FirstLines (held_bytes (log_file u.build.folder)) first → IsLogAfter u now first front later → AllByRecursion IsGood later
-    each_of first later front b c = log_stays_good u now first later front apart good (begin_is_read (held_bytes (log_file u.build.folder)) first b).0 c
-
-    noted : (first later : List LogLine) (b : IsBegun u events) → FirstLines (held_bytes (log_file u.build.folder)) first → IsLogAfter u now first b.front later → log ≡ later → (events ≡ []) ⊎ ((b : IsBegun u events) × IsNoted u b.front now log)
-    noted first later b begins c e = inr (b, subst (IsNoted u b.front now) (sym e) (log_is_noted u now first later b.front apart b.run (same first begins) (older b.front b.rest b.whole b.run) c))
+    noted : (first later : List LogLine) (b : IsBegun u events) → BeginsWith u first → IsLogAfter u now first b.front later → log ≡ later → (events ≡ []) ⊎ ((b : IsBegun u events) × IsNoted u b.front now log)
+    noted first later b begins c e = inr (b, subst (IsNoted u b.front now) (sym e) (log_is_noted u now first later b.front apart b.run (same first begins) (older_front u events now b older) c))
 
     go : IsLogCut u events now → (events ≡ []) ⊎ ((b : IsBegun u events) × IsNoted u b.front now log)
     go (untouched none still) = inl none
     go (replacing first part missing none b other split is) = inl none
-    go (between first later front rest e run ends b c is) =
+    go (between first later front rest e run ends b c good is) =
         let fits : length (log_bytes later) ≤ log_limit = subst (λ (w : List ℕ). length w ≤ log_limit) (ap held_bytes is ∙ held_left (log_file u.build.folder) (log_bytes later)) limit in
-        let counts_later = left_counts (log_file u.build.folder) later (each_of first later front b c) fits in
+        let counts_later = left_counts (log_file u.build.folder) later good fits in
         noted first later (record { front = front; rest = rest; whole = e; run = run; ends = ends }) b c
         (held_is_one (left_file (log_file u.build.folder) (log_bytes later)) log later (subst (λ o. IsLogHeld o log) is counts) counts_later)
-    go (within first later line front more rest part missing e run ends b c d split is) =
-        let each = each_of first (later ++ line ∷ []) (front ++ more) b d in
+    go (within first later line front more rest part missing e run ends b c d good split is) =
         let fits : length (log_bytes later ++ part) ≤ log_limit = subst (λ (o : Option (List ℕ)). length (held_bytes o) ≤ log_limit) is limit in
-        elim (torn_append_leaves (log_bytes later) later log line part missing (reading_whole later (each_of first later front b c)) (last_good later line each) split fits (subst (λ o. IsLogHeld o log) is counts)) [
+        elim (torn_append_leaves (log_bytes later) later log line part missing (reading_whole later (first_good later line good)) (last_good later line good) split fits (subst (λ o. IsLogHeld o log) is counts)) [
           | inl whole ↦ noted first (later ++ line ∷ []) (record { front = front ++ more; rest = rest; whole = e; run = run; ends = ends_later front more rest ends }) b d whole.1
           | inr torn ↦ noted first later (record { front = front; rest = more ++ rest; whole = e ∙ append_assoc front more rest; run = run_has_begun u front more run; ends = ends }) b c torn.1
         ]
       where
+        first_good : (xs : List LogLine) (x : LogLine) → AllByRecursion IsGood (xs ++ x ∷ []) → AllByRecursion IsGood xs
+        first_good [] x each = tt
+        first_good (y ∷ xs) x each = (each.0, first_good xs x each.1)
+
         last_good : (xs : List LogLine) (x : LogLine) → AllByRecursion IsGood (xs ++ x ∷ []) → IsGood x
         last_good [] x each = each.0
         last_good (y ∷ xs) x each = last_good xs x each.1
@@ -187,13 +239,13 @@ some_event [] after i events e none = let f : Start i ∷ after ≡ [] = sym e �
 some_event (x ∷ before) after i events e none = let f : x ∷ (before ++ Start i ∷ after) ≡ [] = sym e ∙ none in cc
 
 pub finished_is_kept : FinishedIsKept
-finished_is_kept u events before after now log quit jobs k i step members apart good older entry cut limit counts e done at file closure = elim (cut_log_is_noted u events now log apart good older entry cut limit counts) [
+finished_is_kept u events before after now log quit jobs k i step members apart older entry cut limit counts e done at file closure = elim (cut_log_is_noted u events now log apart older entry cut limit counts) [
   | inl none ↦ absurd (some_event before after k events e none)
   | inr (b, n) ↦ finished_is_recorded u b.front now log quit jobs i step members n at (begun_holds_earlier u events before after k (Done i true) b e done) file closure
 ]
 
 pub finished_is_not_started : FinishedIsNotStarted
-finished_is_not_started u events before after later disk log quit jobs k i step path apart good sound older entry cut limit counts e done makes calm run_later c = elim (cut_log_is_noted u events disk.now log apart good older entry cut limit counts) [
+finished_is_not_started u events before after later disk log quit jobs k i step path apart sound older entry cut limit counts e done makes calm run_later c = elim (cut_log_is_noted u events disk.now log apart older entry cut limit counts) [
   | inl none ↦ some_event before after k events e none
   | inr (b, n) ↦ no_work_is_lost u events later disk log quit jobs i step path b apart sound n run_later makes (begun_holds_earlier u events before after k (Done i true) b e done) calm c
 ]

@@ -9,7 +9,7 @@ use Rattle.b2_log.specs.declared.subject.Subject.{Subject}
 use Rattle.b2_log.specs.declared.subject.Subject.TheVariants as subjects
 use Rattle.b2_log.specs.Finding.{path_of, subject_of, told, record_in, scan_in, find_record, find_scan}
 use Rattle.b2_log.proofs.LastLineHasLastWord as telling
-use Rattle.b2_runs.specs.LogLaws.{FoundIsThere, ScanIsThere, LastRecord, LastDrop, OthersUnsaid, OthersUnsaidThoughTorn}
+use Rattle.b2_runs.specs.LogLaws.{FoundIsThere, ScanIsThere, LastRecord, LastDrop, OthersUnsaid, LastScan, OtherScansUnsaid, OthersUnsaidThoughTorn}
 
 -- the outputs of a subject
 outs_in : Subject → List (List ℕ)
@@ -79,7 +79,7 @@ pub scan_is_other : (outs : List (List ℕ)) (s : ScanLine) → subject_of (line
 scan_is_other outs s e = let f : subjects.Scanned s.path ≡ subjects.Outputs outs = e in cc
 
 -- a line says nothing of a scan of another path
-pub scans_unsaid : (path : List ℕ) (stamp : ℕ) (log : List LogLine) (line : LogLine) → (subject_of line ≡ subjects.Scanned path → ⊥) → find_scan path stamp (log ++ line ∷ []) ≡ find_scan path stamp log
+pub scans_unsaid : OtherScansUnsaid
 scans_unsaid path stamp log line differ = ap (option_and_then (scan_in stamp)) (telling.others_unsaid (subjects.Scanned path) log line differ)
 
 -- outputs are no path that was scanned
@@ -87,5 +87,5 @@ pub outs_not_scanned : (outs : List (List ℕ)) (path : List ℕ) → subjects.O
 outs_not_scanned outs path e = let f : subjects.Outputs outs ≡ subjects.Scanned path = e in cc
 
 -- a scan line at the end is the last line on its path
-pub last_scan : (log : List LogLine) (s : ScanLine) → find_scan s.path s.stamp (log ++ lines.Scan s ∷ []) ≡ Some s
+pub last_scan : LastScan
 last_scan log s = ap (option_and_then (scan_in s.stamp)) (telling.last_word log (lines.Scan s)) ∙ (let e : (s.stamp == s.stamp) ≡ true = (Decides-eqb s.stamp s.stamp).1 refl in ap (λ t. if t then Some s else None) e)

@@ -33,6 +33,7 @@ pub mod StartsAreDone
 pub mod ValuesCanBeGathered
 pub mod StuckNeedsStuck
 pub mod StaleByPoint
+pub mod StartedIsStale
 pub mod NothingIsLeft
 pub mod StartIsOne
 pub mod FailedIsNotSettled
@@ -48,6 +49,7 @@ pub mod ChildrenFollowEvents
 pub mod PlanChildMayStart
 pub mod TooBigIsLarge
 pub mod ReadsOnce
+pub mod ReadsLeaveLines
 pub mod FileIsOneLog
 pub mod KeptTellsSame
 pub mod TrueFileTells
@@ -60,7 +62,10 @@ pub mod LogTellsOthers
 pub mod LogHasRecords
 pub mod LogStaysTrue
 pub mod LogIsNoted
-pub mod LogStaysGood
+pub mod LogTellsSteps
+pub mod DigestsTell
+pub mod NoneIsLeftOut
+pub mod ReplacedIsOther
 pub mod CutLogIsTrue
 pub mod RunIsPrefix
 pub mod LinesFollow

@@ -20,21 +20,21 @@ older_before u events event now older i step members at done file closure = olde
 
 pub log_is_noted : LogIsNoted
 log_is_noted u now first log events apart run same older begins = noted_at_entry u now first same
-log_is_noted u now first log events apart run same older (starts es l i c) =
+log_is_noted u now first log events apart run same older (starts es l i c all) =
     let can : CanStart u es i = (last_may u es (Start i) run).0 in
     noted_after_start u es now l i apart can (log_is_noted u now first l es apart (but_last u es (Start i) run) same (older_before u es (Start i) now older) c)
-log_is_noted u now first log events apart run same older (records es l i step members r c at file closure is) =
+log_is_noted u now first log events apart run same older (records es l i step members r c all at file closure is) =
     let opened : IsOpen es i = (last_may u es (Done i true) run).0 in
     noted_after_record u es now l i step members r apart (log_is_noted u now first l es apart (but_last u es (Done i true) run) same (older_before u es (Done i true) now older) c) opened at closure is
     (older i step members at (Contains-push es (Done i true)) file closure)
-log_is_noted u now first log events apart run same older (owes_none es l i step c at none) =
+log_is_noted u now first log events apart run same older (owes_none es l i step c all at none) =
     let opened : IsOpen es i = (last_may u es (Done i true) run).0 in
     noted_after_other_end u es now l i step true apart opened at (λ e. none) (log_is_noted u now first l es apart (but_last u es (Done i true) run) same (older_before u es (Done i true) now older) c)
-log_is_noted u now first log events apart run same older (drops es l i step r c at found) =
+log_is_noted u now first log events apart run same older (drops es l i step r c all at found) =
     let opened : IsOpen es i = (last_may u es (Done i false) run).0 in
     noted_after_other_end u es now (l ++ lines.Drop step.outs ∷ []) i step false apart opened at (λ e. absurd (let f : false ≡ true = e in cc))
     (noted_after_line u es now l i step (lines.Drop step.outs) apart at (opened.0, opened.1 true) refl (log_is_noted u now first l es apart (but_last u es (Done i false) run) same (older_before u es (Done i false) now older) c))
-log_is_noted u now first log events apart run same older (has_none es l i step c at none) =
+log_is_noted u now first log events apart run same older (has_none es l i step c all at none) =
     let opened : IsOpen es i = (last_may u es (Done i false) run).0 in
     noted_after_other_end u es now l i step false apart opened at (λ e. absurd (let f : false ≡ true = e in cc)) (log_is_noted u now first l es apart (but_last u es (Done i false) run) same (older_before u es (Done i false) now older) c)
 log_is_noted u now first log events apart run same older (scans es l p bytes s c to is new_line) = noted_after_scan u es now l s (log_is_noted u now first l es apart run same older c)

@@ -1,6 +1,6 @@
-use Rattle.std.proofs.Common.{◌≡◌, ℕ, true, false, List, [], ◌∷◌, ◌++◌, sym, ap, subst, ◌∙◌, append_assoc, append-nil, Option, Some, None, option_map}
+use Rattle.std.proofs.Common.{◌≡◌, ◌⊎◌, ℕ, true, false, List, [], ◌∷◌, ◌++◌, inl, inr, sym, ap, subst, ◌∙◌, append_assoc, append-nil, Option, Some, None, option_map}
 use Rattle.std.specs.List.{Contains}
-use Rattle.std.proofs.lemmas.List.Elements.{Contains-push}
+use Rattle.std.proofs.lemmas.List.Elements.{Contains-push, Contains-push_cases}
 use Rattle.b2_host.specs.declared.children.ChildEvent.{ChildEvent}
 use Rattle.b2_host.specs.declared.children.ChildEvent.TheVariants.{Start, Done}
 use Rattle.b2_host.specs.Disks.{File, Folder, Disk, Stood}
@@ -13,14 +13,13 @@ use Rattle.b2_log.specs.declared.line.Digests.{Digests}
 use Rattle.b2_log.specs.declared.line.ScanLine.{ScanLine}
 use Rattle.b2_log.specs.declared.line.LogLine.{LogLine}
 use Rattle.b2_log.specs.declared.line.LogLine.TheVariants as lines
-use Rattle.b2_runs.specs.Logs.{IsTrueScan, LogTrue}
+use Rattle.b2_runs.specs.Logs.{IsTrueScan, IsTrueLine}
 use Rattle.b2_runs.specs.Staleness.{Update, making, paths_with_bytes}
 use Rattle.b2_runs.specs.Records.{HasDigestsOf, IsRecordOf, IsScanOf}
 use Rattle.b2_runs.specs.Runs.{Settled, Settled.done_well, Settled.fresh, MayCome, RunFrom, IsRunSoFar}
 use Rattle.b2_runs.specs.Soundness.{IsSound}
-use Rattle.b2_runs.specs.LogCourses.{IsToMigrate, IsLogAfter, IsLogAfter.begins, IsLogAfter.starts, IsLogAfter.records, IsLogAfter.owes_none, IsLogAfter.drops, IsLogAfter.has_none, IsLogAfter.scans, IsLogAfter.migrates}
-use Rattle.b2_runs.specs.LogCourseLaws.{LogMoves, LogStaysTrue}
-use Rattle.b2_runs.proofs.TrueWithLine.{true_with_line}
+use Rattle.b2_runs.specs.LogCourses.{IsToMigrate, AllMigrated, IsLogAfter, IsLogAfter.begins, IsLogAfter.starts, IsLogAfter.records, IsLogAfter.owes_none, IsLogAfter.drops, IsLogAfter.has_none, IsLogAfter.scans, IsLogAfter.migrates}
+use Rattle.b2_runs.specs.LogCourseLaws.{MigratedAfterChange, LogMoves, LogStaysTrue, ScansStayTrue}
 use Rattle.b2_runs.proofs.SameByStamp.{whole_file, stamped_move, path_in_back, with_bytes_in}
 use Rattle.b2_runs.proofs.SameByDigest.{digested_move}
 use Rattle.b2_runs.proofs.OutputsAreClean.{settled_holds}
@@ -86,25 +85,43 @@ record_move u old new step members r outs ins is = record {
 scan_move : (u : Update) (old new : Folder) (path bytes : List ℕ) (s : ScanLine) → new path ≡ old path → IsScanOf u old path bytes s → IsScanOf u new path bytes s
 scan_move u old new path bytes s same is = record { path_is = is.path_is; stamp = ap (option_map (λ (file : File). file.stamp)) same ∙ is.stamp; includes = is.includes }
 
--- and so do all lines, where what is settled stands as before
+-- so no record with digests is left out
+pub migrated_move : (u : Update) (old new : Folder) (events : List ChildEvent) (log : List LogLine) → Apart u.build.steps u.build.roots → ((path : List ℕ) → Settled u events path → new path ≡ old path) → AllMigrated u events old log → AllMigrated u events new log
+migrated_move u old new events log apart still all step members to =
+    let n = all step members to in
+    record {
+      last = n.last;
+      found = n.found;
+      is_record = record_move u old new step members n.last (λ out d. still out (migrated_outs u events step members apart to out d)) (λ m y d. still m ((migrated_close u events step members apart to).1 m y d)) n.is_record;
+    }
+
+-- and all lines stay what they are, where what is settled stands as before
 lines_move : (u : Update) (old new : Folder) (first log : List LogLine) (events : List ChildEvent) → Apart u.build.steps u.build.roots → IsRunSoFar u events → ((path : List ℕ) → Settled u events path → new path ≡ old path) → IsLogAfter u old first events log → IsLogAfter u new first events log
 lines_move u old new first log events apart run still begins = begins
-lines_move u old new first log events apart run still (starts es l i c) =
-    starts es l i (lines_move u old new first l es apart (but_last u es (Start i) run) (λ p s. still p (settled_on u es apart (Start i) run p s)) c)
-lines_move u old new first log events apart run still (records es l i step members r c at file closure is) =
-    records es l i step members r (lines_move u old new first l es apart (but_last u es (Done i true) run) (λ p s. still p (settled_on u es apart (Done i true) run p s)) c) at file closure
+lines_move u old new first log events apart run still (starts es l i c all) =
+    let early : (path : List ℕ) → Settled u es path → new path ≡ old path = λ p s. still p (settled_on u es apart (Start i) run p s) in
+    starts es l i (lines_move u old new first l es apart (but_last u es (Start i) run) early c) (migrated_move u old new es l apart early all)
+lines_move u old new first log events apart run still (records es l i step members r c all at file closure is) =
+    let early : (path : List ℕ) → Settled u es path → new path ≡ old path = λ p s. still p (settled_on u es apart (Done i true) run p s) in
+    records es l i step members r (lines_move u old new first l es apart (but_last u es (Done i true) run) early c) (migrated_move u old new es l apart early all) at file closure
     (record_move u old new step members r (λ out d. still out (done_outs u es i step at out d)) (λ m y d. still m (done_members u es apart i step members run at closure m y d)) is)
-lines_move u old new first log events apart run still (owes_none es l i step c at none) =
-    owes_none es l i step (lines_move u old new first l es apart (but_last u es (Done i true) run) (λ p s. still p (settled_on u es apart (Done i true) run p s)) c) at none
-lines_move u old new first log events apart run still (drops es l i step r c at found) =
-    drops es l i step r (lines_move u old new first l es apart (but_last u es (Done i false) run) (λ p s. still p (settled_on u es apart (Done i false) run p s)) c) at found
-lines_move u old new first log events apart run still (has_none es l i step c at none) =
-    has_none es l i step (lines_move u old new first l es apart (but_last u es (Done i false) run) (λ p s. still p (settled_on u es apart (Done i false) run p s)) c) at none
+lines_move u old new first log events apart run still (owes_none es l i step c all at none) =
+    let early : (path : List ℕ) → Settled u es path → new path ≡ old path = λ p s. still p (settled_on u es apart (Done i true) run p s) in
+    owes_none es l i step (lines_move u old new first l es apart (but_last u es (Done i true) run) early c) (migrated_move u old new es l apart early all) at none
+lines_move u old new first log events apart run still (drops es l i step r c all at found) =
+    let early : (path : List ℕ) → Settled u es path → new path ≡ old path = λ p s. still p (settled_on u es apart (Done i false) run p s) in
+    drops es l i step r (lines_move u old new first l es apart (but_last u es (Done i false) run) early c) (migrated_move u old new es l apart early all) at found
+lines_move u old new first log events apart run still (has_none es l i step c all at none) =
+    let early : (path : List ℕ) → Settled u es path → new path ≡ old path = λ p s. still p (settled_on u es apart (Done i false) run p s) in
+    has_none es l i step (lines_move u old new first l es apart (but_last u es (Done i false) run) early c) (migrated_move u old new es l apart early all) at none
 lines_move u old new first log events apart run still (scans es l p bytes s c to is new_line) =
     scans es l p bytes s (lines_move u old new first l es apart run still c) to (scan_move u old new p bytes s (still p to.settled.0) is) new_line
 lines_move u old new first log events apart run still (migrates es l step members r c to is new_line) =
     migrates es l step members r (lines_move u old new first l es apart run still c) to
     (record_move u old new step members r (λ out d. still out (migrated_outs u es step members apart to out d)) (λ m y d. still m ((migrated_close u es step members apart to).1 m y d)) is) new_line
+
+pub migrated_after_change : MigratedAfterChange
+migrated_after_change u events before after log apart d all = migrated_move u before.now after.now events log apart (λ p s. settled_still u events before after apart d p s) all
 
 pub log_moves : LogMoves
 log_moves u events before after first log apart run d c = lines_move u before.now after.now first log events apart run (λ p s. settled_still u events before after apart d p s) c
@@ -118,27 +135,37 @@ scan_true u events disk path bytes s apart sound settled clean is =
     let stood : Stood disk.past path (record { stamp = s.stamp; bytes = bytes }) = sound.keeps.stands path _ (whole_file disk.now path s.stamp bytes is.stamp at) in
     record { bytes = bytes; stood = subst (λ p. Stood disk.past p (record { stamp = s.stamp; bytes = bytes })) (sym is.path_is) stood; includes = is.includes ∙ ap (λ p. u.build.inc p bytes) (sym is.path_is) }
 
-lines_true : (u : Update) (all : List ChildEvent) (disk : Disk) (first log : List LogLine) (events : List ChildEvent) → Apart u.build.steps u.build.roots → IsRunSoFar u events → ((path : List ℕ) → Settled u events path → Settled u all path) → IsSound u all disk → LogTrue (making u) disk.past first
-    → IsLogAfter u disk.now first events log → LogTrue (making u) disk.past log
-lines_true u all disk first log events apart run grows sound true_first begins = true_first
-lines_true u all disk first log events apart run grows sound true_first (starts es l i c) =
-    lines_true u all disk first l es apart (but_last u es (Start i) run) (λ p s. grows p (settled_on u es apart (Start i) run p s)) sound true_first c
-lines_true u all disk first log events apart run grows sound true_first (records es l i step members r c at file closure is) =
-    true_with_line (making u) disk.past l (lines.Record r) (lines_true u all disk first l es apart (but_last u es (Done i true) run) (λ p s. grows p (settled_on u es apart (Done i true) run p s)) sound true_first c)
-    (record_is_true u all disk i step members r apart sound at file (λ out d. grows out (done_outs u es i step at out d)) closure (λ m y d. grows m (done_members u es apart i step members run at closure m y d)) is)
-lines_true u all disk first log events apart run grows sound true_first (owes_none es l i step c at none) =
-    lines_true u all disk first l es apart (but_last u es (Done i true) run) (λ p s. grows p (settled_on u es apart (Done i true) run p s)) sound true_first c
-lines_true u all disk first log events apart run grows sound true_first (drops es l i step r c at found) =
-    true_with_line (making u) disk.past l (lines.Drop step.outs) (lines_true u all disk first l es apart (but_last u es (Done i false) run) (λ p s. grows p (settled_on u es apart (Done i false) run p s)) sound true_first c) tt
-lines_true u all disk first log events apart run grows sound true_first (has_none es l i step c at none) =
-    lines_true u all disk first l es apart (but_last u es (Done i false) run) (λ p s. grows p (settled_on u es apart (Done i false) run p s)) sound true_first c
-lines_true u all disk first log events apart run grows sound true_first (scans es l p bytes s c to is new_line) =
-    true_with_line (making u) disk.past l (lines.Scan s) (lines_true u all disk first l es apart run grows sound true_first c)
-    (scan_true u all disk p bytes s apart sound (grows p to.settled.0) to.settled.1 is)
-lines_true u all disk first log events apart run grows sound true_first (migrates es l step members r c to is new_line) =
-    true_with_line (making u) disk.past l (lines.Record r) (lines_true u all disk first l es apart run grows sound true_first c)
-    (let (closure, inside) = migrated_close u es step members apart to in
-    record_is_true u all disk to.number step members r apart sound to.at to.is_fresh.not_notfile (λ out d. grows out (migrated_outs u es step members apart to out d)) closure (λ m y d. grows m (inside m y d)) is)
+-- each line is one that the update began with, or is true
+lines_true : (u : Update) (all : List ChildEvent) (disk : Disk) (first log : List LogLine) (events : List ChildEvent) → Apart u.build.steps u.build.roots → IsRunSoFar u events → ((path : List ℕ) → Settled u events path → Settled u all path) → IsSound u all disk
+    → IsLogAfter u disk.now first events log → (line : LogLine) → Contains log line → Contains first line ⊎ IsTrueLine (making u) disk.past line
+lines_true u all disk first log events apart run grows sound begins line c = inl c
+lines_true u all disk first log events apart run grows sound (starts es l i k none_left) line c =
+    lines_true u all disk first l es apart (but_last u es (Start i) run) (λ p s. grows p (settled_on u es apart (Start i) run p s)) sound k line c
+lines_true u all disk first log events apart run grows sound (records es l i step members r k none_left at file closure is) line c = elim (Contains-push_cases l (lines.Record r) line c) [
+  | inl old ↦ lines_true u all disk first l es apart (but_last u es (Done i true) run) (λ p s. grows p (settled_on u es apart (Done i true) run p s)) sound k line old
+  | inr e ↦ inr (subst (IsTrueLine (making u) disk.past) e (record_is_true u all disk i step members r apart sound at file (λ out d. grows out (done_outs u es i step at out d)) closure (λ m y d. grows m (done_members u es apart i step members run at closure m y d)) is))
+]
+lines_true u all disk first log events apart run grows sound (owes_none es l i step k none_left at none) line c =
+    lines_true u all disk first l es apart (but_last u es (Done i true) run) (λ p s. grows p (settled_on u es apart (Done i true) run p s)) sound k line c
+lines_true u all disk first log events apart run grows sound (drops es l i step r k none_left at found) line c = elim (Contains-push_cases l (lines.Drop step.outs) line c) [
+  | inl old ↦ lines_true u all disk first l es apart (but_last u es (Done i false) run) (λ p s. grows p (settled_on u es apart (Done i false) run p s)) sound k line old
+  | inr e ↦ inr (subst (IsTrueLine (making u) disk.past) e tt)
+]
+lines_true u all disk first log events apart run grows sound (has_none es l i step k none_left at none) line c =
+    lines_true u all disk first l es apart (but_last u es (Done i false) run) (λ p s. grows p (settled_on u es apart (Done i false) run p s)) sound k line c
+lines_true u all disk first log events apart run grows sound (scans es l p bytes s k to is new_line) line c = elim (Contains-push_cases l (lines.Scan s) line c) [
+  | inl old ↦ lines_true u all disk first l es apart run grows sound k line old
+  | inr e ↦ inr (subst (IsTrueLine (making u) disk.past) e (scan_true u all disk p bytes s apart sound (grows p to.settled.0) to.settled.1 is))
+]
+lines_true u all disk first log events apart run grows sound (migrates es l step members r k to is new_line) line c = elim (Contains-push_cases l (lines.Record r) line c) [
+  | inl old ↦ lines_true u all disk first l es apart run grows sound k line old
+  | inr e ↦
+      let (closure, inside) = migrated_close u es step members apart to in
+      inr (subst (IsTrueLine (making u) disk.past) e (record_is_true u all disk to.number step members r apart sound to.at to.is_fresh.not_notfile (λ out d. grows out (migrated_outs u es step members apart to out d)) closure (λ m y d. grows m (inside m y d)) is))
+]
 
 pub log_stays_true : LogStaysTrue
-log_stays_true u events disk first log apart run sound true_first c = lines_true u events disk first log events apart run (λ p s. s) sound true_first c
+log_stays_true u events disk first log apart run sound true_first k line c = elim (lines_true u events disk first log events apart run (λ p s. s) sound k line c) [ inl d ↦ true_first line d | inr t ↦ t ]
+
+pub scans_stay_true : ScansStayTrue
+scans_stay_true u events disk first log apart run sound true_first k s c = elim (lines_true u events disk first log events apart run (λ p q. q) sound k (lines.Scan s) c) [ inl d ↦ true_first s d | inr t ↦ t ]

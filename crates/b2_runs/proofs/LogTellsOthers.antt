@@ -13,7 +13,7 @@ use Rattle.b2_runs.specs.Staleness.{Update, AreStamped, paths_with_bytes}
 use Rattle.b2_runs.specs.Records.{HasDigestsOf, IsRecordOf}
 use Rattle.b2_runs.specs.FileReads.{IsToScan}
 use Rattle.b2_runs.specs.LogCourses.{HasDigestsAlready, IsLogAfter.begins, IsLogAfter.starts, IsLogAfter.records, IsLogAfter.owes_none, IsLogAfter.drops, IsLogAfter.has_none, IsLogAfter.scans, IsLogAfter.migrates}
-use Rattle.b2_runs.specs.LogCourseLaws.{LogGrows, LogTellsOthers, LogTellsOtherScans, ScansOnce, MigratesOnce}
+use Rattle.b2_runs.specs.LogCourseLaws.{LogGrows, LogTellsOthers, ScansOnce, MigratesOnce}
 use Rattle.b2_runs.proofs.LastLineIsFound.{outs_same, path_same, last_record, last_scan, others_unsaid, scans_unsaid, scan_is_other, outs_not_scanned}
 use Rattle.b2_runs.proofs.SameByStamp.{stamped_paths}
 
@@ -23,11 +23,11 @@ more_by first log line (more, e) = (more ++ line ∷ [], ap (λ (l : List LogLin
 
 pub log_grows : LogGrows
 log_grows u now first log events begins = ([], sym (append-nil first))
-log_grows u now first log events (starts es l i c) = log_grows u now first l es c
-log_grows u now first log events (records es l i step members r c at file closure is) = more_by first l (lines.Record r) (log_grows u now first l es c)
-log_grows u now first log events (owes_none es l i step c at none) = log_grows u now first l es c
-log_grows u now first log events (drops es l i step r c at found) = more_by first l (lines.Drop step.outs) (log_grows u now first l es c)
-log_grows u now first log events (has_none es l i step c at none) = log_grows u now first l es c
+log_grows u now first log events (starts es l i c all) = log_grows u now first l es c
+log_grows u now first log events (records es l i step members r c all at file closure is) = more_by first l (lines.Record r) (log_grows u now first l es c)
+log_grows u now first log events (owes_none es l i step c all at none) = log_grows u now first l es c
+log_grows u now first log events (drops es l i step r c all at found) = more_by first l (lines.Drop step.outs) (log_grows u now first l es c)
+log_grows u now first log events (has_none es l i step c all at none) = log_grows u now first l es c
 log_grows u now first log events (scans es l p bytes s c to is new) = more_by first l (lines.Scan s) (log_grows u now first l es c)
 log_grows u now first log events (migrates es l step members r c to is new) = more_by first l (lines.Record r) (log_grows u now first l es c)
 
@@ -37,39 +37,16 @@ record_outs u now step members r is = stamped_paths now step.outs r.outs is.outs
 
 pub log_tells_others : LogTellsOthers
 log_tells_others u now first log events outs begins others = refl
-log_tells_others u now first log events outs (starts es l i c) others = log_tells_others u now first l es outs c others
-log_tells_others u now first log events outs (records es l i step members r c at file closure is) others =
+log_tells_others u now first log events outs (starts es l i c all) others = log_tells_others u now first l es outs c others
+log_tells_others u now first log events outs (records es l i step members r c all at file closure is) others =
     others_unsaid outs l (lines.Record r) (λ e. others i step at (sym (record_outs u now step members r is) ∙ outs_same (map path_of r.outs) outs e)) ∙ log_tells_others u now first l es outs c others
-log_tells_others u now first log events outs (owes_none es l i step c at none) others = log_tells_others u now first l es outs c others
-log_tells_others u now first log events outs (drops es l i step r c at found) others =
+log_tells_others u now first log events outs (owes_none es l i step c all at none) others = log_tells_others u now first l es outs c others
+log_tells_others u now first log events outs (drops es l i step r c all at found) others =
     others_unsaid outs l (lines.Drop step.outs) (λ e. others i step at (outs_same step.outs outs e)) ∙ log_tells_others u now first l es outs c others
-log_tells_others u now first log events outs (has_none es l i step c at none) others = log_tells_others u now first l es outs c others
+log_tells_others u now first log events outs (has_none es l i step c all at none) others = log_tells_others u now first l es outs c others
 log_tells_others u now first log events outs (scans es l p bytes s c to is new) others = others_unsaid outs l (lines.Scan s) (λ e. scan_is_other outs s e) ∙ log_tells_others u now first l es outs c others
 log_tells_others u now first log events outs (migrates es l step members r c to is new) others =
     others_unsaid outs l (lines.Record r) (λ e. others to.number step to.at (sym (record_outs u now step members r is) ∙ outs_same (map path_of r.outs) outs e)) ∙ log_tells_others u now first l es outs c others
-
--- a path that at no moment was to have a scan line
-abbrev NeverToScan : Update → List ChildEvent → List ℕ → Type 0
-NeverToScan u events path = (front rest : List ChildEvent) (bytes : List ℕ) → events ≡ front ++ rest → IsToScan u front path bytes → ⊥
-
--- before the last event it was not either
-never_before : (u : Update) (events : List ChildEvent) (event : ChildEvent) (path : List ℕ) → NeverToScan u (events ++ event ∷ []) path → NeverToScan u events path
-never_before u events event path never front rest bytes e to = never front (rest ++ event ∷ []) bytes (ap (λ (l : List ChildEvent). l ++ event ∷ []) e ∙ append_assoc front rest (event ∷ [])) to
-
-pub log_tells_other_scans : LogTellsOtherScans
-log_tells_other_scans u now first log events path stamp begins never = refl
-log_tells_other_scans u now first log events path stamp (starts es l i c) never = log_tells_other_scans u now first l es path stamp c (never_before u es (Start i) path never)
-log_tells_other_scans u now first log events path stamp (records es l i step members r c at file closure is) never =
-    scans_unsaid path stamp l (lines.Record r) (outs_not_scanned (map path_of r.outs) path) ∙ log_tells_other_scans u now first l es path stamp c (never_before u es (Done i true) path never)
-log_tells_other_scans u now first log events path stamp (owes_none es l i step c at none) never = log_tells_other_scans u now first l es path stamp c (never_before u es (Done i true) path never)
-log_tells_other_scans u now first log events path stamp (drops es l i step r c at found) never =
-    scans_unsaid path stamp l (lines.Drop step.outs) (outs_not_scanned step.outs path) ∙ log_tells_other_scans u now first l es path stamp c (never_before u es (Done i false) path never)
-log_tells_other_scans u now first log events path stamp (has_none es l i step c at none) never = log_tells_other_scans u now first l es path stamp c (never_before u es (Done i false) path never)
-log_tells_other_scans u now first log events path stamp (scans es l p bytes s c to is new) never =
-    scans_unsaid path stamp l (lines.Scan s) (λ e. never events [] bytes (sym (append-nil events)) (subst (λ q. IsToScan u events q bytes) (sym is.path_is ∙ path_same s.path path e) to))
-    ∙ log_tells_other_scans u now first l es path stamp c never
-log_tells_other_scans u now first log events path stamp (migrates es l step members r c to is new) never =
-    scans_unsaid path stamp l (lines.Record r) (outs_not_scanned (map path_of r.outs) path) ∙ log_tells_other_scans u now first l es path stamp c never
 
 pub scans_once : ScansOnce
 scans_once u now log path bytes s other is is_other =

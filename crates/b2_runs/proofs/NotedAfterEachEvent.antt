@@ -157,7 +157,7 @@ other_outs u apart i k step other at at_k differ e =
     differ (apart.one_maker k i other step out (record { at = at_k; among = c }) (record { at = at; among = subst (λ o. Contains o out) (sym e) c }))
 
 -- a line about other outputs leaves what was noted of a step
-line_for : (u : Update) (now : Folder) (log : List LogLine) (step : Step) (line : LogLine) (members : List (List ℕ × Value)) → (subject_of line ≡ subjects.Outputs step.outs → ⊥) → IsNotedStep u now log step members → IsNotedStep u now (log ++ line ∷ []) step members
+pub line_for : (u : Update) (now : Folder) (log : List LogLine) (step : Step) (line : LogLine) (members : List (List ℕ × Value)) → (subject_of line ≡ subjects.Outputs step.outs → ⊥) → IsNotedStep u now log step members → IsNotedStep u now (log ++ line ∷ []) step members
 line_for u now log step line members other n = record { last = n.last; found = others_unsaid step.outs log line other ∙ n.found; is_record = n.is_record }
 
 migrated_for : (u : Update) (events : List ChildEvent) (now : Folder) (log : List LogLine) (step : Step) (line : LogLine) → (subject_of line ≡ subjects.Outputs step.outs → ⊥) → IsMigrated u events now log step → IsMigrated u events now (log ++ line ∷ []) step
@@ -191,7 +191,7 @@ pub noted_after_scan : NotedAfterScan
 noted_after_scan u events now log s n = other_line u events now log (lines.Scan s) (λ k other at_k settled e. scan_is_other other.outs s e) n
 
 -- the record of a step is the last line on it
-step_recorded : (u : Update) (now : Folder) (log : List LogLine) (step : Step) (members : List (List ℕ × Value)) (r : Record) → IsRecordOf u now step members r → IsNotedStep u now (log ++ lines.Record r ∷ []) step members
+pub step_recorded : (u : Update) (now : Folder) (log : List LogLine) (step : Step) (members : List (List ℕ × Value)) (r : Record) → IsRecordOf u now step members r → IsNotedStep u now (log ++ lines.Record r ∷ []) step members
 step_recorded u now log step members r is = record {
   last = r;
   found = subst (λ o. find_record o (log ++ lines.Record r ∷ []) ≡ Some r) (stamped_paths now step.outs r.outs is.outs) (last_record log r);
@@ -227,7 +227,7 @@ noted_after_record u events now log i step members r apart n opened at closure i
     other_step k other at_k differ e = about_other u apart i k step other (lines.Record r) at at_k (ap subjects.Outputs (stamped_paths now step.outs r.outs is.outs)) differ e
 
 -- two numbers are the same or are not
-same_or_not : (i k : ℕ) → (i ≡ k) ⊎ (i ≡ k → ⊥)
+pub same_or_not : (i k : ℕ) → (i ≡ k) ⊎ (i ≡ k → ⊥)
 same_or_not i k = elim (eqb_tells i k) [ inl e ↦ inl e.1 | inr e ↦ inr e.1 ]
 
 -- so has the record with digests of a step that was not started

@@ -43,7 +43,7 @@ reads_along u events event past reads apart may once read c not_log = go (once r
     go (called_to_digest on (inr o)) = called_to_digest on (inr (out_along u events event read.path apart may o))
 
 -- the log as it then stood is the same where more has stood
-then_grows : (past more : List Past) (stamp : Option ℕ) (log : List LogLine) → ((old : Past) → Contains past old → Contains more old) → IsLogThen past stamp log → IsLogThen more stamp log
+pub then_grows : (past more : List Past) (stamp : Option ℕ) (log : List LogLine) → ((old : Past) → Contains past old → Contains more old) → IsLogThen past stamp log → IsLogThen more stamp log
 then_grows past more None log grows e = e
 then_grows past more (Some stamp) log grows (bytes, good, stood, r) = (bytes, good, grows _ stood, r)
 

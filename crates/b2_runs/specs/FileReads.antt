@@ -1,18 +1,19 @@
-use Rattle.std.specs.Prelude.{◌≡◌, ◌≢◌, ℕ, ◌<◌, true, false, List, [], length, Option, Some, None, ◌⊎◌}
-use Rattle.std.specs.List.{Contains}
+use Rattle.std.specs.Prelude.{◌≡◌, ◌≢◌, ℕ, ◌<◌, ◌≤◌, true, false, List, [], length, Option, Some, None, ◌⊎◌}
+use Rattle.std.specs.List.{Contains, AllPairs}
 use Rattle.b2_host.specs.declared.children.ChildEvent.{ChildEvent}
 use Rattle.b2_host.specs.declared.children.ChildEvent.TheVariants.{Start, Done}
-use Rattle.b2_host.specs.Disks.{File, Past, Stood, bytes_at}
+use Rattle.b2_host.specs.Disks.{File, Folder, Past, Stood, bytes_at}
 use Rattle.b2_host.specs.Outside.{Read}
 use Rattle.b2_plan.specs.declared.step.Step.{Step}
 use Rattle.b2_plan.specs.Plans.{step_at, Makes}
-use Rattle.b2_host.specs.FileCalls.{log_path}
+use Rattle.b2_host.specs.FileCalls.{log_path, stamp_at}
 use Rattle.b2_plan.specs.Closures.{Value, Known, IsClosure}
+use Rattle.b2_log.specs.declared.line.ScanLine.{ScanLine}
 use Rattle.b2_log.specs.declared.line.LogLine.{LogLine}
 use Rattle.b2_log.specs.Readings.{IsReading}
 use Rattle.b2_log.specs.Finding.{find_scan}
 use Rattle.b2_runs.specs.Staleness.{Update}
-use Rattle.b2_runs.specs.Runs.{on_settled, Needed}
+use Rattle.b2_runs.specs.Runs.{Settled, on_settled, Needed}
 
 -- Which files an update reads, and which are too big for it.
 
@@ -72,3 +73,34 @@ pub data IsCalledFor (u : Update) (events : List ChildEvent) (past : List Past) 
 -- of these reads of an update each is called for, but for those of the log
 abbrev pub ReadsOnce : Update → List ChildEvent → List Past → List Read → Type 0
 ReadsOnce u events past reads = (read : Read) → Contains reads read → read.path ≢ log_path → IsCalledFor u events past read
+
+-- A read takes in what a file includes: it is of a scanned file, which stood then, at this stamp, with no more bytes than are
+-- scanned. Where judging is by digests no step makes the file, for an output may be read for its digest alone.
+pub record IsScanRead (u : Update) (past : List Past) (read : Read) (stamp : ℕ) : Type 0 where
+  pub scanned : u.scanned read.path ≡ true
+  pub not_log : read.path ≢ log_path
+  pub at : read.stamp ≡ Some stamp
+  pub within : (bytes : List ℕ) → Stood past read.path (record { stamp = stamp; bytes = bytes }) → length bytes ≤ scan_limit
+  pub unmade : u.by_digest ≡ true → (i : ℕ) (step : Step) → Makes u.build.steps i step read.path → ⊥
+
+-- The log, whose file had this stamp then, had a scan line of the path at its stamp.
+pub record HadLine (past : List Past) (log_stamp : Option ℕ) (path : List ℕ) (stamp : ℕ) : Type 0 where
+  pub log : List LogLine
+  pub log_then : IsLogThen past log_stamp log
+  pub line : ScanLine
+  pub found : find_scan path stamp log ≡ Some line
+
+-- of these reads of an update each that takes in what a file includes has its scan line in the log at the next read
+abbrev pub ReadsLeaveLines : Update → List Past → List Read → Type 0
+ReadsLeaveLines u past reads = AllPairs (λ read next. (stamp : ℕ) → IsScanRead u past read stamp → HadLine past next.log read.path stamp) reads
+
+-- A file is settled, stands with this stamp, and has its scan line in the log.
+pub record StandsWithLine (u : Update) (events : List ChildEvent) (now : List ℕ → Option File) (log : List LogLine) (path : List ℕ) (stamp : ℕ) : Type 0 where
+  pub settled : Settled u events path
+  pub stands : stamp_at now path ≡ Some stamp
+  pub line : ScanLine
+  pub found : find_scan path stamp log ≡ Some line
+
+-- of these reads each that takes in what a file includes has its scan line in the present log, and the file stands as it was read
+abbrev pub HaveLines : Update → List ChildEvent → List Past → Folder → List LogLine → List Read → Type 0
+HaveLines u events past now log reads = (read : Read) (stamp : ℕ) → Contains reads read → IsScanRead u past read stamp → StandsWithLine u events now log read.path stamp

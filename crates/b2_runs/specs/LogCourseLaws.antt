@@ -1,49 +1,49 @@
-use Rattle.std.specs.Prelude.{◌≡◌, ◌≢◌, ◌⊎◌, ℕ, ◌≤◌, Bool, true, false, List, [], ◌∷◌, ◌++◌, length, Some, None}
+use Rattle.std.specs.Prelude.{◌≡◌, ◌≢◌, ◌⊎◌, ◌↔◌, ℕ, ◌<◌, ◌≤◌, Bool, true, false, List, [], ◌∷◌, ◌++◌, length, Option, Some, None}
 use Rattle.std.specs.List.{Contains, AllByRecursion}
 use Rattle.b2_host.specs.declared.children.ChildEvent.{ChildEvent}
 use Rattle.b2_host.specs.declared.children.ChildEvent.TheVariants.{Start, Done}
-use Rattle.b2_host.specs.Disks.{Folder, Disk}
+use Rattle.b2_host.specs.Disks.{Folder, Disk, IsConsistent}
 use Rattle.b2_plan.specs.declared.step.Step.{Step}
 use Rattle.b2_plan.specs.Plans.{Apart, Makes, step_at}
+use Rattle.b2_host.specs.FileCalls.{log_path, with_piece}
 use Rattle.b2_plan.specs.Closures.{Value, IsClosure}
 use Rattle.b2_plan.specs.Cleans.{Clean}
 use Rattle.b2_log.specs.declared.line.Record.{Record}
 use Rattle.b2_log.specs.declared.line.ScanLine.{ScanLine}
 use Rattle.b2_log.specs.declared.line.LogLine.{LogLine}
 use Rattle.b2_log.specs.declared.line.LogLine.TheVariants as lines
-use Rattle.b2_log.specs.Lines.{log_bytes}
-use Rattle.b2_log.specs.Good.{IsDigest, IsGood, IsProper}
+use Rattle.b2_log.specs.Lines.{spelling, log_bytes}
+use Rattle.b2_log.specs.Good.{IsGood}
 use Rattle.b2_log.specs.Readings.{IsReading}
-use Rattle.b2_log.specs.Finding.{find_record, find_scan}
-use Rattle.b2_runs.specs.Logs.{LogTrue}
+use Rattle.b2_log.specs.Finding.{find_record, find_scan, kept}
+use Rattle.b2_runs.specs.Logs.{LogTrue, RecordsTrue, ScansTrue}
 use Rattle.b2_runs.specs.LogFiles.{log_limit, IsLogOf, IsTrueFile, IsLogIn}
-use Rattle.b2_runs.specs.Staleness.{Update, making, IsRecorded}
+use Rattle.b2_runs.specs.Staleness.{Update, making, IsFresh, IsRecorded}
 use Rattle.b2_runs.specs.Records.{IsRecordOf, IsScanOf}
-use Rattle.b2_runs.specs.Events.{AreInOrder}
-use Rattle.b2_runs.specs.Runs.{IsRunSoFar, IsBegun}
+use Rattle.b2_runs.specs.Events.{IsOpen, AreInOrder}
+use Rattle.b2_runs.specs.Runs.{on_settled, IsRunSoFar, IsBegun}
 use Rattle.b2_runs.specs.Outcomes.{IsFailed}
 use Rattle.b2_runs.specs.Soundness.{IsSound, IsAllowedChange}
-use Rattle.b2_runs.specs.FileReads.{IsToScan}
-use Rattle.b2_runs.specs.Afterwards.{next_update, IsMadeEachTime, NoneDoneOlder, IsNotedStep, IsNoted}
-use Rattle.b2_runs.specs.LogCourses.{IsLong, FirstLines, HasDigestsAlready, IsLogAfter, held_bytes, log_file, IsLogWhole, IsLogCut}
+use Rattle.b2_runs.specs.Afterwards.{at_present, next_update, IsMadeEachTime, NoneDoneOlder, IsNotedStep, IsNoted}
+use Rattle.b2_runs.specs.LogCourses.{IsLong, Opening, FirstLines, log_file, held_bytes, HasDigestsAlready, IsToMigrate, AllMigrated, IsLogAfter, left_file, IsLogWhole, IsLogCut}
 
--- ---- what an update begins with
+-- ---- what a log is opened with
 
--- an update begins with one list of lines
+-- a log is opened with one list of lines
 abbrev pub FirstLinesAreOne : Type 0
-FirstLinesAreOne = (bytes : List ℕ) (first other : List LogLine) → FirstLines bytes first → FirstLines bytes other → first ≡ other
+FirstLinesAreOne = (opening : Opening) (bytes : List ℕ) (first other : List LogLine) → FirstLines opening bytes first → FirstLines opening bytes other → first ≡ other
 
--- the lines that an update begins with tell of each step what the file at entry told
+-- they tell of each step what the log's file told
 abbrev pub BeginTellsRecords : Type 0
-BeginTellsRecords = (bytes : List ℕ) (first log : List LogLine) (outs : List (List ℕ)) → FirstLines bytes first → IsLogOf bytes log → find_record outs first ≡ find_record outs log
+BeginTellsRecords = (opening : Opening) (bytes : List ℕ) (first log : List LogLine) (outs : List (List ℕ)) → FirstLines opening bytes first → IsLogOf bytes log → find_record outs first ≡ find_record outs log
 
--- the lines that an update begins with tell of each scanned file what the file of the log at entry told
+-- they tell of each scanned file what the log's file told
 abbrev pub BeginTellsScans : Type 0
-BeginTellsScans = (bytes : List ℕ) (first log : List LogLine) (path : List ℕ) (stamp : ℕ) → FirstLines bytes first → IsLogOf bytes log → find_scan path stamp first ≡ find_scan path stamp log
+BeginTellsScans = (opening : Opening) (bytes : List ℕ) (first log : List LogLine) (path : List ℕ) (stamp : ℕ) → FirstLines opening bytes first → IsLogOf bytes log → find_scan path stamp first ≡ find_scan path stamp log
 
 -- they are good, and within the limit: so the file that has them is read as these lines
 abbrev pub BeginIsRead : Type 0
-BeginIsRead = (bytes : List ℕ) (first : List LogLine) → FirstLines bytes first → AllByRecursion IsGood first × (length (log_bytes first) ≤ log_limit)
+BeginIsRead = (opening : Opening) (bytes : List ℕ) (first : List LogLine) → FirstLines opening bytes first → AllByRecursion IsGood first × (length (log_bytes first) ≤ log_limit)
 
 -- a file of good lines within the limit counts as them
 abbrev pub LinesAreRead : Type 0
@@ -59,10 +59,21 @@ LogGrows = (u : Update) (now : Folder) (first log : List LogLine) (events : List
 abbrev pub LogTellsOthers : Type 0
 LogTellsOthers = (u : Update) (now : Folder) (first log : List LogLine) (events : List ChildEvent) (outs : List (List ℕ)) → IsLogAfter u now first events log → ((i : ℕ) (step : Step) → step_at u.build.steps i ≡ Some step → step.outs ≢ outs) → find_record outs log ≡ find_record outs first
 
--- they say nothing of a path that at no moment was to have a scan line
-abbrev pub LogTellsOtherScans : Type 0
-LogTellsOtherScans = (u : Update) (now : Folder) (first log : List LogLine) (events : List ChildEvent) (path : List ℕ) (stamp : ℕ) → IsLogAfter u now first events log
-    → ((front rest : List ChildEvent) (bytes : List ℕ) → events ≡ front ++ rest → IsToScan u front path bytes → ⊥) → find_scan path stamp log ≡ find_scan path stamp first
+-- of a step that runs they tell what those told that the update began with, so whether its end calls for a drop
+abbrev pub LogTellsOpen : Type 0
+LogTellsOpen = (u : Update) (now : Folder) (first log : List LogLine) (events : List ChildEvent) (i : ℕ) (step : Step) → Apart u.build.steps u.build.roots → IsRunSoFar u events → IsLogAfter u now first events log → IsOpen events i → step_at u.build.steps i ≡ Some step
+    → find_record step.outs log ≡ find_record step.outs first
+
+-- of a step that was not started they tell the same, or it was to get a record with digests and has it
+abbrev pub LogTellsUnstarted : Type 0
+LogTellsUnstarted = (u : Update) (now : Folder) (first log : List LogLine) (events : List ChildEvent) (i : ℕ) (step : Step) → Apart u.build.steps u.build.roots → IsRunSoFar u events → IsLogAfter u now first events log → (Contains events (Start i) → ⊥) → step_at u.build.steps i ≡ Some step
+    → (find_record step.outs log ≡ find_record step.outs first) ⊎ ((members : List (List ℕ × Value)) × IsToMigrate u events step members × IsNotedStep u now log step members)
+
+-- so a step that was not started is judged by them and by the files as they stand as by those at entry
+abbrev pub JudgedByLog : Type 0
+JudgedByLog = (u : Update) (events : List ChildEvent) (disk : Disk) (first log : List LogLine) (i : ℕ) (step : Step) (members : List (List ℕ × Value)) → Apart u.build.steps u.build.roots → IsRunSoFar u events → IsSound u events disk
+    → ((outs : List (List ℕ)) → find_record outs first ≡ find_record outs u.log) → IsLogAfter u disk.now first events log → step_at u.build.steps i ≡ Some step → (Contains events (Start i) → ⊥) → IsClosure u.build (on_settled u events) step members
+    → IsFresh (at_present u disk.now log) events step members ↔ IsFresh u events step members
 
 -- they have no record of a step that failed
 abbrev pub LogDropsFailed : Type 0
@@ -77,9 +88,26 @@ ScansOnce = (u : Update) (now : Folder) (log : List LogLine) (path bytes : List 
 abbrev pub MigratesOnce : Type 0
 MigratesOnce = (u : Update) (now : Folder) (log : List LogLine) (step : Step) (members : List (List ℕ × Value)) (r other : Record) → u.by_digest ≡ true → IsRecordOf u now step members r → IsRecordOf u now step members other → HasDigestsAlready step.outs (log ++ lines.Record r ∷ []) other
 
--- each line that is appended is proper, where digests have their form: a record has no digests, or one for each path
-abbrev pub LogIsProper : Type 0
-LogIsProper = (u : Update) (now : Folder) (first log : List LogLine) (events : List ChildEvent) (line : LogLine) → Apart u.build.steps u.build.roots → ((bytes : List ℕ) → IsDigest (u.digest bytes)) → IsLogAfter u now first events log → Contains log line → Contains first line ⊎ IsProper line
+-- where a fresh step has a record with digests already, at the stamps of its files, that is its record
+abbrev pub AlreadyIsNoted : Type 0
+AlreadyIsNoted = (u : Update) (events : List ChildEvent) (disk : Disk) (log : List LogLine) (step : Step) (members : List (List ℕ × Value)) (r : Record) → IsConsistent disk → RecordsTrue (making u) disk.past log → u.by_digest ≡ true
+    → IsFresh (at_present u disk.now log) events step members → IsRecordOf u disk.now step members r → HasDigestsAlready step.outs log r → IsNotedStep u disk.now log step members
+
+-- ---- that no record with digests is left out
+
+-- none is called for where judging is by stamps
+abbrev pub NoneToMigrate : Type 0
+NoneToMigrate = (u : Update) (events : List ChildEvent) (now : Folder) (log : List LogLine) → u.by_digest ≡ false → AllMigrated u events now log
+
+-- a start calls for no other
+abbrev pub MigratedAfterStart : Type 0
+MigratedAfterStart = (u : Update) (events : List ChildEvent) (now : Folder) (log : List LogLine) (i : ℕ) → Apart u.build.steps u.build.roots → AllMigrated u events now log → AllMigrated u (events ++ Start i ∷ []) now log
+
+-- none is left out after steps that run or failed change their outputs
+abbrev pub MigratedAfterChange : Type 0
+MigratedAfterChange = (u : Update) (events : List ChildEvent) (before after : Disk) (log : List LogLine) → Apart u.build.steps u.build.roots → IsAllowedChange u events before after → AllMigrated u events before.now log → AllMigrated u events after.now log
+
+-- ---- what the lines keep
 
 -- they stay what the events call for as steps that run or failed change their outputs
 abbrev pub LogMoves : Type 0
@@ -88,6 +116,10 @@ LogMoves = (u : Update) (events : List ChildEvent) (before after : Disk) (first 
 -- they are true where the lines were that the update began with
 abbrev pub LogStaysTrue : Type 0
 LogStaysTrue = (u : Update) (events : List ChildEvent) (disk : Disk) (first log : List LogLine) → Apart u.build.steps u.build.roots → IsRunSoFar u events → IsSound u events disk → LogTrue (making u) disk.past first → IsLogAfter u disk.now first events log → LogTrue (making u) disk.past log
+
+-- their scan lines are true where those were, whatever the records are
+abbrev pub ScansStayTrue : Type 0
+ScansStayTrue = (u : Update) (events : List ChildEvent) (disk : Disk) (first log : List LogLine) → Apart u.build.steps u.build.roots → IsRunSoFar u events → IsSound u events disk → ScansTrue (making u) disk.past first → IsLogAfter u disk.now first events log → ScansTrue (making u) disk.past log
 
 -- their last lines are on what was done with each step, where no output that was made is older than what it was made of
 abbrev pub LogIsNoted : Type 0
@@ -101,19 +133,21 @@ LogHasRecords = (u : Update) (now : Folder) (first log : List LogLine) (events :
 
 -- ---- the file
 
--- Each line that an update may append is good: so are the texts, paths and stamps that it has.
-pub record AppendsGood (u : Update) (now : Folder) : Type 0 where
-  pub good_records : (i : ℕ) (step : Step) (members : List (List ℕ × Value)) (r : Record) → step_at u.build.steps i ≡ Some step → IsClosure u.build (Clean u.build) step members → IsRecordOf u now step members r → IsGood (lines.Record r)
-  pub good_drops : (i : ℕ) (step : Step) → step_at u.build.steps i ≡ Some step → IsGood (lines.Drop step.outs)
-  pub good_scans : (events : List ChildEvent) (path bytes : List ℕ) (s : ScanLine) → IsToScan u events path bytes → IsScanOf u now path bytes s → IsGood (lines.Scan s)
+-- bytes all of which are good are the spelling of their lines: so a log that is opened as it is has them
+abbrev pub GoodBytesAreSpelled : Type 0
+GoodBytesAreSpelled = (bytes : List ℕ) (log : List LogLine) → IsReading bytes log (length bytes) → bytes ≡ log_bytes log
 
--- what is appended to good lines leaves them good
-abbrev pub LogStaysGood : Type 0
-LogStaysGood = (u : Update) (now : Folder) (first log : List LogLine) (events : List ChildEvent) → Apart u.build.steps u.build.roots → AppendsGood u now → AllByRecursion IsGood first → IsLogAfter u now first events log → AllByRecursion IsGood log
+-- a log that has a torn tail or is long is replaced by other bytes
+abbrev pub ReplacedIsOther : Type 0
+ReplacedIsOther = (bytes : List ℕ) (log : List LogLine) (good : ℕ) → IsReading bytes log good → (good < length bytes) ⊎ IsLong log → log_bytes (kept log) ≢ bytes
+
+-- where the spelling of one line more is appended, the file that is left has the bytes of all lines
+abbrev pub AppendLeavesFile : Type 0
+AppendLeavesFile = (before : Option (List ℕ)) (disk : Disk) (log : List LogLine) (line : LogLine) → log_file disk.now ≡ left_file before (log_bytes log) → Some (with_piece log_path (spelling line) disk) ≡ left_file before (log_bytes (log ++ line ∷ []))
 
 -- the file that an update leaves which was not cut off counts as the lines that its events call for, within the limit
 abbrev pub WholeLogCounts : Type 0
-WholeLogCounts = (u : Update) (events : List ChildEvent) (now : Folder) (w : IsLogWhole u events now) → Apart u.build.steps u.build.roots → AppendsGood u now → length (log_bytes w.log) ≤ log_limit → IsLogIn now w.log
+WholeLogCounts = (u : Update) (events : List ChildEvent) (now : Folder) (w : IsLogWhole u events now) → length (log_bytes w.log) ≤ log_limit → IsLogIn now w.log
 
 -- what an update leaves that was not cut off is one of the files that one may leave which was
 abbrev pub WholeIsCut : Type 0
@@ -124,26 +158,34 @@ abbrev pub WholeLogIsAppendedTo : Type 0
 WholeLogIsAppendedTo = (u : Update) (events : List ChildEvent) (now : Folder) (bytes : List ℕ) (log : List LogLine) → log_file u.build.folder ≡ Some bytes → length bytes ≤ log_limit → IsReading bytes log (length bytes) → (IsLong log → ⊥) → IsLogCut u events now
     → (more : List ℕ) × (log_file now ≡ Some (bytes ++ more))
 
+-- a log that may be left stays so as a step ends that is open, whatever it left
+abbrev pub CutLogThroughEnd : Type 0
+CutLogThroughEnd = (u : Update) (events : List ChildEvent) (now : Folder) (i : ℕ) (well : Bool) → IsOpen events i → IsLogCut u events now → IsLogCut u (events ++ Done i well ∷ []) now
+
+-- it stays so as steps that run or failed change their outputs, where the log's file stays as it is
+abbrev pub CutLogThroughChange : Type 0
+CutLogThroughChange = (u : Update) (events : List ChildEvent) (before after : Disk) → Apart u.build.steps u.build.roots → IsAllowedChange u events before after → log_file after.now ≡ log_file before.now → IsLogCut u events before.now → IsLogCut u events after.now
+
 -- wherever an update was cut off its log is true, where the log at entry was
 abbrev pub CutLogIsTrue : Type 0
-CutLogIsTrue = (u : Update) (events : List ChildEvent) (disk : Disk) → Apart u.build.steps u.build.roots → IsSound u events disk → AppendsGood u disk.now → IsTrueFile (making u) disk.past (held_bytes (log_file u.build.folder)) → IsLogCut u events disk.now
+CutLogIsTrue = (u : Update) (events : List ChildEvent) (disk : Disk) → Apart u.build.steps u.build.roots → IsSound u events disk → IsTrueFile (making u) disk.past (held_bytes (log_file u.build.folder)) → IsLogCut u events disk.now
     → IsTrueFile (making u) disk.past (held_bytes (log_file disk.now))
 
 -- Wherever an update was cut off, its log's last lines are on what was done in a run so far that holds each of its starts; but
 -- before any event it may have lost records of earlier updates, where it was being replaced.
 abbrev pub CutLogIsNoted : Type 0
-CutLogIsNoted = (u : Update) (events : List ChildEvent) (now : Folder) (log : List LogLine) → Apart u.build.steps u.build.roots → AppendsGood u now → ((front rest : List ChildEvent) → events ≡ front ++ rest → IsRunSoFar u front → NoneDoneOlder u front now) → IsLogIn u.build.folder u.log → IsLogCut u events now → length (held_bytes (log_file now)) ≤ log_limit → IsLogIn now log
+CutLogIsNoted = (u : Update) (events : List ChildEvent) (now : Folder) (log : List LogLine) → Apart u.build.steps u.build.roots → NoneDoneOlder u events now → IsLogIn u.build.folder u.log → IsLogCut u events now → length (held_bytes (log_file now)) ≤ log_limit → IsLogIn now log
     → (events ≡ []) ⊎ ((b : IsBegun u events) × IsNoted u b.front now log)
 
 -- What a finished step made is kept, wherever an update was cut off: of a step that was done well before the last start, the log
 -- has a record that agrees with the files, judged as the next update judges it before any event.
 abbrev pub FinishedIsKept : Type 0
-FinishedIsKept = (u : Update) (events before after : List ChildEvent) (now : Folder) (log : List LogLine) (quit : Bool) (jobs k i : ℕ) (step : Step) (members : List (List ℕ × Value)) → Apart u.build.steps u.build.roots → AppendsGood u now
-    → ((front rest : List ChildEvent) → events ≡ front ++ rest → IsRunSoFar u front → NoneDoneOlder u front now) → IsLogIn u.build.folder u.log → IsLogCut u events now → length (held_bytes (log_file now)) ≤ log_limit → IsLogIn now log
+FinishedIsKept = (u : Update) (events before after : List ChildEvent) (now : Folder) (log : List LogLine) (quit : Bool) (jobs k i : ℕ) (step : Step) (members : List (List ℕ × Value)) → Apart u.build.steps u.build.roots
+    → NoneDoneOlder u events now → IsLogIn u.build.folder u.log → IsLogCut u events now → length (held_bytes (log_file now)) ≤ log_limit → IsLogIn now log
     → events ≡ before ++ Start k ∷ after → Contains before (Done i true) → step_at u.build.steps i ≡ Some step → step.notfile ≡ false → IsClosure u.build (Clean u.build) step members → IsRecorded (next_update u now log quit jobs) [] step members
 
 -- so the run of the next update holds no start of it, unless an always-step or a notfile step reaches it
 abbrev pub FinishedIsNotStarted : Type 0
-FinishedIsNotStarted = (u : Update) (events before after later : List ChildEvent) (disk : Disk) (log : List LogLine) (quit : Bool) (jobs k i : ℕ) (step : Step) (path : List ℕ) → Apart u.build.steps u.build.roots → AppendsGood u disk.now → IsSound u events disk
-    → ((front rest : List ChildEvent) → events ≡ front ++ rest → IsRunSoFar u front → NoneDoneOlder u front disk.now) → IsLogIn u.build.folder u.log → IsLogCut u events disk.now → length (held_bytes (log_file disk.now)) ≤ log_limit → IsLogIn disk.now log
+FinishedIsNotStarted = (u : Update) (events before after later : List ChildEvent) (disk : Disk) (log : List LogLine) (quit : Bool) (jobs k i : ℕ) (step : Step) (path : List ℕ) → Apart u.build.steps u.build.roots → IsSound u events disk
+    → NoneDoneOlder u events disk.now → IsLogIn u.build.folder u.log → IsLogCut u events disk.now → length (held_bytes (log_file disk.now)) ≤ log_limit → IsLogIn disk.now log
     → events ≡ before ++ Start k ∷ after → Contains before (Done i true) → Makes u.build.steps i step path → (IsMadeEachTime u.build path → ⊥) → IsRunSoFar (next_update u disk.now log quit jobs) later → Contains later (Start i) → ⊥

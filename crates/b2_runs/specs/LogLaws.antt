@@ -1,13 +1,15 @@
 use Rattle.std.specs.Prelude.{◌≡◌, ◌≢◌, ◌↔◌, ◌⊎◌, ℕ, List, [], ◌∷◌, ◌++◌, Some, None, map}
-use Rattle.std.specs.List.{Contains}
-use Rattle.b2_host.specs.Disks.{Past}
+use Rattle.std.specs.List.{Contains, AllZip}
+use Rattle.b2_host.specs.Disks.{Folder, Disk, Past, IsConsistent, bytes_at}
+use Rattle.b2_host.specs.FileCalls.{stamp_at}
 use Rattle.b2_log.specs.declared.line.Record.{Record}
+use Rattle.b2_log.specs.declared.line.Digests.{Digests}
 use Rattle.b2_log.specs.declared.line.LogLine.{LogLine}
 use Rattle.b2_log.specs.declared.line.LogLine.TheVariants as lines
 use Rattle.b2_log.specs.declared.line.ScanLine.{ScanLine}
 use Rattle.b2_log.specs.declared.subject.Subject.TheVariants as subjects
 use Rattle.b2_log.specs.Finding.{path_of, subject_of, find_record, find_scan}
-use Rattle.b2_runs.specs.Logs.{Making, IsTrueLine, LogTrue, RecordsTrue, ScansTrue}
+use Rattle.b2_runs.specs.Logs.{Making, IsTrueRecord, IsTrueLine, LogTrue, RecordsTrue, ScansTrue}
 
 -- ---- what is found
 
@@ -31,9 +33,25 @@ LastDrop = (log : List LogLine) (outs : List (List ℕ)) → find_record outs (l
 abbrev pub OthersUnsaid : Type 0
 OthersUnsaid = (outs : List (List ℕ)) (log : List LogLine) (line : LogLine) → subject_of line ≢ subjects.Outputs outs → find_record outs (log ++ line ∷ []) ≡ find_record outs log
 
+-- a scan line at the end is the last line on its path
+abbrev pub LastScan : Type 0
+LastScan = (log : List LogLine) (s : ScanLine) → find_scan s.path s.stamp (log ++ lines.Scan s ∷ []) ≡ Some s
+
+-- a line says nothing of other paths; so a record or a drop says nothing of any
+abbrev pub OtherScansUnsaid : Type 0
+OtherScansUnsaid = (path : List ℕ) (stamp : ℕ) (log : List LogLine) (line : LogLine) → subject_of line ≢ subjects.Scanned path → find_scan path stamp (log ++ line ∷ []) ≡ find_scan path stamp log
+
 -- an append that was torn has left the lines as they were, or the whole line after them: it says nothing of other outputs
 abbrev pub OthersUnsaidThoughTorn : Type 0
 OthersUnsaidThoughTorn = (outs : List (List ℕ)) (log after : List LogLine) (line : LogLine) → (after ≡ log) ⊎ (after ≡ log ++ line ∷ []) → subject_of line ≢ subjects.Outputs outs → find_record outs after ≡ find_record outs log
+
+-- The digest of a path with a stamp is that of the bytes that stand there, where a file with this stamp does.
+abbrev pub TellsDigest : Making → Folder → List ℕ × ℕ → List ℕ → Type 0
+TellsDigest m now file digest = (bytes : List ℕ) → stamp_at now file.0 ≡ Some file.1 → bytes_at now file.0 ≡ Some bytes → digest ≡ m.digest bytes
+
+-- the digests that a true record has tell of each output and of each input, in order, that stands with its stamp
+abbrev pub DigestsTell : Type 0
+DigestsTell = (m : Making) (disk : Disk) (r : Record) (d : Digests) → IsConsistent disk → IsTrueRecord m disk.past r → r.digests ≡ Some d → AllZip (TellsDigest m disk.now) r.outs d.outs × AllZip (TellsDigest m disk.now) r.ins d.ins
 
 -- ---- what keeps a log true
 

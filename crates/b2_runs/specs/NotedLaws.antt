@@ -17,7 +17,7 @@ use Rattle.b2_log.specs.Finding.{subject_of, find_record}
 use Rattle.b2_runs.specs.Staleness.{Update, NoneOlder, IsFresh}
 use Rattle.b2_runs.specs.Records.{IsRecordOf}
 use Rattle.b2_runs.specs.Events.{IsOpen}
-use Rattle.b2_runs.specs.Runs.{Settled, CanStart, IsRunSoFar}
+use Rattle.b2_runs.specs.Runs.{Settled, CanStart, IsRunSoFar, IsBegun}
 use Rattle.b2_runs.specs.Outcomes.{IsFailed, LeavesNothing}
 use Rattle.b2_runs.specs.Soundness.{IsLoose, IsAllowedChange, AreAtWork}
 use Rattle.b2_runs.specs.Afterwards.{next_update, NoneDoneOlder, IsNoted}
@@ -60,7 +60,7 @@ NotedAfterMigration = (u : Update) (events : List ChildEvent) (now : Folder) (lo
 
 -- a child that ends well leaves no output older than a member of its step's closure
 abbrev pub OutputsAreNewer : Type 0
-OutputsAreNewer = (u : Update) (events : List ChildEvent) (old new : Family) (before after : Disk) (i : ℕ) (step : Step) (members : List (List ℕ × Value)) → Apart u.build.steps u.build.roots → IsRunSoFar u events → AreAtWork u events old.running → IsConsistent before
+OutputsAreNewer = (u : Update) (events : List ChildEvent) (old new : Family) (before after : Disk) (i : ℕ) (step : Step) (members : List (List ℕ × Value)) → Apart u.build.steps u.build.roots → IsBegun u events → AreAtWork u events old.running → IsConsistent before
     → Ends u.build.made old (Some before) i true new (Some after) → step_at u.build.steps i ≡ Some step → IsClosure u.build (Clean u.build) step members → NoneOlder after.now step members
 
 -- a failed step is stale to the next update, since its outputs do not stand
@@ -68,7 +68,7 @@ abbrev pub FailedIsStale : Type 0
 FailedIsStale = (u : Update) (events : List ChildEvent) (now : Folder) (log : List LogLine) (quit : Bool) (jobs : ℕ) (i : ℕ) (step : Step) (members : List (List ℕ × Value)) → Apart u.build.steps u.build.roots → LeavesNothing u events now log → IsFailed events i
     → step_at u.build.steps i ≡ Some step → IsFresh (next_update u now log quit jobs) [] step members → ⊥
 
--- ---- no output that was made is older than what it was made of
+-- ---- no output that was made is older than what it was made of, also of those that end after an update stopped
 
 -- before any event
 abbrev pub NoneOlderAtEntry : Type 0
@@ -86,4 +86,4 @@ NoneOlderAfterEnd = (u : Update) (events : List ChildEvent) (now : Folder) (i : 
 
 -- it stays so as steps that run or failed change their outputs
 abbrev pub NoneOlderAfterChange : Type 0
-NoneOlderAfterChange = (u : Update) (events : List ChildEvent) (before after : Disk) → Apart u.build.steps u.build.roots → IsRunSoFar u events → IsAllowedChange u events before after → NoneDoneOlder u events before.now → NoneDoneOlder u events after.now
+NoneOlderAfterChange = (u : Update) (events : List ChildEvent) (before after : Disk) → Apart u.build.steps u.build.roots → IsBegun u events → IsAllowedChange u events before after → NoneDoneOlder u events before.now → NoneDoneOlder u events after.now

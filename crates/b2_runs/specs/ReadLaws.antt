@@ -1,20 +1,21 @@
 use Rattle.std.specs.Prelude.{◌≡◌, ◌≢◌, ◌⊎◌, ℕ, ◌<◌, ◌≤◌, Bool, true, false, List, [], ◌∷◌, ◌++◌, length, Some}
-use Rattle.std.specs.List.{Contains}
+use Rattle.std.specs.List.{Contains, AllPairs}
 use Rattle.b2_host.specs.declared.children.ChildEvent.{ChildEvent}
 use Rattle.b2_host.specs.declared.children.ChildEvent.TheVariants.{Done}
 use Rattle.b2_host.specs.Disks.{Folder, Disk, Past, IsOneEach, bytes_at}
 use Rattle.b2_host.specs.Outside.{Read}
 use Rattle.b2_plan.specs.Plans.{Apart}
-use Rattle.b2_host.specs.FileCalls.{log_path}
+use Rattle.b2_host.specs.FileCalls.{log_path, stamp_at}
 use Rattle.b2_plan.specs.Cleans.{Clean}
 use Rattle.b2_log.specs.declared.line.ScanLine.{ScanLine}
 use Rattle.b2_log.specs.declared.line.LogLine.{LogLine}
+use Rattle.b2_log.specs.declared.line.LogLine.TheVariants as lines
 use Rattle.b2_log.specs.Finding.{find_scan}
 use Rattle.b2_runs.specs.Staleness.{Update}
 use Rattle.b2_runs.specs.Events.{IsOpen}
-use Rattle.b2_runs.specs.Runs.{on_settled, MayCome}
+use Rattle.b2_runs.specs.Runs.{Settled, on_settled, MayCome}
 use Rattle.b2_runs.specs.Soundness.{IsSound, IsAllowedChange}
-use Rattle.b2_runs.specs.FileReads.{scan_limit, digest_limit, IsInput, IsNeededOut, IsToScan, IsTooBig, IsLogThen, IsCalledFor, ReadsOnce}
+use Rattle.b2_runs.specs.FileReads.{scan_limit, digest_limit, IsInput, IsNeededOut, IsToScan, IsTooBig, IsLogThen, IsCalledFor, ReadsOnce, IsScanRead, ReadsLeaveLines, StandsWithLine, HaveLines}
 
 -- ---- files that are too big
 
@@ -72,3 +73,43 @@ ScannedIsNotRead = (u : Update) (events : List ChildEvent) (past : List Past) (r
 -- judged by stamps, no file is read that is not scanned
 abbrev pub UnscannedIsNotRead : Type 0
 UnscannedIsNotRead = (u : Update) (events : List ChildEvent) (past : List Past) (reads : List Read) (read : Read) → u.by_digest ≡ false → ReadsOnce u events past reads → Contains reads read → read.path ≢ log_path → u.scanned read.path ≡ false → ⊥
+
+-- ---- the lines that reads leave
+
+-- an update that has read nothing owes no line
+abbrev pub LinesOfNone : Type 0
+LinesOfNone = (u : Update) (events : List ChildEvent) (past : List Past) (now : Folder) (log : List LogLine) → ReadsLeaveLines u past [] × HaveLines u events past now log []
+
+-- where all reads so far have their lines in the log, one more may come
+abbrev pub LinesBeforeRead : Type 0
+LinesBeforeRead = (u : Update) (events : List ChildEvent) (past : List Past) (now : Folder) (log : List LogLine) (reads : List Read) (next : Read) → HaveLines u events past now log reads → IsLogThen past next.log log → ReadsLeaveLines u past reads → ReadsLeaveLines u past (reads ++ next ∷ [])
+
+-- a read whose line stands in the log has it with the others; the log's own needs none
+abbrev pub LinesAfterRead : Type 0
+LinesAfterRead = (u : Update) (events : List ChildEvent) (past : List Past) (now : Folder) (log : List LogLine) (reads : List Read) (read : Read) → ((stamp : ℕ) → IsScanRead u past read stamp → StandsWithLine u events now log read.path stamp)
+    → HaveLines u events past now log reads → HaveLines u events past now log (reads ++ read ∷ [])
+
+-- reads keep their lines as a line is appended, where a scan line has the stamp of its file as it stands
+abbrev pub LinesAfterLine : Type 0
+LinesAfterLine = (u : Update) (events : List ChildEvent) (past : List Past) (now : Folder) (log : List LogLine) (reads : List Read) (line : LogLine) → ((s : ScanLine) → line ≡ lines.Scan s → stamp_at now s.path ≡ Some s.stamp)
+    → HaveLines u events past now log reads → HaveLines u events past now (log ++ line ∷ []) reads
+
+-- they keep them as events come that leave settled what was
+abbrev pub LinesAlong : Type 0
+LinesAlong = (u : Update) (events more : List ChildEvent) (past : List Past) (now : Folder) (log : List LogLine) (reads : List Read) → ((path : List ℕ) → Settled u events path → Settled u more path)
+    → HaveLines u events past now log reads → HaveLines u more past now log reads
+
+-- they keep them as steps that run or failed change their outputs
+abbrev pub LinesAfterChange : Type 0
+LinesAfterChange = (u : Update) (events : List ChildEvent) (before after : Disk) (past : List Past) (log : List LogLine) (reads : List Read) → Apart u.build.steps u.build.roots → IsAllowedChange u events before after
+    → HaveLines u events past before.now log reads → HaveLines u events past after.now log reads
+
+-- they keep them where more has stood
+abbrev pub LinesAsPastGrows : Type 0
+LinesAsPastGrows = (u : Update) (events : List ChildEvent) (past more : List Past) (now : Folder) (log : List LogLine) (reads : List Read) → ((old : Past) → Contains past old → Contains more old)
+    → (ReadsLeaveLines u past reads → ReadsLeaveLines u more reads) × (HaveLines u events past now log reads → HaveLines u events more now log reads)
+
+-- judged by stamps, no file is read twice as it stands
+abbrev pub NoneReadTwice : Type 0
+NoneReadTwice = (u : Update) (events : List ChildEvent) (past : List Past) (reads : List Read) → u.by_digest ≡ false → IsOneEach past → ReadsOnce u events past reads → ReadsLeaveLines u past reads
+    → AllPairs (λ read next. (stamp : ℕ) → IsScanRead u past read stamp → next.path ≡ read.path → next.stamp ≡ Some stamp → ⊥) reads

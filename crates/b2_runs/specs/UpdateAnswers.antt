@@ -19,7 +19,7 @@ use Rattle.b2_runs.specs.Outcomes.{NoneStuck, AllWent, HasCleanBytes, IsCleanBui
 use Rattle.b2_runs.specs.Cycles.{IsStepCycle}
 use Rattle.b2_runs.specs.Soundness.{AreAtWork, Holds}
 use Rattle.b2_runs.specs.Afterwards.{IsNoted}
-use Rattle.b2_runs.specs.FileReads.{IsTooBig, ReadsOnce}
+use Rattle.b2_runs.specs.FileReads.{IsTooBig, ReadsOnce, ReadsLeaveLines}
 use Rattle.b2_runs.specs.LogCourses.{held_bytes, log_file, IsLogWhole, IsLogCut}
 use Rattle.b2_runs.specs.Reports.{Lists, no_lists, AreLists, event_lines, report, cycle_line, too_big_line, host_fault_line, TellsStarts, StopsAtEvent, StopsAtEnd}
 use Rattle.b2_runs.specs.Moments.{Moment}
@@ -119,7 +119,8 @@ AnswerTold u events now out_of_memory = ⊤
 
 -- All that an update has done between two moments at which the files are visible. The events, each start with what it was
 -- given, are the beginning of a run, and those of its children that still run are at work. Nothing but the log and outputs of
--- started steps has changed, and what was done well stands, so that nothing of it was removed. Each read was called for. The log's file is one that an update may leave that was cut off, and its
+-- started steps has changed, and what was done well stands, so that nothing of it was removed. Each read was called for, and
+-- left its scan line, if it owed one, before the next. The log's file is one that an update may leave that was cut off, and its
 -- last lines are on what was done in a run so far that holds each start.
 pub record HasUpdated (u : Update) (answer : UpdateAnswer) (old new : Outside) (before after : Disk) : Type 0 where
   pub events : List ChildEvent
@@ -134,6 +135,7 @@ pub record HasUpdated (u : Update) (answer : UpdateAnswer) (old new : Outside) (
   pub reads : List Read
   pub reads_are : IfSome old.reads (λ list. new.reads ≡ Some (list ++ reads))
   pub once : ReadsOnce u events after.past reads
+  pub leave_lines : ReadsLeaveLines u after.past reads
   pub cut : IsLogCut u events after.now
   pub noted : (log : List LogLine) → IsLogIn after.now log → length (held_bytes (log_file after.now)) ≤ log_limit → (events ≡ []) ⊎ ((b : IsBegun u events) × IsNoted u b.front after.now log)
   pub told : AnswerTold u events after.now answer

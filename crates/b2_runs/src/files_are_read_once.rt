@@ -1,5 +1,5 @@
 //! Laws of the files that an update reads, and of those that are too big for it.
-ghost use Rattle.b2_runs.specs.ReadLaws.{LargeIsTooBig, TooBigIsLarge, NothingTooBig, ReadsNone, ReadsMore, ReadsAlong, ReadsAsPastGrows, ScannedIsNotRead, UnscannedIsNotRead, TooBigThroughEnd, TooBigThroughChange};
+ghost use Rattle.b2_runs.specs.ReadLaws.{LargeIsTooBig, TooBigIsLarge, NothingTooBig, ReadsNone, ReadsMore, ReadsAlong, ReadsAsPastGrows, ScannedIsNotRead, UnscannedIsNotRead, TooBigThroughEnd, TooBigThroughChange, LinesOfNone, LinesBeforeRead, LinesAfterRead, LinesAfterLine, LinesAlong, LinesAfterChange, LinesAsPastGrows, NoneReadTwice};
 
 /// A file that is to be scanned and has more bytes than are scanned is too big, and stands.
 pub fn large_is_too_big()
@@ -54,4 +54,44 @@ pub fn too_big_through_end()
 /// It stays so as steps that run or failed change their outputs.
 pub fn too_big_through_change()
     ensures { TooBigThroughChange }
+{}
+
+/// An update that has read nothing owes no scan line.
+pub fn lines_of_none()
+    ensures { LinesOfNone }
+{}
+
+/// Where all reads so far have their scan lines in the log, one more may come.
+pub fn lines_before_read()
+    ensures { LinesBeforeRead }
+{}
+
+/// A read whose scan line stands in the log has it with the others.
+pub fn lines_after_read()
+    ensures { LinesAfterRead }
+{}
+
+/// Reads keep their scan lines as a line is appended.
+pub fn lines_after_line()
+    ensures { LinesAfterLine }
+{}
+
+/// They keep them as events come.
+pub fn lines_along()
+    ensures { LinesAlong }
+{}
+
+/// They keep them as steps that run or failed change their outputs.
+pub fn lines_after_change()
+    ensures { LinesAfterChange }
+{}
+
+/// They keep them where more has stood.
+pub fn lines_as_past_grows()
+    ensures { LinesAsPastGrows }
+{}
+
+/// Judged by stamps, no file is read twice as it stands.
+pub fn none_read_twice()
+    ensures { NoneReadTwice }
 {}

@@ -1,5 +1,5 @@
 //! Laws of the log over a whole update: what it begins with, and what the events add.
-ghost use Rattle.b2_runs.specs.LogCourseLaws.{FirstLinesAreOne, BeginTellsRecords, BeginTellsScans, BeginIsRead, LinesAreRead, LogGrows, LogTellsOthers, LogDropsFailed, LogHasRecords, WholeLogCounts, LogTellsOtherScans, ScansOnce, MigratesOnce, LogIsProper, LogMoves, LogStaysTrue, LogIsNoted, LogStaysGood, WholeIsCut, WholeLogIsAppendedTo, CutLogIsTrue, CutLogIsNoted, FinishedIsKept, FinishedIsNotStarted};
+ghost use Rattle.b2_runs.specs.LogCourseLaws.{FirstLinesAreOne, BeginTellsRecords, BeginTellsScans, BeginIsRead, LinesAreRead, LogGrows, LogTellsOthers, LogTellsOpen, LogTellsUnstarted, JudgedByLog, LogDropsFailed, LogHasRecords, ScansOnce, MigratesOnce, AlreadyIsNoted, NoneToMigrate, MigratedAfterStart, MigratedAfterChange, LogMoves, LogStaysTrue, ScansStayTrue, LogIsNoted, GoodBytesAreSpelled, ReplacedIsOther, AppendLeavesFile, WholeLogCounts, WholeIsCut, WholeLogIsAppendedTo, CutLogThroughEnd, CutLogThroughChange, CutLogIsTrue, CutLogIsNoted, FinishedIsKept, FinishedIsNotStarted};
 
 /// An update begins with one list of lines.
 pub fn begins_with_one()
@@ -36,6 +36,21 @@ pub fn log_tells_others()
     ensures { LogTellsOthers }
 {}
 
+/// Of a step that runs the log tells what it told at first.
+pub fn log_tells_open()
+    ensures { LogTellsOpen }
+{}
+
+/// Of a step that was not started it tells the same, or it has its record with digests.
+pub fn log_tells_unstarted()
+    ensures { LogTellsUnstarted }
+{}
+
+/// A step that was not started is judged by the log as by the one at entry.
+pub fn judged_by_log()
+    ensures { JudgedByLog }
+{}
+
 /// The log has no record of a step that failed.
 pub fn log_drops_failed()
     ensures { LogDropsFailed }
@@ -51,11 +66,6 @@ pub fn whole_log_counts()
     ensures { WholeLogCounts }
 {}
 
-/// The log says nothing new of a path that at no moment was to have a scan line.
-pub fn log_tells_other_scans()
-    ensures { LogTellsOtherScans }
-{}
-
 /// Once a file has got its scan line, no other is called for.
 pub fn scans_once()
     ensures { ScansOnce }
@@ -66,9 +76,24 @@ pub fn migrates_once()
     ensures { MigratesOnce }
 {}
 
-/// Each line that is appended is proper, where digests have their form.
-pub fn log_is_proper()
-    ensures { LogIsProper }
+/// A record with digests that a fresh step has already is that of the step and of its files.
+pub fn already_is_noted()
+    ensures { AlreadyIsNoted }
+{}
+
+/// No record with digests is called for where judging is by stamps.
+pub fn none_to_migrate()
+    ensures { NoneToMigrate }
+{}
+
+/// A start calls for no record with digests.
+pub fn migrated_after_start()
+    ensures { MigratedAfterStart }
+{}
+
+/// No record with digests is left out after steps that run or failed change their outputs.
+pub fn migrated_after_change()
+    ensures { MigratedAfterChange }
 {}
 
 /// The lines stay what the events call for as steps that run or failed change their outputs.
@@ -81,14 +106,29 @@ pub fn log_stays_true()
     ensures { LogStaysTrue }
 {}
 
+/// Their scan lines are true where those were, whatever the records are.
+pub fn scans_stay_true()
+    ensures { ScansStayTrue }
+{}
+
 /// Their last lines are on what was done with each step.
 pub fn log_is_noted()
     ensures { LogIsNoted }
 {}
 
-/// What is appended to good lines leaves them good.
-pub fn log_stays_good()
-    ensures { LogStaysGood }
+/// Bytes all of which are good are the spelling of their lines.
+pub fn good_bytes_are_spelled()
+    ensures { GoodBytesAreSpelled }
+{}
+
+/// A log that has a torn tail or is long is replaced by other bytes.
+pub fn replaced_is_other()
+    ensures { ReplacedIsOther }
+{}
+
+/// Where one line more is appended, the file that is left has the bytes of all lines.
+pub fn append_leaves_file()
+    ensures { AppendLeavesFile }
 {}
 
 /// Each log file that an update may leave which was not cut off is also one that an update may leave which was.
@@ -99,6 +139,16 @@ pub fn whole_is_cut()
 /// A log that has no torn tail and is neither long nor too large is only appended to.
 pub fn healthy_grows()
     ensures { WholeLogIsAppendedTo }
+{}
+
+/// A log that an update may leave stays so as an open step ends.
+pub fn cut_log_through_end()
+    ensures { CutLogThroughEnd }
+{}
+
+/// It stays so as steps that run or failed change their outputs.
+pub fn cut_log_through_change()
+    ensures { CutLogThroughChange }
 {}
 
 /// Wherever an update was cut off its log is true, where the log at entry was.

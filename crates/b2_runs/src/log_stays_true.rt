@@ -1,5 +1,5 @@
 //! Laws of the log: what its lines say, and what keeps it true.
-ghost use Rattle.b2_runs.specs.LogLaws.{FoundIsThere, ScanIsThere, LastRecord, LastDrop, OthersUnsaid, OthersUnsaidThoughTorn, TrueByKind, EmptyIsTrue, LineTrueAsPastGrows, TrueAsPastGrows, TrueWithLine, TruePrefix, TrueAfterTornAppend, TrueWithFewer, ScansTrueWithLine, ScansTrueAsPastGrows, ScansTrueWithFewer};
+ghost use Rattle.b2_runs.specs.LogLaws.{FoundIsThere, ScanIsThere, LastRecord, LastDrop, OthersUnsaid, LastScan, OtherScansUnsaid, OthersUnsaidThoughTorn, DigestsTell, TrueByKind, EmptyIsTrue, LineTrueAsPastGrows, TrueAsPastGrows, TrueWithLine, TruePrefix, TrueAfterTornAppend, TrueWithFewer, ScansTrueWithLine, ScansTrueAsPastGrows, ScansTrueWithFewer};
 
 /// A record that is found is in the log, and has the outputs that were asked for.
 pub fn found_is_there()
@@ -26,9 +26,24 @@ pub fn others_unsaid()
     ensures { OthersUnsaid }
 {}
 
+/// A scan line at the end is the last line on its path.
+pub fn last_scan()
+    ensures { LastScan }
+{}
+
+/// A line says nothing of other paths.
+pub fn other_scans_unsaid()
+    ensures { OtherScansUnsaid }
+{}
+
 /// A torn append says nothing of other outputs.
 pub fn others_unsaid_though_torn()
     ensures { OthersUnsaidThoughTorn }
+{}
+
+/// The digests of a true record are those of the files that stand with its stamps.
+pub fn digests_tell()
+    ensures { DigestsTell }
 {}
 
 /// A log is true where its records and its scan lines are.

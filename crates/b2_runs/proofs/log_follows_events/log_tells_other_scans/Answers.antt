@@ -1,5 +1,0 @@
-use Rattle.b2_runs.proofs.LogTellsOthers.{log_tells_other_scans}
-use Rattle.b2_runs.proofs.log_follows_events.log_tells_other_scans.Goals as goal
-
-pub returns : goal.returns
-returns c = log_tells_other_scans
