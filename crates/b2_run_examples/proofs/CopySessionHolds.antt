@@ -20,7 +20,7 @@ use Rattle.b2_runs.specs.Staleness.{making, NoneOlder}
 use Rattle.b2_runs.specs.Runs.{IsBegun, IsGivenClosure}
 use Rattle.b2_runs.specs.Outcomes.{HasCleanBytes, IsCleanBuild, OnlyOutputsChange}
 use Rattle.b2_runs.specs.Soundness.{AreAtWork}
-use Rattle.b2_runs.specs.LogCourses.{IsLogAfter, IsLogAfter.begins, IsLogAfter.starts, IsLogAfter.records, IsLogAfter.owes_none, IsLogAfter.drops, IsLogAfter.has_none, IsLogAfter.scans, IsLogAfter.migrates, left_file, IsLogCut, IsLogCut.untouched, IsLogCut.replacing, IsLogCut.between, IsLogCut.within}
+use Rattle.b2_runs.specs.LogCourses.{Opening.to_update, IsLogAfter, IsLogAfter.begins, IsLogAfter.starts, IsLogAfter.records, IsLogAfter.owes_none, IsLogAfter.drops, IsLogAfter.has_none, IsLogAfter.scans, IsLogAfter.migrates, left_file, IsLogCut, IsLogCut.untouched, IsLogCut.replacing, IsLogCut.between, IsLogCut.within}
 use Rattle.b2_runs.specs.Afterwards.{NoneDoneOlder, IsNoted}
 use Rattle.b2_runs.specs.UpdateAnswers.{UpdateAnswer.all_went, HasEnded, HasUpdated}
 use Rattle.b2_runs.specs.Sessions.{IsUpdate}
@@ -146,6 +146,7 @@ updated = record {
   reads = log_read ∷ [];
   reads_are = refl;
   once = λ read c not_log. absurd (not_log (sym (ap (λ (r : Read). r.path) (one_of log_read read c))));
+  leave_lines = λ i j d lt h. absurd (omega (arith, lt, h));
   cut = whole_is_cut copying copied (with_log copy_bytes) run.each whole;
   noted = λ log is fits. inr (begun, subst (IsNoted copying copied (with_log copy_bytes)) (sym (log_is log is)) noted);
   told = (ended, went, clean_build);
@@ -173,11 +174,11 @@ is_update = record {
 -- it has no line
 no_line : (now : Folder) (events : List ChildEvent) (log : List LogLine) → IsLogAfter copying now [] events log → ((i : ℕ) (well : Bool) → Contains events (Done i well) → ⊥) → log ≡ []
 no_line now events log begins none = refl
-no_line now events log (starts es l i c) none = no_line now es l c (λ k well d. none k well (Contains-append_left es (Start i ∷ []) (Done k well) d))
-no_line now events log (records es l i step members r c at file closure is) none = absurd (none i true (Contains-push es (Done i true)))
-no_line now events log (owes_none es l i step c at no_file) none = absurd (none i true (Contains-push es (Done i true)))
-no_line now events log (drops es l i step r c at found) none = absurd (none i false (Contains-push es (Done i false)))
-no_line now events log (has_none es l i step c at found) none = absurd (none i false (Contains-push es (Done i false)))
+no_line now events log (starts es l i c all) none = no_line now es l c (λ k well d. none k well (Contains-append_left es (Start i ∷ []) (Done k well) d))
+no_line now events log (records es l i step members r c all at file closure is) none = absurd (none i true (Contains-push es (Done i true)))
+no_line now events log (owes_none es l i step c all at no_file) none = absurd (none i true (Contains-push es (Done i true)))
+no_line now events log (drops es l i step r c all at found) none = absurd (none i false (Contains-push es (Done i false)))
+no_line now events log (has_none es l i step c all at found) none = absurd (none i false (Contains-push es (Done i false)))
 no_line now events log (scans es l path bytes s c to is new) none = absurd (let e : false ≡ true = to.scanned in cc)
 no_line now events log (migrates es l step members r c to is new) none = absurd (let e : false ≡ true = to.by_digest in cc)
 
@@ -190,13 +191,13 @@ none_done front rest whole i well c =
 no_record : ¬ IsLogCut copying (Start 1 ∷ []) disk_logged.now
 no_record (untouched none same) = let e : Start 1 ∷ [] ≡ [] = none in cc
 no_record (replacing first part missing none begin other split file) = let e : Start 1 ∷ [] ≡ [] = none in cc
-no_record (between first log front rest is so_far ends begin after file) =
-    let same : first ≡ [] = begins_with_one [] first [] begin begins_empty in
+no_record (between first log front rest is so_far ends begin after good file) =
+    let same : first ≡ [] = begins_with_one to_update [] first [] begin begins_empty in
     let empty : log ≡ [] = no_line disk_logged.now front log (subst (λ l. IsLogAfter copying disk_logged.now l front log) same after) (none_done front rest is) in
     let e : Some copy_bytes ≡ None = subst (λ l. Some copy_bytes ≡ left_file None (log_bytes l)) empty file in
     cc
-no_record (within first log line front more rest part missing is so_far ends begin after later split file) =
-    let same : first ≡ [] = begins_with_one [] first [] begin begins_empty in
+no_record (within first log line front more rest part missing is so_far ends begin after later good split file) =
+    let same : first ≡ [] = begins_with_one to_update [] first [] begin begins_empty in
     let whole : Start 1 ∷ [] ≡ (front ++ more) ++ rest = is in
     let empty : log ++ line ∷ [] ≡ [] = no_line disk_logged.now (front ++ more) (log ++ line ∷ []) (subst (λ l. IsLogAfter copying disk_logged.now l (front ++ more) (log ++ line ∷ [])) same later) (none_done (front ++ more) rest whole) in
     Contains_nil line (subst (λ l. Contains l line) empty (Contains-push log line))

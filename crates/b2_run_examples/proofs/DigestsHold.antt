@@ -15,7 +15,7 @@ use Rattle.b2_log.specs.declared.line.LogLine.{LogLine}
 use Rattle.b2_log.specs.Finding.{find_record}
 use Rattle.b2_runs.specs.Staleness.{Update, NoneDone, Agrees, Agrees.by_stamps, Agrees.by_digests, IsRecorded, IsFresh, IsStale}
 use Rattle.b2_runs.specs.Events.{IsOpen}
-use Rattle.b2_runs.specs.Runs.{Settled.source, Settled.done_well, Settled.fresh, on_settled, Needed, Needed.wanted, Needed.member, CanStart, IsRun}
+use Rattle.b2_runs.specs.Runs.{Settled, Settled.source, Settled.done_well, Settled.fresh, on_settled, Needed, Needed.wanted, Needed.member, CanStart, IsRun}
 use Rattle.b2_runs.specs.LogCourses.{AllMigrated, IsToMigrate, HasDigestsAlready, IsLogAfter, IsLogAfter.begins, IsLogAfter.starts, IsLogAfter.records, IsLogAfter.migrates}
 use Rattle.b2_runs.specs.Records.{HasDigestsOf}
 use Rattle.b2_runs.specs.Afterwards.{IsNotedStep}
@@ -23,10 +23,12 @@ use Rattle.b2_run_examples.specs.Overlap.{copy_from, x_path, a_path, b_path, c_p
 use Rattle.b2_run_examples.specs.DigestUpdates.{file_of, build_on, update_on, a_digested, b_digested, a_stamped, b_stamped, x_alone, all_stand, first_ran, both_ran, log_one, log_two, log_three, log_four, log_five, DigestsHold}
 use Rattle.b2_runs.proofs.FirstElementOrLater.{Contains_here, Contains_cases, Contains_nil}
 use Rattle.b2_runs.proofs.NumberHasOneStep.{one_step}
+use Rattle.b2_runs.proofs.MakerIsOne.{source_not_made}
 use Rattle.b2_runs.proofs.CleanIsOne.{clean_is_made}
 use Rattle.b2_runs.proofs.SourcesAreKept.{source_clean}
 use Rattle.b2_runs.proofs.SettledStays.{closure_on_settled, same_members}
 use Rattle.b2_runs.proofs.NeededByNumbers.{cannot_start_fresh}
+use Rattle.b2_runs.proofs.NoneIsLeftOut.{migrated_after_start}
 use Rattle.b2_run_examples.proofs.OneStepPlan.{one_of, longer, different}
 use Rattle.b2_run_examples.proofs.ThreeCopies as copies
 
@@ -218,6 +220,33 @@ module _ (by_digest : Bool) (folder : Folder) (log : List LogLine) (v : List ℕ
     none_left = none_can first_ran (was_started first_ran 1 (0, omega arith, refl)) (not_second first_ran a_after g);
   }
 
+  -- where the first step is stale, its output is not settled before it runs
+  a_unsettled : IsStale U [] (copy_from x_path a_path) of_x → (path : List ℕ) → a_path ≡ path → Settled U [] path → ⊥
+  a_unsettled stale path e (source p bytes s) = source_not_made (build_on folder) apart p bytes s 1 (copy_from x_path a_path) (subst (Makes (build_on folder).steps 1 (copy_from x_path a_path)) e makes_a)
+  a_unsettled stale path e (done_well k s p makes done) = Contains_nil (Done k true) done
+  a_unsettled stale path e (fresh k s p members makes not_started closure inside f) =
+      let here : k ≡ 1 = apart.one_maker k 1 s (copy_from x_path a_path) p makes (subst (Makes (build_on folder).steps 1 (copy_from x_path a_path)) e makes_a) in
+      let at_first : step_at (build_on folder).steps 1 ≡ Some s = subst (λ j. step_at (build_on folder).steps j ≡ Some s) here makes.at in
+      let is : s ≡ copy_from x_path a_path = one_step (build_on folder).steps 1 s (copy_from x_path a_path) at_first refl in
+      let one : members ≡ of_x = same_members U apart 1 s (copy_from x_path a_path) at_first refl members of_x closure clean_x in
+      stale (subst₂ (λ t ms. IsFresh U [] t ms) is one f)
+
+  -- so no step is to get a record with digests by then
+  none_first : IsStale U [] (copy_from x_path a_path) of_x → (now : Folder) (lines : List LogLine) → AllMigrated U [] now lines
+  none_first stale now lines step members to = absurd (elim (needed_is [] to.number to.needed) [
+    | inl e ↦
+        let here : step_at (build_on folder).steps to.number ≡ Some (copy_from x_path a_path) = subst (λ j. step_at (build_on folder).steps j ≡ Some (copy_from x_path a_path)) (sym e) refl in
+        let is : copy_from x_path a_path ≡ step = one_step (build_on folder).steps to.number (copy_from x_path a_path) step here to.at in
+        let one : of_x ≡ members = same_members U apart to.number (copy_from x_path a_path) step here to.at of_x members clean_x ((closure_on_settled U [] step members apart).0 to.closure).0 in
+        stale (subst₂ (λ t ms. IsFresh U [] t ms) (sym is) (sym one) to.is_fresh)
+    | inr e ↦
+        let here : step_at (build_on folder).steps to.number ≡ Some (copy_from a_path b_path) = subst (λ j. step_at (build_on folder).steps j ≡ Some (copy_from a_path b_path)) (sym e) refl in
+        let is : step ≡ copy_from a_path b_path = one_step (build_on folder).steps to.number step (copy_from a_path b_path) to.at here in
+        let closure : IsClosure (build_on folder) (on_settled U []) (copy_from a_path b_path) members = subst (λ t. IsClosure (build_on folder) (on_settled U []) t members) is to.closure in
+        let (value, c) = closure.whole a_path (input_of a_path (Contains_here a_path [])) in
+        a_unsettled stale a_path refl (closure.each a_path value c).1.0
+  ])
+
   can_second : IsStale U first_ran (copy_from a_path b_path) of_a → CanStart U first_ran 2
   can_second stale = record {
     step = copy_from a_path b_path;
@@ -392,10 +421,14 @@ third_second =
 other_bytes : IsRun (update_on true third_folder log_two) first_ran
 other_bytes = run_first true third_folder log_two (8 ∷ []) refl third_first third_second
 
+none_yet : AllMigrated (update_on true third_folder log_two) [] third_left log_two
+none_yet = none_first true third_folder log_two (8 ∷ []) refl third_first third_left log_two
+
 other_bytes_log : IsLogAfter (update_on true third_folder log_two) third_left log_two first_ran log_three
 other_bytes_log =
     migrates first_ran _ (copy_from a_path b_path) ((a_path, Some []) ∷ []) (b_digested 3 6)
-    (records (Start 1 ∷ []) log_two 1 (copy_from x_path a_path) ((x_path, Some (8 ∷ [])) ∷ []) (a_digested 6 5 (8 ∷ [])) (starts [] log_two 1 begins) refl refl
+    (records (Start 1 ∷ []) log_two 1 (copy_from x_path a_path) ((x_path, Some (8 ∷ [])) ∷ []) (a_digested 6 5 (8 ∷ [])) (starts [] log_two 1 begins none_yet)
+    (migrated_after_start (update_on true third_folder log_two) [] third_left log_two 1 (apart true third_folder log_two (8 ∷ []) refl) none_yet) refl refl
     (clean_x true third_folder log_two (8 ∷ []) refl) (record { text = refl; outs = ((refl, refl), tt); ins = ((refl, refl), tt); digests = (refl, (([], refl, refl), tt), ((8 ∷ [], refl, refl), tt)) }))
     (record {
       by_digest = refl;

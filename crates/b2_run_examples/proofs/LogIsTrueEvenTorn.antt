@@ -18,12 +18,13 @@ use Rattle.b2_log.specs.declared.line.LogLine.{LogLine}
 use Rattle.b2_log.specs.declared.line.Record.{Record}
 use Rattle.b2_log.proofs.LinesHaveOneReading.{line_long}
 use Rattle.b2_runs.specs.Staleness.{making}
-use Rattle.b2_runs.specs.LogCourses.{FirstLines, FirstLines.as_it_is, IsLogAfter, IsLogAfter.begins, IsLogAfter.starts, IsLogAfter.records, left_file, IsLogWhole, IsLogCut, IsLogCut.within}
+use Rattle.b2_runs.specs.LogCourses.{Opening.to_update, FirstLines, FirstLines.as_it_is, IsLogAfter, IsLogAfter.begins, IsLogAfter.starts, IsLogAfter.records, left_file, IsLogWhole, IsLogCut, IsLogCut.within}
 use Rattle.b2_runs.specs.Runs.{IsRunSoFar}
 use Rattle.b2_runs.specs.Afterwards.{next_update}
 use Rattle.b2_runs.proofs.LastLineIsFound.{found_is_there}
 use Rattle.b2_runs.proofs.RunIsInOrder.{run_is_in_order}
 use Rattle.b2_runs.proofs.LogHasRecords.{log_has_records}
+use Rattle.b2_runs.proofs.NoneIsLeftOut.{none_to_migrate}
 use Rattle.b2_runs.proofs.CutLogIsTrue.{healthy_grows}
 use Rattle.b2_runs.specs.LogFiles.{log_limit, IsLogOf, IsLogOf.is_read, IsTrueFile, FileTells}
 use Rattle.b2_run_examples.specs.Examples.{in_path, out_path, copying, disk_after, copy_record, log_after, copied, copy_step, in_members, copy_bytes, with_log, CopyingFiled}
@@ -108,15 +109,15 @@ torn part missing split more =
 empty_reading : IsReading [] [] 0
 empty_reading = reading_whole [] tt
 
-pub begins_empty : FirstLines [] []
+pub begins_empty : FirstLines to_update [] []
 begins_empty = as_it_is [] (omega arith) empty_reading (λ much. omega (arith, much))
 
 module _ (bytes : List ℕ) where
   after_start : IsLogAfter copying (with_log bytes) [] (Start 1 ∷ []) []
-  after_start = starts [] [] 1 begins
+  after_start = starts [] [] 1 begins (none_to_migrate copying [] (with_log bytes) [] refl)
 
   pub course : IsLogAfter copying (with_log bytes) [] copied log_after
-  course = records (Start 1 ∷ []) [] 1 copy_step in_members copy_record after_start refl refl closure (record { text = refl; outs = ((refl, refl), tt); ins = ((refl, refl), tt); digests = refl })
+  course = records (Start 1 ∷ []) [] 1 copy_step in_members copy_record after_start (none_to_migrate copying (Start 1 ∷ []) (with_log bytes) [] refl) refl refl closure (record { text = refl; outs = ((refl, refl), tt); ins = ((refl, refl), tt); digests = refl })
 
 pub whole : IsLogWhole copying copied (with_log copy_bytes)
 whole = record {
@@ -124,6 +125,7 @@ whole = record {
   begins = begins_empty;
   log = log_after;
   course = course copy_bytes;
+  good = (line_good, tt);
   migrated = λ step members to. let e : false ≡ true = to.by_digest in cc;
   scanned = λ path bytes to. let e : false ≡ true = to.scanned in cc;
   file = ap (λ w. left_file None w) (sym spelled);
@@ -134,7 +136,7 @@ begun = run.each
 
 cut : (part missing : List ℕ) → copy_bytes ≡ part ++ missing → IsLogCut copying copied (with_log part)
 cut part missing split =
-    within [] [] (lines.Record copy_record) (Start 1 ∷ []) (Done 1 true ∷ []) [] part missing refl begun (opened, tt) begins_empty (after_start part) (course part)
+    within [] [] (lines.Record copy_record) (Start 1 ∷ []) (Done 1 true ∷ []) [] part missing refl begun (opened, tt) begins_empty (after_start part) (course part) (line_good, tt)
     (sym (append-nil (spelling (lines.Record copy_record))) ∙ spelled ∙ split) refl
 
 some_log : ¬ IsLogWhole copying copied disk_after.now

@@ -2,16 +2,18 @@ use Rattle.std.proofs.Common.{◌≡◌, ℕ, true, false, List, [], ◌∷◌, 
 use Rattle.std.specs.List.{Contains}
 use Rattle.std.proofs.lemmas.Slice.Eq.{bytes_eq-Decides}
 use Rattle.b2_host.specs.declared.children.ChildEvent.TheVariants.{Start, Done}
-use Rattle.b2_host.specs.Disks.{Folder}
+use Rattle.b2_host.specs.Disks.{Folder, Past}
 use Rattle.b2_host.specs.Outside.{Read}
 use Rattle.b2_host.specs.FileCalls.{log_path}
 use Rattle.b2_plan.specs.Closures.{Known.input as input_of}
 use Rattle.b2_log.specs.declared.line.LogLine.TheVariants as lines
 use Rattle.b2_log.specs.Finding.{find_scan}
-use Rattle.b2_runs.specs.FileReads.{IsToScan, IsTooBig, IsTooBig.to_scan, IsTooBig.to_digest, IsToDigest, IsToDigest.input, IsToDigest.output, IsCalledFor, IsCalledFor.to_scan as called}
+use Rattle.b2_runs.specs.FileReads.{IsToScan, IsTooBig, IsTooBig.to_scan, IsTooBig.to_digest, IsToDigest, IsToDigest.input, IsToDigest.output, IsLogThen, IsCalledFor, IsCalledFor.to_scan as called, ReadsLeaveLines, StandsWithLine}
 use Rattle.b2_runs.specs.LogCourses.{IsLogAfter, IsLogAfter.begins, IsLogAfter.starts, IsLogAfter.records, IsLogAfter.scans, IsScannedFile, AllScanned}
-use Rattle.b2_runs.proofs.FirstElementOrLater.{Contains_here}
+use Rattle.b2_runs.proofs.FirstElementOrLater.{Contains_here, Contains_nil}
+use Rattle.b2_runs.proofs.NoneIsLeftOut.{none_to_migrate}
 use Rattle.b2_runs.proofs.ReadsOnce.{scanned_is_not_read, unscanned_is_not_read}
+use Rattle.b2_runs.proofs.ReadsLeaveLines.{lines_of_none, lines_before_read, lines_after_read}
 use Rattle.b2_run_examples.specs.Overlap.{copy_from, x_path, b_path, c_path}
 use Rattle.b2_run_examples.specs.Headers.{header_update, b_made, b_scan}
 use Rattle.b2_run_examples.specs.Scans.{b_stands, b_record, b_older, recorded, scanned, read_of, ScansHold}
@@ -42,7 +44,7 @@ b_to_scan = record {
 course : IsLogAfter header_update b_stands [] b_made scanned
 course =
     scans b_made recorded b_path (7 ∷ []) b_scan
-    (records (Start 2 ∷ []) [] 2 (copy_from x_path b_path) ((x_path, Some (7 ∷ [])) ∷ []) b_record (starts [] [] 2 begins) refl refl (clean_close b_path) (record { text = refl; outs = ((refl, refl), tt); ins = ((refl, refl), tt); digests = refl }))
+    (records (Start 2 ∷ []) [] 2 (copy_from x_path b_path) ((x_path, Some (7 ∷ [])) ∷ []) b_record (starts [] [] 2 begins (none_to_migrate header_update [] b_stands [] refl)) (none_to_migrate header_update (Start 2 ∷ []) b_stands [] refl) refl refl (clean_close b_path) (record { text = refl; outs = ((refl, refl), tt); ins = ((refl, refl), tt); digests = refl }))
     b_to_scan (record { path_is = refl; stamp = refl; includes = refl }) refl
 
 all : AllScanned header_update b_made b_stands scanned
@@ -68,6 +70,21 @@ b_not_log e = different b_path log_path refl e
 x_not_log : x_path ≡ log_path → ⊥
 x_not_log e = different x_path log_path refl e
 
+-- of two reads the first leaves its line by the second
+line_left : (past : List Past) (stamp : ℕ) → IsLogThen past (Some stamp) scanned → ReadsLeaveLines header_update past (read_of b_path 2 None ∷ read_of x_path 1 (Some stamp) ∷ [])
+line_left past stamp log_then =
+    lines_before_read header_update b_made past b_stands scanned (read_of b_path 2 None ∷ []) (read_of x_path 1 (Some stamp))
+    (lines_after_read header_update b_made past b_stands scanned [] (read_of b_path 2 None) (λ n is. stands n is.at) (lines_of_none header_update b_made past b_stands scanned).1) log_then (λ i j d lt h. absurd (omega (arith, lt, h)))
+  where
+    stands : (n : ℕ) → Some 2 ≡ Some n → StandsWithLine header_update b_made b_stands scanned b_path n
+    stands n e = subst (StandsWithLine header_update b_made b_stands scanned b_path) (let same : 2 ≡ n = cc in same) (record { settled = (b_on b_made b_done).0; stands = refl; line = b_scan; found = refl })
+
+line_owed : ¬ ReadsLeaveLines header_update [] (read_of b_path 2 None ∷ read_of x_path 1 None ∷ [])
+line_owed leave =
+    let h = leave 0 1 (read_of x_path 1 None) (omega arith) (omega arith) 2 (record { scanned = refl; not_log = b_not_log; at = refl; within = λ bytes stood. absurd (Contains_nil _ stood); unmade = λ on. absurd (let e : false ≡ true = on in cc) }) in
+    let e : None ≡ Some h.line = subst (λ log. find_scan b_path 2 log ≡ Some h.line) h.log_then h.found in
+    cc
+
 pub scans_hold : ScansHold
 scans_hold = record {
   none_yet = none_yet;
@@ -80,4 +97,6 @@ scans_hold = record {
   read = λ past read c not_log. let e = one_of (read_of b_path 2 None) read c in subst (λ (r : Read). IsCalledFor header_update b_made past r) e (called 2 [] refl b_to_scan.input refl refl refl);
   not_again = λ past stamp one then once. scanned_is_not_read header_update b_made past (read_of b_path 2 (Some stamp) ∷ []) (read_of b_path 2 (Some stamp)) 2 scanned b_scan refl one once (Contains_here (read_of b_path 2 (Some stamp)) []) b_not_log refl then refl;
   not_x = λ past once. unscanned_is_not_read header_update b_made past (read_of x_path 1 None ∷ []) (read_of x_path 1 None) refl once (Contains_here (read_of x_path 1 None) []) x_not_log refl;
+  line_left = line_left;
+  line_owed = line_owed;
 }

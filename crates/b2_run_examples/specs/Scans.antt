@@ -6,7 +6,7 @@ use Rattle.b2_log.specs.declared.line.Record.{Record}
 use Rattle.b2_log.specs.declared.line.ScanLine.{ScanLine}
 use Rattle.b2_log.specs.declared.line.LogLine.{LogLine}
 use Rattle.b2_log.specs.declared.line.LogLine.TheVariants as lines
-use Rattle.b2_runs.specs.FileReads.{IsToScan, IsTooBig, IsLogThen, ReadsOnce}
+use Rattle.b2_runs.specs.FileReads.{IsToScan, IsTooBig, IsLogThen, ReadsOnce, ReadsLeaveLines}
 use Rattle.b2_runs.specs.LogCourses.{IsLogAfter, AllScanned}
 use Rattle.b2_run_examples.specs.Overlap.{x_path, b_path}
 use Rattle.b2_run_examples.specs.Headers.{header, header_update, b_made, b_scan}
@@ -50,3 +50,6 @@ pub record ScansHold : Type 0 where
   pub read : (past : List Past) → ReadsOnce header_update b_made past (read_of b_path 2 None ∷ [])
   pub not_again : (past : List Past) (stamp : ℕ) → IsOneEach past → IsLogThen past (Some stamp) scanned → ¬ ReadsOnce header_update b_made past (read_of b_path 2 (Some stamp) ∷ [])
   pub not_x : (past : List Past) → ¬ ReadsOnce header_update b_made past (read_of x_path 1 None ∷ [])
+  -- where another file is read after `b`, the line of `b` stands in the log by then; it may not be lacking
+  pub line_left : (past : List Past) (stamp : ℕ) → IsLogThen past (Some stamp) scanned → ReadsLeaveLines header_update past (read_of b_path 2 None ∷ read_of x_path 1 (Some stamp) ∷ [])
+  pub line_owed : ¬ ReadsLeaveLines header_update [] (read_of b_path 2 None ∷ read_of x_path 1 None ∷ [])
