@@ -19,7 +19,7 @@ use Rattle.b2_runs.specs.Events.{IsOpen}
 use Rattle.b2_runs.specs.Runs.{OpenEnds, IsBegun}
 use Rattle.b2_runs.specs.Afterwards.{NoneDoneOlder, IsNoted}
 use Rattle.b2_runs.specs.LogCourses.{Opening.to_update, FirstLines, FirstLines.as_it_is, BeginsWith, IsLogAfter, held_bytes, log_file, left_file, IsLogCut, IsLogCut.untouched, IsLogCut.replacing, IsLogCut.between, IsLogCut.within}
-use Rattle.b2_runs.specs.LogCourseLaws.{GoodBytesAreSpelled, AppendLeavesFile, WholeLogCounts, WholeIsCut, WholeLogIsAppendedTo, CutLogThroughEnd, CutLogThroughChange, CutLogIsTrue, CutLogIsNoted, FinishedIsKept, FinishedIsNotStarted}
+use Rattle.b2_runs.specs.LogCourseLaws.{HeldIsCounted, GoodBytesAreSpelled, AppendLeavesFile, WholeLogCounts, WholeIsCut, WholeLogIsAppendedTo, CutLogThroughEnd, CutLogThroughChange, CutLogIsTrue, CutLogIsNoted, FinishedIsKept, FinishedIsNotStarted}
 use Rattle.b2_runs.proofs.FirstElementOrLater.{Contains_nil}
 use Rattle.b2_runs.proofs.TrueWithLine.{true_with_fewer}
 use Rattle.b2_runs.proofs.RunGoesOn.{run_has_begun}
@@ -53,7 +53,7 @@ left_counts None (x ∷ xs) each fits_in = go (log_bytes (x ∷ xs)) refl
     go (byte ∷ more) e = subst (λ (w : List ℕ). IsLogOf w (x ∷ xs)) e (lines_are_read (x ∷ xs) each fits_in)
 
 -- what is held counts as the same lines, and as no others
-held_counts : (o : Option (List ℕ)) (log : List LogLine) → IsLogHeld o log → IsLogOf (held_bytes o) log
+pub held_counts : HeldIsCounted
 held_counts None log e = subst (IsLogOf []) (sym e) (lines_are_read [] tt (omega arith))
 held_counts (Some bytes) log is = is
 

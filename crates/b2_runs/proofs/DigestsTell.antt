@@ -25,8 +25,7 @@ outs_tell m disk made (o ∷ os) [] keeps e stood = absurd (let f : [] ≡ m.dig
 outs_tell m disk made (o ∷ os) (t ∷ ts) keeps e stood =
     let f : t ∷ ts ≡ m.digest (made o.0) ∷ map (λ (out : List ℕ × ℕ). m.digest (made out.0)) os = e in
     let first : t ≡ m.digest (made o.0) = cc in
-    let rest : ts ≡ map (λ (out : List ℕ × ℕ). m.digest (made out.0)) os = cc in
-    (
+    let rest : ts ≡ map (λ (out : List ℕ × ℕ). m.digest (made out.0)) os = cc in (
       λ bytes stamp at. first ∙ ap m.digest (keeps.one_each o.0 o.1 (made o.0) bytes (stood o.0 o.1 (Contains_here o os)) (keeps.stands o.0 _ (whole_file disk.now o.0 o.1 bytes stamp at))),
       outs_tell m disk made os ts keeps rest (λ p n c. stood p n (Contains_there o (p, n) os c)),
     )
@@ -42,8 +41,7 @@ ins_tell m disk (q ∷ qs) (h ∷ hs) [] keeps z e = absurd (let f : [] ≡ m.di
 ins_tell m disk (q ∷ qs) (h ∷ hs) (t ∷ ts) keeps (z, more) e =
     let f : t ∷ ts ≡ m.digest h.1 ∷ map (λ (input : List ℕ × List ℕ). m.digest input.1) hs = e in
     let first : t ≡ m.digest h.1 = cc in
-    let rest : ts ≡ map (λ (input : List ℕ × List ℕ). m.digest input.1) hs = cc in
-    (
+    let rest : ts ≡ map (λ (input : List ℕ × List ℕ). m.digest input.1) hs = cc in (
       λ bytes stamp at. first ∙ ap m.digest (keeps.one_each q.0 q.1 h.1 bytes z.stood (keeps.stands q.0 _ (whole_file disk.now q.0 q.1 bytes stamp at))),
       ins_tell m disk qs hs ts keeps more rest,
     )

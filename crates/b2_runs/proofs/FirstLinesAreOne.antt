@@ -1,5 +1,5 @@
 use Rattle.std.proofs.Common.{◌≡◌, ◌⊎◌, ℕ, ◌≤◌, List, [], length, inl, inr, refl, sym, ap, subst, ◌∙◌, arith, option_and_then}
-use Rattle.std.specs.List.{AllByRecursion}
+use Rattle.std.specs.List.{Contains, AllByRecursion}
 use Rattle.b2_log.specs.declared.line.LogLine.{LogLine}
 use Rattle.b2_log.specs.declared.subject.Subject.{Subject}
 use Rattle.b2_log.specs.declared.subject.Subject.TheVariants as subjects
@@ -9,9 +9,9 @@ use Rattle.b2_log.specs.Finding.{told, record_in, scan_in, kept}
 use Rattle.b2_log.proofs.BytesHaveOneReading.{one_reading, reading_whole}
 use Rattle.b2_runs.specs.LogFiles.{IsLogOf, IsLogOf.is_read, IsLogOf.is_large}
 use Rattle.b2_runs.specs.LogCourses.{Opening, IsToShorten, FirstLines, FirstLines.as_it_is, FirstLines.torn, FirstLines.long, FirstLines.large}
-use Rattle.b2_runs.specs.LogCourseLaws.{FirstLinesAreOne, BeginTellsRecords, BeginTellsScans, BeginIsRead, LinesAreRead}
+use Rattle.b2_runs.specs.LogCourseLaws.{FirstLinesAreOne, BeginTellsRecords, BeginTellsScans, BeginIsAmong, BeginIsRead, LinesAreRead}
 use Rattle.b2_runs.proofs.FileIsOneLog.{file_is_one_log}
-use Rattle.b2_runs.proofs.KeptTellsSame.{within_limit, kept_good, kept_shorter, kept_told}
+use Rattle.b2_runs.proofs.KeptTellsSame.{within_limit, kept_among, kept_good, kept_shorter, kept_told}
 
 -- What a log is opened with are the lines that the file counts as, or the kept ones of them.
 pub record IsFrom (bytes : List ℕ) (first : List LogLine) : Type 0 where
@@ -40,6 +40,15 @@ begin_tells_records opening bytes first log outs b is = ap (option_and_then reco
 
 pub begin_tells_scans : BeginTellsScans
 begin_tells_scans opening bytes first log path stamp b is = ap (option_and_then (scan_in stamp)) (told_same opening bytes first log (subjects.Scanned path) b is)
+
+pub begin_is_among : BeginIsAmong
+begin_is_among opening bytes first log line b is c =
+    let f = is_from opening bytes first b in
+    let one : f.log ≡ log = file_is_one_log bytes f.log log f.counts is in
+    subst (λ (l : List LogLine). Contains l line) one (elim f.same [
+      | inl e ↦ subst (λ (l : List LogLine). Contains l line) e c
+      | inr e ↦ kept_among f.log line (subst (λ (l : List LogLine). Contains l line) e c)
+    ])
 
 pub begin_is_read : BeginIsRead
 begin_is_read opening bytes first b =

@@ -1,4 +1,4 @@
-use Rattle.std.proofs.Common.{◌≡◌, ◌==◌, ℕ, Bool, true, false, List, [], ◌∷◌, ◌++◌, inl, inr, refl, ap, subst, ◌∙◌, Option, Some, None, map, option_and_then, if◌then◌else◌, eqb-true}
+use Rattle.std.proofs.Common.{◌≡◌, ◌==◌, ℕ, Bool, true, false, List, [], inl, inr, refl, ap, subst, ◌∙◌, Option, Some, None, map, option_and_then, if◌then◌else◌, eqb-true}
 use Rattle.std.specs.List.{Contains}
 use Rattle.std.proofs.lemmas.Bool.Decides.{Decides-eqb}
 use Rattle.b2_log.specs.declared.line.Record.{Record}
@@ -7,7 +7,7 @@ use Rattle.b2_log.specs.declared.line.LogLine.{LogLine}
 use Rattle.b2_log.specs.declared.line.LogLine.TheVariants as lines
 use Rattle.b2_log.specs.declared.subject.Subject.{Subject}
 use Rattle.b2_log.specs.declared.subject.Subject.TheVariants as subjects
-use Rattle.b2_log.specs.Finding.{path_of, subject_of, told, record_in, scan_in, find_record, find_scan}
+use Rattle.b2_log.specs.Finding.{path_of, subject_of, told, record_in, scan_in, find_record}
 use Rattle.b2_log.proofs.LastLineHasLastWord as telling
 use Rattle.b2_runs.specs.LogLaws.{FoundIsThere, ScanIsThere, LastRecord, LastDrop, OthersUnsaid, LastScan, OtherScansUnsaid, OthersUnsaidThoughTorn}
 

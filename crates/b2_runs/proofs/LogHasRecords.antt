@@ -32,7 +32,7 @@ last_follows steps jobs before (x ∷ events) e r = subst (λ es. MayFollow step
 
 -- outputs of steps with other numbers are others
 pub outs_differ : (u : Update) → Apart u.build.steps u.build.roots → (i k : ℕ) (step other : Step) (outs : List (List ℕ)) → step_at u.build.steps i ≡ Some step → step_at u.build.steps k ≡ Some other → (i ≡ k → ⊥) → outs ≡ other.outs → subjects.Outputs outs ≡ subjects.Outputs step.outs → ⊥
-outs_differ u apart i k step other outs at at_k differ named e = other_outs u apart i k step other at at_k (λ f. differ (sym f)) (sym (outs_same outs step.outs e) ∙ named)
+outs_differ u apart i k step other outs at at_k differ named e = other_outs u i k step other apart at at_k differ (sym (outs_same outs step.outs e) ∙ named)
 
 pub log_drops_failed : LogDropsFailed
 log_drops_failed u now first log events i step apart begins order bad at = absurd (Contains_nil (Done i false) bad)
@@ -70,7 +70,7 @@ log_drops_failed u now first log events i step apart (migrates es l other member
     ∙ log_drops_failed u now first l es i step apart c order bad at
 
 -- a line about the outputs of another step leaves the record of a step
-pub noted_beside : (u : Update) → Apart u.build.steps u.build.roots → (now : Folder) (log : List LogLine) (line : LogLine) (i k : ℕ) (step other : Step) (members : List (List ℕ × Value)) (outs : List (List ℕ)) → subject_of line ≡ subjects.Outputs outs → outs ≡ other.outs
+noted_beside : (u : Update) → Apart u.build.steps u.build.roots → (now : Folder) (log : List LogLine) (line : LogLine) (i k : ℕ) (step other : Step) (members : List (List ℕ × Value)) (outs : List (List ℕ)) → subject_of line ≡ subjects.Outputs outs → outs ≡ other.outs
     → step_at u.build.steps i ≡ Some step → step_at u.build.steps k ≡ Some other → (i ≡ k → ⊥) → IsNotedStep u now log step members → IsNotedStep u now (log ++ line ∷ []) step members
 noted_beside u apart now log line i k step other members outs about named at at_k differ n =
     record { last = n.last; found = others_unsaid step.outs log line (λ e. outs_differ u apart i k step other outs at at_k differ named (sym about ∙ e)) ∙ n.found; is_record = n.is_record }

@@ -1,6 +1,4 @@
 use Rattle.std.proofs.Common.{◌≡◌, ℕ, true, false, List, [], ◌∷◌, ◌++◌, refl, sym, ap, ap₂, subst, ◌∙◌, append_assoc, append-nil, Option, Some, None, map}
-use Rattle.b2_host.specs.declared.children.ChildEvent.{ChildEvent}
-use Rattle.b2_host.specs.declared.children.ChildEvent.TheVariants.{Start, Done}
 use Rattle.b2_host.specs.Disks.{Folder}
 use Rattle.b2_plan.specs.declared.step.Step.{Step}
 use Rattle.b2_plan.specs.Closures.{Value}
@@ -11,10 +9,9 @@ use Rattle.b2_log.specs.declared.line.LogLine.TheVariants as lines
 use Rattle.b2_log.specs.Finding.{path_of, find_record, find_scan}
 use Rattle.b2_runs.specs.Staleness.{Update, AreStamped, paths_with_bytes}
 use Rattle.b2_runs.specs.Records.{HasDigestsOf, IsRecordOf}
-use Rattle.b2_runs.specs.FileReads.{IsToScan}
 use Rattle.b2_runs.specs.LogCourses.{HasDigestsAlready, IsLogAfter.begins, IsLogAfter.starts, IsLogAfter.records, IsLogAfter.owes_none, IsLogAfter.drops, IsLogAfter.has_none, IsLogAfter.scans, IsLogAfter.migrates}
 use Rattle.b2_runs.specs.LogCourseLaws.{LogGrows, LogTellsOthers, ScansOnce, MigratesOnce}
-use Rattle.b2_runs.proofs.LastLineIsFound.{outs_same, path_same, last_record, last_scan, others_unsaid, scans_unsaid, scan_is_other, outs_not_scanned}
+use Rattle.b2_runs.proofs.LastLineIsFound.{outs_same, last_record, last_scan, others_unsaid, scan_is_other}
 use Rattle.b2_runs.proofs.SameByStamp.{stamped_paths}
 
 -- one line more

@@ -1,4 +1,4 @@
-use Rattle.std.proofs.Common.{◌≡◌, ◌⊎◌, ℕ, Bool, true, false, List, [], ◌∷◌, ◌++◌, inl, inr, refl, sym, ap, subst, ◌∙◌, Option, Some, None, map}
+use Rattle.std.proofs.Common.{◌≡◌, ◌⊎◌, ℕ, Bool, true, false, List, [], ◌∷◌, ◌++◌, inl, inr, refl, sym, subst, ◌∙◌, Option, Some, None, map}
 use Rattle.std.specs.List.{Contains}
 use Rattle.std.proofs.lemmas.List.Elements.{Contains-append_left, Contains-push}
 use Rattle.b2_host.specs.declared.children.ChildEvent.{ChildEvent}
@@ -59,7 +59,7 @@ got_along u events event now log step apart may g = record {
 
 got_line : (u : Update) (events : List ChildEvent) (now : Folder) (log : List LogLine) (step : Step) (line : LogLine) → (subject_of line ≡ subjects.Outputs step.outs → ⊥) → GotDigests u events now log step → GotDigests u events now (log ++ line ∷ []) step
 got_line u events now log step line other g =
-    record { on = g.on; number = g.number; at = g.at; needed = g.needed; members = g.members; closure = g.closure; is_fresh = g.is_fresh; noted = line_for u now log step line g.members other g.noted }
+    record { on = g.on; number = g.number; at = g.at; needed = g.needed; members = g.members; closure = g.closure; is_fresh = g.is_fresh; noted = line_for u now log step g.members line other g.noted }
 
 -- what a log tells of a step that is not done: what it told at first, or its record with digests
 abbrev Tells : Update → Folder → List LogLine → List ChildEvent → List LogLine → Step → Type 0

@@ -21,7 +21,7 @@ use Rattle.b2_runs.specs.Records.{HasDigestsOf, IsRecordOf}
 use Rattle.b2_runs.specs.Runs.{Settled, Settled.source, Settled.done_well, Settled.fresh, IsRunSoFar}
 use Rattle.b2_runs.specs.Soundness.{IsLoose, IsAllowedChange}
 use Rattle.b2_runs.specs.Afterwards.{IsNotedStep, IsMigrated, IsNoted}
-use Rattle.b2_runs.specs.NotedLaws.{NotedAtEntry, NotedAfterStart, NotedAfterChange, NotedAfterOtherEnd, NotedAfterLine, NotedAfterRecord, NotedAfterScan, NotedAfterMigration}
+use Rattle.b2_runs.specs.NotedLaws.{OutsDiffer, NotedByRecord, NotedBesideLine, NotedBesideChange, NotedAtEntry, NotedAfterStart, NotedAfterChange, NotedAfterOtherEnd, NotedAfterLine, NotedAfterRecord, NotedAfterScan, NotedAfterMigration}
 use Rattle.b2_runs.proofs.FirstElementOrLater.{some_element, Contains_nil}
 use Rattle.b2_runs.proofs.NumberHasOneStep.{one_step}
 use Rattle.b2_runs.proofs.MakerIsOne.{source_not_made}
@@ -82,6 +82,12 @@ done_inside u events apart run i step members at started closure m y c =
     let (close_other, inside) = (closure_on_settled u events step others apart).0 on in
     inside m y (subst (λ ms. Contains ms (m, y)) (same_members u apart i step step at at members others closure close_other) c)
 
+-- an output of a step that was not started stands as before
+unstarted_still : (u : Update) (events : List ChildEvent) (before after : Disk) → Apart u.build.steps u.build.roots → IsAllowedChange u events before after → (i : ℕ) (step : Step) → step_at u.build.steps i ≡ Some step → (Contains events (Start i) → ⊥) → (out : List ℕ) → Contains step.outs out → after.now out ≡ before.now out
+unstarted_still u events before after apart d i step at none out c =
+    d.others out (out_not_log u.build apart i step out (record { at = at; among = c }))
+    (λ k other makes loose. none (subst (λ j. Contains events (Start j)) (apart.one_maker k i other step out makes (record { at = at; among = c })) loose.0))
+
 -- the record of a step stays that of the files, where its outputs and members stand as before
 noted_move : (u : Update) (old new : Folder) (log : List LogLine) (step : Step) (members : List (List ℕ × Value)) → ((out : List ℕ) → Contains step.outs out → new out ≡ old out) → ((member : List ℕ) (value : Value) → Contains members (member, value) → new member ≡ old member)
     → IsNotedStep u old log step members → IsNotedStep u new log step members
@@ -103,6 +109,11 @@ noted_move u old new log step members outs ins n = record {
     go None h = h
     go (Some d) (on, d_outs, d_ins) = (on, digested_move u.digest old new step.outs d.outs outs d_outs, digested_move u.digest old new (paths_with_bytes members) d.ins ins_same d_ins)
 
+-- of a step that was not started too
+pub noted_beside_change : NotedBesideChange
+noted_beside_change u events before after log i step members apart d at none inside n =
+    noted_move u before.now after.now log step members (unstarted_still u events before after apart d i step at none) (λ m y c. settled_still u events before after apart d m (inside m y c)) n
+
 -- what was noted of a step stays, while others write
 pub noted_after_change : NotedAfterChange
 noted_after_change u events before after log apart run d n = record {
@@ -115,7 +126,7 @@ noted_after_change u events before after log apart run d n = record {
       members = g.members;
       closure = g.closure;
       inside = g.inside;
-      noted = noted_move u before.now after.now log step g.members (unstarted i step at none) (λ m y c. settled_still u events before after apart d m (g.inside m y c)) g.noted;
+      noted = noted_beside_change u events before after log i step g.members apart d at none g.inside g.noted;
     })
   ];
 }
@@ -125,11 +136,6 @@ noted_after_change u events before after log apart run d n = record {
 
     ins : (i : ℕ) (step : Step) (members : List (List ℕ × Value)) → step_at u.build.steps i ≡ Some step → Contains events (Done i true) → IsClosure u.build (Clean u.build) step members → (m : List ℕ) (y : Value) → Contains members (m, y) → after.now m ≡ before.now m
     ins i step members at done closure m y c = settled_still u events before after apart d m (done_inside u events apart run i step members at (done_was_started u events i true run done) closure m y c)
-
-    unstarted : (i : ℕ) (step : Step) → step_at u.build.steps i ≡ Some step → (Contains events (Start i) → ⊥) → (out : List ℕ) → Contains step.outs out → after.now out ≡ before.now out
-    unstarted i step at none out c =
-        d.others out (out_not_log u.build apart i step out (record { at = at; among = c }))
-        (λ k other makes loose. none (subst (λ j. Contains events (Start j)) (apart.one_maker k i other step out makes (record { at = at; among = c })) loose.0))
 
 -- an end without a record says nothing to the log
 pub noted_after_other_end : NotedAfterOtherEnd
@@ -151,23 +157,23 @@ noted_after_other_end u events now log i step well apart opened at no_record n =
     ]
 
 -- the outputs of other steps are others
-pub other_outs : (u : Update) → Apart u.build.steps u.build.roots → (i k : ℕ) (step other : Step) → step_at u.build.steps i ≡ Some step → step_at u.build.steps k ≡ Some other → (k ≡ i → ⊥) → step.outs ≡ other.outs → ⊥
-other_outs u apart i k step other at at_k differ e =
+pub other_outs : OutsDiffer
+other_outs u i k step other apart at at_k differ e =
     let (out, c) = some_element other.outs (apart.some_out k other at_k) in
-    differ (apart.one_maker k i other step out (record { at = at_k; among = c }) (record { at = at; among = subst (λ o. Contains o out) (sym e) c }))
+    differ (sym (apart.one_maker k i other step out (record { at = at_k; among = c }) (record { at = at; among = subst (λ o. Contains o out) (sym e) c })))
 
 -- a line about other outputs leaves what was noted of a step
-pub line_for : (u : Update) (now : Folder) (log : List LogLine) (step : Step) (line : LogLine) (members : List (List ℕ × Value)) → (subject_of line ≡ subjects.Outputs step.outs → ⊥) → IsNotedStep u now log step members → IsNotedStep u now (log ++ line ∷ []) step members
-line_for u now log step line members other n = record { last = n.last; found = others_unsaid step.outs log line other ∙ n.found; is_record = n.is_record }
+pub line_for : NotedBesideLine
+line_for u now log step members line other n = record { last = n.last; found = others_unsaid step.outs log line other ∙ n.found; is_record = n.is_record }
 
 migrated_for : (u : Update) (events : List ChildEvent) (now : Folder) (log : List LogLine) (step : Step) (line : LogLine) → (subject_of line ≡ subjects.Outputs step.outs → ⊥) → IsMigrated u events now log step → IsMigrated u events now (log ++ line ∷ []) step
-migrated_for u events now log step line other g = record { by_digest = g.by_digest; members = g.members; closure = g.closure; inside = g.inside; noted = line_for u now log step line g.members other g.noted }
+migrated_for u events now log step line other g = record { by_digest = g.by_digest; members = g.members; closure = g.closure; inside = g.inside; noted = line_for u now log step g.members line other g.noted }
 
 -- such a line leaves all, where it is about no step that was done well or not started
 other_line : (u : Update) (events : List ChildEvent) (now : Folder) (log : List LogLine) (line : LogLine) → ((i : ℕ) (step : Step) → step_at u.build.steps i ≡ Some step → Contains events (Done i true) ⊎ (Contains events (Start i) → ⊥) → subject_of line ≡ subjects.Outputs step.outs → ⊥)
     → IsNoted u events now log → IsNoted u events now (log ++ line ∷ [])
 other_line u events now log line other n = record {
-  recorded = λ k step members at done file closure. line_for u now log step line members (other k step at (inl done)) (n.recorded k step members at done file closure);
+  recorded = λ k step members at done file closure. line_for u now log step members line (other k step at (inl done)) (n.recorded k step members at done file closure);
   none_older = n.none_older;
   not_started = λ k step at none. elim (n.not_started k step at none) [
     | inl same ↦ inl (others_unsaid step.outs log line (other k step at (inr none)) ∙ same)
@@ -177,7 +183,7 @@ other_line u events now log line other n = record {
 
 -- a line about the outputs of one step is about no other step
 about_other : (u : Update) → Apart u.build.steps u.build.roots → (i k : ℕ) (step other : Step) (line : LogLine) → step_at u.build.steps i ≡ Some step → step_at u.build.steps k ≡ Some other → subject_of line ≡ subjects.Outputs step.outs → (k ≡ i → ⊥) → subject_of line ≡ subjects.Outputs other.outs → ⊥
-about_other u apart i k step other line at at_k subject differ e = other_outs u apart i k step other at at_k differ (outs_same step.outs other.outs (sym subject ∙ e))
+about_other u apart i k step other line at at_k subject differ e = other_outs u i k step other apart at at_k (λ f. differ (sym f)) (outs_same step.outs other.outs (sym subject ∙ e))
 
 pub noted_after_line : NotedAfterLine
 noted_after_line u events now log i step line apart at loose subject n =
@@ -191,7 +197,7 @@ pub noted_after_scan : NotedAfterScan
 noted_after_scan u events now log s n = other_line u events now log (lines.Scan s) (λ k other at_k settled e. scan_is_other other.outs s e) n
 
 -- the record of a step is the last line on it
-pub step_recorded : (u : Update) (now : Folder) (log : List LogLine) (step : Step) (members : List (List ℕ × Value)) (r : Record) → IsRecordOf u now step members r → IsNotedStep u now (log ++ lines.Record r ∷ []) step members
+pub step_recorded : NotedByRecord
 step_recorded u now log step members r is = record {
   last = r;
   found = subst (λ o. find_record o (log ++ lines.Record r ∷ []) ≡ Some r) (stamped_paths now step.outs r.outs is.outs) (last_record log r);
@@ -202,7 +208,7 @@ step_recorded u now log step members r is = record {
 pub noted_after_record : NotedAfterRecord
 noted_after_record u events now log i step members r apart n opened at closure is older = record {
   recorded = λ k other others at_k done file close_k. elim (done_in_done events i k true true done) [
-    | inl before ↦ line_for u now log other (lines.Record r) others (other_step k other at_k (λ e. opened.1 true (subst (λ j. Contains events (Done j true)) e before))) (n.recorded k other others at_k before file close_k)
+    | inl before ↦ line_for u now log other others (lines.Record r) (other_step k other at_k (λ e. opened.1 true (subst (λ j. Contains events (Done j true)) e before))) (n.recorded k other others at_k before file close_k)
     | inr (e, w) ↦
         let same : step ≡ other = one_step u.build.steps k step other (subst (λ j. step_at u.build.steps j ≡ Some step) e at) at_k in
         let one : members ≡ others = same_members u apart k step other (subst (λ j. step_at u.build.steps j ≡ Some step) e at) at_k members others closure close_k in
@@ -234,7 +240,7 @@ same_or_not i k = elim (eqb_tells i k) [ inl e ↦ inl e.1 | inr e ↦ inr e.1 ]
 pub noted_after_migration : NotedAfterMigration
 noted_after_migration u events now log i step members r apart n on at not_started not_done closure inside is = record {
   recorded = λ k other others at_k done file close_k.
-      line_for u now log other (lines.Record r) others (other_step k other at_k (λ e. not_done (subst (λ j. Contains events (Done j true)) e done))) (n.recorded k other others at_k done file close_k);
+      line_for u now log other others (lines.Record r) (other_step k other at_k (λ e. not_done (subst (λ j. Contains events (Done j true)) e done))) (n.recorded k other others at_k done file close_k);
   none_older = n.none_older;
   not_started = λ k other at_k none. elim (same_or_not i k) [
     | inl e ↦

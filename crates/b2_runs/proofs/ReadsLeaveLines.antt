@@ -1,4 +1,4 @@
-use Rattle.std.proofs.Common.{◌≡◌, ℕ, Bool, true, false, List, [], ◌∷◌, ◌++◌, inl, inr, refl, sym, ap, subst, subst₂, ◌∙◌, arith, Option, Some, map, option_map}
+use Rattle.std.proofs.Common.{◌≡◌, ℕ, Bool, true, false, List, [], ◌∷◌, ◌++◌, inl, inr, refl, sym, ap, subst, subst₂, ◌∙◌, arith, Some, map, option_map}
 use Rattle.std.specs.List.{Contains, AllPairs}
 use Rattle.std.specs.Str.{bytes_eq}
 use Rattle.std.proofs.lemmas.List.Elements.{Contains-push_cases}
@@ -10,11 +10,13 @@ use Rattle.b2_log.specs.declared.line.LogLine.{LogLine}
 use Rattle.b2_log.specs.declared.line.LogLine.TheVariants as lines
 use Rattle.b2_log.specs.declared.line.ScanLine.{ScanLine}
 use Rattle.b2_log.specs.Finding.{path_of, find_scan}
-use Rattle.b2_runs.specs.Staleness.{Update}
+use Rattle.b2_runs.specs.Staleness.{Update, making}
 use Rattle.b2_runs.specs.FileReads.{IsScanRead, HadLine, StandsWithLine}
-use Rattle.b2_runs.specs.ReadLaws.{LinesOfNone, LinesBeforeRead, LinesAfterRead, LinesAfterLine, LinesAlong, LinesAfterChange, LinesAsPastGrows, NoneReadTwice}
+use Rattle.b2_runs.specs.ReadLaws.{LinesOfNone, LinesBeforeRead, LinesAfterRead, LinesAsPastGrows, StandsAfterLine, StandsAlong, StandsAfterChange, NoneReadTwice}
+use Rattle.b2_runs.specs.LogCourseLaws.{StandsIsScanned}
 use Rattle.b2_runs.proofs.FirstElementOrLater.{Contains_there, Contains_cases, Contains_nil, AllPairs_head, AllPairs_tail}
-use Rattle.b2_runs.proofs.LastLineIsFound.{path_same, scans_unsaid, outs_not_scanned, last_scan}
+use Rattle.b2_runs.proofs.LastLineIsFound.{scan_is_there, path_same, scans_unsaid, outs_not_scanned, last_scan}
+use Rattle.b2_runs.proofs.ScanTells.{found_scan_tells}
 use Rattle.b2_runs.proofs.NotedAfterEachEvent.{settled_still}
 use Rattle.b2_runs.proofs.OthersAreLeft.{pairs_first, pairs_append}
 use Rattle.b2_runs.proofs.ReadsOnce.{then_grows, scanned_is_not_read}
@@ -39,34 +41,40 @@ lines_after_read u events past now log reads read own have other stamp c is = el
   | inr e ↦ subst (λ (r : Read). (n : ℕ) → IsScanRead u past r n → StandsWithLine u events now log r.path n) e own stamp is
 ]
 
-pub lines_after_line : LinesAfterLine
-lines_after_line u events past now log reads line present have read stamp c is = go line present
+pub stands_after_line : StandsAfterLine
+stands_after_line u events now log path stamp line present h = go line present
   where
-    h : StandsWithLine u events now log read.path stamp
-    h = have read stamp c is
-
-    scanned : (s : ScanLine) (same : Bool) → bytes_eq s.path read.path ≡ same → ((t : ScanLine) → lines.Scan s ≡ lines.Scan t → stamp_at now t.path ≡ Some t.stamp) → StandsWithLine u events now (log ++ lines.Scan s ∷ []) read.path stamp
+    scanned : (s : ScanLine) (same : Bool) → bytes_eq s.path path ≡ same → ((t : ScanLine) → lines.Scan s ≡ lines.Scan t → stamp_at now t.path ≡ Some t.stamp) → StandsWithLine u events now (log ++ lines.Scan s ∷ []) path stamp
     scanned s true e stands =
-        let path : s.path ≡ read.path = (bytes_eq-Decides s.path read.path).0 e in
-        let f : Some s.stamp ≡ Some stamp = sym (stands s refl) ∙ ap (stamp_at now) path ∙ h.stands in
+        let here : s.path ≡ path = (bytes_eq-Decides s.path path).0 e in
+        let f : Some s.stamp ≡ Some stamp = sym (stands s refl) ∙ ap (stamp_at now) here ∙ h.stands in
         let n : s.stamp ≡ stamp = cc in
-        record { settled = h.settled; stands = h.stands; line = s; found = subst₂ (λ p m. find_scan p m (log ++ lines.Scan s ∷ []) ≡ Some s) path n (last_scan log s) }
+        record { settled = h.settled; stands = h.stands; line = s; found = subst₂ (λ p m. find_scan p m (log ++ lines.Scan s ∷ []) ≡ Some s) here n (last_scan log s) }
     scanned s false e stands =
-        let differ : s.path ≡ read.path → ⊥ = λ path. let f : false ≡ true = sym e ∙ (bytes_eq-Decides s.path read.path).1 path in cc in
-        record { settled = h.settled; stands = h.stands; line = h.line; found = scans_unsaid read.path stamp log (lines.Scan s) (λ g. differ (path_same s.path read.path g)) ∙ h.found }
+        let differ : s.path ≡ path → ⊥ = λ here. let f : false ≡ true = sym e ∙ (bytes_eq-Decides s.path path).1 here in cc in
+        record { settled = h.settled; stands = h.stands; line = h.line; found = scans_unsaid path stamp log (lines.Scan s) (λ g. differ (path_same s.path path g)) ∙ h.found }
 
-    go : (x : LogLine) → ((t : ScanLine) → x ≡ lines.Scan t → stamp_at now t.path ≡ Some t.stamp) → StandsWithLine u events now (log ++ x ∷ []) read.path stamp
-    go (lines.Record r) stands = record { settled = h.settled; stands = h.stands; line = h.line; found = scans_unsaid read.path stamp log (lines.Record r) (outs_not_scanned (map path_of r.outs) read.path) ∙ h.found }
-    go (lines.Drop outs) stands = record { settled = h.settled; stands = h.stands; line = h.line; found = scans_unsaid read.path stamp log (lines.Drop outs) (outs_not_scanned outs read.path) ∙ h.found }
-    go (lines.Scan s) stands = scanned s (bytes_eq s.path read.path) refl stands
+    go : (x : LogLine) → ((t : ScanLine) → x ≡ lines.Scan t → stamp_at now t.path ≡ Some t.stamp) → StandsWithLine u events now (log ++ x ∷ []) path stamp
+    go (lines.Record r) stands = record { settled = h.settled; stands = h.stands; line = h.line; found = scans_unsaid path stamp log (lines.Record r) (outs_not_scanned (map path_of r.outs) path) ∙ h.found }
+    go (lines.Drop outs) stands = record { settled = h.settled; stands = h.stands; line = h.line; found = scans_unsaid path stamp log (lines.Drop outs) (outs_not_scanned outs path) ∙ h.found }
+    go (lines.Scan s) stands = scanned s (bytes_eq s.path path) refl stands
 
-pub lines_along : LinesAlong
-lines_along u events more past now log reads grows have read stamp c is = let h = have read stamp c is in record { settled = grows read.path h.settled; stands = h.stands; line = h.line; found = h.found }
+pub stands_along : StandsAlong
+stands_along u events more now log path stamp grows h = record { settled = grows path h.settled; stands = h.stands; line = h.line; found = h.found }
 
-pub lines_after_change : LinesAfterChange
-lines_after_change u events before after past log reads apart d have read stamp c is =
-    let h = have read stamp c is in
-    record { settled = h.settled; stands = ap (option_map (λ (file : File). file.stamp)) (settled_still u events before after apart d read.path h.settled) ∙ h.stands; line = h.line; found = h.found }
+pub stands_after_change : StandsAfterChange
+stands_after_change u events before after log path stamp apart d h =
+    record { settled = h.settled; stands = ap (option_map (λ (file : File). file.stamp)) (settled_still u events before after apart d path h.settled) ∙ h.stands; line = h.line; found = h.found }
+
+-- the line that it stands with is that of its bytes
+pub stands_is_scanned : StandsIsScanned
+stands_is_scanned u events disk log path bytes stamp keeps whole at h =
+    let (c, p, n) = scan_is_there path stamp log h.line h.found in
+    record {
+      line = h.line;
+      is_scan = record { path_is = p; stamp = subst (λ m. stamp_at disk.now path ≡ Some m) (sym n) h.stands; includes = found_scan_tells (making u) disk log path stamp h.line bytes keeps whole h.found h.stands at };
+      found = subst (λ m. find_scan path m log ≡ Some h.line) (sym n) h.found;
+    }
 
 pub lines_as_past_grows : LinesAsPastGrows
 lines_as_past_grows u events past more now log reads grows = (

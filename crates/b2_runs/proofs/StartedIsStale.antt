@@ -1,9 +1,8 @@
-use Rattle.std.proofs.Common.{◌≡◌, ℕ, List, [], ◌∷◌, ◌++◌, inl, inr, sym, subst, subst₂, Some, append_assoc}
+use Rattle.std.proofs.Common.{◌≡◌, ℕ, List, [], ◌∷◌, ◌++◌, inl, inr, sym, subst, subst₂, append_assoc}
 use Rattle.std.specs.List.{Contains}
 use Rattle.std.proofs.lemmas.List.Elements.{Contains-append_left}
 use Rattle.b2_host.specs.declared.children.ChildEvent.{ChildEvent}
 use Rattle.b2_host.specs.declared.children.ChildEvent.TheVariants.{Start, Done}
-use Rattle.b2_plan.specs.Plans.{step_at}
 use Rattle.b2_runs.specs.Staleness.{Update, IsFresh}
 use Rattle.b2_runs.specs.Runs.{CanStart, MayCome, RunFrom}
 use Rattle.b2_runs.specs.StaleLaws.{StartedIsStale}

@@ -2,7 +2,7 @@ use Rattle.std.specs.Prelude.{◌≡◌, ◌≢◌, ◌⊎◌, ◌↔◌, ℕ, �
 use Rattle.std.specs.List.{Contains, AllByRecursion}
 use Rattle.b2_host.specs.declared.children.ChildEvent.{ChildEvent}
 use Rattle.b2_host.specs.declared.children.ChildEvent.TheVariants.{Start, Done}
-use Rattle.b2_host.specs.Disks.{Folder, Disk, IsConsistent}
+use Rattle.b2_host.specs.Disks.{Folder, Disk, IsConsistent, bytes_at}
 use Rattle.b2_plan.specs.declared.step.Step.{Step}
 use Rattle.b2_plan.specs.Plans.{Apart, Makes, step_at}
 use Rattle.b2_host.specs.FileCalls.{log_path, with_piece}
@@ -17,15 +17,16 @@ use Rattle.b2_log.specs.Good.{IsGood}
 use Rattle.b2_log.specs.Readings.{IsReading}
 use Rattle.b2_log.specs.Finding.{find_record, find_scan, kept}
 use Rattle.b2_runs.specs.Logs.{LogTrue, RecordsTrue, ScansTrue}
-use Rattle.b2_runs.specs.LogFiles.{log_limit, IsLogOf, IsTrueFile, IsLogIn}
+use Rattle.b2_runs.specs.LogFiles.{log_limit, IsLogOf, IsTrueFile, IsLogHeld, IsLogIn}
 use Rattle.b2_runs.specs.Staleness.{Update, making, IsFresh, IsRecorded}
 use Rattle.b2_runs.specs.Records.{IsRecordOf, IsScanOf}
 use Rattle.b2_runs.specs.Events.{IsOpen, AreInOrder}
 use Rattle.b2_runs.specs.Runs.{on_settled, IsRunSoFar, IsBegun}
 use Rattle.b2_runs.specs.Outcomes.{IsFailed}
 use Rattle.b2_runs.specs.Soundness.{IsSound, IsAllowedChange}
+use Rattle.b2_runs.specs.FileReads.{StandsWithLine}
 use Rattle.b2_runs.specs.Afterwards.{at_present, next_update, IsMadeEachTime, NoneDoneOlder, IsNotedStep, IsNoted}
-use Rattle.b2_runs.specs.LogCourses.{IsLong, Opening, FirstLines, log_file, held_bytes, HasDigestsAlready, IsToMigrate, AllMigrated, IsLogAfter, left_file, IsLogWhole, IsLogCut}
+use Rattle.b2_runs.specs.LogCourses.{IsLong, Opening, FirstLines, log_file, held_bytes, HasDigestsAlready, IsToMigrate, AllMigrated, IsLogAfter, IsScannedFile, left_file, IsLogWhole, IsLogCut}
 
 -- ---- what a log is opened with
 
@@ -40,6 +41,14 @@ BeginTellsRecords = (opening : Opening) (bytes : List ℕ) (first log : List Log
 -- they tell of each scanned file what the log's file told
 abbrev pub BeginTellsScans : Type 0
 BeginTellsScans = (opening : Opening) (bytes : List ℕ) (first log : List LogLine) (path : List ℕ) (stamp : ℕ) → FirstLines opening bytes first → IsLogOf bytes log → find_scan path stamp first ≡ find_scan path stamp log
+
+-- they are among the lines of that file, so they are true where these are
+abbrev pub BeginIsAmong : Type 0
+BeginIsAmong = (opening : Opening) (bytes : List ℕ) (first log : List LogLine) (line : LogLine) → FirstLines opening bytes first → IsLogOf bytes log → Contains first line → Contains log line
+
+-- the lines of a log count so by the bytes of its file, also where none stands
+abbrev pub HeldIsCounted : Type 0
+HeldIsCounted = (held : Option (List ℕ)) (log : List LogLine) → IsLogHeld held log → IsLogOf (held_bytes held) log
 
 -- they are good, and within the limit: so the file that has them is read as these lines
 abbrev pub BeginIsRead : Type 0
@@ -87,6 +96,11 @@ ScansOnce = (u : Update) (now : Folder) (log : List LogLine) (path bytes : List 
 -- once a step has got its record with digests, the log has one with the stamps of the files, so that no other is called for
 abbrev pub MigratesOnce : Type 0
 MigratesOnce = (u : Update) (now : Folder) (log : List LogLine) (step : Step) (members : List (List ℕ × Value)) (r other : Record) → u.by_digest ≡ true → IsRecordOf u now step members r → IsRecordOf u now step members other → HasDigestsAlready step.outs (log ++ lines.Record r ∷ []) other
+
+-- a file that stands with its line has the line of its bytes, where the log's scan lines are true
+abbrev pub StandsIsScanned : Type 0
+StandsIsScanned = (u : Update) (events : List ChildEvent) (disk : Disk) (log : List LogLine) (path bytes : List ℕ) (stamp : ℕ) → IsConsistent disk → ScansTrue (making u) disk.past log → bytes_at disk.now path ≡ Some bytes
+    → StandsWithLine u events disk.now log path stamp → IsScannedFile u disk.now log path bytes
 
 -- where a fresh step has a record with digests already, at the stamps of its files, that is its record
 abbrev pub AlreadyIsNoted : Type 0

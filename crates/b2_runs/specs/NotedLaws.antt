@@ -1,4 +1,4 @@
-use Rattle.std.specs.Prelude.{◌≡◌, ℕ, Bool, true, false, List, [], ◌∷◌, ◌++◌, Some}
+use Rattle.std.specs.Prelude.{◌≡◌, ◌≢◌, ℕ, Bool, true, false, List, [], ◌∷◌, ◌++◌, Some}
 use Rattle.std.specs.List.{Contains}
 use Rattle.b2_host.specs.declared.children.ChildEvent.{ChildEvent}
 use Rattle.b2_host.specs.declared.children.ChildEvent.TheVariants.{Start, Done}
@@ -20,7 +20,7 @@ use Rattle.b2_runs.specs.Events.{IsOpen}
 use Rattle.b2_runs.specs.Runs.{Settled, CanStart, IsRunSoFar, IsBegun}
 use Rattle.b2_runs.specs.Outcomes.{IsFailed, LeavesNothing}
 use Rattle.b2_runs.specs.Soundness.{IsLoose, IsAllowedChange, AreAtWork}
-use Rattle.b2_runs.specs.Afterwards.{next_update, NoneDoneOlder, IsNoted}
+use Rattle.b2_runs.specs.Afterwards.{next_update, NoneDoneOlder, IsNotedStep, IsNoted}
 
 -- before any event a log is right that says what the one at entry said
 abbrev pub NotedAtEntry : Type 0
@@ -57,6 +57,27 @@ abbrev pub NotedAfterMigration : Type 0
 NotedAfterMigration = (u : Update) (events : List ChildEvent) (now : Folder) (log : List LogLine) (i : ℕ) (step : Step) (members : List (List ℕ × Value)) (r : Record) → Apart u.build.steps u.build.roots → IsNoted u events now log → u.by_digest ≡ true
     → step_at u.build.steps i ≡ Some step → (Contains events (Start i) → ⊥) → (Contains events (Done i true) → ⊥) → IsClosure u.build (Clean u.build) step members → ((member : List ℕ) (value : Value) → Contains members (member, value) → Settled u events member) → IsRecordOf u now step members r
     → IsNoted u events now (log ++ lines.Record r ∷ [])
+
+-- ---- the last line on one step
+
+-- the outputs of two steps are two lists, so a line about the one says nothing of the other
+abbrev pub OutsDiffer : Type 0
+OutsDiffer = (u : Update) (i k : ℕ) (step other : Step) → Apart u.build.steps u.build.roots → step_at u.build.steps i ≡ Some step → step_at u.build.steps k ≡ Some other → (i ≡ k → ⊥) → step.outs ≢ other.outs
+
+-- once the record of a step is appended it is the last line on it
+abbrev pub NotedByRecord : Type 0
+NotedByRecord = (u : Update) (now : Folder) (log : List LogLine) (step : Step) (members : List (List ℕ × Value)) (r : Record) → IsRecordOf u now step members r → IsNotedStep u now (log ++ lines.Record r ∷ []) step members
+
+-- it stays so as a line about other outputs is appended
+abbrev pub NotedBesideLine : Type 0
+NotedBesideLine = (u : Update) (now : Folder) (log : List LogLine) (step : Step) (members : List (List ℕ × Value)) (line : LogLine) → subject_of line ≢ subjects.Outputs step.outs → IsNotedStep u now log step members → IsNotedStep u now (log ++ line ∷ []) step members
+
+-- of a step that was not started, all of whose closure is settled, it stays so as steps that run or failed change their outputs
+abbrev pub NotedBesideChange : Type 0
+NotedBesideChange = (u : Update) (events : List ChildEvent) (before after : Disk) (log : List LogLine) (i : ℕ) (step : Step) (members : List (List ℕ × Value)) → Apart u.build.steps u.build.roots → IsAllowedChange u events before after → step_at u.build.steps i ≡ Some step → (Contains events (Start i) → ⊥)
+    → ((member : List ℕ) (value : Value) → Contains members (member, value) → Settled u events member) → IsNotedStep u before.now log step members → IsNotedStep u after.now log step members
+
+-- ---- steps that are done
 
 -- a child that ends well leaves no output older than a member of its step's closure
 abbrev pub OutputsAreNewer : Type 0

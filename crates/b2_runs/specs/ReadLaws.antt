@@ -89,25 +89,25 @@ abbrev pub LinesAfterRead : Type 0
 LinesAfterRead = (u : Update) (events : List ChildEvent) (past : List Past) (now : Folder) (log : List LogLine) (reads : List Read) (read : Read) → ((stamp : ℕ) → IsScanRead u past read stamp → StandsWithLine u events now log read.path stamp)
     → HaveLines u events past now log reads → HaveLines u events past now log (reads ++ read ∷ [])
 
--- reads keep their lines as a line is appended, where a scan line has the stamp of its file as it stands
-abbrev pub LinesAfterLine : Type 0
-LinesAfterLine = (u : Update) (events : List ChildEvent) (past : List Past) (now : Folder) (log : List LogLine) (reads : List Read) (line : LogLine) → ((s : ScanLine) → line ≡ lines.Scan s → stamp_at now s.path ≡ Some s.stamp)
-    → HaveLines u events past now log reads → HaveLines u events past now (log ++ line ∷ []) reads
-
--- they keep them as events come that leave settled what was
-abbrev pub LinesAlong : Type 0
-LinesAlong = (u : Update) (events more : List ChildEvent) (past : List Past) (now : Folder) (log : List LogLine) (reads : List Read) → ((path : List ℕ) → Settled u events path → Settled u more path)
-    → HaveLines u events past now log reads → HaveLines u more past now log reads
-
--- they keep them as steps that run or failed change their outputs
-abbrev pub LinesAfterChange : Type 0
-LinesAfterChange = (u : Update) (events : List ChildEvent) (before after : Disk) (past : List Past) (log : List LogLine) (reads : List Read) → Apart u.build.steps u.build.roots → IsAllowedChange u events before after
-    → HaveLines u events past before.now log reads → HaveLines u events past after.now log reads
-
--- they keep them where more has stood
+-- they have them where more has stood
 abbrev pub LinesAsPastGrows : Type 0
 LinesAsPastGrows = (u : Update) (events : List ChildEvent) (past more : List Past) (now : Folder) (log : List LogLine) (reads : List Read) → ((old : Past) → Contains past old → Contains more old)
     → (ReadsLeaveLines u past reads → ReadsLeaveLines u more reads) × (HaveLines u events past now log reads → HaveLines u events more now log reads)
+
+-- a file that stands with its line does as a line is appended, where a scan line has the stamp of its file as it stands
+abbrev pub StandsAfterLine : Type 0
+StandsAfterLine = (u : Update) (events : List ChildEvent) (now : Folder) (log : List LogLine) (path : List ℕ) (stamp : ℕ) (line : LogLine) → ((s : ScanLine) → line ≡ lines.Scan s → stamp_at now s.path ≡ Some s.stamp)
+    → StandsWithLine u events now log path stamp → StandsWithLine u events now (log ++ line ∷ []) path stamp
+
+-- it does as events come that leave settled what was
+abbrev pub StandsAlong : Type 0
+StandsAlong = (u : Update) (events more : List ChildEvent) (now : Folder) (log : List LogLine) (path : List ℕ) (stamp : ℕ) → ((other : List ℕ) → Settled u events other → Settled u more other)
+    → StandsWithLine u events now log path stamp → StandsWithLine u more now log path stamp
+
+-- it does as steps that run or failed change their outputs
+abbrev pub StandsAfterChange : Type 0
+StandsAfterChange = (u : Update) (events : List ChildEvent) (before after : Disk) (log : List LogLine) (path : List ℕ) (stamp : ℕ) → Apart u.build.steps u.build.roots → IsAllowedChange u events before after
+    → StandsWithLine u events before.now log path stamp → StandsWithLine u events after.now log path stamp
 
 -- judged by stamps, no file is read twice as it stands
 abbrev pub NoneReadTwice : Type 0

@@ -1,5 +1,5 @@
 //! Laws of the files that an update reads, and of those that are too big for it.
-ghost use Rattle.b2_runs.specs.ReadLaws.{LargeIsTooBig, TooBigIsLarge, NothingTooBig, ReadsNone, ReadsMore, ReadsAlong, ReadsAsPastGrows, ScannedIsNotRead, UnscannedIsNotRead, TooBigThroughEnd, TooBigThroughChange, LinesOfNone, LinesBeforeRead, LinesAfterRead, LinesAfterLine, LinesAlong, LinesAfterChange, LinesAsPastGrows, NoneReadTwice};
+ghost use Rattle.b2_runs.specs.ReadLaws.{LargeIsTooBig, TooBigIsLarge, NothingTooBig, ReadsNone, ReadsMore, ReadsAlong, ReadsAsPastGrows, ScannedIsNotRead, UnscannedIsNotRead, TooBigThroughEnd, TooBigThroughChange, LinesOfNone, LinesBeforeRead, LinesAfterRead, StandsAfterLine, StandsAlong, StandsAfterChange, LinesAsPastGrows, NoneReadTwice};
 
 /// A file that is to be scanned and has more bytes than are scanned is too big, and stands.
 pub fn large_is_too_big()
@@ -71,24 +71,24 @@ pub fn lines_after_read()
     ensures { LinesAfterRead }
 {}
 
-/// Reads keep their scan lines as a line is appended.
-pub fn lines_after_line()
-    ensures { LinesAfterLine }
-{}
-
-/// They keep them as events come.
-pub fn lines_along()
-    ensures { LinesAlong }
-{}
-
-/// They keep them as steps that run or failed change their outputs.
-pub fn lines_after_change()
-    ensures { LinesAfterChange }
-{}
-
-/// They keep them where more has stood.
+/// They have them where more has stood.
 pub fn lines_as_past_grows()
     ensures { LinesAsPastGrows }
+{}
+
+/// A file that stands with its scan line does as a line is appended.
+pub fn stands_after_line()
+    ensures { StandsAfterLine }
+{}
+
+/// It does as events come.
+pub fn stands_along()
+    ensures { StandsAlong }
+{}
+
+/// It does as steps that run or failed change their outputs.
+pub fn stands_after_change()
+    ensures { StandsAfterChange }
 {}
 
 /// Judged by stamps, no file is read twice as it stands.

@@ -1,5 +1,5 @@
 //! Laws of the log along a run: its last line on each step is the right one.
-ghost use Rattle.b2_runs.specs.NotedLaws.{NotedAtEntry, NotedAfterStart, NotedAfterChange, NotedAfterOtherEnd, NotedAfterLine, NotedAfterRecord, NotedAfterScan, NotedAfterMigration, OutputsAreNewer, FailedIsStale, NoneOlderAtEntry, NoneOlderAfterStart, NoneOlderAfterEnd, NoneOlderAfterChange};
+ghost use Rattle.b2_runs.specs.NotedLaws.{NotedAtEntry, NotedAfterStart, NotedAfterChange, NotedAfterOtherEnd, NotedAfterLine, NotedAfterRecord, NotedAfterScan, NotedAfterMigration, OutsDiffer, NotedByRecord, NotedBesideLine, NotedBesideChange, OutputsAreNewer, FailedIsStale, NoneOlderAtEntry, NoneOlderAfterStart, NoneOlderAfterEnd, NoneOlderAfterChange};
 
 /// Before any event a log is right that says what the one at entry said.
 pub fn noted_at_entry()
@@ -39,6 +39,26 @@ pub fn noted_after_scan()
 /// The log stays right as a record with digests is appended of a step that was not started.
 pub fn noted_after_migration()
     ensures { NotedAfterMigration }
+{}
+
+/// The outputs of two steps are two lists.
+pub fn outs_differ()
+    ensures { OutsDiffer }
+{}
+
+/// Once the record of a step is appended it is the last line on it.
+pub fn noted_by_record()
+    ensures { NotedByRecord }
+{}
+
+/// It stays so as a line about other outputs is appended.
+pub fn noted_beside_line()
+    ensures { NotedBesideLine }
+{}
+
+/// Of a step that was not started it stays so as steps that run or failed change their outputs.
+pub fn noted_beside_change()
+    ensures { NotedBesideChange }
 {}
 
 /// A child that ends well leaves no output older than a member of its step's closure.

@@ -1,19 +1,29 @@
 //! Laws of the log over a whole update: what it begins with, and what the events add.
-ghost use Rattle.b2_runs.specs.LogCourseLaws.{FirstLinesAreOne, BeginTellsRecords, BeginTellsScans, BeginIsRead, LinesAreRead, LogGrows, LogTellsOthers, LogTellsOpen, LogTellsUnstarted, JudgedByLog, LogDropsFailed, LogHasRecords, ScansOnce, MigratesOnce, AlreadyIsNoted, NoneToMigrate, MigratedAfterStart, MigratedAfterChange, LogMoves, LogStaysTrue, ScansStayTrue, LogIsNoted, GoodBytesAreSpelled, ReplacedIsOther, AppendLeavesFile, WholeLogCounts, WholeIsCut, WholeLogIsAppendedTo, CutLogThroughEnd, CutLogThroughChange, CutLogIsTrue, CutLogIsNoted, FinishedIsKept, FinishedIsNotStarted};
+ghost use Rattle.b2_runs.specs.LogCourseLaws.{FirstLinesAreOne, BeginTellsRecords, BeginTellsScans, BeginIsAmong, HeldIsCounted, BeginIsRead, LinesAreRead, LogGrows, LogTellsOthers, LogTellsOpen, LogTellsUnstarted, JudgedByLog, LogDropsFailed, LogHasRecords, ScansOnce, MigratesOnce, StandsIsScanned, AlreadyIsNoted, NoneToMigrate, MigratedAfterStart, MigratedAfterChange, LogMoves, LogStaysTrue, ScansStayTrue, LogIsNoted, GoodBytesAreSpelled, ReplacedIsOther, AppendLeavesFile, WholeLogCounts, WholeIsCut, WholeLogIsAppendedTo, CutLogThroughEnd, CutLogThroughChange, CutLogIsTrue, CutLogIsNoted, FinishedIsKept, FinishedIsNotStarted};
 
-/// An update begins with one list of lines.
+/// A log is opened with one list of lines.
 pub fn begins_with_one()
     ensures { FirstLinesAreOne }
 {}
 
-/// The lines that an update begins with tell of each step what the file at entry told.
+/// The lines that a log is opened with tell of each step what the log's file told.
 pub fn begin_tells_records()
     ensures { BeginTellsRecords }
 {}
 
-/// They tell of each file that was scanned what the file at entry told.
+/// They tell of each file that was scanned what the log's file told.
 pub fn begin_tells_scans()
     ensures { BeginTellsScans }
+{}
+
+/// They are among the lines of the log's file.
+pub fn begin_is_among()
+    ensures { BeginIsAmong }
+{}
+
+/// The lines of a log count so by the bytes of its file, also where none stands.
+pub fn held_is_counted()
+    ensures { HeldIsCounted }
 {}
 
 /// They are good, and within the limit.
@@ -74,6 +84,11 @@ pub fn scans_once()
 /// Once a step has got its record with digests, no other is called for.
 pub fn migrates_once()
     ensures { MigratesOnce }
+{}
+
+/// A file that stands with its scan line has the line of its bytes.
+pub fn stands_is_scanned()
+    ensures { StandsIsScanned }
 {}
 
 /// A record with digests that a fresh step has already is that of the step and of its files.
