@@ -45,6 +45,7 @@ pub mod StepCycleIsOne
 pub mod StepCycleIsThere
 pub mod OthersAreLeft
 pub mod StartMayBegin
+pub mod OpenStepsHaveChildren
 pub mod ChildrenFollowEvents
 pub mod PlanChildMayStart
 pub mod TooBigIsLarge

@@ -1,17 +1,18 @@
-use Rattle.std.specs.Prelude.{◌≡◌, ◌≢◌, ℕ, Bool, true, false, List, [], ◌∷◌, ◌++◌, Option, Some}
+use Rattle.std.specs.Prelude.{◌≡◌, ℕ, Bool, false, List, [], ◌∷◌, ◌++◌, Option, Some}
 use Rattle.std.specs.List.{Contains}
 use Rattle.b2_host.specs.declared.children.ChildEvent.{ChildEvent}
 use Rattle.b2_host.specs.declared.children.ChildEvent.TheVariants.{Start, Done}
 use Rattle.b2_host.specs.Disks.{Disk}
 use Rattle.b2_host.specs.ChildProcesses.{Given, Child, Family, given_at, after_start, MayStart, Ends}
+use Rattle.b2_host.specs.ChildCalls.{AwaitFails}
+use Rattle.b2_host.specs.Outside.{Outside}
 use Rattle.b2_plan.specs.declared.step.Step.{Step}
 use Rattle.b2_plan.specs.Plans.{Apart, step_at}
 use Rattle.b2_runs.specs.Staleness.{Update, paths_with_bytes}
-use Rattle.b2_runs.specs.Events.{IsOpen}
+use Rattle.b2_runs.specs.Events.{IsOpen, AreInOrder}
 use Rattle.b2_runs.specs.Runs.{CanStart, IsRunSoFar, IsGivenClosure, AreGivenClosures}
-use Rattle.b2_runs.specs.Outcomes.{IsSettledStep}
 use Rattle.b2_runs.specs.Soundness.{IsSound, AreAtWork}
-use Rattle.b2_runs.specs.PlanChildren.{MadeBySettled, ArePlanChildren}
+use Rattle.b2_runs.specs.PlanChildren.{AreOfOpenSteps, MadeBySettled, ArePlanChildren, SettlesOne}
 
 -- what the start of a step gives its child that can start
 abbrev pub start_gives : (u : Update) (events : List ChildEvent) (i : ℕ) → CanStart u events i → Disk → Given
@@ -52,26 +53,48 @@ GivenAfterEnd = (u : Update) (events : List ChildEvent) (given : List Given) (i 
 
 -- ---- over every host
 
+-- before any event no child runs and no step is open
+abbrev pub OpenStepsAtEntry : Type 0
+OpenStepsAtEntry = AreOfOpenSteps [] []
+
+-- after the start of a step that was not started one more child runs
+abbrev pub OpenStepsAfterStart : Type 0
+OpenStepsAfterStart = (steps : List Step) (jobs : ℕ) (events : List ChildEvent) (family : Family) (i : ℕ) (text : List ℕ) (ins outs : List (List ℕ)) (disk : Option Disk) → AreInOrder steps jobs events → (Contains events (Start i) → ⊥) → AreOfOpenSteps events family.running
+    → AreOfOpenSteps (events ++ Start i ∷ []) (after_start i text ins outs disk family).running
+
+-- after the end of any of them one child less runs
+abbrev pub OpenStepsAfterEnd : Type 0
+OpenStepsAfterEnd = (events : List ChildEvent) (made : List ℕ → List (List ℕ × List ℕ) → List ℕ → List ℕ) (old new : Family) (before after : Option Disk) (i : ℕ) (well : Bool) → AreOfOpenSteps events old.running → Ends made old before i well new after
+    → AreOfOpenSteps (events ++ Done i well ∷ []) new.running
+
+-- after a wait that failed the same children run
+abbrev pub OpenStepsAfterFailedWait : Type 0
+OpenStepsAfterFailedWait = (events : List ChildEvent) (before after : Outside) → AreOfOpenSteps events before.children.running → AwaitFails before after → AreOfOpenSteps events after.children.running
+
+-- what ends is open
+abbrev pub EndsOpenStep : Type 0
+EndsOpenStep = (events : List ChildEvent) (made : List ℕ → List (List ℕ × List ℕ) → List ℕ → List ℕ) (old new : Family) (before after : Option Disk) (i : ℕ) (well : Bool) → AreOfOpenSteps events old.running → Ends made old before i well new after → IsOpen events i
+
 -- before any start no child runs
 abbrev pub PlanChildrenAtEntry : Type 0
 PlanChildrenAtEntry = (steps : List Step) (settled : ℕ → Bool) → ArePlanChildren steps settled []
 
--- a step that is not settled and whose child does not run may start, where it reads what settled steps make
+-- a step that was not started and is not settled may start beside those that run, where it reads what settled steps make
 abbrev pub PlanChildMayStart : Type 0
-PlanChildMayStart = (steps : List Step) (roots : List (List ℕ)) (settled : ℕ → Bool) (running : List Child) (i : ℕ) (step : Step) (ins : List (List ℕ)) → Apart steps roots → ArePlanChildren steps settled running → step_at steps i ≡ Some step → settled i ≡ false
-    → ((child : Child) → Contains running child → child.step ≢ i) → MadeBySettled steps settled ins → MayStart running ins step.outs
+PlanChildMayStart = (steps : List Step) (roots : List (List ℕ)) (events : List ChildEvent) (settled : ℕ → Bool) (running : List Child) (i : ℕ) (step : Step) (ins : List (List ℕ)) → Apart steps roots → AreOfOpenSteps events running → ArePlanChildren steps settled running
+    → step_at steps i ≡ Some step → (Contains events (Start i) → ⊥) → settled i ≡ false → MadeBySettled steps settled ins → MayStart running ins step.outs
 
 -- after its start one such child more runs
 abbrev pub PlanChildrenAfterStart : Type 0
 PlanChildrenAfterStart = (steps : List Step) (settled : ℕ → Bool) (family : Family) (i : ℕ) (step : Step) (ins : List (List ℕ)) (disk : Option Disk) → ArePlanChildren steps settled family.running → step_at steps i ≡ Some step → settled i ≡ false → MadeBySettled steps settled ins
     → ArePlanChildren steps settled (after_start i step.text ins step.outs disk family).running
 
--- after an end one child less runs, and its number may be settled then, and others that do not run
+-- after the end of any of them one child less runs, and its step may be settled then
 abbrev pub PlanChildrenAfterEnd : Type 0
-PlanChildrenAfterEnd = (steps : List Step) (settled later : ℕ → Bool) (made : List ℕ → List (List ℕ × List ℕ) → List ℕ → List ℕ) (old new : Family) (before after : Option Disk) (i : ℕ) (well : Bool) → ArePlanChildren steps settled old.running → Ends made old before i well new after
-    → ((k : ℕ) → settled k ≡ true → later k ≡ true) → ((child : Child) → Contains new.running child → later child.step ≡ false) → ArePlanChildren steps later new.running
+PlanChildrenAfterEnd = (steps : List Step) (events : List ChildEvent) (settled later : ℕ → Bool) (made : List ℕ → List (List ℕ × List ℕ) → List ℕ → List ℕ) (old new : Family) (before after : Option Disk) (i : ℕ) (well : Bool) → AreOfOpenSteps events old.running
+    → ArePlanChildren steps settled old.running → Ends made old before i well new after → SettlesOne settled i later → ArePlanChildren steps later new.running
 
--- children at work are such, where each settled step is told settled and no open one is
-abbrev pub AtWorkIsPlanned : Type 0
-AtWorkIsPlanned = (u : Update) (events : List ChildEvent) (settled : ℕ → Bool) (running : List Child) → Apart u.build.steps u.build.roots → IsRunSoFar u events → AreAtWork u events running → ((i : ℕ) → IsSettledStep u events i → settled i ≡ true) → ((i : ℕ) → IsOpen events i → settled i ≡ false)
-    → ArePlanChildren u.build.steps settled running
+-- they stay such as a step that was not started is judged fresh, and so is settled
+abbrev pub PlanChildrenAsOneSettles : Type 0
+PlanChildrenAsOneSettles = (steps : List Step) (events : List ChildEvent) (settled later : ℕ → Bool) (running : List Child) (i : ℕ) → AreOfOpenSteps events running → ArePlanChildren steps settled running → (Contains events (Start i) → ⊥) → SettlesOne settled i later
+    → ArePlanChildren steps later running

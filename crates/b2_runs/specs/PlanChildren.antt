@@ -1,10 +1,27 @@
-use Rattle.std.specs.Prelude.{◌≡◌, ℕ, Bool, true, false, List, Some}
-use Rattle.std.specs.List.{Contains}
-use Rattle.b2_host.specs.ChildProcesses.{Child}
+use Rattle.std.specs.Prelude.{◌≡◌, ◌≢◌, ◌⊎◌, ℕ, Bool, true, false, List, ◌++◌, Some}
+use Rattle.std.specs.List.{Contains, AllPairs}
+use Rattle.b2_host.specs.declared.children.ChildEvent.{ChildEvent}
+use Rattle.b2_host.specs.ChildProcesses.{Child, Family}
 use Rattle.b2_plan.specs.declared.step.Step.{Step}
 use Rattle.b2_plan.specs.Plans.{step_at, Makes}
+use Rattle.b2_runs.specs.Events.{IsOpen}
 
--- The children that run, by the plan and by which numbers of steps are settled: over every host, for no file has to be visible.
+-- The children that run, by the events, by the plan and by which numbers of steps are settled: over every host, for no file has to
+-- be visible.
+
+-- The children that run are those of the open steps, each once.
+pub record AreOfOpenSteps (events : List ChildEvent) (running : List Child) : Type 0 where
+  pub each : (child : Child) → Contains running child → IsOpen events child.step
+  pub once : AllPairs (λ child other. child.step ≢ other.step) running
+  pub whole : (i : ℕ) → IsOpen events i → (child : Child) × Contains running child × (child.step ≡ i)
+
+-- What runs after an update, wherever it ended, also where a wait failed: the children of the steps that it left open, each once,
+-- and each writes its step's outputs.
+pub record LeavesOpen (steps : List Step) (old new : Family) : Type 0 where
+  pub events : List ChildEvent
+  pub are : new.events ≡ old.events ++ events
+  pub of_open : AreOfOpenSteps events new.running
+  pub planned : (child : Child) → Contains new.running child → (step : Step) × (step_at steps child.step ≡ Some step) × (child.outs ≡ step.outs)
 
 -- each of these paths that a step makes is made by a settled one
 abbrev pub MadeBySettled : List Step → (ℕ → Bool) → List (List ℕ) → Type 0
@@ -22,3 +39,8 @@ pub record IsPlanChild (steps : List Step) (settled : ℕ → Bool) (child : Chi
 -- each child that runs is such a one
 abbrev pub ArePlanChildren : List Step → (ℕ → Bool) → List Child → Type 0
 ArePlanChildren steps settled running = (child : Child) → Contains running child → IsPlanChild steps settled child
+
+-- later the same steps are settled, and perhaps this one more
+pub record SettlesOne (settled : ℕ → Bool) (i : ℕ) (later : ℕ → Bool) : Type 0 where
+  pub stays : (k : ℕ) → settled k ≡ true → later k ≡ true
+  pub no_other : (k : ℕ) → later k ≡ true → (settled k ≡ true) ⊎ (k ≡ i)
