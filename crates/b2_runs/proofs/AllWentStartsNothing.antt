@@ -1,6 +1,8 @@
-use Rattle.std.proofs.Common.{◌<◌, length, inl, inr, refl, subst, arith}
+use Rattle.std.proofs.Common.{◌<◌, length, inl, inr, refl, sym, subst, ◌∙◌, arith}
+use Rattle.b2_runs.specs.Staleness.{making}
 use Rattle.b2_runs.specs.Soundness.{Holds}
-use Rattle.b2_runs.specs.AnswerLaws.{AllWentStartsNothing, CycleEndsNoReport, AllWentHasNoBadEnd, SinkFaultIsFirst, UpdateReadsOnce, DoneWellStands}
+use Rattle.b2_runs.specs.AnswerLaws.{AllWentStartsNothing, CycleEndsNoReport, AllWentHasNoBadEnd, SinkFaultIsFirst, UpdateReadsOnce, DoneWellStands, SoundAtExit}
+use Rattle.b2_runs.proofs.TrueWithLine.{record_grows}
 use Rattle.b2_runs.proofs.OutputsAreClean.{out_bytes}
 use Rattle.b2_runs.proofs.CountedInOrder.{bad_by_count}
 use Rattle.b2_runs.proofs.NothingStartsAfterwards.{nothing_starts_afterwards}
@@ -31,3 +33,13 @@ done_well_stands u answer old new before after i step path apart h makes owes we
     let (value, clean, holds) = h.done_well i step path makes well in
     let (bytes, e) = out_bytes u.build apart (length u.build.steps) i step path value makes owes clean in
     (bytes, subst (Holds after.now path) e holds)
+
+pub sound_at_exit : SoundAtExit
+sound_at_exit u answer old new before after consistent keeps grows records_true same distinct h = record {
+  keeps = keeps;
+  entry_stood = λ path file at. grows _ (consistent.stands path file (sym (same path) ∙ at));
+  records_true = λ off r c. record_grows (making u) before.past after.past r grows (records_true off r c);
+  done_well = h.done_well;
+  only_outputs = λ path not_log none. h.changed path not_log none ∙ sym (same path);
+  distinct = distinct;
+}

@@ -3,12 +3,17 @@ use Rattle.std.specs.List.{Contains}
 use Rattle.b2_plan.specs.declared.step.Step.{Step}
 use Rattle.b2_plan.specs.Sources.{Build}
 use Rattle.b2_plan.specs.Closures.{Value, Values, Known, Known.input, Known.include, IsClosure}
-use Rattle.b2_runs.specs.ClosureLaws.{Extends, IsMap, KnownGrows, ClosureStays, KnownIsLocal, ClosureIsLocal}
+use Rattle.b2_runs.specs.ClosureLaws.{Extends, IsMap, KnownGrows, MissingIsInput, ClosureStays, KnownIsLocal, ClosureIsLocal}
 
 -- more known values leave no less known
 pub known_grows : (v more : Values) → KnownGrows v more
 known_grows v more b step path extends (input p c) = input p c
 known_grows v more b step path extends (include p bytes found k says inc) = include p bytes found (known_grows v more b step p extends k) (extends p (Some bytes) says) inc
+
+-- an include is found at a given path alone
+pub missing_is_input : (v : Values) → MissingIsInput v
+missing_is_input v b step path (input p c) missing = c
+missing_is_input v b step path (include p bytes found k says inc) missing = absurd (missing inc.first.there)
 
 -- where each member has a value already, no more are known by more values
 pub known_stays : (b : Build) (v more : Values) (step : Step) → Extends v more → IsMap more → ((path : List ℕ) → Known b v step path → (x : Value) × v path x) → (path : List ℕ) → Known b more step path → Known b v step path

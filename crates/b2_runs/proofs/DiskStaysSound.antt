@@ -14,13 +14,19 @@ use Rattle.b2_plan.specs.Closures.{Value, IsClosure, with_bytes}
 use Rattle.b2_plan.specs.Cleans.{Clean, value_of}
 use Rattle.b2_runs.specs.Staleness.{Update, making}
 use Rattle.b2_runs.specs.Soundness.{Holds, IsSound, IsAtWork}
-use Rattle.b2_runs.specs.SoundLaws.{SoundAtEntry, SoundAfterStart, SoundAfterChange, SoundAfterEnd, WorkIsAllowed, RemovalIsAllowed, LogIsAllowed}
+use Rattle.b2_runs.specs.SoundLaws.{TrueLogServes, SoundAtEntry, SoundAfterStart, SoundAfterChange, SoundAfterEnd, WorkIsAllowed, RemovalIsAllowed, LogIsAllowed}
 use Rattle.b2_runs.proofs.FirstElementOrLater.{Contains_here, Contains_there, Contains_nil}
 use Rattle.b2_runs.proofs.NumberHasOneStep.{one_step}
 use Rattle.b2_runs.proofs.CleanIsOne.{clean_is_made}
-use Rattle.b2_runs.proofs.TrueWithLine.{record_grows}
+use Rattle.b2_runs.proofs.TrueWithLine.{true_by_kind, record_grows}
 use Rattle.b2_runs.proofs.SameByStamp.{holds_same}
 use Rattle.b2_runs.proofs.OneEventMore.{done_in_start, done_in_done}
+
+pub true_log_serves : TrueLogServes
+true_log_serves u disk t = record {
+  records = λ off log is. ((true_by_kind (making u) disk.past log).0 (t log is)).0;
+  scans = λ log is. ((true_by_kind (making u) disk.past log).0 (t log is)).1;
+}
 
 -- where an update begins, the disk is sound
 pub sound_at_entry : SoundAtEntry

@@ -17,6 +17,7 @@ pub mod OneEventMore
 pub mod RunIsInOrder
 pub mod CountedInOrder
 pub mod SettledStays
+pub mod HoweverRun
 pub mod RunGoesOn
 pub mod DiskStaysSound
 pub mod RecordIsTrue
@@ -75,4 +76,5 @@ pub mod AllWentStartsNothing
 pub mod TrueThroughSession
 pub mod SessionEndsClean
 pub mod StopLeavesNone
+pub mod NextStartsNoMore
 pub mod NamedStartIsLine

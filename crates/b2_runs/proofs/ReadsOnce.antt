@@ -2,20 +2,20 @@ use Rattle.std.proofs.Common.{◌≡◌, ℕ, true, false, List, [], ◌∷◌, 
 use Rattle.std.specs.List.{Contains}
 use Rattle.std.proofs.lemmas.List.Elements.{Contains-push_cases}
 use Rattle.b2_host.specs.declared.children.ChildEvent.{ChildEvent}
+use Rattle.b2_host.specs.declared.children.ChildEvent.TheVariants.{Done}
 use Rattle.b2_host.specs.Disks.{Past, IsOneEach}
 use Rattle.b2_host.specs.Outside.{Read}
-use Rattle.b2_plan.specs.Plans.{Apart}
 use Rattle.b2_host.specs.FileCalls.{log_path}
 use Rattle.b2_log.specs.declared.line.LogLine.{LogLine}
 use Rattle.b2_log.specs.Readings.{IsReading}
 use Rattle.b2_log.specs.Finding.{find_scan}
 use Rattle.b2_log.proofs.BytesHaveOneReading.{one_reading}
 use Rattle.b2_runs.specs.Staleness.{Update}
-use Rattle.b2_runs.specs.Runs.{MayCome}
-use Rattle.b2_runs.specs.FileReads.{IsInput, IsNeededOut, IsLogThen, IsCalledFor, IsCalledFor.to_scan as called_to_scan, IsCalledFor.to_digest as called_to_digest}
-use Rattle.b2_runs.specs.ReadLaws.{ReadsNone, ReadsMore, ReadsAlong, ReadsAsPastGrows, ScannedIsNotRead, UnscannedIsNotRead}
+use Rattle.b2_runs.specs.Runs.{Settled}
+use Rattle.b2_runs.specs.FileReads.{IsLogThen, IsCalledFor, IsCalledFor.to_scan as called_to_scan, IsCalledFor.to_digest as called_to_digest}
+use Rattle.b2_runs.specs.ReadLaws.{ReadsNone, ReadsMore, ReadsAlong, ReadsThroughEnd, InputThroughEnd, NeededOutThroughEnd, ReadsAsPastGrows, ScannedIsNotRead, UnscannedIsNotRead}
 use Rattle.b2_runs.proofs.FirstElementOrLater.{Contains_nil}
-use Rattle.b2_runs.proofs.SettledStays.{settled_grows}
+use Rattle.b2_runs.proofs.SettledStays.{settled_grows, settled_after_end}
 use Rattle.b2_runs.proofs.TooBigIsLarge.{input_up, out_up}
 
 pub reads_none : ReadsNone
@@ -27,20 +27,23 @@ reads_more u events past reads read once may other c not_log = elim (Contains-pu
   | inr e ↦ subst (IsCalledFor u events past) e (elim may [ inl is_log ↦ absurd (not_log (ap (λ (r : Read). r.path) (sym e) ∙ is_log)) | inr is ↦ is ])
 ]
 
--- what a needed step reads or makes stays so as events come
-input_along : (u : Update) (events : List ChildEvent) (event : ChildEvent) (path : List ℕ) → Apart u.build.steps u.build.roots → MayCome u events event → IsInput u events path → IsInput u (events ++ event ∷ []) path
-input_along u events event path apart may i = input_up u events (events ++ event ∷ []) path (settled_grows u events apart event may) i
-
-out_along : (u : Update) (events : List ChildEvent) (event : ChildEvent) (path : List ℕ) → Apart u.build.steps u.build.roots → MayCome u events event → IsNeededOut u events path → IsNeededOut u (events ++ event ∷ []) path
-out_along u events event path apart may o = out_up u events (events ++ event ∷ []) path (settled_grows u events apart event may) o
+-- what is called for stays so where more is settled
+called_up : (u : Update) (events more : List ChildEvent) (past : List Past) (read : Read) → ((p : List ℕ) → Settled u events p → Settled u more p) → IsCalledFor u events past read → IsCalledFor u more past read
+called_up u events more past read grows (called_to_scan stamp log scanned i at then none) = called_to_scan stamp log scanned (input_up u events more read.path grows i) at then none
+called_up u events more past read grows (called_to_digest on (inl i)) = called_to_digest on (inl (input_up u events more read.path grows i))
+called_up u events more past read grows (called_to_digest on (inr o)) = called_to_digest on (inr (out_up u events more read.path grows o))
 
 pub reads_along : ReadsAlong
-reads_along u events event past reads apart may once read c not_log = go (once read c not_log)
-  where
-    go : IsCalledFor u events past read → IsCalledFor u (events ++ event ∷ []) past read
-    go (called_to_scan stamp log scanned i at then none) = called_to_scan stamp log scanned (input_along u events event read.path apart may i) at then none
-    go (called_to_digest on (inl i)) = called_to_digest on (inl (input_along u events event read.path apart may i))
-    go (called_to_digest on (inr o)) = called_to_digest on (inr (out_along u events event read.path apart may o))
+reads_along u events event past reads apart may once read c not_log = called_up u events (events ++ event ∷ []) past read (settled_grows u events apart event may) (once read c not_log)
+
+pub reads_through_end : ReadsThroughEnd
+reads_through_end u events i well past reads apart opened once read c not_log = called_up u events (events ++ Done i well ∷ []) past read (λ p s. settled_after_end u events i well p apart opened s) (once read c not_log)
+
+pub input_through_end : InputThroughEnd
+input_through_end u events i well path apart opened is = input_up u events (events ++ Done i well ∷ []) path (λ p s. settled_after_end u events i well p apart opened s) is
+
+pub needed_out_through_end : NeededOutThroughEnd
+needed_out_through_end u events i well path apart opened is = out_up u events (events ++ Done i well ∷ []) path (λ p s. settled_after_end u events i well p apart opened s) is
 
 -- the log as it then stood is the same where more has stood
 pub then_grows : (past more : List Past) (stamp : Option ℕ) (log : List LogLine) → ((old : Past) → Contains past old → Contains more old) → IsLogThen past stamp log → IsLogThen more stamp log

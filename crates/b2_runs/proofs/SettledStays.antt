@@ -10,7 +10,7 @@ use Rattle.b2_plan.specs.Cleans.{Clean}
 use Rattle.b2_runs.specs.Staleness.{Update, NoneDone, Agrees, Agrees.by_stamps, Agrees.by_digests, IsFresh}
 use Rattle.b2_runs.specs.Events.{IsOpen}
 use Rattle.b2_runs.specs.Runs.{Settled, Settled.source, Settled.done_well, Settled.fresh, on_settled, Needed, Needed.wanted, Needed.member, MayCome}
-use Rattle.b2_runs.specs.RunLaws.{SettledAfterStart, SettledAfterEnd, NeededGrows, ClosureOnSettled, VerdictStays, ClosureOnSettledStays}
+use Rattle.b2_runs.specs.RunLaws.{SettledAfterStart, SettledAfterEnd, NeededGrows, NeededThroughEnd, ClosureOnSettled, VerdictStays, ClosureOnSettledStays}
 use Rattle.b2_runs.proofs.NumberHasOneStep.{one_step}
 use Rattle.b2_runs.proofs.ClosureStays.{known_grows, closure_stays, close_back}
 use Rattle.b2_runs.proofs.ClosureIsOne.{closure_is_one}
@@ -110,6 +110,9 @@ needed_up u events more grows i (member k step j other path needed at known make
 
 pub needed_grows : NeededGrows
 needed_grows u events event i apart may needed = needed_up u events (events ++ event ∷ []) (settled_grows u events apart event may) i needed
+
+pub needed_through_end : NeededThroughEnd
+needed_through_end u events i well k apart opened needed = needed_up u events (events ++ Done i well ∷ []) (λ path s. settled_after_end u events i well path apart opened s) k needed
 
 -- the verdict on a step stays
 pub verdict_stays : VerdictStays

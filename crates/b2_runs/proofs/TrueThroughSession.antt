@@ -1,9 +1,11 @@
-use Rattle.std.proofs.Common.{◌≡◌, ◌≢◌, ℕ, Bool, true, false, List, [], ◌∷◌, refl, sym, ap, subst, ◌∙◌, Option, Some, None, option_map}
+use Rattle.std.proofs.Common.{◌≡◌, ◌≢◌, ℕ, Bool, true, false, List, [], ◌∷◌, inl, inr, refl, sym, ap, subst, ◌∙◌, Option, Some, None, option_map}
 use Rattle.std.specs.Option.{IfSome}
 use Rattle.std.specs.List.{Contains}
 use Rattle.std.specs.Str.{bytes_eq}
+use Rattle.std.proofs.lemmas.Option.{IfSome_then}
 use Rattle.std.proofs.lemmas.Slice.Eq.{bytes_eq-Decides}
 use Rattle.std.proofs.lemmas.List.Elements.{Contains-append_left}
+use Rattle.b2_host.specs.declared.children.ChildEvent.{ChildEvent}
 use Rattle.b2_host.specs.Disks.{File, Folder, Disk, Past, bytes_at}
 use Rattle.b2_host.specs.ChildProcesses.{Child, ChangesOnlyOutputs}
 use Rattle.b2_plan.specs.declared.step.Step.{Step}
@@ -12,10 +14,13 @@ use Rattle.b2_host.specs.FileCalls.{log_path}
 use Rattle.b2_runs.specs.Logs.{Making}
 use Rattle.b2_runs.specs.LogFiles.{IsTrueOn}
 use Rattle.b2_runs.specs.Staleness.{Update, making}
+use Rattle.b2_runs.specs.Soundness.{Distinguishes}
 use Rattle.b2_runs.specs.UpdateAnswers.{UpdateAnswer}
 use Rattle.b2_runs.specs.Moments.{Moment, Shows}
-use Rattle.b2_runs.specs.Sessions.{Happening.edit, Happening.update, Happening.stop, IsEdited, IsTrueAt, IsUpdate, IsUpdateMaking, IsStop}
-use Rattle.b2_runs.specs.SessionLaws.{TrueThroughEdit, TrueThroughStop, UpdatesLeaveTrue, TrueThroughSession}
+use Rattle.b2_runs.specs.Sessions.{Happening, Happening.edit, Happening.update, Happening.stop, IsEdit, IsEdited, IsTrueAt, IsSoOfPast, PastGrows, IsUpdate, IsReopened, IsUpdateMaking, IsStop, IsAskedFor}
+use Rattle.b2_runs.specs.SessionLaws.{TrueThroughEdit, TrueThroughStop, UpdatesLeaveTrue, PastGrowsThroughSession, TrueThroughSession}
+use Rattle.b2_runs.proofs.FirstElementOrLater.{Contains_here, Contains_there}
+use Rattle.b2_runs.proofs.RecordIsTrue.{distinguishes_less}
 use Rattle.b2_runs.proofs.TrueByFile.{true_where_missing, true_where_still}
 
 -- the bytes at a path where another file stands, or the same
@@ -23,7 +28,7 @@ bytes_same : (now later : Folder) (path : List ℕ) → later path ≡ now path 
 bytes_same now later path e = ap (option_map (λ (file : File). file.bytes)) e
 
 -- the log at a moment that shows these files is true, where it is true on them
-true_shown : (m : Making) (moment : Moment) (disk : Disk) → Shows moment disk → IsTrueAt m moment → IsTrueOn m disk
+pub true_shown : (m : Making) (moment : Moment) (disk : Disk) → Shows moment disk → IsTrueAt m moment → IsTrueOn m disk
 true_shown m moment disk shows t = subst (λ o. IfSome o (IsTrueOn m)) shows t
 
 true_at : (m : Making) (moment : Moment) (disk : Disk) → Shows moment disk → IsTrueOn m disk → IsTrueAt m moment
@@ -62,39 +67,104 @@ work_leaves_log steps roots running before after apart planned worked =
     let (step, at, outs) = planned w.child w.runs in
     apart.not_log w.child.step step (record { at = at; among = subst (λ l. Contains l log_path) outs w.out })))
 
-past_grows : (running : List Child) (before after : Disk) → ChangesOnlyOutputs running before after → (old : Past) → Contains before.past old → Contains after.past old
+pub past_grows : (running : List Child) (before after : Disk) → ChangesOnlyOutputs running before after → (old : Past) → Contains before.past old → Contains after.past old
 past_grows running before after worked old c = subst (λ past. Contains past old) (sym worked.past) (Contains-append_left before.past worked.more old c)
 
+-- ---- what stood
+
+-- what holds of all that stood by a moment that shows these files
+pub so_shown : (P : List Past → Type 0) (moment : Moment) (disk : Disk) → Shows moment disk → IsSoOfPast P moment → P disk.past
+so_shown P moment disk shows so = subst (λ o. IfSome o (λ (d : Disk). P d.past)) shows so
+
+-- between two moments that show files nothing is forgotten
+pub grows_shown : (before after : Moment) (old new : Disk) → Shows before old → Shows after new → ((past : Past) → Contains old.past past → Contains new.past past) → PastGrows before after
+grows_shown before after old new shows shows_then grows = subst (λ o. IfSome o (λ (d : Disk). (e : Disk) × Shows after e × ((past : Past) → Contains d.past past → Contains e.past past))) (sym shows) (new, shows_then, grows)
+
+grows_not_at_all : (moment : Moment) → PastGrows moment moment
+grows_not_at_all moment = go moment.host.disk refl
+  where
+    go : (o : Option Disk) → moment.host.disk ≡ o → IfSome o (λ (d : Disk). (e : Disk) × Shows moment e × ((past : Past) → Contains d.past past → Contains e.past past))
+    go None e = tt
+    go (Some disk) e = (disk, e, λ past c. c)
+
+grows_then : (before between after : Moment) → PastGrows before between → PastGrows between after → PastGrows before after
+grows_then before between after first second =
+    IfSome_then before.host.disk first (λ old (middle, shows, grows).
+    let (new, shows_then, more) = subst (λ o. IfSome o (λ (d : Disk). (e : Disk) × Shows after e × ((past : Past) → Contains d.past past → Contains e.past past))) shows second in
+    (new, shows_then, λ past c. more past (grows past c)))
+
+-- what holds of all that stood by a moment held of what stood before, where it holds of each part
+pub so_before : (P : List Past → Type 0) (before after : Moment) → ((past more : List Past) → ((old : Past) → Contains past old → Contains more old) → P more → P past) → PastGrows before after → IsSoOfPast P after → IsSoOfPast P before
+so_before P before after less grows so = IfSome_then before.host.disk grows (λ old (new, shows, more). less old.past new.past more (so_shown P after new shows so))
+
+edit_grows : (path : List ℕ) (bytes : Option (List ℕ)) (before after : Moment) → IsEdit path bytes before after → PastGrows before after
+edit_grows path bytes before after e = grows_shown before after e.old e.new e.shows (ap (λ (moment : Moment). moment.host.disk) e.same) e.grows
+
+-- the moment after the host was opened again shows the files then
+pub shows_reopened : (events : List ChildEvent) (before after : Moment) (r : IsReopened events before after) → Shows after r.new
+shows_reopened events before after r = ap (λ (moment : Moment). moment.host.disk) r.same
+
+reopened_grows : (events : List ChildEvent) (before after : Moment) → IsReopened events before after → PastGrows before after
+reopened_grows events before after r = grows_shown before after r.old r.new r.shows (shows_reopened events before after r) (past_grows before.host.children.running r.old r.new r.worked)
+
+-- ---- updates and stops
+
 pub true_through_stop : TrueThroughStop
-true_through_stop u answer before after s t =
+true_through_stop u answer before after s distinct t =
+    let did = s.updated.did in
     let running = s.between.host.children.running in
     let now : Disk = s.reopened.old in
-    let true_now : IsTrueOn (making u) now =
-    subst (IsTrueOn (making u)) (shown_is_one s.between s.updated.new now s.updated.shows_then s.reopened.shows) (s.updated.stays_true (true_shown (making u) s.fused s.updated.old s.updated.shows (subst (IsTrueAt (making u)) (sym s.fuse) t))) in
+    let same : did.new ≡ now = shown_is_one s.between did.new now did.shows_then s.reopened.shows in
+    let grows = past_grows running now s.reopened.new s.reopened.worked in
+    let distinct_now : Distinguishes u now.past = distinguishes_less u now.past s.reopened.new.past grows (so_shown (Distinguishes u) after s.reopened.new (shows_reopened s.events s.between after s.reopened) distinct) in
+    let true_now : IsTrueOn (making u) now = subst (IsTrueOn (making u)) same (did.stays_true (subst (λ (d : Disk). Distinguishes u d.past) (sym same) distinct_now) (true_shown (making u) s.fused did.old did.shows (subst (IsTrueAt (making u)) (sym s.fuse) t))) in
     subst (IsTrueAt (making u)) (sym s.reopened.same)
-    (true_where_still (making u) now s.reopened.new (work_leaves_log u.build.steps u.build.roots running now s.reopened.new s.updated.apart s.updated.planned s.reopened.worked) (past_grows running now s.reopened.new s.reopened.worked) true_now)
+    (true_where_still (making u) now s.reopened.new (work_leaves_log u.build.steps u.build.roots running now s.reopened.new did.apart did.left_open.planned s.reopened.worked) grows true_now)
 
-true_through_update : (u : Update) (answer : UpdateAnswer) (before after : Moment) → IsUpdate u answer before after → IsTrueAt (making u) before → IsTrueAt (making u) after
-true_through_update u answer before after is t = true_at (making u) after is.new is.shows_then (is.stays_true (true_shown (making u) before is.old is.shows t))
+true_through_update : (u : Update) (answer : UpdateAnswer) (before after : Moment) → IsUpdate u answer before after → IsSoOfPast (Distinguishes u) after → IsTrueAt (making u) before → IsTrueAt (making u) after
+true_through_update u answer before after is distinct t =
+    let did = is.did in
+    true_at (making u) after did.new did.shows_then (did.stays_true (so_shown (Distinguishes u) after did.new did.shows_then distinct) (true_shown (making u) before did.old did.shows t))
 
--- an update of the one kind that was stopped is one of the other kind
+-- a stop of the one kind is one of the other kind
 stop_of_making : (m : Making) (u : Update) (answer : UpdateAnswer) (before after : Moment) → IsStop (IsUpdateMaking m) u answer before after → (making u ≡ m) × IsStop IsUpdate u answer before after
 stop_of_making m u answer before after s = (s.updated.0, record { fused = s.fused; fuse = s.fuse; between = s.between; updated = s.updated.1; events = s.events; events_are = s.events_are; reopened = s.reopened })
 
 pub updates_leave_true : UpdatesLeaveTrue
 updates_leave_true m = record {
-  updates = λ u answer before after (make, is) t. subst (λ k. IsTrueAt k after) make (true_through_update u answer before after is (subst (λ k. IsTrueAt k before) (sym make) t));
-  stops = λ u answer before after s t.
+  grows = λ u answer before after (make, is). grows_shown before after is.did.old is.did.new is.did.shows is.did.shows_then is.did.grows;
+  less = distinguishes_less;
+  updates = λ u answer before after (make, is) distinct t. subst (λ k. IsTrueAt k after) make (true_through_update u answer before after is distinct (subst (λ k. IsTrueAt k before) (sym make) t));
+  stops = λ u answer before after s distinct t.
       let (make, is) = stop_of_making m u answer before after s in
-      subst (λ k. IsTrueAt k after) make (true_through_stop u answer before after is (subst (λ k. IsTrueAt k before) (sym make) t));
+      subst (λ k. IsTrueAt k after) make (true_through_stop u answer before after is distinct (subst (λ k. IsTrueAt k before) (sym make) t));
 }
 
+-- ---- sessions
+
 module _ {Asked Answer : Type 0} (Follows : Asked → Answer → Moment → Moment → Type 0) where
-  pub true_through_session : TrueThroughSession Follows
-  true_through_session m leave first last [] answers (none, same) t = subst (IsTrueAt m) (sym same) t
-  true_through_session m leave first last (edit path bytes ∷ more) answers (next, here, later, e, (none, is), rest) t =
-      true_through_session m leave next last more later rest (true_through_edit m path bytes first next is t)
-  true_through_session m leave first last (update asked ∷ more) answers (next, here, later, e, (answer, one, is, idle), rest) t =
-      true_through_session m leave next last more later rest (leave.updates asked answer first next is t)
-  true_through_session m leave first last (stop asked ∷ more) answers (next, here, later, e, (answer, one, is), rest) t =
-      true_through_session m leave next last more later rest (leave.stops asked answer first next is t)
+  pub past_grows_through_session : PastGrowsThroughSession Follows
+  past_grows_through_session grows first last [] answers (none, same) = subst (PastGrows first) (sym same) (grows_not_at_all first)
+  past_grows_through_session grows first last (edit path bytes ∷ more) answers (next, here, later, e, (none, is), rest) =
+      grows_then first next last (edit_grows path bytes first next is) (past_grows_through_session grows next last more later rest)
+  past_grows_through_session grows first last (update asked ∷ more) answers (next, here, later, e, (answer, one, is, idle), rest) =
+      grows_then first next last (grows asked answer first next is) (past_grows_through_session grows next last more later rest)
+  past_grows_through_session grows first last (stop asked ∷ more) answers (next, here, later, e, (answer, one, is), rest) =
+      grows_then first next last (grows_then first is.between next (grows asked answer first is.between is.updated) (reopened_grows is.events is.between next is.reopened)) (past_grows_through_session grows next last more later rest)
+
+  -- what is asked for in the rest of a session is asked for in it
+  asked_later : (happening : Happening Asked) (more : List (Happening Asked)) (asked : Asked) → IsAskedFor more asked → IsAskedFor (happening ∷ more) asked
+  asked_later happening more asked (inl c) = inl (Contains_there happening (update asked) more c)
+  asked_later happening more asked (inr c) = inr (Contains_there happening (stop asked) more c)
+
+  module _ (Needs : Asked → List Past → Type 0) where
+    pub true_through_session : TrueThroughSession Needs Follows
+    true_through_session m leave first last [] answers (none, same) so t = subst (IsTrueAt m) (sym same) t
+    true_through_session m leave first last (edit path bytes ∷ more) answers (next, here, later, e, (none, is), rest) so t =
+        true_through_session m leave next last more later rest (λ asked c. so asked (asked_later (edit path bytes) more asked c)) (true_through_edit m path bytes first next is t)
+    true_through_session m leave first last (update asked ∷ more) answers (next, here, later, e, (answer, one, is, idle), rest) so t =
+        let so_next : IsSoOfPast (Needs asked) next = so_before (Needs asked) next last (leave.less asked) (past_grows_through_session leave.grows next last more later rest) (so asked (inl (Contains_here (update asked) more))) in
+        true_through_session m leave next last more later rest (λ other c. so other (asked_later (update asked) more other c)) (leave.updates asked answer first next is so_next t)
+    true_through_session m leave first last (stop asked ∷ more) answers (next, here, later, e, (answer, one, is), rest) so t =
+        let so_next : IsSoOfPast (Needs asked) next = so_before (Needs asked) next last (leave.less asked) (past_grows_through_session leave.grows next last more later rest) (so asked (inr (Contains_here (stop asked) more))) in
+        true_through_session m leave next last more later rest (λ other c. so other (asked_later (stop asked) more other c)) (leave.stops asked answer first next is so_next t)

@@ -3,7 +3,7 @@ use Rattle.std.specs.List.{Contains}
 use Rattle.b2_host.specs.declared.children.ChildEvent.{ChildEvent}
 use Rattle.b2_host.specs.declared.children.ChildEvent.TheVariants.{Start, Done}
 use Rattle.b2_base.specs.Counts.{greatest_count}
-use Rattle.b2_host.specs.Disks.{Folder, Disk, IsOneEach, bytes_at}
+use Rattle.b2_host.specs.Disks.{Folder, Disk, Past, IsOneEach, IsConsistent, bytes_at}
 use Rattle.b2_host.specs.Outside.{Read, Outside}
 use Rattle.b2_plan.specs.declared.step.Step.{Step}
 use Rattle.b2_plan.specs.Plans.{Apart, Makes}
@@ -12,13 +12,14 @@ use Rattle.b2_plan.specs.Sources.{IsGiven}
 use Rattle.b2_log.specs.declared.line.ScanLine.{ScanLine}
 use Rattle.b2_log.specs.declared.line.LogLine.{LogLine}
 use Rattle.b2_log.specs.Finding.{find_scan}
+use Rattle.b2_runs.specs.Logs.{RecordsTrue}
 use Rattle.b2_runs.specs.LogFiles.{log_limit}
-use Rattle.b2_runs.specs.Staleness.{Update}
+use Rattle.b2_runs.specs.Staleness.{Update, making}
 use Rattle.b2_runs.specs.Runs.{Needed, IsRunSoFar}
 use Rattle.b2_runs.specs.Outcomes.{IsSettledStep, IsFailed}
 use Rattle.b2_runs.specs.Cycles.{IsStepCycle}
 use Rattle.b2_runs.specs.FileReads.{IsLogThen}
-use Rattle.b2_runs.specs.Soundness.{IsSound}
+use Rattle.b2_runs.specs.Soundness.{Distinguishes, IsSound}
 use Rattle.b2_runs.specs.Afterwards.{next_update, IsMadeEachTime}
 use Rattle.b2_runs.specs.LogCourses.{held_bytes, log_file}
 use Rattle.b2_runs.specs.Reports.{Lists, AreLists, StopsAtEnd}
@@ -74,3 +75,8 @@ DoneWellStands = (u : Update) (answer : UpdateAnswer) (old new : Outside) (befor
 abbrev pub UpdateReadsOnce : Type 0
 UpdateReadsOnce = (u : Update) (answer : UpdateAnswer) (old new : Outside) (before after : Disk) (read : Read) (stamp : ℕ) (log : List LogLine) (s : ScanLine) → u.by_digest ≡ false → IsOneEach after.past → (h : HasUpdated u answer old new before after)
     → Contains h.reads read → read.path ≢ log_path → read.stamp ≡ Some stamp → IsLogThen after.past read.log log → find_scan read.path stamp log ≡ Some s → ⊥
+
+-- wherever an update ends, whatever it answers, the disk is sound to its events
+abbrev pub SoundAtExit : Type 0
+SoundAtExit = (u : Update) (answer : UpdateAnswer) (old new : Outside) (before after : Disk) → IsConsistent before → IsConsistent after → ((past : Past) → Contains before.past past → Contains after.past past)
+    → (u.all ≡ false → RecordsTrue (making u) before.past u.log) → ((path : List ℕ) → u.build.folder path ≡ before.now path) → Distinguishes u after.past → (h : HasUpdated u answer old new before after) → IsSound u h.events after

@@ -1,6 +1,7 @@
 use Rattle.std.specs.Prelude.{◌≡◌, ◌↔◌, ℕ, List}
+use Rattle.std.specs.List.{Contains}
 use Rattle.b2_plan.specs.declared.step.Step.{Step}
-use Rattle.b2_plan.specs.Sources.{Build}
+use Rattle.b2_plan.specs.Sources.{Build, IsMissing}
 use Rattle.b2_plan.specs.Closures.{Value, Values, Known, IsClosure}
 
 -- the one says of values all that the other says
@@ -14,6 +15,10 @@ IsMap v = (path : List ℕ) (x y : Value) → v path x → v path y → x ≡ y
 -- where more is known of values, no less is known of what a step reads
 abbrev pub KnownGrows : Values → Values → Type 0
 KnownGrows v more = (b : Build) (step : Step) (path : List ℕ) → Extends v more → Known b v step path → Known b more step path
+
+-- a missing path that a step is known to read is one of its inputs: no include is found at it
+abbrev pub MissingIsInput : Values → Type 0
+MissingIsInput v = (b : Build) (step : Step) (path : List ℕ) → Known b v step path → IsMissing b path → Contains step.ins path
 
 -- a closure that is defined stays the same, where more is known of values
 abbrev pub ClosureStays : Values → Values → Type 0

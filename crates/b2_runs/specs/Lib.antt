@@ -24,6 +24,7 @@ pub mod LogCourseLaws
 pub mod ScanLaws
 pub mod SettledLaws
 pub mod RunLaws
+pub mod JudgeLaws
 pub mod EventLaws
 pub mod NumberLaws
 pub mod OutcomeLaws
@@ -39,3 +40,4 @@ pub mod ReadLaws
 pub mod ReportLaws
 pub mod AnswerLaws
 pub mod SessionLaws
+pub mod NextLaws

@@ -61,6 +61,16 @@ ReadsMore = (u : Update) (events : List ChildEvent) (past : List Past) (reads : 
 abbrev pub ReadsAlong : Type 0
 ReadsAlong = (u : Update) (events : List ChildEvent) (event : ChildEvent) (past : List Past) (reads : List Read) → Apart u.build.steps u.build.roots → MayCome u events event → ReadsOnce u events past reads → ReadsOnce u (events ++ event ∷ []) past reads
 
+-- it stays so as an open step ends, whatever could start, as where a fault has come and an update only waits; so does each part of it
+abbrev pub ReadsThroughEnd : Type 0
+ReadsThroughEnd = (u : Update) (events : List ChildEvent) (i : ℕ) (well : Bool) (past : List Past) (reads : List Read) → Apart u.build.steps u.build.roots → IsOpen events i → ReadsOnce u events past reads → ReadsOnce u (events ++ Done i well ∷ []) past reads
+
+abbrev pub InputThroughEnd : Type 0
+InputThroughEnd = (u : Update) (events : List ChildEvent) (i : ℕ) (well : Bool) (path : List ℕ) → Apart u.build.steps u.build.roots → IsOpen events i → IsInput u events path → IsInput u (events ++ Done i well ∷ []) path
+
+abbrev pub NeededOutThroughEnd : Type 0
+NeededOutThroughEnd = (u : Update) (events : List ChildEvent) (i : ℕ) (well : Bool) (path : List ℕ) → Apart u.build.steps u.build.roots → IsOpen events i → IsNeededOut u events path → IsNeededOut u (events ++ Done i well ∷ []) path
+
 -- it reads once where more has stood
 abbrev pub ReadsAsPastGrows : Type 0
 ReadsAsPastGrows = (u : Update) (events : List ChildEvent) (past more : List Past) (reads : List Read) → ((old : Past) → Contains past old → Contains more old) → ReadsOnce u events past reads → ReadsOnce u events more reads

@@ -1,16 +1,18 @@
-use Rattle.std.specs.Prelude.{◌≡◌, ◌≢◌, ℕ, ◌<◌, ◌≤◌, List, [], ◌∷◌, ◌++◌, Option, Some, None, IfSome}
+use Rattle.std.specs.Prelude.{◌≡◌, ◌≢◌, ◌⊎◌, ℕ, ◌<◌, ◌≤◌, List, [], ◌∷◌, ◌++◌, Option, Some, None, IfSome}
 use Rattle.std.specs.List.{Contains}
 use Rattle.b2_host.specs.declared.children.ChildEvent.{ChildEvent}
 use Rattle.b2_host.specs.Disks.{File, Disk, Past, IsConsistent}
-use Rattle.b2_host.specs.ChildProcesses.{Child, ChangesOnlyOutputs}
-use Rattle.b2_plan.specs.declared.step.Step.{Step}
-use Rattle.b2_plan.specs.Plans.{Apart, step_at}
+use Rattle.b2_host.specs.ChildProcesses.{ChangesOnlyOutputs}
+use Rattle.b2_host.specs.Outside.{Outside}
+use Rattle.b2_plan.specs.Plans.{Apart}
 use Rattle.b2_host.specs.FileCalls.{log_path}
 use Rattle.b2_runs.specs.Logs.{Making}
 use Rattle.b2_runs.specs.LogFiles.{IsTrueOn}
 use Rattle.b2_runs.specs.Staleness.{Update, making}
 use Rattle.b2_runs.specs.Events.{IsOpen}
 use Rattle.b2_runs.specs.Runs.{OpenEnds}
+use Rattle.b2_runs.specs.Soundness.{Distinguishes, UsesTrueLines}
+use Rattle.b2_runs.specs.PlanChildren.{LeavesOpen}
 use Rattle.b2_runs.specs.Afterwards.{at_present}
 use Rattle.b2_runs.specs.Moments.{Moment, Shows, with_disk}
 use Rattle.b2_runs.specs.UpdateAnswers.{UpdateAnswer, CausedBy, LeavesNone, WithLog, HasUpdated}
@@ -45,23 +47,37 @@ pub record IsEdit (path : List ℕ) (bytes : Option (List ℕ)) (before after : 
 abbrev pub IsTrueAt : Making → Moment → Type 0
 IsTrueAt m moment = IfSome moment.host.disk (IsTrueOn m)
 
--- An update of a plan with 1 to 64 jobs has come between two moments, with this answer, which the counts of faults allow. No
--- child ran before it; those that run after it write outputs of the plan, and are there only where a wait failed. A true log stays
--- true.
-pub record IsUpdate (u : Update) (answer : UpdateAnswer) (before after : Moment) : Type 0 where
+-- this holds of all that stood by a moment, where the files are visible
+abbrev pub IsSoOfPast : (List Past → Type 0) → Moment → Type 0
+IsSoOfPast P moment = IfSome moment.host.disk (λ disk. P disk.past)
+
+-- files that are visible are so later too, and nothing that stood is forgotten
+abbrev pub PastGrows : Moment → Moment → Type 0
+PastGrows before after = IfSome before.host.disk (λ old. (new : Disk) × Shows after new × ((past : Past) → Contains old.past past → Contains new.past past))
+
+-- What an update of a plan with 1 to 64 jobs has done to a host between two moments, with this answer. No child ran before it; those
+-- that run after it are of steps that it left open, and are there only where a wait failed. Nothing that stood is forgotten. Where
+-- digests tell all apart that stood by then, a true log stays true; and there an update that uses true lines has done all that it is to.
+pub record HostUpdated (u : Update) (answer : UpdateAnswer) (before after : Outside) : Type 0 where
   pub old : Disk
-  pub shows : Shows before old
+  pub shows : before.disk ≡ Some old
   pub new : Disk
-  pub shows_then : Shows after new
+  pub shows_then : after.disk ≡ Some new
   pub apart : Apart u.build.steps u.build.roots
   pub jobs : (1 ≤ u.jobs) × (u.jobs ≤ 64)
-  pub idle : before.host.children.running ≡ []
-  pub planned : (child : Child) → Contains after.host.children.running child → (step : Step) × (step_at u.build.steps child.step ≡ Some step) × (child.outs ≡ step.outs)
-  pub none_left : LeavesNone before.host after.host
-  pub caused : CausedBy before after answer
+  pub idle : before.children.running ≡ []
+  pub none_left : LeavesNone before after
+  pub left_open : LeavesOpen u.build.steps before.children after.children
+  pub kept : IsConsistent old
   pub keeps : IsConsistent new
-  pub stays_true : IsTrueOn (making u) old → IsTrueOn (making u) new
-  pub has : WithLog old.now (λ log. HasUpdated (at_present u old.now log) answer before.host after.host old new) answer
+  pub grows : (past : Past) → Contains old.past past → Contains new.past past
+  pub stays_true : Distinguishes u new.past → IsTrueOn (making u) old → IsTrueOn (making u) new
+  pub has : Distinguishes u new.past → UsesTrueLines u old → WithLog old.now (λ log. HasUpdated (at_present u old.now log) answer before after old new) answer
+
+-- An update has come between two moments, with an answer that the counts of faults allow.
+pub record IsUpdate (u : Update) (answer : UpdateAnswer) (before after : Moment) : Type 0 where
+  pub did : HostUpdated u answer before.host after.host
+  pub caused : CausedBy before after answer
 
 -- The host is opened again after an update with these events: no child runs, and each that ran has ended, and worked until then.
 -- What each start gave, the reads and the counts of faults are as they were, and so is the sink. Nothing is said of what may go
@@ -104,3 +120,7 @@ module _ {Asked Answer : Type 0} (Follows : Asked → Answer → Moment → Mome
   abbrev pub IsSession : Moment → List (Happening Asked) → List Answer → Moment → Type 0
   IsSession first [] answers last = (answers ≡ []) × (last ≡ first)
   IsSession first (happening ∷ more) answers last = (next : Moment) × (here : List Answer) × (later : List Answer) × (answers ≡ here ++ later) × Comes happening first here next × IsSession next more later last
+
+-- this is asked for in a session, whether or not it is stopped
+abbrev pub IsAskedFor : {Asked : Type 0} → List (Happening Asked) → Asked → Type 0
+IsAskedFor happenings asked = Contains happenings (update asked) ⊎ Contains happenings (stop asked)

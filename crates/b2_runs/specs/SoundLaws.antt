@@ -11,10 +11,15 @@ use Rattle.b2_plan.specs.Closures.{Value, IsClosure}
 use Rattle.b2_plan.specs.Cleans.{Clean}
 use Rattle.b2_log.specs.declared.line.Record.{Record}
 use Rattle.b2_runs.specs.Logs.{RecordsTrue, IsTrueRecord}
+use Rattle.b2_runs.specs.LogFiles.{IsTrueOn}
 use Rattle.b2_runs.specs.Staleness.{Update, making}
 use Rattle.b2_runs.specs.Records.{IsRecordOf}
 use Rattle.b2_runs.specs.Runs.{Settled}
-use Rattle.b2_runs.specs.Soundness.{Distinguishes, IsSound, IsLoose, IsAllowedChange, AreAtWork}
+use Rattle.b2_runs.specs.Soundness.{Distinguishes, UsesTrueLines, IsSound, IsLoose, IsAllowedChange, AreAtWork}
+
+-- of a true log all that an update uses is true
+abbrev pub TrueLogServes : Type 0
+TrueLogServes = (u : Update) (disk : Disk) → IsTrueOn (making u) disk → UsesTrueLines u disk
 
 -- where an update begins, the disk is sound to it
 abbrev pub SoundAtEntry : Type 0

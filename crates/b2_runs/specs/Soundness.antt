@@ -9,7 +9,9 @@ use Rattle.b2_plan.specs.Plans.{Makes}
 use Rattle.b2_host.specs.FileCalls.{log_path}
 use Rattle.b2_plan.specs.Closures.{Value}
 use Rattle.b2_plan.specs.Cleans.{Clean}
-use Rattle.b2_runs.specs.Logs.{RecordsTrue, NoCollision}
+use Rattle.b2_log.specs.declared.line.LogLine.{LogLine}
+use Rattle.b2_runs.specs.Logs.{RecordsTrue, ScansTrue, NoCollision}
+use Rattle.b2_runs.specs.LogFiles.{IsLogIn}
 use Rattle.b2_runs.specs.Staleness.{Update, making}
 use Rattle.b2_runs.specs.Events.{IsOpen}
 use Rattle.b2_runs.specs.Runs.{IsGivenClosure}
@@ -23,6 +25,11 @@ Holds folder path (Some bytes) = bytes_at folder path ≡ Some bytes
 -- where judging is by digests, no two contents of the past have one
 abbrev pub Distinguishes : Update → List Past → Type 0
 Distinguishes u past = u.by_digest ≡ true → NoCollision u.digest past
+
+-- What an update uses of the log on a disk is true: its scan lines, and its records unless all is to run.
+pub record UsesTrueLines (u : Update) (disk : Disk) : Type 0 where
+  pub records : u.all ≡ false → (log : List LogLine) → IsLogIn disk.now log → RecordsTrue (making u) disk.past log
+  pub scans : (log : List LogLine) → IsLogIn disk.now log → ScansTrue (making u) disk.past log
 
 -- How the disk stands to an update after these events: the files at entry have stood; the records of the log at entry are
 -- true, unless all is to run; what was done well has the values of the clean build; nothing else has changed but the log and

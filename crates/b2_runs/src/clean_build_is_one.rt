@@ -1,6 +1,6 @@
 //! Laws of closures and of the clean build.
 ghost use Rattle.std.specs.Prelude.{ℕ, List, Option};
-ghost use Rattle.b2_runs.specs.ClosureLaws.{KnownGrows, ClosureStays, ClosureIsOne, KnownIsLocal, ClosureIsLocal};
+ghost use Rattle.b2_runs.specs.ClosureLaws.{KnownGrows, MissingIsInput, ClosureStays, ClosureIsOne, KnownIsLocal, ClosureIsLocal};
 ghost use Rattle.b2_runs.specs.CleanLaws.{CleanIsOne, RoundsAreEnough, CleanIsMade};
 
 use std::marker::Brand;
@@ -17,6 +17,11 @@ impl Worth for Brand {
 /// Where more is known of values, no less is known of what a step reads.
 pub fn known_grows<V: Worth, W: Worth>()
     ensures { KnownGrows V.worth W.worth }
+{}
+
+/// A missing path that a step is known to read is one of its inputs.
+pub fn missing_is_input<V: Worth>()
+    ensures { MissingIsInput V.worth }
 {}
 
 /// A closure that is defined stays the same, where more is known of values.

@@ -1,5 +1,10 @@
 //! Laws of sound disks: what keeps a disk sound to an update, and that records which it appends are true.
-ghost use Rattle.b2_runs.specs.SoundLaws.{SoundAtEntry, SoundAfterStart, SoundAfterChange, SoundAfterEnd, WorkIsAllowed, RemovalIsAllowed, LogIsAllowed, DistinguishesLess, RecordIsTrue};
+ghost use Rattle.b2_runs.specs.SoundLaws.{TrueLogServes, SoundAtEntry, SoundAfterStart, SoundAfterChange, SoundAfterEnd, WorkIsAllowed, RemovalIsAllowed, LogIsAllowed, DistinguishesLess, RecordIsTrue};
+
+/// Of a true log all that an update uses is true.
+pub fn true_log_serves()
+    ensures { TrueLogServes }
+{}
 
 /// Where an update begins, the disk is sound to it.
 pub fn sound_at_entry()

@@ -1,5 +1,5 @@
 //! Laws of the files that an update reads, and of those that are too big for it.
-ghost use Rattle.b2_runs.specs.ReadLaws.{LargeIsTooBig, TooBigIsLarge, NothingTooBig, ReadsNone, ReadsMore, ReadsAlong, ReadsAsPastGrows, ScannedIsNotRead, UnscannedIsNotRead, TooBigThroughEnd, TooBigThroughChange, LinesOfNone, LinesBeforeRead, LinesAfterRead, StandsAfterLine, StandsAlong, StandsAfterChange, LinesAsPastGrows, NoneReadTwice};
+ghost use Rattle.b2_runs.specs.ReadLaws.{LargeIsTooBig, TooBigIsLarge, NothingTooBig, ReadsNone, ReadsMore, ReadsAlong, ReadsThroughEnd, InputThroughEnd, NeededOutThroughEnd, ReadsAsPastGrows, ScannedIsNotRead, UnscannedIsNotRead, TooBigThroughEnd, TooBigThroughChange, LinesOfNone, LinesBeforeRead, LinesAfterRead, StandsAfterLine, StandsAlong, StandsAfterChange, LinesAsPastGrows, NoneReadTwice};
 
 /// A file that is to be scanned and has more bytes than are scanned is too big, and stands.
 pub fn large_is_too_big()
@@ -29,6 +29,21 @@ pub fn reads_more()
 /// It stays so as events come.
 pub fn reads_along()
     ensures { ReadsAlong }
+{}
+
+/// It stays so as an open step ends, whatever could start.
+pub fn reads_through_end()
+    ensures { ReadsThroughEnd }
+{}
+
+/// What a needed step is known to read stays so as an open step ends.
+pub fn input_through_end()
+    ensures { InputThroughEnd }
+{}
+
+/// An output of a needed step stays one as an open step ends.
+pub fn needed_out_through_end()
+    ensures { NeededOutThroughEnd }
 {}
 
 /// It stays so where more has stood.

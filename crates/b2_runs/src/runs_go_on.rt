@@ -1,5 +1,5 @@
 //! Laws of runs: how they go on, and what stays as they do.
-ghost use Rattle.b2_runs.specs.RunLaws.{RunGoesOn, RunHasBegun, SettledAfterStart, SettledAfterEnd, NeededGrows, ClosureOnSettled, StartedHasClosure, DoneWasStarted, DoneOnce, EachEventOnce, SettledHasValue, VerdictStays, ClosureOnSettledStays, RunIsPrefix};
+ghost use Rattle.b2_runs.specs.RunLaws.{RunGoesOn, RunHasBegun, SettledAfterStart, SettledAfterEnd, NeededGrows, NeededThroughEnd, ClosureOnSettled, StartedHasClosure, DoneWasStarted, DoneOnce, EachEventOnce, SettledHasValue, VerdictStays, ClosureOnSettledStays, RunIsPrefix};
 
 /// A run goes on by each event that may come.
 pub fn run_goes_on()
@@ -24,6 +24,11 @@ pub fn settled_after_end()
 /// What is needed stays needed as a run goes on.
 pub fn needed_grows()
     ensures { NeededGrows }
+{}
+
+/// So it does as an open step ends, whatever could start.
+pub fn needed_through_end()
+    ensures { NeededThroughEnd }
 {}
 
 /// A closure by what is settled is one by the clean build with all members settled, and the other way round.

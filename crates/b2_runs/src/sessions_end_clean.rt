@@ -1,15 +1,18 @@
 //! Laws of sessions: the log stays true, and what an update leaves is the clean build.
-ghost use Rattle.std.specs.Prelude.{ℕ};
+ghost use Rattle.std.specs.Prelude.{ℕ, List};
+ghost use Rattle.b2_host.specs.Disks.{Past};
 ghost use Rattle.b2_runs.specs.Moments.{Moment};
-ghost use Rattle.b2_runs.specs.SessionLaws.{TrueThroughEdit, TrueThroughStop, UpdatesLeaveTrue, TrueThroughSession, SessionEndsWith, UpdateLeavesClean, SessionEndsClean, NotedThroughReopen, UpdateCountsFault, StopCountsFault, UpdateLeavesNone, StopLeavesNone};
+ghost use Rattle.b2_runs.specs.SessionLaws.{TrueThroughEdit, TrueThroughStop, UpdatesLeaveTrue, PastGrowsThroughSession, TrueThroughSession, SessionSplits, SessionEndsWith, UpdateLeavesClean, SessionEndsClean, NotedThroughReopen, UpdateCountsFault, StopCountsFault, UpdateLeavesNone, StopLeavesNone};
 
 use std::marker::Brand;
 
-/// What is asked for in a session, and what follows on it: an answer, and another moment.
+/// What is asked for in a session, what it needs of all that stood, and what follows on it: an answer, and another moment.
 pub trait Follow {
     ghost Asked: { Type 0 };
 
     ghost Answer: { Type 0 };
+
+    ghost needs: { Asked → List Past → Type 0 };
 
     ghost follows: { Asked → Answer → Moment → Moment → Type 0 };
 }
@@ -18,6 +21,8 @@ impl Follow for Brand {
     ghost Asked = { ℕ };
 
     ghost Answer = { ℕ };
+
+    ghost needs = { λ asked past. ⊥ };
 
     ghost follows = { λ asked answer before after. ⊥ };
 }
@@ -37,9 +42,19 @@ pub fn updates_leave_true()
     ensures { UpdatesLeaveTrue }
 {}
 
-/// So does a whole session of what leaves a true log true.
+/// Through a whole session of what forgets nothing that stood nothing is forgotten.
+pub fn past_grows_through_session<F: Follow>()
+    ensures { PastGrowsThroughSession F.follows }
+{}
+
+/// A whole session of what leaves a true log true does so.
 pub fn true_through_session<F: Follow>()
-    ensures { TrueThroughSession F.follows }
+    ensures { TrueThroughSession F.needs F.follows }
+{}
+
+/// A session is one of its first events, followed by one of the others.
+pub fn session_splits<F: Follow>()
+    ensures { SessionSplits F.follows }
 {}
 
 /// Where a session ends with something that is asked for, it follows between some moment and the last one.

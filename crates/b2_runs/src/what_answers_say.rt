@@ -1,5 +1,5 @@
 //! Laws of the answers of an update: what each says, and that no two are said of one run.
-ghost use Rattle.b2_runs.specs.AnswerLaws.{ListsAreOne, MayAnswerAllWent, AllWentLacksNothing, AllWentHasNoCycle, FailedHasNoCycle, AllWentStartsNothing, CycleEndsNoReport, AllWentHasNoBadEnd, SinkFaultIsFirst, UpdateReadsOnce, DoneWellStands};
+ghost use Rattle.b2_runs.specs.AnswerLaws.{ListsAreOne, MayAnswerAllWent, AllWentLacksNothing, AllWentHasNoCycle, FailedHasNoCycle, AllWentStartsNothing, CycleEndsNoReport, AllWentHasNoBadEnd, SinkFaultIsFirst, UpdateReadsOnce, DoneWellStands, SoundAtExit};
 
 /// An update that has ended may answer that all went well where each wanted file is a source or an output, each needed step is
 /// settled, and none failed.
@@ -55,4 +55,9 @@ pub fn update_reads_once()
 /// Wherever an update ends, each output that a step has to make stands, if the step was done well.
 pub fn done_well_stands()
     ensures { DoneWellStands }
+{}
+
+/// Wherever an update ends, whatever it answers, the disk is sound to its events.
+pub fn sound_at_exit()
+    ensures { SoundAtExit }
 {}

@@ -1,0 +1,5 @@
+use Rattle.b2_runs.proofs.NextStartsNoMore.{none_done_starts_after_stop}
+use Rattle.b2_runs.proofs.next_starts_no_more.none_done_starts_after_stop.Goals as goal
+
+pub returns : goal.returns
+returns c = none_done_starts_after_stop
