@@ -23,7 +23,7 @@ use Rattle.b2_runs.specs.Soundness.{AreAtWork}
 use Rattle.b2_runs.specs.LogCourses.{Opening.to_update, IsLogAfter, IsLogAfter.begins, IsLogAfter.starts, IsLogAfter.records, IsLogAfter.owes_none, IsLogAfter.drops, IsLogAfter.has_none, IsLogAfter.scans, IsLogAfter.migrates, left_file, IsLogCut, IsLogCut.untouched, IsLogCut.replacing, IsLogCut.between, IsLogCut.within}
 use Rattle.b2_runs.specs.Afterwards.{NoneDoneOlder, IsNoted}
 use Rattle.b2_runs.specs.UpdateAnswers.{UpdateAnswer.all_went, HasEnded, HasUpdated}
-use Rattle.b2_runs.specs.Sessions.{IsUpdate}
+use Rattle.b2_runs.specs.Sessions.{HostUpdated, IsUpdate}
 use Rattle.b2_run_examples.specs.Examples.{in_path, out_path, copying, copied, at_entry, disk_before, disk_after, in_past, out_past, copy_bytes, log_after, with_log, copy_given, copy_step, in_members}
 use Rattle.b2_run_examples.specs.CopySession.{log_past, disk_logged, log_read, moment_before, moment_after, CopySessionHolds}
 use Rattle.b2_runs.proofs.FirstElementOrLater.{Contains_here, Contains_cases, Contains_nil}
@@ -37,7 +37,7 @@ use Rattle.b2_runs.proofs.LogIsNoted.{log_is_noted}
 use Rattle.b2_runs.proofs.CutLogIsTrue.{whole_is_cut}
 use Rattle.b2_runs.proofs.StopLeavesNone.{update_counts_fault, stop_counts_fault}
 use Rattle.b2_run_examples.proofs.OneStepPlan.{one_of, only_is, only_number, only_out, makes_out}
-use Rattle.b2_run_examples.proofs.CopyingHolds.{apart, run, went, closure, none_older, log_true, one_each_after, stands_after, others_after}
+use Rattle.b2_run_examples.proofs.CopyingHolds.{apart, run, went, closure, none_older, log_true, keeps_before, one_each_after, stands_after, others_after}
 use Rattle.b2_run_examples.proofs.LogIsTrueEvenTorn.{begins_empty, counts, course, whole}
 
 -- ---- the disk
@@ -152,8 +152,8 @@ updated = record {
   told = (ended, went, clean_build);
 }
 
-is_update : IsUpdate copying all_went moment_before moment_after
-is_update = record {
+did : HostUpdated copying all_went moment_before.host moment_after.host
+did = record {
   old = disk_before;
   shows = refl;
   new = disk_logged;
@@ -161,13 +161,22 @@ is_update = record {
   apart = apart;
   jobs = (omega arith, omega arith);
   idle = refl;
-  planned = λ child c. absurd (Contains_nil child c);
   none_left = inl refl;
-  caused = record { host = refl; waits = refl; sink = refl };
+  left_open = record {
+    events = copied;
+    are = refl;
+    of_open = record { each = λ child c. absurd (Contains_nil child c); once = λ i j d lt h. absurd (omega arith); whole = λ i o. absurd (run.none_open i o) };
+    planned = λ child c. absurd (Contains_nil child c);
+  };
+  consistent = keeps_before;
   keeps = keeps;
-  stays_true = λ t log is. subst (LogTrue (making copying) disk_logged.past) (sym (log_is log is)) true_logged;
-  has = ([], refl, updated);
+  grows = λ old c. Contains-append_left (in_past ∷ []) (out_past ∷ log_past ∷ []) old c;
+  stays_true = λ distinct t log is. subst (LogTrue (making copying) disk_logged.past) (sym (log_is log is)) true_logged;
+  has = λ distinct serves. ([], refl, updated);
 }
+
+is_update : IsUpdate copying all_went moment_before moment_after
+is_update = record { did = did; caused = record { host = refl; waits = refl; sink = refl } }
 
 -- ---- the log before a step is done
 

@@ -155,7 +155,7 @@ entry_file path file e = go (bytes_eq in_path path) refl e
         λ i. record { path = p i; file = q i }
     go false f g = absurd (let h : None ≡ Some file = g in cc)
 
-keeps_before : IsConsistent disk_before
+pub keeps_before : IsConsistent disk_before
 keeps_before = record {
   one_each = λ path stamp x y a b. sym (ap (λ (p : Past). p.file.bytes) (one_of in_past _ a)) ∙ ap (λ (p : Past). p.file.bytes) (one_of in_past _ b);
   stands = λ path file e. subst (Contains (in_past ∷ [])) (entry_file path file e) (Contains_here in_past []);

@@ -1,4 +1,4 @@
-use Rattle.std.proofs.Common.{◌≡◌, ℕ, List, [], ◌∷◌, ◌++◌, inl, inr, refl, sym, subst, ◌∙◌, Some, filter_map, append-nil}
+use Rattle.std.proofs.Common.{List, [], ◌∷◌, ◌++◌, inl, inr, refl, sym, subst, ◌∙◌, Some, filter_map, append-nil}
 use Rattle.std.specs.List.{Contains, AllZip}
 use Rattle.std.proofs.lemmas.List.Elements.{Contains-push_cases, Contains-push, filter_map-append}
 use Rattle.b2_host.specs.declared.children.ChildEvent.{ChildEvent}

@@ -74,7 +74,7 @@ nothing_worked running disk = record { others = λ path none. refl; more = []; p
 -- after an update that has done all that it is to, the disk is sound to its events
 sound_then : (u : Update) (answer : UpdateAnswer) (first between : Outside) (x : HostUpdated u answer first between) → UsesTrueLines u x.old → Distinguishes u x.new.past
     → (log : List LogLine) → IsLogIn x.old.now log → (h : HasUpdated (at_present u x.old.now log) answer first between x.old x.new) → IsSound (at_present u x.old.now log) h.events x.new
-sound_then u answer first between x serves distinct log is h = sound_at_exit (at_present u x.old.now log) answer first between x.old x.new x.kept x.keeps x.grows (λ off r c. serves.records off log is r c) (λ path. refl) distinct h
+sound_then u answer first between x serves distinct log is h = sound_at_exit (at_present u x.old.now log) answer first between x.old x.new x.consistent x.keeps x.grows (λ off r c. serves.records off log is r c) (λ path. refl) distinct h
 
 -- ---- the second update
 
@@ -129,10 +129,10 @@ none_done_starts u v given answer first between again last events before after l
         let u0 : Update = at_present u x.old.now log in
         let h : HasUpdated u0 given first between x.old x.new = of_log x.old.now (λ l. HasUpdated (at_present u x.old.now l) given first between x.old x.new) given (x.has distinct_then serves) log is in
         let sound : IsSound u0 h.events y.old =
-        sound_after_change u0 h.events x.new y.old x.apart (sound_then u given first between x serves distinct_then log is h) (work_is_allowed u0 h.events running x.new y.old h.at_work y.kept worked) distinct_now in
+        sound_after_change u0 h.events x.new y.old x.apart (sound_then u given first between x serves distinct_then log is h) (work_is_allowed u0 h.events running x.new y.old h.at_work y.consistent worked) distinct_now in
         let one : h.events ≡ before ++ Start k ∷ after = append_cancel_left first.children.events h.events events (sym h.events_are ∙ were) ∙ whole in
         let begun = begun_next u v answer again last later y same true_now distinct are then is_then in
-        elim (noted_through_work u0 given first between x.old x.new y.old then x.apart h worked y.kept is_then fits) [
+        elim (noted_through_work u0 given first between x.old x.new y.old then x.apart h worked y.consistent is_then fits) [
           | inl none ↦ Contains_nil (Start k) (subst (λ l. Contains l (Start k)) (sym one ∙ none) (Contains-append_right before (Start k ∷ after) (Start k) (Contains_here (Start k) after)))
           | inr (b, noted) ↦ no_work_is_lost u0 h.events begun.front y.old then v.quit v.jobs i step path b x.apart sound noted begun.run makes (begun_holds_earlier u0 h.events before after k (Done i true) b one done) calm
               (start_before (next_update u y.old.now then v.quit v.jobs) later begun i c)

@@ -1,7 +1,6 @@
-use Rattle.std.proofs.Common.{◌≡◌, ◌≢◌, ℕ, List, [], ◌∷◌, ◌++◌, inl, inr, sym, ap, subst, ◌∙◌, arith, Option, option_map}
+use Rattle.std.proofs.Common.{◌≡◌, ◌≢◌, [], ◌∷◌, ◌++◌, inl, inr, sym, ap, subst, ◌∙◌, arith, Option, option_map}
 use Rattle.std.specs.List.{Contains}
 use Rattle.std.proofs.lemmas.List.Elements.{Contains-push_cases, Contains-append_left, Contains-push}
-use Rattle.b2_host.specs.declared.children.ChildEvent.{ChildEvent}
 use Rattle.b2_host.specs.declared.children.ChildEvent.TheVariants.{Start, Done}
 use Rattle.b2_host.specs.ChildProcesses.{Given, Child, given_at}
 use Rattle.b2_host.specs.Outside.{Outside}
@@ -64,11 +63,13 @@ open_steps_after_end events made old new before after i well open_steps ends =
     ] in
     record {
       each = λ child c.
-          let o = open_steps.each child (t.among child c).0 in
-          (Contains-append_left events (Done i well ∷ []) (Start child.step) o.0, λ w d. elim (done_in_done events i child.step well w d) [
-            | inl before_it ↦ o.1 w before_it
-            | inr e ↦ other child c e.0
-          ]);
+          let o = open_steps.each child (t.among child c).0 in (
+            Contains-append_left events (Done i well ∷ []) (Start child.step) o.0,
+            λ w d. elim (done_in_done events i child.step well w d) [
+              | inl before_it ↦ o.1 w before_it
+              | inr e ↦ other child c e.0
+            ],
+          );
       once = t.apart;
       whole = λ k o.
           let (child, c, e) = open_steps.whole k (start_in_done events i k well o.0, λ w d. o.1 w (Contains-append_left events (Done i well ∷ []) (Done k w) d)) in

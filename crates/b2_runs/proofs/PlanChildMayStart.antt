@@ -1,11 +1,10 @@
-use Rattle.std.proofs.Common.{◌≡◌, ◌⊎◌, ℕ, Bool, true, false, List, [], ◌∷◌, ◌++◌, inl, inr, refl, sym, subst, ◌∙◌, Some, option_map}
+use Rattle.std.proofs.Common.{◌≡◌, ◌⊎◌, ℕ, Bool, true, false, List, [], ◌∷◌, ◌++◌, inl, inr, refl, sym, subst, ◌∙◌, option_map}
 use Rattle.std.specs.List.{Contains}
-use Rattle.std.proofs.lemmas.List.Elements.{Contains-push_cases, Contains-append_left, Contains-push}
-use Rattle.b2_host.specs.declared.children.ChildEvent.{ChildEvent}
+use Rattle.std.proofs.lemmas.List.Elements.{Contains-push_cases, Contains-push}
 use Rattle.b2_host.specs.declared.children.ChildEvent.TheVariants.{Start, Done}
 use Rattle.b2_host.specs.ChildProcesses.{Child, given_at}
 use Rattle.b2_plan.specs.declared.step.Step.{Step}
-use Rattle.b2_runs.specs.PlanChildren.{IsPlanChild, ArePlanChildren, SettlesOne}
+use Rattle.b2_runs.specs.PlanChildren.{IsPlanChild, SettlesOne}
 use Rattle.b2_runs.specs.ChildLaws.{PlanChildrenAtEntry, PlanChildMayStart, PlanChildrenAfterStart, PlanChildrenAfterEnd, PlanChildrenAsOneSettles}
 use Rattle.b2_runs.proofs.FirstElementOrLater.{Contains_nil}
 use Rattle.b2_runs.proofs.OthersAreLeft.{removed_among}

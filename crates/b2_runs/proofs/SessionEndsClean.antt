@@ -9,7 +9,7 @@ use Rattle.b2_runs.specs.Soundness.{Distinguishes}
 use Rattle.b2_runs.specs.Afterwards.{at_present}
 use Rattle.b2_runs.specs.UpdateAnswers.{UpdateAnswer.all_went}
 use Rattle.b2_runs.specs.Moments.{Moment}
-use Rattle.b2_runs.specs.Sessions.{Happening, Happening.update, Happening.stop, IsTrueAt, IsSoOfPast, IsUpdateMaking, IsSession, IsAskedFor}
+use Rattle.b2_runs.specs.Sessions.{Happening, Happening.update, Happening.stop, IsTrueAt, HoldsOfPast, IsUpdateMaking, IsSession, IsAskedFor}
 use Rattle.b2_runs.specs.SessionLaws.{SessionSplits, SessionEndsWith, UpdateLeavesClean, SessionEndsClean}
 use Rattle.b2_runs.proofs.SourcesAreKept.{log_in_roots}
 use Rattle.b2_runs.proofs.DiskStaysSound.{true_log_serves}
@@ -77,7 +77,7 @@ pub session_ends_clean : SessionEndsClean
 session_ends_clean m u first last happenings answers s distinct t =
     let (before, here, earlier, (make, is)) = session_before (IsUpdateMaking m) u all_went first last happenings answers s in
     let leave = updates_leave_true m in
-    let so : (asked : Update) → IsAskedFor happenings asked → IsSoOfPast (Distinguishes asked) before =
+    let so : (asked : Update) → IsAskedFor happenings asked → HoldsOfPast (Distinguishes asked) before =
     λ asked c. so_before (Distinguishes asked) before last (distinguishes_less asked) (leave.grows u all_went before last (make, is)) (distinct asked (asked_before u asked happenings c)) in
     let true_then : IsTrueAt m before = true_through_session (IsUpdateMaking m) Distinguishes m leave first before happenings here earlier so t in
     update_leaves_clean u before last is (distinct u (inl (Contains-push happenings (update u)))) (subst (λ k. IsTrueAt k before) (sym make) true_then)

@@ -17,7 +17,7 @@ use Rattle.b2_runs.specs.Staleness.{Update, making}
 use Rattle.b2_runs.specs.Soundness.{Distinguishes}
 use Rattle.b2_runs.specs.UpdateAnswers.{UpdateAnswer}
 use Rattle.b2_runs.specs.Moments.{Moment, Shows}
-use Rattle.b2_runs.specs.Sessions.{Happening, Happening.edit, Happening.update, Happening.stop, IsEdit, IsEdited, IsTrueAt, IsSoOfPast, PastGrows, IsUpdate, IsReopened, IsUpdateMaking, IsStop, IsAskedFor}
+use Rattle.b2_runs.specs.Sessions.{Happening, Happening.edit, Happening.update, Happening.stop, IsEdit, IsEdited, IsTrueAt, HoldsOfPast, PastGrows, IsUpdate, IsReopened, IsUpdateMaking, IsStop, IsAskedFor}
 use Rattle.b2_runs.specs.SessionLaws.{TrueThroughEdit, TrueThroughStop, UpdatesLeaveTrue, PastGrowsThroughSession, TrueThroughSession}
 use Rattle.b2_runs.proofs.FirstElementOrLater.{Contains_here, Contains_there}
 use Rattle.b2_runs.proofs.RecordIsTrue.{distinguishes_less}
@@ -73,7 +73,7 @@ past_grows running before after worked old c = subst (λ past. Contains past old
 -- ---- what stood
 
 -- what holds of all that stood by a moment that shows these files
-pub so_shown : (P : List Past → Type 0) (moment : Moment) (disk : Disk) → Shows moment disk → IsSoOfPast P moment → P disk.past
+pub so_shown : (P : List Past → Type 0) (moment : Moment) (disk : Disk) → Shows moment disk → HoldsOfPast P moment → P disk.past
 so_shown P moment disk shows so = subst (λ o. IfSome o (λ (d : Disk). P d.past)) shows so
 
 -- between two moments that show files nothing is forgotten
@@ -94,7 +94,7 @@ grows_then before between after first second =
     (new, shows_then, λ past c. more past (grows past c)))
 
 -- what holds of all that stood by a moment held of what stood before, where it holds of each part
-pub so_before : (P : List Past → Type 0) (before after : Moment) → ((past more : List Past) → ((old : Past) → Contains past old → Contains more old) → P more → P past) → PastGrows before after → IsSoOfPast P after → IsSoOfPast P before
+pub so_before : (P : List Past → Type 0) (before after : Moment) → ((past more : List Past) → ((old : Past) → Contains past old → Contains more old) → P more → P past) → PastGrows before after → HoldsOfPast P after → HoldsOfPast P before
 so_before P before after less grows so = IfSome_then before.host.disk grows (λ old (new, shows, more). less old.past new.past more (so_shown P after new shows so))
 
 edit_grows : (path : List ℕ) (bytes : Option (List ℕ)) (before after : Moment) → IsEdit path bytes before after → PastGrows before after
@@ -121,7 +121,7 @@ true_through_stop u answer before after s distinct t =
     subst (IsTrueAt (making u)) (sym s.reopened.same)
     (true_where_still (making u) now s.reopened.new (work_leaves_log u.build.steps u.build.roots running now s.reopened.new did.apart did.left_open.planned s.reopened.worked) grows true_now)
 
-true_through_update : (u : Update) (answer : UpdateAnswer) (before after : Moment) → IsUpdate u answer before after → IsSoOfPast (Distinguishes u) after → IsTrueAt (making u) before → IsTrueAt (making u) after
+true_through_update : (u : Update) (answer : UpdateAnswer) (before after : Moment) → IsUpdate u answer before after → HoldsOfPast (Distinguishes u) after → IsTrueAt (making u) before → IsTrueAt (making u) after
 true_through_update u answer before after is distinct t =
     let did = is.did in
     true_at (making u) after did.new did.shows_then (did.stays_true (so_shown (Distinguishes u) after did.new did.shows_then distinct) (true_shown (making u) before did.old did.shows t))
@@ -163,8 +163,8 @@ module _ {Asked Answer : Type 0} (Follows : Asked → Answer → Moment → Mome
     true_through_session m leave first last (edit path bytes ∷ more) answers (next, here, later, e, (none, is), rest) so t =
         true_through_session m leave next last more later rest (λ asked c. so asked (asked_later (edit path bytes) more asked c)) (true_through_edit m path bytes first next is t)
     true_through_session m leave first last (update asked ∷ more) answers (next, here, later, e, (answer, one, is, idle), rest) so t =
-        let so_next : IsSoOfPast (Needs asked) next = so_before (Needs asked) next last (leave.less asked) (past_grows_through_session leave.grows next last more later rest) (so asked (inl (Contains_here (update asked) more))) in
+        let so_next : HoldsOfPast (Needs asked) next = so_before (Needs asked) next last (leave.less asked) (past_grows_through_session leave.grows next last more later rest) (so asked (inl (Contains_here (update asked) more))) in
         true_through_session m leave next last more later rest (λ other c. so other (asked_later (update asked) more other c)) (leave.updates asked answer first next is so_next t)
     true_through_session m leave first last (stop asked ∷ more) answers (next, here, later, e, (answer, one, is), rest) so t =
-        let so_next : IsSoOfPast (Needs asked) next = so_before (Needs asked) next last (leave.less asked) (past_grows_through_session leave.grows next last more later rest) (so asked (inr (Contains_here (stop asked) more))) in
+        let so_next : HoldsOfPast (Needs asked) next = so_before (Needs asked) next last (leave.less asked) (past_grows_through_session leave.grows next last more later rest) (so asked (inr (Contains_here (stop asked) more))) in
         true_through_session m leave next last more later rest (λ other c. so other (asked_later (stop asked) more other c)) (leave.stops asked answer first next is so_next t)

@@ -5,8 +5,8 @@ use Rattle.b2_plan.specs.Closures.{Value, Known}
 use Rattle.b2_runs.specs.Staleness.{Update, IsFresh}
 use Rattle.b2_runs.specs.Runs.{Settled, on_settled, Needed}
 
--- Judging does not look at how many children may be open, nor at whether the update is to quit after a failure. So what only looks
--- judges as an update does, with any number of jobs.
+-- Judging does not look at how many children may be open, nor at whether the update is to quit after a failure. So what only
+-- judges, and starts nothing, judges as each update does.
 
 -- the same update, which quits after a failure or does not, with so many jobs
 abbrev pub run_as : Update → Bool → ℕ → Update

@@ -1,4 +1,4 @@
-use Rattle.std.specs.Prelude.{◌≡◌, ℕ, ◌≤◌, true, false, List, [], ◌∷◌, ◌++◌, length}
+use Rattle.std.specs.Prelude.{◌≡◌, ℕ, ◌≤◌, true, false, List, ◌∷◌, ◌++◌, length}
 use Rattle.std.specs.List.{Contains}
 use Rattle.b2_host.specs.declared.children.ChildEvent.{ChildEvent}
 use Rattle.b2_host.specs.declared.children.ChildEvent.TheVariants.{Start, Done}
@@ -14,10 +14,10 @@ use Rattle.b2_runs.specs.Moments.{Moment}
 use Rattle.b2_runs.specs.UpdateAnswers.{UpdateAnswer, UpdateAnswer.all_went}
 use Rattle.b2_runs.specs.Sessions.{HostUpdated, IsReopened}
 
--- Two updates, the one after the other and without edits between them, whatever the second one answers and whether or not it is stopped.
+-- Two updates, one after the other, without an edit between them. The second one may answer anything, and may be stopped.
 
--- The second update is of the same plan, is judged in the same way, and does not run all. It has its own files and log at entry, and
--- whether it quits and how many children may be open is its own.
+-- The second update is of the same plan, is judged in the same way, and does not run all. The files and the log at entry are its
+-- own, and so is whether it quits and how many children may be open.
 abbrev pub IsOfSamePlan : Update → Update → Type 0
 IsOfSamePlan u v = v ≡ record u { build = record u.build { folder = v.build.folder }; log = v.log; all = false; quit = v.quit; jobs = v.jobs }
 
@@ -25,15 +25,15 @@ IsOfSamePlan u v = v ≡ record u { build = record u.build { folder = v.build.fo
 abbrev pub AreEventsBetween : Outside → Outside → List ChildEvent → Type 0
 AreEventsBetween before after events = after.children.events ≡ before.children.events ++ events
 
--- after one that answered that all went well, with a log within its limit, the second one starts no step but those that an always-step
--- or a notfile step reaches
+-- after one that answered that all went well, with a log within its limit, the second one starts no step but those that an
+-- always-step or a notfile step reaches
 abbrev pub NoneStartsAfterAllWent : Type 0
 NoneStartsAfterAllWent = (u v : Update) (answer : UpdateAnswer) (first between again last : Outside) (later : List ChildEvent) (i : ℕ) (step : Step) (path : List ℕ)
     → (x : HostUpdated u all_went first between) → again.disk ≡ between.disk → (y : HostUpdated v answer again last) → IsOfSamePlan u v → IsTrueOn (making u) x.old → Distinguishes u y.new.past
     → length (held_bytes (log_file y.old.now)) ≤ log_limit → AreEventsBetween again last later → Makes u.build.steps i step path → (IsMadeEachTime (record u.build { folder = x.old.now }) path → ⊥) → Contains later (Start i) → ⊥
 
--- whatever the first one answered, with a log within its limit, the second one starts no step but those that was done well before the
--- last start of the first one
+-- whatever the first one answered, with a log within its limit, the second one starts no step that was done well before the last
+-- start of the first one, with the same exceptions
 abbrev pub NoneDoneStartsAgain : Type 0
 NoneDoneStartsAgain = (u v : Update) (given answer : UpdateAnswer) (first between again last : Outside) (events before after later : List ChildEvent) (k i : ℕ) (step : Step) (path : List ℕ)
     → (x : HostUpdated u given first between) → again.disk ≡ between.disk → (y : HostUpdated v answer again last) → IsOfSamePlan u v → IsTrueOn (making u) x.old → Distinguishes u y.new.past

@@ -6,8 +6,8 @@ use Rattle.b2_plan.specs.declared.step.Step.{Step}
 use Rattle.b2_plan.specs.Plans.{step_at, Makes}
 use Rattle.b2_runs.specs.Events.{IsOpen}
 
--- The children that run, by the events, by the plan and by which numbers of steps are settled: over every host, for no file has to
--- be visible.
+-- The children that run, by the events, by the plan and by which numbers of steps are settled. All this holds over every host, for
+-- no file has to be visible.
 
 -- The children that run are those of the open steps, each once.
 pub record AreOfOpenSteps (events : List ChildEvent) (running : List Child) : Type 0 where
@@ -15,8 +15,8 @@ pub record AreOfOpenSteps (events : List ChildEvent) (running : List Child) : Ty
   pub once : AllPairs (λ child other. child.step ≢ other.step) running
   pub whole : (i : ℕ) → IsOpen events i → (child : Child) × Contains running child × (child.step ≡ i)
 
--- What runs after an update, wherever it ended, also where a wait failed: the children of the steps that it left open, each once,
--- and each writes its step's outputs.
+-- What runs after an update, wherever it ended and also where a wait failed: the children of the steps that it left open, each
+-- once. Each writes its step's outputs.
 pub record LeavesOpen (steps : List Step) (old new : Family) : Type 0 where
   pub events : List ChildEvent
   pub are : new.events ≡ old.events ++ events

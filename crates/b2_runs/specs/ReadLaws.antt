@@ -61,13 +61,15 @@ ReadsMore = (u : Update) (events : List ChildEvent) (past : List Past) (reads : 
 abbrev pub ReadsAlong : Type 0
 ReadsAlong = (u : Update) (events : List ChildEvent) (event : ChildEvent) (past : List Past) (reads : List Read) → Apart u.build.steps u.build.roots → MayCome u events event → ReadsOnce u events past reads → ReadsOnce u (events ++ event ∷ []) past reads
 
--- it stays so as an open step ends, whatever could start, as where a fault has come and an update only waits; so does each part of it
+-- it stays so as an open step ends, though others could start: so it is where a fault has come, and an update only waits
 abbrev pub ReadsThroughEnd : Type 0
 ReadsThroughEnd = (u : Update) (events : List ChildEvent) (i : ℕ) (well : Bool) (past : List Past) (reads : List Read) → Apart u.build.steps u.build.roots → IsOpen events i → ReadsOnce u events past reads → ReadsOnce u (events ++ Done i well ∷ []) past reads
 
+-- what a needed step is known to read stays so then
 abbrev pub InputThroughEnd : Type 0
 InputThroughEnd = (u : Update) (events : List ChildEvent) (i : ℕ) (well : Bool) (path : List ℕ) → Apart u.build.steps u.build.roots → IsOpen events i → IsInput u events path → IsInput u (events ++ Done i well ∷ []) path
 
+-- and so does what one makes
 abbrev pub NeededOutThroughEnd : Type 0
 NeededOutThroughEnd = (u : Update) (events : List ChildEvent) (i : ℕ) (well : Bool) (path : List ℕ) → Apart u.build.steps u.build.roots → IsOpen events i → IsNeededOut u events path → IsNeededOut u (events ++ Done i well ∷ []) path
 

@@ -30,7 +30,7 @@ SettledAfterEnd = (u : Update) (events : List ChildEvent) (i : ℕ) (well : Bool
 abbrev pub NeededGrows : Type 0
 NeededGrows = (u : Update) (events : List ChildEvent) (event : ChildEvent) (i : ℕ) → Apart u.build.steps u.build.roots → MayCome u events event → Needed u events i → Needed u (events ++ event ∷ []) i
 
--- nor does it cease to be needed as an open step ends while others could start, where an update only waits
+-- so it does as an open step ends, though others could start: so it is where a fault has come, and an update only waits
 abbrev pub NeededThroughEnd : Type 0
 NeededThroughEnd = (u : Update) (events : List ChildEvent) (i : ℕ) (well : Bool) (k : ℕ) → Apart u.build.steps u.build.roots → IsOpen events i → Needed u events k → Needed u (events ++ Done i well ∷ []) k
 

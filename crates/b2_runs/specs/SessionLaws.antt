@@ -1,6 +1,6 @@
 use Rattle.std.specs.Prelude.{◌≡◌, ℕ, ◌<◌, ◌≤◌, List, [], ◌∷◌, ◌++◌, length, Option, ◌⊎◌, IfSome}
-use Rattle.b2_base.specs.Counts.{greatest_count}
 use Rattle.std.specs.List.{Contains}
+use Rattle.b2_base.specs.Counts.{greatest_count}
 use Rattle.b2_host.specs.Disks.{Disk, Past}
 use Rattle.b2_host.specs.Outside.{Outside}
 use Rattle.b2_plan.specs.Plans.{Apart}
@@ -15,7 +15,7 @@ use Rattle.b2_runs.specs.Afterwards.{IsNoted}
 use Rattle.b2_runs.specs.LogCourses.{held_bytes, log_file}
 use Rattle.b2_runs.specs.Moments.{Moment, Shows}
 use Rattle.b2_runs.specs.UpdateAnswers.{UpdateAnswer, UpdateAnswer.all_went, UpdateAnswer.host_fault, HasUpdated}
-use Rattle.b2_runs.specs.Sessions.{Happening, Happening.update, Happening.stop, IsEdit, IsTrueAt, IsSoOfPast, PastGrows, IsUpdate, IsUpdateMaking, IsStop, IsReopened, IsSession, IsAskedFor}
+use Rattle.b2_runs.specs.Sessions.{Happening, Happening.update, Happening.stop, IsEdit, IsTrueAt, HoldsOfPast, PastGrows, IsUpdate, IsUpdateMaking, IsStop, IsReopened, IsSession, IsAskedFor}
 
 -- an edit leaves a true log true
 abbrev pub TrueThroughEdit : Type 0
@@ -23,15 +23,15 @@ TrueThroughEdit = (m : Making) (path : List ℕ) (bytes : Option (List ℕ)) (be
 
 -- so does an update that is stopped, with the host opened again after it, where digests tell all apart that stood by then
 abbrev pub TrueThroughStop : Type 0
-TrueThroughStop = (u : Update) (answer : UpdateAnswer) (before after : Moment) → IsStop IsUpdate u answer before after → IsSoOfPast (Distinguishes u) after → IsTrueAt (making u) before → IsTrueAt (making u) after
+TrueThroughStop = (u : Update) (answer : UpdateAnswer) (before after : Moment) → IsStop IsUpdate u answer before after → HoldsOfPast (Distinguishes u) after → IsTrueAt (making u) before → IsTrueAt (making u) after
 
--- What follows on something that is asked for forgets nothing that stood. Where what it needs holds of all that stood by then, it leaves
--- a true log true, and so it does where it is stopped. What it needs of what stood, it needs of no part of it more.
+-- What follows on something that is asked for forgets nothing that stood. It leaves a true log true where what it needs holds of all
+-- that stood by then, and so it does where it is stopped. What it needs holds of each part of what it holds of.
 pub record LeaveTrue (m : Making) {Asked Answer : Type 0} (Needs : Asked → List Past → Type 0) (Follows : Asked → Answer → Moment → Moment → Type 0) : Type 0 where
   pub grows : (asked : Asked) (answer : Answer) (before after : Moment) → Follows asked answer before after → PastGrows before after
   pub less : (asked : Asked) (past more : List Past) → ((old : Past) → Contains past old → Contains more old) → Needs asked more → Needs asked past
-  pub updates : (asked : Asked) (answer : Answer) (before after : Moment) → Follows asked answer before after → IsSoOfPast (Needs asked) after → IsTrueAt m before → IsTrueAt m after
-  pub stops : (asked : Asked) (answer : Answer) (before after : Moment) → IsStop Follows asked answer before after → IsSoOfPast (Needs asked) after → IsTrueAt m before → IsTrueAt m after
+  pub updates : (asked : Asked) (answer : Answer) (before after : Moment) → Follows asked answer before after → HoldsOfPast (Needs asked) after → IsTrueAt m before → IsTrueAt m after
+  pub stops : (asked : Asked) (answer : Answer) (before after : Moment) → IsStop Follows asked answer before after → HoldsOfPast (Needs asked) after → IsTrueAt m before → IsTrueAt m after
 
 -- updates of plans do, whose steps make the same of bytes
 abbrev pub UpdatesLeaveTrue : Type 0
@@ -42,10 +42,10 @@ abbrev pub PastGrowsThroughSession : {Asked Answer : Type 0} → (Asked → Answ
 PastGrowsThroughSession {Asked} {Answer} Follows = ((asked : Asked) (answer : Answer) (before after : Moment) → Follows asked answer before after → PastGrows before after)
     → (first last : Moment) (happenings : List (Happening Asked)) (answers : List Answer) → IsSession Follows first happenings answers last → PastGrows first last
 
--- and a whole session of what leaves a true log true does so, where what is needed for all that is asked for holds of what stood at its end
+-- a whole session of what leaves a true log true does so, where all that is needed holds of what stood by its end
 abbrev pub TrueThroughSession : {Asked Answer : Type 0} → (Asked → List Past → Type 0) → (Asked → Answer → Moment → Moment → Type 0) → Type 0
 TrueThroughSession {Asked} {Answer} Needs Follows = (m : Making) → LeaveTrue m Needs Follows
-    → (first last : Moment) (happenings : List (Happening Asked)) (answers : List Answer) → IsSession Follows first happenings answers last → ((asked : Asked) → IsAskedFor happenings asked → IsSoOfPast (Needs asked) last) → IsTrueAt m first → IsTrueAt m last
+    → (first last : Moment) (happenings : List (Happening Asked)) (answers : List Answer) → IsSession Follows first happenings answers last → ((asked : Asked) → IsAskedFor happenings asked → HoldsOfPast (Needs asked) last) → IsTrueAt m first → IsTrueAt m last
 
 -- a session is one of its first events, followed by one of the others
 abbrev pub SessionSplits : {Asked Answer : Type 0} → (Asked → Answer → Moment → Moment → Type 0) → Type 0
@@ -58,7 +58,7 @@ IsCleanAt u moment = IfSome moment.host.disk (λ disk. IsCleanBuild (record u.bu
 
 -- so it is where an update answered that all went well whose log was true, where digests tell all apart that stood by then
 abbrev pub UpdateLeavesClean : Type 0
-UpdateLeavesClean = (u : Update) (before after : Moment) → IsUpdate u all_went before after → IsSoOfPast (Distinguishes u) after → IsTrueAt (making u) before → IsCleanAt u after
+UpdateLeavesClean = (u : Update) (before after : Moment) → IsUpdate u all_went before after → HoldsOfPast (Distinguishes u) after → IsTrueAt (making u) before → IsCleanAt u after
 
 -- where a session ends with something that is asked for, it follows between some moment and the last one
 abbrev pub SessionEndsWith : {Asked Answer : Type 0} → (Asked → Answer → Moment → Moment → Type 0) → Type 0
@@ -68,7 +68,7 @@ SessionEndsWith {Asked} {Answer} Follows = (asked : Asked) (answer : Answer) (fi
 -- so it is at the end of a session whose last event is such an update, where the log was true at its beginning
 abbrev pub SessionEndsClean : Type 0
 SessionEndsClean = (m : Making) (u : Update) (first last : Moment) (happenings : List (Happening Update)) (answers : List UpdateAnswer) → IsSession (IsUpdateMaking m) first (happenings ++ update u ∷ []) (answers ++ all_went ∷ []) last
-    → ((asked : Update) → IsAskedFor (happenings ++ update u ∷ []) asked → IsSoOfPast (Distinguishes asked) last) → IsTrueAt m first → IsCleanAt u last
+    → ((asked : Update) → IsAskedFor (happenings ++ update u ∷ []) asked → HoldsOfPast (Distinguishes asked) last) → IsTrueAt m first → IsCleanAt u last
 
 -- what the log's last lines were on when an update was stopped they still are when the host is opened again
 abbrev pub NotedThroughReopen : Type 0

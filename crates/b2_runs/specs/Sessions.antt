@@ -48,8 +48,8 @@ abbrev pub IsTrueAt : Making → Moment → Type 0
 IsTrueAt m moment = IfSome moment.host.disk (IsTrueOn m)
 
 -- this holds of all that stood by a moment, where the files are visible
-abbrev pub IsSoOfPast : (List Past → Type 0) → Moment → Type 0
-IsSoOfPast P moment = IfSome moment.host.disk (λ disk. P disk.past)
+abbrev pub HoldsOfPast : (List Past → Type 0) → Moment → Type 0
+HoldsOfPast P moment = IfSome moment.host.disk (λ disk. P disk.past)
 
 -- files that are visible are so later too, and nothing that stood is forgotten
 abbrev pub PastGrows : Moment → Moment → Type 0
@@ -57,7 +57,7 @@ PastGrows before after = IfSome before.host.disk (λ old. (new : Disk) × Shows 
 
 -- What an update of a plan with 1 to 64 jobs has done to a host between two moments, with this answer. No child ran before it; those
 -- that run after it are of steps that it left open, and are there only where a wait failed. Nothing that stood is forgotten. Where
--- digests tell all apart that stood by then, a true log stays true; and there an update that uses true lines has done all that it is to.
+-- digests tell all apart that stood by then, a true log stays true, and an update that uses true lines has done what it is to.
 pub record HostUpdated (u : Update) (answer : UpdateAnswer) (before after : Outside) : Type 0 where
   pub old : Disk
   pub shows : before.disk ≡ Some old
@@ -68,7 +68,7 @@ pub record HostUpdated (u : Update) (answer : UpdateAnswer) (before after : Outs
   pub idle : before.children.running ≡ []
   pub none_left : LeavesNone before after
   pub left_open : LeavesOpen u.build.steps before.children after.children
-  pub kept : IsConsistent old
+  pub consistent : IsConsistent old
   pub keeps : IsConsistent new
   pub grows : (past : Past) → Contains old.past past → Contains new.past past
   pub stays_true : Distinguishes u new.past → IsTrueOn (making u) old → IsTrueOn (making u) new

@@ -31,7 +31,7 @@ pub fn reads_along()
     ensures { ReadsAlong }
 {}
 
-/// It stays so as an open step ends, whatever could start.
+/// It stays so as an open step ends, though others could start.
 pub fn reads_through_end()
     ensures { ReadsThroughEnd }
 {}

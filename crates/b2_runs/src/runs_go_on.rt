@@ -26,7 +26,7 @@ pub fn needed_grows()
     ensures { NeededGrows }
 {}
 
-/// So it does as an open step ends, whatever could start.
+/// So it does as an open step ends, though others could start.
 pub fn needed_through_end()
     ensures { NeededThroughEnd }
 {}
