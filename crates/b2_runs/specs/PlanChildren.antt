@@ -1,7 +1,7 @@
-use Rattle.std.specs.Prelude.{◌≡◌, ◌≢◌, ◌⊎◌, ℕ, Bool, true, false, List, ◌++◌, Some}
+use Rattle.std.specs.Prelude.{◌≡◌, ◌≢◌, ◌⊎◌, ℕ, Bool, true, false, List, Some}
 use Rattle.std.specs.List.{Contains, AllPairs}
 use Rattle.b2_host.specs.declared.children.ChildEvent.{ChildEvent}
-use Rattle.b2_host.specs.ChildProcesses.{Child, Family}
+use Rattle.b2_host.specs.ChildProcesses.{Child}
 use Rattle.b2_plan.specs.declared.step.Step.{Step}
 use Rattle.b2_plan.specs.Plans.{step_at, Makes}
 use Rattle.b2_runs.specs.Events.{IsOpen}
@@ -14,14 +14,6 @@ pub record AreOfOpenSteps (events : List ChildEvent) (running : List Child) : Ty
   pub each : (child : Child) → Contains running child → IsOpen events child.step
   pub once : AllPairs (λ child other. child.step ≢ other.step) running
   pub whole : (i : ℕ) → IsOpen events i → (child : Child) × Contains running child × (child.step ≡ i)
-
--- What runs after an update, wherever it ended and also where a wait failed: the children of the steps that it left open, each
--- once. Each writes its step's outputs.
-pub record LeavesOpen (steps : List Step) (old new : Family) : Type 0 where
-  pub events : List ChildEvent
-  pub are : new.events ≡ old.events ++ events
-  pub of_open : AreOfOpenSteps events new.running
-  pub planned : (child : Child) → Contains new.running child → (step : Step) × (step_at steps child.step ≡ Some step) × (child.outs ≡ step.outs)
 
 -- each of these paths that a step makes is made by a settled one
 abbrev pub MadeBySettled : List Step → (ℕ → Bool) → List (List ℕ) → Type 0

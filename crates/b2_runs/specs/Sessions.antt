@@ -12,10 +12,9 @@ use Rattle.b2_runs.specs.Staleness.{Update, making}
 use Rattle.b2_runs.specs.Events.{IsOpen}
 use Rattle.b2_runs.specs.Runs.{OpenEnds}
 use Rattle.b2_runs.specs.Soundness.{Distinguishes, UsesTrueLines}
-use Rattle.b2_runs.specs.PlanChildren.{LeavesOpen}
 use Rattle.b2_runs.specs.Afterwards.{at_present}
 use Rattle.b2_runs.specs.Moments.{Moment, Shows, with_disk}
-use Rattle.b2_runs.specs.UpdateAnswers.{UpdateAnswer, CausedBy, LeavesNone, WithLog, HasUpdated}
+use Rattle.b2_runs.specs.UpdateAnswers.{UpdateAnswer, CausedBy, LeavesNone, LeavesOpen, WithLog, HasUpdated}
 
 -- Sessions: edits, updates, and updates that are stopped.
 

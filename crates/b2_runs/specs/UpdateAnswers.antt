@@ -3,11 +3,11 @@ use Rattle.std.specs.List.{Contains}
 use Rattle.b2_host.specs.declared.children.ChildEvent.{ChildEvent}
 use Rattle.b2_host.specs.declared.children.ChildEvent.TheVariants.{Done}
 use Rattle.b2_host.specs.Disks.{File, Folder, Disk}
-use Rattle.b2_host.specs.ChildProcesses.{Given}
+use Rattle.b2_host.specs.ChildProcesses.{Given, Child, Family}
 use Rattle.b2_host.specs.Outside.{Read, Outside}
 use Rattle.b2_base.specs.Counts.{Rose}
 use Rattle.b2_plan.specs.declared.step.Step.{Step}
-use Rattle.b2_plan.specs.Plans.{Makes}
+use Rattle.b2_plan.specs.Plans.{step_at, Makes}
 use Rattle.b2_plan.specs.Closures.{Value}
 use Rattle.b2_plan.specs.Cleans.{Clean}
 use Rattle.b2_log.specs.declared.line.LogLine.{LogLine}
@@ -18,6 +18,7 @@ use Rattle.b2_runs.specs.Runs.{IsRun, IsBegun, AreGivenClosures}
 use Rattle.b2_runs.specs.Outcomes.{NoneStuck, AllWent, HasCleanBytes, IsCleanBuild, LeavesNothing, OnlyOutputsChange}
 use Rattle.b2_runs.specs.Cycles.{IsStepCycle}
 use Rattle.b2_runs.specs.Soundness.{AreAtWork, Holds}
+use Rattle.b2_runs.specs.PlanChildren.{AreOfOpenSteps}
 use Rattle.b2_runs.specs.Afterwards.{IsNoted}
 use Rattle.b2_runs.specs.FileReads.{IsTooBig, ReadsOnce, ReadsLeaveLines}
 use Rattle.b2_runs.specs.LogCourses.{held_bytes, log_file, IsLogWhole, IsLogCut}
@@ -67,6 +68,14 @@ abbrev pub LeavesNone : Outside → Outside → Type 0
 LeavesNone before after = (after.children.running ≡ []) ⊎ WaitFailed before after
 
 -- ---- over every host
+
+-- What runs after an update, wherever it ended and also where a wait failed: the children of the steps that it left open, each
+-- once. Each writes its step's outputs.
+pub record LeavesOpen (steps : List Step) (old new : Family) : Type 0 where
+  pub events : List ChildEvent
+  pub are : new.events ≡ old.events ++ events
+  pub of_open : AreOfOpenSteps events new.running
+  pub planned : (child : Child) → Contains new.running child → (step : Step) × (step_at steps child.step ≡ Some step) × (child.outs ≡ step.outs)
 
 -- the steps that an answer names as failed
 abbrev pub failed_of : UpdateAnswer → List ℕ
