@@ -1,0 +1,4 @@
+pub mod MapsChangeAtOneKey
+pub mod PathsKeepTheirPlaces
+pub mod PairsAreKeys
+pub mod StampsTellTheMarks

@@ -1,0 +1,4 @@
+pub mod PathTables
+pub mod PairMaps
+pub mod MarkSets
+pub mod Laws
