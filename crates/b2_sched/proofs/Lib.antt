@@ -5,8 +5,11 @@ pub mod WantedFilesAddTheirMakers
 pub mod CallsDoWhatIsDefined
 pub mod ListsGrowByOneNumber
 pub mod SearchFindsAllSkipped
+pub mod SearchFindsAllReached
 pub mod WalkComesToTheCycle
 pub mod RestIsSkippedOrStuck
 pub mod CallsTellTheState
 pub mod SetsAgreeWithTheRun
+pub mod StartsAgreeWithTheRun
 pub mod KeptMeansSound
+pub mod FlagTellsFailure

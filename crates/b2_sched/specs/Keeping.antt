@@ -71,3 +71,7 @@ pub record AreWanted (steps : List Step) (wanted : List (List ℕ)) (dependents 
   pub looks_size : length looks ≡ length steps + 1
   pub needs : (i k : ℕ) → Contains (slice_index_or dependents k []) i ↔ ((i ≡ 0) × MakesOneOf steps wanted k)
   pub looks_are : (k : ℕ) → Has looks k ↔ MakesOneOf steps wanted k
+
+-- the flag tells whether some step failed
+abbrev pub TellsFailure : List State → Bool → Type 0
+TellsFailure states any = any ≡ true ↔ ((i : ℕ) × (slice_index_or states i Settled ≡ Failed))

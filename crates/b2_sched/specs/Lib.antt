@@ -4,6 +4,7 @@ pub mod Calls
 pub mod Ends
 pub mod Keeping
 pub mod Searches
+pub mod Reaches
 pub mod Cycles
 pub mod Histories
 pub mod Joins

@@ -6,6 +6,7 @@ pub mod laws;
 mod needs;
 mod number_set;
 mod numbers;
+pub mod reach;
 pub mod sched;
 mod skips;
 pub mod state;

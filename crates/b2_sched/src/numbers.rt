@@ -1,5 +1,5 @@
 //! Lists of numbers in rising order.
-ghost use Rattle.std.specs.Prelude.{◌≡◌, true, ◌≤◌, ◌++◌, ◌∷◌, [], ℕ, length, slice_index_or, ◌↔◌, IsTrue, IfOk, OnOk, if◌then◌else◌};
+ghost use Rattle.std.specs.Prelude.{◌≡◌, true, ◌≤◌, ◌++◌, ◌∷◌, [], ℕ, length, slice_index_or, IfOk, OnOk, if◌then◌else◌};
 ghost use Rattle.b2_runs.specs.Outcomes.{IsListOf};
 ghost use Rattle.b2_sched.specs.declared.state.State.TheVariants.{Settled, Failed};
 ghost use Rattle.b2_sched.specs.NumberSets.{Has};
@@ -48,22 +48,4 @@ pub fn failed_of(alloc: Global, states: &[State]) -> Result<Vec<u32>, OutOfMemor
         push_if(&mut numbers, is_failed(*state), number as u32)?;
     }
     Ok(numbers)
-}
-
-fn has_failed(states: &[State]) -> bool
-    ensures { IsTrue result ↔ ((i : ℕ) × (slice_index_or states.now i Settled ≡ Failed)) }
-{
-    for state in states {
-        if is_failed(*state) {
-            return true;
-        }
-    }
-    false
-}
-
-/// Whether the update quits: it was told to, and some step failed.
-pub fn quits(quit: bool, states: &[State]) -> bool
-    ensures { IsTrue result ↔ ((quit ≡ true) × ((i : ℕ) × (slice_index_or states.now i Settled ≡ Failed))) }
-{
-    quit && has_failed(states)
 }

@@ -25,6 +25,7 @@ pub struct Sched {
     looks: NumberSet,
     starts: NumberSet,
     running: u32,
+    any_failed: bool,
 }
 
 /// By hand, so that dropping one is one call.
@@ -39,6 +40,7 @@ impl Drop for Sched {
             looks,
             starts,
             running: _,
+            any_failed: _,
         } = self;
         drop(states);
         drop(dependents);
@@ -50,13 +52,13 @@ impl Drop for Sched {
 
 impl Model for Sched {
     ghost use Rattle.b2_sched.specs.Schedules.{Schedule, shown};
-    ghost use Rattle.b2_sched.specs.Keeping.{IsKept};
+    ghost use Rattle.b2_sched.specs.Keeping.{IsKept, TellsFailure};
 
     ghost Value = { Schedule };
 
     ghost view = { λ s. shown s.jobs s.states.items s.dependents.items s.lacking.items s.looks };
 
-    ghost invariant = { λ s. IsKept (shown s.jobs s.states.items s.dependents.items s.lacking.items s.looks) s.starts s.running };
+    ghost invariant = { λ s. IsKept (shown s.jobs s.states.items s.dependents.items s.lacking.items s.looks) s.starts s.running × TellsFailure s.states.items s.any_failed };
 }
 
 impl Sched {
@@ -89,6 +91,7 @@ impl Sched {
             looks,
             starts,
             running: 0,
+            any_failed: false,
         })
     }
 
@@ -199,6 +202,7 @@ impl Sched {
             );
         } else {
             self.states[place] = State::Failed;
+            self.any_failed = true;
         }
     }
 }

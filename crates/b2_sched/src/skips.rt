@@ -71,6 +71,20 @@ impl Search {
         }
         Ok(())
     }
+
+    /// The steps that were found.
+    pub fn into_found(self) -> Vec<bool>
+        ensures { result.items ≡ self.found.items }
+    {
+        let Search {
+            left,
+            found,
+            pending,
+        } = self;
+        drop(left);
+        drop(pending);
+        found
+    }
 }
 
 /// For each number whether its step is left and was not found.

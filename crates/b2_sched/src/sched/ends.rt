@@ -1,5 +1,5 @@
 //! How an update ends: which steps failed, which are skipped, and the cycle of those that are stuck.
-ghost use Rattle.std.specs.Prelude.{◌↔◌, ◌⊎◌, false, [], IsTrue, IfOk, MatchOption};
+ghost use Rattle.std.specs.Prelude.{◌≡◌, ◌↔◌, ◌⊎◌, ℕ, true, false, [], IsTrue, IfOk, MatchOption};
 ghost use Rattle.b2_runs.specs.Outcomes.{IsListOf};
 ghost use Rattle.b2_sched.specs.Schedules.{IsFailed, IsSkipped, NoneStuck, GoesOn, AreJudged};
 ghost use Rattle.b2_sched.specs.Searches.{IsSearch};
@@ -7,11 +7,25 @@ ghost use Rattle.b2_sched.specs.Ends.{IsStepCycle};
 
 use super::Sched;
 use crate::cycles::cycle_of;
-use crate::numbers::{failed_of, numbers_of, quits};
+use crate::numbers::{failed_of, numbers_of};
 use crate::skips::{Search, left_flags, stuck_flags};
 use b2_base::fault::OutOfMemory;
 
 impl Sched {
+    /// Whether some step failed. Takes the same time however many steps there are, and no memory.
+    pub fn has_failed(&self) -> bool
+        ensures { IsTrue result ↔ ((i : ℕ) × IsFailed self.now i) }
+    {
+        self.any_failed
+    }
+
+    /// Whether all that is left is skipped: the update is to quit, and some step failed.
+    fn quits(&self, quit: bool) -> bool
+        ensures { IsTrue result ↔ ((quit ≡ true) × ((i : ℕ) × IsFailed self.now i)) }
+    {
+        quit && self.has_failed()
+    }
+
     /// The steps that failed, in rising order.
     pub fn failed(&self) -> Result<Vec<u32>, OutOfMemory>
         ensures { IfOk result (λ list. IsListOf (IsFailed self.now) list.items) }
@@ -45,7 +59,7 @@ impl Sched {
     pub fn skipped(&self, quit: bool) -> Result<Vec<u32>, OutOfMemory>
         ensures { IfOk result (λ list. IsListOf (IsSkipped self.now quit) list.items) }
     {
-        if quits(quit, &self.states) {
+        if self.quits(quit) {
             let left = left_flags(self.alloc, &self.states, &self.dependents)?;
             let numbers = numbers_of(self.alloc, &left)?;
             return Ok(numbers);

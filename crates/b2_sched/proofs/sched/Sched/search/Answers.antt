@@ -16,23 +16,23 @@ use Rattle.b2_sched.proofs.sched.Sched.search.Goals as goal
 pub find_all-requires-clause-within : goal.find_all-requires-clause-within
 find_all-requires-clause-within c = λ i among.
     let flagged : i < length c.deref-2.result.now = has_within c.deref-2.result.now i (c.in_ok-lacking.ensures.each i (subst (λ (xs : List ℕ). Contains xs i) c.deref-5.ensures.value among)) in
-    omega (arith, flagged, ap length c.deref-2.ensures.value, c.self.invariant.lacking_size, c.in_ok-left.ensures.size, ap length c.deref-3.ensures.value)
+    omega (arith, flagged, ap length c.deref-2.ensures.value, c.self.invariant.0.lacking_size, c.in_ok-left.ensures.size, ap length c.deref-3.ensures.value)
 
 pub index-requires : goal.index-requires
 index-requires c =
     let v : Schedule = shown c.self.inside.jobs c.self.inside.states.items c.self.inside.dependents.items c.self.inside.lacking.items c.self.inside.looks in
     let within = pending_within v c.loop-step.search.left.items c.loop-step.search.found.items c.loop-step.search.pending.items c.in-Some.step c.loop-step.invariant
     (subst (λ (xs : List ℕ). Contains xs c.in-Some.step) (sym c.in-Some.ensures.items) (pushed_has c.pop.new.self.items c.in-Some.step)) in
-    omega (arith, within, c.self.invariant.dependents_size)
+    omega (arith, within, c.self.invariant.0.dependents_size)
 
 pub find_all-requires-in-Some-clause-within : goal.find_all-requires-in-Some-clause-within
 find_all-requires-in-Some-clause-within c = λ i among.
     let v : Schedule = shown c.self.inside.jobs c.self.inside.states.items c.self.inside.dependents.items c.self.inside.lacking.items c.self.inside.looks in
     let within = pending_within v c.loop-step.search.left.items c.loop-step.search.found.items c.loop-step.search.pending.items c.in-Some.step c.loop-step.invariant
     (subst (λ (xs : List ℕ). Contains xs c.in-Some.step) (sym c.in-Some.ensures.items) (pushed_has c.pop.new.self.items c.in-Some.step)) in
-    let inside : c.in-Some.step < length v.dependents = omega (arith, within, c.self.invariant.dependents_size) in
+    let inside : c.in-Some.step < length v.dependents = omega (arith, within, c.self.invariant.0.dependents_size) in
     let read = c.as_slice.ensures ∙ c.index.ensures ∙ get_or_default v.dependents c.in-Some.step c.index.result.now [] inside in
-    let below = c.self.invariant.within i c.in-Some.step (subst (λ (xs : List ℕ). Contains xs i) read among) in
+    let below = c.self.invariant.0.within i c.in-Some.step (subst (λ (xs : List ℕ). Contains xs i) read among) in
     omega (arith, below, c.loop-step.invariant.left_size)
 
 pub loop-step-init : goal.loop-step-init
@@ -44,7 +44,7 @@ loop-step-init c =
     let now = c.find_all.new.self.found.items in
     let after = c.find_all.new.self.pending.items in
     subst (λ (l : List Bool). IsSearch v l now after) (sym c.in_ok-find_all.ensures.left)
-    (search_begins v c.self.inside.starts c.self.inside.running c.len.result left c.in_ok-lacking.lacking.items c.in_ok-pending.pending.items now after c.self.invariant
+    (search_begins v c.self.inside.starts c.self.inside.running c.len.result left c.in_ok-lacking.lacking.items c.in_ok-pending.pending.items now after c.self.invariant.0
     (subst (λ (xs : List State). AreLeftFlags xs v.dependents left) c.deref-3.ensures.value (subst (λ (ds : List (List ℕ)). AreLeftFlags c.deref-3.result.now ds left) c.deref-4.ensures.value c.in_ok-left.ensures))
     size_is
     (subst (λ (fs : List Bool). IsListOf (Has fs) c.in_ok-lacking.lacking.items) c.deref-2.ensures.value c.in_ok-lacking.ensures)
@@ -57,7 +57,7 @@ loop-step-preserved c =
     let v : Schedule = shown c.self.inside.jobs c.self.inside.states.items c.self.inside.dependents.items c.self.inside.lacking.items c.self.inside.looks in
     let within = pending_within v c.loop-step.search.left.items c.loop-step.search.found.items c.loop-step.search.pending.items c.in-Some.step c.loop-step.invariant
     (subst (λ (xs : List ℕ). Contains xs c.in-Some.step) (sym c.in-Some.ensures.items) (pushed_has c.pop.new.self.items c.in-Some.step)) in
-    let inside : c.in-Some.step < length v.dependents = omega (arith, within, c.self.invariant.dependents_size) in
+    let inside : c.in-Some.step < length v.dependents = omega (arith, within, c.self.invariant.0.dependents_size) in
     let read = c.as_slice.ensures ∙ c.index.ensures ∙ get_or_default v.dependents c.in-Some.step c.index.result.now [] inside in
     let left = c.loop-step.search.left.items in
     let found = c.loop-step.search.found.items in

@@ -6,4 +6,4 @@ use Rattle.b2_sched.proofs.sched.Sched.sound.Goals as goal
 
 pub returns : goal.returns
 returns c = subst IsSound c.self.view_is
-    (sound_if_kept (shown c.self.inside.jobs c.self.inside.states.items c.self.inside.dependents.items c.self.inside.lacking.items c.self.inside.looks) c.self.inside.starts c.self.inside.running c.self.invariant)
+    (sound_if_kept (shown c.self.inside.jobs c.self.inside.states.items c.self.inside.dependents.items c.self.inside.lacking.items c.self.inside.looks) c.self.inside.starts c.self.inside.running c.self.invariant.0)
