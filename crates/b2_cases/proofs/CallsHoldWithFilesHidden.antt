@@ -66,7 +66,7 @@ may_start family ins outs may = record {
 
 -- each call of a host, as one whose files are not visible has it
 pub fails_hidden : (before after : Outside) → Fails before after → Fails (hidden before) (hidden after)
-fails_hidden before after failed = record { rose = failed.rose; same = ap hidden failed.same }
+fails_hidden before after failed = record { may_fail = failed.may_fail; rose = failed.rose; same = ap hidden failed.same }
 
 pub looks_hidden : {T : Type 0} (before after : Outside) (r : Result T Failed) → Looks before after r → Looks (hidden before) (hidden after) r
 looks_hidden before after (Ok x) same = ap hidden same
@@ -85,7 +85,7 @@ reads_hidden path before after (Err faults.OutOfMemory) same = ap hidden same
 pub removes_hidden : {T : Type 0} (path : List ℕ) (before after : Outside) (r : Result T Failed) → Removes path before after r → Removes path (hidden before) (hidden after) r
 removes_hidden path before after (Ok x) same = ap hidden same
 removes_hidden path before after (Err e) (inl failed) = inl (fails_hidden before after failed)
-removes_hidden path before after (Err e) (inr failed) = inl (record { rose = failed.rose; same = ap hidden failed.same })
+removes_hidden path before after (Err e) (inr failed) = inl (record { may_fail = failed.may_fail; rose = failed.rose; same = ap hidden failed.same })
 
 puts_hidden : (path : List ℕ) (bytes : Disk → List ℕ) (before after : Outside) → Puts path bytes before after → Puts path bytes (hidden before) (hidden after)
 puts_hidden path bytes before after puts = record { stamp = puts.stamp; newest = tt; same = ap hidden puts.same }
@@ -106,9 +106,10 @@ starts_hidden step text ins outs before after (Err faults.OutOfMemory) same = ap
 pub waits_hidden : (made other : List ℕ → List (List ℕ × List ℕ) → List ℕ → List ℕ) (before after : Outside) (r : Result (ℕ × Bool) Failed) → Waits made before after r → Waits other (hidden before) (hidden after) r
 waits_hidden made other before after (Ok done) ended = record {
   ended = ended_untold made other before.children after.children before.disk after.disk done.0 done.1 ended.ended;
+  ends_well = ended.ends_well;
   same = ap hidden ended.same;
 }
-waits_hidden made other before after (Err e) failed = record { rose = failed.rose; waits = failed.waits; worked = tt; same = ap hidden failed.same }
+waits_hidden made other before after (Err e) failed = record { may_fail = failed.may_fail; wait_may_fail = failed.wait_may_fail; rose = failed.rose; waits = failed.waits; worked = tt; same = ap hidden failed.same }
 
 -- where no child process runs, none runs after what leaves all but the files
 pub stays_idle : (before after : Outside) → hidden after ≡ hidden before → before.children.running ≡ [] → after.children.running ≡ []

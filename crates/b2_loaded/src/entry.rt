@@ -10,7 +10,7 @@ pub trait Entry {
 }
 
 impl Entry for Brand {
-    ghost use Rattle.std.specs.Prelude.{None, []};
+    ghost use Rattle.std.specs.Prelude.{None, [], false};
 
-    ghost outside = { record { disk = None; reads = None; children = record { running = []; events = []; given = None }; faults = 0; failed_waits = 0 } };
+    ghost outside = { record { disk = None; reads = None; children = record { running = []; events = []; given = None }; faults = 0; failed_waits = 0; risks = record { may_fail = false; wait_may_fail = false; may_end_badly = false } } };
 }

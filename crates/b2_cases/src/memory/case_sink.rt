@@ -51,7 +51,7 @@ impl CaseSink {
 }
 
 impl Sink for CaseSink {
-    ghost output = { λ sink. record { written = Some sink.bytes.items; faults = sink.faults } };
+    ghost output = { λ sink. record { written = Some sink.bytes.items; faults = sink.faults; may_fail = true } };
 
     fn write(&mut self, bytes: &[u8]) -> Result<(), IoFault> {
         let is_failing = self.failing.number == 1;
