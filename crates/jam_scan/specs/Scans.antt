@@ -8,9 +8,13 @@ use Rattle.jam_scan.specs.IncludeLines.{includes_of}
 abbrev pub suffixes : List (List ℕ)
 suffixes = codes ".c" ∷ codes ".cc" ∷ codes ".cpp" ∷ codes ".cxx" ∷ codes ".h" ∷ codes ".hh" ∷ codes ".hpp" ∷ codes ".hxx" ∷ []
 
--- the text ends with one of some suffixes
+-- a text ends with another one
+unfoldable pub has_suffix : List ℕ → List ℕ → Bool
+has_suffix text suffix = ends_with (λ a b. a == b) text suffix
+
+-- a text ends with one of some others
 unfoldable pub has_one : List ℕ → List (List ℕ) → Bool
-has_one text endings = list_any (ends_with (λ a b. a == b) text) endings
+has_one text endings = list_any (has_suffix text) endings
 
 -- a file at this path is scanned
 unfoldable pub is_scanned : List ℕ → Bool

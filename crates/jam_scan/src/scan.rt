@@ -1,7 +1,7 @@
 //! The includes of a file.
 ghost use Rattle.std.specs.Prelude.{◌≡◌, ◌++◌, IfOk, OnOk, map, option_to_list};
 ghost use Rattle.jam_scan.specs.IncludeLines.{include_of, includes_of};
-ghost use Rattle.jam_scan.specs.Scans.{has_one, is_scanned};
+ghost use Rattle.jam_scan.specs.Scans.{has_suffix, has_one, is_scanned};
 
 use crate::include::IncludeList;
 use crate::line::include_of;
@@ -27,8 +27,9 @@ pub fn includes(alloc: Global, bytes: &[u8]) -> Result<IncludeList, OutOfMemory>
     let mut found = IncludeList::new(alloc);
     let mut rest = bytes;
     while let Some(end) = memchr(b'\n', rest) {
-        add_line(alloc, &mut found, &rest[..end])?;
-        rest = &rest[end + 1..];
+        let (line, after) = rest.split_at(end);
+        add_line(alloc, &mut found, line)?;
+        rest = &after[1..];
     }
     add_line(alloc, &mut found, rest)?;
     Ok(found)
@@ -36,12 +37,19 @@ pub fn includes(alloc: Global, bytes: &[u8]) -> Result<IncludeList, OutOfMemory>
 
 static SUFFIXES: [&str; 8] = [".c", ".cc", ".cpp", ".cxx", ".h", ".hh", ".hpp", ".hxx"];
 
-fn ends_with_one(text: &str, suffixes: &[&str]) -> bool
+fn has_suffix(text: &str, suffix: &str) -> bool
+    ensures { result ≡ has_suffix text.now suffix.now }
+{
+    text.ends_with(suffix)
+}
+
+#[tactic(auto, unfolding(crate::specs::Scans::has_one))]
+fn has_one(text: &str, suffixes: &[&str]) -> bool
     ensures { result ≡ has_one text.now (map (λ suffix. suffix.now) suffixes.now) }
 {
     match suffixes {
         [] => false,
-        [suffix, more @ ..] => text.ends_with(*suffix) || ends_with_one(text, more),
+        [suffix, more @ ..] => has_suffix(text, suffix) || has_one(text, more),
     }
 }
 
@@ -51,5 +59,5 @@ fn ends_with_one(text: &str, suffixes: &[&str]) -> bool
 pub fn is_scanned(path: &Path) -> bool
     ensures { result ≡ is_scanned path.now }
 {
-    ends_with_one(path.as_str(), SUFFIXES.as_slice())
+    has_one(path.as_str(), SUFFIXES.as_slice())
 }

@@ -1,0 +1,4 @@
+pub mod PartsOfLinesAreRead
+pub mod IncludesArePutTogether
+pub mod LinesAreReadInOrder
+pub mod LinesAreIncludes
