@@ -2,3 +2,5 @@ pub mod PartsOfLinesAreRead
 pub mod IncludesArePutTogether
 pub mod LinesAreReadInOrder
 pub mod LinesAreIncludes
+pub mod FilesIncludeWhatLinesDo
+pub mod PlacesAreNormal
