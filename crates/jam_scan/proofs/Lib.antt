@@ -4,3 +4,5 @@ pub mod LinesAreReadInOrder
 pub mod LinesAreIncludes
 pub mod FilesIncludeWhatLinesDo
 pub mod PlacesAreNormal
+pub mod GatheringsGrow
+pub mod GatheringsAreKnown

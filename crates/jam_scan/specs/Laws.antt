@@ -8,7 +8,7 @@ use Rattle.b2_plan.specs.Closures.{Value, Known}
 use Rattle.jam_scan.specs.IncludeLines.{IsName, IsIncludeLine, include_of, includes_of, lines}
 use Rattle.jam_scan.specs.Scans.{is_scanned, scan_of}
 use Rattle.jam_scan.specs.Places.{places}
-use Rattle.jam_scan.specs.Gatherings.{Gathering, IsInOrder, NoneOpen, IsGathered, told_values}
+use Rattle.jam_scan.specs.Gatherings.{Gathering, NoneOpen, IsGathered, told_values}
 
 -- a line has an include exactly where it is one
 abbrev pub LinesInclude : Type 0
@@ -30,10 +30,14 @@ IncludesAreNamed = (path bytes : List ℕ) → All (λ include. IsName include.0
 abbrev pub PlacesAreNormal : Type 0
 PlacesAreNormal = (dirs : List (List ℕ)) (file : List ℕ) (include : Include) → All IsNormal (places dirs file include)
 
--- a step is known to read all that was gathered, by the values that were told
+-- The members are all that the step is known to read, by the values that were told.
 abbrev pub GatheredIsKnown : Type 0
-GatheredIsKnown = (b : Build) (step : Step) (told : List (List ℕ × Value)) (g : Gathering) → IsGathered b step told g → All (Known b (told_values told) step) g.members
+GatheredIsKnown = (b : Build) (step : Step) (told : List (List ℕ × Value)) (g : Gathering) → IsGathered b step told g → (path : List ℕ) → Known b (told_values told) step path ↔ Contains g.members path
 
--- where no member is left to be scanned, nothing else is known
-abbrev pub GatheredIsWhole : Type 0
-GatheredIsWhole = (b : Build) (step : Step) (told : List (List ℕ × Value)) (g : Gathering) → IsGathered b step told g → NoneOpen g 0 → (path : List ℕ) → Known b (told_values told) step path ↔ Contains g.members path
+-- where no member is left to be scanned, each has a value
+abbrev pub GatheredHasValues : Type 0
+GatheredHasValues = (b : Build) (step : Step) (told : List (List ℕ × Value)) (g : Gathering) → IsGathered b step told g → NoneOpen g 0 → All (λ path. (value : Value) × Contains told (path, value)) g.members
+
+-- no member has two values
+abbrev pub ValuesAreOne : Type 0
+ValuesAreOne = (b : Build) (step : Step) (told : List (List ℕ × Value)) (g : Gathering) → IsGathered b step told g → (path : List ℕ) (x y : Value) → Contains told (path, x) → Contains told (path, y) → x ≡ y

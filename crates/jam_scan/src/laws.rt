@@ -1,5 +1,5 @@
 //! Laws of includes, of where they are looked for, and of what is gathered.
-ghost use Rattle.jam_scan.specs.Laws.{LinesInclude, FilesInclude, UnscannedIncludesNone, IncludesAreNamed, PlacesAreNormal, GatheredIsKnown, GatheredIsWhole};
+ghost use Rattle.jam_scan.specs.Laws.{LinesInclude, FilesInclude, UnscannedIncludesNone, IncludesAreNamed, PlacesAreNormal, GatheredIsKnown, GatheredHasValues, ValuesAreOne};
 
 /// A line has an include exactly where it is blanks, `#`, blanks, `include`, blanks, and a name between its signs.
 pub fn lines_include()
@@ -26,12 +26,17 @@ pub fn places_are_normal()
     ensures { PlacesAreNormal }
 {}
 
-/// All that a closure has gathered is known, by the values of the files that were scanned.
+/// The members of a closure are all that the step is known to read, by the values of the files that were scanned.
 pub fn gathered_is_known()
     ensures { GatheredIsKnown }
 {}
 
-/// Where no member of a closure is left to be scanned, the members are all that is known by these values.
-pub fn gathered_is_whole()
-    ensures { GatheredIsWhole }
+/// Where no member of a closure is left to be scanned, each has a value, so that no more can become known.
+pub fn gathered_has_values()
+    ensures { GatheredHasValues }
+{}
+
+/// No member of a closure was told two values.
+pub fn values_are_one()
+    ensures { ValuesAreOne }
 {}
