@@ -1,10 +1,9 @@
 -- What a file includes, by its lines, and what its includes are.
-use Rattle.std.proofs.Common.{◌≡◌, ◌↔◌, ℕ, zero, suc, ◌<◌, cond, Bool, true, false, List, [], ◌∷◌, All, Option, Some, None, inl, inr, ◌⊎◌, refl, sym, ap, subst, ◌∙◌, arith}
+use Rattle.std.proofs.Common.{◌≡◌, ℕ, zero, suc, cond, Bool, true, false, List, [], ◌∷◌, All, Option, Some, None, inl, inr, ◌⊎◌, refl, sym, ap, subst, ◌∙◌, arith}
 use Rattle.std.specs.List.{Contains, filter_map, cons_option}
-use Rattle.std.proofs.lemmas.List.Elements.{All-from_recursion, All-contains_itself, All-nil}
-use Rattle.b2_plan.specs.Sources.{Include}
-use Rattle.jam_scan.specs.IncludeLines.{IsName, IsIncludeLine, lines, include_of, includes_of}
-use Rattle.jam_scan.specs.Scans.{is_scanned, scan_of}
+use Rattle.std.proofs.lemmas.List.Elements.{All-contains_itself, All-nil}
+use Rattle.jam_scan.specs.IncludeLines.{IsName, lines, include_of, includes_of}
+use Rattle.jam_scan.specs.Scans.{is_scanned}
 use Rattle.jam_scan.specs.Laws.{FilesInclude, IncludesAreNamed}
 use Rattle.jam_scan.proofs.LinesAreIncludes.{lines_include}
 

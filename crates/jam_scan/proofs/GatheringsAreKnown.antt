@@ -1,14 +1,14 @@
 -- What was gathered is what is known, by the values that were told.
-use Rattle.std.proofs.Common.{◌≡◌, ◌≢◌, ◌↔◌, ℕ, zero, suc, ◌<◌, ◌≤◌, Bool, true, false, List, [], ◌∷◌, ◌++◌, length, get_or, All, Option, Some, None, ◌⊎◌, inl, inr, refl, sym, ap, subst, ◌∙◌, arith}
+use Rattle.std.proofs.Common.{◌≡◌, ◌≢◌, ℕ, ◌<◌, Bool, true, false, List, [], ◌∷◌, ◌++◌, length, get_or, Some, None, ◌⊎◌, inl, inr, refl, sym, ap, subst, ◌∙◌, arith}
 use Rattle.std.specs.List.{AllPairs, Contains, slice_get}
 use Rattle.std.proofs.lemmas.List.Elements.{Contains-append_left, Contains-push, Contains-push_cases}
 use Rattle.std.proofs.lemmas.Option.{slice_get_within, slice_get-get_or, get_or_from_slice_get}
 use Rattle.b2_plan.specs.declared.step.Step.{Step}
 use Rattle.b2_plan.specs.Sources.{Build, Includes}
-use Rattle.b2_plan.specs.Closures.{Value, Values, Known, Known.input, Known.include}
-use Rattle.jam_scan.specs.Gatherings.{Gathering, IsInOrder, nothing, with_paths, with_mark, with_scan, IsOpen, NoneOpen, AreFoundIn, IsGathered, IsGathered.begun, IsGathered.scanned, told_values}
+use Rattle.b2_plan.specs.Closures.{Value, Known, Known.input, Known.include}
+use Rattle.jam_scan.specs.Gatherings.{Gathering, IsInOrder, nothing, with_paths, with_scan, IsOpen, AreFoundIn, IsGathered, IsGathered.begun, IsGathered.scanned, told_values}
 use Rattle.jam_scan.specs.Laws.{GatheredIsKnown, GatheredHasValues, ValuesAreOne}
-use Rattle.jam_scan.proofs.GatheringsGrow.{Grows, grows, marked_in_order, set_there, set_or_stays, true_stays, contains_at, at_contains}
+use Rattle.jam_scan.proofs.GatheringsGrow.{Grows, grows, marks_stay, marked_in_order, set_there, set_or_stays, true_stays, at_contains}
 
 -- more values leave no less known
 known_stays : (b : Build) (step : Step) (told : List (List ℕ × Value)) (last : List ℕ × Value) (path : List ℕ) → Known b (told_values told) step path → Known b (told_values (told ++ last ∷ [])) step path
@@ -85,34 +85,34 @@ module _ (b : Build) (step : Step) (told : List (List ℕ × Value)) (g : Gather
     known = λ p c. elim (more.no_others p c) [
       | inl old ↦ known_stays b step told last p (tells.known p old)
       | inr among ↦
-        let (bytes, is, inc) = (exact p).0 among in
-        include path bytes p (known_stays b step told last path (tells.known path (at_contains g.members at path here))) (subst (λ v. Contains (told ++ last ∷ []) (path, v)) is (Contains-push told last)) inc
+          let (bytes, is, inc) = (exact p).0 among in
+          include path bytes p (known_stays b step told last path (tells.known path (at_contains g.members at path here))) (subst (λ v. Contains (told ++ last ∷ []) (path, v)) is (Contains-push told last)) inc
     ];
     whole = λ p bytes other c inc. elim (split (p, Some bytes) c) [
       | inl before ↦ more.stay other (tells.whole p bytes other before inc)
       | inr e ↦
-        let path_is : path ≡ p = ap (λ (x : List ℕ × Value). x.0) e in
-        let value_is : value ≡ Some bytes = ap (λ (x : List ℕ × Value). x.1) e in
-        more.come other ((exact other).1 (bytes, value_is, subst (λ q. Includes b step q bytes other) (sym path_is) inc))
+          let path_is : path ≡ p = ap (λ (x : List ℕ × Value). x.0) e in
+          let value_is : value ≡ Some bytes = ap (λ (x : List ℕ × Value). x.1) e in
+          more.come other ((exact other).1 (bytes, value_is, subst (λ q. Includes b step q bytes other) (sym path_is) inc))
     ];
     marked = λ p v c. elim (split (p, v) c) [
-      | inl before ↦ let (j, there, mark) = tells.marked p v before in (j, more.members j p there, true_stays h.scanned at j (more.marks j true mark))
-      | inr e ↦ (at, more.members at p (here ∙ ap (λ (x : List ℕ × Value). Some x.0) e), set_there h.scanned at true false (more.marks at false is_open))
+      | inl before ↦ let (j, there, mark) = tells.marked p v before in (j, more.members j p there, true_stays h.scanned at j (marks_stay g found j true mark))
+      | inr e ↦ (at, more.members at p (here ∙ ap (λ (x : List ℕ × Value). Some x.0) e), set_there h.scanned at true false (marks_stay g found at false is_open))
     ];
     valued = λ j p there mark. elim (set_or_stays h.scanned at true j true mark) [
       | inl same ↦
-        let is : Some path ≡ Some p = sym (more.members at path here) ∙ sym (ap (slice_get h.members) same) ∙ there in
-        let path_is : path ≡ p = cc in
-        (value, subst (λ q. Contains (told ++ last ∷ []) (q, value)) path_is (Contains-push told last))
+          let is : Some path ≡ Some p = sym (more.members at path here) ∙ sym (ap (slice_get h.members) same) ∙ there in
+          let path_is : path ≡ p = cc in
+          (value, subst (λ q. Contains (told ++ last ∷ []) (q, value)) path_is (Contains-push told last))
       | inr old ↦
-        let was : slice_get g.scanned j ≡ Some true = more.none_marked j old in
-        let within : j < length g.members = omega (arith, slice_get_within g.scanned j true was, tells.order.as_many) in
-        let d : List ℕ = get_or g.members j [] in
-        let before : slice_get g.members j ≡ Some d = slice_get-get_or g.members j [] within in
-        let (v, c) = tells.valued j d before was in
-        let is : Some d ≡ Some p = sym (more.members j d before) ∙ there in
-        let path_is : d ≡ p = cc in
-        (v, Contains-append_left told (last ∷ []) (p, v) (subst (λ q. Contains told (q, v)) path_is c))
+          let was : slice_get g.scanned j ≡ Some true = more.none_marked j old in
+          let within : j < length g.members = omega (arith, slice_get_within g.scanned j true was, tells.order.as_many) in
+          let d : List ℕ = get_or g.members j [] in
+          let before : slice_get g.members j ≡ Some d = slice_get-get_or g.members j [] within in
+          let (v, c) = tells.valued j d before was in
+          let is : Some d ≡ Some p = sym (more.members j d before) ∙ there in
+          let path_is : d ≡ p = cc in
+          (v, Contains-append_left told (last ∷ []) (p, v) (subst (λ q. Contains told (q, v)) path_is c))
     ];
     one = λ p x y c d. elim (split (p, x) c) [
       | inl c_before ↦ elim (split (p, y) d) [

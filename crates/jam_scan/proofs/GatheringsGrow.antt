@@ -1,17 +1,17 @@
 -- A gathering to which paths are added keeps what it has, and one that is marked keeps the rest.
-use Rattle.std.proofs.Common.{◌≡◌, ◌≢◌, ℕ, zero, suc, ◌+◌, ◌-◌, ◌<◌, ◌≤◌, Bool, true, false, cond, ◌||◌, is_some, List, [], ◌∷◌, ◌++◌, length, take, drop, get_or, set, Option, Some, None, ◌⊎◌, inl, inr, refl, sym, ap, ap₂, subst, ◌∙◌, arith, length-append}
+use Rattle.std.proofs.Common.{◌≡◌, ◌≢◌, ℕ, zero, suc, ◌+◌, Bool, true, false, cond, ◌||◌, is_some, List, [], ◌∷◌, ◌++◌, take, drop, get_or, set, Option, Some, None, ◌⊎◌, inl, inr, refl, sym, ap, subst, ◌∙◌, arith, length-append}
+use Rattle.std.specs.Borrow.{Bor}
+use Rattle.std.specs.Option.{option_copied}
 use Rattle.std.specs.FinMap.{FinMap, get, insert}
 use Rattle.std.specs.Ordering.{nat_cmp}
 use Rattle.std.specs.Cmp.Lexicographic.{slice_cmp}
-use Rattle.std.specs.List.{AllPairs, Contains, list_any, slice_get, fold}
+use Rattle.std.specs.List.{Contains, slice_get}
 use Rattle.std.specs.Str.{bytes_eq}
 use Rattle.std.proofs.lemmas.Bool.{both_ways}
-use Rattle.std.proofs.lemmas.List.{length-set, take-append-drop, take_all}
+use Rattle.std.proofs.lemmas.List.{length-set, take-append-drop}
 use Rattle.std.proofs.lemmas.List.Elements.{Contains-append_left, Contains-push, Contains-push_cases}
-use Rattle.std.proofs.lemmas.List.Folds.{list_any-append, list_any_at, Any-from_list_any}
+use Rattle.std.proofs.lemmas.List.Folds.{list_any-append, list_any_at}
 use Rattle.std.proofs.lemmas.List.Quantifiers.{all_pairs_push}
-use Rattle.std.proofs.lemmas.List.Sums.{fold_more}
-use Rattle.std.proofs.lemmas.Option.{slice_get_within}
 use Rattle.std.proofs.lemmas.Slice.Eq.{bytes_eq-Decides}
 use Rattle.b2_plan.proofs.MakersGrowByOne.{get_put}
 use Rattle.jam_scan.specs.Gatherings.{Gathering, IsInOrder, gathering, is_among, with_path, with_paths, with_mark, HasSomeOf}
@@ -108,11 +108,22 @@ map_more m value members path agrees p =
 pub some_so_far : (before after : Gathering) (paths : List (List ℕ)) (i : ℕ) → after ≡ with_paths before (take i paths) → HasSomeOf before paths after
 some_so_far before after paths i e = record { came = take i paths; left = drop i paths; paths_are = sym (take-append-drop i paths); after_is = e }
 
+one_mark_stays : (g : Gathering) (path : List ℕ) (at : ℕ) (mark : Bool) → slice_get g.scanned at ≡ Some mark → slice_get (with_path g path).scanned at ≡ Some mark
+one_mark_stays g path at mark e = go (is_among g.members path) refl
+  where
+    go : (b : Bool) → is_among g.members path ≡ b → slice_get (with_path g path).scanned at ≡ Some mark
+    go true there = ap (λ h. slice_get h.scanned at) (path_there g path there) ∙ e
+    go false absent = ap (λ h. slice_get h.scanned at) (path_new g path absent) ∙ front_stays g.scanned (false ∷ []) at mark e
+
+-- what is told of a place stays
+pub marks_stay : (g : Gathering) (paths : List (List ℕ)) (at : ℕ) (mark : Bool) → slice_get g.scanned at ≡ Some mark → slice_get (with_paths g paths).scanned at ≡ Some mark
+marks_stay g [] at mark e = e
+marks_stay g (path ∷ paths) at mark e = marks_stay (with_path g path) paths at mark (one_mark_stays g path at mark e)
+
 -- what stays and what comes as paths are added
 pub record Grows (g : Gathering) (paths : List (List ℕ)) (h : Gathering) : Type 0 where
   pub order : IsInOrder h
   pub members : (at : ℕ) (path : List ℕ) → slice_get g.members at ≡ Some path → slice_get h.members at ≡ Some path
-  pub marks : (at : ℕ) (mark : Bool) → slice_get g.scanned at ≡ Some mark → slice_get h.scanned at ≡ Some mark
   pub none_marked : (at : ℕ) → slice_get h.scanned at ≡ Some true → slice_get g.scanned at ≡ Some true
   pub stay : (path : List ℕ) → Contains g.members path → Contains h.members path
   pub come : (path : List ℕ) → Contains paths path → Contains h.members path
@@ -123,11 +134,11 @@ grows_by_one g path order = go (is_among g.members path) refl
   where
     is_it : (p : List ℕ) → Contains (path ∷ []) p → path ≡ p
     is_it p c = elim (contains_cases path p [] c) [ inl e ↦ e | inr later ↦ absurd (omega (arith, later.1)) ]
+
     go : (b : Bool) → is_among g.members path ≡ b → Grows g (path ∷ []) (with_path g path)
     go true there = subst (Grows g (path ∷ [])) (sym (path_there g path there)) (record {
       order = order;
       members = λ at p e. e;
-      marks = λ at mark e. e;
       none_marked = λ at e. e;
       stay = λ p c. c;
       come = λ p c. subst (Contains g.members) (is_it p c) (among_is g.members path there);
@@ -136,7 +147,6 @@ grows_by_one g path order = go (is_among g.members path) refl
     go false absent = subst (Grows g (path ∷ [])) (sym (path_new g path absent)) (record {
       order = in_order_more g.members g.scanned path order absent;
       members = λ at p e. front_stays g.members (path ∷ []) at p e;
-      marks = λ at mark e. front_stays g.scanned (false ∷ []) at mark e;
       none_marked = λ at e. elim (front_or_last g.scanned false at true e) [ inl old ↦ old | inr new ↦ cc ];
       stay = λ p c. Contains-append_left g.members (path ∷ []) p c;
       come = λ p c. subst (Contains (g.members ++ path ∷ [])) (is_it p c) (Contains-push g.members path);
@@ -147,7 +157,6 @@ pub grows : (g : Gathering) (paths : List (List ℕ)) → IsInOrder g → Grows 
 grows g [] order = record {
   order = order;
   members = λ at p e. e;
-  marks = λ at mark e. e;
   none_marked = λ at e. e;
   stay = λ p c. c;
   come = λ p c. absurd (omega (arith, c.1));
@@ -159,7 +168,6 @@ grows g (path ∷ paths) order =
     record {
       order = more.order;
       members = λ at p e. more.members at p (one.members at p e);
-      marks = λ at mark e. more.marks at mark (one.marks at mark e);
       none_marked = λ at e. one.none_marked at (more.none_marked at e);
       stay = λ p c. more.stay p (one.stay p c);
       come = λ p c. elim (contains_cases path p paths c) [ inl e ↦ more.stay p (one.come p (subst (Contains (path ∷ [])) e (contains_here path []))) | inr later ↦ more.come p later ];
@@ -172,3 +180,22 @@ grows g (path ∷ paths) order =
 -- a marked gathering is in order
 pub marked_in_order : (g : Gathering) (at : ℕ) → IsInOrder g → IsInOrder (with_mark g at)
 marked_in_order g at order = record { distinct = order.distinct; as_many = length-set g.scanned at true ∙ order.as_many }
+
+-- ---- the fields of a closure
+
+copied_some : {V : Type 0} (r : Option (Bor V)) → is_some (option_copied r) ≡ is_some r
+copied_some None = refl
+copied_some (Some x) = refl
+
+-- what the map finds tells whether a path is a member
+pub found_among : {V : Type 0} (m : FinMap (slice_cmp nat_cmp) V) (members : List (List ℕ)) (text path : List ℕ) (r : Option (Bor V)) → option_copied r ≡ get m text → text ≡ path → ((p : List ℕ) → is_some (get m p) ≡ is_among members p) → is_some r ≡ is_among members path
+found_among m members text path r found same agrees = sym (copied_some r) ∙ ap is_some found ∙ ap (λ t. is_some (get m t)) same ∙ agrees path
+
+-- one more path in the lists and in the map
+pub path_added : {V : Type 0} (m n : FinMap (slice_cmp nat_cmp) V) (value : V) (members more : List (List ℕ)) (scanned marks : List Bool) (path : List ℕ)
+    → IsInOrder (gathering members scanned) × ((p : List ℕ) → is_some (get m p) ≡ is_among members p) → is_among members path ≡ false → more ≡ members ++ path ∷ [] → marks ≡ scanned ++ false ∷ [] → n ≡ insert m path value
+    → IsInOrder (gathering more marks) × ((p : List ℕ) → is_some (get n p) ≡ is_among more p)
+path_added m n value members more scanned marks path kept absent e f i = (
+  subst (λ ms. IsInOrder (gathering ms marks)) (sym e) (subst (λ ss. IsInOrder (gathering (members ++ path ∷ []) ss)) (sym f) (in_order_more members scanned path kept.0 absent)),
+  λ p. ap (λ x. is_some (get x p)) i ∙ map_more m value members path kept.1 p ∙ ap (λ ms. is_among ms p) (sym e),
+)

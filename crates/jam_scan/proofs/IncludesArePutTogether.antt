@@ -36,6 +36,7 @@ closed quoted text rest front r opened ends is =
     paired : (r : Option (Bor (List ℕ))) → option_map {T = Bor (List ℕ)} {U = Include} (λ name. (name.now, quoted)) r ≡ option_map {T = List ℕ} {U = Include} (λ name. (name, quoted)) (option_map (λ name. name.now) r)
     paired None = refl
     paired (Some name) = refl
+
     by_name : (b : Bool) → option_map {T = List ℕ} {U = Include} (λ name. (name, quoted)) (cond b (Some front) None) ≡ cond b (Some (front, quoted)) None
     by_name true = refl
     by_name false = refl

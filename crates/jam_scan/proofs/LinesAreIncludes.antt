@@ -1,6 +1,5 @@
 -- A line has an include exactly where it is one.
-use Rattle.std.proofs.Common.{◌≡◌, ◌↔◌, ℕ, eqb, cond, Bool, true, false, List, [], ◌∷◌, ◌++◌, get_or, All, Option, Some, None, option_and_then, refl, sym, ap, subst, ◌∙◌, append_assoc, codes, ◌+◌, ◌<◌, length, arith}
-use Rattle.std.specs.List.{Contains}
+use Rattle.std.proofs.Common.{◌≡◌, ℕ, eqb, cond, Bool, true, false, List, [], ◌∷◌, ◌++◌, get_or, All, Option, Some, None, option_and_then, refl, sym, ap, subst, ◌∙◌, append_assoc, codes, length}
 use Rattle.std.proofs.lemmas.List.Elements.{All-append, All-take, All-drop}
 use Rattle.std.proofs.lemmas.List.{take_at, drop_at}
 use Rattle.std.proofs.lemmas.Option.{option_and_then_some}
@@ -8,7 +7,7 @@ use Rattle.b2_base.specs.Bytes.{Lacks}
 use Rattle.b2_plan.specs.Sources.{Include}
 use Rattle.jam_scan.specs.IncludeLines.{IsName, IsIncludeLine, is_blank, opening, closing, after_blanks, after_word, before_sign, is_name, named, enclosed, include_at, after_directive, include_of}
 use Rattle.jam_scan.specs.Laws.{LinesInclude}
-use Rattle.jam_scan.proofs.PartsOfLinesAreRead.{word_there, word_tells, blanks_over, front_blanks, blanks_before, blanks_blank, EndsAt, sign_there, sign_tells, name_tells, name_so}
+use Rattle.jam_scan.proofs.PartsOfLinesAreRead.{word_there, word_tells, blanks_over, front_blanks, blanks_before, blanks_blank, sign_there, sign_tells, name_tells, name_so}
 
 -- ---- a name between its signs
 
@@ -31,17 +30,17 @@ pub enclosed_tells : (quoted : Bool) (text : List ℕ) (include : Include) → e
 unfolding enclosed
 enclosed_tells quoted text include e =
     option_and_then_some (named quoted) (option_and_then (before_sign (closing quoted)) (after_word (opening quoted ∷ []) text)) include e (λ name found is.
-      option_and_then_some (before_sign (closing quoted)) (after_word (opening quoted ∷ []) text) name found (λ after opened closes.
-        let ends = sign_tells (closing quoted) after name closes in
-        let so = named_tells quoted name include is in
-        let same : include.0 ≡ name = ap (λ (i : Include). i.0) so.1 in
-        record {
-          rest = ends.rest;
-          text_is = word_tells (opening quoted ∷ []) text after opened ∙ ap (λ a. opening quoted ∷ a) ends.text_is ∙ ap (λ n. opening quoted ∷ n ++ closing quoted ∷ ends.rest) (sym same);
-          quoted_is = ap (λ (i : Include). i.1) so.1;
-          name = subst IsName (sym same) so.0;
-          ends = subst (Lacks (closing quoted)) (sym same) ends.lacks;
-        }))
+    option_and_then_some (before_sign (closing quoted)) (after_word (opening quoted ∷ []) text) name found (λ after opened closes.
+    let ends = sign_tells (closing quoted) after name closes in
+    let so = named_tells quoted name include is in
+    let same : include.0 ≡ name = ap (λ (i : Include). i.0) so.1 in
+    record {
+      rest = ends.rest;
+      text_is = word_tells (opening quoted ∷ []) text after opened ∙ ap (λ a. opening quoted ∷ a) ends.text_is ∙ ap (λ n. opening quoted ∷ n ++ closing quoted ∷ ends.rest) (sym same);
+      quoted_is = ap (λ (i : Include). i.1) so.1;
+      name = subst IsName (sym same) so.0;
+      ends = subst (Lacks (closing quoted)) (sym same) ends.lacks;
+    }))
 
 enclosed_so : (quoted : Bool) (name rest : List ℕ) → IsName name → Lacks (closing quoted) name → enclosed quoted (opening quoted ∷ name ++ closing quoted ∷ rest) ≡ Some (name, quoted)
 unfolding enclosed named
@@ -83,15 +82,15 @@ directive_tells : (line after : List ℕ) → after_directive line ≡ Some afte
 unfolding after_directive
 directive_tells line after e =
     option_and_then_some (λ rest. after_word (codes "include") (after_blanks rest)) (after_word (codes "#") (after_blanks line)) after e (λ next hash include.
-      let line_is : line ≡ front_blanks line ++ 35 ∷ next = blanks_before line ∙ ap (λ t. front_blanks line ++ t) (word_tells (codes "#") (after_blanks line) next hash) in
-      let next_is : next ≡ front_blanks next ++ (codes "include" ++ after) = blanks_before next ∙ ap (λ t. front_blanks next ++ t) (word_tells (codes "include") (after_blanks next) after include) in
-      record {
-        before = front_blanks line;
-        between = front_blanks next;
-        line_is = line_is ∙ ap (λ t. front_blanks line ++ 35 ∷ t) next_is;
-        first = blanks_blank line;
-        second = blanks_blank next;
-      })
+    let line_is : line ≡ front_blanks line ++ 35 ∷ next = blanks_before line ∙ ap (λ t. front_blanks line ++ t) (word_tells (codes "#") (after_blanks line) next hash) in
+    let next_is : next ≡ front_blanks next ++ (codes "include" ++ after) = blanks_before next ∙ ap (λ t. front_blanks next ++ t) (word_tells (codes "include") (after_blanks next) after include) in
+    record {
+      before = front_blanks line;
+      between = front_blanks next;
+      line_is = line_is ∙ ap (λ t. front_blanks line ++ 35 ∷ t) next_is;
+      first = blanks_blank line;
+      second = blanks_blank next;
+    })
 
 -- the parts of a line, grouped from the left or from the right
 grouped : (before between behind name rest : List ℕ) (first last : ℕ) → before ++ codes "#" ++ between ++ codes "include" ++ behind ++ first ∷ name ++ last ∷ rest ≡ before ++ 35 ∷ (between ++ (codes "include" ++ (behind ++ first ∷ (name ++ last ∷ rest))))
@@ -101,23 +100,23 @@ reads : (line : List ℕ) (include : Include) → include_of line ≡ Some inclu
 unfolding include_of
 reads line include e =
     option_and_then_some (λ rest. include_at (after_blanks rest)) (after_directive line) include e (λ after directive is.
-      let d = directive_tells line after directive in
-      let quoted : Bool = eqb (get_or (after_blanks after) 0 0) (opening true) in
-      let n = enclosed_tells quoted (after_blanks after) include is in
-      let behind : List ℕ = front_blanks after in
-      let q : quoted ≡ include.1 = sym n.quoted_is in
-      let text : after_blanks after ≡ opening include.1 ∷ include.0 ++ closing include.1 ∷ n.rest = n.text_is ∙ ap (λ b. opening b ∷ include.0 ++ closing b ∷ n.rest) q in
-      let after_is : after ≡ behind ++ opening include.1 ∷ (include.0 ++ closing include.1 ∷ n.rest) = blanks_before after ∙ ap (λ t. behind ++ t) text in
-      record {
-        before = d.before;
-        between = d.between;
-        behind = behind;
-        rest = n.rest;
-        line_is = d.line_is ∙ ap (λ t. d.before ++ 35 ∷ (d.between ++ (codes "include" ++ t))) after_is ∙ sym (grouped d.before d.between behind include.0 n.rest (opening include.1) (closing include.1));
-        blanks = All-append (λ byte. is_blank byte ≡ true) (d.before ++ d.between) behind (All-append (λ byte. is_blank byte ≡ true) d.before d.between d.first d.second) (blanks_blank after);
-        name = n.name;
-        ends = subst (λ b. Lacks (closing b) include.0) q n.ends;
-      })
+    let d = directive_tells line after directive in
+    let quoted : Bool = eqb (get_or (after_blanks after) 0 0) (opening true) in
+    let n = enclosed_tells quoted (after_blanks after) include is in
+    let behind : List ℕ = front_blanks after in
+    let q : quoted ≡ include.1 = sym n.quoted_is in
+    let text : after_blanks after ≡ opening include.1 ∷ include.0 ++ closing include.1 ∷ n.rest = n.text_is ∙ ap (λ b. opening b ∷ include.0 ++ closing b ∷ n.rest) q in
+    let after_is : after ≡ behind ++ opening include.1 ∷ (include.0 ++ closing include.1 ∷ n.rest) = blanks_before after ∙ ap (λ t. behind ++ t) text in
+    record {
+      before = d.before;
+      between = d.between;
+      behind = behind;
+      rest = n.rest;
+      line_is = d.line_is ∙ ap (λ t. d.before ++ 35 ∷ (d.between ++ (codes "include" ++ t))) after_is ∙ sym (grouped d.before d.between behind include.0 n.rest (opening include.1) (closing include.1));
+      blanks = All-append (λ byte. is_blank byte ≡ true) (d.before ++ d.between) behind (All-append (λ byte. is_blank byte ≡ true) d.before d.between d.first d.second) (blanks_blank after);
+      name = n.name;
+      ends = subst (λ b. Lacks (closing b) include.0) q n.ends;
+    })
 
 -- what holds of each element of two lists, of the first and of the second
 all_left : (P : ℕ → Type 0) (xs ys : List ℕ) → All P (xs ++ ys) → All P xs

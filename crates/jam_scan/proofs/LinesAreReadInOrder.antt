@@ -1,6 +1,6 @@
 -- The includes of a file are those of its first line, and then those of the rest.
-use Rattle.std.proofs.Common.{◌≡◌, ℕ, ◌+◌, ◌-◌, ◌<◌, ◌≤◌, eqb, false, List, [], ◌∷◌, ◌++◌, length, take, drop, get_or, Option, Some, None, refl, sym, ap, ◌∙◌, arith, append_assoc}
-use Rattle.std.specs.List.{slice_split, position_or_len, before_first, after_first, filter_map, cons_option}
+use Rattle.std.proofs.Common.{◌≡◌, ℕ, ◌+◌, ◌-◌, ◌≤◌, eqb, List, [], ◌++◌, length, take, drop, Option, Some, None, refl, sym, ap, ◌∙◌, arith, append_assoc}
+use Rattle.std.specs.List.{slice_split, position_or_len, filter_map, cons_option}
 use Rattle.std.specs.Option.{option_to_list}
 use Rattle.std.proofs.lemmas.Bool.{false_from_ne_true}
 use Rattle.std.proofs.lemmas.List.{get_or_default, append-nil, take_all, drop-drop, length-drop}
@@ -8,7 +8,7 @@ use Rattle.std.proofs.lemmas.List.Splits.{slice_split_first, slice_split_none}
 use Rattle.memchr.specs.Find.{Nowhere, NoneBefore, Passes, is_byte}
 use Rattle.b2_base.specs.Bytes.{line_feed}
 use Rattle.b2_plan.specs.Sources.{Include}
-use Rattle.jam_scan.specs.IncludeLines.{lines, include_of, includes_of}
+use Rattle.jam_scan.specs.IncludeLines.{include_of, includes_of}
 use Rattle.jam_scan.proofs.PartsOfLinesAreRead.{sign_place}
 
 cons_is_append : {X : Type 0} (o : Option X) (xs : List X) → cons_option o xs ≡ option_to_list o ++ xs

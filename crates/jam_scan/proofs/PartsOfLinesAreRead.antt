@@ -1,16 +1,16 @@
 -- What the parts of a line are, of which an include is put together.
-use Rattle.std.proofs.Common.{◌≡◌, ◌≢◌, ◌↔◌, ℕ, zero, suc, ◌+◌, ◌<◌, ◌≤◌, eqb, ltb, Bool, true, false, not, cond, ◌&&◌, List, [], ◌∷◌, ◌++◌, length, take, drop, get_or, All, Option, Some, None, MatchOption, option_map, refl, sym, ap, subst, ◌∙◌, arith, append_assoc, length-append, add_comm, add-one, ◌||◌}
+use Rattle.std.proofs.Common.{◌≡◌, ℕ, ◌+◌, eqb, ltb, Bool, true, false, not, cond, ◌&&◌, List, [], ◌∷◌, ◌++◌, length, take, drop, get_or, All, Option, Some, None, MatchOption, option_map, refl, sym, ap, subst, ◌∙◌, arith, add_comm, add-one, ◌||◌}
 use Rattle.std.specs.Borrow.{Bor}
-use Rattle.std.specs.List.{prefix_len, position_or_len, before_first, after_first, list_any, list_all}
-use Rattle.std.specs.Str.{IsUtf8, is_utf8, bytes_eq}
+use Rattle.std.specs.List.{prefix_len, position_or_len, before_first, list_any, list_all}
+use Rattle.std.specs.Str.{is_utf8, bytes_eq}
 use Rattle.std.proofs.lemmas.Bool.{and_parts, and_from, not-true, not_from_false, ltb-true, lt-ltb, eqb-true, eqb-false, eq-eqb, ne_eqb, false_from_ne_true}
-use Rattle.std.proofs.lemmas.List.{take_at, drop_at, take-append-drop, get_or_default, length-take}
+use Rattle.std.proofs.lemmas.List.{take_at, drop_at, take-append-drop, get_or_default}
 use Rattle.std.proofs.lemmas.List.Folds.{list_any_at, list_any_none}
-use Rattle.std.proofs.lemmas.List.Sums.{AllPass-from_list_all, list_all-from_AllPass, position_or_len_is, split_at_first, prefix_len_is, prefix_len_passes, prefix_len-le-length, fails_before_first, passes_at_first}
+use Rattle.std.proofs.lemmas.List.Sums.{AllPass-from_list_all, list_all-from_AllPass, position_or_len_is}
 use Rattle.std.proofs.lemmas.Slice.Eq.{bytes_eq-Decides}
 use Rattle.std.proofs.lemmas.Str.{IsUtf8-from_is_utf8, is_utf8-from_IsUtf8}
-use Rattle.memchr.specs.Find.{IsFirstByte, Nowhere, NoneBefore, Passes, is_byte}
-use Rattle.b2_base.specs.Bytes.{HasNoZero, Lacks}
+use Rattle.memchr.specs.Find.{Nowhere, NoneBefore, Passes, is_byte}
+use Rattle.b2_base.specs.Bytes.{Lacks}
 use Rattle.jam_scan.specs.IncludeLines.{IsName, is_blank, after_blanks, after_word, before_sign, is_name}
 
 -- ---- a word at the front
@@ -101,6 +101,7 @@ sign_there sign front rest lacks =
     found : (front : List ℕ) → list_any (λ byte. eqb byte sign) (front ++ sign ∷ rest) ≡ true
     found [] = rw (eq-eqb sign sign refl) refl
     found (x ∷ xs) = rw (found xs) (grind arith)
+
     counted : (front : List ℕ) → Lacks sign front → position_or_len (λ byte. eqb byte sign) (front ++ sign ∷ rest) ≡ length front
     counted [] h = rw (eq-eqb sign sign refl) refl
     counted (x ∷ xs) h = rw (ne_eqb x sign h.0) (omega (arith, counted xs h.1))
@@ -118,6 +119,7 @@ one_before sign x xs front e more = go (eqb x sign) (list_any p xs) refl refl e
   where
     p : ℕ → Bool
     p = λ byte. eqb byte sign
+
     go : (b c : Bool) → eqb x sign ≡ b → list_any p xs ≡ c → cond (b || c) (Some (take (cond (not b) (1 + position_or_len p xs) 0) (x ∷ xs))) None ≡ Some front → EndsAt sign (x ∷ xs) front
     go true c here there e =
         let none : [] ≡ front = cc in

@@ -1,15 +1,12 @@
 -- The places of an include: beside the file, in the directories, or at a path from the root.
-use Rattle.std.proofs.Common.{◌≡◌, ℕ, eqb, cond, Bool, true, false, List, [], ◌∷◌, ◌++◌, map, get_or, All, Option, Some, None, MatchOption, refl, sym, ap, subst, ◌∙◌, lit<, codes, take, drop, ◌+◌, ◌≤◌, length}
-use Rattle.std.specs.Borrow.{Bor}
+use Rattle.std.proofs.Common.{◌≡◌, ℕ, eqb, cond, Bool, true, false, List, [], ◌∷◌, ◌++◌, map, get_or, All, ap, ◌∙◌, codes}
 use Rattle.std.specs.List.{list_any, before_last}
-use Rattle.std.specs.Str.Pattern.{RFindsChar}
-use Rattle.std.proofs.lemmas.List.Elements.{All-cons, All-nil, All-map, All-take}
-use Rattle.b2_base.specs.Bytes.{HasNoZero, Lacks}
+use Rattle.std.proofs.lemmas.List.Elements.{All-cons, All-nil, All-map}
+use Rattle.b2_base.specs.Bytes.{Lacks}
 use Rattle.b2_base.specs.Normal.{IsNormal}
 use Rattle.b2_base.specs.Segments.{normal_of, is_rooted}
-use Rattle.b2_base.proofs.NamesAreCutAtLastSigns.{has_not, has_at, before_last_at, rsplit_parts}
+use Rattle.b2_base.proofs.NamesAreCutAtLastSigns.{has_not, has_at, before_last_at}
 use Rattle.b2_base.proofs.NormalMakesNormalForms.{is_normal_normal}
-use Rattle.b2_plan.specs.Sources.{Include}
 use Rattle.jam_scan.specs.Places.{in_dir, beside, places}
 use Rattle.jam_scan.specs.Laws.{PlacesAreNormal}
 

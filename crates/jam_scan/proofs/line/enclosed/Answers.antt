@@ -1,5 +1,5 @@
-use Rattle.std.proofs.Common.{◌≡◌, ◌∷◌, [], Some, None, sym, ap, ◌∙◌, option_map}
-use Rattle.jam_scan.specs.IncludeLines.{after_word, before_sign, opening, closing}
+use Rattle.std.proofs.Common.{◌∷◌, [], sym, ap, ◌∙◌, option_map}
+use Rattle.jam_scan.specs.IncludeLines.{after_word, before_sign}
 use Rattle.jam_scan.proofs.IncludesArePutTogether.{not_opened, not_closed, closed}
 use Rattle.jam_scan.proofs.line.enclosed.Goals as goal
 

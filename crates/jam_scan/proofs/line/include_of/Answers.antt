@@ -1,4 +1,4 @@
-use Rattle.std.proofs.Common.{◌≡◌, ap, ◌∙◌, Some, IfOk}
+use Rattle.std.proofs.Common.{◌≡◌, ap, ◌∙◌}
 use Rattle.std.proofs.lemmas.Result.{IfOk-weaker}
 use Rattle.jam_scan.specs.IncludeLines.{include_at, include_of}
 use Rattle.jam_scan.proofs.IncludesArePutTogether.{no_directive, directive}

@@ -2,7 +2,7 @@ use Rattle.std.proofs.Common.{◌≡◌, length, sym, ap, cond, Some, None, subs
 use Rattle.std.proofs.lemmas.Bool.{eqb-true, eqb-false, both_ways}
 use Rattle.std.proofs.lemmas.List.{nil_from_length}
 use Rattle.b2_base.specs.Bytes.{HasNoZero}
-use Rattle.jam_scan.specs.IncludeLines.{IsName, is_name}
+use Rattle.jam_scan.specs.IncludeLines.{IsName}
 use Rattle.jam_scan.proofs.PartsOfLinesAreRead.{name_not, name_so}
 use Rattle.jam_scan.proofs.line.name_of.Goals as goal
 use Rattle.jam_scan.proofs.line.name_of.Goals.{then-is_empty-via-then-is_empty, then-is_empty-via-else-is_empty+then-not-has_no_zero}

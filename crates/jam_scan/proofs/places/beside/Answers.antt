@@ -1,4 +1,4 @@
-use Rattle.std.proofs.Common.{◌≡◌, Some, None, lit<, sym, ap, subst, ◌∙◌, IfOk, take, length}
+use Rattle.std.proofs.Common.{◌≡◌, Some, None, lit<, sym, ap, ◌∙◌}
 use Rattle.std.proofs.lemmas.Result.{IfOk-weaker}
 use Rattle.b2_base.specs.Segments.{normal_of}
 use Rattle.b2_base.proofs.NamesAreCutAtLastSigns.{rsplit_parts}

@@ -1,5 +1,5 @@
-use Rattle.std.proofs.Common.{◌≡◌, arith, ap, sym, ◌∙◌, ◌++◌}
-use Rattle.jam_scan.specs.IncludeLines.{include_of, includes_of}
+use Rattle.std.proofs.Common.{arith}
+use Rattle.jam_scan.specs.IncludeLines.{includes_of}
 use Rattle.jam_scan.proofs.LinesAreReadInOrder.{line_more, line_last, take_rest}
 use Rattle.jam_scan.proofs.scan.includes.Goals as goal
 
