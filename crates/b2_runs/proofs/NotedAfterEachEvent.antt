@@ -1,4 +1,4 @@
-use Rattle.std.proofs.Common.{◌≡◌, ℕ, true, false, List, [], ◌∷◌, ◌++◌, inl, inr, sym, ap, subst, subst₂, ◌∙◌, ◌⊎◌, Option, Some, None}
+use Rattle.std.proofs.Common.{◌≡◌, ℕ, Bool, true, false, List, [], ◌∷◌, ◌++◌, inl, inr, sym, ap, subst, subst₂, ◌∙◌, ◌⊎◌, Option, Some, None}
 use Rattle.std.specs.List.{Contains}
 use Rattle.std.proofs.lemmas.Bool.Decides.{eqb_tells}
 use Rattle.std.proofs.lemmas.List.Elements.{Contains-append_left}
@@ -14,14 +14,16 @@ use Rattle.b2_log.specs.declared.line.LogLine.{LogLine}
 use Rattle.b2_log.specs.declared.line.LogLine.TheVariants as lines
 use Rattle.b2_log.specs.declared.line.Record.{Record}
 use Rattle.b2_log.specs.declared.line.Digests.{Digests}
+use Rattle.b2_log.specs.declared.line.ScanLine.{ScanLine}
 use Rattle.b2_log.specs.declared.subject.Subject.TheVariants as subjects
 use Rattle.b2_log.specs.Finding.{subject_of, find_record}
 use Rattle.b2_runs.specs.Staleness.{Update, NoneOlder, paths_with_bytes}
 use Rattle.b2_runs.specs.Records.{HasDigestsOf, IsRecordOf}
-use Rattle.b2_runs.specs.Runs.{Settled, Settled.source, Settled.done_well, Settled.fresh, IsRunSoFar}
+use Rattle.b2_runs.specs.Events.{IsOpen}
+use Rattle.b2_runs.specs.Runs.{Settled, Settled.source, Settled.done_well, Settled.fresh, CanStart, IsRunSoFar}
 use Rattle.b2_runs.specs.Soundness.{IsLoose, IsAllowedChange}
 use Rattle.b2_runs.specs.Afterwards.{IsNotedStep, IsMigrated, IsNoted}
-use Rattle.b2_runs.specs.NotedLaws.{OutsDiffer, NotedByRecord, NotedBesideLine, NotedBesideChange, NotedAtEntry, NotedAfterStart, NotedAfterChange, NotedAfterOtherEnd, NotedAfterLine, NotedAfterRecord, NotedAfterScan, NotedAfterMigration}
+use Rattle.b2_runs.specs.NotedLaws.{OutsDiffer, NotedByRecord, NotedBesideLine, NotedBesideChange}
 use Rattle.b2_runs.proofs.FirstElementOrLater.{some_element, Contains_nil}
 use Rattle.b2_runs.proofs.NumberHasOneStep.{one_step}
 use Rattle.b2_runs.proofs.MakerIsOne.{source_not_made}
@@ -34,7 +36,7 @@ use Rattle.b2_runs.proofs.SettledStays.{settled_after_start, settled_after_end, 
 use Rattle.b2_runs.proofs.RunGoesOn.{started_has_closure, done_was_started}
 use Rattle.b2_runs.proofs.JudgedByPresent.{none_older_move}
 
-pub noted_at_entry : NotedAtEntry
+pub noted_at_entry : (u : Update) (now : Folder) (log : List LogLine) → ((outs : List (List ℕ)) → find_record outs log ≡ find_record outs u.log) → IsNoted u [] now log
 noted_at_entry u now log same = record {
   recorded = λ i step members at done file closure. absurd (Contains_nil (Done i true) done);
   none_older = λ i step members at done file closure. absurd (Contains_nil (Done i true) done);
@@ -46,7 +48,7 @@ migrated_grows : (u : Update) (events more : List ChildEvent) (now : Folder) (lo
 migrated_grows u events more now log step grows g = record { by_digest = g.by_digest; members = g.members; closure = g.closure; inside = λ m x c. grows m (g.inside m x c); noted = g.noted }
 
 -- a start says nothing to the log
-pub noted_after_start : NotedAfterStart
+pub noted_after_start : (u : Update) (events : List ChildEvent) (now : Folder) (log : List LogLine) (i : ℕ) → Apart u.build.steps u.build.roots → CanStart u events i → IsNoted u events now log → IsNoted u (events ++ Start i ∷ []) now log
 noted_after_start u events now log i apart can n = record {
   recorded = λ k step members at done file closure. n.recorded k step members at (done_in_start events i k true done) file closure;
   none_older = λ k step members at done file closure. n.none_older k step members at (done_in_start events i k true done) file closure;
@@ -115,7 +117,7 @@ noted_beside_change u events before after log i step members apart d at none ins
     noted_move u before.now after.now log step members (unstarted_still u events before after apart d i step at none) (λ m y c. settled_still u events before after apart d m (inside m y c)) n
 
 -- what was noted of a step stays, while others write
-pub noted_after_change : NotedAfterChange
+pub noted_after_change : (u : Update) (events : List ChildEvent) (before after : Disk) (log : List LogLine) → Apart u.build.steps u.build.roots → IsRunSoFar u events → IsAllowedChange u events before after → IsNoted u events before.now log → IsNoted u events after.now log
 noted_after_change u events before after log apart run d n = record {
   recorded = λ i step members at done file closure. noted_move u before.now after.now log step members (outs i step at done) (ins i step members at done closure) (n.recorded i step members at done file closure);
   none_older = λ i step members at done file closure. none_older_move before.now after.now step members (outs i step at done) (ins i step members at done closure) (n.none_older i step members at done file closure);
@@ -138,7 +140,7 @@ noted_after_change u events before after log apart run d n = record {
     ins i step members at done closure m y c = settled_still u events before after apart d m (done_inside u events apart run i step members at (done_was_started u events i true run done) closure m y c)
 
 -- an end without a record says nothing to the log
-pub noted_after_other_end : NotedAfterOtherEnd
+pub noted_after_other_end : (u : Update) (events : List ChildEvent) (now : Folder) (log : List LogLine) (i : ℕ) (step : Step) (well : Bool) → Apart u.build.steps u.build.roots → IsOpen events i → step_at u.build.steps i ≡ Some step → (well ≡ true → step.notfile ≡ true) → IsNoted u events now log → IsNoted u (events ++ Done i well ∷ []) now log
 noted_after_other_end u events now log i step well apart opened at no_record n = record {
   recorded = λ k other members at_k done file closure. n.recorded k other members at_k (old k other at_k done file) file closure;
   none_older = λ k other members at_k done file closure. n.none_older k other members at_k (old k other at_k done file) file closure;
@@ -185,7 +187,7 @@ other_line u events now log line other n = record {
 about_other : (u : Update) → Apart u.build.steps u.build.roots → (i k : ℕ) (step other : Step) (line : LogLine) → step_at u.build.steps i ≡ Some step → step_at u.build.steps k ≡ Some other → subject_of line ≡ subjects.Outputs step.outs → (k ≡ i → ⊥) → subject_of line ≡ subjects.Outputs other.outs → ⊥
 about_other u apart i k step other line at at_k subject differ e = other_outs u i k step other apart at at_k (λ f. differ (sym f)) (outs_same step.outs other.outs (sym subject ∙ e))
 
-pub noted_after_line : NotedAfterLine
+pub noted_after_line : (u : Update) (events : List ChildEvent) (now : Folder) (log : List LogLine) (i : ℕ) (step : Step) (line : LogLine) → Apart u.build.steps u.build.roots → step_at u.build.steps i ≡ Some step → IsLoose events i → subject_of line ≡ subjects.Outputs step.outs → IsNoted u events now log → IsNoted u events now (log ++ line ∷ [])
 noted_after_line u events now log i step line apart at loose subject n =
     other_line u events now log line (λ k other at_k settled e.
     about_other u apart i k step other line at at_k subject (λ same. elim settled [
@@ -193,7 +195,7 @@ noted_after_line u events now log i step line apart at loose subject n =
       | inr none ↦ none (subst (λ j. Contains events (Start j)) (sym same) loose.0)
     ]) e) n
 
-pub noted_after_scan : NotedAfterScan
+pub noted_after_scan : (u : Update) (events : List ChildEvent) (now : Folder) (log : List LogLine) (s : ScanLine) → IsNoted u events now log → IsNoted u events now (log ++ lines.Scan s ∷ [])
 noted_after_scan u events now log s n = other_line u events now log (lines.Scan s) (λ k other at_k settled e. scan_is_other other.outs s e) n
 
 -- the record of a step is the last line on it
@@ -205,7 +207,9 @@ step_recorded u now log step members r is = record {
 }
 
 -- the record of a step that was done well is the last line on it, and says nothing of others
-pub noted_after_record : NotedAfterRecord
+pub noted_after_record : (u : Update) (events : List ChildEvent) (now : Folder) (log : List LogLine) (i : ℕ) (step : Step) (members : List (List ℕ × Value)) (r : Record) → Apart u.build.steps u.build.roots → IsNoted u events now log → IsOpen events i
+    → step_at u.build.steps i ≡ Some step → IsClosure u.build (Clean u.build) step members → IsRecordOf u now step members r → NoneOlder now step members
+    → IsNoted u (events ++ Done i true ∷ []) now (log ++ lines.Record r ∷ [])
 noted_after_record u events now log i step members r apart n opened at closure is older = record {
   recorded = λ k other others at_k done file close_k. elim (done_in_done events i k true true done) [
     | inl before ↦ line_for u now log other others (lines.Record r) (other_step k other at_k (λ e. opened.1 true (subst (λ j. Contains events (Done j true)) e before))) (n.recorded k other others at_k before file close_k)
@@ -237,7 +241,9 @@ pub same_or_not : (i k : ℕ) → (i ≡ k) ⊎ (i ≡ k → ⊥)
 same_or_not i k = elim (eqb_tells i k) [ inl e ↦ inl e.1 | inr e ↦ inr e.1 ]
 
 -- so has the record with digests of a step that was not started
-pub noted_after_migration : NotedAfterMigration
+pub noted_after_migration : (u : Update) (events : List ChildEvent) (now : Folder) (log : List LogLine) (i : ℕ) (step : Step) (members : List (List ℕ × Value)) (r : Record) → Apart u.build.steps u.build.roots → IsNoted u events now log → u.by_digest ≡ true
+    → step_at u.build.steps i ≡ Some step → (Contains events (Start i) → ⊥) → (Contains events (Done i true) → ⊥) → IsClosure u.build (Clean u.build) step members → ((member : List ℕ) (value : Value) → Contains members (member, value) → Settled u events member) → IsRecordOf u now step members r
+    → IsNoted u events now (log ++ lines.Record r ∷ [])
 noted_after_migration u events now log i step members r apart n on at not_started not_done closure inside is = record {
   recorded = λ k other others at_k done file close_k.
       line_for u now log other others (lines.Record r) (other_step k other at_k (λ e. not_done (subst (λ j. Contains events (Done j true)) e done))) (n.recorded k other others at_k done file close_k);

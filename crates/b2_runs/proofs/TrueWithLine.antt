@@ -1,12 +1,12 @@
 use Rattle.std.proofs.Common.{ℕ, List, [], ◌∷◌, inl, inr, subst}
 use Rattle.std.specs.List.{Contains, AllZip}
-use Rattle.std.proofs.lemmas.List.Elements.{Contains-push_cases, Contains-append_left}
+use Rattle.std.proofs.lemmas.List.Elements.{Contains-push_cases}
 use Rattle.b2_host.specs.Disks.{Past}
 use Rattle.b2_log.specs.declared.line.Record.{Record}
 use Rattle.b2_log.specs.declared.line.ScanLine.{ScanLine}
 use Rattle.b2_log.specs.declared.line.LogLine.TheVariants as lines
 use Rattle.b2_runs.specs.Logs.{Making, InputStood, IsTrueRecord, IsTrueScan, IsTrueLine, LogTrue}
-use Rattle.b2_runs.specs.LogLaws.{TrueByKind, EmptyIsTrue, LineTrueAsPastGrows, TrueAsPastGrows, TrueWithLine, TruePrefix, TrueAfterTornAppend, TrueWithFewer, ScansTrueWithLine, ScansTrueAsPastGrows, ScansTrueWithFewer}
+use Rattle.b2_runs.specs.LogLaws.{TrueByKind, EmptyIsTrue, LineTrueAsPastGrows, TrueAsPastGrows, TrueWithLine, TrueWithFewer, ScansTrueAsPastGrows, ScansTrueWithFewer}
 use Rattle.b2_runs.proofs.FirstElementOrLater.{Contains_nil}
 
 pub true_by_kind : TrueByKind
@@ -45,20 +45,9 @@ true_as_past_grows m past more log grows old line c = line_grows m past more lin
 pub true_with_line : TrueWithLine
 true_with_line m past log new old t line c = elim (Contains-push_cases log new line c) [ inl d ↦ old line d | inr e ↦ subst (IsTrueLine m past) e t ]
 
--- any first lines of a true log are true
-pub true_prefix : TruePrefix
-true_prefix m past front rest whole line c = whole line (Contains-append_left front rest line c)
-
--- what a torn append leaves is true
-pub true_after_torn_append : TrueAfterTornAppend
-true_after_torn_append m past log front rest line old new e = true_prefix m past front rest (subst (LogTrue m past) e (true_with_line m past log line old new))
-
 -- any lines of a true log are true
 pub true_with_fewer : TrueWithFewer
 true_with_fewer m past log kept among whole line c = whole line (among line c)
-
-pub scans_true_with_line : ScansTrueWithLine
-scans_true_with_line m past log line old t s c = elim (Contains-push_cases log line (lines.Scan s) c) [ inl d ↦ old s d | inr e ↦ subst (IsTrueLine m past) e t ]
 
 pub scans_true_as_past_grows : ScansTrueAsPastGrows
 scans_true_as_past_grows m past more log grows old s c = scan_grows m past more s grows (old s c)

@@ -75,21 +75,9 @@ TrueAsPastGrows = (m : Making) (past more : List Past) (log : List LogLine) → 
 abbrev pub TrueWithLine : Type 0
 TrueWithLine = (m : Making) (past : List Past) (log : List LogLine) (line : LogLine) → LogTrue m past log → IsTrueLine m past line → LogTrue m past (log ++ line ∷ [])
 
--- what is left of a true log that was torn is true: any first lines of it
-abbrev pub TruePrefix : Type 0
-TruePrefix = (m : Making) (past : List Past) (front rest : List LogLine) → LogTrue m past (front ++ rest) → LogTrue m past front
-
--- so is what an append leaves that was torn, also one of a true line
-abbrev pub TrueAfterTornAppend : Type 0
-TrueAfterTornAppend = (m : Making) (past : List Past) (log front rest : List LogLine) (line : LogLine) → LogTrue m past log → IsTrueLine m past line → log ++ line ∷ [] ≡ front ++ rest → LogTrue m past front
-
 -- a log whose lines are all among those of a true log is true
 abbrev pub TrueWithFewer : Type 0
 TrueWithFewer = (m : Making) (past : List Past) (log kept : List LogLine) → ((line : LogLine) → Contains kept line → Contains log line) → LogTrue m past log → LogTrue m past kept
-
--- scan lines stay true where a true line is appended, whatever the records are
-abbrev pub ScansTrueWithLine : Type 0
-ScansTrueWithLine = (m : Making) (past : List Past) (log : List LogLine) (line : LogLine) → ScansTrue m past log → IsTrueLine m past line → ScansTrue m past (log ++ line ∷ [])
 
 -- true scan lines stay true where more has stood
 abbrev pub ScansTrueAsPastGrows : Type 0

@@ -11,56 +11,18 @@ use Rattle.b2_plan.specs.Cleans.{Clean}
 use Rattle.b2_log.specs.declared.line.Record.{Record}
 use Rattle.b2_log.specs.declared.line.LogLine.{LogLine}
 use Rattle.b2_log.specs.declared.line.LogLine.TheVariants as lines
-use Rattle.b2_log.specs.declared.line.ScanLine.{ScanLine}
 use Rattle.b2_log.specs.declared.subject.Subject.TheVariants as subjects
-use Rattle.b2_log.specs.Finding.{subject_of, find_record}
+use Rattle.b2_log.specs.Finding.{subject_of}
 use Rattle.b2_runs.specs.Staleness.{Update, NoneOlder, IsFresh}
 use Rattle.b2_runs.specs.Records.{IsRecordOf}
-use Rattle.b2_runs.specs.Events.{IsOpen}
-use Rattle.b2_runs.specs.Runs.{Settled, CanStart, IsRunSoFar, IsBegun}
+use Rattle.b2_runs.specs.Runs.{Settled, IsBegun}
 use Rattle.b2_runs.specs.Outcomes.{IsFailed, LeavesNothing}
-use Rattle.b2_runs.specs.Soundness.{IsLoose, IsAllowedChange, AreAtWork}
-use Rattle.b2_runs.specs.Afterwards.{next_update, NoneDoneOlder, IsNotedStep, IsNoted}
-
--- before any event a log is right that says what the one at entry said
-abbrev pub NotedAtEntry : Type 0
-NotedAtEntry = (u : Update) (now : Folder) (log : List LogLine) → ((outs : List (List ℕ)) → find_record outs log ≡ find_record outs u.log) → IsNoted u [] now log
-
--- it stays right as a step starts
-abbrev pub NotedAfterStart : Type 0
-NotedAfterStart = (u : Update) (events : List ChildEvent) (now : Folder) (log : List LogLine) (i : ℕ) → Apart u.build.steps u.build.roots → CanStart u events i → IsNoted u events now log → IsNoted u (events ++ Start i ∷ []) now log
-
--- it stays right as steps that run or failed change their outputs
-abbrev pub NotedAfterChange : Type 0
-NotedAfterChange = (u : Update) (events : List ChildEvent) (before after : Disk) (log : List LogLine) → Apart u.build.steps u.build.roots → IsRunSoFar u events → IsAllowedChange u events before after → IsNoted u events before.now log → IsNoted u events after.now log
-
--- it stays right as a step is done badly, or as one is done that has no record
-abbrev pub NotedAfterOtherEnd : Type 0
-NotedAfterOtherEnd = (u : Update) (events : List ChildEvent) (now : Folder) (log : List LogLine) (i : ℕ) (step : Step) (well : Bool) → Apart u.build.steps u.build.roots → IsOpen events i → step_at u.build.steps i ≡ Some step → (well ≡ true → step.notfile ≡ true) → IsNoted u events now log → IsNoted u (events ++ Done i well ∷ []) now log
-
--- it stays right as a line is appended for the outputs of a step that runs or failed, as one that drops its record
-abbrev pub NotedAfterLine : Type 0
-NotedAfterLine = (u : Update) (events : List ChildEvent) (now : Folder) (log : List LogLine) (i : ℕ) (step : Step) (line : LogLine) → Apart u.build.steps u.build.roots → step_at u.build.steps i ≡ Some step → IsLoose events i → subject_of line ≡ subjects.Outputs step.outs → IsNoted u events now log → IsNoted u events now (log ++ line ∷ [])
-
--- it stays right as a step is done well and its record is appended
-abbrev pub NotedAfterRecord : Type 0
-NotedAfterRecord = (u : Update) (events : List ChildEvent) (now : Folder) (log : List LogLine) (i : ℕ) (step : Step) (members : List (List ℕ × Value)) (r : Record) → Apart u.build.steps u.build.roots → IsNoted u events now log → IsOpen events i
-    → step_at u.build.steps i ≡ Some step → IsClosure u.build (Clean u.build) step members → IsRecordOf u now step members r → NoneOlder now step members
-    → IsNoted u (events ++ Done i true ∷ []) now (log ++ lines.Record r ∷ [])
-
--- it stays right as a scan line is appended
-abbrev pub NotedAfterScan : Type 0
-NotedAfterScan = (u : Update) (events : List ChildEvent) (now : Folder) (log : List LogLine) (s : ScanLine) → IsNoted u events now log → IsNoted u events now (log ++ lines.Scan s ∷ [])
-
--- it stays right as a record with digests is appended of a step that was not started, all of whose closure is settled
-abbrev pub NotedAfterMigration : Type 0
-NotedAfterMigration = (u : Update) (events : List ChildEvent) (now : Folder) (log : List LogLine) (i : ℕ) (step : Step) (members : List (List ℕ × Value)) (r : Record) → Apart u.build.steps u.build.roots → IsNoted u events now log → u.by_digest ≡ true
-    → step_at u.build.steps i ≡ Some step → (Contains events (Start i) → ⊥) → (Contains events (Done i true) → ⊥) → IsClosure u.build (Clean u.build) step members → ((member : List ℕ) (value : Value) → Contains members (member, value) → Settled u events member) → IsRecordOf u now step members r
-    → IsNoted u events now (log ++ lines.Record r ∷ [])
+use Rattle.b2_runs.specs.Soundness.{IsAllowedChange, AreAtWork}
+use Rattle.b2_runs.specs.Afterwards.{next_update, NoneDoneOlder, IsNotedStep}
 
 -- ---- the last line on one step
 
--- the outputs of two steps are two lists, so a line about the one says nothing of the other
+-- no two steps have the same outputs, so a line about the one says nothing of the other
 abbrev pub OutsDiffer : Type 0
 OutsDiffer = (u : Update) (i k : ℕ) (step other : Step) → Apart u.build.steps u.build.roots → step_at u.build.steps i ≡ Some step → step_at u.build.steps k ≡ Some other → (i ≡ k → ⊥) → step.outs ≢ other.outs
 

@@ -1,47 +1,7 @@
 //! Laws of the log along a run: its last line on each step is the right one.
-ghost use Rattle.b2_runs.specs.NotedLaws.{NotedAtEntry, NotedAfterStart, NotedAfterChange, NotedAfterOtherEnd, NotedAfterLine, NotedAfterRecord, NotedAfterScan, NotedAfterMigration, OutsDiffer, NotedByRecord, NotedBesideLine, NotedBesideChange, OutputsAreNewer, FailedIsStale, NoneOlderAtEntry, NoneOlderAfterStart, NoneOlderAfterEnd, NoneOlderAfterChange};
+ghost use Rattle.b2_runs.specs.NotedLaws.{OutsDiffer, NotedByRecord, NotedBesideLine, NotedBesideChange, OutputsAreNewer, FailedIsStale, NoneOlderAtEntry, NoneOlderAfterStart, NoneOlderAfterEnd, NoneOlderAfterChange};
 
-/// Before any event a log is right that says what the one at entry said.
-pub fn noted_at_entry()
-    ensures { NotedAtEntry }
-{}
-
-/// The log stays right as a step starts.
-pub fn noted_after_start()
-    ensures { NotedAfterStart }
-{}
-
-/// The log stays right as steps that run or failed change their outputs.
-pub fn noted_after_change()
-    ensures { NotedAfterChange }
-{}
-
-/// The log stays right as a step is done badly, or as one is done well that has no record.
-pub fn noted_after_other_end()
-    ensures { NotedAfterOtherEnd }
-{}
-
-/// The log stays right as a line is appended for the outputs of a step that runs or failed.
-pub fn noted_after_line()
-    ensures { NotedAfterLine }
-{}
-
-/// The log stays right as a step is done well and its record is appended.
-pub fn noted_after_record()
-    ensures { NotedAfterRecord }
-{}
-
-/// The log stays right as a scan line is appended.
-pub fn noted_after_scan()
-    ensures { NotedAfterScan }
-{}
-
-/// The log stays right as a record with digests is appended of a step that was not started.
-pub fn noted_after_migration()
-    ensures { NotedAfterMigration }
-{}
-
-/// The outputs of two steps are two lists.
+/// No two steps have the same outputs.
 pub fn outs_differ()
     ensures { OutsDiffer }
 {}

@@ -1,5 +1,5 @@
 //! Laws of the log: what its lines say, and what keeps it true.
-ghost use Rattle.b2_runs.specs.LogLaws.{FoundIsThere, ScanIsThere, LastRecord, LastDrop, OthersUnsaid, LastScan, OtherScansUnsaid, OthersUnsaidThoughTorn, DigestsTell, TrueByKind, EmptyIsTrue, LineTrueAsPastGrows, TrueAsPastGrows, TrueWithLine, TruePrefix, TrueAfterTornAppend, TrueWithFewer, ScansTrueWithLine, ScansTrueAsPastGrows, ScansTrueWithFewer};
+ghost use Rattle.b2_runs.specs.LogLaws.{FoundIsThere, ScanIsThere, LastRecord, LastDrop, OthersUnsaid, LastScan, OtherScansUnsaid, OthersUnsaidThoughTorn, DigestsTell, TrueByKind, EmptyIsTrue, LineTrueAsPastGrows, TrueAsPastGrows, TrueWithLine, TrueWithFewer, ScansTrueAsPastGrows, ScansTrueWithFewer};
 
 /// A record that is found is in the log, and has the outputs that were asked for.
 pub fn found_is_there()
@@ -71,24 +71,9 @@ pub fn true_with_line()
     ensures { TrueWithLine }
 {}
 
-/// Any first lines of a true log are true.
-pub fn true_prefix()
-    ensures { TruePrefix }
-{}
-
-/// What a torn append of a true line leaves of a true log is true.
-pub fn true_after_torn_append()
-    ensures { TrueAfterTornAppend }
-{}
-
 /// Any log whose lines are among those of a true log is true, so what is kept of it is.
 pub fn true_with_fewer()
     ensures { TrueWithFewer }
-{}
-
-/// Scan lines stay true where a true line is appended, whatever the records are.
-pub fn scans_true_with_line()
-    ensures { ScansTrueWithLine }
 {}
 
 /// Scan lines stay true where more has stood.

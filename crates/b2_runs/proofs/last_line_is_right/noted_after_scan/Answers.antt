@@ -1,5 +1,0 @@
-use Rattle.b2_runs.proofs.NotedAfterEachEvent.{noted_after_scan}
-use Rattle.b2_runs.proofs.last_line_is_right.noted_after_scan.Goals as goal
-
-pub returns : goal.returns
-returns c = noted_after_scan
