@@ -1,4 +1,4 @@
-use Rattle.std.proofs.Common.{◌≡◌, ℕ, ◌<◌, ◌+◌, Bool, true, false, ◌||◌, ◌==◌, List, [], ◌∷◌, length, ◌⊎◌, inl, inr, refl, sym, ap, subst, subst₂, ◌∙◌, arith, Option, Some, None, codes}
+use Rattle.std.proofs.Common.{◌≡◌, ℕ, ◌<◌, ◌+◌, Bool, true, false, ◌||◌, ◌==◌, List, [], ◌∷◌, ◌++◌, length, length-append, ◌⊎◌, inl, inr, refl, sym, ap, subst, subst₂, ◌∙◌, arith, Option, Some, None, codes}
 use Rattle.std.specs.List.{Contains, list_any}
 use Rattle.b2_base.specs.Normal.{IsUnder, parts}
 use Rattle.b2_host.specs.declared.children.ChildEvent.{ChildEvent}
@@ -12,11 +12,12 @@ use Rattle.b2_plan.specs.Cleans.{Clean}
 use Rattle.b2_log.specs.declared.line.Record.{Record}
 use Rattle.b2_log.specs.declared.line.Digests.{Digests}
 use Rattle.b2_log.specs.declared.line.LogLine.{LogLine}
+use Rattle.b2_log.specs.declared.line.LogLine.TheVariants as lines
 use Rattle.b2_log.specs.Finding.{find_record}
 use Rattle.b2_runs.specs.Staleness.{Update, NoneDone, Agrees, Agrees.by_stamps, Agrees.by_digests, IsRecorded, IsFresh, IsStale}
 use Rattle.b2_runs.specs.Events.{IsOpen}
 use Rattle.b2_runs.specs.Runs.{Settled, Settled.source, Settled.done_well, Settled.fresh, on_settled, Needed, Needed.wanted, Needed.member, CanStart, IsRun}
-use Rattle.b2_runs.specs.LogCourses.{AllMigrated, IsToMigrate, HasDigestsAlready, IsLogAfter, IsLogAfter.begins, IsLogAfter.starts, IsLogAfter.records, IsLogAfter.migrates}
+use Rattle.b2_runs.specs.LogCourses.{AllMigrated, IsToMigrate, HasDigestsAlready, IsLogAfter, IsLogAfter.begins, IsLogAfter.starts, IsLogAfter.records, IsLogAfter.owes_none, IsLogAfter.drops, IsLogAfter.has_none, IsLogAfter.scans, IsLogAfter.migrates}
 use Rattle.b2_runs.specs.Records.{HasDigestsOf}
 use Rattle.b2_runs.specs.Afterwards.{IsNotedStep}
 use Rattle.b2_run_examples.specs.Overlap.{copy_from, x_path, a_path, b_path, c_path}
@@ -28,6 +29,7 @@ use Rattle.b2_runs.proofs.CleanIsOne.{clean_is_made}
 use Rattle.b2_runs.proofs.SourcesAreKept.{source_clean}
 use Rattle.b2_runs.proofs.SettledStays.{closure_on_settled, same_members}
 use Rattle.b2_runs.proofs.NeededByNumbers.{cannot_start_fresh}
+use Rattle.b2_runs.proofs.LogTellsOthers.{log_grows}
 use Rattle.b2_runs.proofs.NoneIsLeftOut.{migrated_after_start}
 use Rattle.b2_run_examples.proofs.OneStepPlan.{one_of, longer, different}
 use Rattle.b2_run_examples.proofs.ThreeCopies as copies
@@ -544,6 +546,29 @@ unchanged_not all =
     let e : true ≡ false = subst (λ (r : Record). HasDigestsOf (update_on true fifth_folder log_four) fifth_folder (copy_from x_path a_path) ((x_path, Some (9 ∷ [])) ∷ []) r.digests) (sym same) n.is_record.digests in
     cc
 
+-- a list that ends with one element and is one element
+last_alone : (es : List ChildEvent) (x y : ChildEvent) → es ++ x ∷ [] ≡ y ∷ [] → (es ≡ []) × (x ≡ y)
+last_alone [] x y e = let f : x ∷ [] ≡ y ∷ [] = e in (refl, (cc))
+last_alone (z ∷ es) x y e = absurd (omega (arith, ap length e, length-append es (x ∷ [])))
+
+-- no line comes before the first ones
+none_appended : (log more : List LogLine) (line : LogLine) → (l : List LogLine) → l ≡ log ++ more → l ++ line ∷ [] ≡ log → ⊥
+none_appended log more line l grown e = omega (arith, ap length grown, ap length e, length-append log more, length-append l (line ∷ []))
+
+unchanged_first : (events : List ChildEvent) (log : List LogLine) → IsLogAfter (update_on true fifth_folder log_four) fifth_folder log_four events log → events ≡ Start 1 ∷ [] → log ≡ log_four → ⊥
+unchanged_first events log begins e same = let f : [] ≡ Start 1 ∷ [] = e in cc
+unchanged_first events log (starts es l i c all) e same = unchanged_not (subst₂ (λ (list : List ChildEvent) ls. AllMigrated (update_on true fifth_folder log_four) list fifth_folder ls) (last_alone es (Start i) (Start 1) e).0 same all)
+unchanged_first events log (records es l i step members r c all at file closure is) e same = let f : Done i true ≡ Start 1 = (last_alone es (Done i true) (Start 1) e).1 in cc
+unchanged_first events log (owes_none es l i step c all at none) e same = let f : Done i true ≡ Start 1 = (last_alone es (Done i true) (Start 1) e).1 in cc
+unchanged_first events log (drops es l i step r c all at found) e same = let f : Done i false ≡ Start 1 = (last_alone es (Done i false) (Start 1) e).1 in cc
+unchanged_first events log (has_none es l i step c all at none) e same = let f : Done i false ≡ Start 1 = (last_alone es (Done i false) (Start 1) e).1 in cc
+unchanged_first events log (scans es l p bytes s c to is new_line) e same =
+    let (more, grown) = log_grows (update_on true fifth_folder log_four) fifth_folder log_four l es c in
+    none_appended log_four more (lines.Scan s) l grown same
+unchanged_first events log (migrates es l step members r c to is new_line) e same =
+    let (more, grown) = log_grows (update_on true fifth_folder log_four) fifth_folder log_four l es c in
+    none_appended log_four more (lines.Record r) l grown same
+
 pub digests_hold : DigestsHold
 digests_hold = record {
   apart = λ folder. copies.are_apart x_path a_path b_path;
@@ -557,4 +582,5 @@ digests_hold = record {
   unchanged_log = unchanged_log;
   unchanged_all = unchanged_all;
   unchanged_not = unchanged_not;
+  unchanged_first = λ c. unchanged_first (Start 1 ∷ []) log_four c refl refl;
 }

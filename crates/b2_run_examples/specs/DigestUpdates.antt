@@ -102,3 +102,5 @@ pub record DigestsHold : Type 0 where
   pub unchanged_all : AllMigrated (update_on true (all_stand 7 (9 ∷ []) 8 9) log_four) [] (all_stand 7 (9 ∷ []) 8 9) log_five
   -- the log before did not have these
   pub unchanged_not : ¬ AllMigrated (update_on true (all_stand 7 (9 ∷ []) 8 9) log_four) [] (all_stand 7 (9 ∷ []) 8 9) log_four
+  -- so no step may start before they are in the log
+  pub unchanged_first : ¬ IsLogAfter (update_on true (all_stand 7 (9 ∷ []) 8 9) log_four) (all_stand 7 (9 ∷ []) 8 9) log_four (Start 1 ∷ []) log_four
