@@ -1,10 +1,11 @@
 use Rattle.std.proofs.Common.{◌≡◌, ◌⊎◌, ℕ, ◌<◌, ◌≤◌, true, List, [], ◌∷◌, ◌++◌, length, inl, inr, refl, sym, ap, subst, ◌∙◌, append_assoc, append-nil, length-append, arith, Option, Some, None}
 use Rattle.std.specs.List.{Contains, AllByRecursion}
-use Rattle.std.specs.Prelude.{unwrap_or}
+use Rattle.std.specs.Prelude.{unwrap_or, option_map}
 use Rattle.std.proofs.lemmas.List.Concat.{flat_map-append}
 use Rattle.b2_host.specs.declared.children.ChildEvent.{ChildEvent}
 use Rattle.b2_host.specs.declared.children.ChildEvent.TheVariants.{Start, Done}
-use Rattle.b2_host.specs.Disks.{Folder, Past}
+use Rattle.b2_host.specs.Disks.{File, Folder, Past}
+use Rattle.b2_host.specs.FileCalls.{log_path, stamp_at}
 use Rattle.b2_log.specs.declared.line.LogLine.{LogLine}
 use Rattle.b2_log.specs.Lines.{spelling, log_bytes}
 use Rattle.b2_log.specs.Good.{IsGood}
@@ -17,9 +18,10 @@ use Rattle.b2_runs.specs.LogFiles.{log_limit, IsLogOf, IsTrueFile, IsLogHeld}
 use Rattle.b2_runs.specs.Staleness.{Update, making}
 use Rattle.b2_runs.specs.Events.{IsOpen}
 use Rattle.b2_runs.specs.Runs.{OpenEnds, IsBegun}
+use Rattle.b2_runs.specs.FileReads.{IsLogThen}
 use Rattle.b2_runs.specs.Afterwards.{NoneDoneOlder, IsNoted}
 use Rattle.b2_runs.specs.LogCourses.{Opening.to_update, FirstLines, FirstLines.as_it_is, BeginsWith, IsLogAfter, held_bytes, log_file, left_file, IsLogCut, IsLogCut.untouched, IsLogCut.replacing, IsLogCut.between, IsLogCut.within}
-use Rattle.b2_runs.specs.LogCourseLaws.{HeldIsCounted, GoodBytesAreSpelled, AppendLeavesFile, WholeLogCounts, WholeIsCut, WholeLogIsAppendedTo, CutLogThroughEnd, CutLogThroughChange, CutLogIsTrue, CutLogIsNoted, FinishedIsKept, FinishedIsNotStarted}
+use Rattle.b2_runs.specs.LogCourseLaws.{HeldIsCounted, GoodBytesAreSpelled, AppendLeavesFile, LogStandsThen, WholeLogCounts, WholeIsCut, WholeLogIsAppendedTo, CutLogThroughEnd, CutLogThroughChange, CutLogIsTrue, CutLogIsNoted, FinishedIsKept, FinishedIsNotStarted}
 use Rattle.b2_runs.proofs.FirstElementOrLater.{Contains_nil}
 use Rattle.b2_runs.proofs.TrueWithLine.{true_with_fewer}
 use Rattle.b2_runs.proofs.RunGoesOn.{run_has_begun}
@@ -84,6 +86,30 @@ append_leaves_file before disk log line is =
     go (Some old) bytes = refl
     go None [] = some (spelling line) (line_long line)
     go None (byte ∷ bytes) = refl
+
+-- where none is left there is no line
+none_left : (before : Option (List ℕ)) (log : List LogLine) → None ≡ left_file before (log_bytes log) → log ≡ []
+none_left (Some old) log e = absurd (let f : None ≡ Some (log_bytes log) = e in cc)
+none_left None [] e = refl
+none_left None (line ∷ log) e = absurd (go (log_bytes (line ∷ log)) refl e)
+  where
+    go : (bytes : List ℕ) → log_bytes (line ∷ log) ≡ bytes → None ≡ left_file None bytes → ⊥
+    go [] same left = omega (arith, ap length same, line_long line, length-append (spelling line) (log_bytes log))
+    go (byte ∷ bytes) same left = let f : None ≡ Some (byte ∷ bytes) = left in cc
+
+-- the log as it stands is what it has
+pub log_stands_then : LogStandsThen
+log_stands_then before disk log keeps each is = go (disk.now log_path) refl
+  where
+    bytes_are : (o : Option File) → disk.now log_path ≡ o → option_map (λ (file : File). file.bytes) o ≡ left_file before (log_bytes log)
+    bytes_are o e = sym (ap (option_map (λ (file : File). file.bytes)) e) ∙ is
+
+    go : (o : Option File) → disk.now log_path ≡ o → IsLogThen disk.past (stamp_at disk.now log_path) log
+    go None e = subst (λ stamp. IsLogThen disk.past stamp log) (sym (ap (option_map (λ (file : File). file.stamp)) e)) (none_left before log (bytes_are None e))
+    go (Some file) e =
+        let same : file.bytes ≡ log_bytes log = ap held_bytes (bytes_are (Some file) e) ∙ held_left before (log_bytes log) in
+        subst (λ stamp. IsLogThen disk.past stamp log) (sym (ap (option_map (λ (f : File). f.stamp)) e))
+        (file.bytes, length (log_bytes log), keeps.stands log_path file e, subst (λ (w : List ℕ). IsReading w log (length (log_bytes log))) (sym same) (reading_whole log each))
 
 -- what an update begins with is true where its log at entry is
 first_true : (m : Making) (past : List Past) (bytes : List ℕ) (first : List LogLine) → IsTrueFile m past bytes → FirstLines to_update bytes first → LogTrue m past first

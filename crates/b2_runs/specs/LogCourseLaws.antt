@@ -5,7 +5,7 @@ use Rattle.b2_host.specs.declared.children.ChildEvent.TheVariants.{Start, Done}
 use Rattle.b2_host.specs.Disks.{Folder, Disk, IsConsistent, bytes_at}
 use Rattle.b2_plan.specs.declared.step.Step.{Step}
 use Rattle.b2_plan.specs.Plans.{Apart, Makes, step_at}
-use Rattle.b2_host.specs.FileCalls.{log_path, with_piece}
+use Rattle.b2_host.specs.FileCalls.{log_path, stamp_at, with_piece}
 use Rattle.b2_plan.specs.Closures.{Value, IsClosure}
 use Rattle.b2_plan.specs.Cleans.{Clean}
 use Rattle.b2_log.specs.declared.line.Record.{Record}
@@ -24,7 +24,7 @@ use Rattle.b2_runs.specs.Events.{IsOpen, AreInOrder}
 use Rattle.b2_runs.specs.Runs.{on_settled, IsRunSoFar, IsBegun}
 use Rattle.b2_runs.specs.Outcomes.{IsFailed}
 use Rattle.b2_runs.specs.Soundness.{IsSound, IsAllowedChange}
-use Rattle.b2_runs.specs.FileReads.{StandsWithLine}
+use Rattle.b2_runs.specs.FileReads.{IsLogThen, StandsWithLine}
 use Rattle.b2_runs.specs.Afterwards.{at_present, next_update, IsMadeEachTime, NoneDoneOlder, IsNotedStep, IsNoted}
 use Rattle.b2_runs.specs.LogCourses.{IsLong, Opening, FirstLines, log_file, held_bytes, HasDigestsAlready, IsToMigrate, AllMigrated, IsLogAfter, IsScannedFile, left_file, IsLogWhole, IsLogCut}
 
@@ -46,10 +46,6 @@ BeginTellsScans = (opening : Opening) (bytes : List ℕ) (first log : List LogLi
 abbrev pub BeginIsAmong : Type 0
 BeginIsAmong = (opening : Opening) (bytes : List ℕ) (first log : List LogLine) (line : LogLine) → FirstLines opening bytes first → IsLogOf bytes log → Contains first line → Contains log line
 
--- the lines of a log count so by the bytes of its file, also where none stands
-abbrev pub HeldIsCounted : Type 0
-HeldIsCounted = (held : Option (List ℕ)) (log : List LogLine) → IsLogHeld held log → IsLogOf (held_bytes held) log
-
 -- they are good, and within the limit: so the file that has them is read as these lines
 abbrev pub BeginIsRead : Type 0
 BeginIsRead = (opening : Opening) (bytes : List ℕ) (first : List LogLine) → FirstLines opening bytes first → AllByRecursion IsGood first × (length (log_bytes first) ≤ log_limit)
@@ -57,6 +53,10 @@ BeginIsRead = (opening : Opening) (bytes : List ℕ) (first : List LogLine) → 
 -- a file of good lines within the limit counts as them
 abbrev pub LinesAreRead : Type 0
 LinesAreRead = (log : List LogLine) → AllByRecursion IsGood log → length (log_bytes log) ≤ log_limit → IsLogOf (log_bytes log) log
+
+-- the lines of a log count so by the bytes of its file, also where none stands
+abbrev pub HeldIsCounted : Type 0
+HeldIsCounted = (held : Option (List ℕ)) (log : List LogLine) → IsLogHeld held log → IsLogOf (held_bytes held) log
 
 -- ---- the lines that events call for
 
@@ -158,6 +158,10 @@ ReplacedIsOther = (bytes : List ℕ) (log : List LogLine) (good : ℕ) → IsRea
 -- where the spelling of one line more is appended, the file that is left has the bytes of all lines
 abbrev pub AppendLeavesFile : Type 0
 AppendLeavesFile = (before : Option (List ℕ)) (disk : Disk) (log : List LogLine) (line : LogLine) → log_file disk.now ≡ left_file before (log_bytes log) → Some (with_piece log_path (spelling line) disk) ≡ left_file before (log_bytes (log ++ line ∷ []))
+
+-- the log as it stands when a file is read is these lines
+abbrev pub LogStandsThen : Type 0
+LogStandsThen = (before : Option (List ℕ)) (disk : Disk) (log : List LogLine) → IsConsistent disk → AllByRecursion IsGood log → log_file disk.now ≡ left_file before (log_bytes log) → IsLogThen disk.past (stamp_at disk.now log_path) log
 
 -- the file that an update leaves which was not cut off counts as the lines that its events call for, within the limit
 abbrev pub WholeLogCounts : Type 0

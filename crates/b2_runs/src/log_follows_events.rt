@@ -1,5 +1,5 @@
 //! Laws of the log over a whole update: what it begins with, and what the events add.
-ghost use Rattle.b2_runs.specs.LogCourseLaws.{FirstLinesAreOne, BeginTellsRecords, BeginTellsScans, BeginIsAmong, HeldIsCounted, BeginIsRead, LinesAreRead, LogGrows, LogTellsOthers, LogTellsOpen, LogTellsUnstarted, JudgedByLog, LogDropsFailed, LogHasRecords, ScansOnce, MigratesOnce, StandsIsScanned, AlreadyIsNoted, NoneToMigrate, MigratedAfterStart, MigratedAfterChange, LogMoves, LogStaysTrue, ScansStayTrue, LogIsNoted, GoodBytesAreSpelled, ReplacedIsOther, AppendLeavesFile, WholeLogCounts, WholeIsCut, WholeLogIsAppendedTo, CutLogThroughEnd, CutLogThroughChange, CutLogIsTrue, CutLogIsNoted, FinishedIsKept, FinishedIsNotStarted};
+ghost use Rattle.b2_runs.specs.LogCourseLaws.{FirstLinesAreOne, BeginTellsRecords, BeginTellsScans, BeginIsAmong, HeldIsCounted, BeginIsRead, LinesAreRead, LogGrows, LogTellsOthers, LogTellsOpen, LogTellsUnstarted, JudgedByLog, LogDropsFailed, LogHasRecords, ScansOnce, MigratesOnce, StandsIsScanned, AlreadyIsNoted, NoneToMigrate, MigratedAfterStart, MigratedAfterChange, LogMoves, LogStaysTrue, ScansStayTrue, LogIsNoted, GoodBytesAreSpelled, ReplacedIsOther, AppendLeavesFile, LogStandsThen, WholeLogCounts, WholeIsCut, WholeLogIsAppendedTo, CutLogThroughEnd, CutLogThroughChange, CutLogIsTrue, CutLogIsNoted, FinishedIsKept, FinishedIsNotStarted};
 
 /// A log is opened with one list of lines.
 pub fn begins_with_one()
@@ -21,11 +21,6 @@ pub fn begin_is_among()
     ensures { BeginIsAmong }
 {}
 
-/// The lines of a log count so by the bytes of its file, also where none stands.
-pub fn held_is_counted()
-    ensures { HeldIsCounted }
-{}
-
 /// They are good, and within the limit.
 pub fn begin_is_read()
     ensures { BeginIsRead }
@@ -34,6 +29,11 @@ pub fn begin_is_read()
 /// A file of good lines within the limit counts as them.
 pub fn lines_are_read()
     ensures { LinesAreRead }
+{}
+
+/// The lines of a log count so by the bytes of its file, also where none stands.
+pub fn held_is_counted()
+    ensures { HeldIsCounted }
 {}
 
 /// To the lines that an update began with, lines are only appended.
@@ -69,6 +69,11 @@ pub fn log_drops_failed()
 /// For each step that was done well and has to make files, the log has its record.
 pub fn log_has_records()
     ensures { LogHasRecords }
+{}
+
+/// The log as it stands when a file is read is the lines that it has.
+pub fn log_stands_then()
+    ensures { LogStandsThen }
 {}
 
 /// The log's file after an update that was not cut off counts as the lines that its events call for.
