@@ -1,4 +1,4 @@
-use Rattle.std.proofs.Common.{◌≡◌, ◌⊎◌, ℕ, ◌<◌, ◌≤◌, Bool, true, false, List, [], ◌∷◌, ◌++◌, inl, inr, refl, sym, ap, subst, subst₂, ◌∙◌, arith, Some, None, if◌then◌else◌}
+use Rattle.std.proofs.Common.{◌≡◌, ◌⊎◌, ℕ, ◌<◌, ◌≤◌, Bool, true, false, List, [], ◌∷◌, ◌++◌, inl, inr, length, refl, sym, ap, subst, subst₂, ◌∙◌, arith, Some, None, if◌then◌else◌}
 use Rattle.std.specs.List.{Contains}
 use Rattle.std.specs.Str.{bytes_eq}
 use Rattle.std.proofs.lemmas.Slice.Eq.{bytes_eq-Decides}
@@ -6,8 +6,9 @@ use Rattle.std.proofs.lemmas.List.Elements.{Contains-append_left, Contains-push,
 use Rattle.b2_host.specs.declared.children.ChildEvent.{ChildEvent}
 use Rattle.b2_host.specs.declared.children.ChildEvent.TheVariants.{Start, Done}
 use Rattle.b2_base.specs.Counts.{greatest_count}
-use Rattle.b2_host.specs.Outside.{Read}
-use Rattle.b2_host.specs.Disks.{File, Folder, Past, Stood, IsOneEach, IsConsistent, bytes_at}
+use Rattle.b2_host.specs.Outside.{Read, Outside}
+use Rattle.b2_host.specs.Disks.{File, Folder, Disk, Past, Stood, IsOneEach, IsConsistent, bytes_at}
+use Rattle.b2_plan.specs.declared.step.Step.{Step}
 use Rattle.b2_plan.specs.Plans.{step_at, Makes}
 use Rattle.b2_host.specs.FileCalls.{log_path}
 use Rattle.b2_plan.specs.Closures.{Value}
@@ -15,15 +16,16 @@ use Rattle.b2_plan.specs.Cleans.{Clean}
 use Rattle.b2_log.specs.declared.line.LogLine.{LogLine}
 use Rattle.b2_log.specs.Lines.{log_bytes}
 use Rattle.b2_runs.specs.Logs.{LogTrue}
-use Rattle.b2_runs.specs.LogFiles.{IsLogIn}
-use Rattle.b2_runs.specs.Staleness.{making, NoneOlder}
+use Rattle.b2_runs.specs.LogFiles.{log_limit, IsLogOf, IsLogOf.is_read, IsLogOf.is_large, IsLogIn}
+use Rattle.b2_runs.specs.Staleness.{Update, making, NoneOlder}
 use Rattle.b2_runs.specs.Runs.{IsBegun, IsGivenClosure}
 use Rattle.b2_runs.specs.Outcomes.{HasCleanBytes, IsCleanBuild, OnlyOutputsChange}
 use Rattle.b2_runs.specs.Soundness.{AreAtWork}
-use Rattle.b2_runs.specs.LogCourses.{Opening.to_update, IsLogAfter, IsLogAfter.begins, IsLogAfter.starts, IsLogAfter.records, IsLogAfter.owes_none, IsLogAfter.drops, IsLogAfter.has_none, IsLogAfter.scans, IsLogAfter.migrates, left_file, IsLogCut, IsLogCut.untouched, IsLogCut.replacing, IsLogCut.between, IsLogCut.within}
-use Rattle.b2_runs.specs.Afterwards.{NoneDoneOlder, IsNoted}
-use Rattle.b2_runs.specs.UpdateAnswers.{UpdateAnswer.all_went, HasEnded, HasUpdated}
+use Rattle.b2_runs.specs.LogCourses.{Opening.to_update, IsLogAfter, IsLogAfter.begins, IsLogAfter.starts, IsLogAfter.records, IsLogAfter.owes_none, IsLogAfter.drops, IsLogAfter.has_none, IsLogAfter.scans, IsLogAfter.migrates, held_bytes, log_file, left_file, IsLogCut, IsLogCut.untouched, IsLogCut.replacing, IsLogCut.between, IsLogCut.within}
+use Rattle.b2_runs.specs.Afterwards.{IsMadeEachTime, IsMadeEachTime.always as is_always, IsMadeEachTime.notfile as is_notfile, IsMadeEachTime.through, NoneDoneOlder, IsNoted}
+use Rattle.b2_runs.specs.UpdateAnswers.{UpdateAnswer, UpdateAnswer.all_went, HasEnded, HasUpdated}
 use Rattle.b2_runs.specs.Sessions.{HostUpdated, IsUpdate}
+use Rattle.b2_runs.specs.NextLaws.{IsOfSamePlan, AreEventsBetween}
 use Rattle.b2_run_examples.specs.Examples.{in_path, out_path, copying, copied, at_entry, disk_before, disk_after, in_past, out_past, copy_bytes, log_after, with_log, copy_given, copy_step, in_members}
 use Rattle.b2_run_examples.specs.CopySession.{log_past, disk_logged, log_read, moment_before, moment_after, CopySessionHolds}
 use Rattle.b2_runs.proofs.FirstElementOrLater.{Contains_here, Contains_cases, Contains_nil}
@@ -35,9 +37,11 @@ use Rattle.b2_runs.proofs.JudgedByPresent.{none_older_move}
 use Rattle.b2_runs.proofs.FirstLinesAreOne.{begins_with_one}
 use Rattle.b2_runs.proofs.LogIsNoted.{log_is_noted}
 use Rattle.b2_runs.proofs.CutLogIsTrue.{whole_is_cut}
+use Rattle.b2_runs.proofs.TrueByFile.{true_where_missing}
+use Rattle.b2_runs.proofs.NextStartsNoMore.{none_starts_after_all_went}
 use Rattle.b2_runs.proofs.StopLeavesNone.{update_counts_fault, stop_counts_fault}
 use Rattle.b2_run_examples.proofs.OneStepPlan.{one_of, only_is, only_number, only_out, makes_out}
-use Rattle.b2_run_examples.proofs.CopyingHolds.{apart, run, went, closure, none_older, log_true, keeps_before, one_each_after, stands_after, others_after}
+use Rattle.b2_run_examples.proofs.CopyingHolds.{by_stamps_alone, apart, run, went, closure, none_older, log_true, keeps_before, one_each_after, stands_after, others_after}
 use Rattle.b2_run_examples.proofs.LogIsTrueEvenTorn.{begins_empty, counts, course, whole}
 
 -- ---- the disk
@@ -178,6 +182,25 @@ did = record {
 is_update : IsUpdate copying all_went moment_before moment_after
 is_update = record { did = did; caused = record { host = refl; waits = refl; sink = refl } }
 
+-- ---- the next update
+
+-- nothing of this plan is made each time
+calm : (path : List ℕ) → IsMadeEachTime copying.build path → ⊥
+calm path (is_always i step p makes e) = let f : false ≡ true = ap (λ (s : Step). s.always) (only_is (in_path ∷ []) i step makes.at) ∙ e in cc
+calm path (is_notfile i step p makes e) = let f : false ≡ true = ap (λ (s : Step). s.notfile) (only_is (in_path ∷ []) i step makes.at) ∙ e in cc
+calm path (through i step p members m x makes c_members c r) = calm m r
+
+below : IsLogOf copy_bytes log_after → length copy_bytes ≤ log_limit
+below (is_read good fits r) = fits
+below (is_large above e) = absurd (let f : log_after ≡ [] = e in cc)
+
+starts_nothing_more : (v : Update) (answer : UpdateAnswer) (again last : Outside) (later : List ChildEvent) → again.disk ≡ Some disk_logged → HostUpdated v answer again last → IsOfSamePlan copying v → AreEventsBetween again last later → Contains later (Start 1) → ⊥
+unfolding did
+starts_nothing_more v answer again last later still y same are c =
+    let one : y.old ≡ disk_logged = (let e : Some y.old ≡ Some disk_logged = sym y.shows ∙ still in cc) in
+    let fits : length (held_bytes (log_file y.old.now)) ≤ log_limit = subst (λ (d : Disk). length (held_bytes (log_file d.now)) ≤ log_limit) (sym one) (below counts) in
+    none_starts_after_all_went copying v answer moment_before.host moment_after.host again last later 1 copy_step out_path did still y same (true_where_missing (making copying) disk_before refl) (by_stamps_alone y.new.past) fits are (makes_out (in_path ∷ [])) (calm out_path) c
+
 -- ---- the log before a step is done
 
 -- it has no line
@@ -217,6 +240,7 @@ few = omega arith
 pub copy_session_holds : CopySessionHolds
 copy_session_holds = record {
   updated = updated;
+  starts_nothing_more = starts_nothing_more;
   no_record = no_record;
   session = (moment_after, all_went ∷ [], [], refl, (all_went, refl, is_update, refl), (refl, refl));
   no_silent_update = λ s. let more : 0 < 0 = update_counts_fault copying moment_before moment_before few s in omega (arith, more);

@@ -206,7 +206,7 @@ out_clean step path m =
     (Some (7 ∷ []), clean_is_made copying.build 1 copy_step out_path members_in apart (makes_out (in_path ∷ [])) closure, refl)
 
 -- judging is by stamps
-by_stamps_alone : (past : List Past) → Distinguishes copying past
+pub by_stamps_alone : (past : List Past) → Distinguishes copying past
 by_stamps_alone past on = absurd (let e : false ≡ true = on in cc)
 
 sound : IsSound copying copied disk_after

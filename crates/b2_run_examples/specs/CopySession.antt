@@ -1,14 +1,18 @@
-use Rattle.std.specs.Prelude.{[], ◌∷◌, false, Some, None}
+use Rattle.std.specs.Prelude.{◌≡◌, List, [], ◌∷◌, false, Some, None}
+use Rattle.std.specs.List.{Contains}
+use Rattle.b2_host.specs.declared.children.ChildEvent.{ChildEvent}
 use Rattle.b2_host.specs.declared.children.ChildEvent.TheVariants.{Start}
 use Rattle.b2_host.specs.Disks.{Disk, Past}
 use Rattle.b2_host.specs.ChildProcesses.{Family}
-use Rattle.b2_host.specs.Outside.{Read, Risks}
+use Rattle.b2_host.specs.Outside.{Read, Risks, Outside}
 use Rattle.b2_host.specs.FileCalls.{log_path}
+use Rattle.b2_runs.specs.Staleness.{Update}
 use Rattle.b2_runs.specs.LogCourses.{IsLogCut}
 use Rattle.b2_runs.specs.Reports.{no_lists, report}
 use Rattle.b2_runs.specs.Moments.{Moment}
-use Rattle.b2_runs.specs.UpdateAnswers.{UpdateAnswer.all_went, UpdateAnswer.host_fault, HasUpdated}
-use Rattle.b2_runs.specs.Sessions.{Happening.update, Happening.stop, IsUpdate, IsSession}
+use Rattle.b2_runs.specs.UpdateAnswers.{UpdateAnswer, UpdateAnswer.all_went, UpdateAnswer.host_fault, HasUpdated}
+use Rattle.b2_runs.specs.Sessions.{Happening.update, Happening.stop, HostUpdated, IsUpdate, IsSession}
+use Rattle.b2_runs.specs.NextLaws.{IsOfSamePlan, AreEventsBetween}
 use Rattle.b2_run_examples.specs.Examples.{copying, copied, disk_before, in_past, out_past, copy_bytes, with_log, family_after}
 
 -- what stands and stood after the update that copies, the log's file among it
@@ -46,6 +50,8 @@ moment_after = record {
 pub record CopySessionHolds : Type 0 where
   pub updated : HasUpdated copying all_went moment_before.host moment_after.host disk_before disk_logged
   pub session : IsSession IsUpdate moment_before (update copying ∷ []) (all_went ∷ []) moment_after
+  -- an update of the same plan that follows it, and does not run all, starts nothing
+  pub starts_nothing_more : (v : Update) (answer : UpdateAnswer) (again last : Outside) (later : List ChildEvent) → again.disk ≡ Some disk_logged → HostUpdated v answer again last → IsOfSamePlan copying v → AreEventsBetween again last later → ¬ Contains later (Start 1)
   -- where the writing stopped at the line of the start, the log has no record, though the step was then done well
   pub no_record : ¬ IsLogCut copying (Start 1 ∷ []) disk_logged.now
   -- no session has an update or a stop that answers a fault of the host where no call failed
