@@ -17,7 +17,7 @@
 //! | `is_proper LINE` | `yes` or `no` |
 //! | `is_digest WORD` | `yes` or `no` |
 //! | `kept` | the lines that are kept |
-//! | `record_line RECORD`, `drop_line PATH ..`, `scan_line SCAN` | the line |
+//! | `record_line RECORD`, `drop_line PATH ..`, `scan_line SCAN`, `line_bytes LINE` | the line |
 //!
 //! A LINE is `record` and a RECORD, `drop` and the paths, or `scan` and a SCAN. A RECORD is its text and then, each three
 //! words, `out PATH STAMP` and `in PATH STAMP`, and for a record with digests `digest out WORD` and `digest in WORD`. A

@@ -8,7 +8,6 @@ pub mod LastLineHasLastWord
 pub mod LineFieldsHaveOneReading
 pub mod NumbersHaveOneText
 pub mod JoinedPartsHaveOneReading
-pub mod PathsAreInNormalForm
 pub mod PlacesFindTheLastLines
 pub mod BytesHaveOneReading
 pub mod OrderedNeighboursAreEnough

@@ -2,10 +2,9 @@
 use Rattle.std.proofs.Common.{◌≡◌, ◌≢◌, ℕ, zero, suc, ◌+◌, ◌<◌, List, [], ◌∷◌, ◌++◌, length, get_or, take, add-one, refl, sym, ap, subst, ◌∙◌, append_assoc, arith}
 use Rattle.std.specs.List.{All, flat_map}
 use Rattle.std.proofs.Math.Seq.{take-suc}
-use Rattle.std.proofs.lemmas.List.Elements.{All-append, All-nil}
+use Rattle.std.proofs.lemmas.List.Elements.{All-append}
 use Rattle.std.proofs.lemmas.List.Concat.{flat_map-append}
-use Rattle.b2_base.specs.Bytes.{HasNoZero}
-use Rattle.b2_log.specs.Lines.{escaped, next_bytes, field}
+use Rattle.b2_log.specs.Lines.{escaped, field}
 use Rattle.b2_log.specs.Good.{IsText}
 use Rattle.b2_log.specs.Readings.{IsPlain, Begins, BeginsNone}
 
@@ -20,9 +19,6 @@ plain_more bytes k lt plain next = rw (add-one, take-suc bytes k 0 lt) (All-appe
 pub plain_escaped : (bytes : List ℕ) → All IsPlain bytes → flat_map escaped bytes ≡ bytes
 plain_escaped [] plain = refl
 plain_escaped (b ∷ rest) plain = ap (λ (w : List ℕ). w ++ flat_map escaped rest) (plain 0 0 (omega arith)).1 ∙ ap (λ (w : List ℕ). b ∷ w) (plain_escaped rest (λ k d lt. plain (suc k) d (omega arith)))
-
-pub plain_no_zero : (bytes : List ℕ) → All IsPlain bytes → HasNoZero bytes
-plain_no_zero bytes plain k d lt = (plain k d lt).0
 
 -- plain bytes up to a tab are a field
 pub plain_field : (bytes plain rest after : List ℕ) → All IsPlain plain → bytes ≡ plain ++ rest → rest ≡ 9 ∷ after → bytes ≡ field plain ++ after

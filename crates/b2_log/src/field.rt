@@ -46,14 +46,14 @@ fn next_byte(bytes: &[u8]) -> Option<(Option<u8>, &[u8])>
     }
 }
 
-/// Whether a byte is written as it is within a field, and is not zero.
+/// Whether a byte is above the line feed and no backslash, which makes it plain. The few plain bytes below are rare in texts.
 fn is_plain(byte: u8) -> bool
     ensures { IsTrue result → IsPlain byte }
 {
-    !matches!(byte, 0 | b'\t' | b'\n' | b'\\')
+    byte > b'\n' && byte != b'\\'
 }
 
-/// How many plain bytes stand first.
+/// How many bytes stand first that are plain by this test.
 fn plain_count(bytes: &[u8]) -> usize
     ensures within { result ≤ length bytes.now }
     ensures plain { All IsPlain (take result bytes.now) }
@@ -66,7 +66,7 @@ fn plain_count(bytes: &[u8]) -> usize
     bytes.len()
 }
 
-/// The plain bytes that stand first, and what follows them.
+/// Plain bytes that stand first, and what follows them.
 fn plain_at(bytes: &[u8]) -> (&[u8], &[u8])
     ensures split { bytes.now ≡ result.0.now ++ result.1.now }
     ensures plain { All IsPlain result.0.now }

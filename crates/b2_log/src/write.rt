@@ -299,3 +299,13 @@ pub fn scan_line(alloc: Global, scan: &ScanLine) -> Result<Vec<u8>, OutOfMemory>
     push_scan(alloc, &mut line, scan)?;
     Ok(line)
 }
+
+/// A line of any kind, as `record_line`, `drop_line` and `scan_line` write theirs.
+pub fn line_bytes(alloc: Global, line: &LogLine) -> Result<Vec<u8>, OutOfMemory>
+    ensures exact { IfOk result (λ bytes. bytes.items ≡ spelling line.now) }
+    ensures good { OnOk result (IsProper line.now → IsGood line.now) }
+{
+    let mut bytes = Vec::new(alloc);
+    push_line(alloc, &mut bytes, line)?;
+    Ok(bytes)
+}

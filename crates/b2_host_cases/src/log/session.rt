@@ -6,7 +6,7 @@ use crate::log::words::stamp;
 use b2_log::line::{Record, ScanLine};
 use b2_log::log::{Log, read_log};
 use b2_log::proper::{is_digest, is_proper};
-use b2_log::write::{drop_line, record_line, scan_line};
+use b2_log::write::{drop_line, line_bytes, record_line, scan_line};
 use std::alloc::Global;
 use std::mem::ManuallyDrop;
 use transcript::answer::Answer;
@@ -71,6 +71,12 @@ fn scan_answer(alloc: Global, words: &[Word]) -> Result<Answer, CaseFault> {
     shown_scan(alloc, &scan)
 }
 
+fn line_answer(alloc: Global, words: &[Word]) -> Result<Answer, CaseFault> {
+    let line = ManuallyDrop::new(line_of(alloc, words)?);
+    let bytes = ManuallyDrop::new(line_bytes(alloc, &line)?);
+    lines_answer(alloc, bytes.as_slice())
+}
+
 fn proper_answer(alloc: Global, words: &[Word]) -> Result<Answer, CaseFault> {
     let line = ManuallyDrop::new(line_of(alloc, words)?);
     Answer::yes_or_no(alloc, is_proper(&line))
@@ -83,6 +89,7 @@ fn line_command(alloc: Global, command: &Command) -> Result<Answer, CaseFault> {
         "record_line" => record_answer(alloc, words),
         "drop_line" => drop_answer(alloc, words),
         "scan_line" => scan_answer(alloc, words),
+        "line_bytes" => line_answer(alloc, words),
         "is_digest" => Answer::yes_or_no(alloc, is_digest(only(words)?)),
         "is_proper" => proper_answer(alloc, words),
         _ => Err(CaseFault::UnknownCommand),

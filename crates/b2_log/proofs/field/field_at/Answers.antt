@@ -1,5 +1,4 @@
-use Rattle.std.proofs.Common.{sym, ◌∙◌}
-use Rattle.b2_log.specs.Good.{IsText}
+use Rattle.std.proofs.Common.{◌∙◌}
 use Rattle.b2_log.proofs.RefusalsAreHandedOn.{handed_on}
 use Rattle.b2_log.proofs.JoinedPartsHaveOneReading.{field_refused}
 use Rattle.b2_log.proofs.PlainBytesStandAsTheyAre.{plain_field, plain_begins, field_untold}
