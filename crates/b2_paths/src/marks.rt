@@ -1,5 +1,5 @@
 //! Marks on numbers, all of which can be taken away at once.
-ghost use Rattle.std.specs.Prelude.{◌≡◌, ◌↔◌, ◌⊎◌, ℕ, ◌<◌, length, slice_index_or, IsTrue, IfOk, OnOk, OnErr};
+ghost use Rattle.std.specs.Prelude.{◌≡◌, ◌↔◌, ◌⊎◌, ℕ, ◌<◌, length, slice_index_or, IsTrue, IsOk, IfOk, OnOk, OnErr};
 ghost use Rattle.b2_paths.specs.MarkSets.{IsMarked, NoneMarked};
 
 use b2_base::fault::OutOfMemory;
@@ -39,6 +39,7 @@ impl Model for Marks {
 fn make_room(stamps: &mut Vec<u32>, place: usize) -> Result<(), OutOfMemory>
     requires { place < 4294967296 }
     ensures room { OnOk result (place < length stamps.new.items) }
+    ensures had { place < length stamps.old.items → IsOk result }
     ensures stamps { (i : ℕ) → slice_index_or stamps.new.items i 0 ≡ slice_index_or stamps.old.items i 0 }
     ensures err { OnErr result (stamps.new.items ≡ stamps.old.items) }
 {
@@ -71,8 +72,10 @@ impl Marks {
         }
     }
 
-    /// Marks a number, and answers whether it was marked. After an error the marks are as before.
+    /// Marks a number, and answers whether it was marked. A number that has a flag, set or not, takes no memory. After an
+    /// error the marks are as before.
     pub fn mark(&mut self, number: u32) -> Result<bool, OutOfMemory>
+        ensures had { number < length self.old → IsOk result }
         ensures was { IfOk result (λ was. IsTrue was ↔ IsMarked self.old number) }
         ensures ok { OnOk result ((i : ℕ) → IsMarked self.new i ↔ ((i ≡ number) ⊎ IsMarked self.old i)) }
         ensures err { OnErr result (self.new ≡ self.old) }

@@ -1,5 +1,5 @@
 //! A map from pairs of numbers.
-ghost use Rattle.std.specs.Prelude.{◌≡◌, [], IfOk, OnOk, OnErr};
+ghost use Rattle.std.specs.Prelude.{◌≡◌, [], None, OnOk, OnErr};
 ghost use Rattle.std.specs.FinMap as map;
 
 use b2_base::fault::OutOfMemory;
@@ -49,10 +49,12 @@ impl PairMap {
         self.values.get(&(left, right)).copied()
     }
 
-    /// Gives a pair a number, in place of the one that it has. After an error the map is as before.
+    /// Gives a pair a number, in place of the one that it has. After an error the map is as before, and the pair had none:
+    /// a pair that has a number takes no memory.
     pub fn insert(&mut self, left: u32, right: u32, value: u32) -> Result<(), OutOfMemory>
         ensures ok { OnOk result (self.new ≡ map.insert self.old (left, right) value) }
         ensures err { OnErr result (self.new ≡ self.old) }
+        ensures absent { OnErr result (map.get self.old (left, right) ≡ None) }
     {
         self.values.insert((left, right), value)?;
         Ok(())
