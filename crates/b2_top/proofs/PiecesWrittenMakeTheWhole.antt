@@ -28,7 +28,7 @@ text_both a b None = refl
 text_both a b (Some t) = ap Some (append_assoc t a b)
 
 abbrev with_text : Output → Option (List ℕ) → Output
-with_text x text = record { written = text; faults = x.faults }
+with_text x text = record x { written = text }
 
 -- writing nothing
 pub written_none : (x : Output) → x ≡ with_written [] x

@@ -75,21 +75,21 @@ says_err text before after r stop e told = subst (λ z. Says text before after z
 pub says_no_memory : (text : List ℕ) (before after : Output) (stop : Stop) → stop ≡ stops.OutOfMemory → after.faults ≡ before.faults → AddsPart text before.written after.written → Says {T = Unit {0}} text before after (Err stop)
 says_no_memory text before after stop e same part = subst (λ z. Says {T = Unit {0}} text before after (Err z)) (sym e) (same, part)
 
--- a text was written, told of both parts of the output
-pub says_all : (text : List ℕ) (before after : Output) → after.faults ≡ before.faults → Adds text before.written after.written → after ≡ with_written text before
-says_all text before after same adds = λ i. record { written = adds i; faults = same i }
+-- a text was written, told of each part of the output
+pub says_all : (text : List ℕ) (before after : Output) → after.faults ≡ before.faults → after.may_fail ≡ before.may_fail → Adds text before.written after.written → after ≡ with_written text before
+says_all text before after same may adds = λ i. record { written = adds i; faults = same i; may_fail = may i }
 
 -- writing nothing
 pub says_nothing : (text : List ℕ) (out : Output) → text ≡ [] → out ≡ with_written text out
-says_nothing text out e = says_all text out out refl (subst (λ t. Adds t out.written out.written) (sym e) (adds_nothing out.written))
+says_nothing text out e = says_all text out out refl refl (subst (λ t. Adds t out.written out.written) (sym e) (adds_nothing out.written))
 
 -- what is told of one text is told of a longer one that began before, in all cases
-pub says_map : {T : Type 0} (text whole : List ℕ) (x y z : Output) (r : Result T Stop) → y.faults ≡ x.faults
+pub says_map : {T : Type 0} (text whole : List ℕ) (x y z : Output) (r : Result T Stop) → y.faults ≡ x.faults → y.may_fail ≡ x.may_fail
     → (Adds text y.written z.written → Adds whole x.written z.written) → (AddsPart text y.written z.written → AddsPart whole x.written z.written) → Says text y z r → Says whole x z r
-says_map text whole x y z (Ok v) e f g told = says_all whole x z (ap (λ (o : Output). o.faults) told ∙ e) (f (ap (λ (o : Output). o.written) told))
-says_map text whole x y z (Err stops.Host) e f g told = told
-says_map text whole x y z (Err stops.Sink) e f g told = (subst (λ n. Rose n z.faults) e told.0, g told.1)
-says_map text whole x y z (Err stops.OutOfMemory) e f g told = (told.0 ∙ e, g told.1)
+says_map text whole x y z (Ok v) e m f g told = says_all whole x z (ap (λ (o : Output). o.faults) told ∙ e) (ap (λ (o : Output). o.may_fail) told ∙ m) (f (ap (λ (o : Output). o.written) told))
+says_map text whole x y z (Err stops.Host) e m f g told = told
+says_map text whole x y z (Err stops.Sink) e m f g told = (subst (λ n. Rose n z.faults) e told.0, g told.1)
+says_map text whole x y z (Err stops.OutOfMemory) e m f g told = (told.0 ∙ e, g told.1)
 
 -- a line more of a list's lines
 lines_more : {X : Type 0} (f : X → List ℕ) (xs : List X) (i : ℕ) (d : X) → i < length xs → flat_map f (take (i + 1) xs) ≡ flat_map f (take i xs) ++ f (get_or xs i d)

@@ -73,7 +73,8 @@ returns g c =
     let two : Adds b o1.written o2.written = subst (λ (l : List ℕ). Adds (skipped_lines c.args.steps.now l) o1.written o2.written) c.as_slice-2.ensures (ap (λ (o : Output). o.written) c.in_ok-tell_skipped.ensures) in
     let both = adds_both a b o0.written o1.written o2.written one two in
     let quiet2 = ap (λ (o : Output). o.faults) c.in_ok-tell_skipped.ensures ∙ quiet1 in
+    let may = ap (λ (o : Output). o.may_fail) c.in_ok-tell_skipped.ensures ∙ ap (λ (o : Output). o.may_fail) c.in_ok-tell_missing.ensures in
     let o3 = g.S.Sink.output c.write_line.new.out in
     let line = c.as_str.ensures.value ∙ c.in_ok-line.ensures in
-    says_map c.as_str.result.now text o0 o2 o3 c.write_line.result quiet2 (λ adds. adds_both (a ++ b) last o0.written o2.written o3.written both (subst (λ t. Adds t o2.written o3.written) line adds))
+    says_map c.as_str.result.now text o0 o2 o3 c.write_line.result quiet2 may (λ adds. adds_both (a ++ b) last o0.written o2.written o3.written both (subst (λ t. Adds t o2.written o3.written) line adds))
     (λ part. adds_then_part (a ++ b) last o0.written o2.written o3.written both (subst (λ t. AddsPart t o2.written o3.written) line part)) c.write_line.ensures

@@ -41,6 +41,7 @@ loop-path-preserved g c =
     let line = c.as_str.ensures.value ∙ c.in_ok-line.ensures ∙ ap missing_line c.path-item.is in
     record {
       faults = ap (λ (o : Output). o.faults) c.in_ok-write_line.ensures ∙ c.loop-path.invariant.faults;
+      may_fail = ap (λ (o : Output). o.may_fail) c.in_ok-write_line.ensures ∙ c.loop-path.invariant.may_fail;
       lines = adds_more missing_line paths i c.path-item.result before.written here.written after.written c.loop-path-test.true c.loop-path.invariant.lines (subst (λ l. Adds l here.written after.written) line (ap (λ (o : Output). o.written) c.in_ok-write_line.ensures));
     }
 
@@ -51,4 +52,4 @@ returns g c =
     let before = g.S.Sink.output c.args.out.now in
     let here = g.S.Sink.output c.loop-path.out in
     let whole = take_whole paths i c.loop-path-test.false in
-    says_all (flat_map missing_line paths) before here c.loop-path.invariant.faults (subst (λ l. Adds (flat_map missing_line l) before.written here.written) whole c.loop-path.invariant.lines)
+    says_all (flat_map missing_line paths) before here c.loop-path.invariant.faults c.loop-path.invariant.may_fail (subst (λ l. Adds (flat_map missing_line l) before.written here.written) whole c.loop-path.invariant.lines)

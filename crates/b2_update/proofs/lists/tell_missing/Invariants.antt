@@ -7,5 +7,6 @@ use Rattle.b2_update.proofs.lists.tell_missing.Given as goal
 abbrev pub invariant-loop-path : goal.invariant-loop-path
 invariant-loop-path g l = record {
   faults : (g.S.Sink.output l.out).faults ≡ (g.S.Sink.output l.fn.out).faults;
+  may_fail : (g.S.Sink.output l.out).may_fail ≡ (g.S.Sink.output l.fn.out).may_fail;
   lines : Adds (flat_map missing_line (take l.path-index l.paths)) (g.S.Sink.output l.fn.out).written (g.S.Sink.output l.out).written;
 }

@@ -35,6 +35,7 @@ loop-number-preserved g c =
     let after = g.S.Sink.output c.tell_one_skipped.new.out in
     record {
       faults = ap (λ (o : Output). o.faults) c.in_ok-tell_one_skipped.ensures ∙ c.loop-number.invariant.faults;
+      may_fail = ap (λ (o : Output). o.may_fail) c.in_ok-tell_one_skipped.ensures ∙ c.loop-number.invariant.may_fail;
       lines = adds_more say numbers i 0 before.written here.written after.written c.loop-number-test.true c.loop-number.invariant.lines (ap (λ (o : Output). o.written) c.in_ok-tell_one_skipped.ensures);
     }
 
@@ -47,4 +48,4 @@ returns g c =
     let before = g.S.Sink.output c.args.out.now in
     let here = g.S.Sink.output c.loop-number.out in
     let whole = take_whole numbers i c.loop-number-test.false in
-    says_all (skipped_lines steps numbers) before here c.loop-number.invariant.faults (subst (λ l. Adds (skipped_lines steps l) before.written here.written) whole c.loop-number.invariant.lines)
+    says_all (skipped_lines steps numbers) before here c.loop-number.invariant.faults c.loop-number.invariant.may_fail (subst (λ l. Adds (skipped_lines steps l) before.written here.written) whole c.loop-number.invariant.lines)
