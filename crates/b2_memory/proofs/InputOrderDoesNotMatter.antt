@@ -11,7 +11,8 @@ use Rattle.std.specs.List.{fold, flat_map}
 use Rattle.sha2.specs.Sha256.{sha256}
 use Rattle.std.specs.Ordering.{ordering_reverse}
 use Rattle.std.specs.Str.{bytes_eq}
-use Rattle.b2_memory.specs.Results.{words_of, bytes_named, joined, hexadecimal, digest_line, input_text, by_path, made_by, made_of}
+use Rattle.b2_base.specs.Hexadecimals.{hexadecimal}
+use Rattle.b2_memory.specs.Results.{words_of, bytes_named, joined, digest_line, input_text, by_path, made_by, made_of}
 use Rattle.b2_memory.specs.ResultLaws.{OrderIsFree}
 use Rattle.b2_base.proofs.StableSortIsInsertionSort.{insert, sorted, insert-past, insert-here}
 use Rattle.b2_memory.proofs.SortingPutsInputsByPath.{below, below_ranks, map-sorted}

@@ -1,10 +1,9 @@
--- A round more of a loop: digits of a byte more, an input more read, found by name or joined: for what steps make.
-use Rattle.std.proofs.Common.{◌≡◌, ℕ, ◌+◌, ◌/◌, ◌%◌, ◌<◌, suc, true, false, cond, not, List, ◌∷◌, [], ◌++◌, length, take, drop, map, get_or, codes, Option, None, Some, refl, ap, sym, ◌∙◌, add-one, arith}
+-- A round more of a loop: an input more read, found by name or joined: for what steps make.
+use Rattle.std.proofs.Common.{◌≡◌, ℕ, ◌+◌, ◌<◌, suc, true, false, cond, not, List, ◌∷◌, [], ◌++◌, length, take, drop, map, get_or, codes, Option, None, Some, refl, ap, sym, ◌∙◌, add-one, arith}
 use Rattle.std.specs.Borrow.{Bor}
 use Rattle.std.specs.Option.{option_map_or, option_to_list}
 use Rattle.std.specs.List.{flat_map, prefix_len, cons_option}
 use Rattle.std.specs.Str.{bytes_eq}
-use Rattle.std.specs.Fmt.{digit_glyph}
 use Rattle.std.proofs.Math.Seq.{drop-cons}
 use Rattle.std.specs.Ordering.{nat_cmp}
 use Rattle.std.specs.Cmp.Lexicographic.{slice_cmp}
@@ -19,15 +18,8 @@ use Rattle.b2_files.specs.declared.entry.Entry.{Entry}
 use Rattle.b2_host.specs.Disks.{Folder}
 use Rattle.b2_host.specs.ChildProcesses.{read_at, read_all}
 use Rattle.b2_files.specs.Stores.{write_of}
-use Rattle.b2_memory.specs.Results.{bytes_named, joined, hexadecimal}
+use Rattle.b2_memory.specs.Results.{bytes_named, joined}
 use Rattle.b2_memory.specs.NamedBytes.{Found, ref_cmp, bytes_found}
-
--- the digits of one byte more
-hex_more : (bytes : List ℕ) (i : ℕ) → i < length bytes → hexadecimal (take i bytes) ++ hexadecimal (get_or bytes i 0 ∷ []) ≡ hexadecimal (take (i + 1) bytes)
-hex_more bytes i h = sym (ap hexadecimal (take_more bytes i 0 h) ∙ flat_map-append (λ b. digit_glyph false (b / 16) ∷ digit_glyph false (b % 16) ∷ []) (take i bytes) (get_or bytes i 0 ∷ []))
-
-pub digits_more : (bytes : List ℕ) (i : ℕ) (before after pair : List ℕ) → i < length bytes → before ≡ hexadecimal (take i bytes) → pair ≡ hexadecimal (get_or bytes i 0 ∷ []) → after ≡ before ++ pair → after ≡ hexadecimal (take (i + 1) bytes)
-digits_more bytes i before after pair low was is adds = adds ∙ ap (λ b. b ++ pair) was ∙ ap (λ p. hexadecimal (take i bytes) ++ p) is ∙ hex_more bytes i low
 
 -- one input more that is held
 pub read_more : (folder : Folder) (ins : List (List ℕ)) (i : ℕ) (d : List ℕ) → i < length ins → read_all folder (take (i + 1) ins) ≡ read_all folder (take i ins) ++ option_to_list (read_at folder (get_or ins i d))

@@ -1,10 +1,11 @@
-use Rattle.std.specs.Prelude.{ℕ, ◌/◌, ◌%◌, ◌==◌, false, not, List, [], ◌∷◌, ◌++◌, codes, length, filter, fold, take_while, if◌then◌else◌}
+use Rattle.std.specs.Prelude.{ℕ, ◌==◌, not, List, [], ◌∷◌, ◌++◌, codes, length, filter, fold, take_while, if◌then◌else◌}
 use Rattle.std.specs.List.{flat_map, slice_split}
 use Rattle.std.specs.Str.{bytes_eq}
 use Rattle.std.specs.Ordering.{is_lt, nat_cmp}
 use Rattle.std.specs.Cmp.Lexicographic.{slice_cmp}
-use Rattle.std.specs.Fmt.{decimal, digit_glyph}
+use Rattle.std.specs.Fmt.{decimal}
 use Rattle.b2_base.specs.Bytes.{is_white}
+use Rattle.b2_base.specs.Hexadecimals.{hexadecimal}
 use Rattle.sha2.specs.Sha256.{sha256}
 
 -- what stands between white space
@@ -36,10 +37,6 @@ by_path (input ∷ more) = put_by_path input (by_path more)
 -- what is digested: the output's path and the text, each ended by a line feed, and the inputs in byte order of their paths
 abbrev pub whole_text : List ℕ → List (List ℕ × List ℕ) → List ℕ → List ℕ
 whole_text text held out = out ++ (10 ∷ (text ++ (10 ∷ flat_map input_text (by_path held))))
-
--- two lower-case hexadecimal digits for each byte
-abbrev pub hexadecimal : List ℕ → List ℕ
-hexadecimal bytes = flat_map (λ byte. digit_glyph false (byte / 16) ∷ digit_glyph false (byte % 16) ∷ []) bytes
 
 -- the SHA-256 digest of what is digested, and a line feed
 abbrev pub digest_line : List ℕ → List (List ℕ × List ℕ) → List ℕ → List ℕ

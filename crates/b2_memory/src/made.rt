@@ -1,12 +1,13 @@
 //! What a child in memory makes.
-ghost use Rattle.std.specs.Prelude.{◌≡◌, ℕ, List, [], ◌∷◌, ◌++◌, map, IfOk, OnOk, string_bytes};
+ghost use Rattle.std.specs.Prelude.{◌≡◌, ℕ, List, [], ◌∷◌, ◌++◌, map, IfOk, OnOk};
 ghost use Rattle.std.specs.List.{flat_map};
 ghost use Rattle.b2_base.specs.Segments.{texts};
 ghost use Rattle.b2_files.specs.Stores.{write_of, input_of};
-ghost use Rattle.b2_memory.specs.Results.{words_of, bytes_named, joined, hexadecimal, digest_line, input_text, by_path, whole_text, made_by, made_of};
+ghost use Rattle.b2_memory.specs.Results.{words_of, bytes_named, joined, digest_line, input_text, by_path, whole_text, made_by, made_of};
 ghost use Rattle.b2_memory.specs.NamedBytes.{bytes_found};
 
 use b2_base::fault::OutOfMemory;
+use b2_base::hexadecimal::hexadecimal;
 use b2_base::path::Path;
 use b2_base::white::is_white;
 use b2_files::entry::Entry;
@@ -68,7 +69,9 @@ fn digest(alloc: Global, text: &str, held: &[Entry], out: &Path) -> Result<Vec<u
     ensures { IfOk result (λ bytes. bytes.items ≡ digest_line text.now (map write_of held.now) out.now) }
 {
     let whole = whole(alloc, text, held, out)?;
-    let mut line = hexadecimal_text(alloc, Sha256::digest(whole.as_slice()).as_slice())?;
+    let digits = hexadecimal(alloc, Sha256::digest(whole.as_slice()).as_slice())?;
+    let mut line = Vec::new(alloc);
+    line.extend_from_slice(digits.as_bytes())?;
     line.push(b'\n')?;
     Ok(line)
 }
@@ -113,24 +116,6 @@ fn add_input(alloc: Global, bytes: &mut Vec<u8>, input: &Entry) -> Result<(), Ou
     bytes.extend_from_slice(head.as_bytes())?;
     bytes.extend_from_slice(input.bytes.as_ref().as_slice())?;
     Ok(())
-}
-
-#[tactic(auto, using(std::proofs::lemmas::Fmt::hex_byte))]
-fn hexadecimal_pair(alloc: Global, byte: u8) -> Result<String, OutOfMemory>
-    ensures { IfOk result (λ pair. string_bytes pair ≡ hexadecimal (byte ∷ [])) }
-{
-    Ok(format!(in alloc; "{byte:02x}")?)
-}
-
-fn hexadecimal_text(alloc: Global, bytes: &[u8]) -> Result<Vec<u8>, OutOfMemory>
-    ensures { IfOk result (λ digits. digits.items ≡ hexadecimal bytes.now) }
-{
-    let mut digits = Vec::new(alloc);
-    for byte in bytes {
-        let pair = hexadecimal_pair(alloc, *byte)?;
-        digits.extend_from_slice(pair.as_bytes())?;
-    }
-    Ok(digits)
 }
 
 fn make_by(
