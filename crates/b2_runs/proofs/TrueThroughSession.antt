@@ -93,6 +93,10 @@ grows_then before between after first second =
     let (new, shows_then, more) = subst (λ o. IfSome o (λ (d : Disk). (e : Disk) × Shows after e × ((past : Past) → Contains d.past past → Contains e.past past))) shows second in
     (new, shows_then, λ past c. more past (grows past c)))
 
+-- so nothing is forgotten since a moment that shows the same files
+grows_from : (before other after : Moment) → other.host.disk ≡ before.host.disk → PastGrows other after → PastGrows before after
+grows_from before other after same grows = subst (λ o. IfSome o (λ (d : Disk). (e : Disk) × Shows after e × ((past : Past) → Contains d.past past → Contains e.past past))) same grows
+
 -- what holds of all that stood by a moment held of what stood before, where it holds of each part
 pub so_before : (P : List Past → Type 0) (before after : Moment) → ((past more : List Past) → ((old : Past) → Contains past old → Contains more old) → P more → P past) → PastGrows before after → HoldsOfPast P after → HoldsOfPast P before
 so_before P before after less grows so = IfSome_then before.host.disk grows (λ old (new, shows, more). less old.past new.past more (so_shown P after new shows so))
@@ -150,7 +154,7 @@ module _ {Asked Answer : Type 0} (Follows : Asked → Answer → Moment → Mome
   past_grows_through_session grows first last (update asked ∷ more) answers (next, here, later, e, (answer, one, is, idle), rest) =
       grows_then first next last (grows asked answer first next is) (past_grows_through_session grows next last more later rest)
   past_grows_through_session grows first last (stop asked ∷ more) answers (next, here, later, e, (answer, one, is), rest) =
-      grows_then first next last (grows_then first is.between next (grows asked answer first is.between is.updated) (reopened_grows is.events is.between next is.reopened)) (past_grows_through_session grows next last more later rest)
+      grows_then first next last (grows_then first is.between next (grows_from first is.fused is.between (ap (λ (moment : Moment). moment.host.disk) is.fuse) (grows asked answer is.fused is.between is.updated)) (reopened_grows is.events is.between next is.reopened)) (past_grows_through_session grows next last more later rest)
 
   -- what is asked for in the rest of a session is asked for in it
   asked_later : (happening : Happening Asked) (more : List (Happening Asked)) (asked : Asked) → IsAskedFor more asked → IsAskedFor (happening ∷ more) asked
