@@ -19,7 +19,7 @@ use Rattle.b2_runs.proofs.NeededByNumbers.{closed_by_numbers}
 use Rattle.b2_sched.specs.declared.state.State.{State}
 use Rattle.b2_sched.specs.declared.state.State.TheVariants as states
 use Rattle.b2_sched.specs.Schedules.{Schedule, state_of, IsStale, IsSettled, IsNeeded, Needs, running}
-use Rattle.b2_sched.specs.Joins.{IsToldTrue, IsToldAll, HasSettled, IsToldStarts, IsAtRest, SettledJoins, CanStartJoins, NextJoins, NoneJoins}
+use Rattle.b2_sched.specs.Joins.{IsToldTrue, IsTold, HasSettled, IsToldStarts, IsAtRest, SettledJoins, CanStartJoins, NextJoins, NoneJoins}
 use Rattle.b2_sched.proofs.ChangesKeepTheInvariant.{not_two}
 use Rattle.b2_sched.proofs.SetsAgreeWithTheRun.{is_step, plan_step, needed_joins}
 
@@ -82,16 +82,16 @@ module _ (u : Update) (events : List ChildEvent) (s : Schedule) (apart : Apart u
 
   -- ---- what can start
 
-  module _ (all : IsToldAll u events s) (has : HasSettled u events s) where
+  module _ (t : IsTold u events s) where
     stale_if_can : (i : ℕ) → CanStart u events i → (x : State) → state_of s i ≡ x → IsStale s i
     stale_if_can i can states.Unjudged e =
-        let n = (needed_joins u events s told all i).1 can.needed in
+        let n = (needed_joins u events s t i).1 can.needed in
         absurd (was_judged i can.step can.members n can.at can.closure
-        (λ k need. has k (of_needed k i n need) ((closed_by_numbers u events i can.step can.members apart can.at can.closure).1 k (told.needs i k n need))) e)
+        (λ k need. t.settled k (of_needed k i n need) ((closed_by_numbers u events i can.step can.members apart can.at can.closure).1 k (told.needs i k n need))) e)
     stale_if_can i can states.Stale e = e
     stale_if_can i can states.Running e = absurd (can.not_started (starts.started i e))
     stale_if_can i can states.Settled e =
-        let n = (needed_joins u events s told all i).1 can.needed in
+        let n = (needed_joins u events s t i).1 can.needed in
         let found : IsStaleStep u events i = record { step = can.step; at = can.at; members = can.members; closure = can.closure; stale = can.stale } in
         let (path, c) = some_element can.step.outs (apart.some_out i can.step can.at) in
         let makes : Makes u.build.steps i can.step path = record { at = can.at; among = c } in
@@ -105,7 +105,7 @@ module _ (u : Update) (events : List ChildEvent) (s : Schedule) (apart : Apart u
         record {
           step = found.step;
           at = found.at;
-          needed = (needed_joins u events s told all i).0 n;
+          needed = (needed_joins u events s t i).0 n;
           not_started = starts.not_started i stale;
           members = found.members;
           closure = found.closure;
@@ -124,15 +124,15 @@ pub settled_joins : SettledJoins
 settled_joins u events s apart so_far told starts rest well = has_settled u events s apart so_far told starts rest well
 
 pub can_start_joins : CanStartJoins
-can_start_joins u events s apart so_far told all has starts rest = can_is u events s apart so_far told starts rest all has
+can_start_joins u events s apart so_far t starts rest = can_is u events s apart so_far t.so starts rest t
 
 pub next_joins : NextJoins
-next_joins u events s apart so_far told all has starts rest goes_on i next = (
-  (can_is u events s apart so_far told starts rest all has i).1 (next.lowest.has, next.room, goes_on),
-  λ k below can. next.lowest.lowest k below ((can_is u events s apart so_far told starts rest all has k).0 can).0,
+next_joins u events s apart so_far t starts rest goes_on i next = (
+  (can_is u events s apart so_far t.so starts rest t i).1 (next.lowest.has, next.room, goes_on),
+  λ k below can. next.lowest.lowest k below ((can_is u events s apart so_far t.so starts rest t k).0 can).0,
 )
 
 pub none_joins : NoneJoins
-none_joins u events s apart so_far told all has starts rest none i can =
-    let says = (can_is u events s apart so_far told starts rest all has i).0 can in
+none_joins u events s apart so_far t starts rest none i can =
+    let says = (can_is u events s apart so_far t.so starts rest t i).0 can in
     elim none [ inl n ↦ elim n [ inl no_stale ↦ no_stale i says.0 | inr full ↦ (let room = says.1 in omega (arith, room, full)) ] | inr quits ↦ says.2 quits ]

@@ -40,6 +40,12 @@ pub record IsToldAll (u : Update) (events : List ChildEvent) (s : Schedule) : Ty
 abbrev pub HasSettled : Update → List ChildEvent → Schedule → Type 0
 HasSettled u events s = (i : ℕ) → IsNeeded s i → IsSettledStep u events i → IsSettled s i
 
+-- It was told what the run has, and has as settled what is settled there.
+pub record IsTold (u : Update) (events : List ChildEvent) (s : Schedule) : Type 0 where
+  pub so : IsToldTrue u events s
+  pub all : IsToldAll u events s
+  pub settled : HasSettled u events s
+
 -- It was told what was judged and started: stale steps are so in the run and were not started, those that run were started,
 -- and as many run as are open.
 pub record IsToldStarts (u : Update) (events : List ChildEvent) (s : Schedule) : Type 0 where
@@ -58,50 +64,51 @@ pub record IsAtRest (s : Schedule) : Type 0 where
 
 -- At rest, a step that is settled in the run, done well or fresh, is settled.
 abbrev pub SettledJoins : Type 0
-SettledJoins = (u : Update) (events : List ChildEvent) (s : Schedule) → Apart u.build.steps u.build.roots → IsRunSoFar u events → IsToldTrue u events s → IsToldStarts u events s → IsAtRest s
-    → ((i : ℕ) → Contains events (Done i true) → IsSettled s i) → HasSettled u events s
+SettledJoins = (u : Update) (events : List ChildEvent) (s : Schedule) → Apart u.build.steps u.build.roots → IsRunSoFar u events → IsToldTrue u events s
+    → IsToldStarts u events s → IsAtRest s → ((i : ℕ) → Contains events (Done i true) → IsSettled s i) → HasSettled u events s
 
 abbrev pub NeededJoins : Type 0
-NeededJoins = (u : Update) (events : List ChildEvent) (s : Schedule) → IsToldTrue u events s → IsToldAll u events s → (i : ℕ) → IsNeeded s i ↔ Needed u events i
+NeededJoins = (u : Update) (events : List ChildEvent) (s : Schedule) → IsTold u events s → (i : ℕ) → IsNeeded s i ↔ Needed u events i
 
 abbrev pub LeftJoins : Type 0
-LeftJoins = (u : Update) (events : List ChildEvent) (s : Schedule) → IsToldTrue u events s → IsToldAll u events s → HasSettled u events s → (i : ℕ) → IsLeft s i ↔ run.IsLeft u events i
+LeftJoins = (u : Update) (events : List ChildEvent) (s : Schedule) → IsTold u events s → (i : ℕ) → IsLeft s i ↔ run.IsLeft u events i
 
 abbrev pub SkippedJoins : Type 0
-SkippedJoins = (u : Update) (events : List ChildEvent) (s : Schedule) → IsToldTrue u events s → IsToldAll u events s → HasSettled u events s → (i : ℕ) → IsSkipped s u.quit i ↔ Skipped u events i
+SkippedJoins = (u : Update) (events : List ChildEvent) (s : Schedule) → IsTold u events s → (i : ℕ) → IsSkipped s u.quit i ↔ Skipped u events i
 
 -- ---- what is stuck
 
 -- The same steps are stuck, unless the update quits.
 abbrev pub StuckJoins : Type 0
-StuckJoins = (u : Update) (events : List ChildEvent) (s : Schedule) → IsToldTrue u events s → IsToldAll u events s → HasSettled u events s → (by_number.QuitsNow u events → ⊥) → (i : ℕ) → IsStuck s i ↔ run.IsStuck u events i
+StuckJoins = (u : Update) (events : List ChildEvent) (s : Schedule) → IsTold u events s → (by_number.QuitsNow u events → ⊥)
+    → (i : ℕ) → IsStuck s i ↔ run.IsStuck u events i
 
 -- Where the scheduler has none stuck, the run has none.
 abbrev pub NoneStuckJoins : Type 0
-NoneStuckJoins = (u : Update) (events : List ChildEvent) (s : Schedule) → IsToldTrue u events s → IsToldAll u events s → HasSettled u events s → NoneStuck s → run.NoneStuck u events
+NoneStuckJoins = (u : Update) (events : List ChildEvent) (s : Schedule) → IsTold u events s → NoneStuck s → run.NoneStuck u events
 
 -- Where the update quits, the run has none stuck: all that are left are skipped.
 abbrev pub QuitsStuckNone : Type 0
-QuitsStuckNone = (u : Update) (events : List ChildEvent) (s : Schedule) → IsToldTrue u events s → IsToldAll u events s → HasSettled u events s → by_number.QuitsNow u events → run.NoneStuck u events
+QuitsStuckNone = (u : Update) (events : List ChildEvent) (s : Schedule) → IsTold u events s → by_number.QuitsNow u events → run.NoneStuck u events
 
 -- The cycle is that of the run, unless the update quits.
 abbrev pub CycleJoins : Type 0
-CycleJoins = (u : Update) (events : List ChildEvent) (s : Schedule) (list : List ℕ) → IsToldTrue u events s → IsToldAll u events s → HasSettled u events s → (by_number.QuitsNow u events → ⊥)
+CycleJoins = (u : Update) (events : List ChildEvent) (s : Schedule) (list : List ℕ) → IsTold u events s → (by_number.QuitsNow u events → ⊥)
     → IsCycleOf (IsStuck s) (Needs s) list → IsStepCycle u events list
 
 -- ---- what can start
 
 -- At rest, a step can start exactly where it was judged stale, there is room, and the update does not quit.
 abbrev pub CanStartJoins : Type 0
-CanStartJoins = (u : Update) (events : List ChildEvent) (s : Schedule) → Apart u.build.steps u.build.roots → IsRunSoFar u events → IsToldTrue u events s → IsToldAll u events s → HasSettled u events s → IsToldStarts u events s → IsAtRest s
-    → (i : ℕ) → CanStart u events i ↔ (IsStale s i × (running s + 1 ≤ s.jobs) × (by_number.QuitsNow u events → ⊥))
+CanStartJoins = (u : Update) (events : List ChildEvent) (s : Schedule) → Apart u.build.steps u.build.roots → IsRunSoFar u events → IsTold u events s
+    → IsToldStarts u events s → IsAtRest s → (i : ℕ) → CanStart u events i ↔ (IsStale s i × (running s + 1 ≤ s.jobs) × (by_number.QuitsNow u events → ⊥))
 
 -- So the step that the scheduler starts next may start in the run, unless the update quits.
 abbrev pub NextJoins : Type 0
-NextJoins = (u : Update) (events : List ChildEvent) (s : Schedule) → Apart u.build.steps u.build.roots → IsRunSoFar u events → IsToldTrue u events s → IsToldAll u events s → HasSettled u events s → IsToldStarts u events s → IsAtRest s
-    → (by_number.QuitsNow u events → ⊥) → (i : ℕ) → StartsNext s i → MayCome u events (Start i)
+NextJoins = (u : Update) (events : List ChildEvent) (s : Schedule) → Apart u.build.steps u.build.roots → IsRunSoFar u events → IsTold u events s
+    → IsToldStarts u events s → IsAtRest s → (by_number.QuitsNow u events → ⊥) → (i : ℕ) → StartsNext s i → MayCome u events (Start i)
 
 -- Where it starts none, none can start; nor can one where the update quits.
 abbrev pub NoneJoins : Type 0
-NoneJoins = (u : Update) (events : List ChildEvent) (s : Schedule) → Apart u.build.steps u.build.roots → IsRunSoFar u events → IsToldTrue u events s → IsToldAll u events s → HasSettled u events s → IsToldStarts u events s → IsAtRest s
-    → StartsNone s ⊎ by_number.QuitsNow u events → (i : ℕ) → CanStart u events i → ⊥
+NoneJoins = (u : Update) (events : List ChildEvent) (s : Schedule) → Apart u.build.steps u.build.roots → IsRunSoFar u events → IsTold u events s
+    → IsToldStarts u events s → IsAtRest s → StartsNone s ⊎ by_number.QuitsNow u events → (i : ℕ) → CanStart u events i → ⊥
