@@ -51,11 +51,6 @@ true_stays (z ∷ xs) zero (suc j) e = e
 true_stays (z ∷ xs) (suc i) zero e = e
 true_stays (z ∷ xs) (suc i) (suc j) e = true_stays xs i j e
 
-pub contains_at : {X : Type 0} (xs : List X) (x : X) → Contains xs x → (i : ℕ) × (slice_get xs i ≡ Some x)
-contains_at [] x (k, l, e) = absurd (omega (arith, l))
-contains_at (y ∷ xs) x (zero, l, e) = (zero, ap Some e)
-contains_at (y ∷ xs) x (suc k, l, e) = let (i, is) = contains_at xs x (k, omega (arith, l), e) in (suc i, is)
-
 pub at_contains : {X : Type 0} (xs : List X) (i : ℕ) (x : X) → slice_get xs i ≡ Some x → Contains xs x
 at_contains [] i x e = cc
 at_contains (y ∷ xs) zero x e = let f : Some y ≡ Some x = e in let g : y ≡ x = cc in subst (Contains (y ∷ xs)) g (contains_here y xs)

@@ -87,11 +87,6 @@ pub sign_not_read : (sign : ℕ) (text : List ℕ) → Nowhere (Passes (is_byte 
 unfolding before_sign
 sign_not_read sign text none = ap (λ b. cond b (Some (before_first (λ byte. eqb byte sign) text)) None) (sign_nowhere sign text none)
 
--- a text and a sign after it
-lacks_none : (sign : ℕ) (text : List ℕ) → Lacks sign text → list_all (λ byte. not (eqb byte sign)) text ≡ true
-lacks_none sign [] h = refl
-lacks_none sign (x ∷ xs) h = and_from (not (eqb x sign)) _ (not_from_false (eqb x sign) (ne_eqb x sign h.0)) (lacks_none sign xs h.1)
-
 pub sign_there : (sign : ℕ) (front rest : List ℕ) → Lacks sign front → before_sign sign (front ++ sign ∷ rest) ≡ Some front
 unfolding before_sign
 sign_there sign front rest lacks =

@@ -1,5 +1,5 @@
 //! Commands on plans.
-use crate::host::file_commands::file_command;
+use crate::host::scan_commands::scan_command;
 use b2_base::path_list::PathList;
 use b2_memory::memory::MemoryHost;
 use b2_plan::plan::Plan;
@@ -63,6 +63,6 @@ pub fn plan_command(
 ) -> Result<Answer, CaseFault> {
     match command.name() {
         "maker" => maker(alloc, command.words()),
-        _ => file_command(alloc, host, command),
+        _ => scan_command(alloc, host, command),
     }
 }
