@@ -14,3 +14,4 @@ pub mod OrderedNeighboursAreEnough
 pub mod LinesHaveOneReading
 pub mod KeptLinesAreCounted
 pub mod PlainBytesStandAsTheyAre
+pub mod LastLineIsTakenBack

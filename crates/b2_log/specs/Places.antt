@@ -1,11 +1,12 @@
 -- The places of lines in a log.
-use Rattle.std.specs.Prelude.{◌≡◌, ℕ, ◌==◌, Bool, false, not, ◌&&◌, List, [], ◌∷◌, length, reverse, Option, Some, None, if◌then◌else◌}
+use Rattle.std.specs.Prelude.{◌≡◌, ℕ, ◌==◌, Bool, false, not, ◌&&◌, List, [], ◌∷◌, ◌++◌, length, reverse, Option, Some, None, if◌then◌else◌}
 use Rattle.std.specs.List.{AllByRecursion}
 use Rattle.std.specs.Ordering.{nat_cmp}
 use Rattle.std.specs.Cmp.Lexicographic.{slice_cmp}
 use Rattle.std.specs.BTreeMap.{get_by}
 use Rattle.b2_log.specs.declared.line.LogLine.{LogLine}
 use Rattle.b2_log.specs.declared.latest.Latest.{Latest}
+use Rattle.b2_log.specs.declared.log.Undo.{Undo}
 use Rattle.b2_log.specs.declared.subject.Subject.{Subject}
 use Rattle.b2_log.specs.declared.subject.Subject.TheVariants as subjects
 use Rattle.b2_log.specs.Good.{IsProper}
@@ -30,6 +31,15 @@ pub record IsIndexed (lines : List LogLine) (places : Subject → Option ℕ) : 
 pub record IsLog (lines : List LogLine) (places : Subject → Option ℕ) (kept_count : ℕ) : Type 0 where
   pub index : IsIndexed lines places
   pub count : kept_count ≡ length (kept lines)
+
+-- The undo is that of the last line: it has the subject of this line, the place that the subject had before, and how many lines
+-- were kept then.
+pub record TakesBack (undo : Undo) (before after : List LogLine) : Type 0 where
+  pub line : LogLine
+  pub split : after ≡ before ++ line ∷ []
+  pub subject : undo.subject ≡ subject_of line
+  pub place : undo.before ≡ place_of undo.subject (reverse before)
+  pub kept : undo.kept_count ≡ length (kept before)
 
 -- one where it is so, and else none
 abbrev pub one_if : Bool → ℕ

@@ -1,5 +1,6 @@
 //! The place of the last line about each subject.
-ghost use Rattle.std.specs.Prelude.{◌≡◌, Option, Some, None, if◌then◌else◌, IfOk, OnOk, OnErr};
+ghost use Rattle.std.specs.Prelude.{◌≡◌, ◌≢◌, Option, Some, None, if◌then◌else◌, IfOk, OnOk, OnErr};
+ghost use Rattle.std.specs.BTreeMap.{get, Updates};
 ghost use Rattle.b2_log.specs.declared.subject.Subject.{Subject};
 ghost use Rattle.b2_log.specs.Finding.{subject_eq};
 ghost use Rattle.b2_log.specs.Places.{place_in};
@@ -15,6 +16,22 @@ use std::collections::BTreeMap;
 pub struct Latest {
     steps: BTreeMap<Vec<Path>, usize>,
     scans: BTreeMap<Path, usize>,
+}
+
+/// Gives a key that has a value the one that it had before, or none. Takes no memory.
+fn restore<K: Ord + Drop>(map: &mut BTreeMap<K, usize>, key: K, before: Option<usize>)
+    requires { get K.cmp map.old key ≢ None }
+    ensures { Updates K.cmp map.old map.new key before }
+{
+    match before {
+        None => {
+            map.remove(&key);
+        }
+        Some(place) => match map.insert(key, place) {
+            Ok(_) => {}
+            Err(_) => unreachable!(),
+        },
+    }
 }
 
 impl Latest {
@@ -51,6 +68,17 @@ impl Latest {
         match subject {
             Subject::Outputs(outs) => Ok(self.steps.insert(outs.into_vec(), place)?),
             Subject::Scanned(path) => Ok(self.scans.insert(path, place)?),
+        }
+    }
+
+    /// Gives a subject that has a place the one that it had before, or none. Takes no memory.
+    pub fn restore(&mut self, subject: Subject, before: Option<usize>)
+        requires { place_in self.old subject ≢ None }
+        ensures { (other : Subject) → place_in self.new other ≡ (if subject_eq subject other then before else place_in self.old other) }
+    {
+        match subject {
+            Subject::Outputs(outs) => restore(&mut self.steps, outs.into_vec(), before),
+            Subject::Scanned(path) => restore(&mut self.scans, path, before),
         }
     }
 }

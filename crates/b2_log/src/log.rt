@@ -1,5 +1,5 @@
 //! A log: its lines, and the last one about each subject.
-ghost use Rattle.std.specs.Prelude.{◌≡◌, ◌+◌, ◌^◌, ◌<◌, ◌≤◌, false, not, ◌∷◌, ◌++◌, [], length, IfOk, OnOk, OnErr, IfSome, MatchOption};
+ghost use Rattle.std.specs.Prelude.{◌≡◌, ◌+◌, ◌^◌, ◌<◌, ◌≤◌, false, not, List, ◌∷◌, ◌++◌, [], length, reverse, IfOk, OnOk, OnErr, IfSome, MatchOption};
 ghost use Rattle.std.specs.List.{AllByRecursion, slice_index_or};
 ghost use Rattle.std.specs.Option.{option_copied};
 ghost use Rattle.b2_log.specs.declared.line.LogLine.{LogLine};
@@ -7,18 +7,26 @@ ghost use Rattle.b2_log.specs.declared.line.LogLine.TheVariants as lines;
 ghost use Rattle.b2_log.specs.Lines.{log_bytes};
 ghost use Rattle.b2_log.specs.Good.{IsProper, IsGood};
 ghost use Rattle.b2_log.specs.Readings.{IsReading};
-ghost use Rattle.b2_log.specs.Places.{place_in, option_is, kept_at, one_if};
+ghost use Rattle.b2_log.specs.Places.{place_of, place_in, option_is, kept_at, one_if, TakesBack};
 ghost use Rattle.b2_log.specs.Finding.{subject_of, is_drop, record_in, scan_in, find_record, find_scan, kept};
 
 use crate::latest::Latest;
 use crate::line::{LogLine, Record, ScanLine};
 use crate::read::next_line;
-use crate::subject::{paths_of, subject_of};
+use crate::subject::{Subject, paths_of, subject_of};
 use crate::write::push_line;
 use b2_base::fault::OutOfMemory;
 use b2_base::path::Path;
 use std::alloc::Global;
 use std::marker::Model;
+
+/// What takes the last line of a log back.
+#[derive(Drop)]
+pub struct Undo {
+    subject: Subject,
+    before: Option<usize>,
+    kept_count: usize,
+}
 
 /// The lines of a log in order, each of them proper, seen as these lines and how many bytes of what it was read from are good.
 pub struct Log {
@@ -213,13 +221,14 @@ impl Log {
         scan_in(&self.lines[place], stamp)
     }
 
-    /// Adds a proper line after the others. After an error the log is as before.
-    pub fn add(&mut self, line: LogLine) -> Result<(), OutOfMemory>
-        requires { IsProper line }
+    /// Adds a proper line about this subject after the others, and answers the place that the subject had before.
+    fn add_about(&mut self, subject: Subject, line: LogLine) -> Result<Option<usize>, OutOfMemory>
+        requires subject { subject ≡ subject_of line }
+        requires proper { IsProper line }
         ensures ok { OnOk result (self.new ≡ record { lines = self.old.lines ++ line ∷ []; good = self.old.good }) }
+        ensures before { IfOk result (λ before. before ≡ place_of subject (reverse self.old.lines)) }
         ensures err { OnErr result (self.new ≡ self.old) }
     {
-        let subject = subject_of(self.alloc, &line)?;
         let place = self.lines.len();
         let gains = !is_drop(&line);
         self.lines.push(line)?;
@@ -227,13 +236,57 @@ impl Log {
             Ok(before) => {
                 let loses = is_told_at(self.lines.as_slice(), before);
                 self.kept_count = count_after(self.kept_count, gains, loses);
-                Ok(())
+                Ok(before)
             }
             Err(_) => {
                 self.lines.pop();
                 Err(OutOfMemory)
             }
         }
+    }
+
+    /// Adds a proper line after the others. After an error the log is as before.
+    pub fn add(&mut self, line: LogLine) -> Result<(), OutOfMemory>
+        requires { IsProper line }
+        ensures ok { OnOk result (self.new ≡ record { lines = self.old.lines ++ line ∷ []; good = self.old.good }) }
+        ensures err { OnErr result (self.new ≡ self.old) }
+    {
+        let subject = subject_of(self.alloc, &line)?;
+        self.add_about(subject, line)?;
+        Ok(())
+    }
+
+    /// The same as `add`. The answer can take the line back, as long as it is the last one.
+    pub fn add_with_undo(&mut self, line: LogLine) -> Result<Undo, OutOfMemory>
+        requires { IsProper line }
+        ensures ok { OnOk result (self.new ≡ record { lines = self.old.lines ++ line ∷ []; good = self.old.good }) }
+        ensures undo { IfOk result (λ undo. TakesBack undo self.old.lines self.new.lines) }
+        ensures err { OnErr result (self.new ≡ self.old) }
+    {
+        let subject = subject_of(self.alloc, &line)?;
+        let same = subject_of(self.alloc, &line)?;
+        let kept_count = self.kept_count();
+        let before = self.add_about(same, line)?;
+        Ok(Undo {
+            subject,
+            before,
+            kept_count,
+        })
+    }
+
+    /// Takes the last line back, so that the log is as before it was added. Takes no memory.
+    pub fn undo(&mut self, undo: Undo)
+        requires { (before : List LogLine) × TakesBack undo before self.old.lines }
+        ensures { (before : List LogLine) → TakesBack undo before self.old.lines → self.new ≡ record { lines = before; good = self.old.good } }
+    {
+        let Undo {
+            subject,
+            before,
+            kept_count,
+        } = undo;
+        self.latest.restore(subject, before);
+        self.kept_count = kept_count;
+        self.lines.pop();
     }
 
     /// The lines of all that can still be found, in order: each record and each scan whose subject no later line has. They
