@@ -1,0 +1,4 @@
+pub mod FirstLinesAreChosen
+pub mod LogIsPutBack
+pub mod LineIsAppended
+pub mod FailedCallsAreCuts
