@@ -17,14 +17,13 @@ ghost use Rattle.b2_journal.specs.Notes.{Notes};
 use crate::opening::{first_lines, put_back};
 use crate::reading::read_at;
 use crate::rule::Rule;
-use b2_base::fault::OutOfMemory;
 use b2_base::path::Path;
 use b2_host::fault::IoFault;
 use b2_host::files::Files;
 use b2_host::log_file::log_file;
 use b2_log::line::{LogLine, Record, ScanLine};
 use b2_log::log::Log;
-use b2_log::write::{drop_line, record_line, scan_line};
+use b2_log::write::line_bytes;
 use std::alloc::Global;
 use std::marker::Model;
 
@@ -63,18 +62,6 @@ impl Model for Journal {
     ghost invariant = { λ j. IsKept j.path j.log.lines };
 }
 
-/// The bytes of a line.
-fn spell(alloc: Global, line: &LogLine) -> Result<Vec<u8>, OutOfMemory>
-    ensures exact { IfOk result (λ bytes. bytes.items ≡ spelling line.now) }
-    ensures good { OnOk result (IsProper line.now → IsGood line.now) }
-{
-    match line {
-        LogLine::Record(record) => record_line(alloc, record),
-        LogLine::Drop(outs) => drop_line(alloc, outs.as_slice()),
-        LogLine::Scan(scan) => scan_line(alloc, scan),
-    }
-}
-
 impl Journal {
     /// Reads the log's file, and replaces it where the rule says so: by its kept lines, or by the empty text where it is too
     /// large. Otherwise nothing is written. The host fails, or no memory is left; in the latter case nothing was written.
@@ -108,7 +95,7 @@ impl Journal {
         ensures counts { IoFaultTold (F.outside files.old).faults (F.outside files.new).faults result }
         ensures notes { BothTold (λ before after. Notes line self.old before after result) (F.outside files.old).disk (F.outside files.new).disk }
     {
-        let bytes = spell(self.alloc, &line)?;
+        let bytes = line_bytes(self.alloc, &line)?;
         let undo = self.log.add_with_undo(line)?;
         let appended = files.append(&self.path, bytes.as_slice());
         if appended.is_err() {
