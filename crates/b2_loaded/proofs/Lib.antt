@@ -1,3 +1,4 @@
 pub mod NamesHold
 pub mod EvaluationsGiveWhatIsTold
 pub mod GivenFaultChangesOneQuestion
+mod LentHostKeeps

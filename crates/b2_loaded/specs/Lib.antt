@@ -9,3 +9,4 @@ pub mod Held
 pub mod Doing
 pub mod Asking
 pub mod Laws
+pub mod Lending

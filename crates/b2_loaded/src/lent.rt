@@ -1,9 +1,10 @@
 //! A host that is lent.
-ghost use Rattle.std.specs.Prelude.{◌≡◌, ◌≤◌};
+ghost use Rattle.std.specs.Prelude.{◌≡◌};
 ghost use Rattle.b2_host.specs.OutsideLaws.{Keeps};
 ghost use Rattle.jam_eval.specs.StepJobs.{job_of, step_answer};
 ghost use Rattle.jam_interp.specs.Parts.{step_text_at};
 ghost use Rattle.b2_loaded.specs.Doing.{EvaluatesOn, ReturnsOn};
+ghost use Rattle.b2_loaded.specs.Lending.{HasKept};
 
 use crate::entry::Entry;
 use crate::evaluating::{returned, text_of};
@@ -17,19 +18,19 @@ use jam_eval::step::{StepJob, StepText};
 use std::alloc::Global;
 use std::marker::PhantomData;
 
-/// A host that was lent when it was what `S` says. Its files and child processes are those of that moment, and no count of its failures fell.
+/// A host that was lent when it was what `S` says. Its files and child processes are those of that moment, and what every call keeps is kept.
 #[derive(Drop)]
 pub struct Lent<'a, F: Files, S: Entry> {
     pub files: &'a mut F,
     entry: PhantomData<S>,
     ghost disk: { (F.outside files.now).disk ≡ S.outside.disk },
     ghost children: { (F.outside files.now).children ≡ S.outside.children },
-    ghost faults: { S.outside.faults ≤ (F.outside files.now).faults },
-    ghost waits: { S.outside.failed_waits ≤ (F.outside files.now).failed_waits },
+    ghost kept: { HasKept S.outside (F.outside files.now) },
 }
 
 impl<'a, F: Files, S: Entry> Lent<'a, F, S> {
     /// Borrows a host, which is what `S` says.
+    #[tactic(auto, using(crate::proofs::LentHostKeeps::kept_at_first))]
     pub fn new(files: &'a mut F) -> Lent<'a, F, S>
         requires { F.outside files.old ≡ S.outside }
         ensures same_reference { result.files.ghost_name ≡ files.entry.ghost_name }
@@ -42,6 +43,7 @@ impl<'a, F: Files, S: Entry> Lent<'a, F, S> {
     }
 
     /// Gives the host back.
+    #[tactic(auto, using(crate::proofs::LentHostKeeps::all_is_kept))]
     pub fn into_files(self) -> &'a mut F
         ensures same_reference { result.ghost_name ≡ self.entry.files.ghost_name }
         ensures files { result.now ≡ self.entry.files.now }
@@ -57,6 +59,7 @@ impl<'a, F: Files, S: Entry> Lent<'a, F, S> {
     }
 
     /// What a rule of a project returns for properties.
+    #[tactic(auto, using(crate::proofs::LentHostKeeps::kept_on))]
     pub(crate) fn returned(
         &mut self,
         alloc: Global,
@@ -82,6 +85,7 @@ impl<'a, F: Files, S: Entry> Lent<'a, F, S> {
     }
 
     /// The text of a step, in the world that loading left.
+    #[tactic(auto, using(crate::proofs::LentHostKeeps::kept_on))]
     pub(crate) fn text_of(
         &mut self,
         alloc: Global,
