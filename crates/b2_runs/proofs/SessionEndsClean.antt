@@ -1,4 +1,4 @@
-use Rattle.std.proofs.Common.{◌≡◌, ℕ, List, [], ◌∷◌, ◌++◌, inl, inr, refl, sym, ap, subst, subst₂, ◌∙◌, append_assoc, Some}
+use Rattle.std.proofs.Common.{◌≡◌, ℕ, List, [], ◌∷◌, ◌++◌, inl, inr, refl, sym, ap, subst, ◌∙◌, append_assoc, Some}
 use Rattle.std.specs.Option.{IfSome}
 use Rattle.std.proofs.lemmas.List.Elements.{Contains-append_left, Contains-push}
 use Rattle.b2_host.specs.Disks.{Folder, Disk}
@@ -8,9 +8,9 @@ use Rattle.b2_runs.specs.Outcomes.{IsCleanBuild}
 use Rattle.b2_runs.specs.Soundness.{Distinguishes}
 use Rattle.b2_runs.specs.Afterwards.{at_present}
 use Rattle.b2_runs.specs.UpdateAnswers.{UpdateAnswer.all_went}
-use Rattle.b2_runs.specs.Moments.{Moment}
+use Rattle.b2_runs.specs.Moments.{Moment, IsSameButRisks}
 use Rattle.b2_runs.specs.Sessions.{Happening, Happening.update, Happening.stop, IsTrueAt, HoldsOfPast, IsUpdateMaking, IsSession, IsAskedFor}
-use Rattle.b2_runs.specs.SessionLaws.{SessionSplits, SessionEndsWith, UpdateLeavesClean, SessionEndsClean}
+use Rattle.b2_runs.specs.SessionLaws.{SessionSplits, SessionEndsWith, IsCleanAt, UpdateLeavesClean, SessionEndsClean}
 use Rattle.b2_runs.proofs.SourcesAreKept.{log_in_roots}
 use Rattle.b2_runs.proofs.DiskStaysSound.{true_log_serves}
 use Rattle.b2_runs.proofs.RecordIsTrue.{distinguishes_less}
@@ -58,15 +58,15 @@ module _ {Asked Answer : Type 0} (Follows : Asked → Answer → Moment → Mome
 
   -- a session that ends with something that is asked for is one before it, and that
   session_before : (asked : Asked) (answer : Answer) (first last : Moment) (happenings : List (Happening Asked)) (answers : List Answer) → IsSession Follows first (happenings ++ update asked ∷ []) (answers ++ answer ∷ []) last
-      → (before : Moment) × (here : List Answer) × IsSession Follows first happenings here before × Follows asked answer before last
+      → (before : Moment) × (after : Moment) × (here : List Answer) × IsSession Follows first happenings here before × Follows asked answer before after × IsSameButRisks after last
   session_before asked answer first last happenings answers s =
       let (before, here, later, e, earlier, (next, mine, none, f, (other, one, is, idle), (nil, same))) = session_splits first last happenings (update asked ∷ []) (answers ++ answer ∷ []) s in
       let g : later ≡ other ∷ [] = f ∙ (λ i. one i ++ nil i) in
       let one_answer : answer ≡ other = last_same answers here answer other (e ∙ ap (λ (l : List Answer). here ++ l) g) in
-      (before, here, earlier, subst₂ (λ a w. Follows asked a before w) (sym one_answer) (sym same) is)
+      (before, next, here, earlier, subst (λ a. Follows asked a before next) (sym one_answer) is, same)
 
   pub session_ends_with : SessionEndsWith Follows
-  session_ends_with asked answer first last happenings answers s = let (before, here, earlier, is) = session_before asked answer first last happenings answers s in (before, is)
+  session_ends_with asked answer first last happenings answers s = let (before, after, here, earlier, is, same) = session_before asked answer first last happenings answers s in (before, after, is, same)
 
 -- what was asked for before the last event was asked for in a session
 asked_before : (u asked : Update) (happenings : List (Happening Update)) → IsAskedFor happenings asked → IsAskedFor (happenings ++ update u ∷ []) asked
@@ -75,9 +75,13 @@ asked_before u asked happenings (inr c) = inr (Contains-append_left happenings (
 
 pub session_ends_clean : SessionEndsClean
 session_ends_clean m u first last happenings answers s distinct t =
-    let (before, here, earlier, (make, is)) = session_before (IsUpdateMaking m) u all_went first last happenings answers s in
+    let (before, after, here, earlier, (make, is), same) = session_before (IsUpdateMaking m) u all_went first last happenings answers s in
     let leave = updates_leave_true m in
+    let shown : last.host.disk ≡ after.host.disk = ap (λ (moment : Moment). moment.host.disk) same in
+    let distinct_then : (asked : Update) → IsAskedFor (happenings ++ update u ∷ []) asked → HoldsOfPast (Distinguishes asked) after =
+    λ asked c. subst (λ o. IfSome o (λ (disk : Disk). Distinguishes asked disk.past)) shown (distinct asked c) in
     let so : (asked : Update) → IsAskedFor happenings asked → HoldsOfPast (Distinguishes asked) before =
-    λ asked c. so_before (Distinguishes asked) before last (distinguishes_less asked) (leave.grows u all_went before last (make, is)) (distinct asked (asked_before u asked happenings c)) in
+    λ asked c. so_before (Distinguishes asked) before after (distinguishes_less asked) (leave.grows u all_went before after (make, is)) (distinct_then asked (asked_before u asked happenings c)) in
     let true_then : IsTrueAt m before = true_through_session (IsUpdateMaking m) Distinguishes m leave first before happenings here earlier so t in
-    update_leaves_clean u before last is (distinct u (inl (Contains-push happenings (update u)))) (subst (λ k. IsTrueAt k before) (sym make) true_then)
+    let clean : IsCleanAt u after = update_leaves_clean u before after is (distinct_then u (inl (Contains-push happenings (update u)))) (subst (λ k. IsTrueAt k before) (sym make) true_then) in
+    subst (λ o. IfSome o (λ (disk : Disk). IsCleanBuild (record u.build { folder = disk.now }) disk.now)) (sym shown) clean

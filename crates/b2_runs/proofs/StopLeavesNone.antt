@@ -1,4 +1,4 @@
-use Rattle.std.proofs.Common.{◌≡◌, ◌⊎◌, ℕ, ◌<◌, ◌≤◌, List, [], ◌∷◌, ◌++◌, length, inl, inr, sym, ap, subst, subst₂, ◌∙◌, Option}
+use Rattle.std.proofs.Common.{◌≡◌, ◌⊎◌, ℕ, ◌<◌, ◌≤◌, List, [], ◌∷◌, ◌++◌, length, inl, inr, sym, ap, subst, ◌∙◌, Option}
 use Rattle.b2_base.specs.Counts.{greatest_count}
 use Rattle.b2_host.specs.Disks.{Disk, IsConsistent}
 use Rattle.b2_host.specs.Outside.{Outside}
@@ -11,7 +11,7 @@ use Rattle.b2_runs.specs.Runs.{IsBegun}
 use Rattle.b2_runs.specs.Afterwards.{IsNoted}
 use Rattle.b2_runs.specs.LogCourses.{held_bytes, log_file}
 use Rattle.b2_runs.specs.UpdateAnswers.{UpdateAnswer, UpdateAnswer.host_fault, HasUpdated}
-use Rattle.b2_runs.specs.Moments.{Moment}
+use Rattle.b2_runs.specs.Moments.{Moment, IsSameButRisks}
 use Rattle.b2_runs.specs.Sessions.{Happening.update, Happening.stop, IsUpdate, IsStop, IsSession}
 use Rattle.b2_runs.specs.SessionLaws.{NotedThroughReopen, UpdateCountsFault, StopCountsFault, UpdateLeavesNone, StopLeavesNone}
 use Rattle.b2_runs.proofs.DiskStaysSound.{work_is_allowed}
@@ -34,30 +34,37 @@ noted_through_reopen u answer old before now between after log apart shows h r i
     noted_through_work u answer old between.host before now r.new log apart h (subst (λ d. ChangesOnlyOutputs between.host.children.running d r.new) (sym (shown_is_one between now r.old shows r.shows)) r.worked) r.keeps is fits
 
 -- the one update or stop of a session, with its answer
-only_update : (u : Update) (answer : UpdateAnswer) (first last : Moment) → IsSession IsUpdate first (update u ∷ []) (answer ∷ []) last → IsUpdate u answer first last × (last.host.children.running ≡ [])
+only_update : (u : Update) (answer : UpdateAnswer) (first last : Moment) → IsSession IsUpdate first (update u ∷ []) (answer ∷ []) last
+    → (next : Moment) × IsUpdate u answer first next × (next.host.children.running ≡ []) × IsSameButRisks next last
 only_update u answer first last (next, here, later, e, (other, one, is, idle), (none, same)) =
     let f : answer ∷ [] ≡ other ∷ [] = e ∙ (λ i. one i ++ none i) in
     let g : answer ≡ other = cc in
-    (subst₂ (λ a w. IsUpdate u a first w) (sym g) (sym same) is, subst (λ (w : Moment). w.host.children.running ≡ []) (sym same) idle)
+    (next, subst (λ a. IsUpdate u a first next) (sym g) is, idle, same)
 
-only_stop : (u : Update) (answer : UpdateAnswer) (first last : Moment) → IsSession IsUpdate first (stop u ∷ []) (answer ∷ []) last → IsStop IsUpdate u answer first last
+only_stop : (u : Update) (answer : UpdateAnswer) (first last : Moment) → IsSession IsUpdate first (stop u ∷ []) (answer ∷ []) last → (next : Moment) × IsStop IsUpdate u answer first next × IsSameButRisks next last
 only_stop u answer first last (next, here, later, e, (other, one, is), (none, same)) =
     let f : answer ∷ [] ≡ other ∷ [] = e ∙ (λ i. one i ++ none i) in
     let g : answer ≡ other = cc in
-    subst₂ (λ a w. IsStop IsUpdate u a first w) (sym g) (sym same) is
+    (next, subst (λ a. IsStop IsUpdate u a first next) (sym g) is, same)
 
 pub update_counts_fault : UpdateCountsFault
-update_counts_fault u first last below s = (only_update u host_fault first last s).0.caused.0.more below
+update_counts_fault u first last below s =
+    let (next, is, idle, same) = only_update u host_fault first last s in
+    subst (λ (w : Moment). first.host.faults < w.host.faults) (sym same) (is.caused.0.more below)
 
 pub stop_counts_fault : StopCountsFault
 stop_counts_fault u first last below s =
-    let is : IsStop IsUpdate u host_fault first last = only_stop u host_fault first last s in
+    let (next, is, but_risks) = only_stop u host_fault first last s in
     let same : is.fused.host.faults ≡ first.host.faults = ap (λ (w : Moment). w.host.faults) is.fuse in
     let more = is.updated.caused.0.more (subst (λ n. n < greatest_count) (sym same) below) in
-    subst (λ (w : Moment). first.host.faults < w.host.faults) (sym is.reopened.same) (subst (λ n. n < is.between.host.faults) same more)
+    subst (λ (w : Moment). first.host.faults < w.host.faults) (sym but_risks) (subst (λ (w : Moment). first.host.faults < w.host.faults) (sym is.reopened.same) (subst (λ n. n < is.between.host.faults) same more))
 
 pub update_leaves_none : UpdateLeavesNone
-update_leaves_none u answer first last s = (only_update u answer first last s).1
+update_leaves_none u answer first last s =
+    let (next, is, idle, same) = only_update u answer first last s in
+    ap (λ (w : Moment). w.host.children.running) same ∙ idle
 
 pub stop_leaves_none : StopLeavesNone
-stop_leaves_none u answer first last s = ap (λ (w : Moment). w.host.children.running) (only_stop u answer first last s).reopened.same
+stop_leaves_none u answer first last s =
+    let (next, is, same) = only_stop u answer first last s in
+    ap (λ (w : Moment). w.host.children.running) same ∙ ap (λ (w : Moment). w.host.children.running) is.reopened.same

@@ -15,3 +15,7 @@ Shows moment disk = moment.host.disk ≡ Some disk
 -- the moment with these files
 abbrev pub with_disk : Disk → Moment → Moment
 with_disk disk moment = record moment { host = record moment.host { disk = Some disk } }
+
+-- the two moments are one, but for what may go wrong with the host
+abbrev pub IsSameButRisks : Moment → Moment → Type 0
+IsSameButRisks before after = after ≡ record before { host = record before.host { risks = after.host.risks } }

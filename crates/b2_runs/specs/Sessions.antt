@@ -13,7 +13,7 @@ use Rattle.b2_runs.specs.Events.{IsOpen}
 use Rattle.b2_runs.specs.Runs.{OpenEnds}
 use Rattle.b2_runs.specs.Soundness.{Distinguishes, UsesTrueLines}
 use Rattle.b2_runs.specs.Afterwards.{at_present}
-use Rattle.b2_runs.specs.Moments.{Moment, Shows, with_disk}
+use Rattle.b2_runs.specs.Moments.{Moment, Shows, with_disk, IsSameButRisks}
 use Rattle.b2_runs.specs.UpdateAnswers.{UpdateAnswer, CausedBy, LeavesNone, LeavesOpen, WithLog, HasUpdated}
 
 -- Sessions: edits, updates, and updates that are stopped.
@@ -30,12 +30,13 @@ abbrev pub IsEdited : Disk → Option (List ℕ) → Option File → Type 0
 IsEdited before None now = now ≡ None
 IsEdited before (Some bytes) now = (file : File) × (now ≡ Some file) × (file.bytes ≡ bytes) × ((old : Past) → Contains before.past old → old.file.stamp < file.stamp)
 
--- An edit changes nothing but a file, and does not write the log, though it may delete it.
+-- An edit changes nothing but a file, and does not write the log, though it may delete it. Nothing is said of what may go wrong
+-- from then on.
 pub record IsEdit (path : List ℕ) (bytes : Option (List ℕ)) (before after : Moment) : Type 0 where
   pub old : Disk
   pub shows : Shows before old
   pub new : Disk
-  pub same : after ≡ with_disk new before
+  pub same : IsSameButRisks (with_disk new before) after
   pub not_log : path ≡ log_path → bytes ≡ None
   pub edited : IsEdited old bytes (new.now path)
   pub others : (other : List ℕ) → other ≢ path → new.now other ≡ old.now other
@@ -96,12 +97,12 @@ pub record IsReopened (events : List ChildEvent) (before after : Moment) : Type 
 abbrev pub IsUpdateMaking : Making → Update → UpdateAnswer → Moment → Moment → Type 0
 IsUpdateMaking m u answer before after = (making u ≡ m) × IsUpdate u answer before after
 
--- An update was stopped, and the host was opened again. That it would be stopped was told first, by which nothing but what may go
--- wrong is another. What follows on something that is asked for is a relation of the answer and of the moments before and after: who
+-- An update was stopped, and the host was opened again. First the host was told that it would be stopped. That changes nothing but
+-- its risks. What follows on something that is asked for is a relation of the answer and of the moments before and after: who
 -- says that something is a session says what it is, as `IsUpdate` for given plans.
 pub record IsStop {Asked Answer : Type 0} (Follows : Asked → Answer → Moment → Moment → Type 0) (asked : Asked) (answer : Answer) (before after : Moment) : Type 0 where
   pub fused : Moment
-  pub fuse : fused ≡ record before { host = record before.host { risks = fused.host.risks } }
+  pub fuse : IsSameButRisks before fused
   pub between : Moment
   pub updated : Follows asked answer fused between
   pub events : List ChildEvent
@@ -115,9 +116,10 @@ module _ {Asked Answer : Type 0} (Follows : Asked → Answer → Moment → Mome
   Comes (update asked) before answers after = (answer : Answer) × (answers ≡ answer ∷ []) × Follows asked answer before after × (after.host.children.running ≡ [])
   Comes (stop asked) before answers after = (answer : Answer) × (answers ≡ answer ∷ []) × IsStop Follows asked answer before after
 
-  -- a session: from moment to moment, with the answers of its updates and stops in order
+  -- A session: from moment to moment, with the answers of its updates and stops in order. Where nothing more happens, nothing
+  -- changes but what may go wrong.
   abbrev pub IsSession : Moment → List (Happening Asked) → List Answer → Moment → Type 0
-  IsSession first [] answers last = (answers ≡ []) × (last ≡ first)
+  IsSession first [] answers last = (answers ≡ []) × IsSameButRisks first last
   IsSession first (happening ∷ more) answers last = (next : Moment) × (here : List Answer) × (later : List Answer) × (answers ≡ here ++ later) × Comes happening first here next × IsSession next more later last
 
 -- this is asked for in a session, whether or not it is stopped
