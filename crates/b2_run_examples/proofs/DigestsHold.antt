@@ -17,7 +17,7 @@ use Rattle.b2_log.specs.Finding.{find_record}
 use Rattle.b2_runs.specs.Staleness.{Update, NoneDone, Agrees, Agrees.by_stamps, Agrees.by_digests, IsRecorded, IsFresh, IsStale}
 use Rattle.b2_runs.specs.Events.{IsOpen}
 use Rattle.b2_runs.specs.Runs.{Settled, Settled.source, Settled.done_well, Settled.fresh, on_settled, Needed, Needed.wanted, Needed.member, CanStart, IsRun}
-use Rattle.b2_runs.specs.LogCourses.{AllMigrated, IsToMigrate, HasDigestsAlready, IsLogAfter, IsLogAfter.begins, IsLogAfter.starts, IsLogAfter.records, IsLogAfter.owes_none, IsLogAfter.drops, IsLogAfter.has_none, IsLogAfter.scans, IsLogAfter.migrates}
+use Rattle.b2_runs.specs.LogCourses.{AllMigrated, LacksNoLine, IsToMigrate, HasDigestsAlready, IsLogAfter, IsLogAfter.begins, IsLogAfter.starts, IsLogAfter.records, IsLogAfter.owes_none, IsLogAfter.drops, IsLogAfter.has_none, IsLogAfter.scans, IsLogAfter.migrates}
 use Rattle.b2_runs.specs.Records.{HasDigestsOf}
 use Rattle.b2_runs.specs.Afterwards.{IsNotedStep}
 use Rattle.b2_run_examples.specs.Overlap.{copy_from, x_path, a_path, b_path, c_path}
@@ -31,7 +31,7 @@ use Rattle.b2_runs.proofs.SettledStays.{closure_on_settled, same_members}
 use Rattle.b2_runs.proofs.NeededByNumbers.{cannot_start_fresh}
 use Rattle.b2_runs.proofs.LogTellsOthers.{log_grows}
 use Rattle.b2_runs.proofs.NoneIsLeftOut.{migrated_after_start}
-use Rattle.b2_run_examples.proofs.OneStepPlan.{one_of, longer, different}
+use Rattle.b2_run_examples.proofs.OneStepPlan.{one_of, longer, different, none_to_scan}
 use Rattle.b2_run_examples.proofs.ThreeCopies as copies
 
 -- ---- events by looking through them
@@ -423,14 +423,19 @@ third_second =
 other_bytes : IsRun (update_on true third_folder log_two) first_ran
 other_bytes = run_first true third_folder log_two (8 ∷ []) refl third_first third_second
 
-none_yet : AllMigrated (update_on true third_folder log_two) [] third_left log_two
-none_yet = none_first true third_folder log_two (8 ∷ []) refl third_first third_left log_two
+lacks_first : LacksNoLine (update_on true third_folder log_two) [] third_left log_two
+lacks_first = record { scanned = none_to_scan (update_on true third_folder log_two) [] third_left log_two (λ path. refl); migrated = none_first true third_folder log_two (8 ∷ []) refl third_first third_left log_two }
+
+lacks_then : LacksNoLine (update_on true third_folder log_two) (Start 1 ∷ []) third_left log_two
+lacks_then = record {
+  scanned = none_to_scan (update_on true third_folder log_two) (Start 1 ∷ []) third_left log_two (λ path. refl);
+  migrated = migrated_after_start (update_on true third_folder log_two) [] third_left log_two 1 (apart true third_folder log_two (8 ∷ []) refl) lacks_first.migrated;
+}
 
 other_bytes_log : IsLogAfter (update_on true third_folder log_two) third_left log_two first_ran log_three
 other_bytes_log =
     migrates first_ran _ (copy_from a_path b_path) ((a_path, Some []) ∷ []) (b_digested 3 6)
-    (records (Start 1 ∷ []) log_two 1 (copy_from x_path a_path) ((x_path, Some (8 ∷ [])) ∷ []) (a_digested 6 5 (8 ∷ [])) (starts [] log_two 1 begins none_yet)
-    (migrated_after_start (update_on true third_folder log_two) [] third_left log_two 1 (apart true third_folder log_two (8 ∷ []) refl) none_yet) refl refl
+    (records (Start 1 ∷ []) log_two 1 (copy_from x_path a_path) ((x_path, Some (8 ∷ [])) ∷ []) (a_digested 6 5 (8 ∷ [])) (starts [] log_two 1 begins lacks_first) lacks_then refl refl
     (clean_x true third_folder log_two (8 ∷ []) refl) (record { text = refl; outs = ((refl, refl), tt); ins = ((refl, refl), tt); digests = (refl, (([], refl, refl), tt), ((8 ∷ [], refl, refl), tt)) }))
     (record {
       by_digest = refl;
@@ -557,7 +562,7 @@ none_appended log more line l grown e = omega (arith, ap length grown, ap length
 
 unchanged_first : (events : List ChildEvent) (log : List LogLine) → IsLogAfter (update_on true fifth_folder log_four) fifth_folder log_four events log → events ≡ Start 1 ∷ [] → log ≡ log_four → ⊥
 unchanged_first events log begins e same = let f : [] ≡ Start 1 ∷ [] = e in cc
-unchanged_first events log (starts es l i c all) e same = unchanged_not (subst₂ (λ (list : List ChildEvent) ls. AllMigrated (update_on true fifth_folder log_four) list fifth_folder ls) (last_alone es (Start i) (Start 1) e).0 same all)
+unchanged_first events log (starts es l i c all) e same = unchanged_not (subst₂ (λ (list : List ChildEvent) ls. AllMigrated (update_on true fifth_folder log_four) list fifth_folder ls) (last_alone es (Start i) (Start 1) e).0 same all.migrated)
 unchanged_first events log (records es l i step members r c all at file closure is) e same = let f : Done i true ≡ Start 1 = (last_alone es (Done i true) (Start 1) e).1 in cc
 unchanged_first events log (owes_none es l i step c all at none) e same = let f : Done i true ≡ Start 1 = (last_alone es (Done i true) (Start 1) e).1 in cc
 unchanged_first events log (drops es l i step r c all at found) e same = let f : Done i false ≡ Start 1 = (last_alone es (Done i false) (Start 1) e).1 in cc

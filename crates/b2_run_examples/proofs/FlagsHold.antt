@@ -18,11 +18,10 @@ use Rattle.b2_runs.specs.LogCourses.{IsLogAfter.begins, IsLogAfter.starts, IsLog
 use Rattle.b2_run_examples.specs.Examples.{in_path, out_path, copy_step, at_entry, disk_after, copy_record, log_after, copied, in_members}
 use Rattle.b2_run_examples.specs.Flags.{flagged_step, flagged, flagged_update, FlagsHold}
 use Rattle.b2_runs.proofs.FirstElementOrLater.{Contains_here, Contains_cases, Contains_nil}
-use Rattle.b2_runs.proofs.NoneIsLeftOut.{none_to_migrate}
 use Rattle.b2_runs.proofs.SourcesAreKept.{source_clean}
 use Rattle.b2_runs.proofs.SkippedExactly.{all_went_by_settled}
 use Rattle.b2_runs.proofs.NeededByNumbers.{cannot_start_fresh}
-use Rattle.b2_run_examples.proofs.OneStepPlan.{one_of, in_outside, is_apart}
+use Rattle.b2_run_examples.proofs.OneStepPlan.{one_of, in_outside, is_apart, lacks_none}
 use Rattle.b2_run_examples.proofs.CopyingJudged.{unchanged}
 use Rattle.b2_run_examples.proofs.OverlapHolds.{skip, start_not_done, start_number}
 
@@ -167,8 +166,8 @@ flags_hold = record {
   always_made_each_time = is_always 1 (flagged_step true false) out_path (makes true false) refl;
   notfile_runs = runs false true at_entry [] refl (notfile_stale at_entry);
   notfile_again = runs false true disk_after.now [] refl (notfile_stale disk_after.now);
-  notfile_log = owes_none (Start 1 ∷ []) [] 1 (flagged_step false true) (starts [] [] 1 begins (none_to_migrate (flagged_update false true at_entry []) [] at_entry [] refl))
-      (none_to_migrate (flagged_update false true at_entry []) (Start 1 ∷ []) at_entry [] refl) refl refl;
+  notfile_log = owes_none (Start 1 ∷ []) [] 1 (flagged_step false true) (starts [] [] 1 begins (lacks_none (flagged_update false true at_entry []) [] at_entry [] (λ path. refl) refl))
+      (lacks_none (flagged_update false true at_entry []) (Start 1 ∷ []) at_entry [] (λ path. refl) refl) refl refl;
   notfile_went = went false true at_entry [] refl;
   notfile_clean = λ path c. inr (1, flagged_step false true, subst (Makes (flagged_step false true ∷ []) 1 (flagged_step false true)) (one_of out_path path c) (makes false true), refl);
   plain_idle = idles false false disk_after.now log_after refl plain_fresh;

@@ -24,11 +24,11 @@ use Rattle.b2_runs.specs.Afterwards.{next_update}
 use Rattle.b2_runs.proofs.LastLineIsFound.{found_is_there}
 use Rattle.b2_runs.proofs.RunIsInOrder.{run_is_in_order}
 use Rattle.b2_runs.proofs.LogHasRecords.{log_has_records}
-use Rattle.b2_runs.proofs.NoneIsLeftOut.{none_to_migrate}
 use Rattle.b2_runs.proofs.CutLogIsTrue.{healthy_grows}
 use Rattle.b2_runs.specs.LogFiles.{log_limit, IsLogOf, IsLogOf.is_read, IsTrueFile, FileTells}
 use Rattle.b2_run_examples.specs.Examples.{in_path, out_path, copying, disk_after, copy_record, log_after, copied, copy_step, in_members, copy_bytes, with_log, CopyingFiled}
 use Rattle.b2_runs.proofs.FirstElementOrLater.{Contains_here, Contains_nil}
+use Rattle.b2_run_examples.proofs.OneStepPlan.{lacks_none}
 use Rattle.b2_run_examples.proofs.CopyingHolds.{apart, run, log_true, closure, opened}
 use Rattle.b2_runs.proofs.TrueFileTells.{true_front}
 
@@ -114,10 +114,10 @@ begins_empty = as_it_is [] (omega arith) empty_reading (λ much. omega (arith, m
 
 module _ (bytes : List ℕ) where
   after_start : IsLogAfter copying (with_log bytes) [] (Start 1 ∷ []) []
-  after_start = starts [] [] 1 begins (none_to_migrate copying [] (with_log bytes) [] refl)
+  after_start = starts [] [] 1 begins (lacks_none copying [] (with_log bytes) [] (λ path. refl) refl)
 
   pub course : IsLogAfter copying (with_log bytes) [] copied log_after
-  course = records (Start 1 ∷ []) [] 1 copy_step in_members copy_record after_start (none_to_migrate copying (Start 1 ∷ []) (with_log bytes) [] refl) refl refl closure (record { text = refl; outs = ((refl, refl), tt); ins = ((refl, refl), tt); digests = refl })
+  course = records (Start 1 ∷ []) [] 1 copy_step in_members copy_record after_start (lacks_none copying (Start 1 ∷ []) (with_log bytes) [] (λ path. refl) refl) refl refl closure (record { text = refl; outs = ((refl, refl), tt); ins = ((refl, refl), tt); digests = refl })
 
 pub whole : IsLogWhole copying copied (with_log copy_bytes)
 whole = record {
@@ -126,8 +126,7 @@ whole = record {
   log = log_after;
   course = course copy_bytes;
   good = (line_good, tt);
-  migrated = λ step members to. let e : false ≡ true = to.by_digest in cc;
-  scanned = λ path bytes to. let e : false ≡ true = to.scanned in cc;
+  lacks_none = lacks_none copying copied (with_log copy_bytes) log_after (λ path. refl) refl;
   file = ap (λ w. left_file None w) (sym spelled);
 }
 

@@ -7,8 +7,22 @@ use Rattle.b2_plan.specs.declared.step.Step.{Step}
 use Rattle.b2_plan.specs.Plans.{step_at, Makes, Apart}
 use Rattle.b2_host.specs.FileCalls.{log_path}
 use Rattle.b2_plan.specs.Sources.{IsInRoots}
+use Rattle.b2_host.specs.declared.children.ChildEvent.{ChildEvent}
+use Rattle.b2_host.specs.Disks.{Folder}
+use Rattle.b2_log.specs.declared.line.LogLine.{LogLine}
+use Rattle.b2_runs.specs.Staleness.{Update}
+use Rattle.b2_runs.specs.LogCourses.{AllScanned, LacksNoLine}
 use Rattle.b2_run_examples.specs.Examples.{in_path, out_path, step_from}
 use Rattle.b2_runs.proofs.FirstElementOrLater.{Contains_here, Contains_cases, Contains_nil}
+use Rattle.b2_runs.proofs.NoneIsLeftOut.{none_to_migrate}
+
+-- no scan line is lacking where no file is scanned
+pub none_to_scan : (u : Update) (events : List ChildEvent) (now : Folder) (log : List LogLine) → ((path : List ℕ) → u.scanned path ≡ false) → AllScanned u events now log
+none_to_scan u events now log none path bytes to = absurd (let e : true ≡ false = sym to.scanned ∙ none path in cc)
+
+-- nor is any line, where judging is by stamps
+pub lacks_none : (u : Update) (events : List ChildEvent) (now : Folder) (log : List LogLine) → ((path : List ℕ) → u.scanned path ≡ false) → u.by_digest ≡ false → LacksNoLine u events now log
+lacks_none u events now log none off = record { scanned = none_to_scan u events now log none; migrated = none_to_migrate u events now log off }
 
 -- the only step
 only_step : (ins : List (List ℕ)) (i : ℕ) (step : Step) → step_at (step_from ins ∷ []) i ≡ Some step → (i ≡ 1) × (step_from ins ≡ step)

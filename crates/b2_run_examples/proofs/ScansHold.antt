@@ -9,9 +9,9 @@ use Rattle.b2_plan.specs.Closures.{Known.input as input_of}
 use Rattle.b2_log.specs.declared.line.LogLine.TheVariants as lines
 use Rattle.b2_log.specs.Finding.{find_scan}
 use Rattle.b2_runs.specs.FileReads.{IsToScan, IsTooBig, IsTooBig.to_scan, IsTooBig.to_digest, IsToDigest, IsToDigest.input, IsToDigest.output, IsLogThen, IsCalledFor, IsCalledFor.to_scan as called, ReadsLeaveLines, StandsWithLine}
-use Rattle.b2_runs.specs.LogCourses.{IsLogAfter, IsLogAfter.begins, IsLogAfter.starts, IsLogAfter.records, IsLogAfter.scans, IsScannedFile, AllScanned}
+use Rattle.b2_runs.specs.LogCourses.{IsScannedFile, AllScanned, LacksNoLine, IsLogAfter, IsLogAfter.begins, IsLogAfter.starts, IsLogAfter.records, IsLogAfter.scans}
 use Rattle.b2_runs.proofs.FirstElementOrLater.{Contains_here, Contains_nil}
-use Rattle.b2_runs.proofs.NoneIsLeftOut.{none_to_migrate}
+use Rattle.b2_runs.proofs.NoneIsLeftOut.{none_to_migrate, scanned_after_start}
 use Rattle.b2_runs.proofs.ReadsOnce.{scanned_is_not_read, unscanned_is_not_read}
 use Rattle.b2_runs.proofs.ReadsLeaveLines.{lines_of_none, lines_before_read, lines_after_read}
 use Rattle.b2_run_examples.specs.Overlap.{copy_from, x_path, b_path, c_path}
@@ -41,10 +41,16 @@ b_to_scan = record {
   settled = b_on b_made b_done;
 }
 
+lacks_first : LacksNoLine header_update [] b_stands []
+lacks_first = record { scanned = λ path bytes to. absurd (none_yet path bytes to); migrated = none_to_migrate header_update [] b_stands [] refl }
+
+lacks_then : LacksNoLine header_update (Start 2 ∷ []) b_stands []
+lacks_then = record { scanned = scanned_after_start header_update [] b_stands [] 2 lacks_first.scanned; migrated = none_to_migrate header_update (Start 2 ∷ []) b_stands [] refl }
+
 course : IsLogAfter header_update b_stands [] b_made scanned
 course =
     scans b_made recorded b_path (7 ∷ []) b_scan
-    (records (Start 2 ∷ []) [] 2 (copy_from x_path b_path) ((x_path, Some (7 ∷ [])) ∷ []) b_record (starts [] [] 2 begins (none_to_migrate header_update [] b_stands [] refl)) (none_to_migrate header_update (Start 2 ∷ []) b_stands [] refl) refl refl (clean_close b_path) (record { text = refl; outs = ((refl, refl), tt); ins = ((refl, refl), tt); digests = refl }))
+    (records (Start 2 ∷ []) [] 2 (copy_from x_path b_path) ((x_path, Some (7 ∷ [])) ∷ []) b_record (starts [] [] 2 begins lacks_first) lacks_then refl refl (clean_close b_path) (record { text = refl; outs = ((refl, refl), tt); ins = ((refl, refl), tt); digests = refl }))
     b_to_scan (record { path_is = refl; stamp = refl; includes = refl }) refl
 
 all : AllScanned header_update b_made b_stands scanned

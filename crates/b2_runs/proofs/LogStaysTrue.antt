@@ -18,8 +18,8 @@ use Rattle.b2_runs.specs.Staleness.{Update, making, paths_with_bytes}
 use Rattle.b2_runs.specs.Records.{HasDigestsOf, IsRecordOf, IsScanOf}
 use Rattle.b2_runs.specs.Runs.{Settled, Settled.done_well, Settled.fresh, MayCome, RunFrom, IsRunSoFar}
 use Rattle.b2_runs.specs.Soundness.{IsSound}
-use Rattle.b2_runs.specs.LogCourses.{IsToMigrate, AllMigrated, IsLogAfter, IsLogAfter.begins, IsLogAfter.starts, IsLogAfter.records, IsLogAfter.owes_none, IsLogAfter.drops, IsLogAfter.has_none, IsLogAfter.scans, IsLogAfter.migrates}
-use Rattle.b2_runs.specs.LogCourseLaws.{MigratedAfterChange, LogMoves, LogStaysTrue, ScansStayTrue}
+use Rattle.b2_runs.specs.LogCourses.{IsToMigrate, AllMigrated, AllScanned, LacksNoLine, IsLogAfter, IsLogAfter.begins, IsLogAfter.starts, IsLogAfter.records, IsLogAfter.owes_none, IsLogAfter.drops, IsLogAfter.has_none, IsLogAfter.scans, IsLogAfter.migrates}
+use Rattle.b2_runs.specs.LogCourseLaws.{MigratedAfterChange, ScannedAfterChange, LogMoves, LogStaysTrue, ScansStayTrue}
 use Rattle.b2_runs.proofs.SameByStamp.{whole_file, stamped_move, path_in_back, with_bytes_in}
 use Rattle.b2_runs.proofs.SameByDigest.{digested_move}
 use Rattle.b2_runs.proofs.OutputsAreClean.{settled_holds}
@@ -85,8 +85,8 @@ record_move u old new step members r outs ins is = record {
 scan_move : (u : Update) (old new : Folder) (path bytes : List ℕ) (s : ScanLine) → new path ≡ old path → IsScanOf u old path bytes s → IsScanOf u new path bytes s
 scan_move u old new path bytes s same is = record { path_is = is.path_is; stamp = ap (option_map (λ (file : File). file.stamp)) same ∙ is.stamp; includes = is.includes }
 
--- so no record with digests is left out
-pub migrated_move : (u : Update) (old new : Folder) (events : List ChildEvent) (log : List LogLine) → Apart u.build.steps u.build.roots → ((path : List ℕ) → Settled u events path → new path ≡ old path) → AllMigrated u events old log → AllMigrated u events new log
+-- so no record with digests is lacking
+migrated_move : (u : Update) (old new : Folder) (events : List ChildEvent) (log : List LogLine) → Apart u.build.steps u.build.roots → ((path : List ℕ) → Settled u events path → new path ≡ old path) → AllMigrated u events old log → AllMigrated u events new log
 migrated_move u old new events log apart still all step members to =
     let n = all step members to in
     record {
@@ -95,25 +95,35 @@ migrated_move u old new events log apart still all step members to =
       is_record = record_move u old new step members n.last (λ out d. still out (migrated_outs u events step members apart to out d)) (λ m y d. still m ((migrated_close u events step members apart to).1 m y d)) n.is_record;
     }
 
+-- nor is a scan line
+scanned_move : (u : Update) (old new : Folder) (events : List ChildEvent) (log : List LogLine) → ((path : List ℕ) → Settled u events path → new path ≡ old path) → AllScanned u events old log → AllScanned u events new log
+scanned_move u old new events log still all path bytes to =
+    let f = all path bytes to in
+    record { line = f.line; is_scan = scan_move u old new path bytes f.line (still path to.settled.0) f.is_scan; found = f.found }
+
+-- nor is any line
+lacks_none_move : (u : Update) (old new : Folder) (events : List ChildEvent) (log : List LogLine) → Apart u.build.steps u.build.roots → ((path : List ℕ) → Settled u events path → new path ≡ old path) → LacksNoLine u events old log → LacksNoLine u events new log
+lacks_none_move u old new events log apart still all = record { scanned = scanned_move u old new events log still all.scanned; migrated = migrated_move u old new events log apart still all.migrated }
+
 -- and all lines stay what they are, where what is settled stands as before
 lines_move : (u : Update) (old new : Folder) (first log : List LogLine) (events : List ChildEvent) → Apart u.build.steps u.build.roots → IsRunSoFar u events → ((path : List ℕ) → Settled u events path → new path ≡ old path) → IsLogAfter u old first events log → IsLogAfter u new first events log
 lines_move u old new first log events apart run still begins = begins
 lines_move u old new first log events apart run still (starts es l i c all) =
     let early : (path : List ℕ) → Settled u es path → new path ≡ old path = λ p s. still p (settled_on u es apart (Start i) run p s) in
-    starts es l i (lines_move u old new first l es apart (but_last u es (Start i) run) early c) (migrated_move u old new es l apart early all)
+    starts es l i (lines_move u old new first l es apart (but_last u es (Start i) run) early c) (lacks_none_move u old new es l apart early all)
 lines_move u old new first log events apart run still (records es l i step members r c all at file closure is) =
     let early : (path : List ℕ) → Settled u es path → new path ≡ old path = λ p s. still p (settled_on u es apart (Done i true) run p s) in
-    records es l i step members r (lines_move u old new first l es apart (but_last u es (Done i true) run) early c) (migrated_move u old new es l apart early all) at file closure
+    records es l i step members r (lines_move u old new first l es apart (but_last u es (Done i true) run) early c) (lacks_none_move u old new es l apart early all) at file closure
     (record_move u old new step members r (λ out d. still out (done_outs u es i step at out d)) (λ m y d. still m (done_members u es apart i step members run at closure m y d)) is)
 lines_move u old new first log events apart run still (owes_none es l i step c all at none) =
     let early : (path : List ℕ) → Settled u es path → new path ≡ old path = λ p s. still p (settled_on u es apart (Done i true) run p s) in
-    owes_none es l i step (lines_move u old new first l es apart (but_last u es (Done i true) run) early c) (migrated_move u old new es l apart early all) at none
+    owes_none es l i step (lines_move u old new first l es apart (but_last u es (Done i true) run) early c) (lacks_none_move u old new es l apart early all) at none
 lines_move u old new first log events apart run still (drops es l i step r c all at found) =
     let early : (path : List ℕ) → Settled u es path → new path ≡ old path = λ p s. still p (settled_on u es apart (Done i false) run p s) in
-    drops es l i step r (lines_move u old new first l es apart (but_last u es (Done i false) run) early c) (migrated_move u old new es l apart early all) at found
+    drops es l i step r (lines_move u old new first l es apart (but_last u es (Done i false) run) early c) (lacks_none_move u old new es l apart early all) at found
 lines_move u old new first log events apart run still (has_none es l i step c all at none) =
     let early : (path : List ℕ) → Settled u es path → new path ≡ old path = λ p s. still p (settled_on u es apart (Done i false) run p s) in
-    has_none es l i step (lines_move u old new first l es apart (but_last u es (Done i false) run) early c) (migrated_move u old new es l apart early all) at none
+    has_none es l i step (lines_move u old new first l es apart (but_last u es (Done i false) run) early c) (lacks_none_move u old new es l apart early all) at none
 lines_move u old new first log events apart run still (scans es l p bytes s c to is new_line) =
     scans es l p bytes s (lines_move u old new first l es apart run still c) to (scan_move u old new p bytes s (still p to.settled.0) is) new_line
 lines_move u old new first log events apart run still (migrates es l step members r c to is new_line) =
@@ -122,6 +132,9 @@ lines_move u old new first log events apart run still (migrates es l step member
 
 pub migrated_after_change : MigratedAfterChange
 migrated_after_change u events before after log apart d all = migrated_move u before.now after.now events log apart (λ p s. settled_still u events before after apart d p s) all
+
+pub scanned_after_change : ScannedAfterChange
+scanned_after_change u events before after log apart d all = scanned_move u before.now after.now events log (λ p s. settled_still u events before after apart d p s) all
 
 pub log_moves : LogMoves
 log_moves u events before after first log apart run d c = lines_move u before.now after.now first log events apart run (λ p s. settled_still u events before after apart d p s) c

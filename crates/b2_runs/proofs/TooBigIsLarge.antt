@@ -9,7 +9,7 @@ use Rattle.b2_plan.specs.Cleans.{Clean}
 use Rattle.b2_runs.specs.Staleness.{Update}
 use Rattle.b2_runs.specs.Runs.{Settled, Settled.done_well, on_settled}
 use Rattle.b2_runs.specs.Soundness.{Holds, IsSound}
-use Rattle.b2_runs.specs.FileReads.{scan_limit, digest_limit, IsInput, IsNeededOut, IsToDigest, IsToDigest.input, IsToDigest.output, IsTooBig, IsTooBig.to_scan, IsTooBig.to_digest}
+use Rattle.b2_runs.specs.FileReads.{scan_limit, digest_limit, IsInput, IsNeededOut, IsToScan, IsToDigest, IsToDigest.input, IsToDigest.output, IsTooBig, IsTooBig.to_scan, IsTooBig.to_digest}
 use Rattle.b2_runs.specs.ReadLaws.{LargeIsTooBig, TooBigIsLarge, NothingTooBig, TooBigThroughEnd, TooBigThroughChange}
 use Rattle.b2_runs.proofs.ClosureStays.{known_grows, closure_stays}
 use Rattle.b2_runs.proofs.CleanIsOne.{clean_is_one}
@@ -58,6 +58,10 @@ input_up u events more path grows i = record {
   known = known_grows (on_settled u events) (on_settled u more) u.build i.step path (λ p x s. (grows p s.0, s.1)) i.known;
 }
 
+-- and what is to be scanned
+pub to_scan_up : (u : Update) (events more : List ChildEvent) (path bytes : List ℕ) → ((p : List ℕ) → Settled u events p → Settled u more p) → IsToScan u events path bytes → IsToScan u more path bytes
+to_scan_up u events more path bytes grows to = record { scanned = to.scanned; input = input_up u events more path grows to.input; settled = (grows path to.settled.0, to.settled.1) }
+
 abbrev pub out_up : (u : Update) (events more : List ChildEvent) (path : List ℕ) → ((p : List ℕ) → Settled u events p → Settled u more p) → IsNeededOut u events path → IsNeededOut u more path
 out_up u events more path grows o = record { number = o.number; needed = needed_up u events more grows o.number o.needed; step = o.step; makes = o.makes }
 
@@ -76,7 +80,7 @@ too_big_through_end u events now path size i well apart opened big = go big
         stands
 
     go : IsTooBig u events now path size → IsTooBig u (events ++ Done i well ∷ []) now path size
-    go (to_scan bytes to size_is more) = to_scan bytes (record { scanned = to.scanned; input = input_up u events (events ++ Done i well ∷ []) path grows to.input; settled = (grows path to.settled.0, to.settled.1) }) size_is more
+    go (to_scan bytes to size_is more) = to_scan bytes (to_scan_up u events (events ++ Done i well ∷ []) path bytes grows to) size_is more
     go (to_digest bytes to size_is more) = to_digest bytes (digested bytes to) size_is more
 
 pub too_big_through_change : TooBigThroughChange

@@ -24,9 +24,9 @@ use Rattle.b2_runs.specs.Events.{IsOpen, AreInOrder}
 use Rattle.b2_runs.specs.Runs.{on_settled, IsRunSoFar, IsBegun}
 use Rattle.b2_runs.specs.Outcomes.{IsFailed}
 use Rattle.b2_runs.specs.Soundness.{IsSound, IsAllowedChange}
-use Rattle.b2_runs.specs.FileReads.{IsLogThen, StandsWithLine}
+use Rattle.b2_runs.specs.FileReads.{IsToScan, IsLogThen, StandsWithLine}
 use Rattle.b2_runs.specs.Afterwards.{at_present, next_update, IsMadeEachTime, NoneDoneOlder, IsNotedStep, IsNoted}
-use Rattle.b2_runs.specs.LogCourses.{IsLong, Opening, FirstLines, log_file, held_bytes, HasDigestsAlready, IsToMigrate, AllMigrated, IsLogAfter, IsScannedFile, left_file, IsLogWhole, IsLogCut}
+use Rattle.b2_runs.specs.LogCourses.{IsLong, Opening, FirstLines, log_file, held_bytes, HasDigestsAlready, IsToMigrate, AllMigrated, IsScannedFile, AllScanned, IsLogAfter, left_file, IsLogWhole, IsLogCut}
 
 -- ---- what a log is opened with
 
@@ -107,19 +107,53 @@ abbrev pub AlreadyIsNoted : Type 0
 AlreadyIsNoted = (u : Update) (events : List ChildEvent) (disk : Disk) (log : List LogLine) (step : Step) (members : List (List ℕ × Value)) (r : Record) → IsConsistent disk → RecordsTrue (making u) disk.past log → u.by_digest ≡ true
     → IsFresh (at_present u disk.now log) events step members → IsRecordOf u disk.now step members r → HasDigestsAlready step.outs log r → IsNotedStep u disk.now log step members
 
--- ---- that no record with digests is left out
+-- ---- that no line is lacking
 
--- none is called for where judging is by stamps
+-- no record with digests is called for where judging is by stamps
 abbrev pub NoneToMigrate : Type 0
 NoneToMigrate = (u : Update) (events : List ChildEvent) (now : Folder) (log : List LogLine) → u.by_digest ≡ false → AllMigrated u events now log
 
--- a start calls for no other
+-- a start calls for no other record with digests
 abbrev pub MigratedAfterStart : Type 0
 MigratedAfterStart = (u : Update) (events : List ChildEvent) (now : Folder) (log : List LogLine) (i : ℕ) → Apart u.build.steps u.build.roots → AllMigrated u events now log → AllMigrated u (events ++ Start i ∷ []) now log
 
--- none is left out after steps that run or failed change their outputs
+-- no record with digests is lacking after steps that run or failed change their outputs
 abbrev pub MigratedAfterChange : Type 0
 MigratedAfterChange = (u : Update) (events : List ChildEvent) (before after : Disk) (log : List LogLine) → Apart u.build.steps u.build.roots → IsAllowedChange u events before after → AllMigrated u events before.now log → AllMigrated u events after.now log
+
+-- a start calls for no other scan line
+abbrev pub ScannedAfterStart : Type 0
+ScannedAfterStart = (u : Update) (events : List ChildEvent) (now : Folder) (log : List LogLine) (i : ℕ)
+    → AllScanned u events now log
+    → AllScanned u (events ++ Start i ∷ []) now log
+
+-- nor does a bad end
+abbrev pub ScannedAfterFailure : Type 0
+ScannedAfterFailure = (u : Update) (events : List ChildEvent) (now : Folder) (log : List LogLine) (i : ℕ)
+    → AllScanned u events now log
+    → AllScanned u (events ++ Done i false ∷ []) now log
+
+-- a file that was to have a scan line is to have it after the end of a step too
+abbrev pub ToScanAfterEnd : Type 0
+ToScanAfterEnd = (u : Update) (events : List ChildEvent) (path bytes : List ℕ) (i : ℕ) (well : Bool)
+    → Apart u.build.steps u.build.roots → IsOpen events i
+    → IsToScan u events path bytes
+    → IsToScan u (events ++ Done i well ∷ []) path bytes
+
+-- A file keeps its scan line as a line is appended. Where that is a scan line, it has the stamp of its file as it stands, and
+-- the log had none at this stamp.
+abbrev pub ScannedAfterLine : Type 0
+ScannedAfterLine = (u : Update) (now : Folder) (log : List LogLine) (line : LogLine) (path bytes : List ℕ)
+    → ((s : ScanLine) → line ≡ lines.Scan s → (stamp_at now s.path ≡ Some s.stamp) × (find_scan s.path s.stamp log ≡ None))
+    → IsScannedFile u now log path bytes
+    → IsScannedFile u now (log ++ line ∷ []) path bytes
+
+-- no scan line is lacking after steps that run or failed change their outputs
+abbrev pub ScannedAfterChange : Type 0
+ScannedAfterChange = (u : Update) (events : List ChildEvent) (before after : Disk) (log : List LogLine)
+    → Apart u.build.steps u.build.roots → IsAllowedChange u events before after
+    → AllScanned u events before.now log
+    → AllScanned u events after.now log
 
 -- ---- what the lines keep
 

@@ -86,25 +86,6 @@ pub record IsToMigrate (u : Update) (events : List ChildEvent) (step : Step) (me
 abbrev pub AllMigrated : Update → List ChildEvent → Folder → List LogLine → Type 0
 AllMigrated u events now log = (step : Step) (members : List (List ℕ × Value)) → IsToMigrate u events step members → IsNotedStep u now log step members
 
--- The lines of the log after events, from those that the update began with, by the files as they stand. A step that is done
--- well and owes files gets its record; one that is done badly gets a drop where the log has a record for its outputs. Between
--- them stand scan lines of files that are to have one, where the log has none at this stamp, and records with digests of steps
--- that are to have one, where the log's last line is no such record with these stamps. Before an event comes, no such record is
--- left out that was called for.
-pub data IsLogAfter (u : Update) (now : Folder) (first : List LogLine) : List ChildEvent → List LogLine → Type 0 where
-  begins : IsLogAfter u now first [] first
-  starts : (events : List ChildEvent) (log : List LogLine) (i : ℕ) → IsLogAfter u now first events log → AllMigrated u events now log → IsLogAfter u now first (events ++ Start i ∷ []) log
-  records : (events : List ChildEvent) (log : List LogLine) (i : ℕ) (step : Step) (members : List (List ℕ × Value)) (r : Record) → IsLogAfter u now first events log → AllMigrated u events now log → step_at u.build.steps i ≡ Some step → step.notfile ≡ false
-      → IsClosure u.build (Clean u.build) step members → IsRecordOf u now step members r → IsLogAfter u now first (events ++ Done i true ∷ []) (log ++ lines.Record r ∷ [])
-  owes_none : (events : List ChildEvent) (log : List LogLine) (i : ℕ) (step : Step) → IsLogAfter u now first events log → AllMigrated u events now log → step_at u.build.steps i ≡ Some step → step.notfile ≡ true → IsLogAfter u now first (events ++ Done i true ∷ []) log
-  drops : (events : List ChildEvent) (log : List LogLine) (i : ℕ) (step : Step) (r : Record) → IsLogAfter u now first events log → AllMigrated u events now log → step_at u.build.steps i ≡ Some step → find_record step.outs log ≡ Some r
-      → IsLogAfter u now first (events ++ Done i false ∷ []) (log ++ lines.Drop step.outs ∷ [])
-  has_none : (events : List ChildEvent) (log : List LogLine) (i : ℕ) (step : Step) → IsLogAfter u now first events log → AllMigrated u events now log → step_at u.build.steps i ≡ Some step → find_record step.outs log ≡ None → IsLogAfter u now first (events ++ Done i false ∷ []) log
-  scans : (events : List ChildEvent) (log : List LogLine) (path bytes : List ℕ) (s : ScanLine) → IsLogAfter u now first events log → IsToScan u events path bytes → IsScanOf u now path bytes s → find_scan path s.stamp log ≡ None
-      → IsLogAfter u now first events (log ++ lines.Scan s ∷ [])
-  migrates : (events : List ChildEvent) (log : List LogLine) (step : Step) (members : List (List ℕ × Value)) (r : Record) → IsLogAfter u now first events log → IsToMigrate u events step members → IsRecordOf u now step members r → (HasDigestsAlready step.outs log r → ⊥)
-      → IsLogAfter u now first events (log ++ lines.Record r ∷ [])
-
 -- The log's last scan line of the file has the stamp of the file as it stands, and its includes.
 pub record IsScannedFile (u : Update) (now : List ℕ → Option File) (log : List LogLine) (path bytes : List ℕ) : Type 0 where
   pub line : ScanLine
@@ -115,6 +96,31 @@ pub record IsScannedFile (u : Update) (now : List ℕ → Option File) (log : Li
 abbrev pub AllScanned : Update → List ChildEvent → Folder → List LogLine → Type 0
 AllScanned u events now log = (path bytes : List ℕ) → IsToScan u events path bytes → IsScannedFile u now log path bytes
 
+-- The log lacks no line that is called for after these events, but for those of the events themselves: it has each scan line and
+-- each record with digests.
+pub record LacksNoLine (u : Update) (events : List ChildEvent) (now : Folder) (log : List LogLine) : Type 0 where
+  pub scanned : AllScanned u events now log
+  pub migrated : AllMigrated u events now log
+
+-- The lines of the log after events, from those that the update began with, by the files as they stand. A step that is done well
+-- and owes files gets its record. One that is done badly gets a drop where the log has a record for its outputs. Between them stand
+-- scan lines of files that are to have one, where the log has none at this stamp. There stand records with digests too, of steps
+-- that are to have one, where the log's last line is no such record with these stamps. Before an event comes, no line is lacking
+-- that was called for.
+pub data IsLogAfter (u : Update) (now : Folder) (first : List LogLine) : List ChildEvent → List LogLine → Type 0 where
+  begins : IsLogAfter u now first [] first
+  starts : (events : List ChildEvent) (log : List LogLine) (i : ℕ) → IsLogAfter u now first events log → LacksNoLine u events now log → IsLogAfter u now first (events ++ Start i ∷ []) log
+  records : (events : List ChildEvent) (log : List LogLine) (i : ℕ) (step : Step) (members : List (List ℕ × Value)) (r : Record) → IsLogAfter u now first events log → LacksNoLine u events now log → step_at u.build.steps i ≡ Some step → step.notfile ≡ false
+      → IsClosure u.build (Clean u.build) step members → IsRecordOf u now step members r → IsLogAfter u now first (events ++ Done i true ∷ []) (log ++ lines.Record r ∷ [])
+  owes_none : (events : List ChildEvent) (log : List LogLine) (i : ℕ) (step : Step) → IsLogAfter u now first events log → LacksNoLine u events now log → step_at u.build.steps i ≡ Some step → step.notfile ≡ true → IsLogAfter u now first (events ++ Done i true ∷ []) log
+  drops : (events : List ChildEvent) (log : List LogLine) (i : ℕ) (step : Step) (r : Record) → IsLogAfter u now first events log → LacksNoLine u events now log → step_at u.build.steps i ≡ Some step → find_record step.outs log ≡ Some r
+      → IsLogAfter u now first (events ++ Done i false ∷ []) (log ++ lines.Drop step.outs ∷ [])
+  has_none : (events : List ChildEvent) (log : List LogLine) (i : ℕ) (step : Step) → IsLogAfter u now first events log → LacksNoLine u events now log → step_at u.build.steps i ≡ Some step → find_record step.outs log ≡ None → IsLogAfter u now first (events ++ Done i false ∷ []) log
+  scans : (events : List ChildEvent) (log : List LogLine) (path bytes : List ℕ) (s : ScanLine) → IsLogAfter u now first events log → IsToScan u events path bytes → IsScanOf u now path bytes s → find_scan path s.stamp log ≡ None
+      → IsLogAfter u now first events (log ++ lines.Scan s ∷ [])
+  migrates : (events : List ChildEvent) (log : List LogLine) (step : Step) (members : List (List ℕ × Value)) (r : Record) → IsLogAfter u now first events log → IsToMigrate u events step members → IsRecordOf u now step members r → (HasDigestsAlready step.outs log r → ⊥)
+      → IsLogAfter u now first events (log ++ lines.Record r ∷ [])
+
 -- the file that is left where it is to have these bytes: where none stood and there are none, none stands
 abbrev pub left_file : Option (List ℕ) → List ℕ → Option (List ℕ)
 left_file (Some old) bytes = Some bytes
@@ -122,15 +128,14 @@ left_file None [] = None
 left_file None (byte ∷ more) = Some (byte ∷ more)
 
 -- The log's file after an update that was not cut off: the lines that the update began with and those that its events call for,
--- with no scan line and no record with digests left out. Each of them is good, so that the file is read as these lines.
+-- with none lacking. Each of them is good, so that the file is read as these lines.
 pub record IsLogWhole (u : Update) (events : List ChildEvent) (now : List ℕ → Option File) : Type 0 where
   pub first : List LogLine
   pub begins : BeginsWith u first
   pub log : List LogLine
   pub course : IsLogAfter u now first events log
   pub good : AllByRecursion IsGood log
-  pub migrated : AllMigrated u events now log
-  pub scanned : AllScanned u events now log
+  pub lacks_none : LacksNoLine u events now log
   pub file : log_file now ≡ left_file (log_file u.build.folder) (log_bytes log)
 
 -- The log's file after an update that was cut off: it was not touched; or it was being replaced by other bytes; or it has the

@@ -1,5 +1,5 @@
 //! Laws of the log over a whole update: what it begins with, and what the events add.
-ghost use Rattle.b2_runs.specs.LogCourseLaws.{FirstLinesAreOne, BeginTellsRecords, BeginTellsScans, BeginIsAmong, HeldIsCounted, BeginIsRead, LinesAreRead, LogGrows, LogTellsOthers, LogTellsOpen, LogTellsUnstarted, JudgedByLog, LogDropsFailed, LogHasRecords, ScansOnce, MigratesOnce, StandsIsScanned, AlreadyIsNoted, NoneToMigrate, MigratedAfterStart, MigratedAfterChange, LogMoves, LogStaysTrue, ScansStayTrue, LogIsNoted, GoodBytesAreSpelled, ReplacedIsOther, AppendLeavesFile, LogStandsThen, WholeLogCounts, WholeIsCut, WholeLogIsAppendedTo, CutLogThroughEnd, CutLogThroughChange, CutLogIsTrue, CutLogIsNoted, FinishedIsKept, FinishedIsNotStarted};
+ghost use Rattle.b2_runs.specs.LogCourseLaws.{FirstLinesAreOne, BeginTellsRecords, BeginTellsScans, BeginIsAmong, HeldIsCounted, BeginIsRead, LinesAreRead, LogGrows, LogTellsOthers, LogTellsOpen, LogTellsUnstarted, JudgedByLog, LogDropsFailed, LogHasRecords, ScansOnce, MigratesOnce, StandsIsScanned, AlreadyIsNoted, NoneToMigrate, MigratedAfterStart, MigratedAfterChange, ScannedAfterStart, ScannedAfterFailure, ToScanAfterEnd, ScannedAfterLine, ScannedAfterChange, LogMoves, LogStaysTrue, ScansStayTrue, LogIsNoted, GoodBytesAreSpelled, ReplacedIsOther, AppendLeavesFile, LogStandsThen, WholeLogCounts, WholeIsCut, WholeLogIsAppendedTo, CutLogThroughEnd, CutLogThroughChange, CutLogIsTrue, CutLogIsNoted, FinishedIsKept, FinishedIsNotStarted};
 
 /// A log is opened with one list of lines.
 pub fn begins_with_one()
@@ -111,9 +111,34 @@ pub fn migrated_after_start()
     ensures { MigratedAfterStart }
 {}
 
-/// No record with digests is left out after steps that run or failed change their outputs.
+/// No record with digests is lacking after steps that run or failed change their outputs.
 pub fn migrated_after_change()
     ensures { MigratedAfterChange }
+{}
+
+/// A start calls for no scan line.
+pub fn scanned_after_start()
+    ensures { ScannedAfterStart }
+{}
+
+/// The bad end of a step calls for no scan line.
+pub fn scanned_after_failure()
+    ensures { ScannedAfterFailure }
+{}
+
+/// A file that was to have a scan line is to have it after the end of a step too.
+pub fn to_scan_after_end()
+    ensures { ToScanAfterEnd }
+{}
+
+/// A file keeps its scan line as a line is appended that is called for.
+pub fn scanned_after_line()
+    ensures { ScannedAfterLine }
+{}
+
+/// No scan line is lacking after steps that run or failed change their outputs.
+pub fn scanned_after_change()
+    ensures { ScannedAfterChange }
 {}
 
 /// The lines stay what the events call for as steps that run or failed change their outputs.
