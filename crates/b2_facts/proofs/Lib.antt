@@ -1,0 +1,14 @@
+pub mod ListsAtPlaces
+pub mod FactsGrow
+pub mod OneFileChanges
+pub mod FactsAreEntered
+pub mod DigestsAreHexadecimal
+pub mod LooksAreKept
+pub mod BytesAreKept
+pub mod FactsTellSources
+pub mod IncludesAreLookedFor
+pub mod FoundsAreMaps
+pub mod ListsAreNumbered
+pub mod ReadsTell
+pub mod FoundsComeIn
+pub mod IncludesAreNotLearned

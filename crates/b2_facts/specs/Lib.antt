@@ -1,0 +1,10 @@
+pub mod Changes
+pub mod Lists
+pub mod ReadFaults
+pub mod Stops
+pub mod Digests
+pub mod Facts
+pub mod Growth
+pub mod Truth
+pub mod Asks
+pub mod Laws
