@@ -1,15 +1,17 @@
-use Rattle.std.proofs.Common.{◌≡◌, ℕ, true, false, List, [], ◌∷◌, refl, sym, subst, arith, Some, None}
+use Rattle.std.proofs.Common.{◌≡◌, ℕ, true, false, List, [], ◌∷◌, ◌++◌, length, length-append, refl, sym, ap, subst, subst₂, arith, Some, None}
 use Rattle.std.specs.List.{Contains}
 use Rattle.std.proofs.lemmas.Slice.Eq.{bytes_eq-Decides}
+use Rattle.b2_host.specs.declared.children.ChildEvent.{ChildEvent}
 use Rattle.b2_host.specs.declared.children.ChildEvent.TheVariants.{Start, Done}
 use Rattle.b2_host.specs.Disks.{Folder, Past}
 use Rattle.b2_host.specs.Outside.{Read}
 use Rattle.b2_host.specs.FileCalls.{log_path}
 use Rattle.b2_plan.specs.Closures.{Known.input as input_of}
+use Rattle.b2_log.specs.declared.line.LogLine.{LogLine}
 use Rattle.b2_log.specs.declared.line.LogLine.TheVariants as lines
 use Rattle.b2_log.specs.Finding.{find_scan}
 use Rattle.b2_runs.specs.FileReads.{IsToScan, IsTooBig, IsTooBig.to_scan, IsTooBig.to_digest, IsToDigest, IsToDigest.input, IsToDigest.output, IsLogThen, IsCalledFor, IsCalledFor.to_scan as called, ReadsLeaveLines, StandsWithLine}
-use Rattle.b2_runs.specs.LogCourses.{IsScannedFile, AllScanned, LacksNoLine, IsLogAfter, IsLogAfter.begins, IsLogAfter.starts, IsLogAfter.records, IsLogAfter.scans}
+use Rattle.b2_runs.specs.LogCourses.{IsScannedFile, AllScanned, LacksNoLine, IsLogAfter, IsLogAfter.begins, IsLogAfter.starts, IsLogAfter.records, IsLogAfter.owes_none, IsLogAfter.drops, IsLogAfter.has_none, IsLogAfter.scans, IsLogAfter.migrates}
 use Rattle.b2_runs.proofs.FirstElementOrLater.{Contains_here, Contains_nil}
 use Rattle.b2_runs.proofs.NoneIsLeftOut.{none_to_migrate, scanned_after_start}
 use Rattle.b2_runs.proofs.ReadsOnce.{scanned_is_not_read, unscanned_is_not_read}
@@ -62,6 +64,28 @@ not_without all_are =
     let e : None ≡ Some f.line = f.found in
     cc
 
+-- of a list with three elements these are the first two and the last
+ends_third : (es : List ChildEvent) (x a b c : ChildEvent) → es ++ x ∷ [] ≡ a ∷ b ∷ c ∷ [] → (es ≡ a ∷ b ∷ []) × (x ≡ c)
+ends_third [] x a b c e = absurd (omega (arith, ap length e))
+ends_third (p ∷ []) x a b c e = absurd (omega (arith, ap length e))
+ends_third (p ∷ q ∷ []) x a b c e = let f : p ∷ q ∷ x ∷ [] ≡ a ∷ b ∷ c ∷ [] = e in (cc, cc)
+ends_third (p ∷ q ∷ r ∷ es) x a b c e = absurd (omega (arith, ap length e, length-append es (x ∷ [])))
+
+-- the last of one line is that line
+one_line : (log : List LogLine) (x y : LogLine) → log ++ x ∷ [] ≡ y ∷ [] → x ≡ y
+one_line [] x y e = let f : x ∷ [] ≡ y ∷ [] = e in cc
+one_line (z ∷ log) x y e = absurd (omega (arith, ap length e, length-append log (x ∷ [])))
+
+line_first : (events : List ChildEvent) (log : List LogLine) → IsLogAfter header_update b_stands [] events log → events ≡ Start 2 ∷ Done 2 true ∷ Start 3 ∷ [] → log ≡ recorded → ⊥
+line_first events log begins e same = let f : [] ≡ Start 2 ∷ Done 2 true ∷ Start 3 ∷ [] = e in cc
+line_first events log (starts es l i c all) e same = not_without (subst₂ (λ (list : List ChildEvent) ls. AllScanned header_update list b_stands ls) (ends_third es (Start i) (Start 2) (Done 2 true) (Start 3) e).0 same all.scanned)
+line_first events log (records es l i step members r c all at file closure is) e same = let f : Done i true ≡ Start 3 = (ends_third es (Done i true) (Start 2) (Done 2 true) (Start 3) e).1 in cc
+line_first events log (owes_none es l i step c all at none) e same = let f : Done i true ≡ Start 3 = (ends_third es (Done i true) (Start 2) (Done 2 true) (Start 3) e).1 in cc
+line_first events log (drops es l i step r c all at found) e same = let f : Done i false ≡ Start 3 = (ends_third es (Done i false) (Start 2) (Done 2 true) (Start 3) e).1 in cc
+line_first events log (has_none es l i step c all at none) e same = let f : Done i false ≡ Start 3 = (ends_third es (Done i false) (Start 2) (Done 2 true) (Start 3) e).1 in cc
+line_first events log (scans es l p bytes s c to is new_line) e same = let f : lines.Scan s ≡ lines.Record b_record = one_line l (lines.Scan s) (lines.Record b_record) same in cc
+line_first events log (migrates es l step members r c to is new_line) e same = let f : false ≡ true = to.by_digest in cc
+
 not_older : ¬ AllScanned header_update b_made b_stands (lines.Record b_record ∷ lines.Scan b_older ∷ [])
 not_older all_are =
     let f = all_are b_path (7 ∷ []) b_to_scan in
@@ -100,6 +124,7 @@ scans_hold = record {
   all = all;
   not_without = not_without;
   not_older = not_older;
+  line_first = λ c. line_first (Start 2 ∷ Done 2 true ∷ Start 3 ∷ []) recorded c refl refl;
   read = λ past read c not_log. let e = one_of (read_of b_path 2 None) read c in subst (λ (r : Read). IsCalledFor header_update b_made past r) e (called 2 [] refl b_to_scan.input refl refl refl);
   not_again = λ past stamp one then once. scanned_is_not_read header_update b_made past (read_of b_path 2 (Some stamp) ∷ []) (read_of b_path 2 (Some stamp)) 2 scanned b_scan refl one once (Contains_here (read_of b_path 2 (Some stamp)) []) b_not_log refl then refl;
   not_x = λ past once. unscanned_is_not_read header_update b_made past (read_of x_path 1 None ∷ []) (read_of x_path 1 None) refl once (Contains_here (read_of x_path 1 None) []) x_not_log refl;

@@ -1,5 +1,6 @@
-use Rattle.std.specs.Prelude.{ℕ, List, [], ◌∷◌, Option, Some, None, codes, if◌then◌else◌}
+use Rattle.std.specs.Prelude.{ℕ, List, [], ◌∷◌, ◌++◌, Option, Some, None, codes, if◌then◌else◌}
 use Rattle.std.specs.Str.{bytes_eq}
+use Rattle.b2_host.specs.declared.children.ChildEvent.TheVariants.{Start}
 use Rattle.b2_host.specs.Disks.{Folder, Past, IsOneEach}
 use Rattle.b2_host.specs.Outside.{Read}
 use Rattle.b2_log.specs.declared.line.Record.{Record}
@@ -46,6 +47,8 @@ pub record ScansHold : Type 0 where
   -- without its line, or with that of an older file, not all are scanned
   pub not_without : ¬ AllScanned header_update b_made b_stands recorded
   pub not_older : ¬ AllScanned header_update b_made b_stands (lines.Record b_record ∷ lines.Scan b_older ∷ [])
+  -- no step may start before that line is in the log
+  pub line_first : ¬ IsLogAfter header_update b_stands [] (b_made ++ Start 3 ∷ []) recorded
   -- `b` is read where no log stood, and once its line stands in the log it is not read again; `x`, which is not scanned, is never
   pub read : (past : List Past) → ReadsOnce header_update b_made past (read_of b_path 2 None ∷ [])
   pub not_again : (past : List Past) (stamp : ℕ) → IsOneEach past → IsLogThen past (Some stamp) scanned → ¬ ReadsOnce header_update b_made past (read_of b_path 2 (Some stamp) ∷ [])
