@@ -34,19 +34,19 @@ use Rattle.b2_runs.specs.LogCourses.{IsLong, Opening, FirstLines, log_file, held
 abbrev pub FirstLinesAreOne : Type 0
 FirstLinesAreOne = (opening : Opening) (bytes : List ℕ) (first other : List LogLine) → FirstLines opening bytes first → FirstLines opening bytes other → first ≡ other
 
--- they tell of each step what the log's file told
+-- the lines that a log is opened with tell of each step what the log's file told
 abbrev pub BeginTellsRecords : Type 0
 BeginTellsRecords = (opening : Opening) (bytes : List ℕ) (first log : List LogLine) (outs : List (List ℕ)) → FirstLines opening bytes first → IsLogOf bytes log → find_record outs first ≡ find_record outs log
 
--- they tell of each scanned file what the log's file told
+-- the lines that a log is opened with tell of each scanned file what the log's file told
 abbrev pub BeginTellsScans : Type 0
 BeginTellsScans = (opening : Opening) (bytes : List ℕ) (first log : List LogLine) (path : List ℕ) (stamp : ℕ) → FirstLines opening bytes first → IsLogOf bytes log → find_scan path stamp first ≡ find_scan path stamp log
 
--- they are among the lines of that file, so they are true where these are
+-- the lines that a log is opened with are among those of its file, so they are true where these are
 abbrev pub BeginIsAmong : Type 0
 BeginIsAmong = (opening : Opening) (bytes : List ℕ) (first log : List LogLine) (line : LogLine) → FirstLines opening bytes first → IsLogOf bytes log → Contains first line → Contains log line
 
--- they are good, and within the limit: so the file that has them is read as these lines
+-- the lines that a log is opened with are good, and within the limit: so the file that has them is read as these lines
 abbrev pub BeginIsRead : Type 0
 BeginIsRead = (opening : Opening) (bytes : List ℕ) (first : List LogLine) → FirstLines opening bytes first → AllByRecursion IsGood first × (length (log_bytes first) ≤ log_limit)
 
@@ -64,36 +64,36 @@ HeldIsCounted = (held : Option (List ℕ)) (log : List LogLine) → IsLogHeld he
 abbrev pub LogGrows : Type 0
 LogGrows = (u : Update) (now : Folder) (first log : List LogLine) (events : List ChildEvent) → IsLogAfter u now first events log → (more : List LogLine) × (log ≡ first ++ more)
 
--- they say nothing of outputs that are those of no step of the plan
+-- the lines of the course say nothing of outputs that are those of no step of the plan
 abbrev pub LogTellsOthers : Type 0
 LogTellsOthers = (u : Update) (now : Folder) (first log : List LogLine) (events : List ChildEvent) (outs : List (List ℕ)) → IsLogAfter u now first events log → ((i : ℕ) (step : Step) → step_at u.build.steps i ≡ Some step → step.outs ≢ outs) → find_record outs log ≡ find_record outs first
 
--- of a step that runs they tell what those told that the update began with, so whether its end calls for a drop
+-- of a step that runs the lines of the course tell what the first lines told, so whether its end calls for a drop
 abbrev pub LogTellsOpen : Type 0
 LogTellsOpen = (u : Update) (now : Folder) (first log : List LogLine) (events : List ChildEvent) (i : ℕ) (step : Step) → Apart u.build.steps u.build.roots → IsRunSoFar u events → IsLogAfter u now first events log → IsOpen events i → step_at u.build.steps i ≡ Some step
     → find_record step.outs log ≡ find_record step.outs first
 
--- of a step that was not started they tell the same, or it was to get a record with digests and has it
+-- of a step that was not started the lines of the course tell the same, or it was to get a record with digests and has it
 abbrev pub LogTellsUnstarted : Type 0
 LogTellsUnstarted = (u : Update) (now : Folder) (first log : List LogLine) (events : List ChildEvent) (i : ℕ) (step : Step) → Apart u.build.steps u.build.roots → IsRunSoFar u events → IsLogAfter u now first events log → (Contains events (Start i) → ⊥) → step_at u.build.steps i ≡ Some step
     → (find_record step.outs log ≡ find_record step.outs first) ⊎ ((members : List (List ℕ × Value)) × IsToMigrate u events step members × IsNotedStep u now log step members)
 
--- so a step that was not started is judged by them and by the files as they stand as by those at entry
+-- a step that was not started is judged by the lines of the course and by the files as they stand as by those at entry
 abbrev pub JudgedByLog : Type 0
 JudgedByLog = (u : Update) (events : List ChildEvent) (disk : Disk) (first log : List LogLine) (i : ℕ) (step : Step) (members : List (List ℕ × Value)) → Apart u.build.steps u.build.roots → IsRunSoFar u events → IsSound u events disk
     → ((outs : List (List ℕ)) → find_record outs first ≡ find_record outs u.log) → IsLogAfter u disk.now first events log → step_at u.build.steps i ≡ Some step → (Contains events (Start i) → ⊥) → IsClosure u.build (on_settled u events) step members
     → IsFresh (at_present u disk.now log) events step members ↔ IsFresh u events step members
 
--- they have no record of a step that failed
+-- the lines of the course have no record of a step that failed
 abbrev pub LogDropsFailed : Type 0
 LogDropsFailed = (u : Update) (now : Folder) (first log : List LogLine) (events : List ChildEvent) (i : ℕ) (step : Step) → Apart u.build.steps u.build.roots → IsLogAfter u now first events log → AreInOrder u.build.steps u.jobs events → IsFailed events i → step_at u.build.steps i ≡ Some step
     → find_record step.outs log ≡ None
 
--- once a file has got its scan line, the log has one at the stamp of the file, so that no other is called for
+-- once a file has got its scan line, the log has one at the stamp of the file: no other is called for
 abbrev pub ScansOnce : Type 0
 ScansOnce = (u : Update) (now : Folder) (log : List LogLine) (path bytes : List ℕ) (s other : ScanLine) → IsScanOf u now path bytes s → IsScanOf u now path bytes other → find_scan path other.stamp (log ++ lines.Scan s ∷ []) ≡ Some s
 
--- once a step has got its record with digests, the log has one with the stamps of the files, so that no other is called for
+-- once a step has got its record with digests, the log has one with the stamps of the files: no other is called for
 abbrev pub MigratesOnce : Type 0
 MigratesOnce = (u : Update) (now : Folder) (log : List LogLine) (step : Step) (members : List (List ℕ × Value)) (r other : Record) → u.by_digest ≡ true → IsRecordOf u now step members r → IsRecordOf u now step members other → HasDigestsAlready step.outs (log ++ lines.Record r ∷ []) other
 
@@ -127,7 +127,7 @@ ScannedAfterStart = (u : Update) (events : List ChildEvent) (now : Folder) (log 
     → AllScanned u events now log
     → AllScanned u (events ++ Start i ∷ []) now log
 
--- nor does a bad end
+-- a bad end calls for no other scan line
 abbrev pub ScannedAfterFailure : Type 0
 ScannedAfterFailure = (u : Update) (events : List ChildEvent) (now : Folder) (log : List LogLine) (i : ℕ)
     → AllScanned u events now log
@@ -157,24 +157,24 @@ ScannedAfterChange = (u : Update) (events : List ChildEvent) (before after : Dis
 
 -- ---- what the lines keep
 
--- they stay what the events call for as steps that run or failed change their outputs
+-- the lines of the course stay what the events call for as steps that run or failed change their outputs
 abbrev pub LogMoves : Type 0
 LogMoves = (u : Update) (events : List ChildEvent) (before after : Disk) (first log : List LogLine) → Apart u.build.steps u.build.roots → IsRunSoFar u events → IsAllowedChange u events before after → IsLogAfter u before.now first events log → IsLogAfter u after.now first events log
 
--- they are true where the lines were that the update began with
+-- the lines of the course are true where the first lines were
 abbrev pub LogStaysTrue : Type 0
 LogStaysTrue = (u : Update) (events : List ChildEvent) (disk : Disk) (first log : List LogLine) → Apart u.build.steps u.build.roots → IsRunSoFar u events → IsSound u events disk → LogTrue (making u) disk.past first → IsLogAfter u disk.now first events log → LogTrue (making u) disk.past log
 
--- their scan lines are true where those were, whatever the records are
+-- the scan lines of the course are true where those of the first lines were, whatever the records are
 abbrev pub ScansStayTrue : Type 0
 ScansStayTrue = (u : Update) (events : List ChildEvent) (disk : Disk) (first log : List LogLine) → Apart u.build.steps u.build.roots → IsRunSoFar u events → IsSound u events disk → ScansTrue (making u) disk.past first → IsLogAfter u disk.now first events log → ScansTrue (making u) disk.past log
 
--- their last lines are on what was done with each step, where no output that was made is older than what it was made of
+-- the last lines of the course are on what was done with each step, where no output that was made is older than what it was made of
 abbrev pub LogIsNoted : Type 0
 LogIsNoted = (u : Update) (now : Folder) (first log : List LogLine) (events : List ChildEvent) → Apart u.build.steps u.build.roots → IsRunSoFar u events → ((outs : List (List ℕ)) → find_record outs first ≡ find_record outs u.log) → NoneDoneOlder u events now
     → IsLogAfter u now first events log → IsNoted u events now log
 
--- so the record of a step that was done well and owes files is what is found for its outputs
+-- the record of a step that was done well and owes files is what is found for its outputs
 abbrev pub LogHasRecords : Type 0
 LogHasRecords = (u : Update) (now : Folder) (first log : List LogLine) (events : List ChildEvent) (i : ℕ) (step : Step) (members : List (List ℕ × Value)) → Apart u.build.steps u.build.roots → AreInOrder u.build.steps u.jobs events → IsLogAfter u now first events log
     → Contains events (Done i true) → step_at u.build.steps i ≡ Some step → step.notfile ≡ false → IsClosure u.build (Clean u.build) step members → IsNotedStep u now log step members
@@ -214,7 +214,7 @@ WholeLogIsAppendedTo = (u : Update) (events : List ChildEvent) (now : Folder) (b
 abbrev pub CutLogThroughEnd : Type 0
 CutLogThroughEnd = (u : Update) (events : List ChildEvent) (now : Folder) (i : ℕ) (well : Bool) → IsOpen events i → IsLogCut u events now → IsLogCut u (events ++ Done i well ∷ []) now
 
--- it stays so as steps that run or failed change their outputs, where the log's file stays as it is
+-- a log that may be left stays so as steps that run or failed change their outputs, where its file stays as it is
 abbrev pub CutLogThroughChange : Type 0
 CutLogThroughChange = (u : Update) (events : List ChildEvent) (before after : Disk) → Apart u.build.steps u.build.roots → IsAllowedChange u events before after → log_file after.now ≡ log_file before.now → IsLogCut u events before.now → IsLogCut u events after.now
 
@@ -223,20 +223,20 @@ abbrev pub CutLogIsTrue : Type 0
 CutLogIsTrue = (u : Update) (events : List ChildEvent) (disk : Disk) → Apart u.build.steps u.build.roots → IsSound u events disk → IsTrueFile (making u) disk.past (held_bytes (log_file u.build.folder)) → IsLogCut u events disk.now
     → IsTrueFile (making u) disk.past (held_bytes (log_file disk.now))
 
--- Wherever an update was cut off, its log's last lines are on what was done in a run so far that holds each of its starts; but
+-- Wherever an update was cut off, its log's last lines are on what was done in a run so far that holds each of its starts. But
 -- before any event it may have lost records of earlier updates, where it was being replaced.
 abbrev pub CutLogIsNoted : Type 0
 CutLogIsNoted = (u : Update) (events : List ChildEvent) (now : Folder) (log : List LogLine) → Apart u.build.steps u.build.roots → NoneDoneOlder u events now → IsLogIn u.build.folder u.log → IsLogCut u events now → length (held_bytes (log_file now)) ≤ log_limit → IsLogIn now log
     → (events ≡ []) ⊎ ((b : IsBegun u events) × IsNoted u b.front now log)
 
--- What a finished step made is kept, wherever an update was cut off: of a step that was done well before the last start, the log
+-- What a finished step made is kept, wherever an update was cut off. Of a step that was done well before the last start the log
 -- has a record that agrees with the files, judged as the next update judges it before any event.
 abbrev pub FinishedIsKept : Type 0
 FinishedIsKept = (u : Update) (events before after : List ChildEvent) (now : Folder) (log : List LogLine) (quit : Bool) (jobs k i : ℕ) (step : Step) (members : List (List ℕ × Value)) → Apart u.build.steps u.build.roots
     → NoneDoneOlder u events now → IsLogIn u.build.folder u.log → IsLogCut u events now → length (held_bytes (log_file now)) ≤ log_limit → IsLogIn now log
     → events ≡ before ++ Start k ∷ after → Contains before (Done i true) → step_at u.build.steps i ≡ Some step → step.notfile ≡ false → IsClosure u.build (Clean u.build) step members → IsRecorded (next_update u now log quit jobs) [] step members
 
--- so the run of the next update holds no start of it, unless an always-step or a notfile step reaches it
+-- the run of the next update holds no start of a finished step, unless an always-step or a notfile step reaches it
 abbrev pub FinishedIsNotStarted : Type 0
 FinishedIsNotStarted = (u : Update) (events before after later : List ChildEvent) (disk : Disk) (log : List LogLine) (quit : Bool) (jobs k i : ℕ) (step : Step) (path : List ℕ) → Apart u.build.steps u.build.roots → IsSound u events disk
     → NoneDoneOlder u events disk.now → IsLogIn u.build.folder u.log → IsLogCut u events disk.now → length (held_bytes (log_file disk.now)) ≤ log_limit → IsLogIn disk.now log

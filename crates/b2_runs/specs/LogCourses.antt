@@ -40,8 +40,8 @@ abbrev pub IsToShorten : Opening → List LogLine → Type 0
 IsToShorten to_update log = IsLong log
 IsToShorten to_cut log = ⊥
 
--- The lines that a log is opened with, by the bytes of its file: the kept ones where the file has a torn tail or the log is to
--- be shortened, none where the file is above the limit, and else all of them.
+-- The lines that a log is opened with, by the bytes of its file. They are the kept ones where the file has a torn tail or the log
+-- is to be shortened. There are none where the file is above the limit. Else they are all of them.
 pub data FirstLines (opening : Opening) (bytes : List ℕ) : List LogLine → Type 0 where
   as_it_is : (log : List LogLine) → length bytes ≤ log_limit → IsReading bytes log (length bytes) → (IsToShorten opening log → ⊥) → FirstLines opening bytes log
   torn : (log : List LogLine) (good : ℕ) → length bytes ≤ log_limit → IsReading bytes log good → good < length bytes → FirstLines opening bytes (kept log)
@@ -81,8 +81,8 @@ pub record IsToMigrate (u : Update) (events : List ChildEvent) (step : Step) (me
   pub closure : IsClosure u.build (on_settled u events) step members
   pub is_fresh : IsFresh u events step members
 
--- Where judging is by digests, the log has a record with digests of each needed step that is fresh and was not started, with
--- the stamps of the files as they stand.
+-- Where judging is by digests, the log has a record with digests of each needed step that is fresh and was not started. Its
+-- stamps are those of the files as they stand.
 abbrev pub AllMigrated : Update → List ChildEvent → Folder → List LogLine → Type 0
 AllMigrated u events now log = (step : Step) (members : List (List ℕ × Value)) → IsToMigrate u events step members → IsNotedStep u now log step members
 
@@ -138,7 +138,7 @@ pub record IsLogWhole (u : Update) (events : List ChildEvent) (now : List ℕ �
   pub lacks_none : LacksNoLine u events now log
   pub file : log_file now ≡ left_file (log_file u.build.folder) (log_bytes log)
 
--- The log's file after an update that was cut off: it was not touched; or it was being replaced by other bytes; or it has the
+-- The log's file after an update that was cut off. It was not touched, or it was being replaced by other bytes. Or it has the
 -- lines that the events of a run so far call for, up to where no step starts any more, and perhaps a part of one line more. Each
 -- of these lines is good.
 pub data IsLogCut (u : Update) (events : List ChildEvent) (now : Folder) : Type 0 where

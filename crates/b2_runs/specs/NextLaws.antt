@@ -32,8 +32,8 @@ NoneStartsAfterAllWent = (u v : Update) (answer : UpdateAnswer) (first between a
     → (x : HostUpdated u all_went first between) → again.disk ≡ between.disk → (y : HostUpdated v answer again last) → IsOfSamePlan u v → IsTrueOn (making u) x.old → Distinguishes u y.new.past
     → length (held_bytes (log_file y.old.now)) ≤ log_limit → AreEventsBetween again last later → Makes u.build.steps i step path → (IsMadeEachTime (record u.build { folder = x.old.now }) path → ⊥) → Contains later (Start i) → ⊥
 
--- whatever the first one answered, with a log within its limit, the second one starts no step that was done well before the last
--- start of the first one, with the same exceptions
+-- Whatever the first one answered, with a log within its limit, the second one starts no step that was done well before the
+-- last start of the first one. The exceptions are the same.
 abbrev pub NoneDoneStartsAgain : Type 0
 NoneDoneStartsAgain = (u v : Update) (given answer : UpdateAnswer) (first between again last : Outside) (events before after later : List ChildEvent) (k i : ℕ) (step : Step) (path : List ℕ)
     → (x : HostUpdated u given first between) → again.disk ≡ between.disk → (y : HostUpdated v answer again last) → IsOfSamePlan u v → IsTrueOn (making u) x.old → Distinguishes u y.new.past

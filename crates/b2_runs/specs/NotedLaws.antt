@@ -30,11 +30,12 @@ OutsDiffer = (u : Update) (i k : ℕ) (step other : Step) → Apart u.build.step
 abbrev pub NotedByRecord : Type 0
 NotedByRecord = (u : Update) (now : Folder) (log : List LogLine) (step : Step) (members : List (List ℕ × Value)) (r : Record) → IsRecordOf u now step members r → IsNotedStep u now (log ++ lines.Record r ∷ []) step members
 
--- it stays so as a line about other outputs is appended
+-- the last line on a step stays so as a line about other outputs is appended
 abbrev pub NotedBesideLine : Type 0
 NotedBesideLine = (u : Update) (now : Folder) (log : List LogLine) (step : Step) (members : List (List ℕ × Value)) (line : LogLine) → subject_of line ≢ subjects.Outputs step.outs → IsNotedStep u now log step members → IsNotedStep u now (log ++ line ∷ []) step members
 
--- of a step that was not started, all of whose closure is settled, it stays so as steps that run or failed change their outputs
+-- The last line on a step stays so as steps that run or failed change their outputs, where it was not started and all of its
+-- closure is settled.
 abbrev pub NotedBesideChange : Type 0
 NotedBesideChange = (u : Update) (events : List ChildEvent) (before after : Disk) (log : List LogLine) (i : ℕ) (step : Step) (members : List (List ℕ × Value)) → Apart u.build.steps u.build.roots → IsAllowedChange u events before after → step_at u.build.steps i ≡ Some step → (Contains events (Start i) → ⊥)
     → ((member : List ℕ) (value : Value) → Contains members (member, value) → Settled u events member) → IsNotedStep u before.now log step members → IsNotedStep u after.now log step members
@@ -53,20 +54,20 @@ FailedIsStale = (u : Update) (events : List ChildEvent) (now : Folder) (log : Li
 
 -- ---- no output that was made is older than what it was made of, also of those that end after an update stopped
 
--- before any event
+-- before any event no output that was made is older than what it was made of
 abbrev pub NoneOlderAtEntry : Type 0
 NoneOlderAtEntry = (u : Update) (now : Folder) → NoneDoneOlder u [] now
 
--- it stays so as a step starts
+-- none is older as a step starts
 abbrev pub NoneOlderAfterStart : Type 0
 NoneOlderAfterStart = (u : Update) (events : List ChildEvent) (now : Folder) (i : ℕ) → NoneDoneOlder u events now → NoneDoneOlder u (events ++ Start i ∷ []) now
 
--- it stays so as a step ends, where its own outputs are not older, if it ended well and owes files
+-- none is older as a step ends, where its own outputs are not older, if it ended well and owes files
 abbrev pub NoneOlderAfterEnd : Type 0
 NoneOlderAfterEnd = (u : Update) (events : List ChildEvent) (now : Folder) (i : ℕ) (well : Bool) → NoneDoneOlder u events now
     → (well ≡ true → (step : Step) (members : List (List ℕ × Value)) → step_at u.build.steps i ≡ Some step → step.notfile ≡ false → IsClosure u.build (Clean u.build) step members → NoneOlder now step members)
     → NoneDoneOlder u (events ++ Done i well ∷ []) now
 
--- it stays so as steps that run or failed change their outputs
+-- none is older as steps that run or failed change their outputs
 abbrev pub NoneOlderAfterChange : Type 0
 NoneOlderAfterChange = (u : Update) (events : List ChildEvent) (before after : Disk) → Apart u.build.steps u.build.roots → IsBegun u events → IsAllowedChange u events before after → NoneDoneOlder u events before.now → NoneDoneOlder u events after.now

@@ -27,15 +27,15 @@ LargeIsTooBig = (u : Update) (events : List ChildEvent) (disk : Disk) (path byte
 abbrev pub TooBigIsLarge : Type 0
 TooBigIsLarge = (u : Update) (events : List ChildEvent) (disk : Disk) (path : List ℕ) (size : ℕ) → Apart u.build.steps u.build.roots → IsSound u events disk → IsTooBig u events disk.now path size → (bytes : List ℕ) × (bytes_at disk.now path ≡ Some bytes) × (size ≡ length bytes) × (scan_limit < size)
 
--- No scanned member of a needed closure is above the limit; and where judging is by digests, no member or output of a needed step
--- is above it, at entry or in the clean build.
+-- No scanned member of a needed closure is above the limit. Where judging is by digests, no member or output of a needed step is
+-- above it, at entry or in the clean build.
 pub record NoneLarge (u : Update) (events : List ChildEvent) : Type 0 where
   pub scanned : (path bytes : List ℕ) → IsToScan u events path bytes → length bytes ≤ scan_limit
   pub inputs : u.by_digest ≡ true → (path bytes : List ℕ) → IsInput u events path → on_settled u events path (Some bytes) → length bytes ≤ digest_limit
   pub at_entry : u.by_digest ≡ true → (path bytes : List ℕ) → IsNeededOut u events path → bytes_at u.build.folder path ≡ Some bytes → length bytes ≤ digest_limit
   pub in_clean : u.by_digest ≡ true → (path bytes : List ℕ) → IsNeededOut u events path → Clean u.build path (Some bytes) → length bytes ≤ digest_limit
 
--- there no file is too big
+-- where that is so no file is too big
 abbrev pub NothingTooBig : Type 0
 NothingTooBig = (u : Update) (events : List ChildEvent) (disk : Disk) (path : List ℕ) (size : ℕ) → Apart u.build.steps u.build.roots → IsSound u events disk → NoneLarge u events → IsTooBig u events disk.now path size → ⊥
 
@@ -57,23 +57,23 @@ ReadsNone = (u : Update) (events : List ChildEvent) (past : List Past) → Reads
 abbrev pub ReadsMore : Type 0
 ReadsMore = (u : Update) (events : List ChildEvent) (past : List Past) (reads : List Read) (read : Read) → ReadsOnce u events past reads → (read.path ≡ log_path) ⊎ IsCalledFor u events past read → ReadsOnce u events past (reads ++ read ∷ [])
 
--- it stays so as events come
+-- an update that reads once still does as events come
 abbrev pub ReadsAlong : Type 0
 ReadsAlong = (u : Update) (events : List ChildEvent) (event : ChildEvent) (past : List Past) (reads : List Read) → Apart u.build.steps u.build.roots → MayCome u events event → ReadsOnce u events past reads → ReadsOnce u (events ++ event ∷ []) past reads
 
--- it stays so as an open step ends, though others could start: so it is where a fault has come, and an update only waits
+-- an update that reads once still does as an open step ends, though others could start: a fault has come, and it only waits
 abbrev pub ReadsThroughEnd : Type 0
 ReadsThroughEnd = (u : Update) (events : List ChildEvent) (i : ℕ) (well : Bool) (past : List Past) (reads : List Read) → Apart u.build.steps u.build.roots → IsOpen events i → ReadsOnce u events past reads → ReadsOnce u (events ++ Done i well ∷ []) past reads
 
--- what a needed step is known to read stays so then
+-- what a needed step is known to read stays so as an open step ends
 abbrev pub InputThroughEnd : Type 0
 InputThroughEnd = (u : Update) (events : List ChildEvent) (i : ℕ) (well : Bool) (path : List ℕ) → Apart u.build.steps u.build.roots → IsOpen events i → IsInput u events path → IsInput u (events ++ Done i well ∷ []) path
 
--- and so does what one makes
+-- what a needed step makes stays so as an open step ends
 abbrev pub NeededOutThroughEnd : Type 0
 NeededOutThroughEnd = (u : Update) (events : List ChildEvent) (i : ℕ) (well : Bool) (path : List ℕ) → Apart u.build.steps u.build.roots → IsOpen events i → IsNeededOut u events path → IsNeededOut u (events ++ Done i well ∷ []) path
 
--- it reads once where more has stood
+-- an update that reads once still does where more has stood
 abbrev pub ReadsAsPastGrows : Type 0
 ReadsAsPastGrows = (u : Update) (events : List ChildEvent) (past more : List Past) (reads : List Read) → ((old : Past) → Contains past old → Contains more old) → ReadsOnce u events past reads → ReadsOnce u events more reads
 
@@ -96,12 +96,12 @@ LinesOfNone = (u : Update) (events : List ChildEvent) (past : List Past) (now : 
 abbrev pub LinesBeforeRead : Type 0
 LinesBeforeRead = (u : Update) (events : List ChildEvent) (past : List Past) (now : Folder) (log : List LogLine) (reads : List Read) (next : Read) → HaveLines u events past now log reads → IsLogThen past next.log log → ReadsLeaveLines u past reads → ReadsLeaveLines u past (reads ++ next ∷ [])
 
--- a read whose line stands in the log has it with the others; the log's own needs none
+-- a read whose line stands in the log has it with the others, and the log's own needs none
 abbrev pub LinesAfterRead : Type 0
 LinesAfterRead = (u : Update) (events : List ChildEvent) (past : List Past) (now : Folder) (log : List LogLine) (reads : List Read) (read : Read) → ((stamp : ℕ) → IsScanRead u past read stamp → StandsWithLine u events now log read.path stamp)
     → HaveLines u events past now log reads → HaveLines u events past now log (reads ++ read ∷ [])
 
--- they have them where more has stood
+-- reads that leave their lines still do where more has stood
 abbrev pub LinesAsPastGrows : Type 0
 LinesAsPastGrows = (u : Update) (events : List ChildEvent) (past more : List Past) (now : Folder) (log : List LogLine) (reads : List Read) → ((old : Past) → Contains past old → Contains more old)
     → (ReadsLeaveLines u past reads → ReadsLeaveLines u more reads) × (HaveLines u events past now log reads → HaveLines u events more now log reads)
@@ -111,12 +111,12 @@ abbrev pub StandsAfterLine : Type 0
 StandsAfterLine = (u : Update) (events : List ChildEvent) (now : Folder) (log : List LogLine) (path : List ℕ) (stamp : ℕ) (line : LogLine) → ((s : ScanLine) → line ≡ lines.Scan s → stamp_at now s.path ≡ Some s.stamp)
     → StandsWithLine u events now log path stamp → StandsWithLine u events now (log ++ line ∷ []) path stamp
 
--- it does as events come that leave settled what was
+-- a file that stands with its line does as events come that leave settled what was
 abbrev pub StandsAlong : Type 0
 StandsAlong = (u : Update) (events more : List ChildEvent) (now : Folder) (log : List LogLine) (path : List ℕ) (stamp : ℕ) → ((other : List ℕ) → Settled u events other → Settled u more other)
     → StandsWithLine u events now log path stamp → StandsWithLine u more now log path stamp
 
--- it does as steps that run or failed change their outputs
+-- a file that stands with its line does as steps that run or failed change their outputs
 abbrev pub StandsAfterChange : Type 0
 StandsAfterChange = (u : Update) (events : List ChildEvent) (before after : Disk) (log : List LogLine) (path : List ℕ) (stamp : ℕ) → Apart u.build.steps u.build.roots → IsAllowedChange u events before after
     → StandsWithLine u events before.now log path stamp → StandsWithLine u events after.now log path stamp

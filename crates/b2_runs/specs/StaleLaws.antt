@@ -17,7 +17,7 @@ StaleByPoint = (u : Update) (events : List ChildEvent) (step : Step) (members : 
 abbrev pub StaleByPointAlone : Type 0
 StaleByPointAlone = (u : Update) (events : List ChildEvent) (step : Step) (members : List (List ℕ × Value)) → ¬ StalePoint u events step members → ¬ IsStale u events step members
 
--- a step that was started was stale then, and is
+-- a step that was started is stale, as it was then
 abbrev pub StartedIsStale : Type 0
 StartedIsStale = (u : Update) (events : List ChildEvent) (i : ℕ) (step : Step) (members : List (List ℕ × Value)) → Apart u.build.steps u.build.roots → IsRunSoFar u events → Contains events (Start i) → step_at u.build.steps i ≡ Some step → IsClosure u.build (Clean u.build) step members
     → IsStale u events step members
