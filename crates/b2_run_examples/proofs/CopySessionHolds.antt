@@ -165,6 +165,7 @@ did = record {
   apart = apart;
   jobs = (omega arith, omega arith);
   idle = refl;
+  risks = refl;
   none_left = inl refl;
   left_open = record {
     events = copied;
@@ -242,7 +243,7 @@ copy_session_holds = record {
   updated = updated;
   starts_nothing_more = starts_nothing_more;
   no_record = no_record;
-  session = (moment_after, all_went ∷ [], [], refl, (all_went, refl, is_update, refl), (refl, refl));
+  session = (moment_before, refl, (moment_after, all_went ∷ [], [], refl, (all_went, refl, is_update, refl), (refl, refl)));
   no_silent_update = λ s. let more : 0 < 0 = update_counts_fault copying moment_before moment_before few s in omega (arith, more);
   no_silent_stop = λ s. let more : 0 < 0 = stop_counts_fault copying moment_before moment_before few s in omega (arith, more);
 }

@@ -1,7 +1,7 @@
-use Rattle.std.proofs.Common.{◌<◌, length, inl, inr, refl, sym, subst, ◌∙◌, arith}
+use Rattle.std.proofs.Common.{◌≡◌, ◌<◌, true, false, length, inl, inr, refl, sym, subst, ◌∙◌, arith}
 use Rattle.b2_runs.specs.Staleness.{making}
 use Rattle.b2_runs.specs.Soundness.{Holds}
-use Rattle.b2_runs.specs.AnswerLaws.{AllWentStartsNothing, CycleEndsNoReport, AllWentHasNoBadEnd, SinkFaultIsFirst, UpdateReadsOnce, DoneWellStands, SoundAtExit}
+use Rattle.b2_runs.specs.AnswerLaws.{AllWentStartsNothing, CycleEndsNoReport, AllWentHasNoBadEnd, SinkFaultIsFirst, NoneLeftWithoutRisk, NoneLeftWithoutFault, UpdateReadsOnce, DoneWellStands, SoundAtExit}
 use Rattle.b2_runs.proofs.TrueWithLine.{record_grows}
 use Rattle.b2_runs.proofs.OutputsAreClean.{out_bytes}
 use Rattle.b2_runs.proofs.CountedInOrder.{bad_by_count}
@@ -23,6 +23,18 @@ pub sink_fault_is_first : SinkFaultIsFirst
 sink_fault_is_first before after below (rose, quiet) same = elim quiet [
   | inl stay ↦ stay.0
   | inr failed ↦ absurd (let more : before.host.failed_waits < after.host.failed_waits = failed.waits.more below in omega (arith, more, same))
+]
+
+pub none_left_without_risk : NoneLeftWithoutRisk
+none_left_without_risk before after left none = elim left [
+  | inl nobody ↦ nobody
+  | inr (failed, each) ↦ absurd (let e : false ≡ true = sym none ∙ failed.may in cc)
+]
+
+pub none_left_without_fault : NoneLeftWithoutFault
+none_left_without_fault before after left below same = elim left [
+  | inl nobody ↦ nobody
+  | inr (failed, each) ↦ absurd (let more : before.failed_waits < after.failed_waits = failed.waits.more below in omega (arith, more, same))
 ]
 
 pub update_reads_once : UpdateReadsOnce

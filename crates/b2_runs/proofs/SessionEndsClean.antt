@@ -1,4 +1,4 @@
-use Rattle.std.proofs.Common.{◌≡◌, ℕ, List, [], ◌∷◌, ◌++◌, inl, inr, refl, sym, ap, subst, ◌∙◌, append_assoc, Some}
+use Rattle.std.proofs.Common.{◌≡◌, ℕ, List, [], ◌∷◌, ◌++◌, inl, inr, refl, sym, ap, subst, subst₂, ◌∙◌, append_assoc, Some}
 use Rattle.std.specs.Option.{IfSome}
 use Rattle.std.proofs.lemmas.List.Elements.{Contains-append_left, Contains-push}
 use Rattle.b2_host.specs.Disks.{Folder, Disk}
@@ -8,9 +8,9 @@ use Rattle.b2_runs.specs.Outcomes.{IsCleanBuild}
 use Rattle.b2_runs.specs.Soundness.{Distinguishes}
 use Rattle.b2_runs.specs.Afterwards.{at_present}
 use Rattle.b2_runs.specs.UpdateAnswers.{UpdateAnswer.all_went}
-use Rattle.b2_runs.specs.Moments.{Moment, IsSameButRisks}
-use Rattle.b2_runs.specs.Sessions.{Happening, Happening.update, Happening.stop, IsTrueAt, HoldsOfPast, IsUpdateMaking, IsSession, IsAskedFor}
-use Rattle.b2_runs.specs.SessionLaws.{SessionSplits, SessionEndsWith, IsCleanAt, UpdateLeavesClean, SessionEndsClean}
+use Rattle.b2_runs.specs.Moments.{Moment}
+use Rattle.b2_runs.specs.Sessions.{Happening, Happening.update, Happening.stop, IsTrueAt, HoldsOfPast, IsUpdateMaking, Happens, IsSession, IsAskedFor}
+use Rattle.b2_runs.specs.SessionLaws.{SessionSplits, SessionEndsWith, UpdateLeavesClean, SessionEndsClean}
 use Rattle.b2_runs.proofs.SourcesAreKept.{log_in_roots}
 use Rattle.b2_runs.proofs.DiskStaysSound.{true_log_serves}
 use Rattle.b2_runs.proofs.RecordIsTrue.{distinguishes_less}
@@ -50,23 +50,30 @@ module _ {X : Type 0} where
   last_same (z ∷ xs) (w ∷ ys) x y e = last_same xs ys x y (let f : z ∷ (xs ++ x ∷ []) ≡ w ∷ (ys ++ y ∷ []) = e in cc)
 
 module _ {Asked Answer : Type 0} (Follows : Asked → Answer → Moment → Moment → Type 0) where
-  pub session_splits : SessionSplits Follows
-  session_splits first last [] rest answers s = (first, [], answers, refl, (refl, refl), s)
-  session_splits first last (h ∷ front) rest answers (next, here, later, e, comes, more) =
-      let (middle, mine, others, f, s, r) = session_splits next last front rest later more in
+  -- what happens splits
+  happens_splits : (first last : Moment) (front rest : List (Happening Asked)) (answers : List Answer) → Happens Follows first (front ++ rest) answers last
+      → (middle : Moment) × (here : List Answer) × (later : List Answer) × (answers ≡ here ++ later) × Happens Follows first front here middle × Happens Follows middle rest later last
+  happens_splits first last [] rest answers s = (first, [], answers, refl, (refl, refl), s)
+  happens_splits first last (h ∷ front) rest answers (next, here, later, e, comes, more) =
+      let (middle, mine, others, f, s, r) = happens_splits next last front rest later more in
       (middle, here ++ mine, others, e ∙ ap (λ (l : List Answer). here ++ l) f ∙ sym (append_assoc here mine others), (next, here, mine, refl, comes, s), r)
+
+  pub session_splits : SessionSplits Follows
+  session_splits first last front rest answers (renewed, same, s) =
+      let (middle, here, later, e, earlier, rest_follows) = happens_splits renewed last front rest answers s in
+      (middle, here, later, e, (renewed, same, earlier), (middle, refl, rest_follows))
 
   -- a session that ends with something that is asked for is one before it, and that
   session_before : (asked : Asked) (answer : Answer) (first last : Moment) (happenings : List (Happening Asked)) (answers : List Answer) → IsSession Follows first (happenings ++ update asked ∷ []) (answers ++ answer ∷ []) last
-      → (before : Moment) × (after : Moment) × (here : List Answer) × IsSession Follows first happenings here before × Follows asked answer before after × IsSameButRisks after last
-  session_before asked answer first last happenings answers s =
-      let (before, here, later, e, earlier, (next, mine, none, f, (other, one, is, idle), (nil, same))) = session_splits first last happenings (update asked ∷ []) (answers ++ answer ∷ []) s in
+      → (before : Moment) × (here : List Answer) × IsSession Follows first happenings here before × Follows asked answer before last
+  session_before asked answer first last happenings answers (renewed, but_risks, s) =
+      let (before, here, later, e, earlier, (next, mine, none, f, (other, one, is, idle), (nil, same))) = happens_splits renewed last happenings (update asked ∷ []) (answers ++ answer ∷ []) s in
       let g : later ≡ other ∷ [] = f ∙ (λ i. one i ++ nil i) in
       let one_answer : answer ≡ other = last_same answers here answer other (e ∙ ap (λ (l : List Answer). here ++ l) g) in
-      (before, next, here, earlier, subst (λ a. Follows asked a before next) (sym one_answer) is, same)
+      (before, here, (renewed, but_risks, earlier), subst₂ (λ a w. Follows asked a before w) (sym one_answer) (sym same) is)
 
   pub session_ends_with : SessionEndsWith Follows
-  session_ends_with asked answer first last happenings answers s = let (before, after, here, earlier, is, same) = session_before asked answer first last happenings answers s in (before, after, is, same)
+  session_ends_with asked answer first last happenings answers s = let (before, here, earlier, is) = session_before asked answer first last happenings answers s in (before, is)
 
 -- what was asked for before the last event was asked for in a session
 asked_before : (u asked : Update) (happenings : List (Happening Update)) → IsAskedFor happenings asked → IsAskedFor (happenings ++ update u ∷ []) asked
@@ -75,13 +82,9 @@ asked_before u asked happenings (inr c) = inr (Contains-append_left happenings (
 
 pub session_ends_clean : SessionEndsClean
 session_ends_clean m u first last happenings answers s distinct t =
-    let (before, after, here, earlier, (make, is), same) = session_before (IsUpdateMaking m) u all_went first last happenings answers s in
+    let (before, here, earlier, (make, is)) = session_before (IsUpdateMaking m) u all_went first last happenings answers s in
     let leave = updates_leave_true m in
-    let shown : last.host.disk ≡ after.host.disk = ap (λ (moment : Moment). moment.host.disk) same in
-    let distinct_then : (asked : Update) → IsAskedFor (happenings ++ update u ∷ []) asked → HoldsOfPast (Distinguishes asked) after =
-    λ asked c. subst (λ o. IfSome o (λ (disk : Disk). Distinguishes asked disk.past)) shown (distinct asked c) in
     let so : (asked : Update) → IsAskedFor happenings asked → HoldsOfPast (Distinguishes asked) before =
-    λ asked c. so_before (Distinguishes asked) before after (distinguishes_less asked) (leave.grows u all_went before after (make, is)) (distinct_then asked (asked_before u asked happenings c)) in
+    λ asked c. so_before (Distinguishes asked) before last (distinguishes_less asked) (leave.grows u all_went before last (make, is)) (distinct asked (asked_before u asked happenings c)) in
     let true_then : IsTrueAt m before = true_through_session (IsUpdateMaking m) Distinguishes m leave first before happenings here earlier so t in
-    let clean : IsCleanAt u after = update_leaves_clean u before after is (distinct_then u (inl (Contains-push happenings (update u)))) (subst (λ k. IsTrueAt k before) (sym make) true_then) in
-    subst (λ o. IfSome o (λ (disk : Disk). IsCleanBuild (record u.build { folder = disk.now }) disk.now)) (sym shown) clean
+    update_leaves_clean u before last is (distinct u (inl (Contains-push happenings (update u)))) (subst (λ k. IsTrueAt k before) (sym make) true_then)

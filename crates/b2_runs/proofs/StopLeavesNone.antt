@@ -1,4 +1,4 @@
-use Rattle.std.proofs.Common.{◌≡◌, ◌⊎◌, ℕ, ◌<◌, ◌≤◌, List, [], ◌∷◌, ◌++◌, length, inl, inr, sym, ap, subst, ◌∙◌, Option}
+use Rattle.std.proofs.Common.{◌≡◌, ◌⊎◌, ℕ, ◌<◌, ◌≤◌, List, [], ◌∷◌, ◌++◌, length, inl, inr, sym, ap, subst, subst₂, ◌∙◌, Option}
 use Rattle.b2_base.specs.Counts.{greatest_count}
 use Rattle.b2_host.specs.Disks.{Disk, IsConsistent}
 use Rattle.b2_host.specs.Outside.{Outside}
@@ -35,36 +35,37 @@ noted_through_reopen u answer old before now between after log apart shows h r i
 
 -- the one update or stop of a session, with its answer
 only_update : (u : Update) (answer : UpdateAnswer) (first last : Moment) → IsSession IsUpdate first (update u ∷ []) (answer ∷ []) last
-    → (next : Moment) × IsUpdate u answer first next × (next.host.children.running ≡ []) × IsSameButRisks next last
-only_update u answer first last (next, here, later, e, (other, one, is, idle), (none, same)) =
+    → (renewed : Moment) × IsSameButRisks first renewed × IsUpdate u answer renewed last × (last.host.children.running ≡ [])
+only_update u answer first last (renewed, but_risks, (next, here, later, e, (other, one, is, idle), (none, same))) =
     let f : answer ∷ [] ≡ other ∷ [] = e ∙ (λ i. one i ++ none i) in
     let g : answer ≡ other = cc in
-    (next, subst (λ a. IsUpdate u a first next) (sym g) is, idle, same)
+    (renewed, but_risks, subst₂ (λ a w. IsUpdate u a renewed w) (sym g) (sym same) is, subst (λ (w : Moment). w.host.children.running ≡ []) (sym same) idle)
 
-only_stop : (u : Update) (answer : UpdateAnswer) (first last : Moment) → IsSession IsUpdate first (stop u ∷ []) (answer ∷ []) last → (next : Moment) × IsStop IsUpdate u answer first next × IsSameButRisks next last
-only_stop u answer first last (next, here, later, e, (other, one, is), (none, same)) =
+only_stop : (u : Update) (answer : UpdateAnswer) (first last : Moment) → IsSession IsUpdate first (stop u ∷ []) (answer ∷ []) last → (renewed : Moment) × IsSameButRisks first renewed × IsStop IsUpdate u answer renewed last
+only_stop u answer first last (renewed, but_risks, (next, here, later, e, (other, one, is), (none, same))) =
     let f : answer ∷ [] ≡ other ∷ [] = e ∙ (λ i. one i ++ none i) in
     let g : answer ≡ other = cc in
-    (next, subst (λ a. IsStop IsUpdate u a first next) (sym g) is, same)
+    (renewed, but_risks, subst₂ (λ a w. IsStop IsUpdate u a renewed w) (sym g) (sym same) is)
 
 pub update_counts_fault : UpdateCountsFault
 update_counts_fault u first last below s =
-    let (next, is, idle, same) = only_update u host_fault first last s in
-    subst (λ (w : Moment). first.host.faults < w.host.faults) (sym same) (is.caused.0.more below)
+    let (renewed, but_risks, is, idle) = only_update u host_fault first last s in
+    let same : renewed.host.faults ≡ first.host.faults = ap (λ (w : Moment). w.host.faults) but_risks in
+    subst (λ n. n < last.host.faults) same (is.caused.0.faults.more (subst (λ n. n < greatest_count) (sym same) below))
 
 pub stop_counts_fault : StopCountsFault
 stop_counts_fault u first last below s =
-    let (next, is, but_risks) = only_stop u host_fault first last s in
-    let same : is.fused.host.faults ≡ first.host.faults = ap (λ (w : Moment). w.host.faults) is.fuse in
-    let more = is.updated.caused.0.more (subst (λ n. n < greatest_count) (sym same) below) in
-    subst (λ (w : Moment). first.host.faults < w.host.faults) (sym but_risks) (subst (λ (w : Moment). first.host.faults < w.host.faults) (sym is.reopened.same) (subst (λ n. n < is.between.host.faults) same more))
+    let (renewed, but_risks, is) = only_stop u host_fault first last s in
+    let same : is.fused.host.faults ≡ first.host.faults = ap (λ (w : Moment). w.host.faults) is.fuse ∙ ap (λ (w : Moment). w.host.faults) but_risks in
+    let more = is.updated.caused.0.faults.more (subst (λ n. n < greatest_count) (sym same) below) in
+    subst (λ (w : Moment). first.host.faults < w.host.faults) (sym is.reopened.same) (subst (λ n. n < is.between.host.faults) same more)
 
 pub update_leaves_none : UpdateLeavesNone
 update_leaves_none u answer first last s =
-    let (next, is, idle, same) = only_update u answer first last s in
-    ap (λ (w : Moment). w.host.children.running) same ∙ idle
+    let (renewed, but_risks, is, idle) = only_update u answer first last s in
+    idle
 
 pub stop_leaves_none : StopLeavesNone
 stop_leaves_none u answer first last s =
-    let (next, is, same) = only_stop u answer first last s in
-    ap (λ (w : Moment). w.host.children.running) same ∙ ap (λ (w : Moment). w.host.children.running) is.reopened.same
+    let (renewed, but_risks, is) = only_stop u answer first last s in
+    ap (λ (w : Moment). w.host.children.running) is.reopened.same

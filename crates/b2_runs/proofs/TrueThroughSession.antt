@@ -17,8 +17,8 @@ use Rattle.b2_runs.specs.Staleness.{Update, making}
 use Rattle.b2_runs.specs.Soundness.{Distinguishes}
 use Rattle.b2_runs.specs.UpdateAnswers.{UpdateAnswer}
 use Rattle.b2_runs.specs.Moments.{Moment, Shows}
-use Rattle.b2_runs.specs.Sessions.{Happening, Happening.edit, Happening.update, Happening.stop, IsEdit, IsEdited, IsTrueAt, HoldsOfPast, PastGrows, IsUpdate, IsReopened, IsUpdateMaking, IsStop, IsAskedFor}
-use Rattle.b2_runs.specs.SessionLaws.{TrueThroughEdit, TrueThroughStop, UpdatesLeaveTrue, PastGrowsThroughSession, TrueThroughSession}
+use Rattle.b2_runs.specs.Sessions.{Happening, Happening.edit, Happening.update, Happening.stop, IsEdit, IsEdited, IsTrueAt, HoldsOfPast, PastGrows, IsUpdate, IsReopened, IsUpdateMaking, IsStop, Happens, IsAskedFor}
+use Rattle.b2_runs.specs.SessionLaws.{TrueThroughEdit, TrueThroughStop, LeaveTrue, UpdatesLeaveTrue, PastGrowsThroughSession, TrueThroughSession}
 use Rattle.b2_runs.proofs.FirstElementOrLater.{Contains_here, Contains_there}
 use Rattle.b2_runs.proofs.RecordIsTrue.{distinguishes_less}
 use Rattle.b2_runs.proofs.TrueByFile.{true_where_missing, true_where_still}
@@ -147,14 +147,19 @@ updates_leave_true m = record {
 -- ---- sessions
 
 module _ {Asked Answer : Type 0} (Follows : Asked → Answer → Moment → Moment → Type 0) where
+  -- nothing is forgotten through what happens
+  grows_through : ((asked : Asked) (answer : Answer) (before after : Moment) → Follows asked answer before after → PastGrows before after)
+      → (first last : Moment) (happenings : List (Happening Asked)) (answers : List Answer) → Happens Follows first happenings answers last → PastGrows first last
+  grows_through grows first last [] answers (none, same) = subst (PastGrows first) (sym same) (grows_not_at_all first)
+  grows_through grows first last (edit path bytes ∷ more) answers (next, here, later, e, (none, is), rest) =
+      grows_then first next last (edit_grows path bytes first next is) (grows_through grows next last more later rest)
+  grows_through grows first last (update asked ∷ more) answers (next, here, later, e, (answer, one, is, idle), rest) =
+      grows_then first next last (grows asked answer first next is) (grows_through grows next last more later rest)
+  grows_through grows first last (stop asked ∷ more) answers (next, here, later, e, (answer, one, is), rest) =
+      grows_then first next last (grows_then first is.between next (grows_from first is.fused is.between (ap (λ (moment : Moment). moment.host.disk) is.fuse) (grows asked answer is.fused is.between is.updated)) (reopened_grows is.events is.between next is.reopened)) (grows_through grows next last more later rest)
+
   pub past_grows_through_session : PastGrowsThroughSession Follows
-  past_grows_through_session grows first last [] answers (none, same) = subst (PastGrows first) (sym same) (grows_not_at_all first)
-  past_grows_through_session grows first last (edit path bytes ∷ more) answers (next, here, later, e, (none, is), rest) =
-      grows_then first next last (edit_grows path bytes first next is) (past_grows_through_session grows next last more later rest)
-  past_grows_through_session grows first last (update asked ∷ more) answers (next, here, later, e, (answer, one, is, idle), rest) =
-      grows_then first next last (grows asked answer first next is) (past_grows_through_session grows next last more later rest)
-  past_grows_through_session grows first last (stop asked ∷ more) answers (next, here, later, e, (answer, one, is), rest) =
-      grows_then first next last (grows_then first is.between next (grows_from first is.fused is.between (ap (λ (moment : Moment). moment.host.disk) is.fuse) (grows asked answer is.fused is.between is.updated)) (reopened_grows is.events is.between next is.reopened)) (past_grows_through_session grows next last more later rest)
+  past_grows_through_session grows first last happenings answers (renewed, same, s) = grows_from first renewed last (ap (λ (moment : Moment). moment.host.disk) same) (grows_through grows renewed last happenings answers s)
 
   -- what is asked for in the rest of a session is asked for in it
   asked_later : (happening : Happening Asked) (more : List (Happening Asked)) (asked : Asked) → IsAskedFor more asked → IsAskedFor (happening ∷ more) asked
@@ -162,13 +167,18 @@ module _ {Asked Answer : Type 0} (Follows : Asked → Answer → Moment → Mome
   asked_later happening more asked (inr c) = inr (Contains_there happening (stop asked) more c)
 
   module _ (Needs : Asked → List Past → Type 0) where
+    -- a true log stays true through what happens
+    true_through : (m : Making) → LeaveTrue m Needs Follows
+        → (first last : Moment) (happenings : List (Happening Asked)) (answers : List Answer) → Happens Follows first happenings answers last → ((asked : Asked) → IsAskedFor happenings asked → HoldsOfPast (Needs asked) last) → IsTrueAt m first → IsTrueAt m last
+    true_through m leave first last [] answers (none, same) so t = subst (IsTrueAt m) (sym same) t
+    true_through m leave first last (edit path bytes ∷ more) answers (next, here, later, e, (none, is), rest) so t =
+        true_through m leave next last more later rest (λ asked c. so asked (asked_later (edit path bytes) more asked c)) (true_through_edit m path bytes first next is t)
+    true_through m leave first last (update asked ∷ more) answers (next, here, later, e, (answer, one, is, idle), rest) so t =
+        let so_next : HoldsOfPast (Needs asked) next = so_before (Needs asked) next last (leave.less asked) (grows_through leave.grows next last more later rest) (so asked (inl (Contains_here (update asked) more))) in
+        true_through m leave next last more later rest (λ other c. so other (asked_later (update asked) more other c)) (leave.updates asked answer first next is so_next t)
+    true_through m leave first last (stop asked ∷ more) answers (next, here, later, e, (answer, one, is), rest) so t =
+        let so_next : HoldsOfPast (Needs asked) next = so_before (Needs asked) next last (leave.less asked) (grows_through leave.grows next last more later rest) (so asked (inr (Contains_here (stop asked) more))) in
+        true_through m leave next last more later rest (λ other c. so other (asked_later (stop asked) more other c)) (leave.stops asked answer first next is so_next t)
+
     pub true_through_session : TrueThroughSession Needs Follows
-    true_through_session m leave first last [] answers (none, same) so t = subst (IsTrueAt m) (sym same) t
-    true_through_session m leave first last (edit path bytes ∷ more) answers (next, here, later, e, (none, is), rest) so t =
-        true_through_session m leave next last more later rest (λ asked c. so asked (asked_later (edit path bytes) more asked c)) (true_through_edit m path bytes first next is t)
-    true_through_session m leave first last (update asked ∷ more) answers (next, here, later, e, (answer, one, is, idle), rest) so t =
-        let so_next : HoldsOfPast (Needs asked) next = so_before (Needs asked) next last (leave.less asked) (past_grows_through_session leave.grows next last more later rest) (so asked (inl (Contains_here (update asked) more))) in
-        true_through_session m leave next last more later rest (λ other c. so other (asked_later (update asked) more other c)) (leave.updates asked answer first next is so_next t)
-    true_through_session m leave first last (stop asked ∷ more) answers (next, here, later, e, (answer, one, is), rest) so t =
-        let so_next : HoldsOfPast (Needs asked) next = so_before (Needs asked) next last (leave.less asked) (past_grows_through_session leave.grows next last more later rest) (so asked (inr (Contains_here (stop asked) more))) in
-        true_through_session m leave next last more later rest (λ other c. so other (asked_later (stop asked) more other c)) (leave.stops asked answer first next is so_next t)
+    true_through_session m leave first last happenings answers (renewed, same, s) so t = true_through m leave renewed last happenings answers s so (subst (IsTrueAt m) (sym same) t)

@@ -1,4 +1,4 @@
-use Rattle.std.specs.Prelude.{◌≡◌, ◌≢◌, ℕ, ◌<◌, ◌≤◌, Bool, true, false, List, length, Option, Some}
+use Rattle.std.specs.Prelude.{◌≡◌, ◌≢◌, ℕ, ◌<◌, ◌≤◌, Bool, true, false, List, [], length, Option, Some}
 use Rattle.std.specs.List.{Contains}
 use Rattle.b2_host.specs.declared.children.ChildEvent.{ChildEvent}
 use Rattle.b2_host.specs.declared.children.ChildEvent.TheVariants.{Start, Done}
@@ -24,7 +24,7 @@ use Rattle.b2_runs.specs.Afterwards.{next_update, IsMadeEachTime}
 use Rattle.b2_runs.specs.LogCourses.{held_bytes, log_file}
 use Rattle.b2_runs.specs.Reports.{Lists, AreLists, StopsAtEnd}
 use Rattle.b2_runs.specs.Moments.{Moment}
-use Rattle.b2_runs.specs.UpdateAnswers.{UpdateAnswer, UpdateAnswer.all_went, UpdateAnswer.failed, UpdateAnswer.step_cycle, UpdateAnswer.sink_fault, CausedBy, HasHappened, HasEnded, AnswerTold, HasUpdated}
+use Rattle.b2_runs.specs.UpdateAnswers.{UpdateAnswer, UpdateAnswer.all_went, UpdateAnswer.failed, UpdateAnswer.step_cycle, UpdateAnswer.sink_fault, CausedBy, LeavesNone, HasHappened, HasEnded, AnswerTold, HasUpdated}
 
 -- an update may answer that all went well where it has ended, each wanted file is given, each needed step is settled, and none
 -- failed
@@ -65,6 +65,18 @@ AllWentHasNoBadEnd = (steps : List Step) (jobs : ℕ) (disk : Option Disk) (old 
 -- after a fault of the sink the host's count of faults is as at entry, unless a wait failed
 abbrev pub SinkFaultIsFirst : Type 0
 SinkFaultIsFirst = (before after : Moment) → before.host.failed_waits < greatest_count → CausedBy before after sink_fault → after.host.failed_waits ≡ before.host.failed_waits → after.host.faults ≡ before.host.faults
+
+-- where no wait may fail no child is left
+abbrev pub NoneLeftWithoutRisk : Type 0
+NoneLeftWithoutRisk = (before after : Outside) → LeavesNone before after
+    → before.risks.wait_may_fail ≡ false
+    → after.children.running ≡ []
+
+-- nor is one where none failed, unless the count of failed waits can rise no more
+abbrev pub NoneLeftWithoutFault : Type 0
+NoneLeftWithoutFault = (before after : Outside) → LeavesNone before after
+    → before.failed_waits < greatest_count → after.failed_waits ≡ before.failed_waits
+    → after.children.running ≡ []
 
 -- wherever an update ends, each output stands that a step owes which was done well
 abbrev pub DoneWellStands : Type 0

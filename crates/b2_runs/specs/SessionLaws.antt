@@ -13,7 +13,7 @@ use Rattle.b2_runs.specs.Outcomes.{IsCleanBuild}
 use Rattle.b2_runs.specs.Soundness.{Distinguishes}
 use Rattle.b2_runs.specs.Afterwards.{IsNoted}
 use Rattle.b2_runs.specs.LogCourses.{held_bytes, log_file}
-use Rattle.b2_runs.specs.Moments.{Moment, Shows, IsSameButRisks}
+use Rattle.b2_runs.specs.Moments.{Moment, Shows}
 use Rattle.b2_runs.specs.UpdateAnswers.{UpdateAnswer, UpdateAnswer.all_went, UpdateAnswer.host_fault, HasUpdated}
 use Rattle.b2_runs.specs.Sessions.{Happening, Happening.update, Happening.stop, IsEdit, IsTrueAt, HoldsOfPast, PastGrows, IsUpdate, IsUpdateMaking, IsStop, IsReopened, IsSession, IsAskedFor}
 
@@ -60,12 +60,11 @@ IsCleanAt u moment = IfSome moment.host.disk (λ disk. IsCleanBuild (record u.bu
 abbrev pub UpdateLeavesClean : Type 0
 UpdateLeavesClean = (u : Update) (before after : Moment) → IsUpdate u all_went before after → HoldsOfPast (Distinguishes u) after → IsTrueAt (making u) before → IsCleanAt u after
 
--- where a session ends with something that is asked for, it follows between two moments, of which the second is the last one but
--- for what may go wrong
+-- where a session ends with something that is asked for, it follows between some moment and the last one
 abbrev pub SessionEndsWith : {Asked Answer : Type 0} → (Asked → Answer → Moment → Moment → Type 0) → Type 0
 SessionEndsWith {Asked} {Answer} Follows = (asked : Asked) (answer : Answer) (first last : Moment) (happenings : List (Happening Asked)) (answers : List Answer)
     → IsSession Follows first (happenings ++ update asked ∷ []) (answers ++ answer ∷ []) last
-    → (before : Moment) × (after : Moment) × Follows asked answer before after × IsSameButRisks after last
+    → (before : Moment) × Follows asked answer before last
 
 -- so it is at the end of a session whose last event is such an update, where the log was true at its beginning
 abbrev pub SessionEndsClean : Type 0

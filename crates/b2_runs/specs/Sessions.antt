@@ -30,13 +30,12 @@ abbrev pub IsEdited : Disk → Option (List ℕ) → Option File → Type 0
 IsEdited before None now = now ≡ None
 IsEdited before (Some bytes) now = (file : File) × (now ≡ Some file) × (file.bytes ≡ bytes) × ((old : Past) → Contains before.past old → old.file.stamp < file.stamp)
 
--- An edit changes nothing but a file, and does not write the log, though it may delete it. Nothing is said of what may go wrong
--- from then on.
+-- An edit changes nothing but a file, and does not write the log, though it may delete it.
 pub record IsEdit (path : List ℕ) (bytes : Option (List ℕ)) (before after : Moment) : Type 0 where
   pub old : Disk
   pub shows : Shows before old
   pub new : Disk
-  pub same : IsSameButRisks (with_disk new before) after
+  pub same : after ≡ with_disk new before
   pub not_log : path ≡ log_path → bytes ≡ None
   pub edited : IsEdited old bytes (new.now path)
   pub others : (other : List ℕ) → other ≢ path → new.now other ≡ old.now other
@@ -55,9 +54,9 @@ HoldsOfPast P moment = IfSome moment.host.disk (λ disk. P disk.past)
 abbrev pub PastGrows : Moment → Moment → Type 0
 PastGrows before after = IfSome before.host.disk (λ old. (new : Disk) × Shows after new × ((past : Past) → Contains old.past past → Contains new.past past))
 
--- What an update of a plan with 1 to 64 jobs has done to a host between two moments, with this answer. No child ran before it; those
--- that run after it are of steps that it left open, and are there only where a wait failed. Nothing that stood is forgotten. Where
--- digests tell all apart that stood by then, a true log stays true, and an update that uses true lines has done what it is to.
+-- What an update of a plan with 1 to 64 jobs has done to a host between two moments, with this answer. No child ran before it. Those
+-- that run after it are of steps that it left open, one at most for each wait that failed. Nothing that stood is forgotten, and
+-- what may go wrong stays. Where digests tell all apart that stood by then, a true log stays true, and an update that uses true lines has done what it is to.
 pub record HostUpdated (u : Update) (answer : UpdateAnswer) (before after : Outside) : Type 0 where
   pub old : Disk
   pub shows : before.disk ≡ Some old
@@ -66,6 +65,7 @@ pub record HostUpdated (u : Update) (answer : UpdateAnswer) (before after : Outs
   pub apart : Apart u.build.steps u.build.roots
   pub jobs : (1 ≤ u.jobs) × (u.jobs ≤ 64)
   pub idle : before.children.running ≡ []
+  pub risks : after.risks ≡ before.risks
   pub none_left : LeavesNone before after
   pub left_open : LeavesOpen u.build.steps before.children after.children
   pub consistent : IsConsistent old
@@ -116,11 +116,14 @@ module _ {Asked Answer : Type 0} (Follows : Asked → Answer → Moment → Mome
   Comes (update asked) before answers after = (answer : Answer) × (answers ≡ answer ∷ []) × Follows asked answer before after × (after.host.children.running ≡ [])
   Comes (stop asked) before answers after = (answer : Answer) × (answers ≡ answer ∷ []) × IsStop Follows asked answer before after
 
-  -- A session: from moment to moment, with the answers of its updates and stops in order. Where nothing more happens, nothing
-  -- changes but what may go wrong.
+  -- this happens from moment to moment, with the answers of updates and stops in order
+  abbrev pub Happens : Moment → List (Happening Asked) → List Answer → Moment → Type 0
+  Happens first [] answers last = (answers ≡ []) × (last ≡ first)
+  Happens first (happening ∷ more) answers last = (next : Moment) × (here : List Answer) × (later : List Answer) × (answers ≡ here ++ later) × Comes happening first here next × Happens next more later last
+
+  -- A session. Before anything happens, what may go wrong with the host is worked out anew, and nothing else changes.
   abbrev pub IsSession : Moment → List (Happening Asked) → List Answer → Moment → Type 0
-  IsSession first [] answers last = (answers ≡ []) × IsSameButRisks first last
-  IsSession first (happening ∷ more) answers last = (next : Moment) × (here : List Answer) × (later : List Answer) × (answers ≡ here ++ later) × Comes happening first here next × IsSession next more later last
+  IsSession first happenings answers last = (renewed : Moment) × IsSameButRisks first renewed × Happens renewed happenings answers last
 
 -- this is asked for in a session, whether or not it is stopped
 abbrev pub IsAskedFor : {Asked : Type 0} → List (Happening Asked) → Asked → Type 0

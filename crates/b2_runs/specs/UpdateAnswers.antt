@@ -1,11 +1,12 @@
-use Rattle.std.specs.Prelude.{◌≡◌, ◌≢◌, ℕ, ◌≤◌, true, false, List, [], ◌∷◌, ◌++◌, length, Option, Some, ◌⊎◌, ⊤, IfSome}
+use Rattle.std.specs.Prelude.{◌≡◌, ◌≢◌, ℕ, ◌+◌, ◌≤◌, true, false, List, [], ◌∷◌, ◌++◌, length, Option, Some, ◌⊎◌, ⊤, IfSome}
 use Rattle.std.specs.List.{Contains}
 use Rattle.b2_host.specs.declared.children.ChildEvent.{ChildEvent}
 use Rattle.b2_host.specs.declared.children.ChildEvent.TheVariants.{Done}
 use Rattle.b2_host.specs.Disks.{File, Folder, Disk}
 use Rattle.b2_host.specs.ChildProcesses.{Given, Child, Family}
 use Rattle.b2_host.specs.Outside.{Read, Outside}
-use Rattle.b2_base.specs.Counts.{Rose}
+use Rattle.b2_host.specs.Output.{Output}
+use Rattle.b2_base.specs.Counts.{Rose, greatest_count}
 use Rattle.b2_plan.specs.declared.step.Step.{Step}
 use Rattle.b2_plan.specs.Plans.{step_at, Makes}
 use Rattle.b2_plan.specs.Closures.{Value}
@@ -43,8 +44,19 @@ pub record CountsStay (before after : Moment) : Type 0 where
   pub waits : after.host.failed_waits ≡ before.host.failed_waits
   pub sink : after.out.faults ≡ before.out.faults
 
--- a wait for a child failed: both counts of the host rose
+-- A call of the host failed, where one may: the count of faults rose.
+pub record CallFailed (before after : Outside) : Type 0 where
+  pub may : before.risks.may_fail ≡ true
+  pub faults : Rose before.faults after.faults
+
+-- A write to the sink failed, where one may: the count of faults rose.
+pub record SinkFailed (before after : Output) : Type 0 where
+  pub may : before.may_fail ≡ true
+  pub faults : Rose before.faults after.faults
+
+-- A wait for a child failed, where one may: both counts of the host rose.
 pub record WaitFailed (before after : Outside) : Type 0 where
+  pub may : before.risks.wait_may_fail ≡ true
   pub faults : Rose before.faults after.faults
   pub waits : Rose before.failed_waits after.failed_waits
 
@@ -52,20 +64,25 @@ pub record WaitFailed (before after : Outside) : Type 0 where
 abbrev pub IsQuietHost : Outside → Outside → Type 0
 IsQuietHost before after = ((after.faults ≡ before.faults) × (after.failed_waits ≡ before.failed_waits)) ⊎ WaitFailed before after
 
--- How the counts of faults stand to an answer, which names the first fault: an answer that is no fault comes only where they
--- stay, and a fault only where its count rose and the other's is as at entry, but for the waits after a fault of the sink.
+-- How the counts of faults stand to an answer, which names the first fault. An answer that is no fault comes only where they
+-- stay. A fault comes only where one may, its count rose, and the other's is as at entry, but for the waits after a fault of the
+-- sink.
 abbrev pub CausedBy : Moment → Moment → UpdateAnswer → Type 0
 CausedBy before after all_went = CountsStay before after
 CausedBy before after (failed lists) = CountsStay before after
 CausedBy before after (step_cycle list) = CountsStay before after
 CausedBy before after (too_big path size) = CountsStay before after
-CausedBy before after host_fault = Rose before.host.faults after.host.faults × (after.out.faults ≡ before.out.faults)
-CausedBy before after sink_fault = Rose before.out.faults after.out.faults × IsQuietHost before.host after.host
+CausedBy before after host_fault = CallFailed before.host after.host × (after.out.faults ≡ before.out.faults)
+CausedBy before after sink_fault = SinkFailed before.out after.out × IsQuietHost before.host after.host
 CausedBy before after out_of_memory = (after.out.faults ≡ before.out.faults) × IsQuietHost before.host after.host
 
--- no child is left, unless a wait for it failed
+-- for each child that is left a wait failed, unless the count of failed waits can rise no more
+abbrev pub WaitedForEach : Outside → Outside → Type 0
+WaitedForEach before after = (length after.children.running + before.failed_waits ≤ after.failed_waits) ⊎ (greatest_count ≤ after.failed_waits)
+
+-- no child is left, but for one for each wait that failed
 abbrev pub LeavesNone : Outside → Outside → Type 0
-LeavesNone before after = (after.children.running ≡ []) ⊎ WaitFailed before after
+LeavesNone before after = (after.children.running ≡ []) ⊎ (WaitFailed before after × WaitedForEach before after)
 
 -- ---- over every host
 

@@ -57,7 +57,7 @@ pub fn session_splits<F: Follow>()
     ensures { SessionSplits F.follows }
 {}
 
-/// Where a session ends with something that is asked for, it follows between some moment and the last one, but for what may go wrong.
+/// Where a session ends with something that is asked for, it follows between some moment and the last one.
 pub fn session_ends_with<F: Follow>()
     ensures { SessionEndsWith F.follows }
 {}

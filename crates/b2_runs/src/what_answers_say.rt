@@ -1,5 +1,5 @@
 //! Laws of the answers of an update: what each says, and that no two are said of one run.
-ghost use Rattle.b2_runs.specs.AnswerLaws.{ListsAreOne, MayAnswerAllWent, AllWentLacksNothing, AllWentHasNoCycle, FailedHasNoCycle, AllWentStartsNothing, CycleEndsNoReport, AllWentHasNoBadEnd, SinkFaultIsFirst, UpdateReadsOnce, DoneWellStands, SoundAtExit};
+ghost use Rattle.b2_runs.specs.AnswerLaws.{ListsAreOne, MayAnswerAllWent, AllWentLacksNothing, AllWentHasNoCycle, FailedHasNoCycle, AllWentStartsNothing, CycleEndsNoReport, AllWentHasNoBadEnd, SinkFaultIsFirst, NoneLeftWithoutRisk, NoneLeftWithoutFault, UpdateReadsOnce, DoneWellStands, SoundAtExit};
 
 /// An update that has ended may answer that all went well where each wanted file is a source or an output, each needed step is
 /// settled, and none failed.
@@ -45,6 +45,16 @@ pub fn all_went_has_no_bad_end()
 /// After a fault of the sink the host's count of faults is as at entry, unless a wait failed.
 pub fn sink_fault_is_first()
     ensures { SinkFaultIsFirst }
+{}
+
+/// Where no wait may fail an update leaves no child.
+pub fn none_left_without_risk()
+    ensures { NoneLeftWithoutRisk }
+{}
+
+/// Nor does it where no wait failed, unless the count of failed waits can rise no more.
+pub fn none_left_without_fault()
+    ensures { NoneLeftWithoutFault }
 {}
 
 /// Judged by stamps, an update reads no file whose scan line the log had then.
