@@ -1,18 +1,19 @@
 -- What holds as an update begins, what a stop leaves as it was, and that each stop has its cause in the counts.
-use Rattle.std.proofs.Common.{◌≡◌, ◌≢◌, ℕ, Bool, true, false, List, [], ◌++◌, refl, sym, ap, subst, ◌∙◌, Option, Some, None, IfSome, append-nil, Result, Ok, Err, inl, inr}
+use Rattle.std.proofs.Common.{◌≡◌, ◌≢◌, ℕ, ◌≤◌, Bool, true, false, List, [], ◌++◌, refl, sym, ap, subst, ◌∙◌, Option, Some, None, IfSome, append-nil, Result, Ok, Err, inl, inr}
+use Rattle.std.proofs.lemmas.Bool.{true≢false}
 use Rattle.b2_host.specs.declared.children.ChildEvent.{ChildEvent}
 use Rattle.b2_host.specs.Disks.{Disk, Folder, IsConsistent}
 use Rattle.b2_host.specs.ChildProcesses.{Family, Given}
 use Rattle.b2_host.specs.Outside.{Outside}
 use Rattle.b2_host.specs.Output.{Output, with_written}
-use Rattle.b2_base.specs.Counts.{Rose}
 use Rattle.b2_host.specs.OutsideLaws.{Keeps, keeps_same, keeps_fails}
+use Rattle.b2_host.specs.OutputLaws.{OutKeeps}
 use Rattle.b2_plan.specs.declared.plan.Plan.{Plan}
 use Rattle.b2_plan.specs.Plans.{Apart}
 use Rattle.b2_host.specs.FileCalls.{log_path}
 use Rattle.b2_runs.specs.Staleness.{Update}
 use Rattle.b2_runs.specs.Moments.{Moment}
-use Rattle.b2_runs.specs.UpdateAnswers.{CountsStay, IsQuietHost, CausedBy, LeavesNone}
+use Rattle.b2_runs.specs.UpdateAnswers.{IsQuietHost, SinkFailed, CausedBy}
 use Rattle.b2_runs.specs.Soundness.{AreAtWork}
 use Rattle.b2_runs.proofs.DiskStaysSound.{sound_at_entry}
 use Rattle.b2_runs.proofs.FailuresLeaveNothing.{nothing_left_at_entry}
@@ -27,7 +28,8 @@ use Rattle.b2_update.specs.Stops.{Says, HostTold, StopLooks, ChangesFiles, Fault
 use Rattle.b2_update.specs.Progress.{IsWhole, Stands, Stopped, GoesOn}
 use Rattle.b2_update.specs.Moments.{moment}
 use Rattle.b2_update.proofs.SettledMeansDoneWell.{by_stamp}
-use Rattle.b2_update.proofs.WrittenPartsAddUp.{adds_nothing}
+use Rattle.b2_update.proofs.FaultsCountFromEarlier.{same_count, sink_failed_from, call_failed_from, wait_failed_from, left_from}
+use Rattle.b2_update.proofs.WrittenPartsAddUp.{adds_nothing, says_may}
 
 given_none : (given : Option (List Given)) → IfSome given (λ before. given ≡ Some (before ++ []))
 given_none None = tt
@@ -95,7 +97,7 @@ look_children before after stops.Sink told = absurd told
 look_children before after stops.OutOfMemory same = ap (λ (o : Outside). o.children) same
 
 pub look_told : (before after : Outside) (out : Output) (stop : Stop) → StopLooks {T = Unit {0}} before after (Err stop) → FaultsTold {T = Unit {0}} (moment before out) (moment after out) (Err stop)
-look_told before after out stops.Host failed = (failed.rose, refl)
+look_told before after out stops.Host failed = (record { may = failed.may_fail; faults = failed.rose }, refl)
 look_told before after out stops.Sink told = absurd told
 look_told before after out stops.OutOfMemory same = (ap (λ (o : Outside). o.faults) same, refl)
 
@@ -129,69 +131,91 @@ look_waits before after stop looked = ap (λ (o : Outside). o.failed_waits) (loo
 pub look_halts : (before after : Outside) (out : Output) (stop : Stop) → before.children.running ≡ [] → StopLooks {T = Unit {0}} before after (Err stop) → Halts (moment before out) (moment after out) stop
 look_halts before after out stop idle looked = record {
   counts = caused (moment before out) (moment after out) stop (look_told before after out stop looked) (look_waits before after stop looked);
+  may_fail = refl;
   none_left = inl (ap (λ (f : Family). f.running) (look_children before after stop looked) ∙ idle);
 }
 
 -- no child runs, and nothing happens
 pub calm_here : (here : Moment) → here.host.children.running ≡ [] → WentWell here here
-calm_here here idle = record { counts = record { host = refl; waits = refl; sink = refl }; idle = idle }
+calm_here here idle = record { counts = record { host = refl; waits = refl; sink = refl }; risks = refl; may_fail = refl; idle = idle }
 
 -- all went well, and then again
 pub calm_again : (x y z : Moment) → WentWell x y → WentWell y z → WentWell x z
 calm_again x y z a b = record {
   counts = record { host = b.counts.host ∙ a.counts.host; waits = b.counts.waits ∙ a.counts.waits; sink = b.counts.sink ∙ a.counts.sink };
+  risks = b.risks ∙ a.risks;
+  may_fail = b.may_fail ∙ a.may_fail;
   idle = b.idle;
 }
 
-quiet_later : (x y z : Moment) → CountsStay x y → IsQuietHost y.host z.host → IsQuietHost x.host z.host
-quiet_later x y z stay (inl (same, waits)) = inl (same ∙ stay.host, waits ∙ stay.waits)
-quiet_later x y z stay (inr failed) = inr (record { faults = subst (λ n. Rose n z.host.faults) stay.host failed.faults; waits = subst (λ n. Rose n z.host.failed_waits) stay.waits failed.waits })
+-- All went well, and then something failed.
+module _ (x y z : Moment) (calm : WentWell x y) where
+  no_fewer : x.host.faults ≤ y.host.faults
+  no_fewer = same_count x.host.faults y.host.faults calm.counts.host
 
--- all went well, and then it stopped
-caused_later : (x y z : Moment) (stop : Stop) → CountsStay x y → StopCausedBy y z stop → StopCausedBy x z stop
-caused_later x y z stops.Host stay (rose, same) = (subst (λ n. Rose n z.host.faults) stay.host rose, same ∙ stay.sink)
-caused_later x y z stops.Sink stay (rose, quiet) = (subst (λ n. Rose n z.out.faults) stay.sink rose, quiet_later x y z stay quiet)
-caused_later x y z stops.OutOfMemory stay (same, quiet) = (same ∙ stay.sink, quiet_later x y z stay quiet)
+  no_fewer_waits : x.host.failed_waits ≤ y.host.failed_waits
+  no_fewer_waits = same_count x.host.failed_waits y.host.failed_waits calm.counts.waits
 
-pub calm_halts : (x y z : Moment) (stop : Stop) → WentWell x y → Halts y z stop → Halts x z stop
-calm_halts x y z stop calm halts = record { counts = caused_later x y z stop calm.counts halts.counts; none_left = left halts.none_left }
-  where
-    left : LeavesNone y.host z.host → LeavesNone x.host z.host
-    left (inl none) = inl none
-    left (inr failed) = inr (record { faults = subst (λ n. Rose n z.host.faults) calm.counts.host failed.faults; waits = subst (λ n. Rose n z.host.failed_waits) calm.counts.waits failed.waits })
+  quiet_later : IsQuietHost y.host z.host → IsQuietHost x.host z.host
+  quiet_later (inl (same, waits)) = inl (same ∙ calm.counts.host, waits ∙ calm.counts.waits)
+  quiet_later (inr failed) = inr (wait_failed_from x.host y.host z.host no_fewer calm.risks no_fewer_waits failed)
 
-calm_stopped : (x y z : Moment) (stop : Stop) → WentWell x y → FaultsTold {T = Unit {0}} y z (Err stop) → ChangesFiles y.host z.host → Halts x z stop
-calm_stopped x y z stop calm told files = record {
-  counts = caused_later x y z stop calm.counts (caused y z stop told (ap (λ (o : Outside). o.failed_waits) files));
+  sink_later : SinkFailed y.out z.out → SinkFailed x.out z.out
+  sink_later failed = sink_failed_from x.out y.out z.out (same_count x.out.faults y.out.faults calm.counts.sink) calm.may_fail failed
+
+  caused_later : (stop : Stop) → StopCausedBy y z stop → StopCausedBy x z stop
+  caused_later stops.Host (failed, same) = (call_failed_from x.host y.host z.host no_fewer calm.risks failed, same ∙ calm.counts.sink)
+  caused_later stops.Sink (failed, quiet) = (sink_later failed, quiet_later quiet)
+  caused_later stops.OutOfMemory (same, quiet) = (same ∙ calm.counts.sink, quiet_later quiet)
+
+  pub calm_halts : (stop : Stop) → Halts y z stop → Halts x z stop
+  calm_halts stop halts = record {
+    counts = caused_later stop halts.counts;
+    may_fail = halts.may_fail ∙ calm.may_fail;
+    none_left = left_from x.host y.host z.host no_fewer calm.risks no_fewer_waits halts.none_left;
+  }
+
+calm_stopped : (x y z : Moment) (stop : Stop) → WentWell x y → FaultsTold {T = Unit {0}} y z (Err stop) → ChangesFiles y.host z.host → z.out.may_fail ≡ y.out.may_fail → Halts x z stop
+calm_stopped x y z stop calm told files may = record {
+  counts = caused_later x y z calm stop (caused y z stop told (ap (λ (o : Outside). o.failed_waits) files));
+  may_fail = may ∙ calm.may_fail;
   none_left = inl (ap (λ (o : Outside). o.children.running) files ∙ calm.idle);
 }
 
 -- all went well, and then something that changes the files alone
-pub calm_then : {T : Type 0} (x y z : Moment) (r : Result T Stop) → WentWell x y → FaultsTold y z r → ChangesFiles y.host z.host → Proceeds x z r
-calm_then x y z (Ok v) calm told files = record {
-  counts = record { host = told.0 ∙ calm.counts.host; waits = ap (λ (o : Outside). o.failed_waits) files ∙ calm.counts.waits; sink = told.1 ∙ calm.counts.sink };
+pub calm_then : {T : Type 0} (x y z : Moment) (r : Result T Stop) → WentWell x y → FaultsTold y z r → ChangesFiles y.host z.host → z.out.may_fail ≡ y.out.may_fail → Proceeds x z r
+calm_then x y z (Ok v) calm told files may = record {
+  counts = record {
+    host = told.0 ∙ calm.counts.host;
+    waits = ap (λ (o : Outside). o.failed_waits) files ∙ calm.counts.waits;
+    sink = told.1 ∙ calm.counts.sink;
+  };
+  risks = ap (λ (o : Outside). o.risks) files ∙ calm.risks;
+  may_fail = may ∙ calm.may_fail;
   idle = ap (λ (o : Outside). o.children.running) files ∙ calm.idle;
 }
-calm_then x y z (Err stops.Host) calm told files = calm_stopped x y z stops.Host calm told files
-calm_then x y z (Err stops.Sink) calm told files = calm_stopped x y z stops.Sink calm told files
-calm_then x y z (Err stops.OutOfMemory) calm told files = calm_stopped x y z stops.OutOfMemory calm told files
+calm_then x y z (Err stops.Host) calm told files may = calm_stopped x y z stops.Host calm told files may
+calm_then x y z (Err stops.Sink) calm told files may = calm_stopped x y z stops.Sink calm told files may
+calm_then x y z (Err stops.OutOfMemory) calm told files may = calm_stopped x y z stops.OutOfMemory calm told files may
 
 -- all went well, and then no memory was left
 pub calm_memory : (x y : Moment) (stop : Stop) → stop ≡ stops.OutOfMemory → WentWell x y → Halts x y stop
-calm_memory x y stop e calm = subst (λ z. Halts x y z) (sym e) (record { counts = (calm.counts.sink, inl (calm.counts.host, calm.counts.waits)); none_left = inl calm.idle })
+calm_memory x y stop e calm = subst (λ z. Halts x y z) (sym e) (record { counts = (calm.counts.sink, inl (calm.counts.host, calm.counts.waits)); may_fail = calm.may_fail; none_left = inl calm.idle })
 
 -- all went well, and then a text was written, or its writing stopped
 pub calm_says : (x y : Moment) (out : Output) (text : List ℕ) (stop : Stop) → WentWell x y → Says {T = Unit {0}} text y.out out (Err stop) → Halts x (moment y.host out) stop
-calm_says x y out text stop calm says = record { counts = told stop says; none_left = inl calm.idle }
+calm_says x y out text stop calm says = record { counts = told stop says; may_fail = says_may {T = Unit {0}} text y.out out (Err stop) says ∙ calm.may_fail; none_left = inl calm.idle }
   where
     told : (stop : Stop) → Says {T = Unit {0}} text y.out out (Err stop) → StopCausedBy x (moment y.host out) stop
     told stops.Host t = absurd t
-    told stops.Sink t = (subst (λ n. Rose n out.faults) calm.counts.sink t.0, inl (calm.counts.host, calm.counts.waits))
+    told stops.Sink t = (sink_later x y (moment y.host out) calm t.0, inl (calm.counts.host, calm.counts.waits))
     told stops.OutOfMemory t = (t.0 ∙ calm.counts.sink, inl (calm.counts.host, calm.counts.waits))
 
 pub calm_said : (x y : Moment) (out : Output) (text : List ℕ) → WentWell x y → out ≡ with_written text y.out → WentWell x (moment y.host out)
 calm_said x y out text calm said = record {
   counts = record { host = calm.counts.host; waits = calm.counts.waits; sink = ap (λ (o : Output). o.faults) said ∙ calm.counts.sink };
+  risks = calm.risks;
+  may_fail = ap (λ (o : Output). o.may_fail) said ∙ calm.may_fail;
   idle = calm.idle;
 }
 
@@ -206,3 +230,17 @@ ended_counts before after answers.OutOfMemory end calm = absurd end
 
 pub stopped_counts : (before after : Moment) (stop : Stop) (answer : UpdateAnswer) → answer ≡ stop_answer stop → Halts before after stop → CausedBy before after (answer_of answer)
 stopped_counts before after stop answer is halts = subst (λ a. CausedBy before after (answer_of a)) (sym is) halts.counts
+
+same_faults : (before after : Moment) → after.out.faults ≡ before.out.faults → after.out.may_fail ≡ before.out.may_fail → OutKeeps before.out after.out
+same_faults before after same may = record { faults = same_count before.out.faults after.out.faults same; no_fault = λ none. same; may_fail = may }
+
+-- what an update keeps of the sink
+pub sink_kept : {T : Type 0} (before after : Moment) (r : Result T Stop) → Proceeds before after r → OutKeeps before.out after.out
+sink_kept before after (Ok v) calm = same_faults before after calm.counts.sink calm.may_fail
+sink_kept before after (Err stops.Host) halts = same_faults before after halts.counts.1 halts.may_fail
+sink_kept before after (Err stops.Sink) halts = record {
+  faults = halts.counts.0.faults.kept;
+  no_fault = λ none. absurd (true≢false (sym halts.counts.0.may ∙ none));
+  may_fail = halts.may_fail;
+}
+sink_kept before after (Err stops.OutOfMemory) halts = same_faults before after halts.counts.0 halts.may_fail

@@ -1,5 +1,6 @@
 pub mod NameComesBeforePath
 pub mod PrefixesGrowByOne
+pub mod FaultsCountFromEarlier
 pub mod WrittenPartsAddUp
 pub mod FoundMakerMakesPath
 pub mod OnlyOutputsAreRemoved

@@ -84,7 +84,7 @@ module _ (plan : Plan) (made : Made) (here : Moment) (idle : here.host.children.
     module _ (later : Board) (more : Sights) (there last : Moment) (updated : ℕ) (ran : StepsRan plan made b s here later more there (Ok updated)) where
       pub plan_stopped : (stop : Stop) → EndRan plan made later more updated there last (Err stop) → PlanRan plan made here last (Err stop)
       plan_stopped stop end = record {
-        proceeds = calm_halts here there last stop ran.proceeds end.proceeds;
+        proceeds = calm_halts here there last ran.proceeds stop end.proceeds;
         keeps = keeps_then here.host there.host last.host ran.keeps end.keeps;
         ends = tt;
         turns = end.turns here.host.disk here.host.children.events (stays_visible here.host there.host ran.keeps)

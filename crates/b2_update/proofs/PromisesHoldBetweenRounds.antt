@@ -188,7 +188,7 @@ module _ (plan : Plan) (made : Made) (first : Board) (sights : Sights) (start : 
   -- a look stopped
   pub look_stopped : (later : Board) (more : Sights) (host : Outside) (stop : Stop) → StopLooks {T = Unit {0}} here.host host (Err stop) → StepsRan plan made first sights start later more (moment host here.out) (Err stop)
   look_stopped later more host stop looked = record {
-    proceeds = calm_halts start here (moment host here.out) stop a.ran.proceeds (look_halts here.host host here.out stop a.ran.proceeds.idle looked);
+    proceeds = calm_halts start here (moment host here.out) a.ran.proceeds stop (look_halts here.host host here.out stop a.ran.proceeds.idle looked);
     keeps = keeps_then start.host here.host host a.ran.keeps (look_keeps here.host host stop looked);
     turns = λ disk old visible had. subst (StoppedTurns plan.steps disk stop old) (sym (ap (λ (o : Outside). o.children.events) (look_files here.host host stop looked))) (had_stopped plan.steps disk b.sched stop old here.host.children.events (a.ran.turns disk old visible had));
     told = λ folder entry w going.
@@ -253,7 +253,7 @@ module _ (plan : Plan) (made : Made) (first : Board) (sights : Sights) (start : 
       -- it stopped
       pub round_stopped : (later last : Board) (more : Sights) (stop : Stop) → RunsNext plan made n mid later here there (Err stop) → StepsRan plan made first sights start last more there (Err stop)
       round_stopped later last more stop r = record {
-        proceeds = calm_halts start here there stop a.ran.proceeds r.proceeds;
+        proceeds = calm_halts start here there a.ran.proceeds stop r.proceeds;
         keeps = keeps_then start.host here.host there.host a.ran.keeps r.keeps;
         turns = λ disk old visible had.
             let h = a.ran.turns disk old visible had in

@@ -6,12 +6,12 @@ use Rattle.std.proofs.lemmas.List.{take_more, take-append-drop}
 use Rattle.std.proofs.lemmas.Grind.{flat_map-append}
 use Rattle.b2_host.specs.declared.fault.IoFault.{IoFault}
 use Rattle.b2_host.specs.declared.fault.IoFault.TheVariants as faults
-use Rattle.b2_base.specs.Counts.{Rose}
 use Rattle.b2_host.specs.Output.{Output, Prints, with_written}
 use Rattle.b2_update.specs.declared.stop.Stop.{Stop}
 use Rattle.b2_update.specs.declared.stop.Stop.TheVariants as stops
 use Rattle.b2_update.specs.Writings.{Adds, AddsPart}
 use Rattle.b2_update.specs.Stops.{Says, sink_stop_of}
+use Rattle.b2_update.proofs.FaultsCountFromEarlier.{same_count, sink_failed_from}
 
 -- writing nothing
 pub adds_nothing : (text : Option (List ℕ)) → Adds [] text text
@@ -47,12 +47,14 @@ part_whole a x y p = record { part = a; rest = []; whole = sym (append-nil a); a
 -- a write stops an update
 pub says_failed : (fault : IoFault) (line : List ℕ) (before after : Output) → Prints {T = Unit {0}} line before after (Err fault) → Says {T = Unit {0}} line before after (Err (sink_stop_of fault))
 says_failed faults.Failed line before after p = (
-  p.rose,
+  record { may = p.may_fail; faults = p.rose },
   record { part = take p.count line; rest = drop p.count line; whole = sym (take-append-drop p.count line); adds = ap (λ (o : Output). o.written) p.same },
+  ap (λ (o : Output). o.may_fail) p.same,
 )
 says_failed faults.OutOfMemory line before after e = (
   ap (λ (o : Output). o.faults) e,
   record { part = []; rest = line; whole = refl; adds = ap (λ (o : Output). o.written) e ∙ adds_nothing before.written },
+  ap (λ (o : Output). o.may_fail) e,
 )
 
 -- what was written where it stopped
@@ -61,19 +63,26 @@ says_part text before after stops.Host told = absurd told
 says_part text before after stops.Sink told = told.1
 says_part text before after stops.OutOfMemory told = told.1
 
+-- whether a write may fail stays
+pub says_may : {T : Type 0} (text : List ℕ) (before after : Output) (r : Result T Stop) → Says text before after r → after.may_fail ≡ before.may_fail
+says_may text before after (Ok v) told = ap (λ (o : Output). o.may_fail) told
+says_may text before after (Err stops.Host) told = absurd told
+says_may text before after (Err stops.Sink) told = told.2
+says_may text before after (Err stops.OutOfMemory) told = told.2
+
 -- the same stop, told of a longer text that began before
-pub says_from : (text whole : List ℕ) (x y z : Output) (stop : Stop) → y.faults ≡ x.faults → (AddsPart text y.written z.written → AddsPart whole x.written z.written) → Says {T = Unit {0}} text y z (Err stop) → Says {T = Unit {0}} whole x z (Err stop)
-says_from text whole x y z stops.Host e f told = told
-says_from text whole x y z stops.Sink e f told = (subst (λ n. Rose n z.faults) e told.0, f told.1)
-says_from text whole x y z stops.OutOfMemory e f told = (told.0 ∙ e, f told.1)
+pub says_from : (text whole : List ℕ) (x y z : Output) (stop : Stop) → y.faults ≡ x.faults → y.may_fail ≡ x.may_fail → (AddsPart text y.written z.written → AddsPart whole x.written z.written) → Says {T = Unit {0}} text y z (Err stop) → Says {T = Unit {0}} whole x z (Err stop)
+says_from text whole x y z stops.Host e m f told = told
+says_from text whole x y z stops.Sink e m f told = (sink_failed_from x y z (same_count x.faults y.faults e) m told.0, f told.1, told.2 ∙ m)
+says_from text whole x y z stops.OutOfMemory e m f told = (told.0 ∙ e, f told.1, told.2 ∙ m)
 
 -- a result that stopped so
 pub says_err : {T : Type 0} (text : List ℕ) (before after : Output) (r : Result T Stop) (stop : Stop) → r ≡ Err stop → Says {T = Unit {0}} text before after (Err stop) → Says text before after r
 says_err text before after r stop e told = subst (λ z. Says text before after z) (sym e) told
 
 -- no memory was left after a beginning of the text
-pub says_no_memory : (text : List ℕ) (before after : Output) (stop : Stop) → stop ≡ stops.OutOfMemory → after.faults ≡ before.faults → AddsPart text before.written after.written → Says {T = Unit {0}} text before after (Err stop)
-says_no_memory text before after stop e same part = subst (λ z. Says {T = Unit {0}} text before after (Err z)) (sym e) (same, part)
+pub says_no_memory : (text : List ℕ) (before after : Output) (stop : Stop) → stop ≡ stops.OutOfMemory → after.faults ≡ before.faults → after.may_fail ≡ before.may_fail → AddsPart text before.written after.written → Says {T = Unit {0}} text before after (Err stop)
+says_no_memory text before after stop e same may part = subst (λ z. Says {T = Unit {0}} text before after (Err z)) (sym e) (same, part, may)
 
 -- a text was written, told of each part of the output
 pub says_all : (text : List ℕ) (before after : Output) → after.faults ≡ before.faults → after.may_fail ≡ before.may_fail → Adds text before.written after.written → after ≡ with_written text before
@@ -88,8 +97,8 @@ pub says_map : {T : Type 0} (text whole : List ℕ) (x y z : Output) (r : Result
     → (Adds text y.written z.written → Adds whole x.written z.written) → (AddsPart text y.written z.written → AddsPart whole x.written z.written) → Says text y z r → Says whole x z r
 says_map text whole x y z (Ok v) e m f g told = says_all whole x z (ap (λ (o : Output). o.faults) told ∙ e) (ap (λ (o : Output). o.may_fail) told ∙ m) (f (ap (λ (o : Output). o.written) told))
 says_map text whole x y z (Err stops.Host) e m f g told = told
-says_map text whole x y z (Err stops.Sink) e m f g told = (subst (λ n. Rose n z.faults) e told.0, g told.1)
-says_map text whole x y z (Err stops.OutOfMemory) e m f g told = (told.0 ∙ e, g told.1)
+says_map text whole x y z (Err stops.Sink) e m f g told = (sink_failed_from x y z (same_count x.faults y.faults e) m told.0, g told.1, told.2 ∙ m)
+says_map text whole x y z (Err stops.OutOfMemory) e m f g told = (told.0 ∙ e, g told.1, told.2 ∙ m)
 
 -- a line more of a list's lines
 lines_more : {X : Type 0} (f : X → List ℕ) (xs : List X) (i : ℕ) (d : X) → i < length xs → flat_map f (take (i + 1) xs) ≡ flat_map f (take i xs) ++ f (get_or xs i d)

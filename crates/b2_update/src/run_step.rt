@@ -30,6 +30,7 @@ fn fail_step<H: Children, S: Sink>(
 ) -> Result<bool, Stop>
     ensures counts { FaultsTold (moment (H.outside host.old) (S.output out.old)) (moment (H.outside host.new) (S.output out.new)) result }
     ensures files { ChangesFiles (H.outside host.old) (H.outside host.new) }
+    ensures may_fail { (S.output out.new).may_fail ≡ (S.output out.old).may_fail }
     ensures keeps { Keeps (H.outside host.old) (H.outside host.new) }
     ensures failed { IfOk result (λ settled. settled ≡ false) }
     ensures told { EndTold step.now false (moment (H.outside host.old) (S.output out.old)) (moment (H.outside host.new) (S.output out.new)) result }
@@ -63,6 +64,7 @@ fn finish_step<H: Children, S: Sink>(
 ) -> Result<bool, Stop>
     ensures counts { FaultsTold (moment (H.outside host.old) (S.output out.old)) (moment (H.outside host.new) (S.output out.new)) result }
     ensures files { ChangesFiles (H.outside host.old) (H.outside host.new) }
+    ensures may_fail { (S.output out.new).may_fail ≡ (S.output out.old).may_fail }
     ensures keeps { Keeps (H.outside host.old) (H.outside host.new) }
     ensures became { IfOk result (EndedAs well step.now (H.outside host.old).disk) }
     ensures told { EndTold step.now well (moment (H.outside host.old) (S.output out.old)) (moment (H.outside host.new) (S.output out.new)) result }

@@ -1,6 +1,7 @@
 //! The update of a plan.
 ghost use Rattle.std.specs.Prelude.{◌≡◌, ℕ, [], OnOk};
 ghost use Rattle.b2_host.specs.OutsideLaws.{Keeps};
+ghost use Rattle.b2_host.specs.OutputLaws.{OutKeeps};
 ghost use Rattle.b2_plan.specs.Plans.{Apart};
 ghost use Rattle.b2_runs.specs.UpdateAnswers.{CausedBy, LeavesNone, HasHappened};
 ghost use Rattle.b2_sched.specs.Schedules.{IsRunning, CanLook, IsStale};
@@ -120,11 +121,13 @@ pub fn update<H: Children, S: Sink>(
 ) -> UpdateAnswer
     requires idle { (H.outside host.old).children.running ≡ [] }
     requires apart { Apart plan.now.steps plan.now.roots }
+    // The answer names the first fault, and a fault comes only where one may.
     ensures counts { CausedBy (moment (H.outside host.old) (S.output out.old)) (moment (H.outside host.new) (S.output out.new)) (answer_of result) }
-    // No child is left, unless a wait for it failed, and then both counts of the host rose.
+    // No child is left, but for one for each wait that failed. A wait fails only where one may, and then both counts of the host rise.
     ensures none_left { LeavesNone (H.outside host.old) (H.outside host.new) }
-    // No count falls, visible files stay visible, and all that stood stays among the past.
+    // No count falls, what may go wrong stays, visible files stay visible, and all that stood stays among the past.
     ensures keeps { Keeps (H.outside host.old) (H.outside host.new) }
+    ensures out_keeps { OutKeeps (S.output out.old) (S.output out.new) }
     // The events are in order, over every host: one step is open at a time, and none starts twice. Each failed step was done
     // badly, or left an output out; where all went well none did so.
     ensures turns { HasHappened plan.now.steps 1 (H.outside host.old).disk (H.outside host.old).children.events (H.outside host.new).children.events (answer_of result) }

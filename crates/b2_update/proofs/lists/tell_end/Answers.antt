@@ -20,7 +20,7 @@ returns-in_err-tell_missing g c =
     let o0 = g.S.Sink.output c.args.out.now in
     let o1 = g.S.Sink.output c.tell_missing.new.out in
     let says = subst (λ z. Says {T = Unit {0}} (flat_map missing_line c.as_slice.result.now) o0 o1 (Err z)) (sym q) c.in_err-tell_missing.ensures in
-    says_err text o0 o1 c.from_residual.result y e (says_from (flat_map missing_line c.as_slice.result.now) text o0 o0 o1 y refl
+    says_err text o0 o1 c.from_residual.result y e (says_from (flat_map missing_line c.as_slice.result.now) text o0 o0 o1 y refl refl
     (λ part. part_of_more (a ++ b) last o0.written o1.written (part_of_more a b o0.written o1.written (subst (λ (l : List (List ℕ)). AddsPart (flat_map missing_line l) o0.written o1.written) c.as_slice.ensures part))) says)
 
 pub returns-in_err-tell_skipped : goal.returns-in_err-tell_skipped
@@ -37,7 +37,7 @@ returns-in_err-tell_skipped g c =
     let quiet1 = ap (λ (o : Output). o.faults) c.in_ok-tell_missing.ensures in
     let o2 = g.S.Sink.output c.tell_skipped.new.out in
     let says = subst (λ z. Says {T = Unit {0}} (skipped_lines c.args.steps.now c.as_slice-2.result.now) o1 o2 (Err z)) (sym q) c.in_err-tell_skipped.ensures in
-    says_err text o0 o2 c.from_residual-in_err-tell_skipped.result y e (says_from (skipped_lines c.args.steps.now c.as_slice-2.result.now) text o0 o1 o2 y quiet1
+    says_err text o0 o2 c.from_residual-in_err-tell_skipped.result y e (says_from (skipped_lines c.args.steps.now c.as_slice-2.result.now) text o0 o1 o2 y quiet1 (ap (λ (o : Output). o.may_fail) c.in_ok-tell_missing.ensures)
     (λ part. part_of_more (a ++ b) last o0.written o2.written (adds_then_part a b o0.written o1.written o2.written one (subst (λ (l : List ℕ). AddsPart (skipped_lines c.args.steps.now l) o1.written o2.written) c.as_slice-2.ensures part))) says)
 
 pub returns-in_err-line : goal.returns-in_err-line
@@ -56,7 +56,8 @@ returns-in_err-line g c =
     let two : Adds b o1.written o2.written = subst (λ (l : List ℕ). Adds (skipped_lines c.args.steps.now l) o1.written o2.written) c.as_slice-2.ensures (ap (λ (o : Output). o.written) c.in_ok-tell_skipped.ensures) in
     let both = adds_both a b o0.written o1.written o2.written one two in
     let quiet2 = ap (λ (o : Output). o.faults) c.in_ok-tell_skipped.ensures ∙ quiet1 in
-    says_err text o0 o2 c.from_residual-in_err-line.result y e (says_no_memory text o0 o2 y q quiet2 (part_of_more (a ++ b) last o0.written o2.written (part_whole (a ++ b) o0.written o2.written both)))
+    let may = ap (λ (o : Output). o.may_fail) c.in_ok-tell_skipped.ensures ∙ ap (λ (o : Output). o.may_fail) c.in_ok-tell_missing.ensures in
+    says_err text o0 o2 c.from_residual-in_err-line.result y e (says_no_memory text o0 o2 y q quiet2 may (part_of_more (a ++ b) last o0.written o2.written (part_whole (a ++ b) o0.written o2.written both)))
 
 pub returns : goal.returns
 returns g c =

@@ -16,7 +16,7 @@ returns-in_err-line g c =
     let i = c.loop-path.path-index in
     let before = g.S.Sink.output c.args.out.now in
     let here = g.S.Sink.output c.loop-path.out in
-    says_err (flat_map missing_line paths) before here c.from_residual.result y e (says_no_memory (flat_map missing_line paths) before here y q c.loop-path.invariant.faults (part_taken missing_line paths i _ _ c.loop-path.invariant.lines))
+    says_err (flat_map missing_line paths) before here c.from_residual.result y e (says_no_memory (flat_map missing_line paths) before here y q c.loop-path.invariant.faults c.loop-path.invariant.may_fail (part_taken missing_line paths i _ _ c.loop-path.invariant.lines))
 
 pub returns-in_err-write_line : goal.returns-in_err-write_line
 returns-in_err-write_line g c =
@@ -28,7 +28,7 @@ returns-in_err-write_line g c =
     let after = g.S.Sink.output c.write_line.new.out in
     let line = c.as_str.ensures.value ∙ c.in_ok-line.ensures ∙ ap missing_line c.path-item.is in
     let says = subst (λ z. Says {T = Unit {0}} c.as_str.result.now here after (Err z)) (sym q) c.in_err-write_line.ensures in
-    says_err (flat_map missing_line paths) before after c.from_residual-in_err-write_line.result y e (says_from c.as_str.result.now (flat_map missing_line paths) before here after y c.loop-path.invariant.faults
+    says_err (flat_map missing_line paths) before after c.from_residual-in_err-write_line.result y e (says_from c.as_str.result.now (flat_map missing_line paths) before here after y c.loop-path.invariant.faults c.loop-path.invariant.may_fail
     (λ part. part_more missing_line paths i c.path-item.result before.written here.written after.written c.loop-path-test.true c.loop-path.invariant.lines (subst (λ l. AddsPart l here.written after.written) line part)) says)
 
 pub loop-path-preserved : goal.loop-path-preserved

@@ -21,7 +21,7 @@ returns-in_err-tell_one_skipped g c =
     let after = g.S.Sink.output c.tell_one_skipped.new.out in
     let text = say (get_or numbers i 0) in
     let says = subst (λ z. Says {T = Unit {0}} text here after (Err z)) (sym q) c.in_err-tell_one_skipped.ensures in
-    says_err (skipped_lines steps numbers) before after c.from_residual.result y e (says_from text (skipped_lines steps numbers) before here after y c.loop-number.invariant.faults
+    says_err (skipped_lines steps numbers) before after c.from_residual.result y e (says_from text (skipped_lines steps numbers) before here after y c.loop-number.invariant.faults c.loop-number.invariant.may_fail
     (λ part. part_more say numbers i 0 before.written here.written after.written c.loop-number-test.true c.loop-number.invariant.lines part) says)
 
 pub loop-number-preserved : goal.loop-number-preserved

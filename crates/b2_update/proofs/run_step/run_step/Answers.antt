@@ -78,7 +78,7 @@ returns-clause-proceeds g c =
     let here = moment (g.H.Files.outside c.args.host.now) (g.S.Sink.output c.args.out.now) in
     let there = moment (g.H.Files.outside c.run_child.new.host) (g.S.Sink.output c.run_child.new.out) in
     let last = moment (g.H.Files.outside c.finish_step.new.host) (g.S.Sink.output c.finish_step.new.out) in
-    calm_then here there last c.finish_step.result c.in_ok-well.ensures.proceeds c.finish_step.ensures.counts c.finish_step.ensures.files
+    calm_then here there last c.finish_step.result c.in_ok-well.ensures.proceeds c.finish_step.ensures.counts c.finish_step.ensures.files c.finish_step.ensures.may_fail
 
 pub returns-in_err-well-clause-told : goal.returns-in_err-well-clause-told
 returns-in_err-well-clause-told g c = λ u entry events steps_are due s.

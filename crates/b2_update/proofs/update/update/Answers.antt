@@ -7,7 +7,7 @@ use Rattle.b2_update.specs.Answers.{answer_of, stop_answer}
 use Rattle.b2_runs.specs.UpdateAnswers.{HasHappened}
 use Rattle.b2_update.specs.Updates.{HasRunAll, HasWritten}
 use Rattle.b2_update.proofs.AnswerTellsWhatHappened.{both_from, finished_updated, finished_written, stop_is_end}
-use Rattle.b2_update.proofs.EachStopHasItsCause.{ended_counts, stopped_counts}
+use Rattle.b2_update.proofs.EachStopHasItsCause.{ended_counts, stopped_counts, sink_kept}
 use Rattle.b2_update.proofs.update.update.Goals as goal
 
 pub returns-in-Ok-clause-counts : goal.returns-in-Ok-clause-counts
@@ -21,6 +21,18 @@ returns-in-Err-clause-counts g c =
     let first = moment (g.H.Files.outside c.args.host.now) (g.S.Sink.output c.args.out.now) in
     let last = moment (g.H.Files.outside c.run_plan.new.host) (g.S.Sink.output c.run_plan.new.out) in
     stopped_counts first last c.in-Err.stop c.stopped.result c.stopped.ensures c.in-Err.ensures.proceeds
+
+pub returns-in-Ok-clause-out_keeps : goal.returns-in-Ok-clause-out_keeps
+returns-in-Ok-clause-out_keeps g c =
+    let first = moment (g.H.Files.outside c.args.host.now) (g.S.Sink.output c.args.out.now) in
+    let last = moment (g.H.Files.outside c.run_plan.new.host) (g.S.Sink.output c.run_plan.new.out) in
+    sink_kept first last c.run_plan.result c.run_plan.ensures.proceeds
+
+pub returns-in-Err-clause-out_keeps : goal.returns-in-Err-clause-out_keeps
+returns-in-Err-clause-out_keeps g c =
+    let first = moment (g.H.Files.outside c.args.host.now) (g.S.Sink.output c.args.out.now) in
+    let last = moment (g.H.Files.outside c.run_plan.new.host) (g.S.Sink.output c.run_plan.new.out) in
+    sink_kept first last c.run_plan.result c.run_plan.ensures.proceeds
 
 pub returns-in-Ok-clause-updated : goal.returns-in-Ok-clause-updated
 returns-in-Ok-clause-updated g c =
