@@ -20,7 +20,7 @@ use Rattle.b2_planning.specs.declared.planned.Planned.{Planned}
 use Rattle.b2_host.specs.ChildProcesses.{Family, BothTold}
 use Rattle.b2_host.specs.Disks.{Disk}
 use Rattle.b2_host.specs.Outside.{Outside}
-use Rattle.b2_host.specs.OutsideLaws.{Keeps, then_rose}
+use Rattle.b2_host.specs.OutsideLaws.{Keeps}
 use Rattle.b2_host.specs.Output.{Output, with_written}
 use Rattle.b2_host.specs.declared.children.ChildEvent.{ChildEvent}
 use Rattle.b2_host.specs.declared.fault.IoFault.{IoFault}
@@ -28,7 +28,7 @@ use Rattle.b2_host.specs.declared.fault.IoFault.TheVariants as io
 use Rattle.b2_plan.specs.Plans.{Apart}
 use Rattle.b2_refusals.specs.declared.fault.Fault.TheVariants as faults
 use Rattle.b2_runs.specs.CompleteLaws.{NothingIsLeft, NothingIsMissed}
-use Rattle.b2_runs.specs.UpdateAnswers.{HasHappened, LeavesNone}
+use Rattle.b2_runs.specs.UpdateAnswers.{HasHappened}
 use Rattle.b2_update.specs.Answers.{answer_of}
 use Rattle.b2_update.specs.Moments.{moment}
 use Rattle.b2_update.specs.Plain.{Made, update_of}
@@ -145,7 +145,7 @@ module _ (law : OneMeaning) (left : NothingIsLeft) (missed : NothingIsMissed) (m
           let turns = subst (λ d. HasHappened planned.plan.steps 1 d h0.children.events h2.children.events a) disk_same
           (subst (λ (f : Family). HasHappened planned.plan.steps 1 h1.disk f.events h2.children.events a) children_same u.turns)
           in
-          ended law left missed made words free asked can h0 h2 o0 o1 u.out o2 echoes planned builds apart told echoed h1 same keeps u.ended result ran wrote turns u.counts u.ends
+          ended law left missed made words free asked can h0 h2 o0 o1 u.out o2 echoes planned builds apart told echoed h1 same keeps u.out_keeps u.ended result ran wrote turns u.counts u.ends
 
     run_of : unbuilt_file planned.plan.steps ≡ None → (h2 : Outside) (o2 : Output) (result : Answer) → Runs made echoes planned.plan (moment h1 o0) (moment h2 o2) result
         → IsAnswered made words (moment h0 o0) (moment h2 o2) result
@@ -156,11 +156,3 @@ module _ (law : OneMeaning) (left : NothingIsLeft) (missed : NothingIsMissed) (m
     pub carried : (h2 : Outside) (o2 : Output) (result : Answer) → Carries made echoes planned.plan (moment h1 o0) (moment h2 o2) result → IsAnswered made words (moment h0 o0) (moment h2 o2) result
     carried h2 o2 result (runs builds run) = run_of builds h2 o2 result run
     carried h2 o2 result (refuses path is host file) = subst (λ h. IsAnswered made words (moment h0 o0) (moment h o2) result) (sym host) (file_refused path o2 result is file)
-
--- no child is left, also where what came before started none
-pub left_from : (h0 h1 h2 : Outside) → Keeps h0 h1 → LeavesNone h1 h2 → LeavesNone h0 h2
-left_from h0 h1 h2 keeps (inl none) = inl none
-left_from h0 h1 h2 keeps (inr wait) = inr (record {
-  faults = then_rose h0.faults h1.faults h2.faults keeps.faults wait.faults;
-  waits = then_rose h0.failed_waits h1.failed_waits h2.failed_waits keeps.waits wait.waits;
-})

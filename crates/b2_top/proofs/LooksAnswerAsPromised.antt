@@ -18,6 +18,7 @@ use Rattle.b2_front.specs.declared.refusal.Refusal.TheVariants as refusals
 use Rattle.b2_front.specs.declared.refusal.Stop.{Stop}
 use Rattle.b2_front.specs.declared.refusal.Stop.TheVariants as stops
 use Rattle.b2_runs.specs.Moments.{Moment}
+use Rattle.b2_runs.specs.UpdateAnswers.{SinkFailed}
 use Rattle.b2_refusals.specs.Lines.{usage_line}
 use Rattle.b2_top.specs.declared.answer.Answer.{Answer}
 use Rattle.b2_top.specs.declared.answer.Answer.TheVariants as answers
@@ -45,7 +46,7 @@ module _ (words : List Word) (before after : Moment) where
   ended_sink bytes f alone same begins = record {
     shown = λ e. absurd cc;
     reported = written_told before after f.part (BeginsReport words) f.written (begins f.part f.begins);
-    counts = (f.rose, same);
+    counts = (f.sink, same);
     usage = λ none. inr (inl refl);
     alone = alone;
     no_usage = λ e. absurd cc;
@@ -196,7 +197,7 @@ module _ (law : OneMeaning) (words : List Word) (look : Look) (asked : look_of w
   -- the host failed
   module _ (rose : Rose h0.faults h1.faults) where
     ended_host : (bytes : List ℕ) → o1.written ≡ option_map (λ so_far. so_far ++ bytes) o0.written
-        → ((bytes ≡ fault_report echoes) × (o1.faults ≡ o0.faults)) ⊎ (Rose o0.faults o1.faults × IsFrontOf bytes (fault_report echoes)) → Promised answers.HostFault
+        → ((bytes ≡ fault_report echoes) × (o1.faults ≡ o0.faults)) ⊎ (SinkFailed o0 o1 × IsFrontOf bytes (fault_report echoes)) → Promised answers.HostFault
     ended_host bytes text ended = record {
       shown = λ e. absurd cc;
       reported = written_told (moment h0 o0) (moment h1 o1) bytes _ text (if_all h0.disk (λ disk. record { look = look; echoes = echoes; asked = asked; ended = ended }));
@@ -212,7 +213,7 @@ module _ (law : OneMeaning) (words : List Word) (look : Look) (asked : look_of w
     pub answered_fault : (result : Answer) → SaysFault (fault_report echoes) o0 o1 result → Promised result
     answered_fault result (fault_said is p) =
         subst Promised (sym is) (ended_host (fault_report echoes) (text_of (fault_report echoes) o0 o1 p) (inl (refl, faults_of (fault_report echoes) o0 o1 p)))
-    answered_fault result (fault_failed is f) = subst Promised (sym is) (ended_host f.part f.written (inr (f.rose, f.begins)))
+    answered_fault result (fault_failed is f) = subst Promised (sym is) (ended_host f.part f.written (inr (f.sink, f.begins)))
     answered_fault result (fault_stopped is s) =
         subst Promised (sym is) (ended_memory words (moment h0 o0) (moment h1 o1) (fault_report echoes) s (λ none. not_none none)
         (λ part front. if_all h0.disk (λ disk. host_fault echoes rose front)))

@@ -8,9 +8,9 @@ use Rattle.std.proofs.lemmas.List.{take_more, take-append-drop}
 use Rattle.std.proofs.lemmas.Grind.{flat_map-append}
 use Rattle.b2_host.specs.declared.fault.IoFault.{IoFault}
 use Rattle.b2_host.specs.declared.fault.IoFault.TheVariants as faults
-use Rattle.b2_base.specs.Counts.{Rose}
 use Rattle.b2_base.specs.Bytes.{IsFrontOf}
 use Rattle.b2_host.specs.Output.{Output, Prints, with_written}
+use Rattle.b2_update.proofs.FaultsCountFromEarlier.{same_count, sink_failed_from}
 use Rattle.b2_top.specs.declared.answer.Answer.{Answer}
 use Rattle.b2_top.specs.declared.answer.Answer.TheVariants as answers
 use Rattle.b2_top.specs.Writing.{Writes, unwritten, Says, SaysFault}
@@ -48,7 +48,7 @@ prints_writes bytes text x y r e p = subst (λ b. Writes b x y r) e (go r p)
     go (Err faults.Failed) p = record {
       part = take p.count bytes;
       begins = (drop p.count bytes, sym (take-append-drop p.count bytes));
-      rose = p.rose;
+      sink = record { may = p.may_fail; faults = p.rose };
       written = ap (λ (o : Output). o.written) p.same;
     }
     go (Err faults.OutOfMemory) p = record { part = []; begins = (bytes, refl); same = p ∙ written_none x }
@@ -67,7 +67,7 @@ front_after part a b f = (f.0, ap (λ t. a ++ t) f.1 ∙ sym (append_assoc a par
 
 -- it stopped in the first bytes
 pub writes_stop : (a b : List ℕ) (x y : Output) (fault : IoFault) → Writes {T = Unit {0}} a x y (Err fault) → Writes {T = Unit {0}} (a ++ b) x y (Err fault)
-writes_stop a b x y faults.Failed w = record { part = w.part; begins = front_more w.part a b w.begins; rose = w.rose; written = w.written }
+writes_stop a b x y faults.Failed w = record { part = w.part; begins = front_more w.part a b w.begins; sink = w.sink; written = w.written }
 writes_stop a b x y faults.OutOfMemory w = record { part = w.part; begins = front_more w.part a b w.begins; same = w.same }
 
 same_faults : (a : List ℕ) (x y : Output) → y ≡ with_written a x → y.faults ≡ x.faults
@@ -79,7 +79,7 @@ writes_then a b x y z (Ok v) p w = written_both a b x y z p w
 writes_then a b x y z (Err faults.Failed) p w = record {
   part = a ++ w.part;
   begins = front_after w.part a b w.begins;
-  rose = subst (λ n. Rose n z.faults) (same_faults a x y p) w.rose;
+  sink = sink_failed_from x y z (same_count x.faults y.faults (same_faults a x y p)) (ap (λ (o : Output). o.may_fail) p) w.sink;
   written = w.written ∙ ap (λ (o : Output). option_map (λ so_far. so_far ++ w.part) o.written) p ∙ text_both a w.part x.written;
 }
 writes_then a b x y z (Err faults.OutOfMemory) p w = record { part = a ++ w.part; begins = front_after w.part a b w.begins; same = written_both a w.part x y z p w.same }

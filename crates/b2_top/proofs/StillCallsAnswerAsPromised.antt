@@ -129,7 +129,7 @@ module _ (made : Made) (words : List Word) (h0 h1 : Outside) (o0 o1 : Output) (s
   still_sink bytes f same begins = record {
     clean = λ e. absurd cc;
     happened = both_still _ (if_all h0.disk (λ disk. inl (untouched disk)));
-    counts = (f.rose, inl same);
+    counts = (f.sink, inl same);
     usage = λ none. inr (inl refl);
     alone = still.alone;
     without = still.without;
@@ -305,7 +305,7 @@ module _ (made : Made) (words : List Word) (h0 h1 : Outside) (o0 o1 : Output) (s
         subst Promised (sym is) (still_host (fault_report echoes) (text_of (fault_report echoes) o0 o1 p)
         (if_all h0.disk (λ disk. before_update free echoes asked can refl (inl (refl, faults_of (fault_report echoes) o0 o1 p)))))
     still_fault result (fault_failed is f) =
-        subst Promised (sym is) (still_host f.part f.written (if_all h0.disk (λ disk. before_update free echoes asked can refl (inr (f.rose, f.begins)))))
+        subst Promised (sym is) (still_host f.part f.written (if_all h0.disk (λ disk. before_update free echoes asked can refl (inr (f.sink, f.begins)))))
     still_fault result (fault_stopped is s) =
         subst Promised (sym is) (still_memory (fault_report echoes) s (λ part front. if_all h0.disk (λ disk. faulting (fault_report echoes) rose (fault_at disk) front)))
 

@@ -21,7 +21,8 @@ use Rattle.b2_host.specs.Disks.{Disk}
 use Rattle.b2_base.specs.Counts.{Rose}
 use Rattle.b2_base.specs.Bytes.{IsFrontOf}
 use Rattle.b2_host.specs.Outside.{Outside}
-use Rattle.b2_host.specs.OutsideLaws.{Keeps, then_rose}
+use Rattle.b2_host.specs.OutsideLaws.{Keeps}
+use Rattle.b2_host.specs.OutputLaws.{OutKeeps, out_keeps_then, out_keeps_prints}
 use Rattle.b2_host.specs.Output.{Output, with_written}
 use Rattle.b2_host.specs.declared.children.ChildEvent.{ChildEvent}
 use Rattle.b2_host.specs.declared.children.ChildEvent.TheVariants.{Done}
@@ -32,9 +33,10 @@ use Rattle.b2_refusals.specs.declared.fault.Fault.TheVariants as faults
 use Rattle.b2_runs.specs.CompleteLaws.{CleanIsDefined, NothingIsLeft, NothingIsMissed}
 use Rattle.b2_runs.specs.Reports.{TellsStarts, event_lines, host_fault_line}
 use Rattle.b2_runs.specs.Staleness.{Update}
-use Rattle.b2_runs.specs.UpdateAnswers.{UpdateAnswer as RunAnswer, CausedBy, IsQuietHost, HasHappened, failed_of}
+use Rattle.b2_runs.specs.UpdateAnswers.{UpdateAnswer as RunAnswer, SinkFailed, CausedBy, IsQuietHost, HasHappened, failed_of}
 use Rattle.b2_runs.specs.UpdateAnswers.UpdateAnswer.{all_went, failed as some_failed, step_cycle, host_fault, sink_fault, out_of_memory}
 use Rattle.b2_update.specs.Answers.{answer_of, lists_of}
+use Rattle.b2_update.proofs.FaultsCountFromEarlier.{sink_failed_from, wait_failed_from}
 use Rattle.b2_update.specs.Moments.{moment}
 use Rattle.b2_update.specs.Plain.{Made}
 use Rattle.b2_update.specs.Updates.{HasRunAll, RunTold, BytesTold}
@@ -128,8 +130,7 @@ cut_turns steps disk old new a b not_all none h = record {
 
 quiet_from : (h0 h1 h2 : Outside) → h1.faults ≡ h0.faults → Keeps h0 h1 → IsQuietHost h1 h2 → StaysOrWaits h0 h2
 quiet_from h0 h1 h2 same keeps (inl (f, w)) = inl (f ∙ same)
-quiet_from h0 h1 h2 same keeps (inr wait) =
-    inr (record { faults = subst (λ n. Rose n h2.faults) same wait.faults; waits = then_rose h0.failed_waits h1.failed_waits h2.failed_waits keeps.waits wait.waits })
+quiet_from h0 h1 h2 same keeps (inr wait) = inr (wait_failed_from h0 h1 h2 keeps.faults keeps.risks keeps.waits wait)
 
 -- ---- a call
 
@@ -235,7 +236,7 @@ module _ (law : OneMeaning) (left : NothingIsLeft) (missed : NothingIsMissed) (m
     abbrev Turns : RunAnswer → Type 0
     Turns a = HasHappened steps 1 h0.disk h0.children.events h2.children.events a
 
-    module _ (h1 : Outside) (same : h1.faults ≡ h0.faults) (keeps : Keeps h0 h1) where
+    module _ (h1 : Outside) (same : h1.faults ≡ h0.faults) (keeps : Keeps h0 h1) (out_keeps : OutKeeps o1 m) where
       abbrev Caused : RunAnswer → Type 0
       Caused a = CausedBy (moment h1 o1) (moment h2 m) a
 
@@ -293,12 +294,12 @@ module _ (law : OneMeaning) (left : NothingIsLeft) (missed : NothingIsMissed) (m
       }
 
       -- the call was cut off in a report: of an update that ended so, or of what comes after it
-      cut_sink : (a : RunAnswer) → AtBoth (Ran a) → AtBoth (Wrote a) → Turns a → Rose o0.faults o2.faults → StaysOrWaits h0 h2
+      cut_sink : (a : RunAnswer) → AtBoth (Ran a) → AtBoth (Wrote a) → Turns a → SinkFailed o0 o2 → StaysOrWaits h0 h2
           → ReportTold made words (moment h0 o0) (moment h2 o2) answers.SinkFault → Promised answers.SinkFault
-      cut_sink a ran wrote turns rose host report = record {
+      cut_sink a ran wrote turns failed_sink host report = record {
         clean = λ e. absurd cc;
         happened = both a ran wrote turns (λ disk later h run. inr (built a ran wrote turns sink_fault (λ u events l t. tt) disk later h run));
-        counts = (rose, host);
+        counts = (failed_sink, host);
         usage = λ none. not_none none;
         alone = λ none. not_none none;
         without = λ name is. not_some name is;
@@ -350,8 +351,15 @@ module _ (law : OneMeaning) (left : NothingIsLeft) (missed : NothingIsMissed) (m
         turns = (steps, told_turns a ran wrote turns host_fault (λ e. cc) refl);
       }
 
-      rose_sink : (last : Output) → m.faults ≡ o1.faults → Rose m.faults last.faults → Rose o0.faults last.faults
-      rose_sink last sink rose = subst (λ n. Rose n last.faults) (same_sink sink) rose
+      echoes_keep : OutKeeps o0 o1
+      echoes_keep = out_keeps_prints {T = Unit {0}} (echo_lines echoes) o0 o1 (Ok tt) echoed
+
+      -- a write failed after the lines of ECHO, or after the update
+      failed_after_echoes : (last : Output) → SinkFailed o1 last → SinkFailed o0 last
+      failed_after_echoes last write = sink_failed_from o0 o1 last echoes_keep.faults echoes_keep.may_fail write
+
+      failed_after : (last : Output) → SinkFailed m last → SinkFailed o0 last
+      failed_after last write = let kept = out_keeps_then o0 o1 m echoes_keep out_keeps in sink_failed_from o0 m last kept.faults kept.may_fail write
 
       -- ---- a step cycle
 
@@ -390,7 +398,7 @@ module _ (law : OneMeaning) (left : NothingIsLeft) (missed : NothingIsMissed) (m
           turns = (steps, turns);
         })
         ended_cycle result (failed is f) =
-            subst Promised (sym is) (cut_sink (step_cycle list) ran wrote turns (rose_sink o2 counts.sink f.rose) (inl (counts.host ∙ same))
+            subst Promised (sym is) (cut_sink (step_cycle list) ran wrote turns (failed_after o2 f.sink) (inl (counts.host ∙ same))
             (reported_piece (step_cycle list) ran wrote turns answers.SinkFault f.part f.written
             (λ disk later events written h t bytes. cycle list (cycle_report echoes steps events list) (cycle_at disk later events h t) (begins_cycle events written f.part bytes f.begins))))
         ended_cycle result (stopped is s) =
@@ -403,7 +411,7 @@ module _ (law : OneMeaning) (left : NothingIsLeft) (missed : NothingIsMissed) (m
 
       module _ (ran : AtBoth (Ran host_fault)) (wrote : AtBoth (Wrote host_fault)) (turns : Turns host_fault) (counts : Caused host_fault) where
         rose_host : Rose h0.faults h2.faults
-        rose_host = subst (λ n. Rose n h2.faults) same counts.0
+        rose_host = subst (λ n. Rose n h2.faults) same counts.0.faults
 
         fault_at : (disk : Disk) (events : List ChildEvent) (written : List ℕ) → IsTold disk → TellsStarts steps events written
             → IsFaultReport words disk events ((echo_lines echoes ++ written) ++ host_fault_line)
@@ -426,7 +434,7 @@ module _ (law : OneMeaning) (left : NothingIsLeft) (missed : NothingIsMissed) (m
         ended_fault result (fault_failed is f) =
             subst Promised (sym is) (cut_host host_fault ran wrote turns rose_host
             (reported_piece host_fault ran wrote turns answers.HostFault f.part f.written
-            (λ disk later events written h t bytes. in_update (plan_at disk h) written f.part bytes (inr (rose_sink o2 counts.1 f.rose, f.begins)) refl)))
+            (λ disk later events written h t bytes. in_update (plan_at disk h) written f.part bytes (inr (failed_after o2 f.sink, f.begins)) refl)))
         ended_fault result (fault_stopped is s) =
             subst Promised (sym is) (cut_memory host_fault ran wrote turns (faults_of s.part m o2 s.same ∙ same_sink counts.1)
             (reported_piece host_fault ran wrote turns answers.OutOfMemory s.part (text_of s.part m o2 s.same)
@@ -438,7 +446,7 @@ module _ (law : OneMeaning) (left : NothingIsLeft) (missed : NothingIsMissed) (m
       pub ended_sink : AtBoth (Ran sink_fault) → AtBoth (Wrote sink_fault) → Turns sink_fault → Caused sink_fault → o2 ≡ m → Promised answers.SinkFault
       ended_sink ran wrote turns counts end =
           cut_sink sink_fault ran wrote turns
-          (subst (λ n. Rose o0.faults n) (sym (end_of end)) (subst (λ n. Rose n m.faults) (faults_of (echo_lines echoes) o0 o1 echoed) counts.0))
+          (subst (SinkFailed o0) (sym end) (failed_after_echoes m counts.0))
           (quiet_from h0 h1 h2 same keeps counts.1)
           (reported sink_fault ran wrote turns answers.SinkFault (text_end end) (λ disk later events written h t bytes. stops_updating (plan_at disk h) written bytes refl))
 

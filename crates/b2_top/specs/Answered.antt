@@ -18,7 +18,7 @@ use Rattle.b2_refusals.specs.declared.fault.Fault.{Fault}
 use Rattle.b2_refusals.specs.declared.fault.Fault.TheVariants as faults
 use Rattle.b2_runs.specs.CompleteLaws.{CleanIsDefined}
 use Rattle.b2_runs.specs.Moments.{Moment}
-use Rattle.b2_runs.specs.UpdateAnswers.{WaitFailed, HasHappened}
+use Rattle.b2_runs.specs.UpdateAnswers.{SinkFailed, WaitFailed, HasHappened}
 use Rattle.b2_update.specs.Plain.{Made}
 use Rattle.b2_words.specs.Words.{Word}
 use Rattle.b2_top.specs.Commands.{free_words}
@@ -41,8 +41,8 @@ abbrev pub StaysOrWaits : Outside → Outside → Type 0
 StaysOrWaits before after = (after.faults ≡ before.faults) ⊎ WaitFailed before after
 
 -- How the counts of faults stand to an answer: Ok, Failed, Refused and Usage come only where they are as at entry, and a fault only where
--- its count rose. With SinkFault the host's count is as at entry, unless a wait for the child that ran failed; with HostFault the
--- sink's count may have risen too.
+-- its count rose. SinkFault comes only where a write may fail, and with it the host's count is as at entry, unless a wait for the child
+-- that ran failed; with HostFault the sink's count may have risen too.
 abbrev pub CountsTold : Moment → Moment → Answer → Type 0
 CountsTold before after answers.Ok = CountsStay before after
 CountsTold before after (answers.Failed lists) = CountsStay before after
@@ -50,7 +50,7 @@ CountsTold before after (answers.Refused fault) = CountsStay before after
 CountsTold before after answers.Usage = CountsStay before after
 CountsTold before after answers.HostFault = Rose before.host.faults after.host.faults
 CountsTold before after answers.OutOfMemory = after.out.faults ≡ before.out.faults
-CountsTold before after answers.SinkFault = Rose before.out.faults after.out.faults × StaysOrWaits before.host after.host
+CountsTold before after answers.SinkFault = SinkFailed before.out after.out × StaysOrWaits before.host after.host
 
 -- The answers that may come where the option of this name is not carried out yet: it is refused, or the sink failed or memory ran out
 -- at its line.

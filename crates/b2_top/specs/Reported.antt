@@ -6,6 +6,7 @@ use Rattle.b2_top.specs.declared.answer.Answer.TheVariants as answers
 use Rattle.b2_host.specs.Disks.{Disk}
 use Rattle.b2_base.specs.Counts.{Rose}
 use Rattle.b2_base.specs.Bytes.{IsFrontOf}
+use Rattle.b2_host.specs.Output.{Output}
 use Rattle.b2_host.specs.declared.children.ChildEvent.{ChildEvent}
 use Rattle.b2_plan.specs.declared.step.Step.{Step}
 use Rattle.b2_refusals.specs.Lines.{refusal_line, usage_line}
@@ -13,6 +14,7 @@ use Rattle.b2_refusals.specs.declared.fault.Fault.{Fault}
 use Rattle.b2_refusals.specs.declared.fault.Fault.TheVariants as faults
 use Rattle.b2_runs.specs.Cycles.{IsStepCycle}
 use Rattle.b2_runs.specs.Moments.{Moment}
+use Rattle.b2_runs.specs.UpdateAnswers.{SinkFailed}
 use Rattle.b2_runs.specs.Reports.{Lists, no_lists, event_lines, report, TellsStarts, host_fault_line}
 use Rattle.b2_update.specs.Answers.{lists_of}
 use Rattle.b2_update.specs.Plain.{Made}
@@ -70,12 +72,12 @@ pub record IsFaultReport (words : List Word) (disk : Disk) (events : List ChildE
   pub is : written ≡ echo_lines echoes ++ lines ++ host_fault_line
 
 -- These bytes were told in full; or a beginning of them, where the sink failed.
-abbrev pub IsToldOrCut : ℕ → ℕ → List ℕ → List ℕ → Type 0
-IsToldOrCut sink sink_after whole part = ((part ≡ whole) × (sink_after ≡ sink)) ⊎ (Rose sink sink_after × IsFrontOf part whole)
+abbrev pub IsToldOrCut : Output → Output → List ℕ → List ℕ → Type 0
+IsToldOrCut sink sink_after whole part = ((part ≡ whole) × (sink_after.faults ≡ sink.faults)) ⊎ (SinkFailed sink sink_after × IsFrontOf part whole)
 
 -- What was written where the host fails. Before anything is started some lines of ECHO are told together with the line of the fault. In
 -- the update of the plan all lines of ECHO and of the update stand, and only the line of the fault may be cut.
-pub data TellsFault (words : List Word) (sink sink_after : ℕ) (disk : Disk) (events : List ChildEvent) (written : List ℕ) : Type 0 where
+pub data TellsFault (words : List Word) (sink sink_after : Output) (disk : Disk) (events : List ChildEvent) (written : List ℕ) : Type 0 where
   before_update : (free echoes : List Word) → free_words words ≡ Some free → unbuilt_option words ≡ None → events ≡ []
       → IsToldOrCut sink sink_after (echo_lines echoes ++ host_fault_line) written → TellsFault words sink sink_after disk events written
   in_update : (plan : HasPlan words disk) (lines part : List ℕ) → TellsStarts plan.planned.steps events lines → IsToldOrCut sink sink_after host_fault_line part
@@ -106,6 +108,6 @@ ReportedBy made words before after answers.Ok disk events written = IsRunReport 
 ReportedBy made words before after (answers.Failed lists) disk events written = IsRunReport words disk events (lists_of lists) written
 ReportedBy made words before after (answers.Refused fault) disk events written = IsRefused made words disk events fault written
 ReportedBy made words before after answers.Usage disk events written = written ≡ usage_line
-ReportedBy made words before after answers.HostFault disk events written = TellsFault words before.out.faults after.out.faults disk events written
+ReportedBy made words before after answers.HostFault disk events written = TellsFault words before.out after.out disk events written
 ReportedBy made words before after answers.OutOfMemory disk events written = BeginsSome made words disk before.host.faults after.host.faults events written
 ReportedBy made words before after answers.SinkFault disk events written = BeginsReport made words disk events written

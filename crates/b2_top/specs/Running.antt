@@ -5,6 +5,7 @@ use Rattle.b2_top.specs.Writing.{Writes, unwritten, Says, SaysFault}
 use Rattle.b2_top.specs.declared.answer.Answer.{Answer}
 use Rattle.b2_top.specs.declared.answer.Answer.TheVariants as answers
 use Rattle.b2_host.specs.Output.{Output, with_written}
+use Rattle.b2_host.specs.OutputLaws.{OutKeeps}
 use Rattle.b2_host.specs.declared.fault.IoFault.{IoFault}
 use Rattle.b2_plan.specs.declared.plan.Plan.{Plan}
 use Rattle.b2_plan.specs.declared.step.Step.{Step}
@@ -38,6 +39,7 @@ pub record Updates (made : Made) (plan : Plan) (before after : Moment) (result :
   pub ended : UpdateAnswer
   pub out : Output
   pub counts : CausedBy before (moment after.host out) (answer_of ended)
+  pub out_keeps : OutKeeps before.out out
   pub turns : HasHappened plan.steps 1 before.host.disk before.host.children.events after.host.children.events (answer_of ended)
   pub updated : UpdateTold plan made before.host after.host ended
   pub written : WritingTold plan made before (moment after.host out) ended

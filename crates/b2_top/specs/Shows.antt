@@ -5,10 +5,12 @@ use Rattle.b2_host.specs.Disks.{Disk}
 use Rattle.b2_base.specs.Counts.{Rose}
 use Rattle.b2_base.specs.Bytes.{IsFrontOf}
 use Rattle.b2_host.specs.Outside.{Outside}
+use Rattle.b2_host.specs.Output.{Output}
 use Rattle.b2_words.specs.Words.{Word}
 use Rattle.b2_generate.specs.Planning.{Planned}
 use Rattle.b2_front.specs.Meaning.{Means}
 use Rattle.b2_runs.specs.Moments.{Moment}
+use Rattle.b2_runs.specs.UpdateAnswers.{SinkFailed}
 use Rattle.b2_refusals.specs.declared.fault.Fault.{Fault}
 use Rattle.b2_refusals.specs.declared.fault.Fault.TheVariants as faults
 use Rattle.b2_refusals.specs.Lines.{usage_line}
@@ -25,7 +27,8 @@ use Rattle.b2_top.specs.Looks.{look_of, look_report}
 -- ---- the counts of faults
 
 -- How the counts stand to an answer: Ok, Refused and Usage come only where they are as at entry, and a fault only where its count
--- rose. With SinkFault the host's count is as at entry; with HostFault the sink's count may have risen too.
+-- rose. SinkFault comes only where a write may fail, and with it the host's count is as at entry; with HostFault the sink's count may
+-- have risen too.
 abbrev pub CountsTold : Moment → Moment → Answer → Type 0
 CountsTold before after answers.Ok = CountsStay before after
 CountsTold before after (answers.Failed lists) = CountsStay before after
@@ -33,7 +36,7 @@ CountsTold before after (answers.Refused fault) = CountsStay before after
 CountsTold before after answers.Usage = CountsStay before after
 CountsTold before after answers.HostFault = Rose before.host.faults after.host.faults
 CountsTold before after answers.OutOfMemory = after.out.faults ≡ before.out.faults
-CountsTold before after answers.SinkFault = Rose before.out.faults after.out.faults × (after.host.faults ≡ before.host.faults)
+CountsTold before after answers.SinkFault = SinkFailed before.out after.out × (after.host.faults ≡ before.host.faults)
 
 -- ---- what was written
 
@@ -59,11 +62,11 @@ pub record IsRefused (words : List Word) (disk : Disk) (fault : Fault) (written 
   pub report : written ≡ refusal_report echoes [] fault
 
 -- The words are a look, and the line of a fault of the host was written; or a beginning of this, where the sink failed too.
-pub record HasHostFault (words : List Word) (sink sink_after : ℕ) (written : List ℕ) : Type 0 where
+pub record HasHostFault (words : List Word) (sink sink_after : Output) (written : List ℕ) : Type 0 where
   pub look : Look
   pub echoes : List Word
   pub asked : look_of words ≡ Some look
-  pub ended : ((written ≡ fault_report echoes) × (sink_after ≡ sink)) ⊎ (Rose sink sink_after × IsFrontOf written (fault_report echoes))
+  pub ended : ((written ≡ fault_report echoes) × (sink_after.faults ≡ sink.faults)) ⊎ (SinkFailed sink sink_after × IsFrontOf written (fault_report echoes))
 
 -- A beginning was written: of the usage line, where the words are no look, of a look at a plan, or of a refusal with its cause.
 pub data BeginsReport (words : List Word) (disk : Disk) (written : List ℕ) : Type 0 where
@@ -83,7 +86,7 @@ ReportedBy words before after answers.Ok disk written = IsShown words disk writt
 ReportedBy words before after (answers.Failed lists) disk written = ⊥
 ReportedBy words before after (answers.Refused fault) disk written = IsRefused words disk fault written
 ReportedBy words before after answers.Usage disk written = written ≡ usage_line
-ReportedBy words before after answers.HostFault disk written = HasHostFault words before.out.faults after.out.faults written
+ReportedBy words before after answers.HostFault disk written = HasHostFault words before.out after.out written
 ReportedBy words before after answers.OutOfMemory disk written = BeginsSome words disk before.host.faults after.host.faults written
 ReportedBy words before after answers.SinkFault disk written = BeginsReport words disk written
 

@@ -3,9 +3,9 @@ use Rattle.std.specs.Prelude.{◌≡◌, ℕ, List, [], ◌++◌, Result, Ok, Er
 use Rattle.std.specs.Option.{option_map}
 use Rattle.b2_host.specs.declared.fault.IoFault.{IoFault}
 use Rattle.b2_host.specs.declared.fault.IoFault.TheVariants as faults
-use Rattle.b2_base.specs.Counts.{Rose}
 use Rattle.b2_base.specs.Bytes.{IsFrontOf}
 use Rattle.b2_host.specs.Output.{Output, with_written}
+use Rattle.b2_runs.specs.UpdateAnswers.{SinkFailed}
 use Rattle.b2_front.specs.declared.refusal.Stop.{Stop}
 use Rattle.b2_front.specs.declared.refusal.Stop.TheVariants as stops
 use Rattle.b2_top.specs.declared.answer.Answer.{Answer}
@@ -13,11 +13,11 @@ use Rattle.b2_top.specs.declared.answer.Answer.TheVariants as answers
 use Rattle.b2_top.specs.RefusalCauses.{fault_of}
 use Rattle.b2_top.specs.Reports.{refusal_report, fault_report}
 
--- A write failed: a beginning of the bytes was written, and the count of faults rose.
+-- A write failed, where one may: a beginning of the bytes was written, and the count of faults rose.
 pub record FailsIn (bytes : List ℕ) (before after : Output) : Type 0 where
   pub part : List ℕ
   pub begins : IsFrontOf part bytes
-  pub rose : Rose before.faults after.faults
+  pub sink : SinkFailed before after
   pub written : after.written ≡ option_map (λ so_far. so_far ++ part) before.written
 
 -- Memory ran out: a beginning of the bytes was written, and no write failed.

@@ -74,7 +74,8 @@ pub fn run_b2<H: Children, S: Sink>(
     ensures clean { result ≡ Answer.Ok → CleanTold H.made words.now (H.outside host.old) (H.outside host.new) }
     // What happened, by the answer: an update that has ended with it, nothing, or the beginning of an update.
     ensures happened { HappenedTold H.made words.now (H.outside host.old) (H.outside host.new) result }
-    // Ok, Failed, Refused and Usage come only where both counts of faults are as at entry; a fault comes only where its count rose.
+    // Ok, Failed, Refused and Usage come only where both counts of faults are as at entry; a fault comes only where its count rose,
+    // and one of the sink only where a write may fail.
     ensures counts { CountsTold (moment (H.outside host.old) (S.output out.old)) (moment (H.outside host.new) (S.output out.new)) result }
     // Words that are no build ask for the usage line, and nothing else does; all that the host is to its callers stays as it is.
     ensures usage { free_words words.now ≡ None → IsUsageOrCutShort result }
@@ -96,7 +97,7 @@ pub fn run_b2<H: Children, S: Sink>(
     // The events are in order, over every host: one step is open at a time, and none starts twice. Each failed step was done
     // badly, or counts as one that left an output out; with Ok none was done badly.
     ensures turns { TurnsTold (H.outside host.old) (H.outside host.new) result }
-    // No child is left, unless a wait for it failed, and then both counts of the host rose.
+    // No child is left, but for one for each wait that failed. A wait fails only where one may, and then both counts of the host rise.
     ensures none_left { LeavesNone (H.outside host.old) (H.outside host.new) }
     // No count falls, visible files stay visible, and all that stood stays among the past.
     ensures keeps { Keeps (H.outside host.old) (H.outside host.new) }

@@ -7,9 +7,10 @@ use Rattle.b2_host.specs.Disks.{Disk}
 use Rattle.b2_host.specs.OutsideLaws.{keeps_then}
 use Rattle.b2_plan.specs.Plans.{Apart}
 use Rattle.b2_update.specs.Moments.{moment}
+use Rattle.b2_update.proofs.FaultsCountFromEarlier.{left_from}
 use Rattle.b2_top.specs.Writing.{AnswersStop}
 use Rattle.b2_top.specs.Running.{Carries}
-use Rattle.b2_top.proofs.BuildsAnswerAsPromised.{carried, stopped, left_from}
+use Rattle.b2_top.proofs.BuildsAnswerAsPromised.{carried, stopped}
 use Rattle.b2_top.proofs.build.build.Goals as goal
 
 pub carry_out-requires-clause-idle : goal.carry_out-requires-clause-idle
@@ -34,7 +35,12 @@ returns-in-Ok-clause-builds g c = λ words asked can.
     planned told apart same c.prepare-echoes.ensures.keeps h2 o2 c.carry_out.result carries
 
 pub returns-in-Ok-clause-none_left : goal.returns-in-Ok-clause-none_left
-returns-in-Ok-clause-none_left g c = left_from _ _ _ c.prepare-echoes.ensures.keeps c.carry_out.ensures.none_left
+returns-in-Ok-clause-none_left g c =
+    let h0 = g.H.Files.outside c.args.host.now in
+    let h1 = g.H.Files.outside c.prepare-echoes.new.files in
+    let h2 = g.H.Files.outside c.carry_out.new.host in
+    let keeps = c.prepare-echoes.ensures.keeps in
+    left_from h0 h1 h2 keeps.faults keeps.risks keeps.waits c.carry_out.ensures.none_left
 
 pub returns-in-Ok-clause-keeps : goal.returns-in-Ok-clause-keeps
 returns-in-Ok-clause-keeps g c = keeps_then _ _ _ c.prepare-echoes.ensures.keeps c.carry_out.ensures.keeps
