@@ -54,7 +54,7 @@ read_learns steps roots f g n file i d was well after = subst (Learns steps root
       scanned = p.scanned;
       read = λ includes e. elim (well.scanned includes e) [ inl before ↦ p.read includes before | inr so ↦ so ];
       digested = λ digest e. elim (well.digested digest e) [ inl before ↦ p.digested digest before | inr so ↦ so ];
-    }) (inr refl))
+    }) refl)
 
 pub read_true : (steps : List Step) (roots : List (List ℕ)) (now : Folder) (b : Build) (f g : Knowledge) (n : ℕ) (file : FileFacts) (i : Option (List Include)) (d : Option (List ℕ)) → file_at f n ≡ Some file → g ≡ with_file f n (with_read file i d)
     → ((path : List ℕ) → IsBuildOf steps roots b → path_at f n ≡ Some path → IsPlanned steps roots path file → AreTrueOfFile b now path file → IsReadAs (b.inc path) (bytes_at now path) i × IsReadAs digest_of (bytes_at now path) d) → StaysTrueOf steps roots now f g b

@@ -1,19 +1,19 @@
 -- Facts that grow, and grow again, have grown, and true facts stay true.
-use Rattle.std.proofs.Common.{◌≡◌, inl, inr, ℕ, List, Option, Some, None, Result, Ok, Err, OnErr, refl, sym, subst, ◌∙◌}
+use Rattle.std.proofs.Common.{◌≡◌, ◌⊎◌, inl, inr, ℕ, List, Option, Some, None, Result, Ok, Err, OnErr, refl, sym, subst, ◌∙◌}
 use Rattle.std.specs.Prelude.{OnOk}
 use Rattle.std.proofs.lemmas.Option.{slice_get_within}
 use Rattle.std.specs.Option.{IfSome}
 use Rattle.b2_host.specs.Disks.{Folder, Disk}
 use Rattle.b2_plan.specs.declared.step.Step.{Step}
-use Rattle.b2_plan.specs.Sources.{Build}
+use Rattle.b2_plan.specs.Sources.{Build, Include}
 use Rattle.b2_facts.specs.declared.file_facts.Seen.{Seen}
 use Rattle.b2_facts.specs.declared.file_facts.Seen.TheVariants as seen
 use Rattle.b2_facts.specs.declared.file_facts.FileFacts.{FileFacts}
-use Rattle.b2_facts.specs.Facts.{Knowledge, IsNumber, IsList}
-use Rattle.b2_facts.specs.Growth.{StaysSeen, Stays, FileGrows, Grows, LearnsOf, Learns}
+use Rattle.b2_facts.specs.Facts.{Knowledge, IsNumber, IsList, IsBlank, file_at}
+use Rattle.b2_facts.specs.Growth.{StaysSeen, Stays, FileGrows, Grows, IsLookedAt, LearnsOf, Learns}
 use Rattle.b2_facts.specs.Truth.{StaysTrue, StaysTrueOf}
 use Rattle.b2_facts.specs.Asks.{IsGivenBy, IsNotGivenBy}
-use Rattle.b2_facts.proofs.ListsAtPlaces.{get_some}
+use Rattle.b2_facts.proofs.ListsAtPlaces.{get_some, none_some}
 
 -- ---- one file
 
@@ -73,7 +73,7 @@ grows_then f g h a b = record {
 
 only_then : (P : ℕ → Type 0) (f g h : Knowledge) → LearnsOf P f g → LearnsOf P g h → LearnsOf P f h
 only_then P f g h a b n file e = elim (b n file e) [
-  | inl out ↦ inl out
+  | inl looked ↦ looked_then file.includes refl looked
   | inr more ↦ elim more [
     | inl p ↦ inr (inl p)
     | inr last ↦ elim last [
@@ -82,6 +82,21 @@ only_then P f g h a b n file e = elim (b n file e) [
     ]
   ]
 ]
+  where
+    looked_then : (o : Option (List Include)) → file.includes ≡ o → IsLookedAt g n file → IsLookedAt f n file ⊎ (P n ⊎ ((file_at f n ≡ Some file) ⊎ IsBlank file))
+    looked_then None none looked = inl (record { outside = looked.outside; read = λ read. absurd (none_some read.0 (sym none ∙ read.1)) })
+    looked_then (Some includes) is looked =
+        let (was, at, read) = looked.read (includes, is) in
+        elim (a n was at) [
+          | inl before ↦ inl (record { outside = looked.outside; read = λ again. before.read read })
+          | inr more ↦ elim more [
+            | inl p ↦ inr (inl p)
+            | inr last ↦ elim last [
+              | inl same ↦ inl (record { outside = looked.outside; read = λ again. (was, same, read) })
+              | inr blank ↦ absurd (none_some read.0 (sym blank.unread ∙ read.1))
+            ]
+          ]
+        ]
 
 -- a number stays one
 pub number_grows : (f g : Knowledge) → Grows f g → (n : ℕ) → IsNumber f n → IsNumber g n

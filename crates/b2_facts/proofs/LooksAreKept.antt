@@ -7,7 +7,7 @@ use Rattle.b2_plan.specs.Sources.{Build}
 use Rattle.b2_facts.specs.declared.file_facts.Seen.{Seen}
 use Rattle.b2_facts.specs.declared.file_facts.Seen.TheVariants as seen
 use Rattle.b2_facts.specs.declared.file_facts.FileFacts.{FileFacts}
-use Rattle.b2_facts.specs.Facts.{Knowledge, with_file, IsNumber, IsAbout, path_at, file_at}
+use Rattle.b2_facts.specs.Facts.{Knowledge, with_file, IsNumber, IsRead, IsAbout, path_at, file_at}
 use Rattle.b2_facts.specs.Growth.{StaysSeen, IsOutside, Learns, OfOne}
 use Rattle.b2_facts.specs.Truth.{IsSeen, AreTrue, StaysTrue}
 use Rattle.b2_facts.specs.Asks.{seen_of, IsGivenBy, IsNotGivenBy, IsToldGiven}
@@ -30,7 +30,7 @@ module _ (f g : Knowledge) (n : ℕ) (file : FileFacts) (was : file_at f n ≡ S
   pub stamp_learns : (steps : List Step) (roots : List (List ℕ)) → Learns steps roots (OfOne n) f g
   stamp_learns steps roots = subst (Learns steps roots (OfOne n) f) (sym after) (learns_file steps roots (OfOne n) f n file (record file { seen = seen_of stamp }) was
       (record { maker = refl; rooted = refl; scanned = refl; seen = subst (λ (s : Seen). StaysSeen s (seen_of stamp)) (sym unasked) tt; includes = stays_same file.includes; digest = stays_same file.digest })
-      (λ path p. record { maker = p.maker; rooted = p.rooted; scanned = p.scanned; read = p.read; digested = p.digested }) (inr refl))
+      (λ path p. record { maker = p.maker; rooted = p.rooted; scanned = p.scanned; read = p.read; digested = p.digested }) refl)
 
   pub stamp_true : (steps : List Step) (roots : List (List ℕ)) (now : Folder) (path : List ℕ) → path_at f n ≡ Some path → StatTold path stamp now → StaysTrue steps roots now f g
   stamp_true steps roots now path there told = subst (StaysTrue steps roots now f) (sym after) (λ b build kept about holds. true_file b now f n file (record file { seen = seen_of stamp }) was
@@ -52,12 +52,22 @@ stamp_known f n known stamp was is file e =
 
 -- ---- given
 
+-- no includes are learned by a stamp
+pub unread_equal : (f g : Knowledge) (n : ℕ) (file : FileFacts) → g ≡ f → file_at f n ≡ Some file → (later : FileFacts) → file_at g n ≡ Some later → IsRead later → IsRead file
+unread_equal f g n file same was later is read = subst IsRead (sym (some_is file later (sym was ∙ subst (λ (k : Knowledge). file_at k n ≡ Some later) same is))) read
+
+pub unread_seen : (f g : Knowledge) (n : ℕ) (file : FileFacts) (s : Seen) → g ≡ with_file f n (record file { seen = s }) → file_at f n ≡ Some file → (later : FileFacts) → file_at g n ≡ Some later → IsRead later → IsRead file
+unread_seen f g n file s after was later is read =
+    let one : record file { seen = s } ≡ later = some_is (record file { seen = s }) later (sym (set_here f.files n (record file { seen = s }) file was) ∙ subst (λ (k : Knowledge). file_at k n ≡ Some later) after is) in
+    let back : IsRead (record file { seen = s }) = subst IsRead (sym one) read in
+    (back.0, back.1)
+
 -- what is learned of a file outside the output roots that no step makes
-pub learns_unmade : (steps : List Step) (roots : List (List ℕ)) (P : ℕ → Type 0) (f g : Knowledge) (n : ℕ) (file : FileFacts) → file_at f n ≡ Some file → file.maker ≡ None → file.rooted ≡ false → Learns steps roots (OfOne n) f g → Learns steps roots P f g
-learns_unmade steps roots P f g n file was none free a = record {
+pub learns_unmade : (steps : List Step) (roots : List (List ℕ)) (P : ℕ → Type 0) (f g : Knowledge) (n : ℕ) (file : FileFacts) → file_at f n ≡ Some file → file.maker ≡ None → file.rooted ≡ false → ((later : FileFacts) → file_at g n ≡ Some later → IsRead later → IsRead file) → Learns steps roots (OfOne n) f g → Learns steps roots P f g
+learns_unmade steps roots P f g n file was none free unread a = record {
   about = a.about;
   grows = a.grows;
-  only = λ k x e. elim (a.only k x e) [ inl out ↦ inl out | inr rest ↦ elim rest [ inl same ↦ inl (outside k x e same) | inr last ↦ inr (inr last) ] ];
+  only = λ k x e. elim (a.only k x e) [ inl out ↦ inl out | inr rest ↦ elim rest [ inl same ↦ inl (record { outside = outside k x e same; read = λ read. (file, subst (λ (m : ℕ). file_at f m ≡ Some file) (sym same) was, unread x (subst (λ (m : ℕ). file_at g m ≡ Some x) same e) read) }) | inr last ↦ inr (inr last) ] ];
 }
   where
     outside : (k : ℕ) (x : FileFacts) → file_at g k ≡ Some x → k ≡ n → IsOutside x

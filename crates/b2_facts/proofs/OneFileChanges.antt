@@ -6,7 +6,7 @@ use Rattle.b2_plan.specs.declared.step.Step.{Step}
 use Rattle.b2_plan.specs.Sources.{Build}
 use Rattle.b2_facts.specs.declared.file_facts.FileFacts.{FileFacts}
 use Rattle.b2_facts.specs.Facts.{Knowledge, with_file, IsNumber, IsPlanned, IsAbout, IsRead, path_at, file_at}
-use Rattle.b2_facts.specs.Growth.{FileGrows, IsOutside, Learns}
+use Rattle.b2_facts.specs.Growth.{FileGrows, Learns}
 use Rattle.b2_facts.specs.Truth.{AreTrueOfFile, AreTrue}
 use Rattle.b2_facts.proofs.ListsAtPlaces.{set_here, set_there, set_same, set_again, set_length, some_is}
 use Rattle.b2_facts.proofs.FactsGrow.{file_same, stays_known}
@@ -42,7 +42,7 @@ about_file steps roots f n old new was planned read about = record {
 }
 
 -- more is known of one file
-pub learns_file : (steps : List Step) (roots : List (List ℕ)) (P : ℕ → Type 0) (f : Knowledge) (n : ℕ) (old new : FileFacts) → file_at f n ≡ Some old → FileGrows old new → ((path : List ℕ) → IsPlanned steps roots path old → IsPlanned steps roots path new) → IsOutside new ⊎ P n → Learns steps roots P f (with_file f n new)
+pub learns_file : (steps : List Step) (roots : List (List ℕ)) (P : ℕ → Type 0) (f : Knowledge) (n : ℕ) (old new : FileFacts) → file_at f n ≡ Some old → FileGrows old new → ((path : List ℕ) → IsPlanned steps roots path old → IsPlanned steps roots path new) → P n → Learns steps roots P f (with_file f n new)
 learns_file steps roots P f n old new was grown planned allowed = record {
   about = about_file steps roots f n old new was planned (λ read. (read.0, stays_known old.includes new.includes read.0 read.1 grown.includes));
   grows = record {
@@ -52,10 +52,7 @@ learns_file steps roots P f n old new was grown planned allowed = record {
     found = λ list k targets e. e;
   };
   only = λ k file e. elim (file_after f n old new was k file e) [
-    | inl (same, at) ↦ elim allowed [
-      | inl out ↦ inl (subst IsOutside at out)
-      | inr p ↦ inr (inl (subst P (sym same) p))
-    ]
+    | inl (same, at) ↦ inr (inl (subst P (sym same) allowed))
     | inr before ↦ inr (inr (inl before))
   ];
 }

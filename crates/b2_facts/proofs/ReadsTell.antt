@@ -16,10 +16,10 @@ use Rattle.b2_facts.specs.declared.fault.ReadFault.{ReadFault}
 use Rattle.b2_facts.specs.declared.scans.Scanned.{Scanned}
 use Rattle.b2_facts.specs.declared.scans.Scanned.TheVariants as scanned
 use Rattle.b2_facts.specs.Digests.{digest_of}
-use Rattle.b2_facts.specs.Facts.{Knowledge, with_file, IsFile, IsNumber, IsRead, path_at, file_at}
+use Rattle.b2_facts.specs.Facts.{Knowledge, with_file, IsFile, IsNumber, IsRead, path_at, file_at, WasRead}
 use Rattle.b2_facts.specs.Growth.{Grows, Learns, OfOne}
 use Rattle.b2_facts.specs.Truth.{IsReadAs, StaysTrueOf, StaysTrue, ScansTell}
-use Rattle.b2_facts.specs.Asks.{seen_of, IsToRead, with_bytes, taken, WasRead, IsToldByLog, IsLineOf, IsGoneAtRead, IsReadAnswer, IsScannedAs, IsTooBigFor}
+use Rattle.b2_facts.specs.Asks.{seen_of, IsToRead, with_bytes, taken, IsToldByLog, IsLineOf, IsGoneAtRead, IsReadAnswer, IsScannedAs, IsTooBigFor}
 use Rattle.b2_facts.proofs.ListsAtPlaces.{some_is}
 use Rattle.b2_facts.proofs.FactsGrow.{told_map}
 use Rattle.b2_facts.proofs.DigestsAreHexadecimal.{digest_good}

@@ -19,7 +19,7 @@ use Rattle.b2_facts.specs.declared.fault.ReadFault.{ReadFault}
 use Rattle.b2_facts.specs.declared.fault.ReadFault.TheVariants as faults
 use Rattle.b2_facts.specs.declared.scans.Scanned.{Scanned}
 use Rattle.b2_facts.specs.declared.scans.Scanned.TheVariants as scanned
-use Rattle.b2_facts.specs.Facts.{Knowledge, IsFile, IsRead, path_at, file_at, dirs_at}
+use Rattle.b2_facts.specs.Facts.{Knowledge, IsFile, IsRead, WasRead, path_at, file_at, dirs_at}
 
 -- ---- stamps
 
@@ -144,10 +144,6 @@ ReadsForAnswer path before after (Ok scanned.Gone) = after ≡ after_read path b
 ReadsForAnswer path before after (Err faults.Failed) = Fails before after
 ReadsForAnswer path before after (Err faults.OutOfMemory) = (after ≡ before) ⊎ (after ≡ after_read path before)
 ReadsForAnswer path before after (Err (faults.TooBig size)) = after ≡ after_read path before
-
--- what a file includes was known
-abbrev pub WasRead : Knowledge → ℕ → Type 0
-WasRead f number = (file : FileFacts) × (file_at f number ≡ Some file) × IsRead file
 
 -- The file was seen to stand, and the log has a scan line for its stamp, with what it includes.
 pub record IsToldByLog (lines : List LogLine) (path : List ℕ) (file : FileFacts) : Type 0 where

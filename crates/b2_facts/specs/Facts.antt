@@ -84,6 +84,10 @@ pub record IsFile (f : Knowledge) (n : ℕ) (path : List ℕ) (file : FileFacts)
 abbrev pub IsRead : FileFacts → Type 0
 IsRead file = (includes : List Include) × (file.includes ≡ Some includes)
 
+-- what the file with a number includes is known
+abbrev pub WasRead : Knowledge → ℕ → Type 0
+WasRead f number = (file : FileFacts) × (file_at f number ≡ Some file) × IsRead file
+
 -- nothing was seen of the file, and nothing of it was read
 pub record IsBlank (file : FileFacts) : Type 0 where
   pub unseen : file.seen ≡ seen.Unasked

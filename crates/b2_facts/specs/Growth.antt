@@ -4,7 +4,7 @@ use Rattle.b2_plan.specs.declared.step.Step.{Step}
 use Rattle.b2_facts.specs.declared.file_facts.Seen.{Seen}
 use Rattle.b2_facts.specs.declared.file_facts.Seen.TheVariants as seen
 use Rattle.b2_facts.specs.declared.file_facts.FileFacts.{FileFacts}
-use Rattle.b2_facts.specs.Facts.{Knowledge, path_at, file_at, dirs_at, found_at, IsBlank, IsAbout}
+use Rattle.b2_facts.specs.Facts.{Knowledge, path_at, file_at, dirs_at, found_at, IsRead, WasRead, IsBlank, IsAbout}
 
 -- what was seen stays
 abbrev pub StaysSeen : Seen → Seen → Type 0
@@ -38,11 +38,16 @@ pub record Grows (f g : Knowledge) : Type 0 where
 abbrev pub IsOutside : FileFacts → Type 0
 IsOutside file = (file.maker ≡ None) × (file.rooted ≡ false)
 
--- What is new was learned of files outside the output roots, and of those with these numbers: of each other one nothing new is
--- known.
+-- The file lies outside the output roots, and no step makes it. What it includes was known before.
+pub record IsLookedAt (f : Knowledge) (n : ℕ) (file : FileFacts) : Type 0 where
+  pub outside : IsOutside file
+  pub read : IsRead file → WasRead f n
+
+-- What is new was learned of the files with these numbers. Of each other file nothing new is known, but that outside the output
+-- roots more may have been seen. What a file includes is learned of those with these numbers alone.
 abbrev pub LearnsOf : (ℕ → Type 0) → Knowledge → Knowledge → Type 0
 LearnsOf P f g = (n : ℕ) (file : FileFacts) → file_at g n ≡ Some file
-    → IsOutside file ⊎ (P n ⊎ ((file_at f n ≡ Some file) ⊎ IsBlank file))
+    → IsLookedAt f n file ⊎ (P n ⊎ ((file_at f n ≡ Some file) ⊎ IsBlank file))
 
 -- of no file inside an output root
 abbrev pub OfNone : ℕ → Type 0

@@ -1,4 +1,4 @@
-//! What an update has found of files, by their numbers: each is asked of the host at most once.
+//! What an update has found of files, by their numbers. What was asked is kept, until a step that makes the file starts.
 #![tactic(auto)]
 
 pub mod digests;

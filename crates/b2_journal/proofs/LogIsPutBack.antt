@@ -16,7 +16,7 @@ use Rattle.b2_log.specs.Lines.{log_bytes}
 use Rattle.b2_runs.specs.LogCourses.{Opening, log_file, left_file}
 use Rattle.b2_journal.specs.declared.reading.LogState.{LogState}
 use Rattle.b2_journal.specs.Readings.{Stands, IsLogRead, ReadsLog}
-use Rattle.b2_journal.specs.Openings.{IsOpened, IsOpeningCut, IsOpeningCut.untouched, IsOpeningCut.replacing, Opens, Begins, PutsBack}
+use Rattle.b2_journal.specs.Openings.{IsOpened, IsOpeningCut, IsOpeningCut.untouched, IsOpeningCut.replacing, Opens, MayFailTold, Begins, PutsBack}
 
 -- ---- the disk after a file was put in the place of the log's, and after nothing was
 
@@ -114,3 +114,20 @@ pub put_back_only_log : {T : Type 0} (bytes : Option (Vec ℕ Global)) (x z : Ou
 put_back_only_log None x z (Ok u) same = log_changes_same x z same
 put_back_only_log None x z (Err e) stopped = absurd stopped
 put_back_only_log (Some bytes) x z r replaced = log_changes_replaces bytes.items x z r replaced
+
+-- ---- where the host may fail
+
+pub read_may_fail : (T S : Type 0) (x y : Outside) (fault : IoFault) → ReadsLog {T = T} x y (Err fault) → MayFailTold {T = S} x (Err fault)
+read_may_fail T S x y faults.Failed failed = failed.may_fail
+read_may_fail T S x y faults.OutOfMemory read = tt
+
+puts_may_fail : (T S : Type 0) (bytes : Option (Vec ℕ Global)) (x y : Outside) (fault : IoFault) → PutsBack {T = T} bytes x y (Err fault) → MayFailTold {T = S} x (Err fault)
+puts_may_fail T S None x y fault put = absurd put
+puts_may_fail T S (Some bytes) x y faults.Failed (inl failed) = failed.may_fail
+puts_may_fail T S (Some bytes) x y faults.Failed (inr (count, torn, puts, failed)) = ap (λ (o : Outside). o.risks.may_fail) (sym puts.same) ∙ failed.may_fail
+puts_may_fail T S (Some bytes) x y faults.OutOfMemory same = tt
+
+-- a read changes no risk, so what fails after it may fail before it
+pub put_back_may_fail : (T R S : Type 0) (bytes : Option (Vec ℕ Global)) (x y z : Outside) (a : R) (fault : IoFault) → ReadsLog {T = R} x y (Ok a) → PutsBack {T = T} bytes y z (Err fault) → MayFailTold {T = S} x (Err fault)
+put_back_may_fail T R S bytes x y z a faults.Failed read put = ap (λ (o : Outside). o.risks.may_fail) (sym read) ∙ puts_may_fail T S bytes y z faults.Failed put
+put_back_may_fail T R S bytes x y z a faults.OutOfMemory read put = tt

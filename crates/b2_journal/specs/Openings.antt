@@ -1,5 +1,5 @@
 -- What opening the log does to its file.
-use Rattle.std.specs.Prelude.{◌≡◌, ◌≢◌, ◌⊎◌, ℕ, List, ◌++◌, true, is_some, Option, Some, None, Result, Ok, Err}
+use Rattle.std.specs.Prelude.{◌≡◌, ◌≢◌, ◌⊎◌, ⊤, ℕ, List, ◌++◌, true, is_some, Option, Some, None, Result, Ok, Err}
 use Rattle.std.specs.List.{AllByRecursion}
 use Rattle.std.specs.declared.vec.Vec.{Vec}
 use Rattle.std.specs.declared.alloc.Global.{Global}
@@ -34,6 +34,12 @@ abbrev pub Opens : Opening → Disk → Disk → Result (List LogLine) IoFault �
 Opens opening before after (Ok first) = IsOpened opening before after first
 Opens opening before after (Err faults.Failed) = IsOpeningCut opening before.now after.now
 Opens opening before after (Err faults.OutOfMemory) = after ≡ before
+
+-- the host failed only where a call may
+abbrev pub MayFailTold : {T : Type 0} → Outside → Result T IoFault → Type 0
+MayFailTold before (Ok x) = ⊤
+MayFailTold before (Err faults.Failed) = before.risks.may_fail ≡ true
+MayFailTold before (Err faults.OutOfMemory) = ⊤
 
 -- the log was read once, and no other file; or none was, where opening stopped before
 abbrev pub ReadsOnlyLog : {T : Type 0} → Outside → Outside → Result T IoFault → Type 0

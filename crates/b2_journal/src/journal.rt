@@ -11,7 +11,7 @@ ghost use Rattle.b2_log.specs.Lines.{spelling};
 ghost use Rattle.b2_log.specs.Good.{IsProper, IsGood};
 ghost use Rattle.b2_log.specs.Finding.{find_record, find_scan};
 ghost use Rattle.b2_journal.specs.Rules.{opening_by};
-ghost use Rattle.b2_journal.specs.Openings.{Opens, ReadsOnlyLog};
+ghost use Rattle.b2_journal.specs.Openings.{Opens, MayFailTold, ReadsOnlyLog};
 ghost use Rattle.b2_journal.specs.Notes.{Notes};
 
 use crate::opening::{first_lines, put_back};
@@ -68,6 +68,7 @@ impl Journal {
     pub fn open<F: Files>(alloc: Global, files: &mut F, rule: Rule) -> Result<Journal, IoFault>
         ensures only_log { ChangesOnlyLog (F.outside files.old) (F.outside files.new) }
         ensures counts { IoFaultTold (F.outside files.old).faults (F.outside files.new).faults result }
+        ensures may_fail { MayFailTold (F.outside files.old) result }
         ensures reads { ReadsOnlyLog (F.outside files.old) (F.outside files.new) result }
         ensures good { IfOk result (AllByRecursion IsGood) }
         ensures opens { BothTold (λ before after. Opens (opening_by rule) before after result) (F.outside files.old).disk (F.outside files.new).disk }
