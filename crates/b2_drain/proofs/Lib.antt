@@ -1,0 +1,2 @@
+pub mod WaitsAddUp
+pub mod StoppedStaysStopped
