@@ -1,0 +1,5 @@
+use Rattle.b2_reach.proofs.MembersAreKnown.{members_are_known}
+use Rattle.b2_reach.proofs.laws.members_are_known.Goals as goal
+
+pub returns : goal.returns
+returns c = members_are_known
