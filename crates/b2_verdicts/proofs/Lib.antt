@@ -1,0 +1,16 @@
+pub mod MoreIsKnown
+pub mod WhatIsKnownStays
+pub mod ListsAtPlaces
+pub mod OneFileChanges
+pub mod TrueFactsTell
+pub mod VerdictsTell
+pub mod AskingGoesOn
+pub mod StampsAreCompared
+pub mod PointsFollow
+pub mod DigestsAreCompared
+pub mod OnlyReadsAreAdded
+pub mod DisagreementsStay
+pub mod DigestPointsFollow
+pub mod RecordsAreProper
+pub mod MigrationsAreNeeded
+pub mod MissingFiles

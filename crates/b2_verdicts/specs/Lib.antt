@@ -1,0 +1,10 @@
+pub mod Sights
+pub mod Stamps
+pub mod Older
+pub mod Points
+pub mod Calls
+pub mod Chains
+pub mod Digested
+pub mod Made
+pub mod Cases
+pub mod Laws
