@@ -1,0 +1,12 @@
+pub mod LastElementOrEarlier
+pub mod ToldNeedsGrowByOne
+pub mod MakersAreTold
+pub mod WorkStaysInOrder
+pub mod LookTellsWhatIsFound
+pub mod NeededAreSteps
+pub mod BoardHoldsAsFactsGrow
+pub mod BoardHoldsAsNeedsGrow
+pub mod BoardHoldsAsStatesChange
+pub mod LookKeepsBoard
+pub mod CallsKeepBoard
+pub mod ScheduleSaysWhatRunSays

@@ -1,0 +1,4 @@
+pub mod Needs
+pub mod Works
+pub mod Boards
+pub mod Laws

@@ -1,0 +1,12 @@
+//! What an update knows of its steps: a schedule, and the work on each step that was looked at.
+//!
+//! [`board::Board::look`] goes on with the work on a step as far as files are settled, and tells the schedule what it finds:
+//! which steps the step needs, and whether it lacks a file. It says whether all that the step reads is settled; such a step is
+//! then judged.
+#![tactic(auto)]
+
+pub mod board;
+pub mod laws;
+mod needs;
+pub mod waiting;
+pub mod work;
