@@ -14,3 +14,4 @@ pub mod DigestPointsFollow
 pub mod RecordsAreProper
 pub mod MigrationsAreNeeded
 pub mod MissingFiles
+pub mod OnlyDigestsAreTooBig

@@ -47,6 +47,12 @@ pub record ReadsOnly (P : List ℕ → Type 0) (before after : Outside) : Type 0
   pub each : (read : Read) → Contains more read → P read.path
   pub stamps : (read : Read) → Contains more read → IfSome before.disk (λ disk. IsReadNow disk.now read)
 
+-- this holds where a file is too big
+abbrev pub IfTooBig : Type 0 → Stop → Type 0
+IfTooBig P stops.Host = ⊤
+IfTooBig P stops.OutOfMemory = ⊤
+IfTooBig P (stops.TooBig number size) = P
+
 -- a file that is too big is one of these, and has so many bytes, which are more than are digested
 abbrev pub IsTooBigOf : (ℕ → Type 0) → Knowledge → Folder → Stop → Type 0
 IsTooBigOf P g now stops.Host = ⊤

@@ -8,7 +8,7 @@ ghost use Rattle.b2_log.specs.Good.{IsProper};
 ghost use Rattle.b2_verdicts.specs.Sights.{AreNumbers, AllAsked, AllStand};
 ghost use Rattle.b2_verdicts.specs.Points.{IsOrdinary, IsCommanded, IsDisagreement, IsByStamps, IsByDigests, IsSavedBy, IsNotSavedBy, IsPoint};
 ghost use Rattle.b2_verdicts.specs.Chains.{IsOutputs, IsBegun, IsOtherFiles, IsJudged};
-ghost use Rattle.b2_verdicts.specs.Calls.{IsOfStep, KnowsMore, LastTells, LastTellsUnless, Always, Asks};
+ghost use Rattle.b2_verdicts.specs.Calls.{IsOfStep, KnowsMore, LastTells, LastTellsUnless, Always, Asks, IfTooBig};
 
 use crate::comparing::{first_other, has_text};
 use crate::digests::is_saved;
@@ -265,6 +265,7 @@ pub fn verdict<F: Files>(
     ensures unread { way.by_digest ≡ false → (F.outside files.new).reads ≡ (F.outside files.old).reads }
     ensures saved { IfOk result (λ _. IsDisagreement step.now numbers.now (option_copied last.entry) facts.new None
         → (F.outside files.new).reads ≡ (F.outside files.old).reads) }
+    ensures big { IfErr result (IfTooBig ((way.by_digest ≡ true) × IsOrdinary way.all step.now)) }
     ensures exact { IfOk result
         (IsPoint (F.outside files.old).disk way step.now numbers.now (option_copied last.entry) facts.new) }
 {

@@ -1,11 +1,11 @@
-use Rattle.std.proofs.Common.{Option, Some, Err, sym, ap, subst, ◌∙◌, ◌≡◌, None}
+use Rattle.std.proofs.Common.{Option, Some, Err, true, sym, ap, subst, ◌∙◌, ◌≡◌, None}
 use Rattle.std.specs.Option.{option_copied}
 use Rattle.std.proofs.lemmas.Bool.{true≢false, not-true, not-false}
 use Rattle.std.proofs.lemmas.Result.{err_from_is_err_and}
 use Rattle.b2_host.specs.Outside.{Outside}
 use Rattle.b2_host.specs.ReadsAdded.{reads_fails}
 use Rattle.b2_verdicts.specs.declared.point.Point.{Point}
-use Rattle.b2_verdicts.specs.Points.{HasOutputs, IsDisagreement}
+use Rattle.b2_verdicts.specs.Points.{IsOrdinary, HasOutputs, IsDisagreement}
 use Rattle.b2_verdicts.specs.Calls.{IsOfStep, LastTells, LastTellsUnless, Always}
 use Rattle.b2_verdicts.specs.Chains.{IsBegun}
 use Rattle.std.specs.Prelude.{IfOk}
@@ -13,6 +13,7 @@ use Rattle.b2_verdicts.proofs.WhatIsKnownStays.{numbers_stay}
 use Rattle.b2_verdicts.proofs.MoreIsKnown.{knows_weaker, knows_grows}
 use Rattle.b2_verdicts.proofs.AskingGoesOn.{asks_quiet, asks_weaker, asks_behind, asks_failed}
 use Rattle.b2_verdicts.proofs.DigestPointsFollow.{begun_by_digests, point_by_stamps, point_by_digests, exact_by_digests}
+use Rattle.b2_verdicts.proofs.OnlyDigestsAreTooBig.{not_too_big, too_big_for}
 use Rattle.b2_verdicts.proofs.verdict.verdict.Goals as goal
 
 pub returns-in_err-point-clause-asks : goal.returns-in_err-point-clause-asks
@@ -83,3 +84,18 @@ returns-in-Some-clause-saved g c = λ e. ap (λ (o : Outside). o.reads) c.in_ok-
 
 pub returns-in-None-clause-saved : goal.returns-in-None-clause-saved
 returns-in-None-clause-saved g c = subst (λ (o : Outside). IfOk c.by_digests.result (λ (point : Option Point). IsDisagreement c.args.step.now c.args.numbers.now (option_copied c.args.last) c.by_digests.new.facts None → (g.F.Files.outside c.by_digests.new.files).reads ≡ o.reads)) c.in_ok-point-2.ensures.effect c.by_digests.ensures.saved
+
+pub returns-in_err-point-clause-big : goal.returns-in_err-point-clause-big
+returns-in_err-point-clause-big g c =
+    let q = err_from_is_err_and c.from_residual.result c.from_residual.ensures.1 in
+    not_too_big (Option Point) ((c.args.way.by_digest ≡ true) × IsOrdinary c.args.way.all c.args.step.now) c.from_residual.result (q.1 ∙ ap Err q.2)
+
+pub returns-in_err-point-2-clause-big : goal.returns-in_err-point-2-clause-big
+returns-in_err-point-2-clause-big g c =
+    let q = err_from_is_err_and c.from_residual-in_err-point-2.result c.from_residual-in_err-point-2.ensures.1 in
+    not_too_big (Option Point) ((c.args.way.by_digest ≡ true) × IsOrdinary c.args.way.all c.args.step.now) c.from_residual-in_err-point-2.result (q.1 ∙ ap Err q.2)
+
+pub returns-in-None-clause-big : goal.returns-in-None-clause-big
+returns-in-None-clause-big g c =
+    let has : HasOutputs c.args.way.all c.args.step.now c.args.numbers.now c.begun.new.facts = subst (IsBegun c.args.way.all c.args.step.now c.args.numbers.now c.begun.new.facts) c.in-None.is c.in_ok-point-2.ensures.begun in
+    too_big_for (Option Point) ((c.args.way.by_digest ≡ true) × IsOrdinary c.args.way.all c.args.step.now) c.by_digests.result (not-false c.args.way.by_digest c.if-not-way.false, has.ordinary)

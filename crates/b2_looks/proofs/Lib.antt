@@ -1,0 +1,16 @@
+pub mod FilesAreNumbered
+pub mod LooksAreKept
+pub mod FilesAreLookedAt
+pub mod UpdateStays
+pub mod JudgementTells
+pub mod LooseAreBlank
+pub mod JudgementEnds
+pub mod RecordIsGiven
+pub mod MigrationEnds
+pub mod JudgementIsEntered
+pub mod StepsAreLookedAt
+pub mod ClosureIsFound
+pub mod LooksAreTold
+pub mod ScansGoOn
+pub mod LookIsTold
+pub mod JudgementIsTold

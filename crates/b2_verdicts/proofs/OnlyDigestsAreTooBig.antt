@@ -1,0 +1,15 @@
+-- A judgement stops at a file that is too big only where it digests files.
+use Rattle.std.proofs.Common.{◌≡◌, Result, Ok, Err, subst, sym}
+use Rattle.std.specs.Prelude.{IfErr}
+use Rattle.b2_facts.specs.declared.stop.Stop.{Stop}
+use Rattle.b2_facts.specs.declared.stop.Stop.TheVariants as stops
+use Rattle.b2_verdicts.specs.Calls.{IfTooBig}
+
+pub not_too_big : (T P : Type 0) (r : Result T Stop) → r ≡ Err stops.Host → IfErr r (IfTooBig P)
+not_too_big T P r e = subst (λ (q : Result T Stop). IfErr q (IfTooBig P)) (sym e) tt
+
+pub too_big_for : (T P : Type 0) (r : Result T Stop) → P → IfErr r (IfTooBig P)
+too_big_for T P (Ok x) p = tt
+too_big_for T P (Err stops.Host) p = tt
+too_big_for T P (Err stops.OutOfMemory) p = tt
+too_big_for T P (Err (stops.TooBig number size)) p = p
