@@ -29,7 +29,9 @@ some_copied (Some x) is none = none_some x.now (sym none)
 pub is_found : (f : Knowledge) (list n : ℕ) (r : Option (Bor (List ℕ))) → option_copied r ≡ found_at f list n → is_some r ≡ true → found_at f list n ≡ None → ⊥
 is_found f list n r is some none = some_copied r some (is ∙ none)
 
-module _ (f g : Knowledge) (list n : ℕ) (is_list : list < length f.lists) (number : IsNumber f n) (read : (file : FileFacts) → file_at f n ≡ Some file → IsRead file) (r : Option (Bor (List ℕ))) (is : option_copied r ≡ found_at f list n) (unknown : is_some r ≡ false) (same : g.found ≡ f.found) (steps : List Step) (roots : List (List ℕ)) (learns : Learns steps roots OfNone f g) (targets : List ℕ) (firsts : (path : List ℕ) (dirs : List (List ℕ)) (includes : List Include) → IsLooking f list n path dirs includes → AreFirsts g dirs path includes targets) (h : Knowledge) (after : h ≡ with_found g list n targets) where
+module _ (f g : Knowledge) (list n : ℕ) (is_list : list < length f.lists) (number : IsNumber f n) (read : (file : FileFacts) → file_at f n ≡ Some file → IsRead file) (r : Option (Bor (List ℕ)))
+    (is : option_copied r ≡ found_at f list n) (unknown : is_some r ≡ false) (same : g.found ≡ f.found) (steps : List Step) (roots : List (List ℕ)) (learns : Learns steps roots OfNone f g) (targets : List ℕ)
+    (firsts : (path : List ℕ) (dirs : List (List ℕ)) (includes : List Include) → IsLooking f list n path dirs includes → AreFirsts g dirs path includes targets) (h : Knowledge) (after : h ≡ with_found g list n targets) where
   pub comes_in : found_at h list n ≡ None → ⊥
   comes_in none = none_some targets (sym none ∙ subst (λ (k : Knowledge). found_at k list n ≡ Some targets) (sym after) (found_now g list n targets))
 

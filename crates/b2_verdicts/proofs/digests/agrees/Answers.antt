@@ -37,7 +37,10 @@ pub have_digests-requires-2-clause-numbers : goal.have_digests-requires-2-clause
 have_digests-requires-2-clause-numbers g c = subst (AreNumbers c.have_digests.new.facts) (sym c.as_slice-ins.ensures) (numbers_stay c.args.facts.now c.have_digests.new.facts c.args.numbers.now.ins (knows_grows (Contains c.as_slice-outs.result.now) (g.F.Files.outside c.args.files.now).disk (TellEach c.as_slice.result.now c.as_slice-2.result.now) c.args.facts.now c.have_digests.new.facts c.have_digests.ensures.asks.learns) c.requires.ins)
 
 pub have_digests-requires-2-clause-paths : goal.have_digests-requires-2-clause-paths
-have_digests-requires-2-clause-paths g c = paths_along c.have_digests.new.facts c.as_slice-ins.result.now c.args.numbers.now.ins c.as_slice-3.result.now c.args.last.now.ins c.as_slice-ins.ensures c.as_slice-3.ensures (paths_more c.args.facts.now c.have_digests.new.facts c.args.numbers.now.ins c.args.last.now.ins (knows_grows (Contains c.as_slice-outs.result.now) (g.F.Files.outside c.args.files.now).disk (TellEach c.as_slice.result.now c.as_slice-2.result.now) c.args.facts.now c.have_digests.new.facts c.have_digests.ensures.asks.learns) c.requires.in_paths)
+have_digests-requires-2-clause-paths g c = paths_along c.have_digests.new.facts c.as_slice-ins.result.now c.args.numbers.now.ins c.as_slice-3.result.now c.args.last.now.ins c.as_slice-ins.ensures c.as_slice-3.ensures
+    (paths_more c.args.facts.now c.have_digests.new.facts c.args.numbers.now.ins c.args.last.now.ins
+    (knows_grows (Contains c.as_slice-outs.result.now) (g.F.Files.outside c.args.files.now).disk (TellEach c.as_slice.result.now c.as_slice-2.result.now) c.args.facts.now c.have_digests.new.facts c.have_digests.ensures.asks.learns)
+    c.requires.in_paths)
 
 pub have_digests-requires-2-clause-count : goal.have_digests-requires-2-clause-count
 have_digests-requires-2-clause-count g c = ap length c.as_slice-4.ensures ∙ c.requires.proper.ins.count ∙ c.requires.in_paths.count ∙ sym (ap length c.as_slice-ins.ensures)
@@ -60,7 +63,9 @@ returns-clause-asks g c = asks_then {T = Bool} {U = Bool} (IsOfStep c.args.numbe
 
 pub returns-clause-yes : goal.returns-clause-yes
 returns-clause-yes g c = λ e. (
-  digests_more c.have_digests.new.facts c.have_digests-2.new.facts c.args.numbers.now.outs c.args.digests.now.outs (knows_grows (Contains c.as_slice-ins.result.now) (g.F.Files.outside c.have_digests.new.files).disk (TellEach c.as_slice-3.result.now c.as_slice-4.result.now) c.have_digests.new.facts c.have_digests-2.new.facts c.have_digests-2.ensures.asks.learns) (digests_along c.have_digests.new.facts c.as_slice-outs.result.now c.args.numbers.now.outs c.as_slice-2.result.now c.args.digests.now.outs c.as_slice-outs.ensures c.as_slice-2.ensures (c.in_ok-same_outs.ensures.yes c.if-not-same_outs.false)),
+  digests_more c.have_digests.new.facts c.have_digests-2.new.facts c.args.numbers.now.outs c.args.digests.now.outs (knows_grows (Contains c.as_slice-ins.result.now) (g.F.Files.outside c.have_digests.new.files).disk
+      (TellEach c.as_slice-3.result.now c.as_slice-4.result.now) c.have_digests.new.facts c.have_digests-2.new.facts c.have_digests-2.ensures.asks.learns) (digests_along c.have_digests.new.facts c.as_slice-outs.result.now
+      c.args.numbers.now.outs c.as_slice-2.result.now c.args.digests.now.outs c.as_slice-outs.ensures c.as_slice-2.ensures (c.in_ok-same_outs.ensures.yes c.if-not-same_outs.false)),
   digests_along c.have_digests-2.new.facts c.as_slice-ins.result.now c.args.numbers.now.ins c.as_slice-4.result.now c.args.digests.now.ins c.as_slice-ins.ensures c.as_slice-4.ensures (c.in_ok-same_ins.ensures.yes e),
 )
 

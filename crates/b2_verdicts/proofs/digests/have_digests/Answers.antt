@@ -25,13 +25,17 @@ returns-in_err-has_digest-clause-asks g c =
     let at = compared c.args.facts.now c.args.numbers.now c.args.logged.now c.args.digests.now c.loop-place.place (get_or c.args.logged.now c.loop-place.place c.index-logged-place.result) c.index-digests-place.result c.requires.paths c.requires.count c.loop-place-test.true (ap (get_or c.args.logged.now c.loop-place.place) c.index-logged-place.is) c.index-digests-place.is in
     let q = err_from_is_err_and c.from_residual.result c.from_residual.ensures.1 in
     asks_exit {T = Bool} (Contains c.args.numbers.now) (TellEach c.args.logged.now c.args.digests.now) c.args.facts.now c.has_digest.new.facts (g.F.Files.outside c.args.files.now) (g.F.Files.outside c.has_digest.new.files) c.in_err-has_digest.field-0.0 c.from_residual.result (q.1 ∙ ap Err q.2)
-    (asks_next {T = Unit {0}} {U = Bool} c.args.numbers.now c.args.logged.now c.args.digests.now c.args.facts.now c.loop-place.facts c.has_digest.new.facts (g.F.Files.outside c.args.files.now) (g.F.Files.outside c.loop-place.files) (g.F.Files.outside c.has_digest.new.files) (tt {0}) (Err c.in_err-has_digest.field-0.0) c.loop-place.place (get_or c.args.logged.now c.loop-place.place c.index-logged-place.result) c.index-digests-place.result at c.loop-place.invariant.asks c.in_err-has_digest.ensures.asks)
+    (asks_next {T = Unit {0}} {U = Bool} c.args.numbers.now c.args.logged.now c.args.digests.now c.args.facts.now c.loop-place.facts c.has_digest.new.facts (g.F.Files.outside c.args.files.now)
+    (g.F.Files.outside c.loop-place.files) (g.F.Files.outside c.has_digest.new.files) (tt {0}) (Err c.in_err-has_digest.field-0.0) c.loop-place.place (get_or c.args.logged.now c.loop-place.place c.index-logged-place.result)
+    c.index-digests-place.result at c.loop-place.invariant.asks c.in_err-has_digest.ensures.asks)
 
 pub returns-then-not-branch-clause-asks : goal.returns-then-not-branch-clause-asks
 returns-then-not-branch-clause-asks g c =
     let at = compared c.args.facts.now c.args.numbers.now c.args.logged.now c.args.digests.now c.loop-place.place (get_or c.args.logged.now c.loop-place.place c.index-logged-place.result) c.index-digests-place.result c.requires.paths c.requires.count c.loop-place-test.true (ap (get_or c.args.logged.now c.loop-place.place) c.index-logged-place.is) c.index-digests-place.is in
     asks_ok {T = Bool} (Contains c.args.numbers.now) (TellEach c.args.logged.now c.args.digests.now) c.args.facts.now c.has_digest.new.facts (g.F.Files.outside c.args.files.now) (g.F.Files.outside c.has_digest.new.files) c.in_ok-has_digest.field-0 false
-    (asks_next {T = Unit {0}} {U = Bool} c.args.numbers.now c.args.logged.now c.args.digests.now c.args.facts.now c.loop-place.facts c.has_digest.new.facts (g.F.Files.outside c.args.files.now) (g.F.Files.outside c.loop-place.files) (g.F.Files.outside c.has_digest.new.files) (tt {0}) (Ok c.in_ok-has_digest.field-0) c.loop-place.place (get_or c.args.logged.now c.loop-place.place c.index-logged-place.result) c.index-digests-place.result at c.loop-place.invariant.asks c.in_ok-has_digest.ensures.asks)
+    (asks_next {T = Unit {0}} {U = Bool} c.args.numbers.now c.args.logged.now c.args.digests.now c.args.facts.now c.loop-place.facts c.has_digest.new.facts (g.F.Files.outside c.args.files.now)
+    (g.F.Files.outside c.loop-place.files) (g.F.Files.outside c.has_digest.new.files) (tt {0}) (Ok c.in_ok-has_digest.field-0) c.loop-place.place (get_or c.args.logged.now c.loop-place.place c.index-logged-place.result)
+    c.index-digests-place.result at c.loop-place.invariant.asks c.in_ok-has_digest.ensures.asks)
 
 pub returns-then-not-branch-clause-no : goal.returns-then-not-branch-clause-no
 returns-then-not-branch-clause-no g c =
@@ -50,7 +54,9 @@ loop-place-preserved g c =
     let at = compared c.args.facts.now c.args.numbers.now c.args.logged.now c.args.digests.now c.loop-place.place (get_or c.args.logged.now c.loop-place.place c.index-logged-place.result) c.index-digests-place.result c.requires.paths c.requires.count c.loop-place-test.true (ap (get_or c.args.logged.now c.loop-place.place) c.index-logged-place.is) c.index-digests-place.is in
     let grows = knows_grows (OfOne (get_or c.args.numbers.now c.loop-place.place 0)) (g.F.Files.outside c.loop-place.files).disk (TellsOne c.loop-place.facts (get_or c.args.numbers.now c.loop-place.place 0) (get_or c.args.logged.now c.loop-place.place c.index-logged-place.result).1 c.index-digests-place.result) c.loop-place.facts c.has_digest.new.facts c.has_digest.ensures.asks.learns in record {
       asks = asks_ok {T = Bool} (Contains c.args.numbers.now) (TellEach c.args.logged.now c.args.digests.now) c.args.facts.now c.has_digest.new.facts (g.F.Files.outside c.args.files.now) (g.F.Files.outside c.has_digest.new.files) c.in_ok-has_digest.field-0 (tt {0})
-          (asks_next {T = Unit {0}} {U = Bool} c.args.numbers.now c.args.logged.now c.args.digests.now c.args.facts.now c.loop-place.facts c.has_digest.new.facts (g.F.Files.outside c.args.files.now) (g.F.Files.outside c.loop-place.files) (g.F.Files.outside c.has_digest.new.files) (tt {0}) (Ok c.in_ok-has_digest.field-0) c.loop-place.place (get_or c.args.logged.now c.loop-place.place c.index-logged-place.result) c.index-digests-place.result at c.loop-place.invariant.asks c.in_ok-has_digest.ensures.asks);
+          (asks_next {T = Unit {0}} {U = Bool} c.args.numbers.now c.args.logged.now c.args.digests.now c.args.facts.now c.loop-place.facts c.has_digest.new.facts (g.F.Files.outside c.args.files.now)
+          (g.F.Files.outside c.loop-place.files) (g.F.Files.outside c.has_digest.new.files) (tt {0}) (Ok c.in_ok-has_digest.field-0) c.loop-place.place (get_or c.args.logged.now c.loop-place.place c.index-logged-place.result)
+          c.index-digests-place.result at c.loop-place.invariant.asks c.in_ok-has_digest.ensures.asks);
       each = known_next c.loop-place.facts c.has_digest.new.facts c.args.numbers.now c.args.digests.now c.loop-place.place c.index-digests-place.result grows c.loop-place.invariant.each at.told (c.in_ok-has_digest.ensures.same.0 c.if-not-branch.false);
     }
 

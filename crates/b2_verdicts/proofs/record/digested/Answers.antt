@@ -27,31 +27,45 @@ pub returns-in_err-find_digest-clause-asks : goal.returns-in_err-find_digest-cla
 returns-in_err-find_digest-clause-asks g c =
     let q = err_from_is_err_and c.from_residual.result c.from_residual.ensures.1 in
     asks_exit {T = Unit {0}} (Contains c.args.numbers.now) Always c.args.facts.now c.find_digest.new.facts (g.F.Files.outside c.args.files.now) (g.F.Files.outside c.find_digest.new.files) c.in_err-find_digest.field-0.0 c.from_residual.result (q.1 ∙ ap Err q.2)
-    (asks_one_more {T = Unit {0}} {U = Unit {0}} (Contains c.args.numbers.now) (get_or c.args.numbers.now c.loop-number.number-index 0) Always Always c.args.facts.now c.loop-number.facts c.find_digest.new.facts (g.F.Files.outside c.args.files.now) (g.F.Files.outside c.loop-number.files) (g.F.Files.outside c.find_digest.new.files) (tt {0}) (Err c.in_err-find_digest.field-0.0) (index_among c.args.numbers.now c.loop-number.number-index c.loop-number-test.true) (λ now asked. asked) c.loop-number.invariant.asks c.in_err-find_digest.ensures.asks)
+    (asks_one_more {T = Unit {0}} {U = Unit {0}} (Contains c.args.numbers.now) (get_or c.args.numbers.now c.loop-number.number-index 0) Always Always c.args.facts.now c.loop-number.facts c.find_digest.new.facts
+    (g.F.Files.outside c.args.files.now) (g.F.Files.outside c.loop-number.files) (g.F.Files.outside c.find_digest.new.files) (tt {0}) (Err c.in_err-find_digest.field-0.0)
+    (index_among c.args.numbers.now c.loop-number.number-index c.loop-number-test.true) (λ now asked. asked) c.loop-number.invariant.asks c.in_err-find_digest.ensures.asks)
 
 pub file-requires : goal.file-requires
-file-requires g c = number_stays c.loop-number.facts c.find_digest.new.facts (get_or c.args.numbers.now c.loop-number.number-index 0) (knows_grows (OfOne (get_or c.args.numbers.now c.loop-number.number-index 0)) (g.F.Files.outside c.loop-number.files).disk Always c.loop-number.facts c.find_digest.new.facts c.find_digest.ensures.asks.learns) (number_stays c.args.facts.now c.loop-number.facts (get_or c.args.numbers.now c.loop-number.number-index 0) (knows_grows (Contains c.args.numbers.now) (g.F.Files.outside c.args.files.now).disk Always c.args.facts.now c.loop-number.facts c.loop-number.invariant.asks.learns) (c.requires c.loop-number.number-index c.loop-number-test.true))
+file-requires g c = number_stays c.loop-number.facts c.find_digest.new.facts (get_or c.args.numbers.now c.loop-number.number-index 0) (knows_grows (OfOne (get_or c.args.numbers.now c.loop-number.number-index 0))
+    (g.F.Files.outside c.loop-number.files).disk Always c.loop-number.facts c.find_digest.new.facts c.find_digest.ensures.asks.learns) (number_stays c.args.facts.now c.loop-number.facts
+    (get_or c.args.numbers.now c.loop-number.number-index 0)
+    (knows_grows (Contains c.args.numbers.now) (g.F.Files.outside c.args.files.now).disk Always c.args.facts.now c.loop-number.facts c.loop-number.invariant.asks.learns)
+    (c.requires c.loop-number.number-index c.loop-number-test.true))
 
 pub returns-in-None-clause-asks : goal.returns-in-None-clause-asks
 returns-in-None-clause-asks g c = asks_ok {T = Unit {0}} (Contains c.args.numbers.now) Always c.args.facts.now c.find_digest.new.facts (g.F.Files.outside c.args.files.now) (g.F.Files.outside c.find_digest.new.files) c.in_ok-find_digest.field-0 None
-    (asks_one_more {T = Unit {0}} {U = Unit {0}} (Contains c.args.numbers.now) (get_or c.args.numbers.now c.loop-number.number-index 0) Always Always c.args.facts.now c.loop-number.facts c.find_digest.new.facts (g.F.Files.outside c.args.files.now) (g.F.Files.outside c.loop-number.files) (g.F.Files.outside c.find_digest.new.files) (tt {0}) (Ok c.in_ok-find_digest.field-0) (index_among c.args.numbers.now c.loop-number.number-index c.loop-number-test.true) (λ now asked. asked) c.loop-number.invariant.asks c.in_ok-find_digest.ensures.asks)
+    (asks_one_more {T = Unit {0}} {U = Unit {0}} (Contains c.args.numbers.now) (get_or c.args.numbers.now c.loop-number.number-index 0) Always Always c.args.facts.now c.loop-number.facts c.find_digest.new.facts
+    (g.F.Files.outside c.args.files.now) (g.F.Files.outside c.loop-number.files) (g.F.Files.outside c.find_digest.new.files) (tt {0}) (Ok c.in_ok-find_digest.field-0)
+    (index_among c.args.numbers.now c.loop-number.number-index c.loop-number-test.true) (λ now asked. asked) c.loop-number.invariant.asks c.in_ok-find_digest.ensures.asks)
 
 pub returns-in_err-copy-in-Some-clause-asks : goal.returns-in_err-copy-in-Some-clause-asks
 returns-in_err-copy-in-Some-clause-asks g c =
     let q = err_from_is_err_and c.from_residual-in_err-copy-in-Some.result c.from_residual-in_err-copy-in-Some.ensures.1 in
     asks_memory_exit {T = Unit {0}} (Contains c.args.numbers.now) Always c.args.facts.now c.find_digest.new.facts (g.F.Files.outside c.args.files.now) (g.F.Files.outside c.find_digest.new.files) c.in_ok-find_digest.field-0 c.from_residual-in_err-copy-in-Some.result (q.1 ∙ ap Err q.2)
-    (asks_one_more {T = Unit {0}} {U = Unit {0}} (Contains c.args.numbers.now) (get_or c.args.numbers.now c.loop-number.number-index 0) Always Always c.args.facts.now c.loop-number.facts c.find_digest.new.facts (g.F.Files.outside c.args.files.now) (g.F.Files.outside c.loop-number.files) (g.F.Files.outside c.find_digest.new.files) (tt {0}) (Ok c.in_ok-find_digest.field-0) (index_among c.args.numbers.now c.loop-number.number-index c.loop-number-test.true) (λ now asked. asked) c.loop-number.invariant.asks c.in_ok-find_digest.ensures.asks)
+    (asks_one_more {T = Unit {0}} {U = Unit {0}} (Contains c.args.numbers.now) (get_or c.args.numbers.now c.loop-number.number-index 0) Always Always c.args.facts.now c.loop-number.facts c.find_digest.new.facts
+    (g.F.Files.outside c.args.files.now) (g.F.Files.outside c.loop-number.files) (g.F.Files.outside c.find_digest.new.files) (tt {0}) (Ok c.in_ok-find_digest.field-0)
+    (index_among c.args.numbers.now c.loop-number.number-index c.loop-number-test.true) (λ now asked. asked) c.loop-number.invariant.asks c.in_ok-find_digest.ensures.asks)
 
 pub returns-in_err-push-in-Some-clause-asks : goal.returns-in_err-push-in-Some-clause-asks
 returns-in_err-push-in-Some-clause-asks g c =
     let q = err_from_is_err_and c.from_residual-in_err-push-in-Some.result c.from_residual-in_err-push-in-Some.ensures.1 in
     asks_memory_exit {T = Unit {0}} (Contains c.args.numbers.now) Always c.args.facts.now c.find_digest.new.facts (g.F.Files.outside c.args.files.now) (g.F.Files.outside c.find_digest.new.files) c.in_ok-find_digest.field-0 c.from_residual-in_err-push-in-Some.result (q.1 ∙ ap Err q.2)
-    (asks_one_more {T = Unit {0}} {U = Unit {0}} (Contains c.args.numbers.now) (get_or c.args.numbers.now c.loop-number.number-index 0) Always Always c.args.facts.now c.loop-number.facts c.find_digest.new.facts (g.F.Files.outside c.args.files.now) (g.F.Files.outside c.loop-number.files) (g.F.Files.outside c.find_digest.new.files) (tt {0}) (Ok c.in_ok-find_digest.field-0) (index_among c.args.numbers.now c.loop-number.number-index c.loop-number-test.true) (λ now asked. asked) c.loop-number.invariant.asks c.in_ok-find_digest.ensures.asks)
+    (asks_one_more {T = Unit {0}} {U = Unit {0}} (Contains c.args.numbers.now) (get_or c.args.numbers.now c.loop-number.number-index 0) Always Always c.args.facts.now c.loop-number.facts c.find_digest.new.facts
+    (g.F.Files.outside c.args.files.now) (g.F.Files.outside c.loop-number.files) (g.F.Files.outside c.find_digest.new.files) (tt {0}) (Ok c.in_ok-find_digest.field-0)
+    (index_among c.args.numbers.now c.loop-number.number-index c.loop-number-test.true) (λ now asked. asked) c.loop-number.invariant.asks c.in_ok-find_digest.ensures.asks)
 
 pub loop-number-preserved : goal.loop-number-preserved
 loop-number-preserved g c = record {
   asks = asks_ok {T = Unit {0}} (Contains c.args.numbers.now) Always c.args.facts.now c.find_digest.new.facts (g.F.Files.outside c.args.files.now) (g.F.Files.outside c.find_digest.new.files) c.in_ok-find_digest.field-0 (tt {0})
-      (asks_one_more {T = Unit {0}} {U = Unit {0}} (Contains c.args.numbers.now) (get_or c.args.numbers.now c.loop-number.number-index 0) Always Always c.args.facts.now c.loop-number.facts c.find_digest.new.facts (g.F.Files.outside c.args.files.now) (g.F.Files.outside c.loop-number.files) (g.F.Files.outside c.find_digest.new.files) (tt {0}) (Ok c.in_ok-find_digest.field-0) (index_among c.args.numbers.now c.loop-number.number-index c.loop-number-test.true) (λ now asked. asked) c.loop-number.invariant.asks c.in_ok-find_digest.ensures.asks);
+      (asks_one_more {T = Unit {0}} {U = Unit {0}} (Contains c.args.numbers.now) (get_or c.args.numbers.now c.loop-number.number-index 0) Always Always c.args.facts.now c.loop-number.facts c.find_digest.new.facts
+      (g.F.Files.outside c.args.files.now) (g.F.Files.outside c.loop-number.files) (g.F.Files.outside c.find_digest.new.files) (tt {0}) (Ok c.in_ok-find_digest.field-0)
+      (index_among c.args.numbers.now c.loop-number.number-index c.loop-number-test.true) (λ now asked. asked) c.loop-number.invariant.asks c.in_ok-find_digest.ensures.asks);
   count = (let count = c.loop-number.invariant.count in ap length c.in_ok-push-in-Some.ensures.ok ∙ omega (arith, length-append c.loop-number.made (c.in_ok-copy-in-Some.field-0 ∷ []), count));
   each = λ k digest below at. known_behind c.loop-number.facts c.find_digest.new.facts c.args.numbers.now c.loop-number.made c.loop-number.number-index c.in_ok-copy-in-Some.field-0 (knows_grows (OfOne (get_or c.args.numbers.now c.loop-number.number-index 0)) (g.F.Files.outside c.loop-number.files).disk Always c.loop-number.facts c.find_digest.new.facts c.find_digest.ensures.asks.learns) c.loop-number.invariant.count c.loop-number.invariant.each
       (ap digest_in c.file.ensures ∙ c.in-Some.is ∙ ap Some (sym c.in_ok-copy-in-Some.ensures)) k digest below (sym (ap (λ (l : List (List ℕ)). slice_get l k) c.in_ok-push-in-Some.ensures.ok) ∙ at);

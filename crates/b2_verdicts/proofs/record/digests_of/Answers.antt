@@ -52,7 +52,9 @@ returns-clause-asks g c = asks_ok {T = Option (List (List ℕ))} {U = Option Dig
 pub returns-clause-made : goal.returns-clause-made
 returns-clause-made g c = (
   refl,
-  digests_more c.digested.new.facts c.digested-2.new.facts c.args.numbers.now.outs c.in-Some.outs (knows_grows (Contains c.as_slice-2.result.now) (g.F.Files.outside c.digested.new.files).disk Always c.digested.new.facts c.digested-2.new.facts c.digested-2.ensures.asks.learns) (digests_along c.digested.new.facts c.as_slice.result.now c.args.numbers.now.outs c.in-Some.outs c.in-Some.outs c.as_slice.ensures refl (subst (λ made. IfSome made (HaveDigests c.digested.new.facts c.as_slice.result.now)) c.in-Some.is c.in_ok-outs.ensures.made)),
+  digests_more c.digested.new.facts c.digested-2.new.facts c.args.numbers.now.outs c.in-Some.outs (knows_grows (Contains c.as_slice-2.result.now) (g.F.Files.outside c.digested.new.files).disk Always c.digested.new.facts
+      c.digested-2.new.facts c.digested-2.ensures.asks.learns) (digests_along c.digested.new.facts c.as_slice.result.now c.args.numbers.now.outs c.in-Some.outs c.in-Some.outs c.as_slice.ensures refl
+      (subst (λ made. IfSome made (HaveDigests c.digested.new.facts c.as_slice.result.now)) c.in-Some.is c.in_ok-outs.ensures.made)),
   digests_along c.digested-2.new.facts c.as_slice-2.result.now c.args.numbers.now.ins c.in-Some-2.ins c.in-Some-2.ins c.as_slice-2.ensures refl (subst (λ made. IfSome made (HaveDigests c.digested-2.new.facts c.as_slice-2.result.now)) c.in-Some-2.is c.in_ok-ins.ensures.made),
 )
 

@@ -37,27 +37,39 @@ pub returns-in_err-ask_all-2-clause-asks : goal.returns-in_err-ask_all-2-clause-
 returns-in_err-ask_all-2-clause-asks g c =
     let q = err_from_is_err_and c.from_residual-in_err-ask_all-2.result c.from_residual-in_err-ask_all-2.ensures.1 in
     asks_behind (IsOfStep c.args.numbers.now) Always c.args.facts.now c.ask_all.new.facts c.ask_all-2.new.facts (g.F.Files.outside c.args.files.now) (g.F.Files.outside c.ask_all.new.files) (g.F.Files.outside c.ask_all-2.new.files) c.from_residual-in_err-ask_all-2.result c.in_ok-ask_all.ensures.effect (knows_outs c.args.numbers.now c.as_slice.result.now (g.F.Files.outside c.args.files.now).disk Always c.args.facts.now c.ask_all.new.facts c.as_slice.ensures c.ask_all.ensures.learns)
-    (asks_failed (Unit {0}) (IsOfStep c.args.numbers.now) Always c.ask_all.new.facts c.ask_all-2.new.facts (g.F.Files.outside c.ask_all.new.files) (g.F.Files.outside c.ask_all-2.new.files) c.in_err-ask_all-2.field-0.0 c.from_residual-in_err-ask_all-2.result (q.1 ∙ ap Err q.2) c.in_err-ask_all-2.ensures.effect (knows_ins c.args.numbers.now c.as_slice-2.result.now (g.F.Files.outside c.ask_all.new.files).disk Always c.ask_all.new.facts c.ask_all-2.new.facts c.as_slice-2.ensures c.ask_all-2.ensures.learns))
+    (asks_failed (Unit {0}) (IsOfStep c.args.numbers.now) Always c.ask_all.new.facts c.ask_all-2.new.facts (g.F.Files.outside c.ask_all.new.files) (g.F.Files.outside c.ask_all-2.new.files) c.in_err-ask_all-2.field-0.0
+    c.from_residual-in_err-ask_all-2.result (q.1 ∙ ap Err q.2) c.in_err-ask_all-2.ensures.effect
+    (knows_ins c.args.numbers.now c.as_slice-2.result.now (g.F.Files.outside c.ask_all.new.files).disk Always c.ask_all.new.facts c.ask_all-2.new.facts c.as_slice-2.ensures c.ask_all-2.ensures.learns))
 
 pub returns-in_err-ask_all-2-clause-unread : goal.returns-in_err-ask_all-2-clause-unread
 returns-in_err-ask_all-2-clause-unread g c = λ e. reads_fails (g.F.Files.outside c.ask_all.new.files) (g.F.Files.outside c.ask_all-2.new.files) c.in_err-ask_all-2.ensures.effect ∙ ap (λ (o : Outside). o.reads) c.in_ok-ask_all.ensures.effect
 
 pub record_with-requires-clause-outs : goal.record_with-requires-clause-outs
-record_with-requires-clause-outs g c = numbers_stay c.args.facts.now c.ask_all-2.new.facts c.args.numbers.now.outs (knows_grows (IsOfStep c.args.numbers.now) (g.F.Files.outside c.args.files.now).disk Always c.args.facts.now c.ask_all-2.new.facts (knows_both c.args.numbers.now c.as_slice.result.now c.as_slice-2.result.now (g.F.Files.outside c.args.files.now) (g.F.Files.outside c.ask_all.new.files) Always c.args.facts.now c.ask_all.new.facts c.ask_all-2.new.facts c.as_slice.ensures c.as_slice-2.ensures c.in_ok-ask_all.ensures.effect c.ask_all.ensures.learns c.ask_all-2.ensures.learns)) c.requires.outs
+record_with-requires-clause-outs g c = numbers_stay c.args.facts.now c.ask_all-2.new.facts c.args.numbers.now.outs (knows_grows (IsOfStep c.args.numbers.now) (g.F.Files.outside c.args.files.now).disk Always
+    c.args.facts.now c.ask_all-2.new.facts (knows_both c.args.numbers.now c.as_slice.result.now c.as_slice-2.result.now (g.F.Files.outside c.args.files.now) (g.F.Files.outside c.ask_all.new.files) Always c.args.facts.now c.ask_all.new.facts c.ask_all-2.new.facts c.as_slice.ensures c.as_slice-2.ensures c.in_ok-ask_all.ensures.effect c.ask_all.ensures.learns c.ask_all-2.ensures.learns))
+    c.requires.outs
 
 pub record_with-requires-clause-ins : goal.record_with-requires-clause-ins
-record_with-requires-clause-ins g c = numbers_stay c.args.facts.now c.ask_all-2.new.facts c.args.numbers.now.ins (knows_grows (IsOfStep c.args.numbers.now) (g.F.Files.outside c.args.files.now).disk Always c.args.facts.now c.ask_all-2.new.facts (knows_both c.args.numbers.now c.as_slice.result.now c.as_slice-2.result.now (g.F.Files.outside c.args.files.now) (g.F.Files.outside c.ask_all.new.files) Always c.args.facts.now c.ask_all.new.facts c.ask_all-2.new.facts c.as_slice.ensures c.as_slice-2.ensures c.in_ok-ask_all.ensures.effect c.ask_all.ensures.learns c.ask_all-2.ensures.learns)) c.requires.ins
+record_with-requires-clause-ins g c = numbers_stay c.args.facts.now c.ask_all-2.new.facts c.args.numbers.now.ins (knows_grows (IsOfStep c.args.numbers.now) (g.F.Files.outside c.args.files.now).disk Always
+    c.args.facts.now c.ask_all-2.new.facts (knows_both c.args.numbers.now c.as_slice.result.now c.as_slice-2.result.now (g.F.Files.outside c.args.files.now) (g.F.Files.outside c.ask_all.new.files) Always c.args.facts.now c.ask_all.new.facts c.ask_all-2.new.facts c.as_slice.ensures c.as_slice-2.ensures c.in_ok-ask_all.ensures.effect c.ask_all.ensures.learns c.ask_all-2.ensures.learns))
+    c.requires.ins
 
 pub returns-in_err-record_with-clause-asks : goal.returns-in_err-record_with-clause-asks
 returns-in_err-record_with-clause-asks g c =
     let q = err_from_is_err_and c.from_residual-in_err-record_with.result c.from_residual-in_err-record_with.ensures.1 in
-    asks_memory_exit {T = Unit {0}} (IsOfStep c.args.numbers.now) Always c.args.facts.now c.ask_all-2.new.facts (g.F.Files.outside c.args.files.now) (g.F.Files.outside c.ask_all-2.new.files) (tt {0}) c.from_residual-in_err-record_with.result (q.1 ∙ ap Err q.2) (asks_quiet (IsOfStep c.args.numbers.now) Always c.args.facts.now c.ask_all-2.new.facts (g.F.Files.outside c.args.files.now) (g.F.Files.outside c.ask_all-2.new.files) (tt {0}) (c.in_ok-ask_all-2.ensures.effect ∙ c.in_ok-ask_all.ensures.effect) (knows_both c.args.numbers.now c.as_slice.result.now c.as_slice-2.result.now (g.F.Files.outside c.args.files.now) (g.F.Files.outside c.ask_all.new.files) Always c.args.facts.now c.ask_all.new.facts c.ask_all-2.new.facts c.as_slice.ensures c.as_slice-2.ensures c.in_ok-ask_all.ensures.effect c.ask_all.ensures.learns c.ask_all-2.ensures.learns))
+    asks_memory_exit {T = Unit {0}} (IsOfStep c.args.numbers.now) Always c.args.facts.now c.ask_all-2.new.facts (g.F.Files.outside c.args.files.now) (g.F.Files.outside c.ask_all-2.new.files) (tt {0})
+    c.from_residual-in_err-record_with.result (q.1 ∙ ap Err q.2) (asks_quiet (IsOfStep c.args.numbers.now) Always c.args.facts.now c.ask_all-2.new.facts (g.F.Files.outside c.args.files.now)
+    (g.F.Files.outside c.ask_all-2.new.files) (tt {0}) (c.in_ok-ask_all-2.ensures.effect ∙ c.in_ok-ask_all.ensures.effect)
+    (knows_both c.args.numbers.now c.as_slice.result.now c.as_slice-2.result.now (g.F.Files.outside c.args.files.now) (g.F.Files.outside c.ask_all.new.files) Always c.args.facts.now c.ask_all.new.facts c.ask_all-2.new.facts c.as_slice.ensures c.as_slice-2.ensures c.in_ok-ask_all.ensures.effect c.ask_all.ensures.learns c.ask_all-2.ensures.learns))
 
 pub returns-in_err-record_with-clause-unread : goal.returns-in_err-record_with-clause-unread
 returns-in_err-record_with-clause-unread g c = λ e. ap (λ (o : Outside). o.reads) (c.in_ok-ask_all-2.ensures.effect ∙ c.in_ok-ask_all.ensures.effect)
 
 pub returns-then-not-by_digest-clause-asks : goal.returns-then-not-by_digest-clause-asks
-returns-then-not-by_digest-clause-asks g c = asks_quiet (IsOfStep c.args.numbers.now) Always c.args.facts.now c.ask_all-2.new.facts (g.F.Files.outside c.args.files.now) (g.F.Files.outside c.ask_all-2.new.files) c.in_ok-record_with.field-0 (c.in_ok-ask_all-2.ensures.effect ∙ c.in_ok-ask_all.ensures.effect) (knows_both c.args.numbers.now c.as_slice.result.now c.as_slice-2.result.now (g.F.Files.outside c.args.files.now) (g.F.Files.outside c.ask_all.new.files) Always c.args.facts.now c.ask_all.new.facts c.ask_all-2.new.facts c.as_slice.ensures c.as_slice-2.ensures c.in_ok-ask_all.ensures.effect c.ask_all.ensures.learns c.ask_all-2.ensures.learns)
+returns-then-not-by_digest-clause-asks g c = asks_quiet (IsOfStep c.args.numbers.now) Always c.args.facts.now c.ask_all-2.new.facts (g.F.Files.outside c.args.files.now) (g.F.Files.outside c.ask_all-2.new.files)
+    c.in_ok-record_with.field-0 (c.in_ok-ask_all-2.ensures.effect ∙ c.in_ok-ask_all.ensures.effect) (knows_both c.args.numbers.now c.as_slice.result.now c.as_slice-2.result.now (g.F.Files.outside c.args.files.now)
+    (g.F.Files.outside c.ask_all.new.files) Always c.args.facts.now c.ask_all.new.facts c.ask_all-2.new.facts c.as_slice.ensures c.as_slice-2.ensures c.in_ok-ask_all.ensures.effect c.ask_all.ensures.learns
+    c.ask_all-2.ensures.learns)
 
 pub returns-then-not-by_digest-clause-unread : goal.returns-then-not-by_digest-clause-unread
 returns-then-not-by_digest-clause-unread g c = λ e. ap (λ (o : Outside). o.reads) (c.in_ok-ask_all-2.ensures.effect ∙ c.in_ok-ask_all.ensures.effect)
@@ -66,68 +78,104 @@ pub returns-then-not-by_digest-clause-exact : goal.returns-then-not-by_digest-cl
 returns-then-not-by_digest-clause-exact g c = told_map c.in_ok-record_with.field-0 (λ (r : Record). (by_digest : Bool) → HasDigestsBy by_digest c.args.numbers.now c.ask_all-2.new.facts None → IsMadeOf by_digest c.args.step.now c.args.numbers.now c.ask_all-2.new.facts r) (IsMadeOf c.args.by_digest c.args.step.now c.args.numbers.now c.ask_all-2.new.facts) (λ r made. made c.args.by_digest c.if-not-by_digest.true) c.in_ok-record_with.ensures.made
 
 pub returns-then-not-by_digest-clause-proper : goal.returns-then-not-by_digest-clause-proper
-returns-then-not-by_digest-clause-proper g c = proper_made c.args.by_digest c.args.step.now c.args.numbers.now (g.F.Files.outside c.args.files.now).disk c.args.facts.now c.ask_all-2.new.facts c.in_ok-record_with.field-0 (knows_both c.args.numbers.now c.as_slice.result.now c.as_slice-2.result.now (g.F.Files.outside c.args.files.now) (g.F.Files.outside c.ask_all.new.files) Always c.args.facts.now c.ask_all.new.facts c.ask_all-2.new.facts c.as_slice.ensures c.as_slice-2.ensures c.in_ok-ask_all.ensures.effect c.ask_all.ensures.learns c.ask_all-2.ensures.learns) c.requires.outs c.requires.ins
+returns-then-not-by_digest-clause-proper g c = proper_made c.args.by_digest c.args.step.now c.args.numbers.now (g.F.Files.outside c.args.files.now).disk c.args.facts.now c.ask_all-2.new.facts c.in_ok-record_with.field-0
+    (knows_both c.args.numbers.now c.as_slice.result.now c.as_slice-2.result.now (g.F.Files.outside c.args.files.now) (g.F.Files.outside c.ask_all.new.files) Always c.args.facts.now c.ask_all.new.facts c.ask_all-2.new.facts
+    c.as_slice.ensures c.as_slice-2.ensures c.in_ok-ask_all.ensures.effect c.ask_all.ensures.learns c.ask_all-2.ensures.learns) c.requires.outs c.requires.ins
     (told_map c.in_ok-record_with.field-0 (λ (r : Record). (by_digest : Bool) → HasDigestsBy by_digest c.args.numbers.now c.ask_all-2.new.facts None → IsMadeOf by_digest c.args.step.now c.args.numbers.now c.ask_all-2.new.facts r) (IsMadeOf c.args.by_digest c.args.step.now c.args.numbers.now c.ask_all-2.new.facts) (λ r made. made c.args.by_digest c.if-not-by_digest.true) c.in_ok-record_with.ensures.made)
 
 pub digests_of-requires-clause-outs : goal.digests_of-requires-clause-outs
-digests_of-requires-clause-outs g c = numbers_stay c.args.facts.now c.ask_all-2.new.facts c.args.numbers.now.outs (knows_grows (IsOfStep c.args.numbers.now) (g.F.Files.outside c.args.files.now).disk Always c.args.facts.now c.ask_all-2.new.facts (knows_both c.args.numbers.now c.as_slice.result.now c.as_slice-2.result.now (g.F.Files.outside c.args.files.now) (g.F.Files.outside c.ask_all.new.files) Always c.args.facts.now c.ask_all.new.facts c.ask_all-2.new.facts c.as_slice.ensures c.as_slice-2.ensures c.in_ok-ask_all.ensures.effect c.ask_all.ensures.learns c.ask_all-2.ensures.learns)) c.requires.outs
+digests_of-requires-clause-outs g c = numbers_stay c.args.facts.now c.ask_all-2.new.facts c.args.numbers.now.outs (knows_grows (IsOfStep c.args.numbers.now) (g.F.Files.outside c.args.files.now).disk Always
+    c.args.facts.now c.ask_all-2.new.facts (knows_both c.args.numbers.now c.as_slice.result.now c.as_slice-2.result.now (g.F.Files.outside c.args.files.now) (g.F.Files.outside c.ask_all.new.files) Always c.args.facts.now c.ask_all.new.facts c.ask_all-2.new.facts c.as_slice.ensures c.as_slice-2.ensures c.in_ok-ask_all.ensures.effect c.ask_all.ensures.learns c.ask_all-2.ensures.learns))
+    c.requires.outs
 
 pub digests_of-requires-clause-ins : goal.digests_of-requires-clause-ins
-digests_of-requires-clause-ins g c = numbers_stay c.args.facts.now c.ask_all-2.new.facts c.args.numbers.now.ins (knows_grows (IsOfStep c.args.numbers.now) (g.F.Files.outside c.args.files.now).disk Always c.args.facts.now c.ask_all-2.new.facts (knows_both c.args.numbers.now c.as_slice.result.now c.as_slice-2.result.now (g.F.Files.outside c.args.files.now) (g.F.Files.outside c.ask_all.new.files) Always c.args.facts.now c.ask_all.new.facts c.ask_all-2.new.facts c.as_slice.ensures c.as_slice-2.ensures c.in_ok-ask_all.ensures.effect c.ask_all.ensures.learns c.ask_all-2.ensures.learns)) c.requires.ins
+digests_of-requires-clause-ins g c = numbers_stay c.args.facts.now c.ask_all-2.new.facts c.args.numbers.now.ins (knows_grows (IsOfStep c.args.numbers.now) (g.F.Files.outside c.args.files.now).disk Always c.args.facts.now
+    c.ask_all-2.new.facts (knows_both c.args.numbers.now c.as_slice.result.now c.as_slice-2.result.now (g.F.Files.outside c.args.files.now) (g.F.Files.outside c.ask_all.new.files) Always c.args.facts.now c.ask_all.new.facts c.ask_all-2.new.facts c.as_slice.ensures c.as_slice-2.ensures c.in_ok-ask_all.ensures.effect c.ask_all.ensures.learns c.ask_all-2.ensures.learns))
+    c.requires.ins
 
 pub returns-in_err-digests_of-clause-asks : goal.returns-in_err-digests_of-clause-asks
 returns-in_err-digests_of-clause-asks g c =
     let q = err_from_is_err_and c.from_residual-in_err-digests_of.result c.from_residual-in_err-digests_of.ensures.1 in
     asks_exit {T = Option Digests} (IsOfStep c.args.numbers.now) Always c.args.facts.now c.digests_of.new.facts (g.F.Files.outside c.args.files.now) (g.F.Files.outside c.digests_of.new.files) c.in_err-digests_of.field-0.0 c.from_residual-in_err-digests_of.result (q.1 ∙ ap Err q.2)
-    (asks_behind {T = Option Digests} (IsOfStep c.args.numbers.now) Always c.args.facts.now c.ask_all-2.new.facts c.digests_of.new.facts (g.F.Files.outside c.args.files.now) (g.F.Files.outside c.ask_all-2.new.files) (g.F.Files.outside c.digests_of.new.files) (Err c.in_err-digests_of.field-0.0) (c.in_ok-ask_all-2.ensures.effect ∙ c.in_ok-ask_all.ensures.effect) (knows_both c.args.numbers.now c.as_slice.result.now c.as_slice-2.result.now (g.F.Files.outside c.args.files.now) (g.F.Files.outside c.ask_all.new.files) Always c.args.facts.now c.ask_all.new.facts c.ask_all-2.new.facts c.as_slice.ensures c.as_slice-2.ensures c.in_ok-ask_all.ensures.effect c.ask_all.ensures.learns c.ask_all-2.ensures.learns) c.in_err-digests_of.ensures.asks)
+    (asks_behind {T = Option Digests} (IsOfStep c.args.numbers.now) Always c.args.facts.now c.ask_all-2.new.facts c.digests_of.new.facts (g.F.Files.outside c.args.files.now) (g.F.Files.outside c.ask_all-2.new.files)
+    (g.F.Files.outside c.digests_of.new.files) (Err c.in_err-digests_of.field-0.0) (c.in_ok-ask_all-2.ensures.effect ∙ c.in_ok-ask_all.ensures.effect)
+    (knows_both c.args.numbers.now c.as_slice.result.now c.as_slice-2.result.now (g.F.Files.outside c.args.files.now) (g.F.Files.outside c.ask_all.new.files) Always c.args.facts.now c.ask_all.new.facts c.ask_all-2.new.facts c.as_slice.ensures c.as_slice-2.ensures c.in_ok-ask_all.ensures.effect c.ask_all.ensures.learns c.ask_all-2.ensures.learns)
+    c.in_err-digests_of.ensures.asks)
 
 pub returns-in_err-digests_of-clause-unread : goal.returns-in_err-digests_of-clause-unread
 returns-in_err-digests_of-clause-unread g c = λ e. absurd (true≢false (sym c.if-not-by_digest.false ∙ e))
 
 pub record_with-requires-in-Some-clause-outs : goal.record_with-requires-in-Some-clause-outs
 record_with-requires-in-Some-clause-outs g c =
-    let all = asks_behind {T = Option Digests} (IsOfStep c.args.numbers.now) Always c.args.facts.now c.ask_all-2.new.facts c.digests_of.new.facts (g.F.Files.outside c.args.files.now) (g.F.Files.outside c.ask_all-2.new.files) (g.F.Files.outside c.digests_of.new.files) (Ok c.in_ok-digests_of.field-0) (c.in_ok-ask_all-2.ensures.effect ∙ c.in_ok-ask_all.ensures.effect) (knows_both c.args.numbers.now c.as_slice.result.now c.as_slice-2.result.now (g.F.Files.outside c.args.files.now) (g.F.Files.outside c.ask_all.new.files) Always c.args.facts.now c.ask_all.new.facts c.ask_all-2.new.facts c.as_slice.ensures c.as_slice-2.ensures c.in_ok-ask_all.ensures.effect c.ask_all.ensures.learns c.ask_all-2.ensures.learns) c.in_ok-digests_of.ensures.asks in
+    let all = asks_behind {T = Option Digests} (IsOfStep c.args.numbers.now) Always c.args.facts.now c.ask_all-2.new.facts c.digests_of.new.facts (g.F.Files.outside c.args.files.now) (g.F.Files.outside
+    c.ask_all-2.new.files) (g.F.Files.outside c.digests_of.new.files) (Ok c.in_ok-digests_of.field-0) (c.in_ok-ask_all-2.ensures.effect ∙ c.in_ok-ask_all.ensures.effect) (knows_both c.args.numbers.now c.as_slice.result.now
+    c.as_slice-2.result.now (g.F.Files.outside c.args.files.now) (g.F.Files.outside c.ask_all.new.files) Always c.args.facts.now c.ask_all.new.facts c.ask_all-2.new.facts c.as_slice.ensures c.as_slice-2.ensures
+    c.in_ok-ask_all.ensures.effect c.ask_all.ensures.learns c.ask_all-2.ensures.learns) c.in_ok-digests_of.ensures.asks in
     numbers_stay c.args.facts.now c.digests_of.new.facts c.args.numbers.now.outs (knows_grows (IsOfStep c.args.numbers.now) (g.F.Files.outside c.args.files.now).disk Always c.args.facts.now c.digests_of.new.facts all.learns) c.requires.outs
 
 pub record_with-requires-in-Some-clause-ins : goal.record_with-requires-in-Some-clause-ins
 record_with-requires-in-Some-clause-ins g c =
-    let all = asks_behind {T = Option Digests} (IsOfStep c.args.numbers.now) Always c.args.facts.now c.ask_all-2.new.facts c.digests_of.new.facts (g.F.Files.outside c.args.files.now) (g.F.Files.outside c.ask_all-2.new.files) (g.F.Files.outside c.digests_of.new.files) (Ok c.in_ok-digests_of.field-0) (c.in_ok-ask_all-2.ensures.effect ∙ c.in_ok-ask_all.ensures.effect) (knows_both c.args.numbers.now c.as_slice.result.now c.as_slice-2.result.now (g.F.Files.outside c.args.files.now) (g.F.Files.outside c.ask_all.new.files) Always c.args.facts.now c.ask_all.new.facts c.ask_all-2.new.facts c.as_slice.ensures c.as_slice-2.ensures c.in_ok-ask_all.ensures.effect c.ask_all.ensures.learns c.ask_all-2.ensures.learns) c.in_ok-digests_of.ensures.asks in
+    let all = asks_behind {T = Option Digests} (IsOfStep c.args.numbers.now) Always c.args.facts.now c.ask_all-2.new.facts c.digests_of.new.facts (g.F.Files.outside c.args.files.now) (g.F.Files.outside
+    c.ask_all-2.new.files) (g.F.Files.outside c.digests_of.new.files) (Ok c.in_ok-digests_of.field-0) (c.in_ok-ask_all-2.ensures.effect ∙ c.in_ok-ask_all.ensures.effect) (knows_both c.args.numbers.now c.as_slice.result.now
+    c.as_slice-2.result.now (g.F.Files.outside c.args.files.now) (g.F.Files.outside c.ask_all.new.files) Always c.args.facts.now c.ask_all.new.facts c.ask_all-2.new.facts c.as_slice.ensures c.as_slice-2.ensures
+    c.in_ok-ask_all.ensures.effect c.ask_all.ensures.learns c.ask_all-2.ensures.learns) c.in_ok-digests_of.ensures.asks in
     numbers_stay c.args.facts.now c.digests_of.new.facts c.args.numbers.now.ins (knows_grows (IsOfStep c.args.numbers.now) (g.F.Files.outside c.args.files.now).disk Always c.args.facts.now c.digests_of.new.facts all.learns) c.requires.ins
 
 pub returns-in_err-record_with-in-Some-clause-asks : goal.returns-in_err-record_with-in-Some-clause-asks
 returns-in_err-record_with-in-Some-clause-asks g c =
     let q = err_from_is_err_and c.from_residual-in_err-record_with-in-Some.result c.from_residual-in_err-record_with-in-Some.ensures.1 in
     asks_memory_exit {T = Option Digests} (IsOfStep c.args.numbers.now) Always c.args.facts.now c.digests_of.new.facts (g.F.Files.outside c.args.files.now) (g.F.Files.outside c.digests_of.new.files) c.in_ok-digests_of.field-0 c.from_residual-in_err-record_with-in-Some.result (q.1 ∙ ap Err q.2)
-    (asks_behind {T = Option Digests} (IsOfStep c.args.numbers.now) Always c.args.facts.now c.ask_all-2.new.facts c.digests_of.new.facts (g.F.Files.outside c.args.files.now) (g.F.Files.outside c.ask_all-2.new.files) (g.F.Files.outside c.digests_of.new.files) (Ok c.in_ok-digests_of.field-0) (c.in_ok-ask_all-2.ensures.effect ∙ c.in_ok-ask_all.ensures.effect) (knows_both c.args.numbers.now c.as_slice.result.now c.as_slice-2.result.now (g.F.Files.outside c.args.files.now) (g.F.Files.outside c.ask_all.new.files) Always c.args.facts.now c.ask_all.new.facts c.ask_all-2.new.facts c.as_slice.ensures c.as_slice-2.ensures c.in_ok-ask_all.ensures.effect c.ask_all.ensures.learns c.ask_all-2.ensures.learns) c.in_ok-digests_of.ensures.asks)
+    (asks_behind {T = Option Digests} (IsOfStep c.args.numbers.now) Always c.args.facts.now c.ask_all-2.new.facts c.digests_of.new.facts (g.F.Files.outside c.args.files.now) (g.F.Files.outside c.ask_all-2.new.files)
+    (g.F.Files.outside c.digests_of.new.files) (Ok c.in_ok-digests_of.field-0) (c.in_ok-ask_all-2.ensures.effect ∙ c.in_ok-ask_all.ensures.effect)
+    (knows_both c.args.numbers.now c.as_slice.result.now c.as_slice-2.result.now (g.F.Files.outside c.args.files.now) (g.F.Files.outside c.ask_all.new.files) Always c.args.facts.now c.ask_all.new.facts c.ask_all-2.new.facts c.as_slice.ensures c.as_slice-2.ensures c.in_ok-ask_all.ensures.effect c.ask_all.ensures.learns c.ask_all-2.ensures.learns)
+    c.in_ok-digests_of.ensures.asks)
 
 pub returns-in_err-record_with-in-Some-clause-unread : goal.returns-in_err-record_with-in-Some-clause-unread
 returns-in_err-record_with-in-Some-clause-unread g c = λ e. absurd (true≢false (sym c.if-not-by_digest.false ∙ e))
 
 pub returns-in-None-clause-asks : goal.returns-in-None-clause-asks
 returns-in-None-clause-asks g c = asks_ok {T = Option Digests} (IsOfStep c.args.numbers.now) Always c.args.facts.now c.digests_of.new.facts (g.F.Files.outside c.args.files.now) (g.F.Files.outside c.digests_of.new.files) c.in_ok-digests_of.field-0 None
-    (asks_behind {T = Option Digests} (IsOfStep c.args.numbers.now) Always c.args.facts.now c.ask_all-2.new.facts c.digests_of.new.facts (g.F.Files.outside c.args.files.now) (g.F.Files.outside c.ask_all-2.new.files) (g.F.Files.outside c.digests_of.new.files) (Ok c.in_ok-digests_of.field-0) (c.in_ok-ask_all-2.ensures.effect ∙ c.in_ok-ask_all.ensures.effect) (knows_both c.args.numbers.now c.as_slice.result.now c.as_slice-2.result.now (g.F.Files.outside c.args.files.now) (g.F.Files.outside c.ask_all.new.files) Always c.args.facts.now c.ask_all.new.facts c.ask_all-2.new.facts c.as_slice.ensures c.as_slice-2.ensures c.in_ok-ask_all.ensures.effect c.ask_all.ensures.learns c.ask_all-2.ensures.learns) c.in_ok-digests_of.ensures.asks)
+    (asks_behind {T = Option Digests} (IsOfStep c.args.numbers.now) Always c.args.facts.now c.ask_all-2.new.facts c.digests_of.new.facts (g.F.Files.outside c.args.files.now) (g.F.Files.outside c.ask_all-2.new.files)
+    (g.F.Files.outside c.digests_of.new.files) (Ok c.in_ok-digests_of.field-0) (c.in_ok-ask_all-2.ensures.effect ∙ c.in_ok-ask_all.ensures.effect)
+    (knows_both c.args.numbers.now c.as_slice.result.now c.as_slice-2.result.now (g.F.Files.outside c.args.files.now) (g.F.Files.outside c.ask_all.new.files) Always c.args.facts.now c.ask_all.new.facts c.ask_all-2.new.facts c.as_slice.ensures c.as_slice-2.ensures c.in_ok-ask_all.ensures.effect c.ask_all.ensures.learns c.ask_all-2.ensures.learns)
+    c.in_ok-digests_of.ensures.asks)
 
 pub returns-in-None-clause-unread : goal.returns-in-None-clause-unread
 returns-in-None-clause-unread g c = λ e. absurd (true≢false (sym c.if-not-by_digest.false ∙ e))
 
 pub returns-in_ok-record_with-in-Some-clause-asks : goal.returns-in_ok-record_with-in-Some-clause-asks
 returns-in_ok-record_with-in-Some-clause-asks g c = asks_ok {T = Option Digests} (IsOfStep c.args.numbers.now) Always c.args.facts.now c.digests_of.new.facts (g.F.Files.outside c.args.files.now) (g.F.Files.outside c.digests_of.new.files) c.in_ok-digests_of.field-0 c.in_ok-record_with-in-Some.field-0
-    (asks_behind {T = Option Digests} (IsOfStep c.args.numbers.now) Always c.args.facts.now c.ask_all-2.new.facts c.digests_of.new.facts (g.F.Files.outside c.args.files.now) (g.F.Files.outside c.ask_all-2.new.files) (g.F.Files.outside c.digests_of.new.files) (Ok c.in_ok-digests_of.field-0) (c.in_ok-ask_all-2.ensures.effect ∙ c.in_ok-ask_all.ensures.effect) (knows_both c.args.numbers.now c.as_slice.result.now c.as_slice-2.result.now (g.F.Files.outside c.args.files.now) (g.F.Files.outside c.ask_all.new.files) Always c.args.facts.now c.ask_all.new.facts c.ask_all-2.new.facts c.as_slice.ensures c.as_slice-2.ensures c.in_ok-ask_all.ensures.effect c.ask_all.ensures.learns c.ask_all-2.ensures.learns) c.in_ok-digests_of.ensures.asks)
+    (asks_behind {T = Option Digests} (IsOfStep c.args.numbers.now) Always c.args.facts.now c.ask_all-2.new.facts c.digests_of.new.facts (g.F.Files.outside c.args.files.now) (g.F.Files.outside c.ask_all-2.new.files)
+    (g.F.Files.outside c.digests_of.new.files) (Ok c.in_ok-digests_of.field-0) (c.in_ok-ask_all-2.ensures.effect ∙ c.in_ok-ask_all.ensures.effect)
+    (knows_both c.args.numbers.now c.as_slice.result.now c.as_slice-2.result.now (g.F.Files.outside c.args.files.now) (g.F.Files.outside c.ask_all.new.files) Always c.args.facts.now c.ask_all.new.facts c.ask_all-2.new.facts c.as_slice.ensures c.as_slice-2.ensures c.in_ok-ask_all.ensures.effect c.ask_all.ensures.learns c.ask_all-2.ensures.learns)
+    c.in_ok-digests_of.ensures.asks)
 
 pub returns-in_ok-record_with-in-Some-clause-unread : goal.returns-in_ok-record_with-in-Some-clause-unread
 returns-in_ok-record_with-in-Some-clause-unread g c = λ e. absurd (true≢false (sym c.if-not-by_digest.false ∙ e))
 
 pub returns-in_ok-record_with-in-Some-clause-exact : goal.returns-in_ok-record_with-in-Some-clause-exact
-returns-in_ok-record_with-in-Some-clause-exact g c = told_map c.in_ok-record_with-in-Some.field-0 (λ (r : Record). (by_digest : Bool) → HasDigestsBy by_digest c.args.numbers.now c.digests_of.new.facts (Some c.in-Some.digests) → IsMadeOf by_digest c.args.step.now c.args.numbers.now c.digests_of.new.facts r) (IsMadeOf c.args.by_digest c.args.step.now c.args.numbers.now c.digests_of.new.facts) (λ r made. made c.args.by_digest (let has = subst (λ made. IfSome made (λ (digests : Digests). HasDigestsBy true c.args.numbers.now c.digests_of.new.facts (Some digests))) c.in-Some.is c.in_ok-digests_of.ensures.made in (c.if-not-by_digest.false, has.1, has.2))) c.in_ok-record_with-in-Some.ensures.made
+returns-in_ok-record_with-in-Some-clause-exact g c = told_map c.in_ok-record_with-in-Some.field-0 (λ (r : Record). (by_digest : Bool) → HasDigestsBy by_digest c.args.numbers.now c.digests_of.new.facts
+    (Some c.in-Some.digests) → IsMadeOf by_digest c.args.step.now c.args.numbers.now c.digests_of.new.facts r) (IsMadeOf c.args.by_digest c.args.step.now c.args.numbers.now c.digests_of.new.facts) (λ r made. made
+    c.args.by_digest (let has = subst (λ made. IfSome made (λ (digests : Digests). HasDigestsBy true c.args.numbers.now c.digests_of.new.facts (Some digests))) c.in-Some.is c.in_ok-digests_of.ensures.made in (c.if-not-by_digest.false, has.1, has.2)))
+    c.in_ok-record_with-in-Some.ensures.made
 
 pub returns-in_ok-record_with-in-Some-clause-proper : goal.returns-in_ok-record_with-in-Some-clause-proper
 returns-in_ok-record_with-in-Some-clause-proper g c =
-    let all = asks_behind {T = Option Digests} (IsOfStep c.args.numbers.now) Always c.args.facts.now c.ask_all-2.new.facts c.digests_of.new.facts (g.F.Files.outside c.args.files.now) (g.F.Files.outside c.ask_all-2.new.files) (g.F.Files.outside c.digests_of.new.files) (Ok c.in_ok-digests_of.field-0) (c.in_ok-ask_all-2.ensures.effect ∙ c.in_ok-ask_all.ensures.effect) (knows_both c.args.numbers.now c.as_slice.result.now c.as_slice-2.result.now (g.F.Files.outside c.args.files.now) (g.F.Files.outside c.ask_all.new.files) Always c.args.facts.now c.ask_all.new.facts c.ask_all-2.new.facts c.as_slice.ensures c.as_slice-2.ensures c.in_ok-ask_all.ensures.effect c.ask_all.ensures.learns c.ask_all-2.ensures.learns) c.in_ok-digests_of.ensures.asks in
+    let all = asks_behind {T = Option Digests} (IsOfStep c.args.numbers.now) Always c.args.facts.now c.ask_all-2.new.facts c.digests_of.new.facts (g.F.Files.outside c.args.files.now) (g.F.Files.outside
+    c.ask_all-2.new.files) (g.F.Files.outside c.digests_of.new.files) (Ok c.in_ok-digests_of.field-0) (c.in_ok-ask_all-2.ensures.effect ∙ c.in_ok-ask_all.ensures.effect) (knows_both c.args.numbers.now c.as_slice.result.now
+    c.as_slice-2.result.now (g.F.Files.outside c.args.files.now) (g.F.Files.outside c.ask_all.new.files) Always c.args.facts.now c.ask_all.new.facts c.ask_all-2.new.facts c.as_slice.ensures c.as_slice-2.ensures
+    c.in_ok-ask_all.ensures.effect c.ask_all.ensures.learns c.ask_all-2.ensures.learns) c.in_ok-digests_of.ensures.asks in
     proper_made c.args.by_digest c.args.step.now c.args.numbers.now (g.F.Files.outside c.args.files.now).disk c.args.facts.now c.digests_of.new.facts c.in_ok-record_with-in-Some.field-0 all.learns c.requires.outs c.requires.ins
-    (told_map c.in_ok-record_with-in-Some.field-0 (λ (r : Record). (by_digest : Bool) → HasDigestsBy by_digest c.args.numbers.now c.digests_of.new.facts (Some c.in-Some.digests) → IsMadeOf by_digest c.args.step.now c.args.numbers.now c.digests_of.new.facts r) (IsMadeOf c.args.by_digest c.args.step.now c.args.numbers.now c.digests_of.new.facts) (λ r made. made c.args.by_digest (let has = subst (λ made. IfSome made (λ (digests : Digests). HasDigestsBy true c.args.numbers.now c.digests_of.new.facts (Some digests))) c.in-Some.is c.in_ok-digests_of.ensures.made in (c.if-not-by_digest.false, has.1, has.2))) c.in_ok-record_with-in-Some.ensures.made)
+    (told_map c.in_ok-record_with-in-Some.field-0 (λ (r : Record). (by_digest : Bool) → HasDigestsBy by_digest c.args.numbers.now c.digests_of.new.facts (Some c.in-Some.digests) → IsMadeOf by_digest c.args.step.now c.args.numbers.now c.digests_of.new.facts r)
+    (IsMadeOf c.args.by_digest c.args.step.now c.args.numbers.now c.digests_of.new.facts)
+    (λ r made. made c.args.by_digest (let has = subst (λ made. IfSome made (λ (digests : Digests). HasDigestsBy true c.args.numbers.now c.digests_of.new.facts (Some digests))) c.in-Some.is c.in_ok-digests_of.ensures.made in (c.if-not-by_digest.false, has.1, has.2)))
+    c.in_ok-record_with-in-Some.ensures.made)
 
 pub returns-then-not-by_digest-clause-gone : goal.returns-then-not-by_digest-clause-gone
-returns-then-not-by_digest-clause-gone g c = none_map c.in_ok-record_with.field-0 (IsSomeUnseen c.ask_all-2.new.facts c.args.numbers.now.outs ⊎ IsSomeUnseen c.ask_all-2.new.facts c.args.numbers.now.ins) (IsWithoutFile (g.F.Files.outside c.args.files.now).disk c.args.numbers.now c.ask_all-2.new.facts) (without_unseen (g.F.Files.outside c.args.files.now).disk c.args.numbers.now c.ask_all-2.new.facts (all_asked_more c.ask_all.new.facts c.ask_all-2.new.facts c.args.numbers.now.outs (knows_grows (Contains c.as_slice-2.result.now) (g.F.Files.outside c.ask_all.new.files).disk Always c.ask_all.new.facts c.ask_all-2.new.facts c.ask_all-2.ensures.learns) (subst (AllAsked c.ask_all.new.facts) c.as_slice.ensures c.in_ok-ask_all.ensures.asked)) (subst (AllAsked c.ask_all-2.new.facts) c.as_slice-2.ensures c.in_ok-ask_all-2.ensures.asked)) c.in_ok-record_with.ensures.gone
+returns-then-not-by_digest-clause-gone g c = none_map c.in_ok-record_with.field-0 (IsSomeUnseen c.ask_all-2.new.facts c.args.numbers.now.outs ⊎ IsSomeUnseen c.ask_all-2.new.facts c.args.numbers.now.ins) (IsWithoutFile
+    (g.F.Files.outside c.args.files.now).disk c.args.numbers.now c.ask_all-2.new.facts) (without_unseen (g.F.Files.outside c.args.files.now).disk c.args.numbers.now c.ask_all-2.new.facts
+    (all_asked_more c.ask_all.new.facts c.ask_all-2.new.facts c.args.numbers.now.outs (knows_grows (Contains c.as_slice-2.result.now) (g.F.Files.outside c.ask_all.new.files).disk Always c.ask_all.new.facts c.ask_all-2.new.facts c.ask_all-2.ensures.learns) (subst (AllAsked c.ask_all.new.facts) c.as_slice.ensures c.in_ok-ask_all.ensures.asked))
+    (subst (AllAsked c.ask_all-2.new.facts) c.as_slice-2.ensures c.in_ok-ask_all-2.ensures.asked)) c.in_ok-record_with.ensures.gone
 
 pub returns-in-None-clause-gone : goal.returns-in-None-clause-gone
 returns-in-None-clause-gone g c = without_digest (g.F.Files.outside c.args.files.now).disk (g.F.Files.outside c.ask_all-2.new.files).disk c.args.numbers.now c.digests_of.new.facts (ap (λ (o : Outside). o.disk) (c.in_ok-ask_all-2.ensures.effect ∙ c.in_ok-ask_all.ensures.effect))
@@ -135,4 +183,10 @@ returns-in-None-clause-gone g c = without_digest (g.F.Files.outside c.args.files
 
 pub returns-in_ok-record_with-in-Some-clause-gone : goal.returns-in_ok-record_with-in-Some-clause-gone
 returns-in_ok-record_with-in-Some-clause-gone g c = none_map c.in_ok-record_with-in-Some.field-0 (IsSomeUnseen c.digests_of.new.facts c.args.numbers.now.outs ⊎ IsSomeUnseen c.digests_of.new.facts c.args.numbers.now.ins) (IsWithoutFile (g.F.Files.outside c.args.files.now).disk c.args.numbers.now c.digests_of.new.facts)
-    (without_unseen (g.F.Files.outside c.args.files.now).disk c.args.numbers.now c.digests_of.new.facts (all_asked_more c.ask_all-2.new.facts c.digests_of.new.facts c.args.numbers.now.outs (knows_grows (IsOfStep c.args.numbers.now) (g.F.Files.outside c.ask_all-2.new.files).disk Always c.ask_all-2.new.facts c.digests_of.new.facts c.digests_of.ensures.asks.learns) (all_asked_more c.ask_all.new.facts c.ask_all-2.new.facts c.args.numbers.now.outs (knows_grows (Contains c.as_slice-2.result.now) (g.F.Files.outside c.ask_all.new.files).disk Always c.ask_all.new.facts c.ask_all-2.new.facts c.ask_all-2.ensures.learns) (subst (AllAsked c.ask_all.new.facts) c.as_slice.ensures c.in_ok-ask_all.ensures.asked))) (all_asked_more c.ask_all-2.new.facts c.digests_of.new.facts c.args.numbers.now.ins (knows_grows (IsOfStep c.args.numbers.now) (g.F.Files.outside c.ask_all-2.new.files).disk Always c.ask_all-2.new.facts c.digests_of.new.facts c.digests_of.ensures.asks.learns) (subst (AllAsked c.ask_all-2.new.facts) c.as_slice-2.ensures c.in_ok-ask_all-2.ensures.asked))) c.in_ok-record_with-in-Some.ensures.gone
+    (without_unseen (g.F.Files.outside c.args.files.now).disk c.args.numbers.now c.digests_of.new.facts
+    (all_asked_more c.ask_all-2.new.facts c.digests_of.new.facts c.args.numbers.now.outs (knows_grows (IsOfStep c.args.numbers.now) (g.F.Files.outside c.ask_all-2.new.files).disk Always c.ask_all-2.new.facts
+    c.digests_of.new.facts c.digests_of.ensures.asks.learns) (all_asked_more c.ask_all.new.facts c.ask_all-2.new.facts c.args.numbers.now.outs
+    (knows_grows (Contains c.as_slice-2.result.now) (g.F.Files.outside c.ask_all.new.files).disk Always c.ask_all.new.facts c.ask_all-2.new.facts c.ask_all-2.ensures.learns)
+    (subst (AllAsked c.ask_all.new.facts) c.as_slice.ensures c.in_ok-ask_all.ensures.asked)))
+    (all_asked_more c.ask_all-2.new.facts c.digests_of.new.facts c.args.numbers.now.ins (knows_grows (IsOfStep c.args.numbers.now) (g.F.Files.outside c.ask_all-2.new.files).disk Always c.ask_all-2.new.facts c.digests_of.new.facts c.digests_of.ensures.asks.learns) (subst (AllAsked c.ask_all-2.new.facts) c.as_slice-2.ensures c.in_ok-ask_all-2.ensures.asked)))
+    c.in_ok-record_with-in-Some.ensures.gone

@@ -27,7 +27,9 @@ ask_all-requires g c = subst (AreNumbers c.args.facts.now) (sym c.as_slice.ensur
 pub returns-in_err-ask_all-clause-asks : goal.returns-in_err-ask_all-clause-asks
 returns-in_err-ask_all-clause-asks g c =
     let q = err_from_is_err_and c.from_residual.result c.from_residual.ensures.1 in
-    asks_failed (Unit {0}) (IsOfStep c.args.numbers.now) (LastTells (option_copied c.args.last)) c.args.facts.now c.ask_all.new.facts (g.F.Files.outside c.args.files.now) (g.F.Files.outside c.ask_all.new.files) c.in_err-ask_all.field-0.0 c.from_residual.result (q.1 ∙ ap Err q.2) c.in_err-ask_all.ensures.effect (knows_ins c.args.numbers.now c.as_slice.result.now (g.F.Files.outside c.args.files.now).disk (LastTells (option_copied c.args.last)) c.args.facts.now c.ask_all.new.facts c.as_slice.ensures c.ask_all.ensures.learns)
+    asks_failed (Unit {0}) (IsOfStep c.args.numbers.now) (LastTells (option_copied c.args.last)) c.args.facts.now c.ask_all.new.facts (g.F.Files.outside c.args.files.now) (g.F.Files.outside c.ask_all.new.files)
+    c.in_err-ask_all.field-0.0 c.from_residual.result (q.1 ∙ ap Err q.2) c.in_err-ask_all.ensures.effect (knows_ins c.args.numbers.now c.as_slice.result.now (g.F.Files.outside c.args.files.now).disk
+    (LastTells (option_copied c.args.last)) c.args.facts.now c.ask_all.new.facts c.as_slice.ensures c.ask_all.ensures.learns)
 
 pub disagreement-requires-clause-outs : goal.disagreement-requires-clause-outs
 disagreement-requires-clause-outs g c = numbers_stay c.args.facts.now c.ask_all.new.facts c.args.numbers.now.outs (knows_grows (Contains c.as_slice.result.now) (g.F.Files.outside c.args.files.now).disk Always c.args.facts.now c.ask_all.new.facts c.ask_all.ensures.learns) c.requires.outs
@@ -48,7 +50,9 @@ pub returns-in-None-clause-exact : goal.returns-in-None-clause-exact
 returns-in-None-clause-exact g c = λ all ordinary. (open_more all c.args.step.now c.args.numbers.now c.args.facts.now c.ask_all.new.facts (knows_grows (Contains c.as_slice.result.now) (g.F.Files.outside c.args.files.now).disk Always c.args.facts.now c.ask_all.new.facts c.ask_all.ensures.learns) c.requires.stand c.in_default.is (subst (AllAsked c.ask_all.new.facts) c.as_slice.ensures c.in_ok-ask_all.ensures.asked) ordinary, inl c.in-None.ensures)
 
 pub returns-in-Some-disagreement-clause-asks : goal.returns-in-Some-disagreement-clause-asks
-returns-in-Some-disagreement-clause-asks g c = asks_behind {T = Option Point} (IsOfStep c.args.numbers.now) (LastTells (option_copied c.args.last)) c.args.facts.now c.ask_all.new.facts c.unless_saved.new.facts (g.F.Files.outside c.args.files.now) (g.F.Files.outside c.ask_all.new.files) (g.F.Files.outside c.unless_saved.new.files) c.unless_saved.result c.in_ok-ask_all.ensures.effect (knows_ins c.args.numbers.now c.as_slice.result.now (g.F.Files.outside c.args.files.now).disk (LastTells (option_copied c.args.last)) c.args.facts.now c.ask_all.new.facts c.as_slice.ensures c.ask_all.ensures.learns) c.unless_saved.ensures.asks
+returns-in-Some-disagreement-clause-asks g c = asks_behind {T = Option Point} (IsOfStep c.args.numbers.now) (LastTells (option_copied c.args.last)) c.args.facts.now c.ask_all.new.facts c.unless_saved.new.facts
+    (g.F.Files.outside c.args.files.now) (g.F.Files.outside c.ask_all.new.files) (g.F.Files.outside c.unless_saved.new.files) c.unless_saved.result c.in_ok-ask_all.ensures.effect (knows_ins c.args.numbers.now
+    c.as_slice.result.now (g.F.Files.outside c.args.files.now).disk (LastTells (option_copied c.args.last)) c.args.facts.now c.ask_all.new.facts c.as_slice.ensures c.ask_all.ensures.learns) c.unless_saved.ensures.asks
 
 pub returns-in-Some-disagreement-clause-exact : goal.returns-in-Some-disagreement-clause-exact
 returns-in-Some-disagreement-clause-exact g c =

@@ -19,13 +19,17 @@ use Rattle.b2_verdicts.proofs.verdict.verdict.Goals as goal
 pub returns-in_err-point-clause-asks : goal.returns-in_err-point-clause-asks
 returns-in_err-point-clause-asks g c =
     let q = err_from_is_err_and c.from_residual.result c.from_residual.ensures.1 in
-    asks_failed (Option Point) (IsOfStep c.args.numbers.now) (LastTellsUnless c.args.way.all (option_copied c.args.last)) c.args.facts.now c.by_stamps.new.facts (g.F.Files.outside c.args.files.now) (g.F.Files.outside c.by_stamps.new.files) c.in_err-point.field-0.0 c.from_residual.result (q.1 ∙ ap Err q.2) c.in_err-point.ensures.effect (knows_weaker (IsOfStep c.args.numbers.now) (IsOfStep c.args.numbers.now) (g.F.Files.outside c.args.files.now).disk Always (LastTellsUnless c.args.way.all (option_copied c.args.last)) c.args.facts.now c.by_stamps.new.facts (λ n of. of) (λ now told. tt) c.by_stamps.ensures.learns)
+    asks_failed (Option Point) (IsOfStep c.args.numbers.now) (LastTellsUnless c.args.way.all (option_copied c.args.last)) c.args.facts.now c.by_stamps.new.facts (g.F.Files.outside c.args.files.now) (g.F.Files.outside
+    c.by_stamps.new.files) c.in_err-point.field-0.0 c.from_residual.result (q.1 ∙ ap Err q.2) c.in_err-point.ensures.effect (knows_weaker (IsOfStep c.args.numbers.now) (IsOfStep c.args.numbers.now)
+    (g.F.Files.outside c.args.files.now).disk Always (LastTellsUnless c.args.way.all (option_copied c.args.last)) c.args.facts.now c.by_stamps.new.facts (λ n of. of) (λ now told. tt) c.by_stamps.ensures.learns)
 
 pub returns-in_err-point-clause-unread : goal.returns-in_err-point-clause-unread
 returns-in_err-point-clause-unread g c = λ e. reads_fails (g.F.Files.outside c.args.files.now) (g.F.Files.outside c.by_stamps.new.files) c.in_err-point.ensures.effect
 
 pub returns-then-not-way-clause-asks : goal.returns-then-not-way-clause-asks
-returns-then-not-way-clause-asks g c = asks_quiet (IsOfStep c.args.numbers.now) (LastTellsUnless c.args.way.all (option_copied c.args.last)) c.args.facts.now c.by_stamps.new.facts (g.F.Files.outside c.args.files.now) (g.F.Files.outside c.by_stamps.new.files) c.in_ok-point.point c.in_ok-point.ensures.effect (knows_weaker (IsOfStep c.args.numbers.now) (IsOfStep c.args.numbers.now) (g.F.Files.outside c.args.files.now).disk Always (LastTellsUnless c.args.way.all (option_copied c.args.last)) c.args.facts.now c.by_stamps.new.facts (λ n of. of) (λ now told. tt) c.by_stamps.ensures.learns)
+returns-then-not-way-clause-asks g c = asks_quiet (IsOfStep c.args.numbers.now) (LastTellsUnless c.args.way.all (option_copied c.args.last)) c.args.facts.now c.by_stamps.new.facts (g.F.Files.outside c.args.files.now)
+    (g.F.Files.outside c.by_stamps.new.files) c.in_ok-point.point c.in_ok-point.ensures.effect (knows_weaker (IsOfStep c.args.numbers.now) (IsOfStep c.args.numbers.now) (g.F.Files.outside c.args.files.now).disk Always
+    (LastTellsUnless c.args.way.all (option_copied c.args.last)) c.args.facts.now c.by_stamps.new.facts (λ n of. of) (λ now told. tt) c.by_stamps.ensures.learns)
 
 pub returns-then-not-way-clause-unread : goal.returns-then-not-way-clause-unread
 returns-then-not-way-clause-unread g c = λ e. ap (λ (o : Outside). o.reads) c.in_ok-point.ensures.effect
@@ -36,7 +40,9 @@ returns-then-not-way-clause-exact g c = point_by_stamps c.args.way.by_digest (g.
 pub returns-in_err-point-2-clause-asks : goal.returns-in_err-point-2-clause-asks
 returns-in_err-point-2-clause-asks g c =
     let q = err_from_is_err_and c.from_residual-in_err-point-2.result c.from_residual-in_err-point-2.ensures.1 in
-    asks_failed (Option Point) (IsOfStep c.args.numbers.now) (LastTellsUnless c.args.way.all (option_copied c.args.last)) c.args.facts.now c.begun.new.facts (g.F.Files.outside c.args.files.now) (g.F.Files.outside c.begun.new.files) c.in_err-point-2.field-0.0 c.from_residual-in_err-point-2.result (q.1 ∙ ap Err q.2) c.in_err-point-2.ensures.effect (knows_weaker (IsOfStep c.args.numbers.now) (IsOfStep c.args.numbers.now) (g.F.Files.outside c.args.files.now).disk Always (LastTellsUnless c.args.way.all (option_copied c.args.last)) c.args.facts.now c.begun.new.facts (λ n of. of) (λ now told. tt) c.begun.ensures.learns)
+    asks_failed (Option Point) (IsOfStep c.args.numbers.now) (LastTellsUnless c.args.way.all (option_copied c.args.last)) c.args.facts.now c.begun.new.facts (g.F.Files.outside c.args.files.now) (g.F.Files.outside
+    c.begun.new.files) c.in_err-point-2.field-0.0 c.from_residual-in_err-point-2.result (q.1 ∙ ap Err q.2) c.in_err-point-2.ensures.effect (knows_weaker (IsOfStep c.args.numbers.now) (IsOfStep c.args.numbers.now)
+    (g.F.Files.outside c.args.files.now).disk Always (LastTellsUnless c.args.way.all (option_copied c.args.last)) c.args.facts.now c.begun.new.facts (λ n of. of) (λ now told. tt) c.begun.ensures.learns)
 
 pub returns-in_err-point-2-clause-unread : goal.returns-in_err-point-2-clause-unread
 returns-in_err-point-2-clause-unread g c = λ e. reads_fails (g.F.Files.outside c.args.files.now) (g.F.Files.outside c.begun.new.files) c.in_err-point-2.ensures.effect
@@ -53,7 +59,9 @@ by_digests-requires-clause-stand g c =
     has.stand
 
 pub returns-in-Some-clause-asks : goal.returns-in-Some-clause-asks
-returns-in-Some-clause-asks g c = asks_quiet (IsOfStep c.args.numbers.now) (LastTellsUnless c.args.way.all (option_copied c.args.last)) c.args.facts.now c.begun.new.facts (g.F.Files.outside c.args.files.now) (g.F.Files.outside c.begun.new.files) (Some c.in-Some.point) c.in_ok-point-2.ensures.effect (knows_weaker (IsOfStep c.args.numbers.now) (IsOfStep c.args.numbers.now) (g.F.Files.outside c.args.files.now).disk Always (LastTellsUnless c.args.way.all (option_copied c.args.last)) c.args.facts.now c.begun.new.facts (λ n of. of) (λ now told. tt) c.begun.ensures.learns)
+returns-in-Some-clause-asks g c = asks_quiet (IsOfStep c.args.numbers.now) (LastTellsUnless c.args.way.all (option_copied c.args.last)) c.args.facts.now c.begun.new.facts (g.F.Files.outside c.args.files.now)
+    (g.F.Files.outside c.begun.new.files) (Some c.in-Some.point) c.in_ok-point-2.ensures.effect (knows_weaker (IsOfStep c.args.numbers.now) (IsOfStep c.args.numbers.now) (g.F.Files.outside c.args.files.now).disk Always
+    (LastTellsUnless c.args.way.all (option_copied c.args.last)) c.args.facts.now c.begun.new.facts (λ n of. of) (λ now told. tt) c.begun.ensures.learns)
 
 pub returns-in-Some-clause-unread : goal.returns-in-Some-clause-unread
 returns-in-Some-clause-unread g c = λ e. ap (λ (o : Outside). o.reads) c.in_ok-point-2.ensures.effect
@@ -65,7 +73,9 @@ returns-in-Some-clause-exact g c = point_by_digests c.args.way.by_digest (g.F.Fi
 pub returns-in-None-clause-asks : goal.returns-in-None-clause-asks
 returns-in-None-clause-asks g c =
     let has : HasOutputs c.args.way.all c.args.step.now c.args.numbers.now c.begun.new.facts = subst (IsBegun c.args.way.all c.args.step.now c.args.numbers.now c.begun.new.facts) c.in-None.is c.in_ok-point-2.ensures.begun in
-    asks_behind {T = Option Point} (IsOfStep c.args.numbers.now) (LastTellsUnless c.args.way.all (option_copied c.args.last)) c.args.facts.now c.begun.new.facts c.by_digests.new.facts (g.F.Files.outside c.args.files.now) (g.F.Files.outside c.begun.new.files) (g.F.Files.outside c.by_digests.new.files) c.by_digests.result c.in_ok-point-2.ensures.effect (knows_weaker (IsOfStep c.args.numbers.now) (IsOfStep c.args.numbers.now) (g.F.Files.outside c.args.files.now).disk Always (LastTellsUnless c.args.way.all (option_copied c.args.last)) c.args.facts.now c.begun.new.facts (λ n of. of) (λ now told. tt) c.begun.ensures.learns)
+    asks_behind {T = Option Point} (IsOfStep c.args.numbers.now) (LastTellsUnless c.args.way.all (option_copied c.args.last)) c.args.facts.now c.begun.new.facts c.by_digests.new.facts (g.F.Files.outside c.args.files.now)
+    (g.F.Files.outside c.begun.new.files) (g.F.Files.outside c.by_digests.new.files) c.by_digests.result c.in_ok-point-2.ensures.effect (knows_weaker (IsOfStep c.args.numbers.now) (IsOfStep c.args.numbers.now)
+    (g.F.Files.outside c.args.files.now).disk Always (LastTellsUnless c.args.way.all (option_copied c.args.last)) c.args.facts.now c.begun.new.facts (λ n of. of) (λ now told. tt) c.begun.ensures.learns)
     (asks_weaker {T = Option Point} (IsOfStep c.args.numbers.now) (IsOfStep c.args.numbers.now) (LastTells (option_copied c.args.last)) (LastTellsUnless c.args.way.all (option_copied c.args.last)) c.begun.new.facts c.by_digests.new.facts (g.F.Files.outside c.begun.new.files) (g.F.Files.outside c.by_digests.new.files) c.by_digests.result (λ n of. of) (λ now told. told has.ordinary.not_all) c.by_digests.ensures.asks)
 
 pub returns-in-None-clause-unread : goal.returns-in-None-clause-unread

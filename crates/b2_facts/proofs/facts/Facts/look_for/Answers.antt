@@ -9,7 +9,15 @@ use Rattle.b2_facts.proofs.IncludesAreLookedFor.{firsts_all, has_include, includ
 use Rattle.b2_facts.proofs.facts.Facts.look_for.Goals as goal
 
 pub loop-at-init : goal.loop-at-init
-loop-at-init g c = record { same = refl; found = refl; firsts = λ path dirs includes looking. subst (λ (ts : List ℕ). AreFirsts c.args.self.now dirs path [] ts) (sym c.new-targets.ensures) (no_firsts c.args.self.now dirs path); learns = learns_same c.args.plan.now.steps c.args.plan.now.roots OfNone c.args.self.now; told = told_all (g.F.Files.outside c.args.files.now).disk (λ (d : Disk). StaysTrue c.args.plan.now.steps c.args.plan.now.roots d.now c.args.self.now c.args.self.now) (λ d. true_same c.args.plan.now.steps c.args.plan.now.roots d.now c.args.self.now) }
+loop-at-init g c = record {
+  same = refl;
+  found = refl;
+  firsts = λ path dirs includes looking. subst (λ (ts : List ℕ). AreFirsts c.args.self.now dirs path [] ts) (sym c.new-targets.ensures)
+      (no_firsts c.args.self.now dirs path);
+  learns = learns_same c.args.plan.now.steps c.args.plan.now.roots OfNone c.args.self.now;
+  told = told_all (g.F.Files.outside c.args.files.now).disk
+      (λ (d : Disk). StaysTrue c.args.plan.now.steps c.args.plan.now.roots d.now c.args.self.now c.args.self.now) (λ d. true_same c.args.plan.now.steps c.args.plan.now.roots d.now c.args.self.now);
+}
 
 pub find_include-requires-clause-list : goal.find_include-requires-clause-list
 find_include-requires-clause-list g c = list_grows c.args.self.now c.loop-at.self c.loop-at.invariant.learns.grows c.args.list c.requires.list

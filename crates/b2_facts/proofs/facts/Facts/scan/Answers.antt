@@ -66,6 +66,8 @@ returns-in-Some-clause-learns g c = λ steps roots. learns_then steps roots (OfO
 pub returns-in-Some-clause-told : goal.returns-in-Some-clause-told
 returns-in-Some-clause-told g c =
     let same = same_disk (g.F.Files.outside c.args.files.now) (g.F.Files.outside c.stamp.new.files) c.in_ok-seen.ensures.effect in
-    told_both (g.F.Files.outside c.args.files.now).disk (λ (d : Disk). (steps : List Step) (roots : List (List ℕ)) → StaysTrue steps roots d.now c.args.self.now c.stamp.new.self) (λ (d : Disk). (steps : List Step) (roots : List (List ℕ)) (b : Build) → ScansTell b d.now c.args.log.now.lines → StaysTrueOf steps roots d.now c.stamp.new.self c.scan_standing.new.self b) (λ (d : Disk). (steps : List Step) (roots : List (List ℕ)) (b : Build) → ScansTell b d.now c.args.log.now.lines → StaysTrueOf steps roots d.now c.args.self.now c.scan_standing.new.self b)
+    told_both (g.F.Files.outside c.args.files.now).disk (λ (d : Disk). (steps : List Step) (roots : List (List ℕ)) → StaysTrue steps roots d.now c.args.self.now c.stamp.new.self) (λ (d : Disk). (steps : List Step)
+    (roots : List (List ℕ)) (b : Build) → ScansTell b d.now c.args.log.now.lines → StaysTrueOf steps roots d.now c.stamp.new.self c.scan_standing.new.self b) (λ (d : Disk). (steps : List Step) (roots : List (List ℕ))
+    (b : Build) → ScansTell b d.now c.args.log.now.lines → StaysTrueOf steps roots d.now c.args.self.now c.scan_standing.new.self b)
     (λ d h k steps roots b tells. true_of_then steps roots (OfOne c.args.number) d.now c.args.self.now c.stamp.new.self c.scan_standing.new.self b (c.in_ok-seen.ensures.learns steps roots) (h steps roots b) (k steps roots b tells)) c.in_ok-seen.ensures.told
     (subst (λ (o : Option Disk). IfSome o (λ (d : Disk). (steps : List Step) (roots : List (List ℕ)) (b : Build) → ScansTell b d.now c.args.log.now.lines → StaysTrueOf steps roots d.now c.stamp.new.self c.scan_standing.new.self b)) same c.scan_standing.ensures.told)

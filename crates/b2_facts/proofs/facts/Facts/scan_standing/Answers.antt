@@ -37,4 +37,6 @@ pub returns-in_ok-keep_line-in-Some-clause-learns : goal.returns-in_ok-keep_line
 returns-in_ok-keep_line-in-Some-clause-learns g c = line_learns c.args.self.now c.keep_line.new.self c.args.number c.requires.number c.args.log.now.lines c.in-Some.line.now c.args.stamp c.requires.unread c.path.result.now c.path.ensures (sym c.in-Some.ensures) c.in_ok-keep_line-in-Some.ensures.ok
 
 pub returns-in_ok-keep_line-in-Some-clause-told : goal.returns-in_ok-keep_line-in-Some-clause-told
-returns-in_ok-keep_line-in-Some-clause-told g c = told_all (g.F.Files.outside c.args.files.now).disk (λ (d : Disk). (steps : List Step) (roots : List (List ℕ)) (b : Build) → ScansTell b d.now c.args.log.now.lines → StaysTrueOf steps roots d.now c.args.self.now c.keep_line.new.self b) (λ d steps roots b tells. line_true c.args.self.now c.keep_line.new.self c.args.number c.requires.number c.args.log.now.lines c.in-Some.line.now c.args.stamp c.requires.unread c.path.result.now c.path.ensures (sym c.in-Some.ensures) c.in_ok-keep_line-in-Some.ensures.ok d.now steps roots b tells)
+returns-in_ok-keep_line-in-Some-clause-told g c = told_all (g.F.Files.outside c.args.files.now).disk (λ (d : Disk). (steps : List Step) (roots : List (List ℕ)) (b : Build) → ScansTell b d.now
+    c.args.log.now.lines → StaysTrueOf steps roots d.now c.args.self.now c.keep_line.new.self b) (λ d steps roots b tells. line_true c.args.self.now c.keep_line.new.self c.args.number c.requires.number c.args.log.now.lines
+    c.in-Some.line.now c.args.stamp c.requires.unread c.path.result.now c.path.ensures (sym c.in-Some.ensures) c.in_ok-keep_line-in-Some.ensures.ok d.now steps roots b tells)
