@@ -88,6 +88,17 @@ impl Facts {
         Facts::empty(alloc)
     }
 
+    /// The path of a number, or None where it is none. Takes no memory.
+    pub fn find_path(&self, number: u32) -> Option<&Path>
+        ensures { option_map (λ path. path.now) result ≡ path_at self.now number }
+    {
+        if (number as usize) < self.paths.len() {
+            Some(self.paths.at(number))
+        } else {
+            None
+        }
+    }
+
     /// The path of a number.
     pub fn path(&self, number: u32) -> &Path
         requires { IsNumber self.now number }

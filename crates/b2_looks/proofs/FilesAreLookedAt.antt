@@ -52,7 +52,7 @@ told_err T S x y stops.OutOfMemory told = told
 told_err T S x y (stops.TooBig number size) told = told
 
 -- an append fails only where a call may
-append_may_fail : (piece : List ℕ) (y z : Outside) → Appends {T = Unit {0}} log_path piece y z (Err io.Failed) → y.risks.may_fail ≡ true
+pub append_may_fail : (piece : List ℕ) (y z : Outside) → Appends {T = Unit {0}} log_path piece y z (Err io.Failed) → y.risks.may_fail ≡ true
 append_may_fail piece y z (inl failed) = failed.may_fail
 append_may_fail piece y z (inr (count, torn, puts, failed)) = ap (λ (o : Outside). o.risks.may_fail) (sym puts.same) ∙ failed.may_fail
 

@@ -1,6 +1,6 @@
 -- How a judgement ends, by what is told of an update that is under way.
-use Rattle.std.proofs.Common.{◌≡◌, ◌≢◌, inl, inr, ℕ, Bool, true, false, not, List, ◌++◌, is_some, Option, Some, None, Result, Ok, Err, refl, sym, subst, ◌∙◌, append_assoc, arith}
-use Rattle.std.specs.Prelude.{⊤, MatchResult}
+use Rattle.std.proofs.Common.{◌≡◌, inl, inr, ℕ, Bool, true, false, not, List, ◌++◌, is_some, Option, Some, None, Result, Ok, Err, refl, sym, subst, ◌∙◌, append_assoc, arith}
+use Rattle.std.specs.Prelude.{MatchResult}
 use Rattle.std.specs.Option.{IfSome, option_copied}
 use Rattle.std.specs.Borrow.{Bor}
 use Rattle.std.specs.List.{Contains}
@@ -74,7 +74,7 @@ under_from u events first reads more before after s t log w go same way sight li
     }
 
 -- the files of a step have numbers
-step_numbered : (steps : List Step) (roots : List (List ℕ)) (f : Knowledge) (step : Step) (members : List (List ℕ × Value)) (numbers : StepNumbers) → IsAbout steps roots f → AreNumbersOf step members f numbers → (n : ℕ) → IsOfStep numbers n → IsNumber f n
+pub step_numbered : (steps : List Step) (roots : List (List ℕ)) (f : Knowledge) (step : Step) (members : List (List ℕ × Value)) (numbers : StepNumbers) → IsAbout steps roots f → AreNumbersOf step members f numbers → (n : ℕ) → IsOfStep numbers n → IsNumber f n
 step_numbered steps roots f step members numbers about named n of = elim of [
   | inl out ↦ (let (path, at, among) = zip_at f numbers.outs step.outs named.outs n out in path_number steps roots f n path about at)
   | inr ins ↦ (let (path, at, among) = zip_at f numbers.ins (paths_with_bytes members) named.ins n ins in path_number steps roots f n path about at)

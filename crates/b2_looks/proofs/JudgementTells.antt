@@ -98,11 +98,11 @@ module _ (u : Update) (events : List ChildEvent) (first : List LogLine) (step : 
   ]
 
   -- a read of one of them is called for where judging is by digests, and has its line where it is a scan
-  called : (past : List Past) (read : Read) → u.by_digest ≡ true → Contains step.outs read.path ⊎ ((bytes : List ℕ) × Contains members (read.path, Some bytes)) → IsCalledFor u events past read
+  pub called : (past : List Past) (read : Read) → u.by_digest ≡ true → Contains step.outs read.path ⊎ ((bytes : List ℕ) × Contains members (read.path, Some bytes)) → IsCalledFor u events past read
   called past read on (inl out) = called_to_digest on (inr (record { number = number; needed = needed; step = step; makes = record { at = at; among = out } }))
   called past read on (inr (bytes, among)) = called_to_digest on (inl (record { number = number; needed = needed; step = step; at = at; known = (closure.each read.path (Some bytes) among).0 }))
 
-  scan_line : (disk : Disk) (log : List LogLine) (read : Read) (stamp : ℕ) → HaveScanLines u events members disk.now log → IsReadNow disk.now read → IsScanRead u disk.past read stamp → u.by_digest ≡ true
+  pub scan_line : (disk : Disk) (log : List LogLine) (read : Read) (stamp : ℕ) → HaveScanLines u events members disk.now log → IsReadNow disk.now read → IsScanRead u disk.past read stamp → u.by_digest ≡ true
       → Contains step.outs read.path ⊎ ((bytes : List ℕ) × Contains members (read.path, Some bytes)) → StandsWithLine u events disk.now log read.path stamp
   scan_line disk log read stamp have now scan on (inl out) = absurd (scan.unmade on number step (record { at = at; among = out }))
   scan_line disk log read stamp have now scan on (inr (bytes, among)) = (

@@ -50,7 +50,7 @@ hand_not_loose steps events l g follows n k file is at made loose =
     go x e (hand_made number owed settled) = loose.1 (follows.settled k (subst (IsSettled l.board.sched) (some_is number k (sym owed.made ∙ e)) settled) loose.0)
 
 -- a settled path is no output of a loose step
-settled_not_loose : (u : Update) (events : List ChildEvent) → Apart u.build.steps u.build.roots → (i : ℕ) → IsLoose events i → (step : Step) (path : List ℕ) → Makes u.build.steps i step path → Settled u events path → ⊥
+pub settled_not_loose : (u : Update) (events : List ChildEvent) → Apart u.build.steps u.build.roots → (i : ℕ) → IsLoose events i → (step : Step) (path : List ℕ) → Makes u.build.steps i step path → Settled u events path → ⊥
 settled_not_loose u events apart i loose step path makes (settled_source p bytes s) = source_not_made u.build apart p bytes s i step makes
 settled_not_loose u events apart i loose step path makes (settled_done k s p makes_k done) = loose.1 (subst (λ j. Contains events (Done j true)) (apart.one_maker k i s step p makes_k makes) done)
 settled_not_loose u events apart i loose step path makes (settled_fresh k s p members makes_k not_started closure inside f) = not_started (subst (λ j. Contains events (Start j)) (apart.one_maker i k step s p makes makes_k) loose.0)

@@ -1,5 +1,5 @@
 -- How it ends that a fresh step is given its record, by what is told of an update that is under way.
-use Rattle.std.proofs.Common.{◌≡◌, ◌≢◌, ℕ, Bool, true, false, List, [], ◌∷◌, ◌++◌, Option, Some, None, Result, Ok, Err, refl, sym, subst, ◌∙◌, append-nil}
+use Rattle.std.proofs.Common.{◌≡◌, ℕ, Bool, true, false, List, [], ◌∷◌, ◌++◌, Option, Some, None, Result, Ok, Err, refl, sym, subst, ◌∙◌, append-nil}
 use Rattle.std.specs.Option.{IfSome}
 use Rattle.std.specs.List.{AllByRecursion}
 use Rattle.std.proofs.lemmas.Bool.{true≢false}
@@ -87,7 +87,7 @@ migrate_gone step numbers x y s t v asks gone same digests = both_same (Migrates
 pub note_reads_none : (piece : List ℕ) (y z : Outside) (r : Result (Unit {0}) IoFault) → Appends log_path piece y z r → z.reads ≡ y.reads
 note_reads_none piece y z r appended = reads_writes log_path (with_piece log_path) piece y z r appended
 
-both_noted : (N R : Disk → Disk → Type 0) (x y z : Option Disk) → y ≡ x → BothTold (ChangesOnlyAt log_path) y z → BothTold N y z → IfSome z IsConsistent → ((d e : Disk) → x ≡ Some d → ChangesOnlyAt log_path d e → N d e → IsConsistent e → R d e) → BothTold R x z
+pub both_noted : (N R : Disk → Disk → Type 0) (x y z : Option Disk) → y ≡ x → BothTold (ChangesOnlyAt log_path) y z → BothTold N y z → IfSome z IsConsistent → ((d e : Disk) → x ≡ Some d → ChangesOnlyAt log_path d e → N d e → IsConsistent e → R d e) → BothTold R x z
 both_noted N R x y z same only notes consistent f = go x z (subst (λ o. BothTold (ChangesOnlyAt log_path) o z) same only) (subst (λ o. BothTold N o z) same notes) consistent f
   where
     go : (x z : Option Disk) → BothTold (ChangesOnlyAt log_path) x z → BothTold N x z → IfSome z IsConsistent → ((d e : Disk) → x ≡ Some d → ChangesOnlyAt log_path d e → N d e → IsConsistent e → R d e) → BothTold R x z

@@ -90,7 +90,7 @@ logged_exist b now f (n ∷ ns) (path ∷ paths) holds z asked stand =
     let (logged, rest) = logged_exist b now f ns paths holds z.1 (λ k low. asked (suc k) (omega (arith, low))) (λ p among. stand p (Contains_there path p paths among)) in
     ((path, file.stamp) ∷ logged, logged_more f n ns path file.stamp logged z.0 seen rest)
 
-file_of_bytes : (o : Option File) (bytes : List ℕ) → option_map (λ (x : File). x.bytes) o ≡ Some bytes → (file : File) × (o ≡ Some file)
+pub file_of_bytes : (o : Option File) (bytes : List ℕ) → option_map (λ (x : File). x.bytes) o ≡ Some bytes → (file : File) × (o ≡ Some file)
 file_of_bytes None bytes e = absurd (none_some bytes e)
 file_of_bytes (Some file) bytes e = (file, refl)
 

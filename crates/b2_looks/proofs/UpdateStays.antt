@@ -8,7 +8,6 @@ use Rattle.b2_host.specs.Outside.{Read}
 use Rattle.b2_host.specs.FileCalls.{log_path, stamp_at}
 use Rattle.b2_host.specs.LogChanges.{ChangesOnlyAt}
 use Rattle.b2_plan.specs.Plans.{Apart}
-use Rattle.b2_log.specs.declared.line.Record.{Record}
 use Rattle.b2_log.specs.declared.line.ScanLine.{ScanLine}
 use Rattle.b2_log.specs.declared.line.LogLine.{LogLine}
 use Rattle.b2_log.specs.declared.line.LogLine.TheVariants as lines
@@ -64,7 +63,7 @@ is_going u events first reads disk s w = record {
 module _ (u : Update) (events : List ChildEvent) (first : List LogLine) where
   -- ---- the log's file
 
-  past_in : (before after : Disk) → ChangesOnlyAt log_path before after → (old : Past) → Contains before.past old → Contains after.past old
+  pub past_in : (before after : Disk) → ChangesOnlyAt log_path before after → (old : Past) → Contains before.past old → Contains after.past old
   past_in before after only old among = subst (λ l. Contains l old) (sym only.past) (Contains-append_left before.past only.more old among)
 
   pub log_allowed : (before after : Disk) → ChangesOnlyAt log_path before after → IsConsistent after → IsAllowedChange u events before after
@@ -108,7 +107,7 @@ module _ (u : Update) (events : List ChildEvent) (first : List LogLine) where
 
   -- ---- lines
 
-  records_grow : (past more : List Past) (log : List LogLine) → ((old : Past) → Contains past old → Contains more old) → RecordsTrue (making u) past log → RecordsTrue (making u) more log
+  pub records_grow : (past more : List Past) (log : List LogLine) → ((old : Past) → Contains past old → Contains more old) → RecordsTrue (making u) past log → RecordsTrue (making u) more log
   records_grow past more log grows is r among = line_grows (making u) past more (lines.Record r) grows (is r among)
 
   -- reads have their lines as a line is noted

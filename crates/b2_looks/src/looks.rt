@@ -166,6 +166,7 @@ impl Looks {
         ensures follows { IfOk result (Follows []) }
         ensures way { IfOk result (λ made. made.way ≡ way) }
         ensures jobs { IfOk result (λ made. made.board.sched.jobs ≡ jobs) }
+        ensures unjudged { IfOk result (λ made. (i : ℕ) → IsStep made.board.sched i → IsUnjudged made.board.sched i) }
     {
         let size = plan.steps.as_slice().len() + 1;
         let ready = none_ready(alloc, size)?;

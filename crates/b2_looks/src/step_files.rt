@@ -5,8 +5,6 @@ ghost use Rattle.std.specs.List.Sorted.{IsPermutation, IsSortedBy};
 ghost use Rattle.b2_host.specs.Disks.{Folder};
 ghost use Rattle.b2_paths.specs.PathTables.{AreDistinct};
 ghost use Rattle.b2_plan.specs.declared.step.Step.{Step};
-ghost use Rattle.b2_plan.specs.Plans.{step_at};
-ghost use Rattle.b2_sched.specs.NumberSets.{Has};
 ghost use Rattle.b2_facts.specs.declared.file_facts.FileFacts.{FileFacts};
 ghost use Rattle.b2_facts.specs.Facts.{IsAbout, IsNumber, path_at, file_at};
 ghost use Rattle.b2_facts.specs.Growth.{Learns, OfNone};

@@ -5,8 +5,11 @@ use Rattle.b2_facts.specs.declared.stop.Stop.{Stop}
 use Rattle.b2_facts.specs.declared.stop.Stop.TheVariants as stops
 use Rattle.b2_verdicts.specs.Calls.{IfTooBig}
 
+pub too_big_if : (T P : Type 0) (stop : Stop) (r : Result T Stop) → IfTooBig P stop → r ≡ Err stop → IfErr r (IfTooBig P)
+too_big_if T P stop r so e = subst (λ (q : Result T Stop). IfErr q (IfTooBig P)) (sym e) so
+
 pub not_too_big : (T P : Type 0) (r : Result T Stop) → r ≡ Err stops.Host → IfErr r (IfTooBig P)
-not_too_big T P r e = subst (λ (q : Result T Stop). IfErr q (IfTooBig P)) (sym e) tt
+not_too_big T P r e = too_big_if T P stops.Host r tt e
 
 pub too_big_for : (T P : Type 0) (r : Result T Stop) → P → IfErr r (IfTooBig P)
 too_big_for T P (Ok x) p = tt

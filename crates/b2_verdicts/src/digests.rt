@@ -1,12 +1,11 @@
 //! Whether files have the digests that a record has of them.
-ghost use Rattle.std.specs.Prelude.{◌≡◌, ◌≢◌, ◌↔◌, ◌⊎◌, ℕ, List, length, true, false, Option, Some, None, IfOk, IfErr, OnErr, OnOk, IsTrue};
-ghost use Rattle.std.specs.Option.{IfSome, option_copied};
+ghost use Rattle.std.specs.Prelude.{◌≡◌, ◌↔◌, ◌⊎◌, length, true, false, Option, Some, None, IfOk, OnOk, IsTrue};
 ghost use Rattle.std.specs.List.{Contains, AllByRecursion};
 ghost use Rattle.b2_host.specs.Disks.{Disk};
 ghost use Rattle.b2_plan.specs.declared.step.Step.{Step};
 ghost use Rattle.b2_log.specs.declared.line.LogLine.TheVariants as lines;
 ghost use Rattle.b2_log.specs.Good.{IsDigest, IsProper, AreRecordDigests};
-ghost use Rattle.b2_facts.specs.Facts.{IsNumber, path_at};
+ghost use Rattle.b2_facts.specs.Facts.{IsNumber};
 ghost use Rattle.b2_facts.specs.Growth.{OfOne};
 ghost use Rattle.b2_verdicts.specs.Sights.{stamp_of, digest_at, AreNumbers};
 ghost use Rattle.b2_verdicts.specs.Points.{HavePaths, HaveDigests, IsOtherDigest, IsSaved, IsNotSaved};

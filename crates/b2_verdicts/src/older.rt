@@ -2,7 +2,7 @@
 ghost use Rattle.std.specs.Prelude.{◌≡◌, ℕ, ◌≤◌, true, false, Some, MatchOption};
 ghost use Rattle.b2_facts.specs.Facts.{IsNumber};
 ghost use Rattle.b2_verdicts.specs.Sights.{stamp_of, AreNumbers};
-ghost use Rattle.b2_verdicts.specs.Stamps.{IsNewer, IsNoNewer, NoneNewer, IsFirstNewer, IsNotOlder, NoneOlder, IsFirstOlder};
+ghost use Rattle.b2_verdicts.specs.Stamps.{IsNewer, IsNoNewer, NoneNewer, IsFirstNewer, IsNotOlder, NoneOlder};
 ghost use Rattle.b2_verdicts.specs.Older.{IsNewerThanOutput, IsOlderAt};
 
 use crate::stamps::stamp_of;

@@ -1,5 +1,5 @@
 //! Records of steps.
-ghost use Rattle.std.specs.Prelude.{◌≡◌, ◌⊎◌, ◌↔◌, ◌<◌, Bool, true, false, List as Items, ℕ, length, Some, None, MatchOption, IfNone, IfOk, IfErr, OnOk, IsTrue};
+ghost use Rattle.std.specs.Prelude.{◌≡◌, ◌⊎◌, ◌<◌, Bool, true, false, List as Items, ℕ, length, Some, None, MatchOption, IfNone, IfOk, IfErr, IsTrue};
 ghost use Rattle.std.specs.Option.{IfSome, option_copied};
 ghost use Rattle.std.specs.List.{Contains};
 ghost use Rattle.b2_plan.specs.declared.step.Step.{Step};
@@ -14,7 +14,7 @@ ghost use Rattle.b2_facts.specs.Facts.{IsAbout};
 ghost use Rattle.b2_verdicts.specs.Sights.{AreNumbers};
 ghost use Rattle.b2_verdicts.specs.Stamps.{AreLogged};
 ghost use Rattle.b2_verdicts.specs.Points.{HaveDigests};
-ghost use Rattle.b2_verdicts.specs.Calls.{IsOfStep, Always, Asks};
+ghost use Rattle.b2_verdicts.specs.Calls.{IsOfStep, Always, Asks, IfTooBig};
 ghost use Rattle.b2_verdicts.specs.Made.{HasDigestsBy, IsMadeOf, AreRising};
 ghost use Rattle.b2_verdicts.specs.Made.{IsSomeUnseen, IsSomeGone, IsWithoutFile};
 
@@ -147,6 +147,7 @@ pub fn record_of<F: Files>(
     ensures asks { Asks (IsOfStep numbers.now) Always facts.old facts.new
         (F.outside files.old) (F.outside files.new) result }
     ensures unread { by_digest ≡ false → (F.outside files.new).reads ≡ (F.outside files.old).reads }
+    ensures only { IfErr result (IfTooBig (by_digest ≡ true)) }
     ensures exact { IfOk result (λ made. IfSome made (IsMadeOf by_digest step.now numbers.now facts.new)) }
     ensures gone { IfOk result (λ made. IfNone made (IsWithoutFile (F.outside files.old).disk numbers.now facts.new)) }
     ensures proper { IfOk result (λ made. IfSome made (λ r. (steps : Items Step) (roots : Items (Items ℕ))

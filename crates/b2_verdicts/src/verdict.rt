@@ -1,5 +1,5 @@
 //! Verdicts on steps.
-ghost use Rattle.std.specs.Prelude.{◌≡◌, ◌⊎◌, Bool, true, false, Some, None, IfOk, IfErr, OnOk, OnErr, MatchOption};
+ghost use Rattle.std.specs.Prelude.{◌≡◌, Bool, true, false, Some, None, IfOk, IfErr, OnOk, MatchOption};
 ghost use Rattle.std.specs.Option.{IfSome, option_copied};
 ghost use Rattle.std.specs.List.{Contains};
 ghost use Rattle.b2_host.specs.Outside.{Looks};

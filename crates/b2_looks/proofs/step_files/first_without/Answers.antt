@@ -1,4 +1,4 @@
-use Rattle.std.proofs.Common.{get_or, true, false, not, sym, ◌∙◌}
+use Rattle.std.proofs.Common.{get_or, sym, ◌∙◌}
 use Rattle.std.proofs.lemmas.Bool.{false≢true}
 use Rattle.std.proofs.lemmas.List.Elements.{Contains-get_or}
 use Rattle.b2_looks.specs.Numbers.{HasNoBytes}

@@ -1,4 +1,4 @@
-use Rattle.std.proofs.Common.{Bool, true, Option, Some, None, Ok, Err, sym, ap, subst, ◌∙◌, ◌⊎◌, IfNone}
+use Rattle.std.proofs.Common.{◌≡◌, Bool, true, Option, Some, None, Ok, Err, sym, ap, subst, ◌∙◌, ◌⊎◌, IfNone}
 use Rattle.std.specs.List.{Contains}
 use Rattle.std.specs.Option.{IfSome}
 use Rattle.std.proofs.lemmas.Bool.{true≢false}
@@ -7,6 +7,7 @@ use Rattle.b2_host.specs.Outside.{Outside}
 use Rattle.b2_host.specs.ReadsAdded.{reads_fails}
 use Rattle.b2_log.specs.declared.line.Record.{Record}
 use Rattle.b2_log.specs.declared.line.Digests.{Digests}
+use Rattle.b2_facts.specs.declared.stop.Stop.TheVariants as stops
 use Rattle.b2_facts.proofs.FactsGrow.{told_map}
 use Rattle.b2_verdicts.specs.Sights.{AreNumbers, AllAsked}
 use Rattle.b2_verdicts.specs.Calls.{IsOfStep, Always}
@@ -17,6 +18,7 @@ use Rattle.b2_verdicts.proofs.AskingGoesOn.{asks_ok, asks_quiet, asks_behind, as
 use Rattle.b2_verdicts.proofs.RecordsAreProper.{proper_made}
 use Rattle.b2_verdicts.specs.Made.{IsSomeUnseen, IsSomeGone, IsWithoutFile}
 use Rattle.b2_verdicts.proofs.MissingFiles.{none_map, without_unseen, without_digest}
+use Rattle.b2_verdicts.proofs.OnlyDigestsAreTooBig.{too_big_if, not_too_big, too_big_for}
 use Rattle.b2_verdicts.proofs.record.record_of.Goals as goal
 
 pub ask_all-requires : goal.ask_all-requires
@@ -190,3 +192,24 @@ returns-in_ok-record_with-in-Some-clause-gone g c = none_map c.in_ok-record_with
     (subst (AllAsked c.ask_all.new.facts) c.as_slice.ensures c.in_ok-ask_all.ensures.asked)))
     (all_asked_more c.ask_all-2.new.facts c.digests_of.new.facts c.args.numbers.now.ins (knows_grows (IsOfStep c.args.numbers.now) (g.F.Files.outside c.ask_all-2.new.files).disk Always c.ask_all-2.new.facts c.digests_of.new.facts c.digests_of.ensures.asks.learns) (subst (AllAsked c.ask_all-2.new.facts) c.as_slice-2.ensures c.in_ok-ask_all-2.ensures.asked)))
     c.in_ok-record_with-in-Some.ensures.gone
+
+pub returns-in_err-ask_all-clause-only : goal.returns-in_err-ask_all-clause-only
+returns-in_err-ask_all-clause-only g c =
+    let q = err_from_is_err_and c.from_residual.result c.from_residual.ensures.1 in
+    not_too_big (Option Record) (c.args.by_digest ≡ true) c.from_residual.result (q.1 ∙ ap Err q.2)
+
+pub returns-in_err-ask_all-2-clause-only : goal.returns-in_err-ask_all-2-clause-only
+returns-in_err-ask_all-2-clause-only g c =
+    let q = err_from_is_err_and c.from_residual-in_err-ask_all-2.result c.from_residual-in_err-ask_all-2.ensures.1 in
+    not_too_big (Option Record) (c.args.by_digest ≡ true) c.from_residual-in_err-ask_all-2.result (q.1 ∙ ap Err q.2)
+
+pub returns-in_err-record_with-clause-only : goal.returns-in_err-record_with-clause-only
+returns-in_err-record_with-clause-only g c =
+    let q = err_from_is_err_and c.from_residual-in_err-record_with.result c.from_residual-in_err-record_with.ensures.1 in
+    too_big_if (Option Record) (c.args.by_digest ≡ true) stops.OutOfMemory c.from_residual-in_err-record_with.result tt (q.1 ∙ ap Err q.2)
+
+pub returns-in_err-digests_of-clause-only : goal.returns-in_err-digests_of-clause-only
+returns-in_err-digests_of-clause-only g c = too_big_for (Option Record) (c.args.by_digest ≡ true) c.from_residual-in_err-digests_of.result c.if-not-by_digest.false
+
+pub returns-in_err-record_with-in-Some-clause-only : goal.returns-in_err-record_with-in-Some-clause-only
+returns-in_err-record_with-in-Some-clause-only g c = too_big_for (Option Record) (c.args.by_digest ≡ true) c.from_residual-in_err-record_with-in-Some.result c.if-not-by_digest.false
