@@ -1,5 +1,5 @@
 -- What waits do to a host adds up, whatever runs.
-use Rattle.std.proofs.Common.{◌≡◌, ◌≢◌, ℕ, zero, suc, ◌+◌, ◌<◌, ◌≤◌, List, [], ◌∷◌, ◌++◌, inl, inr, ◌⊎◌, Bool, Result, Ok, Err, refl, sym, ap, subst, arith, ◌∙◌, length, append_assoc, append-nil}
+use Rattle.std.proofs.Common.{◌≡◌, ◌≢◌, ℕ, zero, suc, ◌+◌, ◌<◌, ◌≤◌, List, [], ◌∷◌, ◌++◌, inl, inr, ◌⊎◌, Bool, true, false, ◌&&◌, Result, Ok, Err, is_ok, refl, sym, ap, subst, arith, ◌∙◌, length, append_assoc, append-nil}
 use Rattle.std.specs.List.{Contains}
 use Rattle.std.proofs.lemmas.List.{nil_from_length}
 use Rattle.std.proofs.lemmas.List.Edits.{length-remove}
@@ -11,14 +11,14 @@ use Rattle.b2_host.specs.declared.fault.Failed.{Failed}
 use Rattle.b2_host.specs.ChildProcesses.{Child}
 use Rattle.b2_host.specs.ChildCalls.{Waits}
 use Rattle.b2_host.specs.Outside.{Outside, Risks}
-use Rattle.b2_host.specs.OutsideLaws.{keeps_same, keeps_then, keeps_waits, then_rose}
+use Rattle.b2_host.specs.OutsideLaws.{Keeps, keeps_same, keeps_then, keeps_waits, then_rose}
 use Rattle.b2_host.specs.ReadsAdded.{reads_waits}
 use Rattle.b2_runs.specs.PlanChildren.{AreOfOpenSteps}
-use Rattle.b2_runs.specs.UpdateAnswers.{IsQuietHost, LeavesNone}
+use Rattle.b2_runs.specs.UpdateAnswers.{WaitFailed, IsQuietHost, LeavesNone}
 use Rattle.b2_runs.proofs.BegunUpToStart.{more_ends}
 use Rattle.b2_runs.proofs.OpenStepsHaveChildren.{ends_open_step, open_steps_after_end, open_steps_after_failed_wait}
 use Rattle.b2_runs.proofs.OthersAreLeft.{removed_among}
-use Rattle.b2_drain.specs.Drains.{Made, WaitedForAllBut, WaitedOut, EndsCame, Drains}
+use Rattle.b2_drain.specs.Drains.{Made, AllWaited, WaitedForAllBut, WaitedOut, EndsCame, Drains}
 
 -- one number is below another one, or is not
 below_or_not : (a b : ℕ) → (a < b) ⊎ (b ≤ a)
@@ -70,26 +70,43 @@ one_more_ended : (top rest first before left now : ℕ) → now + 1 ≡ left →
 one_more_ended top rest first before left now less (inl most) = inl (omega (arith, less, most))
 one_more_ended top rest first before left now less (inr high) = inr high
 
--- one wait more, and one child less to wait for
-waited_out : (made : Made) (rest : ℕ) (x y z : Outside) (r : Result (ℕ × Bool) Failed) → Drains (suc rest) x y → Waits made y z r → WaitedOut rest x z
-waited_out made rest x y z (Ok done) d w =
+-- all waits so far were answered, and so is one more
+all_answered : (made : Made) (rest : ℕ) (x y z : Outside) (done : ℕ × Bool) → AllWaited (suc rest) x y → Waits made y z (Ok done) → AllWaited rest x z
+all_answered made rest x y z done all w =
     let faults : z.faults ≡ y.faults = ap (λ (o : Outside). o.faults) w.same in
     let waits : z.failed_waits ≡ y.failed_waits = ap (λ (o : Outside). o.failed_waits) w.same in
     let less = one_less made y z done.0 done.1 w in
+    record { faults = faults ∙ all.faults; waits = waits ∙ all.waits; left = (let l = all.left in omega (arith, less, l)) }
+
+-- a wait failed before, and one more was answered
+failed_before : (made : Made) (x y z : Outside) (done : ℕ × Bool) → WaitFailed x y → Waits made y z (Ok done) → WaitFailed x z
+failed_before made x y z done failed w =
+    let faults : z.faults ≡ y.faults = ap (λ (o : Outside). o.faults) w.same in
+    let waits : z.failed_waits ≡ y.failed_waits = ap (λ (o : Outside). o.failed_waits) w.same in
+    record { may = failed.may; faults = subst (Rose x.faults) (sym faults) failed.faults; waits = subst (Rose x.failed_waits) (sym waits) failed.waits }
+
+-- one more wait failed
+fails_now : (made : Made) (x y z : Outside) (e : Failed) → Keeps x y → Waits made y z (Err e) → WaitFailed x z
+fails_now made x y z e keeps w = record {
+  may = sym (ap (λ (k : Risks). k.wait_may_fail) keeps.risks) ∙ w.wait_may_fail;
+  faults = then_rose x.faults y.faults z.faults keeps.faults w.rose;
+  waits = then_rose x.failed_waits y.failed_waits z.failed_waits keeps.waits w.waits;
+}
+
+-- one wait more, and one child less to wait for
+waited_out : (made : Made) (rest : ℕ) (x y z : Outside) (r : Result (ℕ × Bool) Failed) → Drains (suc rest) x y → Waits made y z r → WaitedOut rest x z
+waited_out made rest x y z (Ok done) d w =
+    let waits : z.failed_waits ≡ y.failed_waits = ap (λ (o : Outside). o.failed_waits) w.same in
     elim d.waited [
-      | inl all ↦ inl (record { faults = faults ∙ all.faults; waits = waits ∙ all.waits; left = (let l = all.left in omega (arith, less, l)) })
+      | inl all ↦ inl (all_answered made rest x y z done all w)
       | inr (failed, but) ↦ inr (
-        record { may = failed.may; faults = subst (Rose x.faults) (sym faults) failed.faults; waits = subst (Rose x.failed_waits) (sym waits) failed.waits },
+        failed_before made x y z done failed w,
         subst (λ n. (length z.children.running + x.failed_waits ≤ n + rest) ⊎ (greatest_count ≤ n)) (sym waits)
-            (one_more_ended greatest_count rest x.failed_waits y.failed_waits (length y.children.running) (length z.children.running) less but),
+            (one_more_ended greatest_count rest x.failed_waits y.failed_waits (length y.children.running) (length z.children.running) (one_less made y z done.0 done.1 w) but),
       )
     ]
 waited_out made rest x y z (Err e) d w = inr (
-  record {
-    may = sym (ap (λ (k : Risks). k.wait_may_fail) d.keeps.risks) ∙ w.wait_may_fail;
-    faults = then_rose x.faults y.faults z.faults d.keeps.faults w.rose;
-    waits = then_rose x.failed_waits y.failed_waits z.failed_waits d.keeps.waits w.waits;
-  },
+  fails_now made x y z e d.keeps w,
   subst (λ (o : Outside). (length o.children.running + x.failed_waits ≤ z.failed_waits + rest) ⊎ (greatest_count ≤ z.failed_waits)) (sym w.same)
       (one_more_left greatest_count rest x.failed_waits y.failed_waits z.failed_waits (length y.children.running) w.waits.kept w.waits.more (for_all_but (suc rest) x y d.waited)),
 )
@@ -165,3 +182,27 @@ none_left before after d = elim d.waited [
   | inl all ↦ inl (nil_from_length after.children.running all.left)
   | inr (failed, but) ↦ inr (failed, elim but [ inl most ↦ inl (omega (arith, most)) | inr high ↦ inr high ])
 ]
+
+-- what a flag tells of all waits so far: each was answered, or one failed
+abbrev pub IsAnswerOf : ℕ → Outside → Outside → Bool → Type 0
+IsAnswerOf rest before after true = AllWaited rest before after
+IsAnswerOf rest before after false = WaitFailed before after × (before.risks.may_fail ≡ true)
+
+pub no_answer : (before : Outside) (rest : ℕ) → length before.children.running ≡ rest → IsAnswerOf rest before before true
+no_answer before rest left = record { faults = refl; waits = refl; left = left }
+
+-- one wait more, and whether it was answered
+pub one_more_answer : (made : Made) (rest : ℕ) (x y z : Outside) (all : Bool) (r : Result (ℕ × Bool) Failed) → Drains (suc rest) x y → Waits made y z r → IsAnswerOf (suc rest) x y all → IsAnswerOf rest x z (all && is_ok r)
+one_more_answer made rest x y z true (Ok done) d w all = all_answered made rest x y z done all w
+one_more_answer made rest x y z false (Ok done) d w (failed, may) = (failed_before made x y z done failed w, may)
+one_more_answer made rest x y z true (Err e) d w all = (fails_now made x y z e d.keeps w, sym (ap (λ (r : Risks). r.may_fail) d.keeps.risks) ∙ w.may_fail)
+one_more_answer made rest x y z false (Err e) d w failed = (fails_now made x y z e d.keeps w, failed.1)
+
+-- what the flag tells at the end
+pub told_all : (rest : ℕ) (before after : Outside) (all : Bool) → IsAnswerOf rest before after all → all ≡ true → AllWaited rest before after
+told_all rest before after true is e = is
+told_all rest before after false is e = absurd (let h : false ≡ true = e in cc)
+
+pub told_failed : (rest : ℕ) (before after : Outside) (all : Bool) → IsAnswerOf rest before after all → all ≡ false → WaitFailed before after × (before.risks.may_fail ≡ true)
+told_failed rest before after true is e = absurd (let h : true ≡ false = e in cc)
+told_failed rest before after false is e = is
