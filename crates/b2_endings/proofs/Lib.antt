@@ -1,0 +1,8 @@
+pub mod NameComesBeforePath
+pub mod WrittenPartsAddUp
+pub mod SortedPairsAreInOrder
+pub mod FilesAreAskedFor
+pub mod MissingFilesAreListed
+pub mod LackingAreSkipped
+pub mod EndingIsTold
+pub mod EndingIsAnswered

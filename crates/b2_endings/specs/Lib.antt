@@ -1,0 +1,4 @@
+pub mod Writings
+pub mod Endings
+pub mod Missing
+pub mod Laws
