@@ -1,13 +1,13 @@
-//! Steps by their numbers.
-ghost use Rattle.std.specs.Prelude.{◌≡◌, ◌<◌, ◌≤◌, Some, length};
+//! The step with a number.
+ghost use Rattle.std.specs.Prelude.{◌≡◌, Some};
+ghost use Rattle.b2_plan.specs.declared.step.Step.{Step};
 ghost use Rattle.b2_plan.specs.Plans.{step_at};
 
 use b2_plan::step::Step;
 
 /// The step with a number, which counts from 1.
 pub fn step_of(steps: &[Step], number: u32) -> &Step
-    requires some { 0 < number }
-    requires within { number ≤ length steps.now }
+    requires { (step : Step) × (step_at steps.now number ≡ Some step) }
     ensures { step_at steps.now number ≡ Some result.now }
 {
     &steps[number as usize - 1]

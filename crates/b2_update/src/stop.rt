@@ -3,18 +3,16 @@ ghost use Rattle.std.specs.Prelude.{◌≡◌};
 ghost use Rattle.b2_update.specs.Stops.{host_stop_of, sink_stop_of};
 
 use b2_base::fault::OutOfMemory;
+use b2_facts::stop::Stop as FilesStop;
 use b2_host::fault::{Failed, IoFault};
-use std::alloc::{AllocError, AllocFailed};
 
 /// Why an update stopped.
 #[derive(Clone, Copy)]
 pub enum Stop {
-    /// The host failed.
-    Host,
+    /// Work on files or children stopped.
+    Files(FilesStop),
     /// The sink failed.
     Sink,
-    /// No memory was left.
-    OutOfMemory,
 }
 
 /// What a fault of the host stops an update with.
@@ -22,8 +20,8 @@ pub fn host_stop(fault: IoFault) -> Stop
     ensures { result ≡ host_stop_of fault }
 {
     match fault {
-        IoFault::Failed => Stop::Host,
-        IoFault::OutOfMemory => Stop::OutOfMemory,
+        IoFault::Failed => Stop::Files(FilesStop::Host),
+        IoFault::OutOfMemory => Stop::Files(FilesStop::OutOfMemory),
     }
 }
 
@@ -33,50 +31,29 @@ pub fn sink_stop(fault: IoFault) -> Stop
 {
     match fault {
         IoFault::Failed => Stop::Sink,
-        IoFault::OutOfMemory => Stop::OutOfMemory,
+        IoFault::OutOfMemory => Stop::Files(FilesStop::OutOfMemory),
     }
 }
 
-impl From<Failed> for Stop {
+impl From<FilesStop> for Stop {
     ghost use Rattle.b2_update.specs.declared.stop.Stop.TheVariants as stops;
     ghost use Rattle.std.specs.Prelude.{◌≡◌};
 
-    ghost from_gives = { λ _ stop. stop ≡ stops.Host };
+    ghost from_gives = { λ stop made. made ≡ stops.Files stop };
 
-    fn from(_error: Failed) -> Stop {
-        Stop::Host
+    fn from(stop: FilesStop) -> Stop {
+        Stop::Files(stop)
     }
 }
 
 impl From<OutOfMemory> for Stop {
     ghost use Rattle.b2_update.specs.declared.stop.Stop.TheVariants as stops;
+    ghost use Rattle.b2_facts.specs.declared.stop.Stop.TheVariants as files;
     ghost use Rattle.std.specs.Prelude.{◌≡◌};
 
-    ghost from_gives = { λ _ stop. stop ≡ stops.OutOfMemory };
+    ghost from_gives = { λ _ made. made ≡ stops.Files files.OutOfMemory };
 
     fn from(_error: OutOfMemory) -> Stop {
-        Stop::OutOfMemory
-    }
-}
-
-impl From<AllocError> for Stop {
-    ghost use Rattle.b2_update.specs.declared.stop.Stop.TheVariants as stops;
-    ghost use Rattle.std.specs.Prelude.{◌≡◌};
-
-    ghost from_gives = { λ _ stop. stop ≡ stops.OutOfMemory };
-
-    fn from(_error: AllocError) -> Stop {
-        Stop::OutOfMemory
-    }
-}
-
-impl<T: Drop> From<AllocFailed<T>> for Stop {
-    ghost use Rattle.b2_update.specs.declared.stop.Stop.TheVariants as stops;
-    ghost use Rattle.std.specs.Prelude.{◌≡◌};
-
-    ghost from_gives = { λ _ stop. stop ≡ stops.OutOfMemory };
-
-    fn from(_error: AllocFailed<T>) -> Stop {
-        Stop::OutOfMemory
+        Stop::Files(FilesStop::OutOfMemory)
     }
 }

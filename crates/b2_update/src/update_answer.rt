@@ -1,6 +1,7 @@
 //! The answers of an update.
-use crate::failed_lists::FailedLists;
-use crate::number_list::NumberList;
+use b2_base::path::Path;
+use b2_endings::failed_lists::FailedLists;
+use b2_endings::number_list::NumberList;
 
 /// How an update ended.
 #[derive(Drop)]
@@ -11,6 +12,8 @@ pub enum UpdateAnswer {
     Failed(FailedLists),
     /// Steps need one another: the cycle, by the numbers of its steps.
     StepCycle(NumberList),
+    /// A file that is to be scanned, or digested, has this many bytes, which is more than may be.
+    TooBig { path: Path, size: u64 },
     /// The host failed.
     HostFault,
     /// The sink failed.

@@ -1,7 +1,0 @@
-use Rattle.std.proofs.Common.{take}
-use Rattle.b2_update.specs.Needs.{TellsNeeds}
-use Rattle.b2_update.proofs.needs.tell_needs.Given as goal
-
--- the needs so far were told
-abbrev pub invariant-loop-need : goal.invariant-loop-need
-invariant-loop-need l = TellsNeeds l.step (take l.need-index l.on) l.fn.sched l.sched
