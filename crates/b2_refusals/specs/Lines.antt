@@ -5,13 +5,12 @@ use Rattle.b2_plan.specs.declared.step.Step.{Step}
 use Rattle.b2_props.specs.Sets.{Pair}
 use Rattle.b2_refusals.specs.declared.fault.Fault.{Fault}
 use Rattle.b2_refusals.specs.declared.fault.Fault.TheVariants as faults
-use Rattle.b2_refusals.specs.Pieces.{at_line, size_text, after_spaces}
+use Rattle.b2_refusals.specs.Pieces.{size_text, after_spaces}
 use Rattle.b2_refusals.specs.Texts.{load_text, request_text, gen_text}
 use Rattle.b2_runs.specs.Reports.{line, start_line, cycle_text}
 
 -- the text of a refusal, where these are the steps of the plan
 abbrev pub fault_text : List Step → Fault → List ℕ
-fault_text steps (faults.NotYet path number) = at_line path number (codes "not yet")
 fault_text steps (faults.Load fault) = load_text fault
 fault_text steps (faults.Request fault) = request_text fault
 fault_text steps (faults.Gen fault) = gen_text fault
@@ -24,9 +23,6 @@ own_line text = line (codes "b2: " ++ text)
 
 abbrev pub refusal_line : List Step → Fault → List ℕ
 refusal_line steps fault = own_line (fault_text steps fault)
-
-abbrev pub host_fault_line : List ℕ
-host_fault_line = own_line (codes "host fault")
 
 abbrev pub usage_line : List ℕ
 usage_line = own_line (codes "usage: b2 [-jN] [-a] [-q] [--by=digest] [-n or --show] [word ..], or b2 --drill=N")

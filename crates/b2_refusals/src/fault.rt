@@ -1,7 +1,6 @@
 //! Why the program refuses what it is asked for.
 use b2_base::list::List;
 use b2_base::path::Path;
-use b2_base::text::Text;
 use b2_generate::fault::GenFault;
 use b2_props::request_fault::RequestFault;
 use b2_walk::fault::LoadFault;
@@ -10,8 +9,6 @@ use jam_effects::fault::EvalFault;
 /// Why the program refuses what it is asked for. No fault within one is of the host or out of memory.
 #[derive(Drop)]
 pub enum Fault {
-    /// An option, by its name, or a file of the plan, by its path, that a build does not carry out yet. The line is always 0.
-    NotYet { path: Text, line: u32 },
     /// The project is not loaded.
     Load(LoadFault),
     /// The words of the command are no request.
@@ -20,6 +17,6 @@ pub enum Fault {
     Gen(GenFault<EvalFault>),
     /// Each of these steps, by their numbers, needs an output of the next one, and the last one of the first.
     StepCycle { list: List<u32> },
-    /// The file has this many bytes, which are too many to scan it for includes. Only a build that scans answers so, and none scans yet.
+    /// The file, which is to be scanned for includes or digested, has this many bytes, which are more than may be.
     TooBig { path: Path, size: u64 },
 }

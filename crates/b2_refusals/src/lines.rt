@@ -8,7 +8,7 @@ use crate::fault::Fault;
 use crate::generations::{gen_text, request_text};
 use crate::lists::{cycle_text, push_properties};
 use crate::loads::load_text;
-use crate::pieces::{at_line, concat, size_text};
+use crate::pieces::{concat, size_text};
 use b2_base::fault::OutOfMemory;
 use b2_plan::step::Step;
 use b2_props::props::Props;
@@ -40,7 +40,6 @@ fn fault_text(alloc: Global, steps: &[Step], fault: &Fault) -> Result<String, Ou
     ensures { IfOk result (λ text. string_bytes text ≡ fault_text steps.now fault.now) }
 {
     match fault {
-        Fault::NotYet { path, line } => at_line(alloc, path.as_str(), *line, "not yet"),
         Fault::Load(fault) => load_text(alloc, fault),
         Fault::Request(fault) => request_text(alloc, fault),
         Fault::Gen(fault) => gen_text(alloc, fault),

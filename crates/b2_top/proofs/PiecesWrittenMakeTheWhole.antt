@@ -5,15 +5,17 @@ use Rattle.std.specs.Global.{Global}
 use Rattle.std.specs.Option.{option_map}
 use Rattle.std.specs.List.{flat_map}
 use Rattle.std.proofs.lemmas.List.{take_more, take-append-drop}
+use Rattle.std.proofs.lemmas.Bool.{true≢false}
 use Rattle.std.proofs.lemmas.Grind.{flat_map-append}
 use Rattle.b2_host.specs.declared.fault.IoFault.{IoFault}
 use Rattle.b2_host.specs.declared.fault.IoFault.TheVariants as faults
 use Rattle.b2_base.specs.Bytes.{IsFrontOf}
 use Rattle.b2_host.specs.Output.{Output, Prints, with_written}
-use Rattle.b2_update.proofs.FaultsCountFromEarlier.{same_count, sink_failed_from}
+use Rattle.b2_top.proofs.FaultsCountFromEarlier.{same_count, sink_failed_from}
 use Rattle.b2_top.specs.declared.answer.Answer.{Answer}
 use Rattle.b2_top.specs.declared.answer.Answer.TheVariants as answers
-use Rattle.b2_top.specs.Writing.{Writes, unwritten, Says, SaysFault}
+use Rattle.b2_host.specs.OutputLaws.{OutKeeps, out_keeps_prints}
+use Rattle.b2_top.specs.Writing.{FailsIn, Writes, unwritten, Says, SaysFault}
 use Rattle.b2_top.specs.Writing.Says.{said, failed, stopped}
 use Rattle.b2_top.specs.Writing.SaysFault.{fault_said, fault_failed, fault_stopped}
 
@@ -49,6 +51,7 @@ prints_writes bytes text x y r e p = subst (λ b. Writes b x y r) e (go r p)
       part = take p.count bytes;
       begins = (drop p.count bytes, sym (take-append-drop p.count bytes));
       sink = record { may = p.may_fail; faults = p.rose };
+      may_fail = ap (λ (o : Output). o.may_fail) p.same;
       written = ap (λ (o : Output). o.written) p.same;
     }
     go (Err faults.OutOfMemory) p = record { part = []; begins = (bytes, refl); same = p ∙ written_none x }
@@ -67,7 +70,7 @@ front_after part a b f = (f.0, ap (λ t. a ++ t) f.1 ∙ sym (append_assoc a par
 
 -- it stopped in the first bytes
 pub writes_stop : (a b : List ℕ) (x y : Output) (fault : IoFault) → Writes {T = Unit {0}} a x y (Err fault) → Writes {T = Unit {0}} (a ++ b) x y (Err fault)
-writes_stop a b x y faults.Failed w = record { part = w.part; begins = front_more w.part a b w.begins; sink = w.sink; written = w.written }
+writes_stop a b x y faults.Failed w = record { part = w.part; begins = front_more w.part a b w.begins; sink = w.sink; may_fail = w.may_fail; written = w.written }
 writes_stop a b x y faults.OutOfMemory w = record { part = w.part; begins = front_more w.part a b w.begins; same = w.same }
 
 same_faults : (a : List ℕ) (x y : Output) → y ≡ with_written a x → y.faults ≡ x.faults
@@ -80,6 +83,7 @@ writes_then a b x y z (Err faults.Failed) p w = record {
   part = a ++ w.part;
   begins = front_after w.part a b w.begins;
   sink = sink_failed_from x y z (same_count x.faults y.faults (same_faults a x y p)) (ap (λ (o : Output). o.may_fail) p) w.sink;
+  may_fail = w.may_fail ∙ ap (λ (o : Output). o.may_fail) p;
   written = w.written ∙ ap (λ (o : Output). option_map (λ so_far. so_far ++ w.part) o.written) p ∙ text_both a w.part x.written;
 }
 writes_then a b x y z (Err faults.OutOfMemory) p w = record { part = a ++ w.part; begins = front_after w.part a b w.begins; same = written_both a w.part x y z p w.same }
@@ -161,3 +165,15 @@ fault_not bytes x y r e w = fault_failed refl (subst (λ z. Writes bytes x y z) 
 
 pub fault_short : (bytes : List ℕ) (x y : Output) (r : Result (Unit {0}) IoFault) → r ≡ Err faults.OutOfMemory → Writes bytes x y r → SaysFault bytes x y answers.OutOfMemory
 fault_short bytes x y r e w = fault_stopped refl (subst (λ z. Writes bytes x y z) e w)
+
+-- ---- what every write keeps
+
+pub keeps_written : (bytes : List ℕ) (x y : Output) → y ≡ with_written bytes x → OutKeeps x y
+keeps_written bytes x y p = out_keeps_prints {T = Unit {0}} bytes x y (Ok tt) p
+
+pub keeps_failed : (bytes : List ℕ) (x y : Output) → FailsIn bytes x y → OutKeeps x y
+keeps_failed bytes x y f = record {
+  faults = f.sink.faults.kept;
+  no_fault = λ none. absurd (true≢false (sym f.sink.may ∙ none));
+  may_fail = f.may_fail;
+}

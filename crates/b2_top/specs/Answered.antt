@@ -1,32 +1,44 @@
 -- What a call of the build command promises, from the moment of its start to that of its answer.
-use Rattle.std.specs.Prelude.{◌≡◌, ℕ, List, ◌++◌, Some, None, ◌⊎◌, ⊤, false}
+use Rattle.std.specs.Prelude.{◌≡◌, ◌⊎◌, ℕ, ◌≤◌, Bool, true, false, List, [], ◌∷◌, ◌++◌, length, Some, None, ⊤}
 use Rattle.std.specs.List.{Contains}
 use Rattle.b2_top.specs.RefusalCauses.{IsPatternRefused}
 use Rattle.b2_top.specs.Endings.{IsOrCutShort, IsUsageOrCutShort, IfRefused}
-use Rattle.b2_top.specs.Told.{CountsStay, WrittenTold}
+use Rattle.b2_top.specs.Told.{CountsStay, StaysStill}
 use Rattle.b2_top.specs.declared.answer.Answer.{Answer}
 use Rattle.b2_top.specs.declared.answer.Answer.TheVariants as answers
-use Rattle.b2_host.specs.ChildProcesses.{Family, BothTold}
-use Rattle.b2_host.specs.Disks.{Disk}
+use Rattle.b2_top.specs.declared.build_command.BuildCommand.{BuildCommand}
+use Rattle.b2_host.specs.ChildProcesses.{BothTold}
+use Rattle.b2_host.specs.Disks.{Folder, Disk}
 use Rattle.b2_base.specs.Counts.{Rose}
 use Rattle.b2_host.specs.Outside.{Outside}
+use Rattle.b2_host.specs.OutputLaws.{OutKeeps}
 use Rattle.b2_host.specs.declared.children.ChildEvent.{ChildEvent}
-use Rattle.b2_host.specs.declared.children.ChildEvent.TheVariants.{Done}
+use Rattle.b2_host.specs.declared.children.ChildEvent.TheVariants.{Start, Done}
 use Rattle.b2_plan.specs.declared.step.Step.{Step}
+use Rattle.b2_plan.specs.Closures.{Value, IsClosure}
+use Rattle.b2_plan.specs.Cleans.{Clean}
+use Rattle.b2_plan.specs.Plans.{Makes, step_at}
+use Rattle.b2_log.specs.declared.line.LogLine.{LogLine}
 use Rattle.b2_refusals.specs.Wholes.{IsWhole}
 use Rattle.b2_refusals.specs.declared.fault.Fault.{Fault}
 use Rattle.b2_refusals.specs.declared.fault.Fault.TheVariants as faults
+use Rattle.b2_runs.specs.Afterwards.{next_update, IsMadeEachTime, IsFreshStep}
 use Rattle.b2_runs.specs.CompleteLaws.{CleanIsDefined}
+use Rattle.b2_runs.specs.LogCourses.{held_bytes, log_file}
+use Rattle.b2_runs.specs.LogFiles.{log_limit, IsLogIn, IsTrueOn}
 use Rattle.b2_runs.specs.Moments.{Moment}
-use Rattle.b2_runs.specs.UpdateAnswers.{SinkFailed, WaitFailed, HasHappened}
-use Rattle.b2_update.specs.Plain.{Made}
+use Rattle.b2_runs.specs.ReadLaws.{NoneLarge}
+use Rattle.b2_runs.specs.Runs.{Settled}
+use Rattle.b2_runs.specs.Staleness.{Update, IsRecorded}
+use Rattle.b2_runs.specs.UpdateAnswers.{SinkFailed, WaitFailed, LeavesOpen, HasHappened}
+use Rattle.b2_drain.specs.Drains.{Made}
 use Rattle.b2_words.specs.Words.{Word}
-use Rattle.b2_top.specs.Commands.{free_words}
-use Rattle.b2_top.specs.Unbuilt.{unbuilt_option}
-use Rattle.b2_top.specs.Plans.{HasPlan, update_at}
-use Rattle.b2_top.specs.Causes.{IsNotTooBig}
+use Rattle.b2_top.specs.Commands.{build_command}
+use Rattle.b2_top.specs.Plans.{HasPlan, update_for, MeetsPremises, TellsApart, making_by}
 use Rattle.b2_top.specs.Builds.{HappenedBy, LeavesClean, run_answer}
 use Rattle.b2_top.specs.Reported.{ReportedBy}
+
+-- ---- files and children
 
 -- each wanted file has the bytes of the clean build of the sources at entry
 abbrev pub CleanTold : Made → List Word → Outside → Outside → Type 0
@@ -34,42 +46,16 @@ CleanTold made words before after = BothTold (LeavesClean made words) before.dis
 
 -- what happened, by the answer
 abbrev pub HappenedTold : Made → List Word → Outside → Outside → Answer → Type 0
-HappenedTold made words before after result = BothTold (HappenedBy made words result before.children after.children) before.disk after.disk
+HappenedTold made words before after result =
+    BothTold (λ disk later. HappenedBy made words before after disk later result) before.disk after.disk
 
--- the count of the host's faults stays, or a wait for a child that ran failed
-abbrev pub StaysOrWaits : Outside → Outside → Type 0
-StaysOrWaits before after = (after.faults ≡ before.faults) ⊎ WaitFailed before after
-
--- How the counts of faults stand to an answer: Ok, Failed, Refused and Usage come only where they are as at entry, and a fault only where
--- its count rose. SinkFault comes only where a write may fail, and with it the host's count is as at entry, unless a wait for the child
--- that ran failed; with HostFault the sink's count may have risen too.
-abbrev pub CountsTold : Moment → Moment → Answer → Type 0
-CountsTold before after answers.Ok = CountsStay before after
-CountsTold before after (answers.Failed lists) = CountsStay before after
-CountsTold before after (answers.Refused fault) = CountsStay before after
-CountsTold before after answers.Usage = CountsStay before after
-CountsTold before after answers.HostFault = Rose before.host.faults after.host.faults
-CountsTold before after answers.OutOfMemory = after.out.faults ≡ before.out.faults
-CountsTold before after answers.SinkFault = SinkFailed before.out after.out × StaysOrWaits before.host after.host
-
--- The answers that may come where the option of this name is not carried out yet: it is refused, or the sink failed or memory ran out
--- at its line.
-abbrev pub IsNotYetOrCutShort : Word → Answer → Type 0
-IsNotYetOrCutShort name result = (result ≡ answers.Refused (faults.NotYet name 0)) ⊎ (result ≡ answers.SinkFault) ⊎ (result ≡ answers.OutOfMemory)
-
--- nothing was started, and no file has changed
-pub record StaysStill (before after : Outside) : Type 0 where
-  pub disk : after.disk ≡ before.disk
-  pub children : after.children ≡ before.children
-
--- every refusal but that of a step cycle comes before anything is started
+-- every refusal but that of a step cycle, or of a file that is too big for the update, comes before anything is started
 abbrev pub RefusedStill : Fault → Outside → Outside → Type 0
-RefusedStill (faults.NotYet path line) before after = StaysStill before after
 RefusedStill (faults.Load fault) before after = StaysStill before after
 RefusedStill (faults.Request fault) before after = StaysStill before after
 RefusedStill (faults.Gen fault) before after = StaysStill before after
 RefusedStill (faults.StepCycle list) before after = ⊤
-RefusedStill (faults.TooBig path size) before after = ⊥
+RefusedStill (faults.TooBig path size) before after = ⊤
 
 abbrev pub StartsNone : Answer → Outside → Outside → Type 0
 StartsNone answers.Ok before after = ⊤
@@ -80,43 +66,129 @@ StartsNone answers.HostFault before after = ⊤
 StartsNone answers.OutOfMemory before after = ⊤
 StartsNone answers.SinkFault before after = ⊤
 
--- What should end well: words and files that come to a plan whose clean build is defined, and no child that ends badly.
-pub record ShouldEndWell (made : Made) (words : List Word) (old new : Family) (disk : Disk) : Type 0 where
+-- over every host, what happened is in order, with the jobs that the words ask for, for some list of steps
+abbrev pub TurnsTold : List Word → Outside → Outside → Answer → Type 0
+TurnsTold words before after result = (command : BuildCommand) → build_command words ≡ Some command → (steps : List Step)
+    × HasHappened steps command.options.jobs before.disk before.children.events after.children.events (run_answer result)
+
+-- over every host, what runs afterwards are the children of steps that were left open, of some list of steps
+abbrev pub LeftOpenTold : Outside → Outside → Type 0
+LeftOpenTold before after = (steps : List Step) × LeavesOpen steps before.children after.children
+
+-- a true log stays true, where digests tell contents apart
+abbrev pub TrueLogTold : Made → List Word → Outside → Outside → Type 0
+TrueLogTold made words before after =
+    BothTold (λ disk later. TellsApart words later.past
+    → IsTrueOn (making_by made) disk → IsTrueOn (making_by made) later) before.disk after.disk
+
+-- ---- counts
+
+-- the count of the host's faults stays, or a wait for a child that ran failed
+abbrev pub StaysOrWaits : Outside → Outside → Type 0
+StaysOrWaits before after = (after.faults ≡ before.faults) ⊎ WaitFailed before after
+
+-- How the counts of faults stand to an answer. Ok, Failed, Refused and Usage come only where they are as at entry, and
+-- a fault only where its count rose. SinkFault comes only where a write may fail, and with it the host's count is as at
+-- entry, unless a wait for a child that ran failed. With HostFault the sink's count may have risen too.
+abbrev pub CountsTold : Moment → Moment → Answer → Type 0
+CountsTold before after answers.Ok = CountsStay before after
+CountsTold before after (answers.Failed lists) = CountsStay before after
+CountsTold before after (answers.Refused fault) = CountsStay before after
+CountsTold before after answers.Usage = CountsStay before after
+CountsTold before after answers.HostFault = Rose before.host.faults after.host.faults
+CountsTold before after answers.OutOfMemory = after.out.faults ≡ before.out.faults
+CountsTold before after answers.SinkFault = SinkFailed before.out after.out × StaysOrWaits before.host after.host
+
+-- ---- completeness
+
+-- What should end well: there is a plan, the premises of its update are met, its clean build is defined, no file is too
+-- big, and no child ends badly.
+pub record ShouldEndWell (made : Made) (words : List Word) (before after : Outside) (disk later : Disk) : Type 0 where
   pub plan : HasPlan words disk
+  pub log : List LogLine
+  pub is_log : IsLogIn disk.now log
+  pub premises : MeetsPremises (update_for made plan log) disk later
   pub events : List ChildEvent
-  pub events_are : new.events ≡ old.events ++ events
-  pub defined : CleanIsDefined (update_at made plan.planned disk) events
+  pub events_are : after.children.events ≡ before.children.events ++ events
+  pub defined : CleanIsDefined (update_for made plan log) events
+  pub none_large : NoneLarge (update_for made plan log) events
   pub all_well : (i : ℕ) → Contains events (Done i false) → ⊥
 
--- What should end well does, or the call was cut short; or the files and the words come to a pattern that is refused though it reads
--- as one.
+-- What should end well does, or the call was cut short; or the files and the words come to a pattern that is refused
+-- though it reads as one.
 abbrev pub CompleteTold : Made → List Word → Outside → Outside → Answer → Type 0
-CompleteTold made words before after result =
-    BothTold (λ disk later. (should : ShouldEndWell made words before.children after.children disk)
-    → IsOrCutShort result answers.Ok ⊎ IsPatternRefused disk should.plan.free result) before.disk after.disk
+CompleteTold made words before after result = BothTold (λ disk later.
+    (should : ShouldEndWell made words before after disk later)
+    → IsOrCutShort result answers.Ok ⊎ IsPatternRefused disk should.plan.command.words result) before.disk after.disk
+
+-- ---- what was written
 
 -- what was written is the report
 abbrev pub ReportTold : Made → List Word → Moment → Moment → Answer → Type 0
-ReportTold made words before after result = (events : List ChildEvent) → after.host.children.events ≡ before.host.children.events ++ events
-    → WrittenTold before after (λ disk. ReportedBy made words before after result disk events)
+ReportTold made words before after result = BothTold (λ disk later. (events : List ChildEvent)
+    → after.host.children.events ≡ before.host.children.events ++ events
+    → ReportedBy made words before after disk later events result) before.host.disk after.host.disk
 
--- over any host, what happened is in order, one step at a time, for some list of steps
-abbrev pub TurnsTold : Outside → Outside → Answer → Type 0
-TurnsTold before after result = (steps : List Step) × HasHappened steps 1 before.disk before.children.events after.children.events (run_answer result)
+-- ---- the next update
+
+-- This holds of the update of the plan, where its premises are met; of the events of the call; and of the files and the
+-- log that it left, where the log is within its limit.
+abbrev pub HoldsAfterwards : Made → List Word → Outside → Outside
+    → (Update → List ChildEvent → Folder → List LogLine → Type 0) → Type 0
+HoldsAfterwards made words before after Holds = BothTold (λ disk later.
+    (plan : HasPlan words disk) (first log : List LogLine) (events : List ChildEvent)
+    → IsLogIn disk.now first → MeetsPremises (update_for made plan first) disk later
+    → after.children.events ≡ before.children.events ++ events
+    → IsLogIn later.now log → length (held_bytes (log_file later.now)) ≤ log_limit
+    → Holds (update_for made plan first) events later.now log) before.disk after.disk
+
+-- Judged anew, each step of which an output was settled is fresh, but for those that an always-step or a notfile step
+-- reaches.
+abbrev pub AreFresh : Update → List ChildEvent → Folder → List LogLine → Type 0
+AreFresh u events now log = (quit : Bool) (jobs i : ℕ) (step : Step) (path : List ℕ) → Makes u.build.steps i step path
+    → Settled u events path → (IsMadeEachTime u.build path → ⊥) → IsFreshStep (next_update u now log quit jobs) [] step
+
+-- of each step that owes files and was done well before a start, the log has a record that agrees with the files
+abbrev pub AreKept : Update → List ChildEvent → Folder → List LogLine → Type 0
+AreKept u events now log = (quit : Bool) (jobs k i : ℕ) (front rest : List ChildEvent) (step : Step)
+    (members : List (List ℕ × Value)) → events ≡ front ++ Start k ∷ rest → Contains front (Done i true)
+    → step_at u.build.steps i ≡ Some step → step.notfile ≡ false → IsClosure u.build (Clean u.build) step members
+    → IsRecorded (next_update u now log quit jobs) [] step members
+
+-- the answer is Ok, Failed or a step cycle: the update has come to its end
+abbrev pub IsOfCycle : Fault → Type 0
+IsOfCycle (faults.Load fault) = ⊥
+IsOfCycle (faults.Request fault) = ⊥
+IsOfCycle (faults.Gen fault) = ⊥
+IsOfCycle (faults.StepCycle list) = ⊤
+IsOfCycle (faults.TooBig path size) = ⊥
+
+abbrev pub IsOfEnd : Answer → Type 0
+IsOfEnd answers.Ok = ⊤
+IsOfEnd (answers.Failed lists) = ⊤
+IsOfEnd (answers.Refused fault) = IsOfCycle fault
+IsOfEnd answers.Usage = ⊥
+IsOfEnd answers.HostFault = ⊥
+IsOfEnd answers.OutOfMemory = ⊥
+IsOfEnd answers.SinkFault = ⊥
+
+-- ---- all together
 
 -- All that a call of the build command with these words promises.
 pub record IsAnswered (made : Made) (words : List Word) (before after : Moment) (result : Answer) : Type 0 where
   pub clean : result ≡ answers.Ok → CleanTold made words before.host after.host
   pub happened : HappenedTold made words before.host after.host result
   pub counts : CountsTold before after result
-  pub usage : free_words words ≡ None → IsUsageOrCutShort result
-  pub alone : free_words words ≡ None → after.host ≡ before.host
-  pub without : (name : Word) → unbuilt_option words ≡ Some name → after.host ≡ before.host
-  pub not_yet : (free : List Word) (name : Word) → free_words words ≡ Some free → unbuilt_option words ≡ Some name → IsNotYetOrCutShort name result
-  pub no_usage : result ≡ answers.Usage → free_words words ≡ None
+  pub usage : build_command words ≡ None → IsUsageOrCutShort result
+  pub alone : build_command words ≡ None → after.host ≡ before.host
+  pub no_usage : result ≡ answers.Usage → build_command words ≡ None
   pub starts_none : StartsNone result before.host after.host
   pub whole : IfRefused IsWhole result
-  pub not_too_big : IfRefused IsNotTooBig result
   pub complete : CompleteTold made words before.host after.host result
   pub reported : ReportTold made words before after result
-  pub turns : TurnsTold before.host after.host result
+  pub turns : TurnsTold words before.host after.host result
+  pub left_open : LeftOpenTold before.host after.host
+  pub true_log : TrueLogTold made words before.host after.host
+  pub afterwards : IsOfEnd result → HoldsAfterwards made words before.host after.host AreFresh
+  pub kept : HoldsAfterwards made words before.host after.host AreKept
+  pub out_keeps : OutKeeps before.out after.out

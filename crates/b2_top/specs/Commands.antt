@@ -1,20 +1,27 @@
 -- What words ask to be built.
 use Rattle.std.specs.Prelude.{List, Option, Some, None}
+use Rattle.std.specs.Option.{option_map}
 use Rattle.b2_words.specs.Words.{Word, reading}
+use Rattle.b2_words.specs.declared.words.BuildOptions.{BuildOptions}
 use Rattle.b2_words.specs.declared.words.Command.{Command}
 use Rattle.b2_words.specs.declared.words.Command.TheVariants as commands
 use Rattle.b2_words.specs.declared.words.Words.{Words}
+use Rattle.b2_top.specs.declared.build_command.BuildCommand.{BuildCommand}
 
--- the free words, where the command is a build
-abbrev pub free_of : Command → List Word → Option (List Word)
-free_of (commands.Build options) free = Some free
-free_of (commands.Look view) free = None
-free_of (commands.Drill steps) free = None
+-- how a command builds, if it is a build
+abbrev pub options_in : Command → Option BuildOptions
+options_in (commands.Build options) = Some options
+options_in (commands.Look view) = None
+options_in (commands.Drill steps) = None
 
-abbrev pub free_in : Option Words → Option (List Word)
-free_in None = None
-free_in (Some read) = free_of read.command read.words
+abbrev pub command_of : List Word → BuildOptions → BuildCommand
+command_of free options = record { options = options; words = free }
 
--- the words of a build that are no options; none where the words are not of the grammar, or ask for a look or a drill
-abbrev pub free_words : List Word → Option (List Word)
-free_words words = free_in (reading words)
+abbrev pub command_in : Option Words → Option BuildCommand
+command_in None = None
+command_in (Some read) = option_map (command_of read.words) (options_in read.command)
+
+-- How words ask to be built, and of which free words. They do not where they are not of the grammar, or ask for a look
+-- or a drill.
+abbrev pub build_command : List Word → Option BuildCommand
+build_command words = command_in (reading words)

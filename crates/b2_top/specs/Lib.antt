@@ -5,8 +5,6 @@ pub mod RefusalCauses
 pub mod Writing
 pub mod Told
 pub mod Commands
-pub mod Unbuilt
-pub mod Found
 pub mod Plans
 pub mod Causes
 pub mod Builds

@@ -29,7 +29,6 @@ fault_of (refusals.Generation fault) = faults.Gen fault
 -- The fault is what the files of a disk and the free words come to, after these lines of ECHO; that a pattern is refused though it
 -- reads as one is an input of it.
 abbrev pub HasCause : Disk → List Text → List Text → Fault → Type 0
-HasCause disk words echoes (faults.NotYet path line) = ⊥
 HasCause disk words echoes (faults.Load fault) = IsPrepared disk words echoes (Err (stops.Refused (refusals.Load fault)))
 HasCause disk words echoes (faults.Request fault) = IsPrepared disk words echoes (Err (stops.Refused (refusals.Request fault)))
 HasCause disk words echoes (faults.Gen fault) = IsPrepared disk words echoes (Err (stops.Refused (refusals.Generation fault)))

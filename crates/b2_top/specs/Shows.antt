@@ -102,7 +102,6 @@ ShownTold words before after result = result ≡ answers.Ok → WrittenTold befo
 
 -- the fault is one of the load, the request or generation
 abbrev pub IsOfPlanning : Fault → Type 0
-IsOfPlanning (faults.NotYet path line) = ⊥
 IsOfPlanning (faults.Load fault) = ⊤
 IsOfPlanning (faults.Request fault) = ⊤
 IsOfPlanning (faults.Gen fault) = ⊤

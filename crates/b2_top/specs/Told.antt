@@ -1,6 +1,8 @@
 -- What is told between two moments.
 use Rattle.std.specs.Prelude.{◌≡◌, ℕ, List, ◌++◌, Some, IfSome}
 use Rattle.b2_host.specs.Disks.{Disk}
+use Rattle.b2_host.specs.Outside.{Outside}
+use Rattle.b2_host.specs.Output.{Output}
 use Rattle.b2_runs.specs.Moments.{Moment}
 
 -- neither count of faults has changed
@@ -8,8 +10,16 @@ pub record CountsStay (before after : Moment) : Type 0 where
   pub host : after.host.faults ≡ before.host.faults
   pub sink : after.out.faults ≡ before.out.faults
 
+-- nothing was started, and no file has changed
+pub record StaysStill (before after : Outside) : Type 0 where
+  pub disk : after.disk ≡ before.disk
+  pub children : after.children ≡ before.children
+
+-- bytes of which this holds were written, where bytes are visible
+abbrev pub Wrote : Output → Output → (List ℕ → Type 0) → Type 0
+Wrote before after Holds =
+    IfSome before.written (λ so_far. (written : List ℕ) × (after.written ≡ Some (so_far ++ written)) × Holds written)
+
 -- this holds of the bytes that were written between two moments, where files and bytes are visible
 abbrev pub WrittenTold : Moment → Moment → (Disk → List ℕ → Type 0) → Type 0
-WrittenTold before after Holds =
-    IfSome before.host.disk (λ disk. IfSome before.out.written (λ so_far.
-    (written : List ℕ) × (after.out.written ≡ Some (so_far ++ written)) × Holds disk written))
+WrittenTold before after Holds = IfSome before.host.disk (λ disk. Wrote before.out after.out (Holds disk))

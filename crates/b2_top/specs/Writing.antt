@@ -13,11 +13,13 @@ use Rattle.b2_top.specs.declared.answer.Answer.TheVariants as answers
 use Rattle.b2_top.specs.RefusalCauses.{fault_of}
 use Rattle.b2_top.specs.Reports.{refusal_report, fault_report}
 
--- A write failed, where one may: a beginning of the bytes was written, and the count of faults rose.
+-- A write failed, where one may: a beginning of the bytes was written, and the count of faults rose. Whether a write
+-- may fail stays.
 pub record FailsIn (bytes : List ℕ) (before after : Output) : Type 0 where
   pub part : List ℕ
   pub begins : IsFrontOf part bytes
   pub sink : SinkFailed before after
+  pub may_fail : after.may_fail ≡ before.may_fail
   pub written : after.written ≡ option_map (λ so_far. so_far ++ part) before.written
 
 -- Memory ran out: a beginning of the bytes was written, and no write failed.
@@ -53,6 +55,7 @@ pub data SaysFault (bytes : List ℕ) (before after : Output) (result : Answer) 
 
 -- the answer where there is no plan
 abbrev pub AnswersStop : List (List ℕ) → Stop → Output → Output → Answer → Type 0
-AnswersStop echoes (stops.Refused why) before after result = Says (answers.Refused (fault_of why)) (refusal_report echoes [] (fault_of why)) before after result
+AnswersStop echoes (stops.Refused why) before after result =
+    Says (answers.Refused (fault_of why)) (refusal_report echoes [] (fault_of why)) before after result
 AnswersStop echoes stops.Host before after result = SaysFault (fault_report echoes) before after result
 AnswersStop echoes stops.OutOfMemory before after result = (result ≡ answers.OutOfMemory) × (after ≡ before)

@@ -2,8 +2,8 @@
 ghost use Rattle.std.specs.Prelude.{◌≡◌};
 ghost use Rattle.b2_top.specs.Statuses.{status_of};
 
+use b2_endings::failed_lists::FailedLists;
 use b2_refusals::fault::Fault;
-use b2_update::failed_lists::FailedLists;
 
 /// How a call of the program ended.
 #[derive(Drop)]

@@ -4,8 +4,8 @@
 
 pub mod answer;
 mod build;
+mod build_command;
 pub mod command_line;
-mod free_words;
 mod lines;
 mod look;
 mod look_end;
@@ -15,4 +15,3 @@ pub mod program;
 pub mod run;
 pub mod show;
 mod tell;
-mod unbuilt;

@@ -15,8 +15,8 @@ returns-in-Done-clause-updates g c =
       counts = c.in-Done.ensures.counts;
       out_keeps = c.in-Done.ensures.out_keeps;
       turns = c.in-Done.ensures.turns;
-      updated = c.in-Done.ensures.updated;
-      written = c.in-Done.ensures.written;
+      left_open = c.in-Done.ensures.left_open;
+      told = c.in-Done.ensures.told;
       ends = (refl, refl);
     }
 
@@ -34,8 +34,8 @@ returns-in-Failed-clause-updates g c =
       counts = c.in-Failed.ensures.counts;
       out_keeps = c.in-Failed.ensures.out_keeps;
       turns = c.in-Failed.ensures.turns;
-      updated = c.in-Failed.ensures.updated;
-      written = c.in-Failed.ensures.written;
+      left_open = c.in-Failed.ensures.left_open;
+      told = c.in-Failed.ensures.told;
       ends = (refl, refl);
     }
 
@@ -56,8 +56,8 @@ returns-in-StepCycle-clause-updates g c =
       counts = c.in-StepCycle.ensures.counts;
       out_keeps = c.in-StepCycle.ensures.out_keeps;
       turns = c.in-StepCycle.ensures.turns;
-      updated = c.in-StepCycle.ensures.updated;
-      written = c.in-StepCycle.ensures.written;
+      left_open = c.in-StepCycle.ensures.left_open;
+      told = c.in-StepCycle.ensures.told;
       ends = subst (λ (steps : List Step). Says (answers.Refused fault) (refusal_report [] steps fault) x y c.tell_refusal.result) c.as_slice.ensures c.tell_refusal.ensures;
     }
 
@@ -67,6 +67,28 @@ returns-in-StepCycle-clause-none_left g c = c.in-StepCycle.ensures.none_left
 pub returns-in-StepCycle-clause-keeps : goal.returns-in-StepCycle-clause-keeps
 returns-in-StepCycle-clause-keeps g c = c.in-StepCycle.ensures.keeps
 
+pub returns-in-TooBig-clause-updates : goal.returns-in-TooBig-clause-updates
+returns-in-TooBig-clause-updates g c =
+    let x = g.S.Sink.output c.update.new.out in
+    let y = g.S.Sink.output c.tell_refusal-in-TooBig.new.out in
+    let fault = faults.TooBig c.in-TooBig.path c.in-TooBig.size in
+    record {
+      ended = ended.TooBig c.in-TooBig.path c.in-TooBig.size;
+      out = g.S.Sink.output c.update.new.out;
+      counts = c.in-TooBig.ensures.counts;
+      out_keeps = c.in-TooBig.ensures.out_keeps;
+      turns = c.in-TooBig.ensures.turns;
+      left_open = c.in-TooBig.ensures.left_open;
+      told = c.in-TooBig.ensures.told;
+      ends = subst (λ (steps : List Step). Says (answers.Refused fault) (refusal_report [] steps fault) x y c.tell_refusal-in-TooBig.result) c.as_slice-in-TooBig.ensures c.tell_refusal-in-TooBig.ensures;
+    }
+
+pub returns-in-TooBig-clause-none_left : goal.returns-in-TooBig-clause-none_left
+returns-in-TooBig-clause-none_left g c = c.in-TooBig.ensures.none_left
+
+pub returns-in-TooBig-clause-keeps : goal.returns-in-TooBig-clause-keeps
+returns-in-TooBig-clause-keeps g c = c.in-TooBig.ensures.keeps
+
 pub returns-in-HostFault-clause-updates : goal.returns-in-HostFault-clause-updates
 returns-in-HostFault-clause-updates g c =
     record {
@@ -75,8 +97,8 @@ returns-in-HostFault-clause-updates g c =
       counts = c.in-HostFault.ensures.counts;
       out_keeps = c.in-HostFault.ensures.out_keeps;
       turns = c.in-HostFault.ensures.turns;
-      updated = c.in-HostFault.ensures.updated;
-      written = c.in-HostFault.ensures.written;
+      left_open = c.in-HostFault.ensures.left_open;
+      told = c.in-HostFault.ensures.told;
       ends = c.tell_host_fault.ensures;
     }
 
@@ -94,8 +116,8 @@ returns-in-SinkFault-clause-updates g c =
       counts = c.in-SinkFault.ensures.counts;
       out_keeps = c.in-SinkFault.ensures.out_keeps;
       turns = c.in-SinkFault.ensures.turns;
-      updated = c.in-SinkFault.ensures.updated;
-      written = c.in-SinkFault.ensures.written;
+      left_open = c.in-SinkFault.ensures.left_open;
+      told = c.in-SinkFault.ensures.told;
       ends = (refl, refl);
     }
 
@@ -113,8 +135,8 @@ returns-in-OutOfMemory-clause-updates g c =
       counts = c.in-OutOfMemory.ensures.counts;
       out_keeps = c.in-OutOfMemory.ensures.out_keeps;
       turns = c.in-OutOfMemory.ensures.turns;
-      updated = c.in-OutOfMemory.ensures.updated;
-      written = c.in-OutOfMemory.ensures.written;
+      left_open = c.in-OutOfMemory.ensures.left_open;
+      told = c.in-OutOfMemory.ensures.told;
       ends = (refl, refl);
     }
 

@@ -1,30 +1,10 @@
-use Rattle.std.proofs.Common.{refl, inl, ap, Err}
-use Rattle.b2_host.specs.OutsideLaws.{keeps_same}
-use Rattle.b2_top.proofs.StillCallsAnswerAsPromised.{still_same, still_usage, still_short}
+use Rattle.b2_update.specs.Moments.{moment}
+use Rattle.b2_top.proofs.PromisesFollowFromCalls.{all_promised}
 use Rattle.b2_top.proofs.run.answer.Goals as goal
 
-pub returns-in-Err-Usage-clause-answered : goal.returns-in-Err-Usage-clause-answered
-returns-in-Err-Usage-clause-answered g c =
-    let words = c.args.words.now in
-    let host = g.H.Files.outside c.args.host.now in
-    still_usage g.H.Children.made words host host (g.S.Sink.output c.args.out.now) (g.S.Sink.output c.tell_usage.new.out) (still_same words host) c.tell_usage.result
-    (c.in-Err-Usage.ensures.usage (ap Err c.in-Err-Usage.field-0-is)) refl c.tell_usage.ensures
-
-pub returns-in-Err-Usage-clause-none_left : goal.returns-in-Err-Usage-clause-none_left
-returns-in-Err-Usage-clause-none_left g c = inl c.requires
-
-pub returns-in-Err-Usage-clause-keeps : goal.returns-in-Err-Usage-clause-keeps
-returns-in-Err-Usage-clause-keeps g c = keeps_same _ _ refl
-
-pub returns-in-Err-OutOfMemory-clause-answered : goal.returns-in-Err-OutOfMemory-clause-answered
-returns-in-Err-OutOfMemory-clause-answered g c =
-    let words = c.args.words.now in
-    let host = g.H.Files.outside c.args.host.now in
-    let out = g.S.Sink.output c.args.out.now in
-    still_short g.H.Children.made words host host out out (still_same words host) refl
-
-pub returns-in-Err-OutOfMemory-clause-none_left : goal.returns-in-Err-OutOfMemory-clause-none_left
-returns-in-Err-OutOfMemory-clause-none_left g c = inl c.requires
-
-pub returns-in-Err-OutOfMemory-clause-keeps : goal.returns-in-Err-OutOfMemory-clause-keeps
-returns-in-Err-OutOfMemory-clause-keeps g c = keeps_same _ _ refl
+pub returns-clause-answered : goal.returns-clause-answered
+returns-clause-answered g c =
+    let before = moment (g.H.Files.outside c.args.host.now) (g.S.Sink.output c.args.out.now) in
+    let after = moment (g.H.Files.outside c.read_and_build.new.host) (g.S.Sink.output c.read_and_build.new.out) in
+    all_promised c.one_meaning.ensures g.H.Children.made c.args.words.now before after c.read_and_build.result c.read_and_build.ensures.calls c.read_and_build.ensures.keeps
+    (g.met.H.Files.consistent c.args.host.now) (g.met.H.Files.consistent c.read_and_build.new.host)

@@ -1,0 +1,100 @@
+-- Words that ask for a build ask for one job or more.
+use Rattle.std.proofs.Common.{◌≡◌, ℕ, zero, suc, ◌≤◌, Bool, true, false, cond, List, [], ◌∷◌, codes, Option, Some, None, option_map, subst, arith}
+use Rattle.std.specs.Prelude.{⊤, filter, option_and_then}
+use Rattle.std.specs.List.{filter_map}
+use Rattle.std.specs.Option.{IfSome}
+use Rattle.std.specs.Str.{bytes_eq}
+use Rattle.std.specs.Fmt.{decimal}
+use Rattle.b2_words.specs.Words.{Word, Item, number, most_jobs, most_steps, jobs_meant, digest_meant, build_options, options_meant, command_meant, with_words, command_asked, meant, meaning, items, by_shape, after_lead, drill_reading, reading_by, reading, stand_once, first, stands, jobs_in, by_in, word_in, is_all, is_quit, is_steps, is_table}
+use Rattle.b2_words.specs.declared.words.BuildOptions.{BuildOptions}
+use Rattle.b2_words.specs.declared.words.Command.{Command}
+use Rattle.b2_words.specs.declared.words.Command.TheVariants as commands
+use Rattle.b2_words.specs.declared.words.Words.{Words}
+use Rattle.b2_top.specs.declared.build_command.BuildCommand.{BuildCommand}
+use Rattle.b2_top.specs.Commands.{options_in, command_of, command_in, build_command}
+
+-- a build has some job
+abbrev HasJob : Command → Type 0
+HasJob (commands.Build options) = 1 ≤ options.jobs
+HasJob (commands.Look view) = ⊤
+HasJob (commands.Drill steps) = ⊤
+
+abbrev IsSomeNumber : ℕ → Type 0
+IsSomeNumber n = 1 ≤ n
+
+by_greatest : (n : ℕ) (word : Word) (is : Bool) → IfSome (number n word) IsSomeNumber → IfSome (cond is (Some (suc n)) (number n word)) IsSomeNumber
+by_greatest n word true h = omega arith
+by_greatest n word false h = h
+
+number_from_one : (most : ℕ) (word : Word) → IfSome (number most word) IsSomeNumber
+unfolding number
+number_from_one zero word = tt
+number_from_one (suc n) word = by_greatest n word (bytes_eq (decimal (suc n)) word) (number_from_one n word)
+
+jobs_from_one : (value : Option Word) → IfSome (jobs_meant value) IsSomeNumber
+jobs_from_one None = omega arith
+jobs_from_one (Some word) = number_from_one most_jobs word
+
+options_from_one : (all quit : Bool) (jobs : Option ℕ) (digest : Option Bool) → IfSome jobs IsSomeNumber
+    → IfSome (option_and_then (λ count. option_map (build_options count all quit) digest) jobs) (λ (o : BuildOptions). 1 ≤ o.jobs)
+options_from_one all quit None digest h = tt
+options_from_one all quit (Some count) None h = tt
+options_from_one all quit (Some count) (Some digest) h = h
+
+command_has : (options : Option BuildOptions) (steps table : Bool) → IfSome options (λ (o : BuildOptions). 1 ≤ o.jobs)
+    → IfSome (option_and_then (λ o. command_meant o steps table) options) HasJob
+command_has None steps table h = tt
+command_has (Some o) false false h = h
+command_has (Some o) false true h = tt
+command_has (Some o) true false h = tt
+command_has (Some o) true true h = tt
+
+words_have : (once : Bool) (free : List Word) (command : Option Command) → IfSome command HasJob
+    → IfSome (cond once (option_map (with_words free) command) None) (λ (read : Words). HasJob read.command)
+words_have true free None h = tt
+words_have true free (Some command) h = h
+words_have false free command h = tt
+
+abbrev Read : Option Words → Type 0
+Read found = IfSome found (λ (read : Words). HasJob read.command)
+
+meant_has : (jobs by : List Word) (all quit steps table : List Item) (free : List Word) → Read (meant jobs by all quit steps table free)
+meant_has jobs by all quit steps table free =
+    words_have (stand_once jobs by all quit steps table) free (command_asked (first jobs) (first by) (stands all) (stands quit) (stands steps) (stands table))
+    (command_has (options_meant (first jobs) (first by) (stands all) (stands quit)) (stands steps) (stands table)
+    (options_from_one (stands all) (stands quit) (jobs_meant (first jobs)) (digest_meant (first by)) (jobs_from_one (first jobs))))
+
+meaning_has : (found : Option (List Item)) → Read (option_and_then meaning found)
+unfolding meaning
+meaning_has None = tt
+meaning_has (Some all_items) =
+    meant_has (filter_map jobs_in all_items) (filter_map by_in all_items) (filter is_all all_items) (filter is_quit all_items)
+    (filter is_steps all_items) (filter is_table all_items) (filter_map word_in all_items)
+
+drill_has : (steps : Option ℕ) → Read (option_map (λ n. with_words [] (commands.Drill n)) steps)
+drill_has None = tt
+drill_has (Some n) = tt
+
+reading_has : (words : List Word) → Read (reading words)
+reading_has [] = meaning_has (items by_shape [])
+reading_has (word ∷ rest) = by_lead (after_lead (codes "--drill=") word)
+  where
+    by_rest : (count : Word) (after : List Word) → Read (drill_reading count after)
+    by_rest count [] = drill_has (number most_steps count)
+    by_rest count (other ∷ after) = tt
+
+    by_lead : (count : Option Word) → Read (reading_by count word rest)
+    by_lead None = meaning_has (items by_shape (word ∷ rest))
+    by_lead (Some count) = by_rest count rest
+
+pub some_job : (words : List Word) (command : BuildCommand) → build_command words ≡ Some command → 1 ≤ command.options.jobs
+some_job words command asked = by_reading (reading words) (reading_has words) asked
+  where
+    by_command : (free : List Word) (read : Command) → HasJob read → option_map (command_of free) (options_in read) ≡ Some command → 1 ≤ command.options.jobs
+    by_command free (commands.Build options) h is = let same : command_of free options ≡ command = cc in subst (λ (c : BuildCommand). 1 ≤ c.options.jobs) same h
+    by_command free (commands.Look view) h is = absurd cc
+    by_command free (commands.Drill steps) h is = absurd cc
+
+    by_reading : (found : Option Words) → Read found → command_in found ≡ Some command → 1 ≤ command.options.jobs
+    by_reading None h is = absurd cc
+    by_reading (Some read) h is = by_command read.words read.command h is

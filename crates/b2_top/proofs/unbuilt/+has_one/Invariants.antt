@@ -1,5 +1,0 @@
-use Rattle.std.proofs.Common.{length}
-use Rattle.b2_top.proofs.unbuilt.+has_one.Given as goal
-
-abbrev pub decreases-has_one : goal.decreases-has_one
-decreases-has_one l = length l.suffixes.now
