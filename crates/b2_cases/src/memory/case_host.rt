@@ -32,7 +32,8 @@ pub struct CaseHost {
     memory: MemoryHost,
     calls: Calls,
     leaves_nothing: bool,
-    /// The outputs of what was started since child processes leave nothing.
+    /// Where child processes leave nothing: the paths that were named, and the outputs of what was started since they leave
+    /// nothing at all.
     left_out: PathList,
 }
 
@@ -117,9 +118,34 @@ impl CaseHost {
         self.memory.child_fails(&[number])
     }
 
+    /// Lets the next wait give the child process at a place among those that run, counted from 1 in order of start.
+    pub fn pick(&mut self, place: u32) -> Result<(), OutOfMemory> {
+        self.memory.order(&[place])
+    }
+
+    /// Lets a write that fails leave so many bytes of its piece.
+    pub fn tear(&mut self, bytes: u32) {
+        self.memory.tear(bytes);
+    }
+
+    /// Lets every call fail after so many more, until the host is opened again.
+    pub fn fuse(&mut self, calls: u32) {
+        self.memory.fuse(calls);
+    }
+
+    /// Ends the child processes that run, and lets calls succeed again.
+    pub fn reopen(&mut self) {
+        self.memory.reopen();
+    }
+
     /// From now on child processes leave nothing at their outputs.
     pub fn leave_nothing(&mut self) {
         self.leaves_nothing = true;
+    }
+
+    /// From now on child processes leave nothing at a path.
+    pub fn leave_out(&mut self, path: Path) -> Result<(), OutOfMemory> {
+        self.left_out.push(path)
     }
 
     /// The host that answers the calls.

@@ -1,7 +1,9 @@
 //! The commands over a host in memory.
 use crate::memory::case_host::CaseHost;
 use crate::memory::case_sink::{CaseSink, FailingWrite};
-use crate::memory::shown::{calls_shown, end_shown, events_shown, files_shown, starts_shown};
+use crate::memory::shown::{
+    calls_shown, end_shown, events_shown, files_shown, log_shown, starts_shown,
+};
 use b2_base::fault::OutOfMemory;
 use b2_base::text::Text;
 use b2_memory::memory::CallKind;
@@ -14,7 +16,7 @@ use transcript::answer::Answer;
 use transcript::case_fault::CaseFault;
 use transcript::command::{Command, Word};
 use transcript::session::Session;
-use transcript::words::{first, number, only, path, texts};
+use transcript::words::{first, no_words, number, only, own_path, path, texts};
 
 /// No write fails.
 const NO_FAULT: FailingWrite = FailingWrite {
@@ -128,6 +130,42 @@ fn child_fails(alloc: Global, host: &mut CaseHost, words: &[Word]) -> Result<Ans
     Ok(Answer::new(alloc))
 }
 
+/// `order N ..`: which of the child processes that run the next waits give.
+fn order(alloc: Global, host: &mut CaseHost, words: &[Word]) -> Result<Answer, CaseFault> {
+    for word in words {
+        host.pick(number(word.as_str()?)?)?;
+    }
+    Ok(Answer::new(alloc))
+}
+
+/// `leave_out PATH ..`: from now on child processes leave nothing at these paths.
+fn leave_out(alloc: Global, host: &mut CaseHost, words: &[Word]) -> Result<Answer, CaseFault> {
+    for word in words {
+        host.leave_out(own_path(alloc, word.as_str()?)?)?;
+    }
+    Ok(Answer::new(alloc))
+}
+
+/// Carries out a command that says how calls fail. `tear BYTES`: a write that fails leaves so many bytes of its piece.
+/// `fuse CALLS`: after so many more calls every call fails. `reopen`: the child processes that run end, and calls succeed again.
+fn fuse_command(
+    alloc: Global,
+    host: &mut CaseHost,
+    command: &Command,
+) -> Result<Answer, CaseFault> {
+    let words = command.words();
+    match command.name() {
+        "tear" => host.tear(number(only(words)?)?),
+        "fuse" => host.fuse(number(only(words)?)?),
+        "reopen" => {
+            no_words(words)?;
+            host.reopen();
+        }
+        _ => return Err(CaseFault::UnknownCommand),
+    }
+    Ok(Answer::new(alloc))
+}
+
 /// Carries out a command that prepares a host for a run. After `leave_nothing` child processes leave nothing at their outputs.
 fn prepare_command(
     alloc: Global,
@@ -140,11 +178,13 @@ fn prepare_command(
         "delete" => change(alloc, host, only(words)?, None),
         "fail_calls" => fail_calls(alloc, host, words),
         "child_fails" => child_fails(alloc, host, words),
+        "order" => order(alloc, host, words),
+        "leave_out" => leave_out(alloc, host, words),
         "leave_nothing" => {
             host.leave_nothing();
             Ok(Answer::new(alloc))
         }
-        _ => Err(CaseFault::UnknownCommand),
+        _ => fuse_command(alloc, host, command),
     }
 }
 
@@ -158,7 +198,10 @@ fn look_command(
         "files" => files_shown(alloc, host.memory()),
         "events" => events_shown(alloc, host.memory().events()),
         "starts" => starts_shown(alloc, host.memory().given()),
+        "log" => log_shown(alloc, host.memory()),
+        "reads" => Answer::paths(alloc, host.memory().reads()),
         "calls" => calls_shown(alloc, host.calls()),
+        "waits" => Answer::number(alloc, host.calls().wait),
         "faults" => Answer::number(alloc, host.memory().fault_count()),
         _ => prepare_command(alloc, host, command),
     }

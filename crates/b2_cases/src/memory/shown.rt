@@ -1,11 +1,12 @@
 //! Answers of the program and of its host, as lines.
 use crate::memory::case_host::Calls;
+use b2_endings::failed_lists::FailedLists;
 use b2_files::version::Version;
 use b2_host::children::ChildEvent;
+use b2_host::log_file::log_file;
 use b2_memory::job::Job;
 use b2_memory::memory::MemoryHost;
 use b2_top::answer::Answer as Ended;
-use b2_update::failed_lists::FailedLists;
 use std::alloc::Global;
 use std::mem::ManuallyDrop;
 use std::rc::Rc;
@@ -92,6 +93,37 @@ fn push_file(answer: &mut Answer, host: &MemoryHost, version: &Version, stamp: u
         }
         _ => {}
     }
+}
+
+/// Adds each line of a text as a line of its own, with its control bytes shown.
+fn push_lines(answer: &mut Answer, text: &str) {
+    for line in text.lines() {
+        answer.put(line);
+        answer.end_line();
+    }
+    if !text.is_empty() && !text.ends_with('\n') {
+        answer.push_line("(without a line feed)");
+    }
+}
+
+/// Adds the lines of a log.
+fn push_log(alloc: Global, answer: &mut Answer, bytes: &[u8]) -> Result<(), CaseFault> {
+    let text = ManuallyDrop::new(String::from_utf8_lossy(alloc, bytes)?);
+    push_lines(answer, text.as_str());
+    Ok(())
+}
+
+/// The lines of the log; none where it does not stand.
+pub fn log_shown(alloc: Global, host: &MemoryHost) -> Result<Answer, CaseFault> {
+    let mut answer = Answer::new(alloc);
+    let path = ManuallyDrop::new(log_file(alloc)?);
+    let Some(stamp) = host.stamp_of(&path) else {
+        return Ok(answer);
+    };
+    if let Some(version) = host.past().get((stamp as usize).saturating_sub(1)) {
+        push_log(alloc, &mut answer, host.bytes_of(version))?;
+    }
+    Ok(answer)
 }
 
 /// What stands, in order of stamps.
