@@ -1,7 +1,7 @@
 #!/bin/sh
-# Proves and builds b2 with the libraries below it, leaves the program at ./b2, builds the project in examples/hello, and shows the one
-# in examples/demo. The proofs are those of `rt ci`, over the crates that the program needs alone and without their wrong bodies: as many
-# crates side by side as there are processors and memory, and none that this machine has proved before.
+# Proves and builds b2 with the libraries below it, leaves the program at ./b2, and builds the project in examples/hello with it, and,
+# where g++ is there, the one in examples/cpp. The proofs are those of `rt ci`, over the crates that the program needs alone and without
+# their wrong bodies: as many crates side by side as there are processors and memory, and none that this machine has proved before.
 set -eu
 cd "$(dirname "$0")"
 top=$(pwd)
@@ -64,5 +64,8 @@ echo "The program is $top/b2. It builds examples/hello:"
 rm -rf examples/hello/bin
 (cd examples/hello && "$top/b2")
 cat examples/hello/bin/greeting.txt
-echo "The steps of examples/demo, whose files are of a kind that it does not build yet:"
-(cd examples/demo && "$top/b2" -n release)
+if command -v g++ >/dev/null; then
+    echo "It builds examples/cpp, four commands at a time, and then finds nothing to do:"
+    rm -rf examples/cpp/bin examples/cpp/dist
+    (cd examples/cpp && "$top/b2" -j4 && "$top/b2" -j4 && bin/gcc/debug/report)
+fi

@@ -1,6 +1,7 @@
 #!/bin/sh
 # Runs the examples of docs/MANUAL.md, docs/LANGUAGE.md and docs/PROJECTS.md and compares what is printed, the status and the files.
-# It runs the program ./b2 that setup.sh leaves, or the one that B2 names, in copies of the projects in a temporary folder.
+# It runs the program ./b2 that setup.sh leaves, or the one that B2 names, in copies of the projects in a temporary folder. Where g++
+# is there, it goes on with cpp-check.sh.
 set -u
 top=$(cd "$(dirname "$0")/.." && pwd)
 B2=${B2:-$top/b2}
@@ -54,6 +55,26 @@ world!
 E
 holds bin/count.txt <<'E'
 2
+E
+runs 0 <<'E'
+updated 0, failed 0, skipped 0, missing 0
+E
+for words in "" -a -aj2 --by=digest; do
+    touch world.txt
+    runs 0 $words <<'E'
+join bin/greeting.txt
+count bin/count.txt
+updated 2, failed 0, skipped 0, missing 0
+E
+done
+touch world.txt
+runs 0 --by=digest <<'E'
+updated 0, failed 0, skipped 0, missing 0
+E
+runs 0 -a <<'E'
+join bin/greeting.txt
+count bin/count.txt
+updated 2, failed 0, skipped 0, missing 0
 E
 project hello
 runs 0 greeting.txt <<'E'
@@ -292,6 +313,14 @@ updated 3, failed 0, skipped 0, missing 0
 E
 printf '     1\tIt began.\n     1\tIt ended.\n' > "$work/story"
 holds bin/final/story < "$work/story"
+
+# ---- examples/cpp
+
+if command -v g++ > /dev/null; then
+    . "$top/examples/cpp-check.sh"
+else
+    echo "There is no g++ here: examples/cpp was not built."
+fi
 
 echo "$count compared, $bad differ"
 [ "$bad" = 0 ]

@@ -1,0 +1,2 @@
+// How many primes are listed.
+static const int limit = 8;

@@ -1,0 +1,1 @@
+static const char title[] = "the first primes";
