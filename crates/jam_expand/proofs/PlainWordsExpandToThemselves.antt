@@ -1,14 +1,16 @@
 -- A word in which no part begins expands to itself, and a part that is a bare name expands to the list of that name.
-use Rattle.std.proofs.Common.{◌≡◌, ◌≢◌, ℕ, ◌<◌, ◌+◌, ◌-◌, Bool, false, ◌||◌, eqb, ltb, suc, zero, List, [], ◌∷◌, ◌++◌, length, refl, ap, sym, ◌∙◌, arith, cond, Option, Some, None, Ok, Err}
+use Rattle.std.proofs.Common.{◌≡◌, ◌≢◌, ℕ, ◌<◌, ◌≤◌, ◌+◌, ◌-◌, Bool, true, false, ◌||◌, eqb, ltb, suc, zero, List, [], ◌∷◌, ◌++◌, length, refl, ap, sym, ◌∙◌, arith, cond, map, subst, ◌⊎◌, Option, Some, None, Ok, Err}
 use Rattle.std.specs.List.{All, AllByRecursion}
-use Rattle.std.proofs.lemmas.List.{append-nil}
-use Rattle.std.proofs.lemmas.List.Elements.{recursion_from_All}
-use Rattle.std.proofs.lemmas.Bool.{ne_eqb, le-ltb}
+use Rattle.std.proofs.lemmas.List.{append-nil, length-append}
+use Rattle.std.proofs.lemmas.List.Elements.{recursion_from_All, All-from_recursion}
+use Rattle.std.proofs.lemmas.Bool.{ne_eqb, le-ltb, true≢false}
+use Rattle.b2_base.specs.Numbers.{is_among}
+use Rattle.b2_base.specs.declared.expand_fault.ExpandFault.{ExpandFault}
 use Rattle.b2_base.specs.declared.expand_fault.ExpandFault.TheVariants as faults
 use Rattle.b2_base.specs.Results.{and_then}
 use Rattle.jam_expand.specs.Cuts.{up_to, from_on}
 use Rattle.jam_expand.specs.Indexes.{selected}
-use Rattle.jam_expand.specs.Limits.{Answer, limit, first_above, unless_above, within}
+use Rattle.jam_expand.specs.Limits.{Answer, limit, first_above, unless_above, within, IsWithin}
 use Rattle.jam_expand.specs.Modifiers.{no_modifiers, modified_after, edited}
 use Rattle.jam_expand.specs.References.{reference_of}
 use Rattle.jam_expand.specs.Values.{values_of, joined_after, values_of_all}
@@ -17,6 +19,7 @@ use Rattle.jam_expand.specs.WordCuts.{IsBalanced, HasNoPart, HasNoSigns, no_byte
 use Rattle.jam_expand.specs.Products.{product}
 use Rattle.jam_expand.specs.Expansions.{lists_of, product_of, elements_at, expansion}
 use Rattle.jam_expand.specs.PlainNames.{IsNameByte, IsPlainName}
+use Rattle.jam_expand.proofs.SumTellsIfTooLarge.{within_is_ok}
 use Rattle.jam_expand.proofs.PiecesGrowAlongTheWord.{after_literal}
 use Rattle.jam_expand.proofs.PiecesAreTheOnlyCut.{no_len, cut_is_one}
 use Rattle.jam_expand.proofs.ProductGrowsFromLastList.{cross_right}
@@ -164,3 +167,61 @@ name_is_its_list names name all small =
     ∙ elements_more 16 names word (λ e. omega (arith, e))
     ∙ ap (λ pieces. and_then (λ lists. within (product lists)) (lists_of (λ inside. and_then (values_of_all names) (elements_at (16 - 1) names inside)) pieces)) (name_pieces name h)
     ∙ name_product (λ inside. and_then (values_of_all names) (elements_at (16 - 1) names inside)) name (names name) (name_list (16 - 1) names name h small)
+
+-- ---- how the code finds such words
+
+-- the parts of a word without `$` are not nested, and it is its own element at each depth
+pub plain_depth : (levels : ℕ) (word : List ℕ) → All (λ byte. byte ≢ 36) word → deeper levels word ≡ false
+plain_depth levels word all = literal_depth levels word (plain_pieces word (recursion_from_All (λ byte. byte ≢ 36) word all))
+
+pub plain_elements : (levels : ℕ) (names : List ℕ → List (List ℕ)) (word : List ℕ) → All (λ byte. byte ≢ 36) word → elements_at levels names word ≡ within (word ∷ [])
+plain_elements levels names word all = literal_elements levels names word (plain_pieces word (recursion_from_All (λ byte. byte ≢ 36) word all))
+
+abbrev signs : List ℕ
+signs = 36 ∷ 40 ∷ 41 ∷ 58 ∷ 91 ∷ []
+
+other_sign : (sign byte : ℕ) → is_among signs sign ≡ true → is_among signs byte ≡ false → byte ≢ sign
+other_sign sign byte among h e = true≢false (sym among ∙ ap (is_among signs) (sym e) ∙ h)
+
+name_byte : (byte : ℕ) → is_among signs byte ≡ false → IsNameByte byte
+name_byte byte h = record {
+  dollar = other_sign 36 byte refl h;
+  opening = other_sign 40 byte refl h;
+  closing = other_sign 41 byte refl h;
+  colon = other_sign 58 byte refl h;
+  bracket = other_sign 91 byte refl h;
+}
+
+name_bytes : (bytes : List ℕ) → length (up_to signs bytes) ≡ length bytes → AllByRecursion IsNameByte bytes
+name_bytes [] e = tt
+name_bytes (byte ∷ bytes) e = go (is_among signs byte) refl e (name_bytes bytes)
+  where
+    go : (found : Bool) → is_among signs byte ≡ found → length (cond found [] (byte ∷ up_to signs bytes)) ≡ suc (length bytes) → (length (up_to signs bytes) ≡ length bytes → AllByRecursion IsNameByte bytes) → AllByRecursion IsNameByte (byte ∷ bytes)
+    go true m e more = absurd (omega (arith, e))
+    go false m e more = (name_byte byte m, more (omega (arith, e)))
+
+-- where no sign is found in a name, it is a bare one
+pub name_is_bare : (name : List ℕ) → length (up_to signs name) ≡ length name → IsPlainName name
+name_is_bare name e = All-from_recursion IsNameByte name (name_bytes name e)
+
+after_nothing : (texts : List (List ℕ)) → map (λ text. [] ++ text) texts ≡ texts
+after_nothing [] = refl
+after_nothing (text ∷ texts) = ap (λ more. text ∷ more) (after_nothing texts)
+
+pub nothing_within : IsWithin [] 0
+nothing_within = record {
+  small = refl;
+  sum_is = refl;
+}
+
+-- what is told of texts after the empty one is told of the texts
+pub same_within : (texts : List (List ℕ)) (sum : ℕ) → IsWithin (map (λ text. [] ++ text) texts) sum → within texts ≡ Ok texts
+same_within texts sum h = within_is_ok texts sum (subst (λ list. IsWithin list sum) (after_nothing texts) h)
+
+pub same_fault : (texts : List (List ℕ)) (fault : ExpandFault) → (fault ≡ faults.OutOfMemory) ⊎ (within (map (λ text. [] ++ text) texts) ≡ Err fault) → (fault ≡ faults.OutOfMemory) ⊎ (within texts ≡ Err fault)
+same_fault texts fault h = subst (λ list. (fault ≡ faults.OutOfMemory) ⊎ (within list ≡ Err fault)) (after_nothing texts) h
+
+-- a list that is alone is its own product
+pub only_list : (lists before : List (List (List ℕ))) (list : List (List ℕ)) → lists ≡ before ++ list ∷ [] → length lists ≤ 1 → product lists ≡ list
+only_list lists [] list e few = ap product e ∙ cross_right list
+only_list lists (first ∷ before) list e few = absurd (omega (arith, few, ap length e, length-append before (list ∷ [])))

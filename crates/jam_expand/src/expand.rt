@@ -11,6 +11,7 @@ ghost use Rattle.jam_expand.specs.Words.{bytes_of, deeper, too_deep};
 use crate::gather::values_of_all;
 use crate::limit::Gathered;
 use crate::piece::{Piece, pieces_of};
+use crate::plain::{bare_name, copied, is_plain};
 use crate::product::{product, single};
 pub use b2_base::expand_fault::ExpandFault;
 use b2_base::fault::OutOfMemory;
@@ -38,6 +39,9 @@ fn is_too_deep(alloc: Global, levels: usize, inside: &str) -> Result<bool, OutOf
 fn is_deeper(alloc: Global, levels: usize, word: &str) -> Result<bool, OutOfMemory>
     ensures { IfOk result (λ deep. deep ≡ deeper levels word.now) }
 {
+    if is_plain(word) {
+        return Ok(false);
+    }
     let pieces = pieces_of(alloc, word)?;
     for piece in pieces.as_slice() {
         if let Piece::Part(inside) = piece {
@@ -112,6 +116,9 @@ fn elements_at<L: Look>(
     if levels == 0 {
         return itself(alloc, word);
     }
+    if is_plain(word) {
+        return itself(alloc, word);
+    }
     let pieces = pieces_of(alloc, word)?;
     let mut lists = Vec::new(alloc);
     for piece in pieces.as_slice() {
@@ -121,8 +128,8 @@ fn elements_at<L: Look>(
     product(alloc, lists)
 }
 
-/// The elements of a word, unless its parts are nested too deep.
-fn expanded<L: Look>(alloc: Global, word: &str, look: &L) -> Result<TextList, ExpandFault>
+/// The elements of a word that is cut into its pieces, unless its parts are nested too deep.
+fn cut_and_expanded<L: Look>(alloc: Global, word: &str, look: &L) -> Result<TextList, ExpandFault>
     requires { HasNoZero word.now }
     ensures { IsGivenBy result (expansion (L.answer look.now) word.now) }
 {
@@ -130,6 +137,20 @@ fn expanded<L: Look>(alloc: Global, word: &str, look: &L) -> Result<TextList, Ex
         return Err(ExpandFault::TooDeep);
     }
     elements_at(alloc, LEVELS, word, look)
+}
+
+/// The elements of a word. One without a `$`, and one that is a bare name, are not cut.
+fn expanded<L: Look>(alloc: Global, word: &str, look: &L) -> Result<TextList, ExpandFault>
+    requires { HasNoZero word.now }
+    ensures { IsGivenBy result (expansion (L.answer look.now) word.now) }
+{
+    if is_plain(word) {
+        return itself(alloc, word);
+    }
+    match bare_name(word) {
+        Some(name) => copied(alloc, look.look(name)),
+        None => cut_and_expanded(alloc, word, look),
+    }
 }
 
 /// The elements of a word for what the names stand for.

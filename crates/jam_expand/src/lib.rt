@@ -12,5 +12,6 @@ pub mod laws;
 pub mod limit;
 mod modifiers;
 mod piece;
+mod plain;
 mod product;
 mod reference;

@@ -52,7 +52,7 @@ fn cross(alloc: Global, texts: &[Text], others: &[Text]) -> Result<TextList, Out
 }
 
 /// The sum with the lengths of the texts after one of this length.
-fn sum_after(sum: u64, len: usize, others: &[Text]) -> Result<u64, ExpandFault>
+pub fn sum_after(sum: u64, len: usize, others: &[Text]) -> Result<u64, ExpandFault>
     requires { sum ≤ limit }
     ensures sum { (texts : List (List ℕ)) (first : List ℕ) → IsWithin texts sum → length first ≡ len → IsSumOf result (texts ++ map (λ other. first ++ other) others.now) }
     ensures small { IfOk result (λ sum. sum ≤ limit) }
@@ -183,6 +183,28 @@ fn filled_product(alloc: Global, mut lists: Vec<TextList>) -> Result<TextList, E
     Ok(made)
 }
 
+/// A list that stands alone, unless it is too large.
+fn lone(list: TextList) -> Result<TextList, ExpandFault>
+    ensures { IsGivenBy result (within list) }
+{
+    let _sum = sum_after(0, 0, list.as_slice())?;
+    Ok(list)
+}
+
+/// The product of lists of which none is empty. One list is its own product, and is not copied.
+fn lone_or_product(alloc: Global, mut lists: Vec<TextList>) -> Result<TextList, ExpandFault>
+    requires { list_any (λ list. length list == 0) lists.items ≡ false }
+    ensures { IsGivenBy result (within (product lists.items)) }
+{
+    if lists.len() > 1 {
+        return filled_product(alloc, lists);
+    }
+    match lists.pop() {
+        None => filled_product(alloc, lists),
+        Some(list) => lone(list),
+    }
+}
+
 /// The product of the lists, the leftmost varying slowest. How large it is, is found before it is made.
 pub fn product(alloc: Global, lists: Vec<TextList>) -> Result<TextList, ExpandFault>
     ensures { IsGivenBy result (within (product lists.items)) }
@@ -190,5 +212,8 @@ pub fn product(alloc: Global, lists: Vec<TextList>) -> Result<TextList, ExpandFa
     if any_empty(lists.as_slice()) {
         return Ok(TextList::new(alloc));
     }
-    filled_product(alloc, merged(alloc, lists)?)
+    if lists.len() == 1 {
+        return lone_or_product(alloc, lists);
+    }
+    lone_or_product(alloc, merged(alloc, lists)?)
 }

@@ -2,6 +2,7 @@ use Rattle.std.proofs.Common.{map, sym, ◌∙◌, ap}
 use Rattle.jam_expand.specs.Words.{too_deep}
 use Rattle.jam_expand.specs.Shown.{shown}
 use Rattle.jam_expand.proofs.PiecesExpandOneByOne.{deep_part, flat_part, no_part, deep_zero, deep_more}
+use Rattle.jam_expand.proofs.PlainWordsExpandToThemselves.{plain_depth}
 use Rattle.jam_expand.proofs.expand.+depth.Goals.{is_deeper-in-Part+in_ok-is_too_deep+else-branch, is_deeper-in_default}
 use Rattle.jam_expand.proofs.expand.+depth.Goals as goal
 
@@ -25,3 +26,6 @@ is_too_deep-returns-then-levels-eq0 t c = sym (deep_zero c.args.levels c.args.in
 
 pub is_too_deep-returns : goal.is_too_deep-returns
 is_too_deep-returns t c = rw (deep_more c.args.levels c.args.inside.now c.if-levels-eq0.false) c.is_deeper.ensures
+
+pub is_deeper-returns-then-is_plain : goal.is_deeper-returns-then-is_plain
+is_deeper-returns-then-is_plain t c = sym (plain_depth c.args.levels c.args.word.now (c.is_plain.ensures c.if-is_plain.true))

@@ -6,6 +6,7 @@ use Rattle.jam_expand.specs.Shown.{shown}
 use Rattle.jam_expand.specs.Values.{values_of_all}
 use Rattle.jam_expand.specs.Expansions.{elements_at}
 use Rattle.jam_expand.proofs.PiecesExpandOneByOne.{found_nothing, held_no_zero, held_fault, held_more, held_all, elements_zero, elements_more}
+use Rattle.jam_expand.proofs.PlainWordsExpandToThemselves.{plain_elements}
 use Rattle.jam_expand.proofs.expand.+expand.Goals as goal
 
 abbrev values : ℕ → (List ℕ → List (List ℕ)) → List ℕ → Answer
@@ -51,3 +52,6 @@ elements_at-returns g t c =
           (ap (map shown) c.as_slice-piece-items.ensures.value ∙ c.in_ok-pieces.ensures) c.loop-piece-test.false c.loop-piece.invariant,
     )
     c.product.ensures
+
+pub elements_at-returns-then-is_plain : goal.elements_at-returns-then-is_plain
+elements_at-returns-then-is_plain g t c = rw (plain_elements c.args.levels (g.L.Look.answer c.args.look.now) c.args.word.now (c.is_plain.ensures c.if-is_plain.true)) c.itself-then-is_plain.ensures
