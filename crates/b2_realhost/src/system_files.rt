@@ -12,10 +12,14 @@ use std::rt::Files as Disk;
 use std::time::UNIX_EPOCH;
 use std::{fs, io};
 
-/// Whether the error says that no file stands at the path: it is missing, lies below a file, or is a loop of links.
+/// Whether the error says that no file stands at the path: it is missing, lies below a file, is a loop of links, or has a name
+/// that is too long for any file.
 pub fn is_missing(error: &io::Error) -> bool {
     match error.kind() {
-        ErrorKind::NotFound | ErrorKind::NotADirectory | ErrorKind::FilesystemLoop => true,
+        ErrorKind::NotFound
+        | ErrorKind::NotADirectory
+        | ErrorKind::FilesystemLoop
+        | ErrorKind::InvalidFilename => true,
         _ => false,
     }
 }
