@@ -13,13 +13,13 @@ use Rattle.b2_metatargets.specs.declared.place.Place.{Place}
 use Rattle.b2_sights.proofs.EveryMatchIsDecided.{match_told}
 use Rattle.jam_journal.specs.Tables.{Text, Key}
 use Rattle.jam_journal.specs.Scopes.{Value}
-use Rattle.jam_scope.specs.Changes.{mark, roll_back, newest_of, IsNewest, module_in}
+use Rattle.jam_scope.specs.Changes.{changed, mark, roll_back, newest_of, set_place, IsNewest, module_in}
 use Rattle.jam_scope.specs.Lines.{find_rule, rule_place, places_from, at_key}
 use Rattle.jam_scope.specs.Worlds.{World, Worlds}
 use Rattle.jam_eval.specs.Faults.{Spot, Cause, unknown_rule, refused_in}
 use Rattle.jam_eval.specs.Outcomes.{Outcome, gives, faults, close_frame}
 use Rattle.jam_eval.specs.Refused.{Refuses}
-use Rattle.jam_eval.specs.Rolled.{back_to, call_rolled}
+use Rattle.jam_eval.specs.Rolled.{Job, back_to, in_copy, call_rolled}
 use Rattle.jam_eval.specs.Settings.{Setting, IsSetting}
 use Rattle.jam_eval.specs.States.{State}
 use Rattle.jam_eval.specs.StepJobs.{job_of, step_answer}
@@ -39,7 +39,7 @@ use Rattle.jam_interp.specs.declared.rolled.CallAnswer.{CallAnswer}
 use Rattle.jam_interp.specs.Parts.{call_value, call_rolled_at, step_text_at}
 use Rattle.jam_interp.proofs.StepsCallTheirRule.{first_there}
 use Rattle.jam_effects.proofs.RecordingDoesAsDefined.{some_key}
-use Rattle.b2_loaded.specs.Doing.{HasRule, IsPlaced, EndsWithRefusal, Evaluates, call_at, in_project_at, returned_at, entered, texts}
+use Rattle.b2_loaded.specs.Doing.{HasRule, IsPlaced, EndsWithRefusal, Evaluates, call_at, in_project_at, returned_at, entered, texts, text_placed_at, text_of_at}
 use Rattle.b2_loaded.specs.Faults.{why_of, answer_of, is_host_fault, is_out_of_memory}
 use Rattle.b2_loaded.specs.Asking.{Asks}
 use Rattle.b2_loaded.specs.Held.{held, EndsQuestion}
@@ -49,7 +49,7 @@ use Rattle.b2_loaded.specs.declared.question.Question.TheVariants.{OfRule, OfSte
 use Rattle.b2_loaded.specs.Readings.{reads}
 use Rattle.b2_loaded.specs.Seen.{setting_of, refusing}
 use Rattle.b2_loaded.specs.Turns.{turns}
-use Rattle.b2_loaded.specs.Worlds.{state_in, fault_from, placed, call_if, returned_of, answers_in, told_in}
+use Rattle.b2_loaded.specs.Worlds.{state_in, fault_from, placed, call_if, with_module, returned_of, text_of, answers_in, told_in}
 use Rattle.b2_loaded.proofs.NamesHold.{names_hold}
 
 -- ---- the setting
@@ -404,13 +404,24 @@ call_entered project name line properties spot worlds inside from to result is s
     ∙ ap (λ ws. answer_of (call_at spot name properties setting (state_in ws))) (sym is))
     does
 
-pub call_undone : (project : Place) (name : Text) (line : ℕ) (properties : List Text) (worlds inside : Worlds) (from to : Outside) (result : Result Value EvalFault) → inside ≡ mark worlds
-    → Evaluates texts (in_project_at project name line properties) inside from to result → Evaluates texts (returned_at project name line properties) worlds from to result
-call_undone project name line properties worlds inside from to result is does =
-    same_answer texts (in_project_at project name line properties) (returned_at project name line properties) worlds inside from to result
-    (λ setting. answer_back worlds (in_project_at project name line properties setting (state_in (mark worlds)))
-    ∙ ap (λ ws. answer_of (in_project_at project name line properties setting (state_in ws))) (sym is))
+-- what was done since a mark is undone
+pub undone : {A B : Type 0} (view : A → B) (what : What Kept B) (worlds inside : Worlds) (from to : Outside) (result : Result A EvalFault) → inside ≡ mark worlds
+    → Evaluates view what inside from to result → Evaluates view (λ setting s. in_copy (what setting) s) worlds from to result
+undone view what worlds inside from to result is does =
+    same_answer view what (λ setting s. in_copy (what setting) s) worlds inside from to result
+    (λ setting. answer_back worlds (what setting (state_in (mark worlds))) ∙ ap (λ ws. answer_of (what setting (state_in ws))) (sym is))
     does
+
+-- in the directory of a project
+pub text_there : (project : Place) (job : Job) (worlds inside : Worlds) (from to : Outside) (result : Result StepText EvalFault) → inside ≡ changed (set_place project.dir) worlds
+    → Evaluates step_answer (step_text_at job) inside from to result → Evaluates step_answer (text_placed_at project job) worlds from to result
+text_there project job worlds inside from to result is does =
+    same_answer step_answer (step_text_at job) (text_placed_at project job) worlds inside from to result
+    (λ setting. ap (λ ws. answer_of (step_text_at job setting (state_in ws))) (sym is))
+    does
+
+pub closed_there : (project : Place) (worlds inside : Worlds) → inside ≡ changed (set_place project.dir) worlds → worlds.now.step ≡ None → inside.now.step ≡ None
+closed_there project worlds inside is closed = ap (λ ws. ws.now.step) is ∙ closed
 
 -- ---- what is told
 
@@ -465,12 +476,14 @@ asks_returned projects worlds host from to project place name line properties re
   children = does.children;
 }
 
-pub asks_text : (projects : List Place) (worlds : Worlds) (host : ℕ) (from to : Outside) (job : StepJob) (result : Result StepText EvalFault)
-    → IfSome from.disk IsConsistent → Evaluates step_answer (step_text_at (job_of job)) worlds from to result
+pub asks_text : (projects : List Place) (worlds : Worlds) (host : ℕ) (from to : Outside) (project : Option Place) (job : StepJob) (result : Result StepText EvalFault)
+    → project ≡ with_module job.«module» projects → IfSome from.disk IsConsistent → Evaluates step_answer (text_of_at project (job_of job)) worlds from to result
     → Asks step_answer (λ a. a.step_text (job_of job)) (OfStep job) projects worlds host from to result
-asks_text projects worlds host from to job result consistent does = record {
-  told = told_where step_answer (step_text_at (job_of job)) projects worlds from to result (λ a. a.step_text (job_of job)) consistent (λ disk. refl) does;
-  ends = ends_where step_answer (step_text_at (job_of job)) projects worlds host from to result (OfStep job) consistent (λ setting e found. found) does;
+asks_text projects worlds host from to project job result is consistent does = record {
+  told = told_where step_answer (text_of_at project (job_of job)) projects worlds from to result (λ a. a.step_text (job_of job)) consistent
+      (λ disk. ap (λ p. answer_of (text_of (setting_of disk) p (job_of job) (state_in worlds))) (sym is)) does;
+  ends = ends_where step_answer (text_of_at project (job_of job)) projects worlds host from to result (OfStep job) consistent
+      (λ setting e found. ap (λ p. answer_of (text_of setting p (job_of job) (state_in worlds))) (sym is) ∙ found) does;
   counted = does.counted;
   disk = does.disk;
   children = does.children;

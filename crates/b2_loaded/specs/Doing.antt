@@ -1,5 +1,5 @@
 -- What the parts of an evaluation do, as they are proved.
-use Rattle.std.specs.Prelude.{◌≡◌, ℕ, List, [], ◌∷◌, Some, Result, Err, IfErr}
+use Rattle.std.specs.Prelude.{◌≡◌, ℕ, List, [], ◌∷◌, Option, Some, Result, Err, IfErr}
 use Rattle.b2_host.specs.Disks.{Disk, IsConsistent}
 use Rattle.b2_host.specs.Outside.{Outside}
 use Rattle.b2_host.specs.OutsideLaws.{Keeps}
@@ -14,6 +14,7 @@ use Rattle.jam_scope.specs.Rules.{Rule}
 use Rattle.jam_scope.specs.Worlds.{World, Worlds}
 use Rattle.jam_eval.specs.Faults.{Spot}
 use Rattle.jam_eval.specs.Outcomes.{in_module}
+use Rattle.jam_eval.specs.Rolled.{Job, StepAnswer, step_text}
 use Rattle.jam_eval.specs.States.{with_world}
 use Rattle.jam_natives.specs.Keeping.{Kept}
 use Rattle.jam_effects.specs.declared.fault.EvalCause.{EvalCause}
@@ -23,7 +24,7 @@ use Rattle.jam_effects.specs.Causes.{cause_of, refused_by, HoldsNoMemory, IsFaul
 use Rattle.jam_effects.specs.Views.{What}
 use Rattle.b2_loaded.specs.Faults.{answer_of, is_host_fault, is_out_of_memory}
 use Rattle.b2_loaded.specs.Seen.{setting_of, refusing}
-use Rattle.b2_loaded.specs.Worlds.{state_in, call_found, returned_in}
+use Rattle.b2_loaded.specs.Worlds.{state_in, call_found, returned_in, text_in, text_of}
 
 -- a fault that occurs while no statement runs, moved to a spot
 abbrev pub IsPlacedAt : Spot → Text → ℕ → EvalCause → EvalFault → Type 0
@@ -87,3 +88,13 @@ ReturnsOn outside project name line properties = EvaluatesOn outside texts (retu
 -- the worlds in which a rule of a project is called
 abbrev pub entered : Place → Worlds → Worlds
 entered project worlds = rescoped (enter project.«module») (changed (set_place project.dir) worlds)
+
+-- the text of a step in the directory of a project; the same, and then all is undone; and so where it is one of a project
+abbrev pub text_placed_at : Place → Job → What Kept StepAnswer
+text_placed_at project job = λ setting s. step_text setting job (with_world (set_place project.dir) s)
+
+abbrev pub text_in_at : Place → Job → What Kept StepAnswer
+text_in_at project job = λ setting s. text_in setting project job s
+
+abbrev pub text_of_at : Option Place → Job → What Kept StepAnswer
+text_of_at project job = λ setting s. text_of setting project job s

@@ -1,6 +1,8 @@
 -- What a loaded project's own text answers, by evaluation in the worlds that loading left.
 use Rattle.std.specs.Prelude.{ℕ, List, [], ◌∷◌, Option, Some, None, slice_get}
+use Rattle.std.specs.List.{find}
 use Rattle.std.specs.Option.{option_map}
+use Rattle.std.specs.Str.{bytes_eq}
 use Rattle.b2_host.specs.Disks.{Disk}
 use Rattle.b2_evaluation.specs.Answers.{Answers}
 use Rattle.b2_metatargets.specs.declared.place.Place.{Place}
@@ -12,7 +14,7 @@ use Rattle.jam_scope.specs.Rules.{Rule}
 use Rattle.jam_scope.specs.Worlds.{Worlds}
 use Rattle.jam_eval.specs.Faults.{Spot, Fault, unknown_rule}
 use Rattle.jam_eval.specs.Outcomes.{Outcome, gives, faults, fault_at, in_module}
-use Rattle.jam_eval.specs.Rolled.{in_copy, call_rolled, step_text}
+use Rattle.jam_eval.specs.Rolled.{Job, StepAnswer, in_copy, call_rolled, step_text}
 use Rattle.jam_eval.specs.Settings.{Setting}
 use Rattle.jam_eval.specs.States.{State, with_world}
 use Rattle.jam_natives.specs.Keeping.{Kept}
@@ -35,6 +37,10 @@ abbrev pub placed : {A : Type 0} → Spot → Outcome Kept A → Outcome Kept A
 placed spot (gives value s) = gives value s
 placed spot (faults fault s) = faults (fault_from spot fault.spot.path fault) s
 
+-- the project whose module this is
+abbrev pub with_module : Text → List Place → Option Place
+with_module owner projects = find (λ (project : Place). bytes_eq project.«module» owner) projects
+
 module _ (setting : Setting Kept) where
   -- a rule of this name is called with one list, if there is one
   abbrev pub call_if : Option Rule → Spot → Text → List Text → State Kept → Outcome Kept Value
@@ -56,11 +62,20 @@ module _ (setting : Setting Kept) where
   returned_of None name line properties s = gives [] s
   returned_of (Some project) name line properties s = returned_in project name line properties s
 
+  -- The text of a step is made with its project's directory as the place, which is taken back with all else.
+  abbrev pub text_in : Place → Job → State Kept → Outcome Kept StepAnswer
+  text_in project job s = in_copy (λ s₁. step_text setting job (with_world (set_place project.dir) s₁)) s
+
+  -- where its module is that of no project, the place stays
+  abbrev pub text_of : Option Place → Job → State Kept → Outcome Kept StepAnswer
+  text_of None job s = step_text setting job s
+  text_of (Some project) job s = text_in project job s
+
   -- the answers of these projects in these worlds
   abbrev pub answers_in : List Place → Worlds → Answers EvalFault
   answers_in projects worlds = record {
     returned = λ project name line properties. answer_of (returned_of (slice_get projects project) name line properties (state_in worlds));
-    step_text = λ job. answer_of (step_text setting job (state_in worlds));
+    step_text = λ job. answer_of (text_of (with_module job.owner projects) job (state_in worlds));
   }
 
 -- they are told where the files are visible

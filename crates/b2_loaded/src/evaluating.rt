@@ -1,10 +1,13 @@
 //! Evaluations in the world that loading left.
 ghost use Rattle.std.specs.Prelude.{◌≡◌, ◌∷◌, [], None, IfOk, OnOk};
+ghost use Rattle.jam_scope.specs.Changes.{changed, set_place};
 ghost use Rattle.jam_eval.specs.StepJobs.{job_of, step_answer};
 ghost use Rattle.jam_effects.specs.Causes.{HoldsNoMemory};
 ghost use Rattle.jam_effects.specs.Spots.{spot_of};
 ghost use Rattle.jam_interp.specs.Parts.{call_value, call_rolled_at, step_text_at};
+ghost use Rattle.std.specs.Option.{option_copied};
 ghost use Rattle.b2_loaded.specs.Doing.{HasRule, IsPlaced, EvaluatesOn, ReturnsOn, call_at, in_project_at, entered, texts};
+ghost use Rattle.b2_loaded.specs.Doing.{text_placed_at, text_in_at, text_of_at};
 
 use b2_base::fault::OutOfMemory;
 use b2_base::text::Text;
@@ -113,12 +116,20 @@ fn call_found<F: Files>(
     call_there(alloc, world, files, rule, properties, at)
 }
 
+/// Goes to the directory of a project. Nothing else changes.
+fn go_to(world: &mut World, project: &Place) -> Result<(), OutOfMemory>
+    ensures ok { OnOk result (world.new ≡ changed (set_place project.now.dir) world.old) }
+    ensures marked { world.new.marked ≡ world.old.marked }
+{
+    world.set_place(&project.dir)
+}
+
 /// Goes to the directory and the module of a project. Frames that are opened stay.
 fn enter(world: &mut World, project: &Place) -> Result<(), OutOfMemory>
     ensures ok { OnOk result (world.new ≡ entered project.now world.old) }
     ensures marked { world.new.marked ≡ world.old.marked }
 {
-    world.set_place(&project.dir)?;
+    go_to(world, project)?;
     world.enter(project.module.as_str())
 }
 
@@ -163,8 +174,8 @@ pub(crate) fn returned<F: Files>(
     ended
 }
 
-/// The text of a step. What its rule changed in the world is undone, after a fault too.
-pub(crate) fn text_of<F: Files>(
+/// The text of a step, in the directory that stands. What its rule changed in the world is undone, after a fault too.
+fn text_there<F: Files>(
     alloc: Global,
     world: &mut World,
     files: &mut F,
@@ -177,4 +188,57 @@ pub(crate) fn text_of<F: Files>(
     let mut natives = JamNatives::new(alloc);
     let mut turns = Turns::new(TURNS);
     step_text(alloc, world, job, &mut turns, &mut natives, files)
+}
+
+/// The text of a step, in the directory of a project, which stays.
+fn text_placed<F: Files>(
+    alloc: Global,
+    world: &mut World,
+    files: &mut F,
+    project: &Place,
+    job: &StepJob,
+) -> Result<StepText, EvalFault>
+    requires { world.old.now.step ≡ None }
+    ensures does { EvaluatesOn F.outside step_answer (text_placed_at project.now (job_of job.now)) world.old files.old files.new result }
+    ensures marked { world.new.marked ≡ world.old.marked }
+{
+    go_to(world, project)?;
+    text_there(alloc, world, files, job)
+}
+
+/// The text of a step, in the directory of a project. The place is taken back, after a fault too.
+fn text_in<F: Files>(
+    alloc: Global,
+    world: &mut World,
+    files: &mut F,
+    project: &Place,
+    job: &StepJob,
+) -> Result<StepText, EvalFault>
+    requires { world.old.now.step ≡ None }
+    ensures does { EvaluatesOn F.outside step_answer (text_in_at project.now (job_of job.now)) world.old files.old files.new result }
+    ensures world { world.new ≡ world.old }
+{
+    let mark = world.mark()?;
+    let ended = text_placed(alloc, world, files, project, job);
+    world.roll_back(mark);
+    ended
+}
+
+/// The text of a step, in the directory of its project, if it is one of a project. What its rule changed in the world is undone,
+/// after a fault too.
+pub(crate) fn text_of<F: Files>(
+    alloc: Global,
+    world: &mut World,
+    files: &mut F,
+    project: Option<&Place>,
+    job: &StepJob,
+) -> Result<StepText, EvalFault>
+    requires { world.old.now.step ≡ None }
+    ensures does { EvaluatesOn F.outside step_answer (text_of_at (option_copied project.entry) (job_of job.now)) world.old files.old files.new result }
+    ensures world { world.new ≡ world.old }
+{
+    match project {
+        Some(project) => text_in(alloc, world, files, project, job),
+        None => text_there(alloc, world, files, job),
+    }
 }

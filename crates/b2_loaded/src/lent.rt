@@ -2,8 +2,8 @@
 ghost use Rattle.std.specs.Prelude.{◌≡◌};
 ghost use Rattle.b2_host.specs.OutsideLaws.{Keeps};
 ghost use Rattle.jam_eval.specs.StepJobs.{job_of, step_answer};
-ghost use Rattle.jam_interp.specs.Parts.{step_text_at};
-ghost use Rattle.b2_loaded.specs.Doing.{EvaluatesOn, ReturnsOn};
+ghost use Rattle.std.specs.Option.{option_copied};
+ghost use Rattle.b2_loaded.specs.Doing.{EvaluatesOn, ReturnsOn, text_of_at};
 ghost use Rattle.b2_loaded.specs.Lending.{HasKept};
 
 use crate::entry::Entry;
@@ -84,18 +84,19 @@ impl<'a, F: Files, S: Entry> Lent<'a, F, S> {
         )
     }
 
-    /// The text of a step, in the world that loading left.
+    /// The text of a step of this project, in the world that loading left.
     #[tactic(auto, using(crate::proofs::LentHostKeeps::kept_on))]
     pub(crate) fn text_of(
         &mut self,
         alloc: Global,
         loaded: &mut LoadedWorld,
+        project: Option<&Place>,
         job: &StepJob,
     ) -> Result<StepText, EvalFault>
-        ensures does { EvaluatesOn F.outside step_answer (step_text_at (job_of job.now)) loaded.old.world self.old.files.now self.new.files.now result }
+        ensures does { EvaluatesOn F.outside step_answer (text_of_at (option_copied project.entry) (job_of job.now)) loaded.old.world self.old.files.now self.new.files.now result }
         ensures world { loaded.new.world ≡ loaded.old.world }
         ensures same_reference { self.new.files.ghost_name ≡ self.old.files.ghost_name }
     {
-        text_of(alloc, &mut loaded.world, self.files, job)
+        text_of(alloc, &mut loaded.world, self.files, project, job)
     }
 }

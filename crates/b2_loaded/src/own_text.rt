@@ -1,6 +1,7 @@
 //! A loaded project's own text.
 ghost use Rattle.std.specs.Prelude.{◌≡◌, slice_get};
 ghost use Rattle.std.specs.Option.{option_copied};
+ghost use Rattle.b2_loaded.specs.Worlds.{with_module};
 
 use crate::entry::Entry;
 use crate::lent::Lent;
@@ -25,12 +26,22 @@ fn project_at(projects: &[Place], place: usize) -> Option<&Place>
     projects.get(place)
 }
 
+/// The project whose module this is; takes no memory.
+fn with_module<'a>(projects: &'a [Place], owner: &Text) -> Option<&'a Place>
+    ensures { option_copied result ≡ with_module owner.now projects.now }
+{
+    projects.iter().find(|project| project.module == *owner)
+}
+
 /// The own text of a loaded project, evaluated in the world that loading left, over files that are lent. Each evaluation has
 /// 100,000 turns of its own; what it echoes is not kept.
 ///
 /// Where the files are visible, each answer is the one that evaluation gives (`told_in`), unless a call of the host failed, memory ran
 /// out, or a pattern was refused although it reads as one. The newest question with such a pattern is kept, so that it can be asked
 /// again by itself.
+///
+/// A rule of an indirect requirement runs in the directory of its project, and so does the rule of a step; the place is then as
+/// before.
 ///
 /// A project is named by its place; where none is there, nothing is returned. A name that the project sees no rule of is
 /// `UnknownRule`. This, and any other fault of a rule's call that occurs while no statement runs, stands at the project's file and the
@@ -103,8 +114,9 @@ impl<'a, F: Files, S: Entry> OwnText<'a, F, S> {
         ensures world { self.new.loaded.world ≡ self.old.loaded.world }
         ensures same_reference { self.new.host.files.ghost_name ≡ self.old.host.files.ghost_name }
     {
+        let project = with_module(self.projects, &job.module);
         let loaded = &mut self.loaded;
-        self.host.text_of(self.alloc, loaded, job)
+        self.host.text_of(self.alloc, loaded, project, job)
     }
 
     /// Keeps a question in which a pattern was refused; none where no memory was left to copy it.

@@ -1,6 +1,6 @@
 use Rattle.std.proofs.lemmas.Result.{err_from_is_err_and}
-use Rattle.b2_loaded.specs.Doing.{returned_at, texts}
-use Rattle.b2_loaded.proofs.EvaluationsGiveWhatIsTold.{no_memory_left, call_undone, newest, back}
+use Rattle.b2_loaded.specs.Doing.{in_project_at, returned_at, texts}
+use Rattle.b2_loaded.proofs.EvaluationsGiveWhatIsTold.{no_memory_left, undone, newest, back}
 use Rattle.b2_loaded.proofs.evaluating.returned.Goals as goal
 
 pub returns-in_err-mark-clause-does : goal.returns-in_err-mark-clause-does
@@ -13,8 +13,8 @@ roll_back-requires g c = newest c.args.world.now c.mark.new.self c.call_in-ended
 
 pub returns-clause-does : goal.returns-clause-does
 returns-clause-does g c =
-    call_undone c.args.project.now c.args.rule.now c.args.line c.args.properties.now c.args.world.now c.mark.new.self (g.F.Files.outside c.args.files.now) (g.F.Files.outside c.call_in-ended.new.files) c.call_in-ended.result
-    c.in_ok-mark.ensures.ok c.call_in-ended.ensures.does
+    undone texts (in_project_at c.args.project.now c.args.rule.now c.args.line c.args.properties.now) c.args.world.now c.mark.new.self (g.F.Files.outside c.args.files.now)
+    (g.F.Files.outside c.call_in-ended.new.files) c.call_in-ended.result c.in_ok-mark.ensures.ok c.call_in-ended.ensures.does
 
 pub returns-clause-world : goal.returns-clause-world
 returns-clause-world g c = back c.args.world.now c.mark.new.self c.call_in-ended.new.world c.roll_back.new.self c.in_ok-mark.ensures.ok c.call_in-ended.ensures.marked c.roll_back.ensures
