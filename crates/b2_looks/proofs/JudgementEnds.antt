@@ -120,13 +120,13 @@ module _ (u : Update) (events : List ChildEvent) (first : List LogLine) (step : 
       (p, at_p, big_to_digest bytes (digest_input on (record { number = number; needed = needed; step = step; at = at; known = is.0 }) (subst (λ b. on_settled u events p (Some b)) same is.1)) size_is large))
 
 -- the records of other steps stay where neither files nor lines change
-others_same : (u : Update) (events : List ChildEvent) (step : Step) (now : Folder) (log more : List LogLine) → more ≡ log → OthersStayNoted u events step now log now more
+pub others_same : (u : Update) (events : List ChildEvent) (step : Step) (now : Folder) (log more : List LogLine) → more ≡ log → OthersStayNoted u events step now log now more
 others_same u events step now log more same i other members at differ not inside had = subst (λ l. IsNotedStep u now l other members) (sym same) had
 
 -- ---- the verdict
 
 -- what a judgement tells where the files stay as they are
-judge_by : (way : Way) (step : Step) (numbers : StepNumbers) (x y : Outside) (s t : Sights) (r : Result Bool Stop) → y.disk ≡ x.disk
+pub judge_by : (way : Way) (step : Step) (numbers : StepNumbers) (x y : Outside) (s t : Sights) (r : Result Bool Stop) → y.disk ≡ x.disk
     → ((disk : Disk) → x.disk ≡ Some disk → (u : Update) (events : List ChildEvent) (first : List LogLine) (reads : List Read) (members : List (List ℕ × Value)) → JudgesSo u way → Distinguishes u disk.past → IsToJudge u events step numbers members s.facts → HaveScanLines u events members disk.now s.journal
     → IsUnderWay u events first reads disk s → GoesOnWith u events first reads (λ fresh. IsVerdict u events disk.now t.journal step members fresh × OthersStayNoted u events step disk.now s.journal disk.now t.journal) x y disk t r)
     → JudgeTold way step numbers x s y t r

@@ -14,3 +14,4 @@ pub mod LooksAreTold
 pub mod ScansGoOn
 pub mod LookIsTold
 pub mod JudgementIsTold
+pub mod StaleStepIsFound

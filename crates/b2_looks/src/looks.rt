@@ -1,5 +1,5 @@
 //! How steps are looked at and judged.
-ghost use Rattle.std.specs.Prelude.{◌≡◌, ◌≤◌, ◌<◌, [], ℕ, List as Items, Some, length, IfOk, OnOk};
+ghost use Rattle.std.specs.Prelude.{◌≡◌, ◌≤◌, ◌<◌, [], ℕ, List as Items, false, Some, length, IfOk, OnOk};
 ghost use Rattle.b2_host.specs.LogChanges.{ChangesOnlyLog};
 ghost use Rattle.b2_host.specs.declared.children.ChildEvent.{ChildEvent};
 ghost use Rattle.b2_plan.specs.declared.plan.Plan.{Plan};
@@ -12,6 +12,7 @@ ghost use Rattle.b2_facts.specs.Stops.{StopTold};
 ghost use Rattle.b2_board.specs.Boards.{IsBoard, IsOver, members_of};
 ghost use Rattle.b2_verdicts.specs.Sights.{AreNumbers, AllAsked};
 ghost use Rattle.b2_verdicts.specs.Made.{AreRising};
+ghost use Rattle.b2_verdicts.specs.Digested.{AreFound};
 ghost use Rattle.b2_verdicts.specs.Calls.{IsOfStep};
 ghost use Rattle.b2_looks.specs.Looks.{AreLooks, LooksOn, Follows, IsOfUnstarted, IsJudged, LooksAtFiles, looks_ahead};
 ghost use Rattle.b2_looks.specs.UnderWay.{LookTold};
@@ -26,7 +27,7 @@ use b2_log::line::LogLine;
 use b2_plan::plan::Plan;
 use b2_plan::step::Step;
 use b2_reach::sights::Sights;
-use b2_verdicts::record::{needs_migration, record_of};
+use b2_verdicts::record::{find_inputs, needs_migration, record_of};
 use b2_verdicts::step_numbers::StepNumbers;
 use b2_verdicts::verdict::verdict;
 use b2_verdicts::way::Way;
@@ -102,7 +103,7 @@ fn migrate<F: Files>(
 }
 
 /// Whether a step is fresh of which all that it reads is settled. A fresh one is given its record with digests, where
-/// judging is by digests.
+/// judging is by digests. What the record of a stale one will have of its members is found, before it starts and they may change.
 fn is_fresh<F: Files>(
     alloc: Global,
     way: Way,
@@ -120,12 +121,22 @@ fn is_fresh<F: Files>(
         → LooksAtFiles steps roots (IsOfStep numbers.now) sights.old (F.outside files.old) sights.new
         (F.outside files.new) result }
     ensures includes { IncludesStay sights.old.facts sights.new.facts }
+    ensures found { IfOk result (λ fresh. fresh ≡ false → step.now.notfile ≡ false
+        → AreFound way.by_digest (F.outside files.old).disk sights.new.facts numbers.now.ins) }
     ensures told { JudgeTold way step.now numbers.now (F.outside files.old) sights.old
         (F.outside files.new) sights.new result }
 {
     let last = sights.journal.record(step.outs.as_slice());
     let point = verdict(alloc, way, step, numbers, last, &mut sights.facts, files)?;
     if point.is_some() {
+        find_inputs(
+            alloc,
+            way.by_digest,
+            step,
+            numbers,
+            &mut sights.facts,
+            files,
+        )?;
         return Ok(false);
     }
     if !way.by_digest {

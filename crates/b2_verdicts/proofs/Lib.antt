@@ -15,3 +15,4 @@ pub mod RecordsAreProper
 pub mod MigrationsAreNeeded
 pub mod MissingFiles
 pub mod OnlyDigestsAreTooBig
+pub mod InputsAreFound

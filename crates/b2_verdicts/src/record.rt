@@ -1,5 +1,5 @@
 //! Records of steps.
-ghost use Rattle.std.specs.Prelude.{◌≡◌, ◌⊎◌, ◌<◌, Bool, true, false, List as Items, ℕ, length, Some, None, MatchOption, IfNone, IfOk, IfErr, IsTrue};
+ghost use Rattle.std.specs.Prelude.{◌≡◌, ◌⊎◌, ◌<◌, Bool, true, false, List as Items, ℕ, length, Some, None, MatchOption, IfNone, IfOk, OnOk, IfErr, IsTrue};
 ghost use Rattle.std.specs.Option.{IfSome, option_copied};
 ghost use Rattle.std.specs.List.{Contains};
 ghost use Rattle.b2_plan.specs.declared.step.Step.{Step};
@@ -17,6 +17,7 @@ ghost use Rattle.b2_verdicts.specs.Points.{HaveDigests};
 ghost use Rattle.b2_verdicts.specs.Calls.{IsOfStep, Always, Asks, IfTooBig};
 ghost use Rattle.b2_verdicts.specs.Made.{HasDigestsBy, IsMadeOf, AreRising};
 ghost use Rattle.b2_verdicts.specs.Made.{IsSomeUnseen, IsSomeGone, IsWithoutFile};
+ghost use Rattle.b2_verdicts.specs.Digested.{AllDigested, AreFound};
 
 use crate::comparing::first_other;
 use crate::digests::find_digest;
@@ -163,6 +164,53 @@ pub fn record_of<F: Files>(
         None => Ok(None),
         Some(digests) => Ok(record_with(alloc, step, numbers, facts, Some(digests))?),
     }
+}
+
+/// Finds the digests of files.
+fn digest_all<F: Files>(
+    alloc: Global,
+    facts: &mut Facts,
+    files: &mut F,
+    numbers: &[u32],
+) -> Result<(), Stop>
+    requires { AreNumbers facts.old numbers.now }
+    ensures asks { Asks (Contains numbers.now) Always facts.old facts.new
+        (F.outside files.old) (F.outside files.new) result }
+    ensures digested { OnOk result (AllDigested (F.outside files.old).disk facts.new numbers.now) }
+{
+    for number in numbers {
+        find_digest(alloc, facts, files, *number)?;
+    }
+    Ok(())
+}
+
+/// Finds what the record of a stale step will have of its members, before the step starts: their stamps and, where judging is by
+/// digests, their digests. So a member that is edited while the step runs differs from the record. A step that owes no file
+/// has no record, and nothing is found.
+pub fn find_inputs<F: Files>(
+    alloc: Global,
+    by_digest: bool,
+    step: &Step,
+    numbers: &StepNumbers,
+    facts: &mut Facts,
+    files: &mut F,
+) -> Result<(), Stop>
+    requires { AreNumbers facts.old numbers.now.ins }
+    ensures asks { Asks (IsOfStep numbers.now) Always facts.old facts.new
+        (F.outside files.old) (F.outside files.new) result }
+    ensures unread { by_digest ≡ false → (F.outside files.new).reads ≡ (F.outside files.old).reads }
+    ensures only { IfErr result (IfTooBig ((by_digest ≡ true) × (step.now.notfile ≡ false))) }
+    ensures found { OnOk result (step.now.notfile ≡ false
+        → AreFound by_digest (F.outside files.old).disk facts.new numbers.now.ins) }
+{
+    if step.notfile {
+        return Ok(());
+    }
+    ask_all(facts, files, numbers.ins.as_slice())?;
+    if !by_digest {
+        return Ok(());
+    }
+    digest_all(alloc, facts, files, numbers.ins.as_slice())
 }
 
 /// Whether a record has other files than these, or other stamps.
