@@ -1,10 +1,10 @@
 //! The program `b2`.
 #![tactic(auto)]
 
+use b2_program::command_line::words_of;
+use b2_program::program::run_program;
 use b2_realhost::real_host::RealHost;
 use b2_realhost::real_sink::RealSink;
-use b2_top::command_line::words_of;
-use b2_top::program::run_program;
 use std::process::ExitCode;
 
 /// Carries out the words of the command line over the system, and ends with the status of the answer.

@@ -1,4 +1,4 @@
--- Words that ask for a build ask for one job or more.
+-- Words that ask for a build ask for one job or more, and for at most 64.
 use Rattle.std.proofs.Common.{◌≡◌, ℕ, zero, suc, ◌≤◌, Bool, true, false, cond, List, [], ◌∷◌, codes, Option, Some, None, option_map, subst, arith}
 use Rattle.std.specs.Prelude.{⊤, filter, option_and_then}
 use Rattle.std.specs.List.{filter_map}
@@ -12,36 +12,42 @@ use Rattle.b2_words.specs.declared.words.Command.TheVariants as commands
 use Rattle.b2_words.specs.declared.words.Words.{Words}
 use Rattle.b2_top.specs.declared.build_command.BuildCommand.{BuildCommand}
 use Rattle.b2_top.specs.Commands.{options_in, command_of, command_in, build_command}
+use Rattle.b2_top.specs.Laws.{FewJobs}
 
--- a build has some job
+-- a number is from 1 to the greatest
+abbrev IsUpTo : ℕ → ℕ → Type 0
+IsUpTo most n = (1 ≤ n) × (n ≤ most)
+
+-- a build has some job, and few
 abbrev HasJob : Command → Type 0
-HasJob (commands.Build options) = 1 ≤ options.jobs
+HasJob (commands.Build options) = IsUpTo most_jobs options.jobs
 HasJob (commands.Look view) = ⊤
 HasJob (commands.Drill steps) = ⊤
 
-abbrev IsSomeNumber : ℕ → Type 0
-IsSomeNumber n = 1 ≤ n
+one_more : (most : ℕ) (found : Option ℕ) → IfSome found (IsUpTo most) → IfSome found (IsUpTo (suc most))
+one_more most None h = tt
+one_more most (Some n) h = (h.0, let low = h.1 in omega (arith, low))
 
-by_greatest : (n : ℕ) (word : Word) (is : Bool) → IfSome (number n word) IsSomeNumber → IfSome (cond is (Some (suc n)) (number n word)) IsSomeNumber
-by_greatest n word true h = omega arith
-by_greatest n word false h = h
+by_greatest : (n : ℕ) (word : Word) (is : Bool) → IfSome (number n word) (IsUpTo n) → IfSome (cond is (Some (suc n)) (number n word)) (IsUpTo (suc n))
+by_greatest n word true h = (omega arith, omega arith)
+by_greatest n word false h = one_more n (number n word) h
 
-number_from_one : (most : ℕ) (word : Word) → IfSome (number most word) IsSomeNumber
+number_from_one : (most : ℕ) (word : Word) → IfSome (number most word) (IsUpTo most)
 unfolding number
 number_from_one zero word = tt
 number_from_one (suc n) word = by_greatest n word (bytes_eq (decimal (suc n)) word) (number_from_one n word)
 
-jobs_from_one : (value : Option Word) → IfSome (jobs_meant value) IsSomeNumber
-jobs_from_one None = omega arith
+jobs_from_one : (value : Option Word) → IfSome (jobs_meant value) (IsUpTo most_jobs)
+jobs_from_one None = (omega arith, omega arith)
 jobs_from_one (Some word) = number_from_one most_jobs word
 
-options_from_one : (all quit : Bool) (jobs : Option ℕ) (digest : Option Bool) → IfSome jobs IsSomeNumber
-    → IfSome (option_and_then (λ count. option_map (build_options count all quit) digest) jobs) (λ (o : BuildOptions). 1 ≤ o.jobs)
+options_from_one : (all quit : Bool) (jobs : Option ℕ) (digest : Option Bool) → IfSome jobs (IsUpTo most_jobs)
+    → IfSome (option_and_then (λ count. option_map (build_options count all quit) digest) jobs) (λ (o : BuildOptions). IsUpTo most_jobs o.jobs)
 options_from_one all quit None digest h = tt
 options_from_one all quit (Some count) None h = tt
 options_from_one all quit (Some count) (Some digest) h = h
 
-command_has : (options : Option BuildOptions) (steps table : Bool) → IfSome options (λ (o : BuildOptions). 1 ≤ o.jobs)
+command_has : (options : Option BuildOptions) (steps table : Bool) → IfSome options (λ (o : BuildOptions). IsUpTo most_jobs o.jobs)
     → IfSome (option_and_then (λ o. command_meant o steps table) options) HasJob
 command_has None steps table h = tt
 command_has (Some o) false false h = h
@@ -87,14 +93,20 @@ reading_has (word ∷ rest) = by_lead (after_lead (codes "--drill=") word)
     by_lead None = meaning_has (items by_shape (word ∷ rest))
     by_lead (Some count) = by_rest count rest
 
-pub some_job : (words : List Word) (command : BuildCommand) → build_command words ≡ Some command → 1 ≤ command.options.jobs
-some_job words command asked = by_reading (reading words) (reading_has words) asked
+asked_jobs : (words : List Word) (command : BuildCommand) → build_command words ≡ Some command → IsUpTo most_jobs command.options.jobs
+asked_jobs words command asked = by_reading (reading words) (reading_has words) asked
   where
-    by_command : (free : List Word) (read : Command) → HasJob read → option_map (command_of free) (options_in read) ≡ Some command → 1 ≤ command.options.jobs
-    by_command free (commands.Build options) h is = let same : command_of free options ≡ command = cc in subst (λ (c : BuildCommand). 1 ≤ c.options.jobs) same h
+    by_command : (free : List Word) (read : Command) → HasJob read → option_map (command_of free) (options_in read) ≡ Some command → IsUpTo most_jobs command.options.jobs
+    by_command free (commands.Build options) h is = let same : command_of free options ≡ command = cc in subst (λ (c : BuildCommand). IsUpTo most_jobs c.options.jobs) same h
     by_command free (commands.Look view) h is = absurd cc
     by_command free (commands.Drill steps) h is = absurd cc
 
-    by_reading : (found : Option Words) → Read found → command_in found ≡ Some command → 1 ≤ command.options.jobs
+    by_reading : (found : Option Words) → Read found → command_in found ≡ Some command → IsUpTo most_jobs command.options.jobs
     by_reading None h is = absurd cc
     by_reading (Some read) h is = by_command read.words read.command h is
+
+pub some_job : (words : List Word) (command : BuildCommand) → build_command words ≡ Some command → 1 ≤ command.options.jobs
+some_job words command asked = (asked_jobs words command asked).0
+
+pub few_jobs : FewJobs
+few_jobs words command asked = (asked_jobs words command asked).1

@@ -2,7 +2,7 @@ mod FaultsCountFromEarlier
 mod PiecesWrittenMakeTheWhole
 mod OnlyPatternsRefuseAPlan
 mod WrittenBytesAreTold
-mod JobsAreFromOne
+pub mod JobsAreFromOne
 mod TrueLinesAreStable
 mod DefinedBuildLacksNothing
 mod StillCallsAnswerAsPromised

@@ -5,7 +5,8 @@ use Rattle.b2_host.specs.Disks.{Disk}
 use Rattle.b2_base.specs.Counts.{Rose}
 use Rattle.b2_base.specs.Bytes.{IsFrontOf}
 use Rattle.b2_host.specs.Outside.{Outside}
-use Rattle.b2_host.specs.Output.{Output}
+use Rattle.b2_host.specs.Output.{Output, with_written}
+use Rattle.b2_host.specs.OutputLaws.{OutKeeps, out_keeps_same}
 use Rattle.b2_words.specs.Words.{Word}
 use Rattle.b2_planning.specs.declared.planned.Planned.{Planned as Made}
 use Rattle.b2_planning.specs.Plans.{seen}
@@ -30,11 +31,13 @@ use Rattle.b2_top.specs.Writing.SaysFault.{fault_said, fault_failed, fault_stopp
 use Rattle.b2_update.specs.Moments.{moment}
 use Rattle.b2_top.specs.declared.look.Look.{Look}
 use Rattle.b2_top.specs.Looks.{look_of, look_report}
-use Rattle.b2_top.specs.Shows.{HasPlan, IsShown, IsRefused, BeginsReport, BeginsSome, IsOfPlanning, IsAnswered}
+use Rattle.b2_top.specs.Shows.{HasPlan, HasNoPlan, IsShown, IsRefused, BeginsReport, BeginsSome, IsOfPlanning, IsAnswered}
 use Rattle.b2_top.specs.Shows.BeginsReport.{usage, shown, refused}
 use Rattle.b2_top.specs.Shows.BeginsSome.{nothing, report, host_fault}
 use Rattle.b2_top.specs.Tells.{AnswersWith}
+use Rattle.b2_top.specs.Told.{HostFailedFirst}
 use Rattle.b2_top.proofs.OnlyPatternsRefuseAPlan.{whole_of, pattern_refused}
+use Rattle.b2_top.proofs.PiecesWrittenMakeTheWhole.{keeps_written, keeps_failed}
 use Rattle.b2_top.proofs.WrittenBytesAreTold.{if_map, if_all, written_told, text_of, faults_of, has_cause}
 
 -- ---- answers, whatever the words are
@@ -50,9 +53,12 @@ module _ (words : List Word) (before after : Moment) where
     usage = λ none. inr (inl refl);
     alone = alone;
     no_usage = λ e. absurd cc;
+    usage_told = λ e. absurd cc;
     whole = tt;
     not_failed = tt;
     complete = if_all before.host.disk (λ disk plan. inl (inr (inr (inl refl))));
+    cause = if_all before.host.disk (λ disk. tt);
+    out_keeps = keeps_failed bytes before.out after.out f;
   }
 
   -- memory ran out
@@ -66,9 +72,12 @@ module _ (words : List Word) (before after : Moment) where
     usage = λ none. inr (inr refl);
     alone = alone;
     no_usage = λ e. absurd cc;
+    usage_told = λ e. absurd cc;
     whole = tt;
     not_failed = tt;
     complete = if_all before.host.disk (λ disk plan. inl (inr (inr (inr refl))));
+    cause = if_all before.host.disk (λ disk. tt);
+    out_keeps = keeps_written s.part before.out after.out s.same;
   }
 
 -- nothing was written, for lack of memory
@@ -80,9 +89,12 @@ ended_short words h0 h1 o0 o1 same alone = subst (λ o. IsAnswered words (moment
   usage = λ none. inr (inr refl);
   alone = alone;
   no_usage = λ e. absurd cc;
+  usage_told = λ e. absurd cc;
   whole = tt;
   not_failed = tt;
   complete = if_all h0.disk (λ disk plan. inl (inr (inr (inr refl))));
+  cause = if_all h0.disk (λ disk. tt);
+  out_keeps = out_keeps_same o0 o0 refl;
 })
   where
     append_none : (xs : List ℕ) → xs ≡ xs ++ []
@@ -105,9 +117,12 @@ answered_usage words host x y result none (said is p) = subst (IsAnswered words 
   usage = λ e. inl refl;
   alone = λ e. refl;
   no_usage = λ e. none;
+  usage_told = λ e. p;
   whole = tt;
   not_failed = tt;
   complete = if_all host.disk (λ disk plan. let e : None ≡ Some plan.look = sym none ∙ plan.asked in absurd cc);
+  cause = if_all host.disk (λ disk. none);
+  out_keeps = keeps_written usage_line x y p;
 })
 answered_usage words host x y result none (failed is f) =
     subst (IsAnswered words (moment host x) (moment host y)) (sym is) (ended_sink words (moment host x) (moment host y) usage_line f (λ e. refl) refl
@@ -138,8 +153,12 @@ module _ (law : OneMeaning) (words : List Word) (look : Look) (asked : look_of w
     abbrev whole_look : List ℕ
     whole_look = look_report echoes look.view (seen made)
 
+    has_plan : (disk : Disk) → IsPrepared disk look.words echoes (Ok made) → HasPlan words disk
+    has_plan disk h = record { look = look; echoes = echoes; planned = seen made; asked = asked; means = h.1 }
+
     is_shown : (disk : Disk) → IsPrepared disk look.words echoes (Ok made) → IsShown words disk whole_look
-    is_shown disk h = record { plan = record { look = look; echoes = echoes; planned = seen made; asked = asked; means = h.1 }; report = refl }
+    unfolding has_plan
+    is_shown disk h = record { plan = has_plan disk h; report = refl }
 
     pub answered_look : (result : Answer) → Says answers.Ok whole_look o0 o1 result → Promised result
     answered_look result (said is p) =
@@ -151,9 +170,12 @@ module _ (law : OneMeaning) (words : List Word) (look : Look) (asked : look_of w
           usage = λ none. not_none none;
           alone = λ none. not_none none;
           no_usage = λ e. absurd cc;
+          usage_told = λ e. absurd cc;
           whole = tt;
           not_failed = tt;
           complete = if_all h0.disk (λ disk plan. inl (inl refl));
+          cause = if_map h0.disk has_plan told;
+          out_keeps = keeps_written whole_look o0 o1 p;
         })
     answered_look result (failed is f) =
         subst Promised (sym is) (ended_sink words (moment h0 o0) (moment h1 o1) whole_look f (λ none. not_none none) same
@@ -167,8 +189,11 @@ module _ (law : OneMeaning) (words : List Word) (look : Look) (asked : look_of w
     abbrev whole_refusal : List ℕ
     whole_refusal = refusal_report echoes [] (fault_of why)
 
+    no_plan : (disk : Disk) → IsPrepared disk look.words echoes (Err (stops.Refused why)) → HasNoPlan words disk echoes (fault_of why)
+    no_plan disk h = record { look = look; asked = asked; cause = has_cause disk look.words echoes why h }
+
     is_refused : (disk : Disk) → IsPrepared disk look.words echoes (Err (stops.Refused why)) → IsRefused words disk (fault_of why) whole_refusal
-    is_refused disk h = record { look = look; echoes = echoes; asked = asked; cause = has_cause disk look.words echoes why h; report = refl }
+    is_refused disk h = record { echoes = echoes; cause = no_plan disk h; report = refl }
 
     same_look : (disk : Disk) (plan : HasPlan words disk) → plan.look ≡ look
     same_look disk plan = let e : Some plan.look ≡ Some look = sym plan.asked ∙ asked in cc
@@ -181,11 +206,14 @@ module _ (law : OneMeaning) (words : List Word) (look : Look) (asked : look_of w
       usage = λ none. not_none none;
       alone = λ none. not_none none;
       no_usage = λ e. absurd cc;
+      usage_told = λ e. absurd cc;
       whole = whole_of why input;
       not_failed = is_of_planning why;
       complete = if_map h0.disk (λ disk h plan.
           inr (subst (λ (l : Look). IsPatternRefused disk l.words (answers.Refused (fault_of why))) (sym (same_look disk plan))
           (pattern_refused law disk look.words plan.echoes echoes plan.planned (subst (λ (l : Look). Means disk None l.words plan.echoes (Ok plan.planned)) (same_look disk plan) plan.means) why input h))) told;
+      cause = if_map h0.disk (λ disk h. (echoes, no_plan disk h)) told;
+      out_keeps = keeps_written whole_refusal o0 o1 p;
     })
     answered_refusal result (failed is f) =
         subst Promised (sym is) (ended_sink words (moment h0 o0) (moment h1 o1) whole_refusal f (λ none. not_none none) same
@@ -197,23 +225,31 @@ module _ (law : OneMeaning) (words : List Word) (look : Look) (asked : look_of w
   -- the host failed
   module _ (rose : Rose h0.faults h1.faults) where
     ended_host : (bytes : List ℕ) → o1.written ≡ option_map (λ so_far. so_far ++ bytes) o0.written
-        → ((bytes ≡ fault_report echoes) × (o1.faults ≡ o0.faults)) ⊎ (SinkFailed o0 o1 × IsFrontOf bytes (fault_report echoes)) → Promised answers.HostFault
-    ended_host bytes text ended = record {
+        → ((bytes ≡ fault_report echoes) × (o1.faults ≡ o0.faults)) ⊎ (SinkFailed o0 o1 × IsFrontOf bytes (fault_report echoes))
+        → HostFailedFirst (moment h0 o0) (moment h1 o1) → OutKeeps o0 o1 → Promised answers.HostFault
+    ended_host bytes text ended first keeps = record {
       shown = λ e. absurd cc;
       reported = written_told (moment h0 o0) (moment h1 o1) bytes _ text (if_all h0.disk (λ disk. record { look = look; echoes = echoes; asked = asked; ended = ended }));
-      counts = rose;
+      counts = first;
       usage = λ none. not_none none;
       alone = λ none. not_none none;
       no_usage = λ e. absurd cc;
+      usage_told = λ e. absurd cc;
       whole = tt;
       not_failed = tt;
       complete = if_all h0.disk (λ disk plan. inl (inr (inl refl)));
+      cause = if_all h0.disk (λ disk. tt);
+      out_keeps = keeps;
     }
+
+    first_so : (o1 ≡ with_written (fault_report echoes) o0) ⊎ FailsIn (fault_report echoes) o0 o1 → HostFailedFirst (moment h0 o0) (moment h1 o1)
+    first_so told = record { host = rose; out = o0; sink = refl; echoes = echoes; told = told }
 
     pub answered_fault : (result : Answer) → SaysFault (fault_report echoes) o0 o1 result → Promised result
     answered_fault result (fault_said is p) =
-        subst Promised (sym is) (ended_host (fault_report echoes) (text_of (fault_report echoes) o0 o1 p) (inl (refl, faults_of (fault_report echoes) o0 o1 p)))
-    answered_fault result (fault_failed is f) = subst Promised (sym is) (ended_host f.part f.written (inr (f.sink, f.begins)))
+        subst Promised (sym is) (ended_host (fault_report echoes) (text_of (fault_report echoes) o0 o1 p) (inl (refl, faults_of (fault_report echoes) o0 o1 p))
+        (first_so (inl p)) (keeps_written (fault_report echoes) o0 o1 p))
+    answered_fault result (fault_failed is f) = subst Promised (sym is) (ended_host f.part f.written (inr (f.sink, f.begins)) (first_so (inr f)) (keeps_failed (fault_report echoes) o0 o1 f))
     answered_fault result (fault_stopped is s) =
         subst Promised (sym is) (ended_memory words (moment h0 o0) (moment h1 o1) (fault_report echoes) s (λ none. not_none none)
         (λ part front. if_all h0.disk (λ disk. host_fault echoes rose front)))

@@ -379,6 +379,7 @@ all_promised law made words before after result c keeps consistent now =
       usage = c.usage;
       alone = c.alone;
       no_usage = c.no_usage;
+      usage_told = c.usage_told;
       starts_none = c.starts_none;
       whole = c.whole;
       complete = both_follow d e (is_complete law made words before.host after.host result) seen;

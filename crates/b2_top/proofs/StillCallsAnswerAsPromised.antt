@@ -1,12 +1,12 @@
 -- A call that started nothing and changed no file: its usage line, refusal or fault is one that the call promises.
-use Rattle.std.proofs.Common.{◌≡◌, ℕ, List, [], ◌∷◌, ◌++◌, Option, Some, None, IfSome, inl, inr, refl, sym, ap, ◌∙◌, subst, append-nil, arith}
+use Rattle.std.proofs.Common.{◌≡◌, ◌⊎◌, ℕ, List, [], ◌∷◌, ◌++◌, Option, Some, None, IfSome, inl, inr, refl, sym, ap, ◌∙◌, subst, append-nil, arith}
 use Rattle.std.specs.List.{Contains}
 use Rattle.std.specs.Option.{option_map}
 use Rattle.b2_top.proofs.WrittenBytesAreTold.{if_map, if_all, text_of, faults_of}
 use Rattle.b2_top.proofs.PiecesWrittenMakeTheWhole.{written_none, keeps_written, keeps_failed}
 use Rattle.b2_top.specs.RefusalCauses.{fault_of, IsPatternRefused}
 use Rattle.b2_top.specs.Reports.{refusal_report, fault_report}
-use Rattle.b2_top.specs.Told.{StaysStill}
+use Rattle.b2_top.specs.Told.{HostFailedFirst, StaysStill}
 use Rattle.b2_top.specs.Writing.{FailsIn, StopsIn, Says, SaysFault}
 use Rattle.b2_top.specs.Writing.Says.{said, failed, stopped}
 use Rattle.b2_top.specs.Writing.SaysFault.{fault_said, fault_failed, fault_stopped}
@@ -136,6 +136,7 @@ module _ (made : Made) (words : List Word) (h0 h1 : Outside) (o0 o1 : Output) (i
     usage = λ none. inr (inl refl);
     alone = alone;
     no_usage = λ e. absurd cc;
+    usage_told = λ e. absurd cc;
     starts_none = tt;
     whole = tt;
     patterns = if_all h0.disk (λ disk. tt);
@@ -152,6 +153,7 @@ module _ (made : Made) (words : List Word) (h0 h1 : Outside) (o0 o1 : Output) (i
     usage = λ none. inr (inr refl);
     alone = alone;
     no_usage = λ e. absurd cc;
+    usage_told = λ e. absurd cc;
     starts_none = tt;
     whole = tt;
     patterns = if_all h0.disk (λ disk. tt);
@@ -178,6 +180,7 @@ module _ (made : Made) (words : List Word) (h0 h1 : Outside) (o0 o1 : Output) (i
     usage = λ e. inl refl;
     alone = alone;
     no_usage = λ e. none;
+    usage_told = λ e. p;
     starts_none = still;
     whole = tt;
     patterns = if_all h0.disk (λ disk. tt);
@@ -233,6 +236,7 @@ module _ (made : Made) (words : List Word) (h0 h1 : Outside) (o0 o1 : Output) (i
     usage = λ none. absurd (some none);
     alone = alone;
     no_usage = λ e. absurd cc;
+    usage_told = λ e. absurd cc;
     starts_none = starts_by why;
     whole = input;
     patterns = if_map h0.disk (patterns_by why) no_plan;
@@ -256,13 +260,14 @@ module _ (made : Made) (words : List Word) (h0 h1 : Outside) (o0 o1 : Output) (i
     fault_at : IsFaultReport words (fault_report echoes)
     fault_at = record { command = command; asked = asked; echoes = echoes; is = refl }
 
-    still_host : (bytes : List ℕ) → o1.written ≡ option_map (λ so_far. so_far ++ bytes) o0.written → TellsFault words o0 o1 bytes → OutKeeps o0 o1 → Promised answers.HostFault
-    still_host bytes text ended keeps = record {
+    still_host : (bytes : List ℕ) → o1.written ≡ option_map (λ so_far. so_far ++ bytes) o0.written → TellsFault words o0 o1 bytes → HostFailedFirst (moment h0 o0) (moment h1 o1) → OutKeeps o0 o1 → Promised answers.HostFault
+    still_host bytes text ended first keeps = record {
       happened = both_still _ (if_all h0.disk (λ disk. inl still));
-      counts = rose;
+      counts = first;
       usage = λ none. let e : None ≡ Some command = sym none ∙ asked in absurd cc;
       alone = alone;
       no_usage = λ e. absurd cc;
+      usage_told = λ e. absurd cc;
       starts_none = tt;
       whole = tt;
       patterns = if_all h0.disk (λ disk. tt);
@@ -272,11 +277,14 @@ module _ (made : Made) (words : List Word) (h0 h1 : Outside) (o0 o1 : Output) (i
       out_keeps = keeps;
     }
 
+    first_so : (o1 ≡ with_written (fault_report echoes) o0) ⊎ FailsIn (fault_report echoes) o0 o1 → HostFailedFirst (moment h0 o0) (moment h1 o1)
+    first_so told = record { host = rose; out = o0; sink = refl; echoes = echoes; told = told }
+
     pub still_fault : (result : Answer) → SaysFault (fault_report echoes) o0 o1 result → Promised result
     still_fault result (fault_said is p) =
         subst Promised (sym is) (still_host (fault_report echoes) (text_of (fault_report echoes) o0 o1 p)
-        (fault_report echoes, fault_at, inl (refl, faults_of (fault_report echoes) o0 o1 p)) (keeps_written (fault_report echoes) o0 o1 p))
+        (fault_report echoes, fault_at, inl (refl, faults_of (fault_report echoes) o0 o1 p)) (first_so (inl p)) (keeps_written (fault_report echoes) o0 o1 p))
     still_fault result (fault_failed is f) =
-        subst Promised (sym is) (still_host f.part f.written (fault_report echoes, fault_at, inr (f.sink, f.begins)) (keeps_failed (fault_report echoes) o0 o1 f))
+        subst Promised (sym is) (still_host f.part f.written (fault_report echoes, fault_at, inr (f.sink, f.begins)) (first_so (inr f)) (keeps_failed (fault_report echoes) o0 o1 f))
     still_fault result (fault_stopped is s) =
         subst Promised (sym is) (still_memory (fault_report echoes) s (λ part front. if_all h0.disk (λ disk. faulting (fault_report echoes) rose fault_at front)))

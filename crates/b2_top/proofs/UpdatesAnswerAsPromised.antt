@@ -1,18 +1,18 @@
 -- Whatever the update of a plan ended with, its events, lines and faults are those that the call promises.
-use Rattle.std.proofs.Common.{◌≡◌, ℕ, List, [], ◌++◌, Option, Some, None, IfSome, Ok, inl, inr, refl, sym, ap, ◌∙◌, subst, append_assoc, append-nil}
+use Rattle.std.proofs.Common.{◌≡◌, ◌⊎◌, ℕ, List, [], ◌++◌, Option, Some, None, IfSome, Ok, inl, inr, refl, sym, ap, ◌∙◌, subst, append_assoc, append-nil}
 use Rattle.std.specs.List.{Contains}
 use Rattle.std.specs.Option.{option_map}
 use Rattle.b2_top.proofs.FaultsCountFromEarlier.{sink_failed_from, wait_failed_from}
 use Rattle.b2_top.proofs.PiecesWrittenMakeTheWhole.{keeps_written, keeps_failed}
 use Rattle.b2_top.proofs.WrittenBytesAreTold.{if_all, text_of, faults_of}
 use Rattle.b2_top.specs.Reports.{echo_lines, refusal_report, fault_report}
-use Rattle.b2_top.specs.Writing.{Says, SaysFault}
+use Rattle.b2_top.specs.Writing.{FailsIn, Says, SaysFault}
 use Rattle.b2_top.specs.Writing.Says.{said, failed, stopped}
 use Rattle.b2_top.specs.Writing.SaysFault.{fault_said, fault_failed, fault_stopped}
 use Rattle.b2_top.specs.declared.answer.Answer.{Answer}
 use Rattle.b2_top.specs.declared.answer.Answer.TheVariants as answers
 use Rattle.b2_top.specs.declared.build_command.BuildCommand.{BuildCommand}
-use Rattle.b2_top.specs.Told.{CountsStay}
+use Rattle.b2_top.specs.Told.{CountsStay, HostFailedFirst}
 use Rattle.b2_front.specs.Preparing.{IsPrepared}
 use Rattle.b2_planning.specs.Plans.{seen}
 use Rattle.b2_planning.specs.declared.planned.Planned.{Planned}
@@ -297,6 +297,7 @@ module _ (made : Made) (words : List Word) (before after : Moment) (m : Output) 
     usage = λ none. not_none none;
     alone = λ none. not_none none;
     no_usage = λ e. absurd (not_usage e);
+    usage_told = λ e. absurd (not_usage e);
     starts_none = starts;
     whole = whole;
     patterns = if_all h0.disk patterns;
@@ -360,17 +361,20 @@ module _ (made : Made) (words : List Word) (before after : Moment) (m : Output) 
     line_is : host_fault_line ≡ refusal_line steps (answer_of end)
     line_is = sym (ap (refusal_line steps) is_fault)
 
-    fault_ends : (piece : List ℕ) → o2.written ≡ option_map (λ so_far. so_far ++ piece) m.written → IsToldOrCut o0 o2 piece host_fault_line → OutKeeps o0 o2 → Promised answers.HostFault
-    fault_ends piece e so kept_out =
-        ends_so answers.HostFault (both_follow h0.disk h2.disk (λ disk later b. inr (subst (λ a. HasBuilt made words h0 h2 disk later a) is_fault b)) built) rose (λ u. cc) tt tt (λ disk. tt)
+    fault_ends : (piece : List ℕ) → o2.written ≡ option_map (λ so_far. so_far ++ piece) m.written → IsToldOrCut o0 o2 piece host_fault_line → HostFailedFirst before after → OutKeeps o0 o2 → Promised answers.HostFault
+    fault_ends piece e so first kept_out =
+        ends_so answers.HostFault (both_follow h0.disk h2.disk (λ disk later b. inr (subst (λ a. HasBuilt made words h0 h2 disk later a) is_fault b)) built) first (λ u. cc) tt tt (λ disk. tt)
         (both_follow h0.disk h2.disk (λ disk later w events are. inr (subst (λ a. WroteUpdate made words before after disk later events a (IsToldOrCut o0 o2)) is_fault (w events are)))
         (wrote (IsToldOrCut o0 o2) piece e (subst (IsToldOrCut o0 o2 piece) line_is so)))
         (cut_now host_fault (λ u. cc) refl) kept_out
 
+    first_so : (o2 ≡ with_written (fault_report []) m) ⊎ FailsIn (fault_report []) m o2 → HostFailedFirst before after
+    first_so told = record { host = rose; out = m; sink = same_sink sink_stays; echoes = []; told = told }
+
     pub ended_fault : (result : Answer) → SaysFault (fault_report []) m o2 result → Promised result
     ended_fault result (fault_said is p) = subst Promised (sym is) (fault_ends host_fault_line (text_of host_fault_line m o2 p)
-        (inl (refl, faults_of host_fault_line m o2 p ∙ same_sink sink_stays)) (kept (keeps_written host_fault_line m o2 p)))
-    ended_fault result (fault_failed is f) = subst Promised (sym is) (fault_ends f.part f.written (inr (failed_after f.sink, f.begins)) (kept (keeps_failed host_fault_line m o2 f)))
+        (inl (refl, faults_of host_fault_line m o2 p ∙ same_sink sink_stays)) (first_so (inl p)) (kept (keeps_written host_fault_line m o2 p)))
+    ended_fault result (fault_failed is f) = subst Promised (sym is) (fault_ends f.part f.written (inr (failed_after f.sink, f.begins)) (first_so (inr f)) (kept (keeps_failed host_fault_line m o2 f)))
     ended_fault result (fault_stopped is w) = subst Promised (sym is) (cut_memory w.part (text_of w.part m o2 w.same) (subst (IsFrontOf w.part) line_is w.begins)
         (subst (λ a. MayAnswer a answers.OutOfMemory) (sym is_fault) (inr refl)) (faults_of w.part m o2 w.same ∙ same_sink sink_stays) (kept (keeps_written w.part m o2 w.same)))
 

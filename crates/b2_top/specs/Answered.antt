@@ -3,14 +3,14 @@ use Rattle.std.specs.Prelude.{◌≡◌, ◌⊎◌, ℕ, ◌≤◌, Bool, true, 
 use Rattle.std.specs.List.{Contains}
 use Rattle.b2_top.specs.RefusalCauses.{IsPatternRefused}
 use Rattle.b2_top.specs.Endings.{IsOrCutShort, IsUsageOrCutShort, IfRefused}
-use Rattle.b2_top.specs.Told.{CountsStay, StaysStill}
+use Rattle.b2_top.specs.Told.{CountsStay, HostFailedFirst, StaysStill}
 use Rattle.b2_top.specs.declared.answer.Answer.{Answer}
 use Rattle.b2_top.specs.declared.answer.Answer.TheVariants as answers
 use Rattle.b2_top.specs.declared.build_command.BuildCommand.{BuildCommand}
 use Rattle.b2_host.specs.ChildProcesses.{BothTold}
 use Rattle.b2_host.specs.Disks.{Folder, Disk}
-use Rattle.b2_base.specs.Counts.{Rose}
 use Rattle.b2_host.specs.Outside.{Outside}
+use Rattle.b2_host.specs.Output.{with_written}
 use Rattle.b2_host.specs.OutputLaws.{OutKeeps}
 use Rattle.b2_host.specs.declared.children.ChildEvent.{ChildEvent}
 use Rattle.b2_host.specs.declared.children.ChildEvent.TheVariants.{Start, Done}
@@ -19,6 +19,7 @@ use Rattle.b2_plan.specs.Closures.{Value, IsClosure}
 use Rattle.b2_plan.specs.Cleans.{Clean}
 use Rattle.b2_plan.specs.Plans.{Makes, step_at}
 use Rattle.b2_log.specs.declared.line.LogLine.{LogLine}
+use Rattle.b2_refusals.specs.Lines.{usage_line}
 use Rattle.b2_refusals.specs.Wholes.{IsWhole}
 use Rattle.b2_refusals.specs.declared.fault.Fault.{Fault}
 use Rattle.b2_refusals.specs.declared.fault.Fault.TheVariants as faults
@@ -87,17 +88,21 @@ TrueLogTold made words before after =
 abbrev pub StaysOrWaits : Outside → Outside → Type 0
 StaysOrWaits before after = (after.faults ≡ before.faults) ⊎ WaitFailed before after
 
--- How the counts of faults stand to an answer. Ok, Failed, Refused and Usage come only where they are as at entry, and
--- a fault only where its count rose. SinkFault comes only where a write may fail, and with it the host's count is as at
--- entry, unless a wait for a child that ran failed. With HostFault the sink's count may have risen too.
+-- How the counts of faults stand to an answer, which names the first fault. Ok, Failed, Refused and Usage come only
+-- where they are as at entry. HostFault comes only where the host failed before the sink. SinkFault comes only where a
+-- write failed, and with it the host's count is as at entry, unless a wait for a child that ran failed.
 abbrev pub CountsTold : Moment → Moment → Answer → Type 0
 CountsTold before after answers.Ok = CountsStay before after
 CountsTold before after (answers.Failed lists) = CountsStay before after
 CountsTold before after (answers.Refused fault) = CountsStay before after
 CountsTold before after answers.Usage = CountsStay before after
-CountsTold before after answers.HostFault = Rose before.host.faults after.host.faults
+CountsTold before after answers.HostFault = HostFailedFirst before after
 CountsTold before after answers.OutOfMemory = after.out.faults ≡ before.out.faults
 CountsTold before after answers.SinkFault = SinkFailed before.out after.out × StaysOrWaits before.host after.host
+
+-- with the answer Usage the usage line was written, and nothing else
+abbrev pub UsageTold : Moment → Moment → Answer → Type 0
+UsageTold before after result = result ≡ answers.Usage → after.out ≡ with_written usage_line before.out
 
 -- ---- completeness
 
@@ -182,6 +187,7 @@ pub record IsAnswered (made : Made) (words : List Word) (before after : Moment) 
   pub usage : build_command words ≡ None → IsUsageOrCutShort result
   pub alone : build_command words ≡ None → after.host ≡ before.host
   pub no_usage : result ≡ answers.Usage → build_command words ≡ None
+  pub usage_told : UsageTold before after result
   pub starts_none : StartsNone result before.host after.host
   pub whole : IfRefused IsWhole result
   pub complete : CompleteTold made words before.host after.host result

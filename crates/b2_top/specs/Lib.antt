@@ -5,6 +5,7 @@ pub mod RefusalCauses
 pub mod Writing
 pub mod Told
 pub mod Commands
+pub mod Laws
 pub mod Plans
 pub mod Causes
 pub mod Builds

@@ -28,7 +28,7 @@ use Rattle.b2_words.specs.Words.{Word}
 use Rattle.b2_top.specs.Commands.{build_command}
 use Rattle.b2_top.specs.Endings.{IsUsageOrCutShort, IfRefused}
 use Rattle.b2_top.specs.Plans.{HasPlan}
-use Rattle.b2_top.specs.Answered.{HappenedTold, CountsTold, StartsNone, ReportTold, TurnsTold, LeftOpenTold}
+use Rattle.b2_top.specs.Answered.{HappenedTold, CountsTold, UsageTold, StartsNone, ReportTold, TurnsTold, LeftOpenTold}
 
 -- ---- an update
 
@@ -87,6 +87,7 @@ pub record Calls (made : Made) (words : List Word) (before after : Moment) (resu
   pub usage : build_command words ≡ None → IsUsageOrCutShort result
   pub alone : build_command words ≡ None → after.host ≡ before.host
   pub no_usage : result ≡ answers.Usage → build_command words ≡ None
+  pub usage_told : UsageTold before after result
   pub starts_none : StartsNone result before.host after.host
   pub whole : IfRefused IsWhole result
   pub patterns : IfSome before.host.disk (λ disk. IfRefused (OnlyPatternRefused words disk) result)

@@ -5,7 +5,8 @@ use Rattle.b2_host.specs.Disks.{Disk}
 use Rattle.b2_base.specs.Counts.{Rose}
 use Rattle.b2_base.specs.Bytes.{IsFrontOf}
 use Rattle.b2_host.specs.Outside.{Outside}
-use Rattle.b2_host.specs.Output.{Output}
+use Rattle.b2_host.specs.Output.{Output, with_written}
+use Rattle.b2_host.specs.OutputLaws.{OutKeeps}
 use Rattle.b2_words.specs.Words.{Word}
 use Rattle.b2_generate.specs.Planning.{Planned}
 use Rattle.b2_front.specs.Meaning.{Means}
@@ -20,21 +21,21 @@ use Rattle.b2_top.specs.declared.answer.Answer.TheVariants as answers
 use Rattle.b2_top.specs.Endings.{IsOrCutShort, IsUsageOrCutShort, IfRefused}
 use Rattle.b2_top.specs.RefusalCauses.{HasCause, IsPatternRefused}
 use Rattle.b2_top.specs.Reports.{refusal_report, fault_report}
-use Rattle.b2_top.specs.Told.{CountsStay, WrittenTold}
+use Rattle.b2_top.specs.Told.{CountsStay, HostFailedFirst, WrittenTold}
 use Rattle.b2_top.specs.declared.look.Look.{Look}
 use Rattle.b2_top.specs.Looks.{look_of, look_report}
 
 -- ---- the counts of faults
 
--- How the counts stand to an answer: Ok, Refused and Usage come only where they are as at entry, and a fault only where its count
--- rose. SinkFault comes only where a write may fail, and with it the host's count is as at entry; with HostFault the sink's count may
--- have risen too.
+-- How the counts stand to an answer, which names the first fault. Ok, Refused and Usage come only where they are as at entry.
+-- HostFault comes only where the host failed before the sink. SinkFault comes only where a write failed, and with it the host's count
+-- is as at entry.
 abbrev pub CountsTold : Moment → Moment → Answer → Type 0
 CountsTold before after answers.Ok = CountsStay before after
 CountsTold before after (answers.Failed lists) = CountsStay before after
 CountsTold before after (answers.Refused fault) = CountsStay before after
 CountsTold before after answers.Usage = CountsStay before after
-CountsTold before after answers.HostFault = Rose before.host.faults after.host.faults
+CountsTold before after answers.HostFault = HostFailedFirst before after
 CountsTold before after answers.OutOfMemory = after.out.faults ≡ before.out.faults
 CountsTold before after answers.SinkFault = SinkFailed before.out after.out × (after.host.faults ≡ before.host.faults)
 
@@ -53,12 +54,16 @@ pub record IsShown (words : List Word) (disk : Disk) (written : List ℕ) : Type
   pub plan : HasPlan words disk
   pub report : written ≡ look_report plan.echoes plan.look.view plan.planned
 
--- The words are a look, the fault is what the files and the free words come to, and its line was written.
-pub record IsRefused (words : List Word) (disk : Disk) (fault : Fault) (written : List ℕ) : Type 0 where
+-- The words are a look, and the files and the free words come to this fault, after these lines of ECHO.
+pub record HasNoPlan (words : List Word) (disk : Disk) (echoes : List Word) (fault : Fault) : Type 0 where
   pub look : Look
-  pub echoes : List Word
   pub asked : look_of words ≡ Some look
   pub cause : HasCause disk look.words echoes fault
+
+-- There is no plan for this cause, and its line was written.
+pub record IsRefused (words : List Word) (disk : Disk) (fault : Fault) (written : List ℕ) : Type 0 where
+  pub echoes : List Word
+  pub cause : HasNoPlan words disk echoes fault
   pub report : written ≡ refusal_report echoes [] fault
 
 -- The words are a look, and the line of a fault of the host was written; or a beginning of this, where the sink failed too.
@@ -98,6 +103,26 @@ ReportTold words before after result = WrittenTold before after (ReportedBy word
 abbrev pub ShownTold : List Word → Moment → Moment → Answer → Type 0
 ShownTold words before after result = result ≡ answers.Ok → WrittenTold before after (IsShown words)
 
+-- with the answer Usage the usage line was written, and nothing else
+abbrev pub UsageTold : Moment → Moment → Answer → Type 0
+UsageTold before after result = result ≡ answers.Usage → after.out ≡ with_written usage_line before.out
+
+-- ---- causes
+
+-- what the words and the files are to an answer: with Ok there is a plan, with a refusal none, for this cause
+abbrev pub CausedBy : List Word → Disk → Answer → Type 0
+CausedBy words disk answers.Ok = HasPlan words disk
+CausedBy words disk (answers.Failed lists) = ⊥
+CausedBy words disk (answers.Refused fault) = (echoes : List Word) × HasNoPlan words disk echoes fault
+CausedBy words disk answers.Usage = look_of words ≡ None
+CausedBy words disk answers.HostFault = ⊤
+CausedBy words disk answers.OutOfMemory = ⊤
+CausedBy words disk answers.SinkFault = ⊤
+
+-- the cause of an answer, whatever the output tells
+abbrev pub CauseTold : List Word → Outside → Answer → Type 0
+CauseTold words before result = IfSome before.disk (λ disk. CausedBy words disk result)
+
 -- ---- answers
 
 -- the fault is one of the load, the request or generation
@@ -132,9 +157,12 @@ pub record IsAnswered (words : List Word) (before after : Moment) (result : Answ
   pub usage : look_of words ≡ None → IsUsageOrCutShort result
   pub alone : look_of words ≡ None → after.host ≡ before.host
   pub no_usage : result ≡ answers.Usage → look_of words ≡ None
+  pub usage_told : UsageTold before after result
   pub whole : IfRefused IsWhole result
   pub not_failed : IsOfLook result
   pub complete : CompleteTold words before.host result
+  pub cause : CauseTold words before.host result
+  pub out_keeps : OutKeeps before.out after.out
 
 -- the same of a call with words that ask for this look
 abbrev pub Shows : Look → Moment → Moment → Answer → Type 0

@@ -31,6 +31,7 @@ fn options_in(command: Command) -> Option<BuildOptions>
 pub fn build_command(alloc: Global, words: &[Text]) -> Result<BuildCommand, WordsFault>
     ensures ok { IfOk result (λ command. build_command words.now ≡ Some command) }
     ensures some_job { IfOk result (λ command. 1 ≤ command.options.jobs) }
+    ensures few_jobs { IfOk result (λ command. command.options.jobs ≤ 64) }
     ensures usage { IsErrOf result WordsFault.Usage → build_command words.now ≡ None }
 {
     match read_words(alloc, words) {

@@ -5,13 +5,12 @@
 pub mod answer;
 mod build;
 mod build_command;
-pub mod command_line;
-mod lines;
+pub mod laws;
+pub mod lines;
 mod look;
 mod look_end;
 mod look_lines;
 pub mod mode;
-pub mod program;
 pub mod run;
 pub mod show;
-mod tell;
+pub mod tell;

@@ -8,7 +8,7 @@ ghost use Rattle.b2_runs.specs.UpdateAnswers.{LeavesNone};
 ghost use Rattle.b2_update.specs.Moments.{moment};
 ghost use Rattle.b2_top.specs.Commands.{build_command};
 ghost use Rattle.b2_top.specs.Running.{Calls};
-ghost use Rattle.b2_top.specs.Answered.{CleanTold, HappenedTold, CountsTold, StartsNone, CompleteTold, ReportTold};
+ghost use Rattle.b2_top.specs.Answered.{CleanTold, HappenedTold, CountsTold, UsageTold, StartsNone, CompleteTold, ReportTold};
 ghost use Rattle.b2_top.specs.Answered.{TurnsTold, LeftOpenTold, TrueLogTold, IsAnswered};
 ghost use Rattle.b2_top.specs.Answered.{IsOfEnd, HoldsAfterwards, AreFresh, AreKept};
 
@@ -74,8 +74,8 @@ pub fn run_b2<H: Children, S: Sink>(
     // What happened, by the answer: an update that has ended with it, nothing, or one of both, where a fault cut the
     // call off.
     ensures happened { HappenedTold H.made words.now (H.outside host.old) (H.outside host.new) result }
-    // Ok, Failed, Refused and Usage come only where both counts of faults are as at entry. A fault comes only where its
-    // count rose, and one of the sink only where a write may fail.
+    // The answer names the first fault. Ok, Failed, Refused and Usage come only where both counts of faults are as at
+    // entry. A fault comes only where its count rose, and one of the sink only where a write may fail.
     ensures counts { CountsTold (moment (H.outside host.old) (S.output out.old))
         (moment (H.outside host.new) (S.output out.new)) result }
     // Words that are no build ask for the usage line, and nothing else does. All that the host is to its callers stays
@@ -83,6 +83,9 @@ pub fn run_b2<H: Children, S: Sink>(
     ensures usage { build_command words.now ≡ None → IsUsageOrCutShort result }
     ensures alone { build_command words.now ≡ None → H.outside host.new ≡ H.outside host.old }
     ensures no_usage { result ≡ Answer.Usage → build_command words.now ≡ None }
+    // With the answer Usage exactly the usage line was written, over every host and sink.
+    ensures usage_told { UsageTold (moment (H.outside host.old) (S.output out.old))
+        (moment (H.outside host.new) (S.output out.new)) result }
     // A call that is refused for another reason than a step cycle, or a file that is too big for the update, has
     // started nothing and changed no file.
     ensures starts_none { StartsNone result (H.outside host.old) (H.outside host.new) }

@@ -2,9 +2,11 @@
 ghost use Rattle.std.specs.Prelude.{◌≡◌, None};
 ghost use Rattle.b2_top.specs.Endings.{IsUsageOrCutShort, IfRefused};
 ghost use Rattle.b2_host.specs.OutsideLaws.{Keeps};
+ghost use Rattle.b2_host.specs.OutputLaws.{OutKeeps};
 ghost use Rattle.b2_refusals.specs.Wholes.{IsWhole};
 ghost use Rattle.b2_top.specs.Looks.{look_of};
-ghost use Rattle.b2_top.specs.Shows.{ShownTold, ReportTold, CountsTold, IsOfLook, CompleteTold, IsAnswered, Shows};
+ghost use Rattle.b2_top.specs.Shows.{ShownTold, ReportTold, CountsTold, UsageTold, CauseTold, IsOfLook, CompleteTold};
+ghost use Rattle.b2_top.specs.Shows.{IsAnswered, Shows};
 ghost use Rattle.b2_update.specs.Moments.{moment};
 
 use crate::answer::Answer;
@@ -62,13 +64,18 @@ pub fn show_b2<H: Files, S: Sink>(
     ensures children { (H.outside host.new).children ≡ (H.outside host.old).children }
     // No count falls, and visible files stay visible.
     ensures keeps { Keeps (H.outside host.old) (H.outside host.new) }
-    // Ok, Refused and Usage come only where both counts of faults are as at entry; a fault comes only where its count rose, and one of
-    // the sink only where a write may fail.
+    ensures out_keeps { OutKeeps (S.output out.old) (S.output out.new) }
+    // The answer names the first fault. Ok, Refused and Usage come only where both counts of faults are as at entry; a fault comes only
+    // where its count rose, and one of the sink only where a write may fail.
     ensures counts { CountsTold (moment (H.outside host.old) (S.output out.old)) (moment (H.outside host.new) (S.output out.new)) result }
     // Words that are no look ask for the usage line, and nothing else does; all that the host is to its callers stays as it is.
     ensures usage { look_of words.now ≡ None → IsUsageOrCutShort result }
     ensures alone { look_of words.now ≡ None → H.outside host.new ≡ H.outside host.old }
     ensures no_usage { result ≡ Answer.Usage → look_of words.now ≡ None }
+    // With the answer Usage exactly the usage line was written, over every host and sink.
+    ensures usage_told { UsageTold (moment (H.outside host.old) (S.output out.old)) (moment (H.outside host.new) (S.output out.new)) result }
+    // With Ok the words and the files come to a plan; a refusal is what they come to. That is told of every sink.
+    ensures cause { CauseTold words.now (H.outside host.old) result }
     // No fault of the host and no out of memory is within a refusal.
     ensures whole { IfRefused IsWhole result }
     // A look has no list of failures, and no refusal but those of the load, the request and generation.

@@ -29,7 +29,7 @@ pub enum Command {
     Build(BuildOptions),
     /// Shows the plan. The options of a build may stand beside it and change nothing.
     Look(View),
-    /// Is to run the updates of a generated project of so many steps in memory. Not carried out yet.
+    /// Is to run the updates of a generated project of so many steps in memory.
     Drill { steps: u32 },
 }
 

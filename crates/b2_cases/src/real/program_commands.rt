@@ -1,9 +1,9 @@
 //! The program over the system.
 use crate::real::system::System;
 use b2_base::text::Text;
+use b2_program::program::run_program;
 use b2_realhost::real_host::RealHost;
 use b2_realhost::real_sink::RealSink;
-use b2_top::program::run_program;
 use std::alloc::Global;
 use transcript::answer::Answer;
 use transcript::case_fault::CaseFault;

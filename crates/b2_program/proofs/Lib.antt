@@ -1,0 +1,3 @@
+mod DrillIsNoBuild
+mod StatusTellsAnswer
+mod StatusNamesCause

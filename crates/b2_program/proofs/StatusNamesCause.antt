@@ -1,0 +1,199 @@
+-- Whichever command the words are for, what it promises of its answer is the cause of the status.
+use Rattle.std.proofs.Common.{◌≡◌, ◌≤◌, ◌⊎◌, ℕ, List, [], None, inl, inr, refl, sym, ap, ◌∙◌, subst, arith}
+use Rattle.b2_host.specs.ChildProcesses.{Family}
+use Rattle.b2_host.specs.OutsideLaws.{Keeps}
+use Rattle.b2_host.specs.OutputLaws.{OutKeeps}
+use Rattle.b2_endings.specs.declared.failed_lists.FailedLists.{FailedLists}
+use Rattle.b2_refusals.specs.Wholes.{IsWhole}
+use Rattle.b2_refusals.specs.declared.fault.Fault.{Fault}
+use Rattle.b2_runs.specs.Moments.{Moment}
+use Rattle.b2_runs.specs.UpdateAnswers.{LeavesNone}
+use Rattle.b2_drain.specs.Drains.{Made}
+use Rattle.b2_words.specs.Words.{Word}
+use Rattle.b2_top.specs.Answered.{CleanTold, HappenedTold, CountsTold}
+use Rattle.b2_top.specs.Endings.{IsUsageOrCutShort, IfRefused}
+use Rattle.b2_top.specs.Modes.{mode_of}
+use Rattle.b2_top.specs.Shows.{IsShown, IsOfLook, CauseTold, CountsTold as LookCounts}
+use Rattle.b2_top.specs.Statuses.{status_of}
+use Rattle.b2_top.specs.Told.{CountsStay, HostFailedFirst, WrittenTold}
+use Rattle.b2_top.specs.declared.answer.Answer.{Answer}
+use Rattle.b2_top.specs.declared.answer.Answer.TheVariants as answers
+use Rattle.b2_top.specs.declared.mode.Mode.{Mode}
+use Rattle.b2_top.specs.declared.mode.Mode.TheVariants.{Build, Look, Drill}
+use Rattle.b2_program.specs.Called.{IsBuild, IsLook, Promises, EndsWith}
+use Rattle.b2_program.specs.Causes.{IsFailed, IsRefusedFor, IsRefused, IsNoCommand, IsUsage, IsUsageStatus, IsSinkFault}
+use Rattle.b2_program.proofs.DrillIsNoBuild.{drill_is_no_build}
+use Rattle.b2_program.proofs.StatusTellsAnswer.{at_most_six, is_ok, is_failed, is_refused, is_usage}
+
+-- ---- answers
+
+look_counts : (before after : Moment) (a : Answer) → LookCounts before after a → CountsTold before after a
+look_counts before after answers.Ok h = h
+look_counts before after (answers.Failed lists) h = h
+look_counts before after (answers.Refused fault) h = h
+look_counts before after answers.Usage h = h
+look_counts before after answers.HostFault h = h
+look_counts before after answers.OutOfMemory h = h
+look_counts before after answers.SinkFault h = (h.0, inl h.1)
+
+failed_is_cut_short : {X : Type 0} (lists : FailedLists) → IsUsageOrCutShort (answers.Failed lists) → X
+failed_is_cut_short lists (inl e) = absurd cc
+failed_is_cut_short lists (inr (inl e)) = absurd cc
+failed_is_cut_short lists (inr (inr e)) = absurd cc
+
+refused_is_cut_short : {X : Type 0} (fault : Fault) → IsUsageOrCutShort (answers.Refused fault) → X
+refused_is_cut_short fault (inl e) = absurd cc
+refused_is_cut_short fault (inr (inl e)) = absurd cc
+refused_is_cut_short fault (inr (inr e)) = absurd cc
+
+usage_status : (a : Answer) → IsUsageOrCutShort a → IsUsageStatus (status_of a)
+usage_status a (inl e) = inl (ap status_of e)
+usage_status a (inr (inl e)) = inr (inr (ap status_of e))
+usage_status a (inr (inr e)) = inr (inl (ap status_of e))
+
+-- ---- both commands
+
+-- what a call keeps, whichever command it is
+pub record Stays (before after : Moment) (a : Answer) : Type 0 where
+  pub counts : CountsTold before after a
+  pub none_left : LeavesNone before.host after.host
+  pub keeps : Keeps before.host after.host
+  pub out_keeps : OutKeeps before.out after.out
+
+counts_stay : (before after : Moment) (a : Answer) → CountsTold before after a → status_of a ≤ 3 → CountsStay before after
+counts_stay before after answers.Ok h low = h
+counts_stay before after (answers.Failed lists) h low = h
+counts_stay before after (answers.Refused fault) h low = h
+counts_stay before after answers.Usage h low = h
+counts_stay before after answers.HostFault h low = absurd (omega (arith, low))
+counts_stay before after answers.OutOfMemory h low = absurd (omega (arith, low))
+counts_stay before after answers.SinkFault h low = absurd (omega (arith, low))
+
+host_failed : (before after : Moment) (a : Answer) → CountsTold before after a → status_of a ≡ 4 → HostFailedFirst before after
+host_failed before after answers.Ok h e = absurd (omega (arith, e))
+host_failed before after (answers.Failed lists) h e = absurd (omega (arith, e))
+host_failed before after (answers.Refused fault) h e = absurd (omega (arith, e))
+host_failed before after answers.Usage h e = absurd (omega (arith, e))
+host_failed before after answers.HostFault h e = h
+host_failed before after answers.OutOfMemory h e = absurd (omega (arith, e))
+host_failed before after answers.SinkFault h e = absurd (omega (arith, e))
+
+no_write_failed : (before after : Moment) (a : Answer) → CountsTold before after a → status_of a ≡ 5 → after.out.faults ≡ before.out.faults
+no_write_failed before after answers.Ok h e = absurd (omega (arith, e))
+no_write_failed before after (answers.Failed lists) h e = absurd (omega (arith, e))
+no_write_failed before after (answers.Refused fault) h e = absurd (omega (arith, e))
+no_write_failed before after answers.Usage h e = absurd (omega (arith, e))
+no_write_failed before after answers.HostFault h e = absurd (omega (arith, e))
+no_write_failed before after answers.OutOfMemory h e = h
+no_write_failed before after answers.SinkFault h e = absurd (omega (arith, e))
+
+write_failed : (before after : Moment) (a : Answer) → CountsTold before after a → status_of a ≡ 6 → IsSinkFault before after
+write_failed before after answers.Ok h e = absurd (omega (arith, e))
+write_failed before after (answers.Failed lists) h e = absurd (omega (arith, e))
+write_failed before after (answers.Refused fault) h e = absurd (omega (arith, e))
+write_failed before after answers.Usage h e = absurd (omega (arith, e))
+write_failed before after answers.HostFault h e = absurd (omega (arith, e))
+write_failed before after answers.OutOfMemory h e = absurd (omega (arith, e))
+write_failed before after answers.SinkFault h e = record { sink = h.0; host = h.1 }
+
+module _ (made : Made) (words : List Word) (before after : Moment) (status : ℕ) (e : EndsWith made words before after status) where
+  abbrev a : Answer
+  a = e.answer
+
+  abbrev Has : Mode → Type 0
+  Has m = Promises m made words before after a
+
+  of_build : IsBuild made words before after a → Stays before after a
+  of_build p = record { counts = p.answered.counts; none_left = p.none_left; keeps = p.keeps; out_keeps = p.answered.out_keeps }
+
+  of_mode : (m : Mode) → before.host.children.running ≡ [] → Has m → Stays before after a
+  of_mode Build idle p = of_build p
+  of_mode Look idle p = record {
+    counts = look_counts before after a p.answered.counts;
+    none_left = inl (ap (λ (f : Family). f.running) p.children ∙ idle);
+    keeps = p.keeps;
+    out_keeps = p.answered.out_keeps;
+  }
+  of_mode Drill idle p = of_build p
+
+  pub stays : before.host.children.running ≡ [] → Stays before after a
+  stays idle = of_mode (mode_of words) idle e.promised
+
+  pub status_low : status ≤ 6
+  status_low = subst (λ n. n ≤ 6) (sym e.is) (at_most_six a)
+
+  -- ---- by the status
+
+  pub clean_told : mode_of words ≡ Build → status ≡ 0 → CleanTold made words before.host after.host
+  clean_told is well =
+      let p : IsBuild made words before after a = subst Has is e.promised in
+      p.answered.clean (is_ok a (sym e.is ∙ well))
+
+  pub shown_told : mode_of words ≡ Look → status ≡ 0 → WrittenTold before after (IsShown words)
+  shown_told is well =
+      let p : IsLook words before after a = subst Has is e.promised in
+      p.answered.shown (is_ok a (sym e.is ∙ well))
+
+  pub failed_told : status ≡ 1 → IsFailed made words before.host after.host
+  failed_told one = go (mode_of words) refl e.promised
+    where
+      found : (lists : FailedLists) × (a ≡ answers.Failed lists)
+      found = is_failed a (sym e.is ∙ one)
+
+      go : (m : Mode) → mode_of words ≡ m → Has m → IsFailed made words before.host after.host
+      go Build is p = record { is_build = is; lists = found.0; updated = subst (HappenedTold made words before.host after.host) found.1 p.answered.happened }
+      go Look is p = absurd (subst IsOfLook found.1 p.answered.not_failed)
+      go Drill is p = failed_is_cut_short found.0 (subst IsUsageOrCutShort found.1 (p.answered.usage (drill_is_no_build words is)))
+
+  pub refused_told : status ≡ 2 → IsRefused made words before.host after.host
+  refused_told two = go (mode_of words) refl e.promised
+    where
+      found : (fault : Fault) × (a ≡ answers.Refused fault)
+      found = is_refused a (sym e.is ∙ two)
+
+      of : (m : Mode) → mode_of words ≡ m → IsWhole found.0 → IsRefusedFor m made words before.host after.host found.0 → IsRefused made words before.host after.host
+      of m is whole cause = record { fault = found.0; whole = whole; cause = subst (λ m. IsRefusedFor m made words before.host after.host found.0) (sym is) cause }
+
+      go : (m : Mode) → mode_of words ≡ m → Has m → IsRefused made words before.host after.host
+      go Build is p = of Build is (subst (IfRefused IsWhole) found.1 p.answered.whole) (subst (HappenedTold made words before.host after.host) found.1 p.answered.happened)
+      go Look is p = of Look is (subst (IfRefused IsWhole) found.1 p.answered.whole) (subst (CauseTold words before.host) found.1 p.answered.cause)
+      go Drill is p = refused_is_cut_short found.0 (subst IsUsageOrCutShort found.1 (p.answered.usage (drill_is_no_build words is)))
+
+  pub usage_told_so : status ≡ 3 → IsUsage words before after
+  usage_told_so three = go (mode_of words) refl e.promised
+    where
+      found : a ≡ answers.Usage
+      found = is_usage a (sym e.is ∙ three)
+
+      none_so : (m : Mode) → mode_of words ≡ m → IsNoCommand m words → IsNoCommand (mode_of words) words
+      none_so m is none = subst (λ m. IsNoCommand m words) (sym is) none
+
+      go : (m : Mode) → mode_of words ≡ m → Has m → IsUsage words before after
+      go Build is p = let none = p.answered.no_usage found in
+          record { none = none_so Build is none; host = p.answered.alone none; out = p.answered.usage_told found }
+      go Look is p = let none = p.answered.no_usage found in
+          record { none = none_so Look is none; host = p.answered.alone none; out = p.answered.usage_told found }
+      go Drill is p = record { none = none_so Drill is tt; host = p.answered.alone (drill_is_no_build words is); out = p.answered.usage_told found }
+
+  pub no_command_told : IsNoCommand (mode_of words) words → IsUsageStatus status
+  no_command_told none = subst IsUsageStatus (sym e.is) (usage_status a (go (mode_of words) refl none e.promised))
+    where
+      go : (m : Mode) → mode_of words ≡ m → IsNoCommand m words → Has m → IsUsageOrCutShort a
+      go Build is none p = p.answered.usage none
+      go Look is none p = p.answered.usage none
+      go Drill is none p = p.answered.usage (drill_is_no_build words is)
+
+  -- ---- counts
+
+  module _ (idle : before.host.children.running ≡ []) where
+    pub counts_told : status ≤ 3 → CountsStay before after
+    counts_told low = counts_stay before after a (stays idle).counts (subst (λ n. n ≤ 3) e.is low)
+
+    pub host_fault_told : status ≡ 4 → HostFailedFirst before after
+    host_fault_told four = host_failed before after a (stays idle).counts (sym e.is ∙ four)
+
+    pub no_memory_told : status ≡ 5 → after.out.faults ≡ before.out.faults
+    no_memory_told five = no_write_failed before after a (stays idle).counts (sym e.is ∙ five)
+
+    pub sink_fault_told : status ≡ 6 → IsSinkFault before after
+    sink_fault_told six = write_failed before after a (stays idle).counts (sym e.is ∙ six)

@@ -1,0 +1,23 @@
+use Rattle.std.proofs.Common.{sym, ◌∙◌, subst}
+use Rattle.b2_update.specs.Moments.{moment}
+use Rattle.b2_top.specs.declared.mode.Mode.{Mode}
+use Rattle.b2_program.specs.Called.{Promises}
+use Rattle.b2_program.proofs.commands.run_command.Goals as goal
+
+pub returns-in-Build : goal.returns-in-Build
+returns-in-Build g c =
+    let before = moment (g.H.Files.outside c.args.host.now) (g.S.Sink.output c.args.out.now) in
+    let after = moment (g.H.Files.outside c.build.new.host) (g.S.Sink.output c.build.new.out) in
+    subst (λ (m : Mode). Promises m g.H.Children.made c.args.words.now before after c.build.result) (sym c.in-Build.is ∙ c.mode_of.ensures) c.build.ensures
+
+pub returns-in-Look : goal.returns-in-Look
+returns-in-Look g c =
+    let before = moment (g.H.Files.outside c.args.host.now) (g.S.Sink.output c.args.out.now) in
+    let after = moment (g.H.Files.outside c.look.new.host) (g.S.Sink.output c.look.new.out) in
+    subst (λ (m : Mode). Promises m g.H.Children.made c.args.words.now before after c.look.result) (sym c.in-Look.is ∙ c.mode_of.ensures) c.look.ensures
+
+pub returns-in-Drill : goal.returns-in-Drill
+returns-in-Drill g c =
+    let before = moment (g.H.Files.outside c.args.host.now) (g.S.Sink.output c.args.out.now) in
+    let after = moment (g.H.Files.outside c.build-in-Drill.new.host) (g.S.Sink.output c.build-in-Drill.new.out) in
+    subst (λ (m : Mode). Promises m g.H.Children.made c.args.words.now before after c.build-in-Drill.result) (sym c.in-Drill.is ∙ c.mode_of.ensures) c.build-in-Drill.ensures

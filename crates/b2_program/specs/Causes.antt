@@ -1,0 +1,64 @@
+-- The cause of each status.
+use Rattle.std.specs.Prelude.{◌≡◌, ◌⊎◌, ℕ, List, None, IfSome, ⊤}
+use Rattle.b2_host.specs.ChildProcesses.{BothTold}
+use Rattle.b2_host.specs.Outside.{Outside}
+use Rattle.b2_host.specs.Output.{with_written}
+use Rattle.b2_refusals.specs.Lines.{usage_line}
+use Rattle.b2_refusals.specs.Wholes.{IsWhole}
+use Rattle.b2_refusals.specs.declared.fault.Fault.{Fault}
+use Rattle.b2_runs.specs.Moments.{Moment}
+use Rattle.b2_runs.specs.UpdateAnswers.{UpdateAnswer.failed, SinkFailed}
+use Rattle.b2_endings.specs.Endings.{lists_of}
+use Rattle.b2_endings.specs.declared.failed_lists.FailedLists.{FailedLists}
+use Rattle.b2_drain.specs.Drains.{Made}
+use Rattle.b2_words.specs.Words.{Word}
+use Rattle.b2_top.specs.Answered.{StaysOrWaits}
+use Rattle.b2_top.specs.Builds.{HasBuilt, RefusedBy}
+use Rattle.b2_top.specs.Commands.{build_command}
+use Rattle.b2_top.specs.Looks.{look_of}
+use Rattle.b2_top.specs.Modes.{mode_of}
+use Rattle.b2_top.specs.Shows.{HasNoPlan}
+use Rattle.b2_top.specs.declared.mode.Mode.{Mode}
+use Rattle.b2_top.specs.declared.mode.Mode.TheVariants.{Build, Look, Drill}
+
+-- The words are a build, and its update ended with these lists.
+pub record IsFailed (made : Made) (words : List Word) (before after : Outside) : Type 0 where
+  pub is_build : mode_of words ≡ Build
+  pub lists : FailedLists
+  pub updated : BothTold (λ disk later. HasBuilt made words before after disk later (failed (lists_of lists)))
+      before.disk after.disk
+
+-- the cause of a refusal, by the command: of a build also one that its update came to
+abbrev pub IsRefusedFor : Mode → Made → List Word → Outside → Outside → Fault → Type 0
+IsRefusedFor Build made words before after fault =
+    BothTold (λ disk later. RefusedBy made words before after disk later fault) before.disk after.disk
+IsRefusedFor Look made words before after fault =
+    IfSome before.disk (λ disk. (echoes : List Word) × HasNoPlan words disk echoes fault)
+IsRefusedFor Drill made words before after fault = ⊥
+
+-- Something is refused, and the words and the files are its cause.
+pub record IsRefused (made : Made) (words : List Word) (before after : Outside) : Type 0 where
+  pub fault : Fault
+  pub whole : IsWhole fault
+  pub cause : IsRefusedFor (mode_of words) made words before after fault
+
+-- the words are not of the grammar of the command that they are for; a drill is not carried out
+abbrev pub IsNoCommand : Mode → List Word → Type 0
+IsNoCommand Build words = build_command words ≡ None
+IsNoCommand Look words = look_of words ≡ None
+IsNoCommand Drill words = ⊤
+
+-- The words are of no command. The usage line was written, and nothing else was done.
+pub record IsUsage (words : List Word) (before after : Moment) : Type 0 where
+  pub none : IsNoCommand (mode_of words) words
+  pub host : after.host ≡ before.host
+  pub out : after.out ≡ with_written usage_line before.out
+
+-- a status that words of no command may have: that of the usage line, or that of a call that was cut short at it
+abbrev pub IsUsageStatus : ℕ → Type 0
+IsUsageStatus status = (status ≡ 3) ⊎ (status ≡ 5) ⊎ (status ≡ 6)
+
+-- A write failed. The host's count of faults is as at entry, or a wait for a child that ran failed.
+pub record IsSinkFault (before after : Moment) : Type 0 where
+  pub sink : SinkFailed before.out after.out
+  pub host : StaysOrWaits before.host after.host

@@ -1,0 +1,51 @@
+//! The commands, each with all that it promises.
+ghost use Rattle.std.specs.Prelude.{◌≡◌, []};
+ghost use Rattle.b2_update.specs.Moments.{moment};
+ghost use Rattle.b2_top.specs.Modes.{mode_of};
+ghost use Rattle.b2_program.specs.Called.{IsBuild, IsLook, Promises};
+
+use b2_base::text::Text;
+use b2_host::children::Children;
+use b2_host::files::Files;
+use b2_host::sink::Sink;
+use b2_top::answer::Answer;
+use b2_top::mode::{Mode, mode_of};
+use b2_top::run::run_b2;
+use b2_top::show::show_b2;
+use std::alloc::Global;
+
+/// The build command.
+fn build<H: Children, S: Sink>(alloc: Global, words: &[Text], host: &mut H, out: &mut S) -> Answer
+    requires { (H.outside host.old).children.running ≡ [] }
+    ensures { IsBuild H.made words.now (moment (H.outside host.old) (S.output out.old))
+        (moment (H.outside host.new) (S.output out.new)) result }
+{
+    run_b2(alloc, words, host, out)
+}
+
+/// The look command.
+fn look<H: Files, S: Sink>(alloc: Global, words: &[Text], host: &mut H, out: &mut S) -> Answer
+    ensures { IsLook words.now (moment (H.outside host.old) (S.output out.old))
+        (moment (H.outside host.new) (S.output out.new)) result }
+{
+    show_b2(alloc, words, host, out)
+}
+
+/// The command that the words are for. A drill is not carried out yet: the build command answers it with the usage
+/// line.
+pub fn run_command<H: Children, S: Sink>(
+    alloc: Global,
+    words: &[Text],
+    host: &mut H,
+    out: &mut S,
+) -> Answer
+    requires { (H.outside host.old).children.running ≡ [] }
+    ensures { Promises (mode_of words.now) H.made words.now (moment (H.outside host.old) (S.output out.old))
+        (moment (H.outside host.new) (S.output out.new)) result }
+{
+    match mode_of(words) {
+        Mode::Build => build(alloc, words, host, out),
+        Mode::Look => look(alloc, words, host, out),
+        Mode::Drill => build(alloc, words, host, out),
+    }
+}
