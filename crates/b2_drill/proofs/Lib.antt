@@ -1,0 +1,2 @@
+pub mod DigitsHaveNoSlash
+pub mod EachStepAddsOnePiece

@@ -1,0 +1,7 @@
+//! What can happen in a session: files are edited, updates are made, and updates are stopped. A drill is such a session of a
+//! generated project.
+#![tactic(auto)]
+
+pub mod drill;
+pub mod event;
+mod project;

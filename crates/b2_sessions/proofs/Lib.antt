@@ -1,0 +1,10 @@
+pub mod JobsAreWithinLimits
+pub mod CallsAreTold
+pub mod ChildrenEndInOrder
+pub mod HostsReopen
+pub mod EditsAreTold
+pub mod EventsFollowOneAnother
+pub mod CallsLeaveTrueLogs
+pub mod SessionsPass
+pub mod SessionsEndClean
+pub mod ResultsAreTold
