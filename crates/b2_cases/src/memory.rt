@@ -4,3 +4,4 @@ mod case_host;
 mod case_sink;
 pub mod session;
 mod shown;
+mod stops;

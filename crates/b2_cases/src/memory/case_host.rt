@@ -48,7 +48,7 @@ fn delete_all(memory: &mut MemoryHost, paths: &[Path])
 }
 
 /// Whether no child process runs.
-fn is_idle(memory: &MemoryHost) -> bool
+pub fn is_idle(memory: &MemoryHost) -> bool
     ensures { IsTrue result → (⟦<MemoryHost as Files>⟧.outside memory.now).children.running ≡ [] }
 {
     memory.running().is_empty()

@@ -4,6 +4,7 @@ use crate::memory::case_sink::{CaseSink, FailingWrite};
 use crate::memory::shown::{
     calls_shown, end_shown, events_shown, files_shown, log_shown, starts_shown,
 };
+use crate::memory::stops::{failures, stops};
 use b2_base::fault::OutOfMemory;
 use b2_base::text::Text;
 use b2_memory::memory::CallKind;
@@ -297,6 +298,8 @@ impl Session for InMemory {
             ),
             "mode_of" => mode_shown(alloc, texts(alloc, words)?.as_slice()),
             "fail_at" => self.fail_at(alloc, words),
+            "stops" => stops(alloc, command),
+            "failures" => failures(alloc, command),
             _ => look_command(alloc, &mut self.host, command),
         }
     }
