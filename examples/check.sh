@@ -1,7 +1,7 @@
 #!/bin/sh
-# Runs the examples of docs/MANUAL.md, docs/LANGUAGE.md and docs/PROJECTS.md and compares what is printed, the status and the files.
-# It runs the program ./b2 that setup.sh leaves, or the one that B2 names, in copies of the projects in a temporary folder. Where g++
-# is there, it goes on with cpp-check.sh.
+# Runs the examples of README.md and of the pages in docs, and compares what is printed, the status and the files. It runs the program
+# ./b2 that setup.sh leaves, or the one that B2 names, in copies of the projects in a temporary folder. mistakes-check.sh and, where g++
+# is there, cpp-check.sh are parts of it.
 set -u
 top=$(cd "$(dirname "$0")/.." && pwd)
 B2=${B2:-$top/b2}
@@ -40,6 +40,32 @@ holds() {
         diff "$work/expected" "$1"
     fi
 }
+
+# passes TEXT COMMAND ..: the command ends with status 0
+passes() {
+    text=$1; shift
+    count=$((count + 1))
+    if ! "$@" > "$work/output" 2>&1; then
+        bad=$((bad + 1))
+        echo "--- $name: $text"
+        cat "$work/output"
+    fi
+}
+
+# shows PAGE: what the console blocks of a page show is what happens in the present folder, where each line that begins with `$ ` is a
+# command, and those below it are what it prints
+shows() {
+    sed -n '/^```console$/,/^```$/{/^```/!p;}' "$top/$1" > "$work/shown"
+    sed -n 's/^\$ //p' "$work/shown" > "$work/commands"
+    while IFS= read -r command; do
+        echo "\$ $command"
+        PATH=$work/path:$PATH sh -c "$command" < /dev/null
+    done < "$work/commands" > "$work/happened" 2>&1
+    passes "$1" diff "$work/shown" "$work/happened"
+}
+
+mkdir "$work/path"
+ln -s "$B2" "$work/path/b2"
 
 # ---- docs/MANUAL.md
 
@@ -314,12 +340,18 @@ E
 printf '     1\tIt began.\n     1\tIt ended.\n' > "$work/story"
 holds bin/final/story < "$work/story"
 
-# ---- examples/cpp
+. "$top/examples/mistakes-check.sh"
+
+# ---- README.md and examples/cpp
 
 if command -v g++ > /dev/null; then
+    project draw
+    shows README.md
+    project from-b2
+    shows docs/FROM-B2.md
     . "$top/examples/cpp-check.sh"
 else
-    echo "There is no g++ here: examples/cpp was not built."
+    echo "There is no g++ here: no C++ project was built."
 fi
 
 echo "$count compared, $bad differ"

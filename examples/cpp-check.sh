@@ -1,17 +1,6 @@
 # The part of check.sh on examples/cpp, with the real compiler: check.sh reads this file, and its functions are used here. Nothing
 # depends on time: what is started is compared with what g++ says of the files, and what stands with the bytes of a clean build.
 
-# passes TEXT COMMAND ..: the command ends with status 0
-passes() {
-    text=$1; shift
-    count=$((count + 1))
-    if ! "$@" > "$work/output" 2>&1; then
-        bad=$((bad + 1))
-        echo "--- $name: $text"
-        cat "$work/output"
-    fi
-}
-
 # gives COMMAND ..: the command ends with status 0, and its standard output is the standard input of this
 gives() {
     cat > "$work/expected"

@@ -1,0 +1,7 @@
+#include <iostream>
+#include "square.h"
+
+int main()
+{
+    std::cout << square(3);
+}
