@@ -3,5 +3,6 @@
 mod case_host;
 mod case_sink;
 pub mod session;
+mod sessions;
 mod shown;
 mod stops;

@@ -1,3 +1,2 @@
-mod DrillIsNoBuild
 mod StatusTellsAnswer
 mod StatusNamesCause

@@ -1,8 +1,11 @@
 -- Whichever command the words are for, what it promises of its answer is the cause of the status.
 use Rattle.std.proofs.Common.{◌≡◌, ◌≤◌, ◌⊎◌, ℕ, List, [], None, inl, inr, refl, sym, ap, ◌∙◌, subst, arith}
 use Rattle.b2_host.specs.ChildProcesses.{Family}
-use Rattle.b2_host.specs.OutsideLaws.{Keeps}
+use Rattle.b2_host.specs.Outside.{Outside}
+use Rattle.b2_host.specs.OutsideLaws.{Keeps, keeps_same}
+use Rattle.b2_host.specs.Output.{Output, with_written}
 use Rattle.b2_host.specs.OutputLaws.{OutKeeps}
+use Rattle.b2_drill_call.specs.Asked.{drill_of}
 use Rattle.b2_endings.specs.declared.failed_lists.FailedLists.{FailedLists}
 use Rattle.b2_refusals.specs.Wholes.{IsWhole}
 use Rattle.b2_refusals.specs.declared.fault.Fault.{Fault}
@@ -20,9 +23,8 @@ use Rattle.b2_top.specs.declared.answer.Answer.{Answer}
 use Rattle.b2_top.specs.declared.answer.Answer.TheVariants as answers
 use Rattle.b2_top.specs.declared.mode.Mode.{Mode}
 use Rattle.b2_top.specs.declared.mode.Mode.TheVariants.{Build, Look, Drill}
-use Rattle.b2_program.specs.Called.{IsBuild, IsLook, Promises, EndsWith}
-use Rattle.b2_program.specs.Causes.{IsFailed, IsRefusedFor, IsRefused, IsNoCommand, IsUsage, IsUsageStatus, IsSinkFault}
-use Rattle.b2_program.proofs.DrillIsNoBuild.{drill_is_no_build}
+use Rattle.b2_program.specs.Called.{IsBuild, IsLook, IsDrill, AnswersOver, Promises, EndsWith}
+use Rattle.b2_program.specs.Causes.{IsFailed, IsRefusedFor, IsRefused, IsNoCommand, IsUsage, IsUsageStatus, IsSinkFault, IsDrillDone}
 use Rattle.b2_program.proofs.StatusTellsAnswer.{at_most_six, is_ok, is_failed, is_refused, is_usage}
 
 -- ---- answers
@@ -36,15 +38,17 @@ look_counts before after answers.HostFault h = h
 look_counts before after answers.OutOfMemory h = h
 look_counts before after answers.SinkFault h = (h.0, inl h.1)
 
-failed_is_cut_short : {X : Type 0} (lists : FailedLists) → IsUsageOrCutShort (answers.Failed lists) → X
-failed_is_cut_short lists (inl e) = absurd cc
-failed_is_cut_short lists (inr (inl e)) = absurd cc
-failed_is_cut_short lists (inr (inr e)) = absurd cc
+counts_after_line : (line : List ℕ) (before after : Moment) → after.host ≡ before.host → after.out ≡ with_written line before.out → CountsStay before after
+counts_after_line line before after host out = record { host = ap (λ (h : Outside). h.faults) host; sink = ap (λ (o : Output). o.faults) out }
 
-refused_is_cut_short : {X : Type 0} (fault : Fault) → IsUsageOrCutShort (answers.Refused fault) → X
-refused_is_cut_short fault (inl e) = absurd cc
-refused_is_cut_short fault (inr (inl e)) = absurd cc
-refused_is_cut_short fault (inr (inr e)) = absurd cc
+drill_counts : (words : List Word) (before after : Moment) (last : Outside) (a : Answer) → after.host ≡ before.host → AnswersOver words before.out after.out a last → CountsTold before after a
+drill_counts words before after last answers.Ok host h = counts_after_line _ before after host h.written
+drill_counts words before after last (answers.Failed lists) host h = absurd h
+drill_counts words before after last (answers.Refused fault) host h = absurd h
+drill_counts words before after last answers.Usage host h = counts_after_line _ before after host h.written
+drill_counts words before after last answers.HostFault host h = absurd h
+drill_counts words before after last answers.OutOfMemory host h = h
+drill_counts words before after last answers.SinkFault host h = (h, inl (ap (λ (o : Outside). o.faults) host))
 
 usage_status : (a : Answer) → IsUsageOrCutShort a → IsUsageStatus (status_of a)
 usage_status a (inl e) = inl (ap status_of e)
@@ -114,7 +118,12 @@ module _ (made : Made) (words : List Word) (before after : Moment) (status : ℕ
     keeps = p.keeps;
     out_keeps = p.answered.out_keeps;
   }
-  of_mode Drill idle p = of_build p
+  of_mode Drill idle p = record {
+    counts = drill_counts words before after p.last a p.host p.answered;
+    none_left = inl (ap (λ (o : Outside). o.children.running) p.host ∙ idle);
+    keeps = keeps_same before.host after.host p.host;
+    out_keeps = p.out_keeps;
+  }
 
   pub stays : before.host.children.running ≡ [] → Stays before after a
   stays idle = of_mode (mode_of words) idle e.promised
@@ -134,6 +143,11 @@ module _ (made : Made) (words : List Word) (before after : Moment) (status : ℕ
       let p : IsLook words before after a = subst Has is e.promised in
       p.answered.shown (is_ok a (sym e.is ∙ well))
 
+  pub drilled_told : mode_of words ≡ Drill → status ≡ 0 → IsDrillDone words before.out after.out
+  drilled_told is well =
+      let p : IsDrill words before after a = subst Has is e.promised in
+      record { last = p.last; summed = subst (λ answer. AnswersOver words before.out after.out answer p.last) (is_ok a (sym e.is ∙ well)) p.answered }
+
   pub failed_told : status ≡ 1 → IsFailed made words before.host after.host
   failed_told one = go (mode_of words) refl e.promised
     where
@@ -143,7 +157,7 @@ module _ (made : Made) (words : List Word) (before after : Moment) (status : ℕ
       go : (m : Mode) → mode_of words ≡ m → Has m → IsFailed made words before.host after.host
       go Build is p = record { is_build = is; lists = found.0; updated = subst (HappenedTold made words before.host after.host) found.1 p.answered.happened }
       go Look is p = absurd (subst IsOfLook found.1 p.answered.not_failed)
-      go Drill is p = failed_is_cut_short found.0 (subst IsUsageOrCutShort found.1 (p.answered.usage (drill_is_no_build words is)))
+      go Drill is p = absurd (subst (λ answer. AnswersOver words before.out after.out answer p.last) found.1 p.answered)
 
   pub refused_told : status ≡ 2 → IsRefused made words before.host after.host
   refused_told two = go (mode_of words) refl e.promised
@@ -157,7 +171,7 @@ module _ (made : Made) (words : List Word) (before after : Moment) (status : ℕ
       go : (m : Mode) → mode_of words ≡ m → Has m → IsRefused made words before.host after.host
       go Build is p = of Build is (subst (IfRefused IsWhole) found.1 p.answered.whole) (subst (HappenedTold made words before.host after.host) found.1 p.answered.happened)
       go Look is p = of Look is (subst (IfRefused IsWhole) found.1 p.answered.whole) (subst (CauseTold words before.host) found.1 p.answered.cause)
-      go Drill is p = refused_is_cut_short found.0 (subst IsUsageOrCutShort found.1 (p.answered.usage (drill_is_no_build words is)))
+      go Drill is p = absurd (subst (λ answer. AnswersOver words before.out after.out answer p.last) found.1 p.answered)
 
   pub usage_told_so : status ≡ 3 → IsUsage words before after
   usage_told_so three = go (mode_of words) refl e.promised
@@ -173,7 +187,8 @@ module _ (made : Made) (words : List Word) (before after : Moment) (status : ℕ
           record { none = none_so Build is none; host = p.answered.alone none; out = p.answered.usage_told found }
       go Look is p = let none = p.answered.no_usage found in
           record { none = none_so Look is none; host = p.answered.alone none; out = p.answered.usage_told found }
-      go Drill is p = record { none = none_so Drill is tt; host = p.answered.alone (drill_is_no_build words is); out = p.answered.usage_told found }
+      go Drill is p = let said = subst (λ answer. AnswersOver words before.out after.out answer p.last) found p.answered in
+          record { none = none_so Drill is said.no_drill; host = p.host; out = said.written }
 
   pub no_command_told : IsNoCommand (mode_of words) words → IsUsageStatus status
   no_command_told none = subst IsUsageStatus (sym e.is) (usage_status a (go (mode_of words) refl none e.promised))
@@ -181,7 +196,7 @@ module _ (made : Made) (words : List Word) (before after : Moment) (status : ℕ
       go : (m : Mode) → mode_of words ≡ m → IsNoCommand m words → Has m → IsUsageOrCutShort a
       go Build is none p = p.answered.usage none
       go Look is none p = p.answered.usage none
-      go Drill is none p = p.answered.usage (drill_is_no_build words is)
+      go Drill is none p = p.usage none
 
   -- ---- counts
 

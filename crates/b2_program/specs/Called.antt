@@ -1,11 +1,19 @@
 -- The command that words are for, and all that it promises of its answer.
-use Rattle.std.specs.Prelude.{◌≡◌, ℕ, List}
+use Rattle.std.specs.Prelude.{◌≡◌, ℕ, List, None}
+use Rattle.b2_host.specs.Outside.{Outside}
 use Rattle.b2_host.specs.OutsideLaws.{Keeps}
+use Rattle.b2_host.specs.Output.{Output}
+use Rattle.b2_host.specs.OutputLaws.{OutKeeps}
+use Rattle.b2_memory.specs.Memories.{new_memory}
 use Rattle.b2_runs.specs.Moments.{Moment}
 use Rattle.b2_runs.specs.UpdateAnswers.{LeavesNone}
+use Rattle.b2_update.specs.Moments.{moment}
 use Rattle.b2_drain.specs.Drains.{Made}
 use Rattle.b2_words.specs.Words.{Word}
+use Rattle.b2_drill_call.specs.Asked.{drill_of}
+use Rattle.b2_drill_call.specs.Drilled.{AnswersDrill}
 use Rattle.b2_top.specs.Answered.{IsAnswered}
+use Rattle.b2_top.specs.Endings.{IsUsageOrCutShort}
 use Rattle.b2_top.specs.Shows.{IsAnswered as IsLookAnswered}
 use Rattle.b2_top.specs.Modes.{mode_of}
 use Rattle.b2_top.specs.Statuses.{status_of}
@@ -26,11 +34,23 @@ pub record IsLook (words : List Word) (before after : Moment) (answer : Answer) 
   pub children : after.host.children ≡ before.host.children
   pub keeps : Keeps before.host after.host
 
--- All that the command of a mode promises. The build command answers a drill, whose words are no build.
+-- what a drill promises of its answer, over a host in memory of its own, which is new before it and `last` after it
+abbrev pub AnswersOver : List Word → Output → Output → Answer → Outside → Type 0
+AnswersOver words before after answer last = AnswersDrill words (moment new_memory.outside before) (moment last after) answer
+
+-- All that the drill command promises. The program's own host stays as it is.
+pub record IsDrill (words : List Word) (before after : Moment) (answer : Answer) : Type 0 where
+  pub last : Outside
+  pub answered : AnswersOver words before.out after.out answer last
+  pub usage : drill_of words ≡ None → IsUsageOrCutShort answer
+  pub host : after.host ≡ before.host
+  pub out_keeps : OutKeeps before.out after.out
+
+-- all that the command of a mode promises
 abbrev pub Promises : Mode → Made → List Word → Moment → Moment → Answer → Type 0
 Promises Build made words before after answer = IsBuild made words before after answer
 Promises Look made words before after answer = IsLook words before after answer
-Promises Drill made words before after answer = IsBuild made words before after answer
+Promises Drill made words before after answer = IsDrill words before after answer
 
 -- The status is that of an answer of which all holds that the command promises which the words are for.
 pub record EndsWith (made : Made) (words : List Word) (before after : Moment) (status : ℕ) : Type 0 where

@@ -1,8 +1,8 @@
 -- The cause of each status.
-use Rattle.std.specs.Prelude.{◌≡◌, ◌⊎◌, ℕ, List, None, IfSome, ⊤}
+use Rattle.std.specs.Prelude.{◌≡◌, ◌⊎◌, ℕ, List, None, IfSome}
 use Rattle.b2_host.specs.ChildProcesses.{BothTold}
 use Rattle.b2_host.specs.Outside.{Outside}
-use Rattle.b2_host.specs.Output.{with_written}
+use Rattle.b2_host.specs.Output.{Output, with_written}
 use Rattle.b2_refusals.specs.Lines.{usage_line}
 use Rattle.b2_refusals.specs.Wholes.{IsWhole}
 use Rattle.b2_refusals.specs.declared.fault.Fault.{Fault}
@@ -11,6 +11,10 @@ use Rattle.b2_runs.specs.UpdateAnswers.{UpdateAnswer.failed, SinkFailed}
 use Rattle.b2_endings.specs.Endings.{lists_of}
 use Rattle.b2_endings.specs.declared.failed_lists.FailedLists.{FailedLists}
 use Rattle.b2_drain.specs.Drains.{Made}
+use Rattle.b2_drill_call.specs.Asked.{drill_of}
+use Rattle.b2_drill_call.specs.Drilled.{IsSummed}
+use Rattle.b2_memory.specs.Memories.{new_memory}
+use Rattle.b2_update.specs.Moments.{moment}
 use Rattle.b2_words.specs.Words.{Word}
 use Rattle.b2_top.specs.Answered.{StaysOrWaits}
 use Rattle.b2_top.specs.Builds.{HasBuilt, RefusedBy}
@@ -42,11 +46,11 @@ pub record IsRefused (made : Made) (words : List Word) (before after : Outside) 
   pub whole : IsWhole fault
   pub cause : IsRefusedFor (mode_of words) made words before after fault
 
--- the words are not of the grammar of the command that they are for; a drill is not carried out
+-- the words are not of the grammar of the command that they are for
 abbrev pub IsNoCommand : Mode → List Word → Type 0
 IsNoCommand Build words = build_command words ≡ None
 IsNoCommand Look words = look_of words ≡ None
-IsNoCommand Drill words = ⊤
+IsNoCommand Drill words = drill_of words ≡ None
 
 -- The words are of no command. The usage line was written, and nothing else was done.
 pub record IsUsage (words : List Word) (before after : Moment) : Type 0 where
@@ -62,3 +66,8 @@ IsUsageStatus status = (status ≡ 3) ⊎ (status ≡ 5) ⊎ (status ≡ 6)
 pub record IsSinkFault (before after : Moment) : Type 0 where
   pub sink : SinkFailed before.out after.out
   pub host : StaysOrWaits before.host after.host
+
+-- The words ask for a drill, in which each update answered Ok, and its summary was written. It ran over a host in memory of its own.
+pub record IsDrillDone (words : List Word) (before after : Output) : Type 0 where
+  pub last : Outside
+  pub summed : IsSummed words (moment new_memory.outside before) (moment last after)

@@ -2,9 +2,11 @@
 ghost use Rattle.std.specs.Prelude.{◌≡◌, []};
 ghost use Rattle.b2_update.specs.Moments.{moment};
 ghost use Rattle.b2_top.specs.Modes.{mode_of};
-ghost use Rattle.b2_program.specs.Called.{IsBuild, IsLook, Promises};
+ghost use Rattle.b2_host.specs.Outside.{Outside};
+ghost use Rattle.b2_program.specs.Called.{IsBuild, IsLook, IsDrill, Promises};
 
 use b2_base::text::Text;
+use b2_drill_call::drill::drill_in_memory;
 use b2_host::children::Children;
 use b2_host::files::Files;
 use b2_host::sink::Sink;
@@ -31,8 +33,14 @@ fn look<H: Files, S: Sink>(alloc: Global, words: &[Text], host: &mut H, out: &mu
     show_b2(alloc, words, host, out)
 }
 
-/// The command that the words are for. A drill is not carried out yet: the build command answers it with the usage
-/// line.
+/// The drill command, over a host in memory of its own.
+fn drill<S: Sink>(alloc: Global, words: &[Text], out: &mut S) -> Answer
+    ensures { (host : Outside) → IsDrill words.now (moment host (S.output out.old)) (moment host (S.output out.new)) result }
+{
+    drill_in_memory(alloc, words, out)
+}
+
+/// The command that the words are for.
 pub fn run_command<H: Children, S: Sink>(
     alloc: Global,
     words: &[Text],
@@ -46,6 +54,6 @@ pub fn run_command<H: Children, S: Sink>(
     match mode_of(words) {
         Mode::Build => build(alloc, words, host, out),
         Mode::Look => look(alloc, words, host, out),
-        Mode::Drill => build(alloc, words, host, out),
+        Mode::Drill => drill(alloc, words, out),
     }
 }

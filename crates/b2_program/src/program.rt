@@ -8,9 +8,9 @@ ghost use Rattle.b2_top.specs.Answered.{CleanTold};
 ghost use Rattle.b2_top.specs.Told.{CountsStay, HostFailedFirst, WrittenTold};
 ghost use Rattle.b2_top.specs.Shows.{IsShown};
 ghost use Rattle.b2_top.specs.Modes.{mode_of};
-ghost use Rattle.b2_top.specs.declared.mode.Mode.TheVariants.{Build, Look};
+ghost use Rattle.b2_top.specs.declared.mode.Mode.TheVariants.{Build, Look, Drill};
 ghost use Rattle.b2_program.specs.Called.{EndsWith};
-ghost use Rattle.b2_program.specs.Causes.{IsFailed, IsRefused, IsUsage, IsNoCommand, IsUsageStatus, IsSinkFault};
+ghost use Rattle.b2_program.specs.Causes.{IsFailed, IsRefused, IsUsage, IsNoCommand, IsUsageStatus, IsSinkFault, IsDrillDone};
 
 use crate::commands::run_command;
 use b2_base::text::Text;
@@ -30,8 +30,8 @@ fn run<H: Children, S: Sink>(alloc: Global, words: &[Text], host: &mut H, out: &
     status
 }
 
-/// Builds the project among the host's files, or shows what it means, as the words ask for; what it has to say goes to
-/// the sink. Gives the exit status of the answer, from 0 to 6.
+/// Builds the project among the host's files, shows what it means, or runs a drill over files in memory, as the words ask
+/// for; what it has to say goes to the sink. Gives the exit status of the answer, from 0 to 6.
 pub fn run_program<H: Children, S: Sink>(
     alloc: Global,
     words: &[Text],
@@ -54,6 +54,8 @@ pub fn run_program<H: Children, S: Sink>(
     ensures shown { mode_of words.now ≡ Look → result ≡ 0
         → WrittenTold (moment (H.outside host.old) (S.output out.old)) (moment (H.outside host.new) (S.output out.new))
         (IsShown words.now) }
+    // A drill with status 0 was a session over a host in memory, in which each update answered Ok; its summary was written.
+    ensures drilled { mode_of words.now ≡ Drill → result ≡ 0 → IsDrillDone words.now (S.output out.old) (S.output out.new) }
     // Status 1: a build of which steps failed or were skipped, or files are missing.
     ensures failed { result ≡ 1 → IsFailed H.made words.now (H.outside host.old) (H.outside host.new) }
     // Status 2: a refusal that is the one to which the words and the files come, or that the update came to.

@@ -1,6 +1,7 @@
 //! The commands over a host in memory.
 use crate::memory::case_host::CaseHost;
 use crate::memory::case_sink::{CaseSink, FailingWrite};
+use crate::memory::sessions::{drill, session};
 use crate::memory::shown::{
     calls_shown, end_shown, events_shown, files_shown, log_shown, starts_shown,
 };
@@ -277,6 +278,17 @@ impl InMemory {
         self.failing = failing_write(words)?;
         Ok(Answer::new(alloc))
     }
+
+    /// Carries out a command over hosts of its own, or else one on the current host.
+    fn other_command(&mut self, alloc: Global, command: &Command) -> Result<Answer, CaseFault> {
+        match command.name() {
+            "run_session" => session(alloc, command),
+            "run_drill" => drill(alloc, command),
+            "stops" => stops(alloc, command),
+            "failures" => failures(alloc, command),
+            _ => look_command(alloc, &mut self.host, command),
+        }
+    }
 }
 
 impl Session for InMemory {
@@ -298,9 +310,7 @@ impl Session for InMemory {
             ),
             "mode_of" => mode_shown(alloc, texts(alloc, words)?.as_slice()),
             "fail_at" => self.fail_at(alloc, words),
-            "stops" => stops(alloc, command),
-            "failures" => failures(alloc, command),
-            _ => look_command(alloc, &mut self.host, command),
+            _ => self.other_command(alloc, command),
         }
     }
 }

@@ -18,6 +18,7 @@ returns-in-Look g c =
 
 pub returns-in-Drill : goal.returns-in-Drill
 returns-in-Drill g c =
-    let before = moment (g.H.Files.outside c.args.host.now) (g.S.Sink.output c.args.out.now) in
-    let after = moment (g.H.Files.outside c.build-in-Drill.new.host) (g.S.Sink.output c.build-in-Drill.new.out) in
-    subst (λ (m : Mode). Promises m g.H.Children.made c.args.words.now before after c.build-in-Drill.result) (sym c.in-Drill.is ∙ c.mode_of.ensures) c.build-in-Drill.ensures
+    let host = g.H.Files.outside c.args.host.now in
+    let before = moment host (g.S.Sink.output c.args.out.now) in
+    let after = moment host (g.S.Sink.output c.drill.new.out) in
+    subst (λ (m : Mode). Promises m g.H.Children.made c.args.words.now before after c.drill.result) (sym c.in-Drill.is ∙ c.mode_of.ensures) (c.drill.ensures host)

@@ -20,6 +20,12 @@ returns-clause-shown g c =
     let after = moment (g.H.Files.outside c.run.new.host) (g.S.Sink.output c.run.new.out) in
     cause_.shown_told g.H.Children.made c.args.words.now before after c.run.result c.run.ensures
 
+pub returns-clause-drilled : goal.returns-clause-drilled
+returns-clause-drilled g c =
+    let before = moment (g.H.Files.outside c.args.host.now) (g.S.Sink.output c.args.out.now) in
+    let after = moment (g.H.Files.outside c.run.new.host) (g.S.Sink.output c.run.new.out) in
+    cause_.drilled_told g.H.Children.made c.args.words.now before after c.run.result c.run.ensures
+
 pub returns-clause-failed : goal.returns-clause-failed
 returns-clause-failed g c =
     let before = moment (g.H.Files.outside c.args.host.now) (g.S.Sink.output c.args.out.now) in

@@ -1,0 +1,84 @@
+-- Words that ask for a drill ask for one target or more.
+use Rattle.std.proofs.Common.{◌≡◌, ℕ, zero, suc, ◌≤◌, ◌<◌, Bool, true, false, cond, List, [], ◌∷◌, codes, Option, Some, None, option_map, subst, arith}
+use Rattle.std.specs.Prelude.{⊤, filter, option_and_then}
+use Rattle.std.specs.List.{filter_map}
+use Rattle.std.specs.Option.{IfSome}
+use Rattle.std.specs.Str.{bytes_eq}
+use Rattle.std.specs.Fmt.{decimal}
+use Rattle.b2_words.specs.Words.{Word, Item, number, most_steps, options_meant, command_meant, with_words, command_asked, meant, meaning, items, by_shape, after_lead, drill_reading, reading_by, reading, stand_once, first, stands, jobs_in, by_in, word_in, is_all, is_quit, is_steps, is_table}
+use Rattle.b2_words.specs.declared.words.BuildOptions.{BuildOptions}
+use Rattle.b2_words.specs.declared.words.Command.{Command}
+use Rattle.b2_words.specs.declared.words.Command.TheVariants as commands
+use Rattle.b2_words.specs.declared.words.Words.{Words}
+use Rattle.b2_drill_call.specs.Asked.{steps_in, drill_in, drill_of}
+
+-- a drill has some target
+abbrev HasTarget : Command → Type 0
+HasTarget (commands.Build options) = ⊤
+HasTarget (commands.Look view) = ⊤
+HasTarget (commands.Drill steps) = 0 < steps
+
+abbrev Has : Option Words → Type 0
+Has found = IfSome found (λ (read : Words). HasTarget read.command)
+
+by_greatest : (n : ℕ) (is : Bool) (found : Option ℕ) → IfSome found (λ k. 0 < k) → IfSome (cond is (Some (suc n)) found) (λ k. 0 < k)
+by_greatest n true found h = omega arith
+by_greatest n false found h = h
+
+number_from_one : (most : ℕ) (word : Word) → IfSome (number most word) (λ k. 0 < k)
+unfolding number
+number_from_one zero word = tt
+number_from_one (suc n) word = by_greatest n (bytes_eq (decimal (suc n)) word) (number n word) (number_from_one n word)
+
+command_has : (options : Option BuildOptions) (steps table : Bool) → IfSome (option_and_then (λ o. command_meant o steps table) options) HasTarget
+command_has None steps table = tt
+command_has (Some o) false false = tt
+command_has (Some o) false true = tt
+command_has (Some o) true false = tt
+command_has (Some o) true true = tt
+
+words_have : (once : Bool) (free : List Word) (command : Option Command) → IfSome command HasTarget
+    → IfSome (cond once (option_map (with_words free) command) None) (λ (read : Words). HasTarget read.command)
+words_have true free None h = tt
+words_have true free (Some command) h = h
+words_have false free command h = tt
+
+meant_has : (jobs by : List Word) (all quit steps table : List Item) (free : List Word) → Has (meant jobs by all quit steps table free)
+meant_has jobs by all quit steps table free =
+    words_have (stand_once jobs by all quit steps table) free (command_asked (first jobs) (first by) (stands all) (stands quit) (stands steps) (stands table))
+    (command_has (options_meant (first jobs) (first by) (stands all) (stands quit)) (stands steps) (stands table))
+
+meaning_has : (found : Option (List Item)) → Has (option_and_then meaning found)
+unfolding meaning
+meaning_has None = tt
+meaning_has (Some all_items) =
+    meant_has (filter_map jobs_in all_items) (filter_map by_in all_items) (filter is_all all_items) (filter is_quit all_items)
+    (filter is_steps all_items) (filter is_table all_items) (filter_map word_in all_items)
+
+drill_has : (steps : Option ℕ) → IfSome steps (λ k. 0 < k) → Has (option_map (λ n. with_words [] (commands.Drill n)) steps)
+drill_has None h = tt
+drill_has (Some n) h = h
+
+reading_has : (words : List Word) → Has (reading words)
+reading_has [] = meaning_has (items by_shape [])
+reading_has (word ∷ rest) = by_lead (after_lead (codes "--drill=") word)
+  where
+    by_rest : (count : Word) (after : List Word) → Has (drill_reading count after)
+    by_rest count [] = drill_has (number most_steps count) (number_from_one most_steps count)
+    by_rest count (other ∷ after) = tt
+
+    by_lead : (count : Option Word) → Has (reading_by count word rest)
+    by_lead None = meaning_has (items by_shape (word ∷ rest))
+    by_lead (Some count) = by_rest count rest
+
+pub some_target : (words : List Word) (n : ℕ) → drill_of words ≡ Some n → 0 < n
+some_target words n asked = by_reading (reading words) (reading_has words) asked
+  where
+    by_command : (read : Command) → HasTarget read → steps_in read ≡ Some n → 0 < n
+    by_command (commands.Build options) h is = absurd cc
+    by_command (commands.Look view) h is = absurd cc
+    by_command (commands.Drill steps) h is = let same : steps ≡ n = cc in subst (λ k. 0 < k) same h
+
+    by_reading : (found : Option Words) → Has found → drill_in found ≡ Some n → 0 < n
+    by_reading None h is = absurd cc
+    by_reading (Some read) h is = by_command read.command h is

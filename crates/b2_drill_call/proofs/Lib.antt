@@ -1,0 +1,4 @@
+pub mod DrillsHaveTargets
+pub mod DrillsHaveNoFaults
+pub mod DrillsAreSessions
+pub mod SummariesTellDrills
