@@ -1,5 +1,5 @@
 -- What an answer says over every host, wherever the update ended.
-use Rattle.std.proofs.Common.{◌≡◌, ◌⊎◌, inl, inr, ℕ, ◌+◌, Bool, true, false, List, [], ◌∷◌, ◌++◌, refl, sym, ap, subst, ◌∙◌, length, arith, append_assoc, append-nil}
+use Rattle.std.proofs.Common.{◌≡◌, ◌⊎◌, inl, inr, ℕ, ◌+◌, ◌<◌, Bool, true, false, List, [], ◌∷◌, ◌++◌, refl, sym, ap, subst, ◌∙◌, length, arith, append_assoc, append-nil}
 use Rattle.std.specs.List.{Contains}
 use Rattle.std.proofs.lemmas.Bool.{cases_lt}
 use Rattle.std.proofs.lemmas.List.Elements.{Contains-append_left}
@@ -28,7 +28,7 @@ use Rattle.b2_update.specs.declared.update_answer.UpdateAnswer.{UpdateAnswer}
 use Rattle.b2_update.specs.Answers.{answer_of}
 use Rattle.b2_update.specs.Stops.{StopCausedBy}
 use Rattle.b2_update.specs.Going.{HasKept, AreToWaitFor, Halts}
-use Rattle.b2_update.specs.Endings.{HasCome, IsAnswered, IsStopAnswer}
+use Rattle.b2_update.specs.Endings.{HasCome, NotTriedAgain, IsAnswered, IsStopAnswer}
 
 -- ---- an update that has come to its end
 
@@ -36,6 +36,7 @@ pub come_is_answered : (plan : Plan) (jobs : ℕ) (entry here : Moment) (answer 
 come_is_answered plan jobs entry here answer come = record {
   counts = come.caused;
   none_left = inl come.idle;
+  not_again = λ rose. absurd (let same = come.counts.waits in omega (arith, rose, same));
   kept = come.kept;
   turns = record {
     events = come.events;
@@ -56,6 +57,10 @@ come_is_answered plan jobs entry here answer come = record {
 }
 
 -- ---- an update that has stopped
+
+-- how many children are left besides those that are to be waited for: none where no wait failed, else one
+abbrev pub Left : ℕ → Moment → Moment → Type 0
+Left rest entry mid = ((rest ≡ 0) × (mid.host.failed_waits ≡ entry.host.failed_waits)) ⊎ (WaitFailed entry.host mid.host × (rest ≡ 1))
 
 -- the answer of a stop names nothing
 abbrev is_fault : RunAnswer → Bool
@@ -171,9 +176,13 @@ module _ (plan : Plan) (jobs count : ℕ) (entry mid : Moment) (after : Outside)
         ])
       ]
 
+  again : Left rest entry mid → NotTriedAgain entry.host after
+  again (inl (zero_rest, same)) rose = let more = drains.not_again (omega (arith, rose, same)) in omega (arith, more, zero_rest)
+  again (inr (failed, one_rest)) rose = let least = drains.at_least in omega (arith, least, one_rest)
+
   pub stop_is_answered : (f : Knowledge) (all : Bool) (answer : UpdateAnswer) → IsStopAnswer f stop all answer → IsQuietHost mid.host after
       → (all ≡ true → AllWaited rest mid.host after) → (all ≡ false → WaitFailed mid.host after × (mid.host.risks.may_fail ≡ true))
-      → (rest ≡ 0 → LeavesNone mid.host after) → (rest ≡ 0) ⊎ (WaitFailed entry.host mid.host × (rest ≡ 1)) → IsAnswered plan jobs entry (record { host = after; out = mid.out }) answer
+      → (rest ≡ 0 → LeavesNone mid.host after) → Left rest entry mid → IsAnswered plan jobs entry (record { host = after; out = mid.out }) answer
   stop_is_answered f all answer is quiet waited missed none how =
       let ends = drains.ends halts.events halts.happened.of_open in
       let fault = answer_is_fault f stop all answer is in
@@ -181,7 +190,8 @@ module _ (plan : Plan) (jobs count : ℕ) (entry mid : Moment) (after : Outside)
       ends.came ∙ ap (λ (l : List ChildEvent). l ++ ends.ends) halts.happened.are ∙ append_assoc entry.host.children.events halts.events ends.ends in
       record {
         counts = caused f all answer stop halts.caused is quiet waited missed;
-        none_left = elim how [ inl zero_rest ↦ none_since none zero_rest | inr (failed, one_rest) ↦ one_since failed one_rest ];
+        none_left = elim how [ inl (zero_rest, same) ↦ none_since none zero_rest | inr (failed, one_rest) ↦ one_since failed one_rest ];
+        not_again = again how;
         kept = kept;
         turns = record {
           events = halts.events ++ ends.ends;
@@ -204,8 +214,8 @@ module _ (plan : Plan) (jobs count : ℕ) (entry mid : Moment) (after : Outside)
 -- ---- how many children are to be waited for
 
 pub rest_is : (count : ℕ) (entry mid : Moment) → AreToWaitFor count entry mid
-    → (rest : ℕ) × (length mid.host.children.running ≡ count + rest) × ((rest ≡ 0) ⊎ (WaitFailed entry.host mid.host × (rest ≡ 1)))
-rest_is count entry mid (inl all) = (0, (omega (arith, all)), inl refl)
+    → (rest : ℕ) × (length mid.host.children.running ≡ count + rest) × Left rest entry mid
+rest_is count entry mid (inl (same, all)) = (0, (omega (arith, all)), inl (refl, same))
 rest_is count entry mid (inr (failed, more)) = (1, more, inr (failed, refl))
 
 -- ---- an update that has stopped before any event
@@ -215,4 +225,8 @@ pub begin_is_answered : (plan : Plan) (jobs : ℕ) (entry here : Moment) (f : Kn
 begin_is_answered plan jobs entry here f stop answer halts idle is =
     let none : length here.host.children.running ≡ 0 = ap (λ (l : List Child). length l) idle in
     stop_is_answered plan jobs 0 entry here here.host stop halts 0 (no_wait here.host 0 none) f true answer is (inl (refl, refl)) (λ e. record { faults = refl; waits = refl; left = none })
-    (λ e. absurd (let h : true ≡ false = e in cc)) (λ e. inl idle) (inl refl)
+    (λ e. absurd (let h : true ≡ false = e in cc)) (λ e. inl idle) (how none halts.waits)
+  where
+    how : length here.host.children.running ≡ 0 → AreToWaitFor 0 entry here → Left 0 entry here
+    how none (inl (same, all)) = inl (refl, same)
+    how none (inr (failed, one)) = absurd (omega (arith, none, one))

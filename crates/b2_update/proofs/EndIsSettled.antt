@@ -122,7 +122,7 @@ module _ (plan : Plan) (i : ℕ) (well : Bool) (entry : Moment) (x y : Outside) 
     short = h.short;
     happened = happened;
     planned = λ child c. (let k = h.planned.planned child (same_child child c) in (k.step, k.at, k.outs));
-    waits = inl same_count;
+    waits = inl (leaves.waits ∙ h.counts.waits, same_count);
     kept = kept;
     caused = caused;
   }

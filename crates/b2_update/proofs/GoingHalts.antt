@@ -21,8 +21,8 @@ use Rattle.b2_update.specs.Going.{IsGoing, Halts}
 
 module _ (plan : Plan) (entry here there : Moment) (run : Run) (going : IsGoing plan entry here run) where
   -- where no child has started or ended since, and the counts of faults are as the stop says
-  pub going_halts : (stop : Stop) → there.host.children ≡ here.host.children → Keeps here.host there.host → OutKeeps here.out there.out → StopCausedBy entry there stop → Halts plan run.looks.board.sched.jobs run.waits entry there stop
-  going_halts stop children host out caused =
+  pub going_halts : (stop : Stop) → there.host.children ≡ here.host.children → there.host.failed_waits ≡ here.host.failed_waits → Keeps here.host there.host → OutKeeps here.out there.out → StopCausedBy entry there stop → Halts plan run.looks.board.sched.jobs run.waits entry there stop
+  going_halts stop children failed_waits host out caused =
       let running = ap (λ (family : Family). family.running) children in
       record {
         events = going.events;
@@ -35,7 +35,7 @@ module _ (plan : Plan) (entry here there : Moment) (run : Run) (going : IsGoing 
           short_told = going.happened.short_told;
         };
         planned = λ child runs. (let p = planned running child runs in (p.step, p.at, p.outs));
-        waits = inl (ap (λ (l : List Child). length l) running ∙ going.planned.waits);
+        waits = inl (failed_waits ∙ going.counts.waits, ap (λ (l : List Child). length l) running ∙ going.planned.waits);
         kept = record { host = keeps_then entry.host here.host there.host going.kept.host host; out = out_keeps_then entry.out here.out there.out going.kept.out out };
         caused = caused;
       }
@@ -46,22 +46,22 @@ module _ (plan : Plan) (entry here there : Moment) (run : Run) (going : IsGoing 
   -- a call of the host failed, or no memory was left
   pub host_halts : (fault : IoFault) → IoLooks {T = Unit {0}} here.host there.host (Err fault) → there.out ≡ here.out → Halts plan run.looks.board.sched.jobs run.waits entry there (host_stop_of fault)
   host_halts faults.Failed failed out =
-      going_halts (host_stop_of faults.Failed) (ap (λ (o : Outside). o.children) failed.same) (keeps_io_looks {T = Unit {0}} here.host there.host (Err faults.Failed) failed) (out_keeps_same here.out there.out out)
+      going_halts (host_stop_of faults.Failed) (ap (λ (o : Outside). o.children) failed.same) (ap (λ (o : Outside). o.failed_waits) failed.same) (keeps_io_looks {T = Unit {0}} here.host there.host (Err faults.Failed) failed) (out_keeps_same here.out there.out out)
       (record { may = sym (ap (λ (r : Risks). r.may_fail) going.kept.host.risks) ∙ failed.may_fail; faults = subst (λ n. Rose n there.host.faults) going.counts.host failed.rose }, ap (λ (o : Output). o.faults) out ∙ going.counts.sink)
   host_halts faults.OutOfMemory same out =
-      going_halts (host_stop_of faults.OutOfMemory) (ap (λ (o : Outside). o.children) same) (keeps_io_looks {T = Unit {0}} here.host there.host (Err faults.OutOfMemory) same) (out_keeps_same here.out there.out out)
+      going_halts (host_stop_of faults.OutOfMemory) (ap (λ (o : Outside). o.children) same) (ap (λ (o : Outside). o.failed_waits) same) (keeps_io_looks {T = Unit {0}} here.host there.host (Err faults.OutOfMemory) same) (out_keeps_same here.out there.out out)
       (record { host = ap (λ (o : Outside). o.faults) same ∙ going.counts.host; waits = ap (λ (o : Outside). o.failed_waits) same ∙ going.counts.waits; sink = ap (λ (o : Output). o.faults) out ∙ going.counts.sink })
 
   -- a line could not be written
   pub sink_halts : (line : List ℕ) (fault : IoFault) → there.host ≡ here.host → Says {T = Unit {0}} line here.out there.out (Err fault) → Halts plan run.looks.board.sched.jobs run.waits entry there (sink_stop_of fault)
   sink_halts line faults.Failed host (failed, part, may) =
-      going_halts (sink_stop_of faults.Failed) (ap (λ (o : Outside). o.children) host) (keeps_same here.host there.host host)
+      going_halts (sink_stop_of faults.Failed) (ap (λ (o : Outside). o.children) host) (ap (λ (o : Outside). o.failed_waits) host) (keeps_same here.host there.host host)
       (record { faults = failed.faults.kept; no_fault = λ none. absurd (true≢false (sym failed.may ∙ none)); may_fail = may }) (
         record { may = sym going.kept.out.may_fail ∙ failed.may; faults = subst (λ n. Rose n there.out.faults) going.counts.sink failed.faults },
         ap (λ (o : Outside). o.faults) host ∙ going.counts.host,
         ap (λ (o : Outside). o.failed_waits) host ∙ going.counts.waits,
       )
   sink_halts line faults.OutOfMemory host (same, part, may) =
-      going_halts (sink_stop_of faults.OutOfMemory) (ap (λ (o : Outside). o.children) host) (keeps_same here.host there.host host)
+      going_halts (sink_stop_of faults.OutOfMemory) (ap (λ (o : Outside). o.children) host) (ap (λ (o : Outside). o.failed_waits) host) (keeps_same here.host there.host host)
       (record { faults = omega (arith, same); no_fault = λ none. same; may_fail = may })
       (record { host = ap (λ (o : Outside). o.faults) host ∙ going.counts.host; waits = ap (λ (o : Outside). o.failed_waits) host ∙ going.counts.waits; sink = same ∙ going.counts.sink })

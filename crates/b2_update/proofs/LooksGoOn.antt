@@ -98,7 +98,7 @@ pub looks_halt : (plan : Plan) (entry here there : Moment) (run : Run) (T : Type
     → there.out ≡ here.out → ChangesOnlyLog here.host there.host → StopTold {T = T} here.host there.host (Err stop)
     → Halts plan run.looks.board.sched.jobs run.waits entry there (stops.Files stop)
 looks_halt plan entry here there run T stop going out only told =
-    going_halts plan entry here there run going (stops.Files stop) only.children (keeps_log_changes here.host there.host only) (out_keeps_same here.out there.out out) (caused stop told)
+    going_halts plan entry here there run going (stops.Files stop) only.children only.failed_waits (keeps_log_changes here.host there.host only) (out_keeps_same here.out there.out out) (caused stop told)
   where
     sink : there.out.faults ≡ entry.out.faults
     sink = ap (λ (o : Output). o.faults) out ∙ going.counts.sink

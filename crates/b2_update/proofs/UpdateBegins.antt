@@ -77,7 +77,7 @@ halts_begins plan jobs entry here stop idle only out caused =
       short = [];
       happened = nothing_yet plan jobs entry here idle only.children;
       planned = λ child among. absurd (omega (arith, (subst (λ l. Contains l child) none among).1));
-      waits = inl (ap (λ (l : List Child). length l) none);
+      waits = inl (only.failed_waits, ap (λ (l : List Child). length l) none);
       kept = kept_yet entry here only out;
       caused = caused;
     }

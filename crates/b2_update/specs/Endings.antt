@@ -1,11 +1,11 @@
 -- How an update ends.
-use Rattle.std.specs.Prelude.{◌≡◌, ◌⊎◌, ℕ, Bool, true, false, List, [], Some, Result, Ok, Err, MatchResult}
+use Rattle.std.specs.Prelude.{◌≡◌, ◌⊎◌, ℕ, ◌<◌, Bool, true, false, List, [], length, Some, Result, Ok, Err, MatchResult}
 use Rattle.std.specs.List.{Contains}
 use Rattle.b2_host.specs.declared.children.ChildEvent.{ChildEvent}
 use Rattle.b2_host.specs.declared.children.ChildEvent.TheVariants.{Done}
 use Rattle.b2_host.specs.Disks.{Disk}
 use Rattle.b2_host.specs.ChildProcesses.{BothTold}
-use Rattle.b2_host.specs.Outside.{Read}
+use Rattle.b2_host.specs.Outside.{Outside, Read}
 use Rattle.b2_host.specs.Output.{Output, with_written}
 use Rattle.b2_host.specs.ReadsAdded.{AddsReads}
 use Rattle.b2_plan.specs.declared.step.Step.{Step}
@@ -53,10 +53,15 @@ pub record HasCome (plan : Plan) (jobs : ℕ) (entry here : Moment) (answer : Up
   pub none_failed : answer_of answer ≡ all_went → (i : ℕ) → Contains (as_counted short events) (Done i false) → ⊥
   pub named_failed : (i : ℕ) → Contains (failed_of (answer_of answer)) i → Contains (as_counted short events) (Done i false)
 
+-- where a wait failed a child is left, for the wait was not tried again
+abbrev pub NotTriedAgain : Outside → Outside → Type 0
+NotTriedAgain before after = before.failed_waits < after.failed_waits → 0 < length after.children.running
+
 -- What an answer says over every host, wherever the update ended.
 pub record IsAnswered (plan : Plan) (jobs : ℕ) (entry here : Moment) (answer : UpdateAnswer) : Type 0 where
   pub counts : CausedBy entry here (answer_of answer)
   pub none_left : LeavesNone entry.host here.host
+  pub not_again : NotTriedAgain entry.host here.host
   pub kept : HasKept entry here
   pub turns : runs.HasHappened plan.steps jobs entry.host.disk entry.host.children.events here.host.children.events
       (answer_of answer)

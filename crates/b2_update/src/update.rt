@@ -10,7 +10,7 @@ ghost use Rattle.b2_update.specs.Moments.{moment};
 ghost use Rattle.b2_update.specs.Answers.{answer_of};
 ghost use Rattle.b2_update.specs.Stops.{host_stop_of};
 ghost use Rattle.b2_update.specs.Going.{IsGoing, Halts, SameWay};
-ghost use Rattle.b2_update.specs.Endings.{HasCome, IsAnswered, EndTells};
+ghost use Rattle.b2_update.specs.Endings.{HasCome, NotTriedAgain, IsAnswered, EndTells};
 ghost use Rattle.b2_update.specs.Updates.{IsAskedFor, RunTells, BeginTells, UpdateTold};
 ghost use Rattle.b2_drain.specs.Drains.{Made};
 
@@ -66,7 +66,7 @@ fn begin<F: Files>(
             facts: Facts::new(alloc),
             journal,
             marks: Marks::new(alloc),
-            by_digest: options.by_digest,
+            by_digest: way.by_digest,
         },
         quit: options.quit,
         updated: 0,
@@ -167,6 +167,8 @@ pub fn update<H: Children, S: Sink>(
     ensures counts { CausedBy (moment (H.outside host.old) (S.output out.old)) (moment (H.outside host.new) (S.output out.new)) (answer_of result) }
     // No child is left, but for one for each wait that failed. A wait fails only where one may, and then both counts of the host rise.
     ensures none_left { LeavesNone (H.outside host.old) (H.outside host.new) }
+    // A wait that failed is not tried again: the child that it was for is left.
+    ensures not_again { NotTriedAgain (H.outside host.old) (H.outside host.new) }
     // No count falls, what may go wrong stays, visible files stay visible, and all that stood stays among the past.
     ensures keeps { Keeps (H.outside host.old) (H.outside host.new) }
     ensures out_keeps { OutKeeps (S.output out.old) (S.output out.new) }
