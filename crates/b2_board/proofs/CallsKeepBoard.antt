@@ -1,7 +1,10 @@
 -- The calls of the schedule, by what they answer.
-use Rattle.std.proofs.Common.{◌≡◌, ℕ, ◌+◌, ◌≤◌, true, false, cond, get_or, set, Option, Some, None, is_some, MatchOption, refl, sym, ap, subst, arith}
+use Rattle.std.proofs.Common.{◌≡◌, ℕ, suc, zero, ◌+◌, ◌≤◌, ◌<◌, List, length, get_or, true, false, cond, set, Option, Some, None, is_some, MatchOption, refl, sym, ap, subst, arith}
 use Rattle.std.specs.List.{count_by}
 use Rattle.std.proofs.lemmas.List.Sums.{sum_by-set}
+use Rattle.b2_plan.specs.declared.step.Step.{Step}
+use Rattle.b2_plan.specs.Plans.{step_at}
+use Rattle.b2_facts.proofs.ListsAtPlaces.{get_some}
 use Rattle.b2_plan.specs.declared.plan.Plan.{Plan}
 use Rattle.b2_sched.specs.Schedules.{Schedule, IsStep, IsNeeded, IsUnjudged, CanLook}
 use Rattle.b2_sched.specs.Calls.{looked_at, with_start, StartsNext, StartsNone}
@@ -65,3 +68,9 @@ some_work (Some work) e = (work, refl)
 pub no_work : (o : Option Work) → is_some o ≡ false → o ≡ None
 no_work None e = refl
 no_work (Some work) e = absurd (let f : true ≡ false = e in cc)
+
+-- ---- the step with a number
+
+pub numbered_step : (steps : List Step) (k : ℕ) → 0 < k → k ≤ length steps → (step : Step) × (step_at steps k ≡ Some step)
+numbered_step steps zero low high = absurd (omega (arith, low))
+numbered_step steps (suc place) low high = get_some steps place (omega (arith, high))

@@ -16,12 +16,12 @@ ghost use Rattle.b2_board.specs.declared.work.Work.{Work};
 ghost use Rattle.b2_board.specs.Needs.{looks_left};
 ghost use Rattle.b2_board.specs.Boards.{IsBoard, IsOver, IsLookOf, NeedsMore, work_at, members_of};
 
+use crate::steps::step_of;
 use crate::work::Work;
 use b2_base::fault::OutOfMemory;
 use b2_facts::stop::Stop;
 use b2_host::files::Files;
 use b2_plan::plan::Plan;
-use b2_plan::step::Step;
 use b2_reach::reach::Reach;
 use b2_reach::sights::Sights;
 use b2_sched::sched::Sched;
@@ -40,15 +40,6 @@ impl Drop for Board {
         drop(sched);
         drop(works);
     }
-}
-
-/// The step with a number, which counts from 1.
-fn step_of(steps: &[Step], number: u32) -> &Step
-    requires some { 0 < number }
-    requires within { number ≤ length steps.now }
-    ensures { step_at steps.now number ≡ Some result.now }
-{
-    &steps[number as usize - 1]
 }
 
 /// No work, so many times.

@@ -8,5 +8,6 @@
 pub mod board;
 pub mod laws;
 mod needs;
+pub mod steps;
 pub mod waiting;
 pub mod work;

@@ -9,7 +9,7 @@ ghost use Rattle.b2_host.specs.LogChanges.{ChangesOnlyLog};
 ghost use Rattle.b2_log.specs.declared.line.LogLine.TheVariants as lines;
 ghost use Rattle.b2_log.specs.Lines.{spelling};
 ghost use Rattle.b2_log.specs.Good.{IsProper, IsGood};
-ghost use Rattle.b2_log.specs.Finding.{find_record, find_scan};
+ghost use Rattle.b2_log.specs.Finding.{find_record};
 ghost use Rattle.b2_journal.specs.Rules.{opening_by};
 ghost use Rattle.b2_journal.specs.Openings.{Opens, MayFailTold, ReadsOnlyLog};
 ghost use Rattle.b2_journal.specs.Notes.{Notes};
@@ -21,7 +21,7 @@ use b2_base::path::Path;
 use b2_host::fault::IoFault;
 use b2_host::files::Files;
 use b2_host::log_file::log_file;
-use b2_log::line::{LogLine, Record, ScanLine};
+use b2_log::line::{LogLine, Record};
 use b2_log::log::Log;
 use b2_log::write::line_bytes;
 use std::alloc::Global;
@@ -120,12 +120,5 @@ impl Journal {
         ensures proper { IfSome result (λ rec. IsProper (lines.Record rec.now)) }
     {
         self.log.find(outs)
-    }
-
-    /// The last scan of a path, where it was made at this stamp. Takes no memory.
-    pub fn scan(&self, path: &Path, stamp: u64) -> Option<&ScanLine>
-        ensures { option_copied result ≡ find_scan path.now stamp self.now }
-    {
-        self.log.scan(path, stamp)
     }
 }

@@ -4,7 +4,7 @@ ghost use Rattle.b2_host.specs.LogChanges.{ChangesOnlyLog};
 ghost use Rattle.b2_host.specs.declared.children.ChildEvent.{ChildEvent};
 ghost use Rattle.b2_plan.specs.declared.plan.Plan.{Plan};
 ghost use Rattle.b2_plan.specs.declared.step.Step.{Step};
-ghost use Rattle.b2_plan.specs.Plans.{step_at, Apart};
+ghost use Rattle.b2_plan.specs.Plans.{Apart};
 ghost use Rattle.b2_sched.specs.Schedules.{IsStep, IsNeeded, IsUnjudged, CanLook};
 ghost use Rattle.b2_facts.specs.Facts.{Knowledge, IsAbout, no_facts};
 ghost use Rattle.b2_facts.specs.Growth.{Learns, IncludesStay};
@@ -21,6 +21,7 @@ ghost use Rattle.b2_looks.specs.Judging.{JudgeTold, MigrateTold};
 use crate::step_files::step_numbers;
 use b2_base::fault::OutOfMemory;
 use b2_board::board::Board;
+use b2_board::steps::step_of;
 use b2_facts::stop::Stop;
 use b2_host::files::Files;
 use b2_log::line::LogLine;
@@ -58,14 +59,6 @@ impl Drop for Looks {
         drop(ready);
         drop(ran);
     }
-}
-
-/// The step with a number, which counts from 1.
-fn step_of(steps: &[Step], number: u32) -> &Step
-    requires { (step : Step) × (step_at steps.now number ≡ Some step) }
-    ensures { step_at steps.now number ≡ Some result.now }
-{
-    &steps[number as usize - 1]
 }
 
 /// Gives a fresh step its record with digests, where judging is by digests and the log has none with the stamps of its

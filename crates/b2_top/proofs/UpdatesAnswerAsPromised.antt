@@ -318,7 +318,7 @@ module _ (made : Made) (words : List Word) (before after : Moment) (m : Output) 
       (both_follow h0.disk h2.disk (λ disk later w events are. reported disk later events (w events are)) (wrote IsAllOf [] (same_text m o2 e) line_is))
       (subst Turns named turns_now) (kept_same e)
 
-  -- the call was cut off by a fault of the sink, or for want of memory
+  -- the call was cut off by a fault of the sink, or by memory that ran out
   pub cut_sink : (piece : List ℕ) → o2.written ≡ option_map (λ so_far. so_far ++ piece) m.written → IsFrontOf piece (refusal_line steps (answer_of end))
       → MayAnswer (answer_of end) answers.SinkFault → SinkFailed o0 o2 → StaysOrWaits h0 h2 → OutKeeps o0 o2 → Promised answers.SinkFault
   cut_sink piece e front may sink host kept_out =

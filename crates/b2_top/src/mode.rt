@@ -13,7 +13,7 @@ pub enum Mode {
     Build,
     /// To show the table or the steps of a plan.
     Look,
-    /// To run the updates of a generated project in memory. Not carried out yet: it is answered with the usage line.
+    /// To run the updates of a generated project in memory.
     Drill,
 }
 

@@ -23,6 +23,7 @@ ghost use Rattle.b2_turns.specs.Recording.{RecordTold};
 
 use b2_base::path::Path;
 use b2_base::path_list::copy_paths;
+use b2_board::steps::step_of;
 use b2_facts::stop::Stop;
 use b2_host::fault::Failed;
 use b2_host::files::Files;
@@ -34,14 +35,6 @@ use b2_reach::sights::Sights;
 use b2_verdicts::record::record_of;
 use b2_verdicts::step_numbers::StepNumbers;
 use std::alloc::Global;
-
-/// The step with a number, which counts from 1.
-fn step_of(steps: &[Step], number: u32) -> &Step
-    requires { (step : Step) × (step_at steps.now number ≡ Some step) }
-    ensures { step_at steps.now number ≡ Some result.now }
-{
-    &steps[number as usize - 1]
-}
 
 /// Whether a file stands at each of the paths.
 fn have_left<F: Files>(files: &mut F, outs: &[Path]) -> Result<bool, Failed>

@@ -31,7 +31,7 @@ pub record StandsStill (here there : Moment) : Type 0 where
   pub reads : there.host.reads ≡ here.host.reads
   pub written : there.out.written ≡ here.out.written
 
--- the update stopped at a call of the host that failed, or for want of memory
+-- the update stopped at a call of the host that failed, or out of memory
 abbrev pub IsOfCall : Stop → Type 0
 IsOfCall (stops.Files files.Host) = ⊤
 IsOfCall (stops.Files files.OutOfMemory) = ⊤

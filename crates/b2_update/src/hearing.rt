@@ -11,8 +11,8 @@ ghost use Rattle.b2_update.specs.Going.{IsGoing, HasHeard, EndsAs, Halts, SameWa
 ghost use Rattle.b2_update.specs.InRun.{Tells, WaitTells, SettleTells};
 
 use crate::run::Run;
-use crate::step_of::step_of;
 use crate::stop::{Stop, sink_stop};
+use b2_board::steps::step_of;
 use b2_endings::lines::failed_text;
 use b2_endings::lists::write_line;
 use b2_facts::stop::Stop as FilesStop;

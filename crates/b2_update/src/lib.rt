@@ -6,7 +6,6 @@ mod hearing;
 pub mod options;
 pub mod run;
 mod starting;
-mod step_of;
 pub mod stop;
 pub mod update;
 pub mod update_answer;

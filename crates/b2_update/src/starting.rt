@@ -28,10 +28,10 @@ ghost use Rattle.b2_update.specs.Going.{IsGoing, Halts, SameWay, Rests, NoneStar
 ghost use Rattle.b2_update.specs.InRun.{Tells};
 
 use crate::run::Run;
-use crate::step_of::step_of;
 use crate::stop::{Stop, host_stop, sink_stop};
 use b2_base::fault::OutOfMemory;
 use b2_base::path::Path;
+use b2_board::steps::step_of;
 use b2_endings::lists::write_line;
 use b2_facts::facts::Facts;
 use b2_host::children::Children;

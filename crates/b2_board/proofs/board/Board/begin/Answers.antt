@@ -7,7 +7,7 @@ use Rattle.b2_reach.specs.declared.reach.Reach.{Reach}
 use Rattle.b2_reach.specs.Reaches.{IsReachOf}
 use Rattle.b2_board.specs.Boards.{work_at}
 use Rattle.b2_board.proofs.BoardHoldsAsFactsGrow.{board_grows}
-use Rattle.b2_board.proofs.CallsKeepBoard.{some_work, no_work}
+use Rattle.b2_board.proofs.CallsKeepBoard.{some_work, no_work, numbered_step}
 use Rattle.b2_board.proofs.LookKeepsBoard.{number_within, board_begins}
 use Rattle.b2_board.proofs.board.Board.begin.Goals as goal
 
@@ -29,8 +29,8 @@ returns-then-is_some-clause-learns c = learns_same c.args.plan.now.steps c.args.
 pub returns-then-is_some-clause-told : goal.returns-then-is_some-clause-told
 returns-then-is_some-clause-told c now = true_same c.args.plan.now.steps c.args.plan.now.roots now c.args.sights.now.facts
 
-pub step_of-step-requires-clause-within : goal.step_of-step-requires-clause-within
-step_of-step-requires-clause-within c = let a = c.requires.step.within in let b = c.requires.board.size in let e = ap length c.as_slice.ensures in omega (arith, a, b, e)
+pub step_of-step-requires : goal.step_of-step-requires
+step_of-step-requires c = numbered_step c.as_slice.result.now c.args.number c.requires.step.some (let a = c.requires.step.within in let b = c.requires.board.size in let e = ap length c.as_slice.ensures in omega (arith, a, b, e))
 
 pub returns-in_err-reach-clause-board : goal.returns-in_err-reach-clause-board
 returns-in_err-reach-clause-board c = board_grows c.args.plan.now c.args.number c.args.sights.now.facts c.open.new.sights.facts c.args.self.now c.requires.about c.open.ensures.learns.grows c.requires.board

@@ -1,4 +1,4 @@
-//! The step with a number.
+//! The steps of a plan by their numbers.
 ghost use Rattle.std.specs.Prelude.{◌≡◌, Some};
 ghost use Rattle.b2_plan.specs.declared.step.Step.{Step};
 ghost use Rattle.b2_plan.specs.Plans.{step_at};
