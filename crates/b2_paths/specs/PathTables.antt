@@ -1,7 +1,4 @@
 use Rattle.std.specs.Prelude.{◌≡◌, ℕ, ◌≤◌, List, length, Some, slice_get}
-use Rattle.std.specs.Ordering.{nat_cmp}
-use Rattle.std.specs.Cmp.Lexicographic.{slice_cmp}
-use Rattle.std.specs.FinMap.{FinMap, get}
 
 -- the path stands at this place
 abbrev pub IsPlaceOf : List (List ℕ) → List ℕ → ℕ → Type 0
@@ -14,9 +11,3 @@ AreDistinct paths = (path : List ℕ) (place other : ℕ) → IsPlaceOf paths pa
 -- there are at most 2 ^ 32 - 1 paths, so that each place, and their count, is a number of 32 bits
 abbrev pub AreFew : List (List ℕ) → Type 0
 AreFew paths = length paths ≤ 4294967295
-
--- the map has the place of each path, and nothing else
-pub record AreNumbered (paths : List (List ℕ)) (places : FinMap (slice_cmp nat_cmp) ℕ) : Type 0 where
-  pub few : AreFew paths
-  pub there : (path : List ℕ) (place : ℕ) → get places path ≡ Some place → IsPlaceOf paths path place
-  pub back : (path : List ℕ) (place : ℕ) → IsPlaceOf paths path place → get places path ≡ Some place

@@ -3,40 +3,39 @@ ghost use Rattle.std.specs.Prelude.{◌≡◌, ◌<◌, [], ◌∷◌, ◌++◌,
 ghost use Rattle.std.specs.List.{Contains};
 ghost use Rattle.b2_paths.specs.PathTables.{IsPlaceOf, AreDistinct, AreFew};
 
+use crate::hashed_path::HashedPath;
 use b2_base::fault::OutOfMemory;
 use b2_base::path::Path;
-use b2_base::path_map::PathMap;
+use indexmap::IndexSet;
 use std::alloc::Global;
 use std::marker::Model;
 
 /// Paths by number, seen as the list of them. No path is there twice, and the number of a path is its place, from 0. It
 /// stays the path's as the table grows. There are at most 2 ^ 32 - 1 paths.
 pub struct PathTable {
-    paths: Vec<Path>,
-    places: PathMap<u32>,
+    paths: IndexSet<HashedPath>,
 }
 
 /// By hand, so that dropping one is one call.
 impl Drop for PathTable {
     fn drop(self) {
-        let PathTable { paths, places } = self;
+        let PathTable { paths } = self;
         drop(paths);
-        drop(places);
     }
 }
 
 impl Model for PathTable {
     ghost use Rattle.std.specs.Prelude.{ℕ, List};
     ghost use Rattle.std.specs.Coded.{coded_ℕ, coded_list};
-    ghost use Rattle.b2_paths.specs.PathTables.{AreNumbered};
+    ghost use Rattle.b2_paths.specs.PathTables.{AreFew};
 
     ghost Value = { List (List ℕ) };
 
     ghost coded = { coded_list (coded_list coded_ℕ) };
 
-    ghost view = { λ t. t.paths.items };
+    ghost view = { λ t. t.paths.keys };
 
-    ghost invariant = { λ t. AreNumbered t.paths.items t.places };
+    ghost invariant = { λ t. AreFew t.paths.keys };
 }
 
 impl PathTable {
@@ -45,8 +44,7 @@ impl PathTable {
         ensures { result ≡ [] }
     {
         PathTable {
-            paths: Vec::new(alloc),
-            places: PathMap::new(alloc),
+            paths: IndexSet::new(alloc),
         }
     }
 
@@ -62,14 +60,15 @@ impl PathTable {
         ensures distinct { AreDistinct self.now }
         ensures few { AreFew self.now }
     {
-        let _law = &self.paths;
+        let _len = self.paths.len();
     }
 
     /// The number of a path, if it is there; takes no memory.
     pub fn find(&self, path: &Path) -> Option<u32>
         ensures { MatchOption result (Contains self.now path.now → ⊥) (IsPlaceOf self.now path.now) }
     {
-        self.places.get(path).copied()
+        let place = self.paths.get_index_of(path.as_str())?;
+        Some(place as u32)
     }
 
     /// The path of a number.
@@ -77,7 +76,7 @@ impl PathTable {
         requires { number < length self.now }
         ensures { IsPlaceOf self.now result.now number }
     {
-        &self.paths[number as usize]
+        self.paths.as_slice()[number as usize].path()
     }
 
     /// Puts a path that is not there at the end, and answers its number.
@@ -91,16 +90,8 @@ impl PathTable {
         if place >= u32::MAX as usize {
             return Err(OutOfMemory);
         }
-        let number = place as u32;
-        let key = path.copy()?;
-        self.paths.push(path.copy()?)?;
-        match self.places.insert(key, number) {
-            Ok(_) => Ok(number),
-            Err(error) => {
-                let _last = self.paths.pop();
-                Err(error)
-            }
-        }
+        let _added = self.paths.insert(HashedPath::copy_of(path)?)?;
+        Ok(place as u32)
     }
 
     /// The number of a path, which is put at the end if it is not there. A path that is there takes no memory. One that is

@@ -1,22 +1,16 @@
-use Rattle.std.proofs.Common.{◌≡◌, ℕ, List, [], ◌∷◌, ◌++◌, length, sym, ◌∙◌, ap, subst, arith, rules}
+use Rattle.std.proofs.Common.{◌≡◌, [], ◌∷◌, ◌++◌, ◌∙◌, ap, subst}
 use Rattle.std.specs.List.{Contains}
-use Rattle.std.specs.FinMap as map
-use Rattle.b2_paths.specs.PathTables.{IsPlaceOf, AreNumbered}
-use Rattle.b2_paths.proofs.PathsKeepTheirPlaces.{one_more, last_place}
+use Rattle.b2_paths.proofs.PathsKeepTheirPlaces.{put_last, last_place}
 use Rattle.b2_paths.proofs.path_table.PathTable.add.Goals as goal
 
-pub invariant_of-self-in-Ok : goal.invariant_of-self-in-Ok
-invariant_of-self-in-Ok c =
-    let paths : List (List ℕ) = c.self.inside.paths.items in
-    let pushed : c.push.new.self.items ≡ paths ++ c.args.path.now ∷ [] = c.in_ok-push.ensures.items ∙ ap (λ p. paths ++ p ∷ []) c.in_ok-copy.ensures in
-    let inserted : c.insert.new.self ≡ map.insert c.self.inside.places c.args.path.now c.len-place.result = c.in-Ok.ensures.ok ∙ ap (λ p. map.insert c.self.inside.places p c.len-place.result) c.in_ok-key.ensures in
-    let number_is : c.len-place.result ≡ length paths = search rules in
-    subst (λ ps. AreNumbered ps c.insert.new.self) (sym pushed) (subst (AreNumbered (paths ++ c.args.path.now ∷ [])) (sym inserted)
-    (one_more paths c.self.inside.places c.args.path.now c.len-place.result c.self.invariant number_is (omega (arith, c.if-place.false)) (λ among. c.requires (subst (λ ps. Contains ps c.args.path.now) c.self.view_is among))))
+-- the path is put at the end of the table's paths
+put : (c : goal.In_ok-_added) → c.insert.new.self.keys ≡ c.self.inside.paths.keys ++ c.args.path.now ∷ []
+put c =
+    put_last c.self.inside.paths.keys c.insert.new.self.keys c.args.path.now c.in_ok-copy_of.field-0 c.in_ok-_added.ensures.keys c.in_ok-copy_of.ensures
+    (λ among. c.requires (subst (λ ps. Contains ps c.args.path.now) c.self.view_is among))
 
-pub returns-in-Ok-clause-place : goal.returns-in-Ok-clause-place
-returns-in-Ok-clause-place c =
-    let paths : List (List ℕ) = c.self.inside.paths.items in
-    let pushed : c.push.new.self.items ≡ paths ++ c.args.path.now ∷ [] = c.in_ok-push.ensures.items ∙ ap (λ p. paths ++ p ∷ []) c.in_ok-copy.ensures in
-    let number_is : c.len-place.result ≡ length paths = search rules in
-    subst (λ ps. IsPlaceOf ps c.args.path.now c.len-place.result) (sym pushed) (last_place paths c.args.path.now c.len-place.result number_is)
+pub returns-clause-place : goal.returns-clause-place
+returns-clause-place c = last_place c.self.inside.paths.keys c.insert.new.self.keys c.args.path.now c.len-place.result (put c) c.len-place.ensures.len
+
+pub returns-clause-ok : goal.returns-clause-ok
+returns-clause-ok c = put c ∙ ap (λ ps. ps ++ c.args.path.now ∷ []) c.self.view_is
