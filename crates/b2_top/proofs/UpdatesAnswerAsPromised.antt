@@ -233,6 +233,13 @@ module _ (made : Made) (words : List Word) (before after : Moment) (m : Output) 
   left_now : LeavesOpen steps h0.children h2.children
   left_now = subst (λ (f : Family). LeavesOpen steps f h2.children) s.children_same s.left
 
+  abbrev Turns : RunAnswer → Type 0
+  Turns a = HasHappened steps jobs h0.disk h0.children.events h2.children.events a
+
+  pub turns_now : Turns (answer_of end)
+  turns_now = subst (λ d. HasHappened steps jobs d h0.children.events h2.children.events (answer_of end)) s.disk_same
+      (subst (λ (f : Family). HasHappened steps jobs h1.disk f.events h2.children.events (answer_of end)) s.children_same s.turns)
+
   built : AtBoth (λ disk later. HasBuilt made words h0 h2 disk later (answer_of end))
   built = of_each (λ disk later h w. record {
     plan = plan_at disk h;
@@ -240,6 +247,7 @@ module _ (made : Made) (words : List Word) (before after : Moment) (m : Output) 
     reads = h1.reads;
     updated = with_log disk.now (Done disk later h) _ (answer_of end)
         (λ log f p. updated_from (update_for made (plan_at disk h) log) (answer_of end) h0 h1 h2 disk later s.children_same (f p.uses_true p.distinct).updated) w;
+    turns = turns_now;
     left_open = left_now;
   })
 
@@ -256,13 +264,6 @@ module _ (made : Made) (words : List Word) (before after : Moment) (m : Output) 
         o0.written o1.written m.written o2.written (text_of (echo_lines s.echoes) o0 o1 s.echoed) e so
         ((f p.uses_true p.distinct).written events (subst (λ (g : Family). h2.children.events ≡ g.events ++ events) (sym s.children_same) are))) w;
   })
-
-  abbrev Turns : RunAnswer → Type 0
-  Turns a = HasHappened steps jobs h0.disk h0.children.events h2.children.events a
-
-  pub turns_now : Turns (answer_of end)
-  turns_now = subst (λ d. HasHappened steps jobs d h0.children.events h2.children.events (answer_of end)) s.disk_same
-      (subst (λ (f : Family). HasHappened steps jobs h1.disk f.events h2.children.events (answer_of end)) s.children_same s.turns)
 
   cut_now : (b : RunAnswer) → (b ≡ all_went → ⊥) → failed_of b ≡ [] → Turns b
   cut_now b not_all none = cut_turns steps jobs h0.disk h0.children.events h2.children.events (answer_of end) b not_all none turns_now

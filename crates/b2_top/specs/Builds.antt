@@ -10,7 +10,7 @@ use Rattle.b2_refusals.specs.declared.fault.Fault.{Fault}
 use Rattle.b2_refusals.specs.declared.fault.Fault.TheVariants as faults
 use Rattle.b2_runs.specs.LogFiles.{IsLogIn}
 use Rattle.b2_runs.specs.Outcomes.{IsCleanBuild}
-use Rattle.b2_runs.specs.UpdateAnswers.{UpdateAnswer, LeavesOpen, WithLog, HasUpdated}
+use Rattle.b2_runs.specs.UpdateAnswers.{UpdateAnswer, LeavesOpen, HasHappened, WithLog, HasUpdated}
 use Rattle.b2_runs.specs.UpdateAnswers.UpdateAnswer.{all_went, failed as some_failed, step_cycle, too_big}
 use Rattle.b2_runs.specs.UpdateAnswers.UpdateAnswer.{host_fault, sink_fault, out_of_memory}
 use Rattle.b2_endings.specs.Endings.{lists_of}
@@ -36,13 +36,16 @@ MayAnswer out_of_memory result = result ≡ answers.OutOfMemory
 
 module _ (made : Made) (words : List Word) (before after : Outside) (disk later : Disk) where
   -- There is a plan, and this is its update, which ended so. It began when the project had been loaded, which changes
-  -- nothing but what was read. What runs afterwards are the children of the steps that it left open.
+  -- nothing but what was read. Whatever the log says, its events are in order. What runs afterwards are the children of
+  -- the steps that it left open.
   pub record HasBuilt (ended : UpdateAnswer) : Type 0 where
     pub plan : HasPlan words disk
     pub apart : Apart plan.planned.steps plan.planned.roots
     pub reads : Option (List Read)
     pub updated : WithLog disk.now (λ log. MeetsPremises (update_for made plan log) disk later
         → HasUpdated (update_for made plan log) ended (record before { reads = reads }) after disk later) ended
+    pub turns : HasHappened plan.planned.steps plan.command.options.jobs before.disk before.children.events
+        after.children.events ended
     pub left_open : LeavesOpen plan.planned.steps before.children after.children
 
   -- there is a plan, and its update ended so that the call may have this answer
