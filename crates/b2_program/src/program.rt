@@ -64,8 +64,8 @@ pub fn run_program<H: Children, S: Sink>(
     ensures usage { result ≡ 3 → IsUsage words.now (moment (H.outside host.old) (S.output out.old))
         (moment (H.outside host.new) (S.output out.new)) }
     ensures no_command { IsNoCommand (mode_of words.now) words.now → IsUsageStatus result }
-    // Up to status 3 no call of the host and no write failed. Status 4: the host failed, before the sink. Status 6: a
-    // write failed, before the host. With status 5, where no memory was left, no write has failed.
+    // Up to status 3 no call of the host and no write failed. Status 4: the host failed, and no write did before the
+    // report of it began. Status 6: a write failed. With status 5, where no memory was left, no write has failed.
     ensures counts { result ≤ 3 → CountsStay (moment (H.outside host.old) (S.output out.old))
         (moment (H.outside host.new) (S.output out.new)) }
     ensures host_fault { result ≡ 4 → HostFailedFirst (moment (H.outside host.old) (S.output out.old))

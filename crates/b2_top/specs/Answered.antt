@@ -88,8 +88,8 @@ TrueLogTold made words before after =
 abbrev pub StaysOrWaits : Outside → Outside → Type 0
 StaysOrWaits before after = (after.faults ≡ before.faults) ⊎ WaitFailed before after
 
--- How the counts of faults stand to an answer, which names the first fault. Ok, Failed, Refused and Usage come only
--- where they are as at entry. HostFault comes only where the host failed before the sink. SinkFault comes only where a
+-- How the counts of faults stand to an answer. Ok, Failed, Refused and Usage come only where they are as at entry.
+-- HostFault comes only where the host failed, and no write did before its report began. SinkFault comes only where a
 -- write failed, and with it the host's count is as at entry, unless a wait for a child that ran failed.
 abbrev pub CountsTold : Moment → Moment → Answer → Type 0
 CountsTold before after answers.Ok = CountsStay before after

@@ -27,9 +27,9 @@ use Rattle.b2_top.specs.Looks.{look_of, look_report}
 
 -- ---- the counts of faults
 
--- How the counts stand to an answer, which names the first fault. Ok, Refused and Usage come only where they are as at entry.
--- HostFault comes only where the host failed before the sink. SinkFault comes only where a write failed, and with it the host's count
--- is as at entry.
+-- How the counts stand to an answer. Ok, Refused and Usage come only where they are as at entry. HostFault comes only where the
+-- host failed, and no write did before its report began. SinkFault comes only where a write failed, and with it the host's count is
+-- as at entry.
 abbrev pub CountsTold : Moment → Moment → Answer → Type 0
 CountsTold before after answers.Ok = CountsStay before after
 CountsTold before after (answers.Failed lists) = CountsStay before after

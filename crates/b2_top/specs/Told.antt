@@ -13,9 +13,9 @@ pub record CountsStay (before after : Moment) : Type 0 where
   pub host : after.host.faults ≡ before.host.faults
   pub sink : after.out.faults ≡ before.out.faults
 
--- The host failed before the sink. Its count rose, and that of the sink was still as at entry when the report of the
--- fault began, which some lines of ECHO may begin. From then on this report was written, or a beginning of it, where the
--- sink failed too.
+-- The host failed: its count rose. That of the sink was still as at entry when the report of the fault began, which some
+-- lines of ECHO may begin. From then on this report was written, or a beginning of it, where the sink failed too.
+-- Whether it failed before the host did, in those lines, is not told.
 pub record HostFailedFirst (before after : Moment) : Type 0 where
   pub host : Rose before.host.faults after.host.faults
   pub out : Output

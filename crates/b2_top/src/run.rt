@@ -74,8 +74,8 @@ pub fn run_b2<H: Children, S: Sink>(
     // What happened, by the answer: an update that has ended with it, nothing, or one of both, where a fault cut the
     // call off.
     ensures happened { HappenedTold H.made words.now (H.outside host.old) (H.outside host.new) result }
-    // The answer names the first fault. Ok, Failed, Refused and Usage come only where both counts of faults are as at
-    // entry. A fault comes only where its count rose, and one of the sink only where a write may fail.
+    // Ok, Failed, Refused and Usage come only where both counts of faults are as at entry. A fault comes only where its
+    // count rose, and one of the sink only where a write may fail.
     ensures counts { CountsTold (moment (H.outside host.old) (S.output out.old))
         (moment (H.outside host.new) (S.output out.new)) result }
     // Words that are no build ask for the usage line, and nothing else does. All that the host is to its callers stays
@@ -112,8 +112,8 @@ pub fn run_b2<H: Children, S: Sink>(
     // headline, where the log that is left is within its limit.
     ensures afterwards { IsOfEnd result
         → HoldsAfterwards H.made words.now (H.outside host.old) (H.outside host.new) AreFresh }
-    // Whatever the answer, of each step that was done well before the last start the log has a record that agrees with
-    // the files.
+    // Whatever the answer, of each step that owes files and was done well before the last start the log has a record
+    // that agrees with them.
     ensures kept { HoldsAfterwards H.made words.now (H.outside host.old) (H.outside host.new) AreKept }
     // No count falls, what may go wrong stays, visible files stay visible, and all that stood stays among the past.
     ensures keeps { Keeps (H.outside host.old) (H.outside host.new) }

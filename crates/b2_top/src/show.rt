@@ -65,8 +65,8 @@ pub fn show_b2<H: Files, S: Sink>(
     // No count falls, and visible files stay visible.
     ensures keeps { Keeps (H.outside host.old) (H.outside host.new) }
     ensures out_keeps { OutKeeps (S.output out.old) (S.output out.new) }
-    // The answer names the first fault. Ok, Refused and Usage come only where both counts of faults are as at entry; a fault comes only
-    // where its count rose, and one of the sink only where a write may fail.
+    // Ok, Refused and Usage come only where both counts of faults are as at entry. A fault comes only where its count rose, and one of
+    // the sink only where a write may fail.
     ensures counts { CountsTold (moment (H.outside host.old) (S.output out.old)) (moment (H.outside host.new) (S.output out.new)) result }
     // Words that are no look ask for the usage line, and nothing else does; all that the host is to its callers stays as it is.
     ensures usage { look_of words.now ≡ None → IsUsageOrCutShort result }

@@ -163,7 +163,7 @@ pub fn update<H: Children, S: Sink>(
     requires idle { (H.outside host.old).children.running ≡ [] }
     requires apart { Apart plan.now.steps plan.now.roots }
     requires some_job { 1 ≤ options.jobs }
-    // The answer names the first fault, and a fault comes only where one may.
+    // A fault comes only where one may, and its count rose. The other's stays, but for waits that fail after a fault of the sink.
     ensures counts { CausedBy (moment (H.outside host.old) (S.output out.old)) (moment (H.outside host.new) (S.output out.new)) (answer_of result) }
     // No child is left, but for one for each wait that failed. A wait fails only where one may, and then both counts of the host rise.
     ensures none_left { LeavesNone (H.outside host.old) (H.outside host.new) }
