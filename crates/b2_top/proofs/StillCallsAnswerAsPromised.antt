@@ -95,7 +95,7 @@ module _ (made : Made) (words : List Word) (h0 h1 : Outside) (o0 o1 : Output) (i
   early : (bytes : List ℕ) (Holds : List ℕ → Type 0) → o1.written ≡ option_map (λ so_far. so_far ++ bytes) o0.written → Holds bytes
       → (events : List ChildEvent) → h1.children.events ≡ h0.children.events ++ events → WroteEarly (moment h0 o0) (moment h1 o1) events Holds
   early bytes Holds e h events are =
-      (no_event h0.children.events events (sym same_events ∙ are), wrote bytes Holds o0.written o1.written e h)
+      (still, no_event h0.children.events events (sym same_events ∙ are), wrote bytes Holds o0.written o1.written e h)
 
   no_turns : (result : Answer) → (run_answer result ≡ all_went → ⊥) → failed_of (run_answer result) ≡ [] → TurnsTold words h0 h1 result
   no_turns result not_all none command asked = (

@@ -19,7 +19,7 @@ use Rattle.b2_endings.specs.Endings.{lists_of}
 use Rattle.b2_drain.specs.Drains.{Made}
 use Rattle.b2_words.specs.Words.{Word}
 use Rattle.b2_top.specs.Commands.{build_command}
-use Rattle.b2_top.specs.Told.{Wrote}
+use Rattle.b2_top.specs.Told.{StaysStill, Wrote}
 use Rattle.b2_top.specs.Plans.{HasPlan, update_for, MeetsPremises}
 use Rattle.b2_top.specs.Causes.{HasNoPlan}
 use Rattle.b2_top.specs.Builds.{MayAnswer}
@@ -73,9 +73,10 @@ abbrev pub TellsFault : List Word → Output → Output → List ℕ → Type 0
 TellsFault words sink sink_after written =
     (whole : List ℕ) × IsFaultReport words whole × IsToldOrCut sink sink_after written whole
 
--- nothing was started, and bytes of which this holds were written
+-- nothing was started, no file has changed, and bytes of which this holds were written
 abbrev pub WroteEarly : Moment → Moment → List ChildEvent → (List ℕ → Type 0) → Type 0
-WroteEarly before after events Holds = (events ≡ []) × Wrote before.out after.out Holds
+WroteEarly before after events Holds =
+    StaysStill before.host after.host × (events ≡ []) × Wrote before.out after.out Holds
 
 -- ---- by the answer
 
