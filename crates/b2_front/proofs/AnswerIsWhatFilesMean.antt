@@ -14,6 +14,7 @@ use Rattle.jam_effects.specs.Machines.{folder_of}
 use Rattle.b2_plan.specs.Plans.{Apart}
 use Rattle.b2_metatargets.specs.declared.whole.Declared.{Declared}
 use Rattle.b2_walk.specs.declared.fault.LoadFault.{LoadFault}
+use Rattle.b2_walk.specs.declared.fault.LoadFault.TheVariants as loading
 use Rattle.b2_walk.specs.Faults.{refusal_of as load_refusal, refused_by, IsWhole as IsWholeLoad}
 use Rattle.b2_walk.specs.Finding.{CountsFault as CountsLoad, Counts as CountsLoaded}
 use Rattle.b2_walk.specs.Walking.{IsSettingFor}
@@ -26,10 +27,11 @@ use Rattle.b2_planning.specs.declared.planned.Planned.{Planned as Made}
 use Rattle.b2_generate.specs.Loaded.{Loaded}
 use Rattle.b2_generate.specs.Planning.{Planned}
 use Rattle.b2_front.specs.declared.refusal.Stop.{Stop}
-use Rattle.b2_front.specs.Meaning.{Refusal, of_load, of_request, of_generation, load_turns, load_setting, project_of, Means}
+use Rattle.b2_front.specs.declared.refusal.Stop.TheVariants as stops
+use Rattle.b2_front.specs.Meaning.{Refusal, of_load, of_request, of_generation, load_turns, load_setting, project_of, HasLoaded, Means}
 use Rattle.b2_front.specs.Meaning.{IsRefusedInGeneration, not_loaded, not_asked, not_planned, planned}
 use Rattle.b2_front.specs.Refusals.{stop_of_load}
-use Rattle.b2_front.specs.Preparing.{IfRefusal, Tells, call_of, IsPrepared, IsWhole, Counts}
+use Rattle.b2_front.specs.Preparing.{IfRefusal, Tells, call_of, IsPrepared, LinesTold, IsWhole, Counts}
 use Rattle.b2_front.specs.Parts.{IsReady, IsAsked, IsRefusedFor, GoesOn}
 use Rattle.b2_front.proofs.FaultsAreToldAsAnswers.{load_told, tells_map}
 use Rattle.b2_front.proofs.RefusalsHoldNoHostFault.{load_whole, load_counts}
@@ -88,19 +90,46 @@ module _ (disk : Disk) (words lines : List Text) where
       go None g = tt
       go (Some why) (s, loads, echoes, after) = (last, subst (λ ls. Means disk (call_of last (refused_by fault)) words ls (Err (of_load why))) (sym echoes) (not_loaded why s loads))
 
+  -- ---- the lines
+
+  loaded_so : (project : Project) (last : ℕ) → IsLoaded (load_setting disk None) words load_turns last lines (Ok project) → HasLoaded disk words lines
+  loaded_so project last (w, found, loads, is, echoes, after) = record { walk = w; found = found; loads = loads; echoes = echoes }
+
+  all_lines : HasLoaded disk words lines → (result : Result Made Stop) → LinesTold disk words lines result
+  all_lines has (Ok plan) = tt
+  all_lines has (Err (stops.Refused why)) = tt
+  all_lines has (Err stops.HostInLoad) = tt
+  all_lines has (Err stops.Host) = has
+  all_lines has (Err stops.OutOfMemory) = tt
+
+  no_lines : (fault : LoadFault) → LinesTold disk words lines (Err (stop_of_load fault))
+  no_lines loading.Host = tt
+  no_lines loading.OutOfMemory = tt
+  no_lines loading.NoJamroot = tt
+  no_lines (loading.NoJamfile dir) = tt
+  no_lines (loading.TooBig path size) = tt
+  no_lines (loading.Lex path fault) = tt
+  no_lines (loading.Syntax path fault) = tt
+  no_lines (loading.Eval fault) = tt
+  no_lines (loading.Declaration path rule line) = tt
+  no_lines (loading.Feature path line fault) = tt
+
 -- ---- where the files are visible
 
 setting_for : (outside : Outside) (disk : Disk) → outside.disk ≡ Some disk → IsConsistent disk → (refused : Option (ℕ × Text)) → IsSettingFor (load_setting disk refused) load_turns outside
 setting_for outside disk visible consistent refused = record { budget = refl; natives = refl; folder = ap folder_of visible; right = right disk consistent refused }
 
 module _ (words lines : List Text) (from mid to : Outside) (first last : Turns) (left_is : first.left ≡ load_turns) (budget_is : first.budget ≡ load_turns) where
+  loads_so : (disk : Disk) → from.disk ≡ Some disk → IsConsistent disk → (project : Project) → TellsLoad from words first last lines (Ok project)
+      → IsLoaded (load_setting disk None) words load_turns last.left lines (Ok project)
+  loads_so disk visible consistent project told =
+      subst (λ n. IsLoaded (load_setting disk None) words n last.left lines (Ok project)) left_is
+      (told (load_setting disk None) (subst (λ n. IsSettingFor (load_setting disk None) n from) (sym budget_is) (setting_for from disk visible consistent None)) (λ left low high. refl))
+
   so : (disk : Disk) → from.disk ≡ Some disk → IsConsistent disk → (ended : Result Project LoadFault) → TellsLoad from words first last lines ended
       → mid.disk ≡ from.disk → (result : Result Made Stop) → GoesOn words ended mid to result → IsPrepared disk words lines result
   so disk visible consistent (Ok project) told same result goes =
-      prepared_so disk words lines project last.left
-      (subst (λ n. IsLoaded (load_setting disk None) words n last.left lines (Ok project)) left_is
-      (told (load_setting disk None) (subst (λ n. IsSettingFor (load_setting disk None) n from) (sym budget_is) (setting_for from disk visible consistent None)) (λ left low high. refl)))
-      result
+      prepared_so disk words lines project last.left (loads_so disk visible consistent project told) result
       (subst (λ d. IfSome d (λ (e : Disk). Tells (IsRefusedFor words project.declared project.world e) (λ pattern outcome. (pattern ≡ None) × IsAsked (project_of e project.world project.declared) words outcome) result)) (same ∙ visible) goes.told)
   so disk visible consistent (Err fault) told same result goes =
       let call = call_of last.left (refused_by fault) in
@@ -116,6 +145,20 @@ module _ (words lines : List Text) (from mid to : Outside) (first last : Turns) 
       go : (d : Option Disk) → from.disk ≡ d → IfSome d IsConsistent → IfSome d (λ disk. IsPrepared disk words lines result)
       go None e c = tt
       go (Some disk) e c = so disk e c ended told same result goes
+
+  lines_so : (disk : Disk) → from.disk ≡ Some disk → IsConsistent disk → (ended : Result Project LoadFault) → TellsLoad from words first last lines ended
+      → (result : Result Made Stop) → GoesOn words ended mid to result → LinesTold disk words lines result
+  lines_so disk visible consistent (Ok project) told result goes =
+      all_lines disk words lines (loaded_so disk words lines project last.left (loads_so disk visible consistent project told)) result
+  lines_so disk visible consistent (Err fault) told result goes = subst (LinesTold disk words lines) (sym goes.0) (no_lines disk words lines fault)
+
+  pub lines_prepared : IfSome from.disk IsConsistent → (ended : Result Project LoadFault) → TellsLoad from words first last lines ended
+      → (result : Result Made Stop) → GoesOn words ended mid to result → IfSome from.disk (λ disk. LinesTold disk words lines result)
+  lines_prepared consistent ended told result goes = go from.disk refl consistent
+    where
+      go : (d : Option Disk) → from.disk ≡ d → IfSome d IsConsistent → IfSome d (λ disk. LinesTold disk words lines result)
+      go None e c = tt
+      go (Some disk) e c = lines_so disk e c ended told result goes
 
 -- ---- over every host
 

@@ -119,5 +119,6 @@ module _ (R : EvalFault → Type 0) (P : Option Text → Result Planned Refusal 
       go : (found : Option Refusal) → IfRefusal (IfOfGeneration R why) found (λ f. P (pattern_of why) (Err f)) → IfRefusal (IfOfGeneration S why) found (λ f. Q (pattern_of why) (Err f))
       go None h = rest_map R S also why h
       go (Some f) h = follows (pattern_of why) (Err f) h
+  tells_map S Q also follows (Err stops.HostInLoad) h = tt
   tells_map S Q also follows (Err stops.Host) h = tt
   tells_map S Q also follows (Err stops.OutOfMemory) h = tt

@@ -368,6 +368,7 @@ answers_again_memory found worlds sets targets from to = record { no_plan = tt; 
 pub counts_then : (from mid to : Outside) → mid.faults ≡ from.faults → (result : Result Made Stop) → Counts result mid to → Counts result from to
 counts_then from mid to same (Ok made) h = h ∙ same
 counts_then from mid to same (Err (stops.Refused why)) h = h ∙ same
+counts_then from mid to same (Err stops.HostInLoad) h = then_rose from.faults mid.faults to.faults (omega (arith, same)) h
 counts_then from mid to same (Err stops.Host) h = then_rose from.faults mid.faults to.faults (omega (arith, same)) h
 counts_then from mid to same (Err stops.OutOfMemory) h = tt
 

@@ -47,6 +47,13 @@ abbrev pub project_with : Disk → Worlds → Declared → Question → EvalFaul
 project_with disk worlds found question fault =
     record (project_of disk worlds found) { answers = with_fault question fault (answers_in (setting_of disk) found.places worlds) }
 
+-- The projects that words name are loaded, and these are all lines of ECHO of the load.
+pub record HasLoaded (disk : Disk) (words lines : List Text) : Type 0 where
+  pub walk : Walk
+  pub found : Declared
+  pub loads : Loads (load_setting disk None) load_turns words (loaded walk found)
+  pub echoes : lines ≡ walk.state.kept.echoes
+
 -- the refusal of generation that is a fault of the project's own text
 pub data IsOfText (fault : EvalFault) : Fault EvalFault → Type 0 where
   not_returned : IsOfText fault (not_chosen (Eval fault))

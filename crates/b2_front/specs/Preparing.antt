@@ -18,8 +18,8 @@ use Rattle.b2_planning.specs.Plans.{seen}
 use Rattle.b2_front.specs.declared.refusal.Refusal.{Refusal as Why}
 use Rattle.b2_front.specs.declared.refusal.Refusal.TheVariants as refusals
 use Rattle.b2_front.specs.declared.refusal.Stop.{Stop}
-use Rattle.b2_front.specs.declared.refusal.Stop.TheVariants.{Refused, Host, OutOfMemory}
-use Rattle.b2_front.specs.Meaning.{Refusal, IsRefusedInGeneration, Means}
+use Rattle.b2_front.specs.declared.refusal.Stop.TheVariants.{Refused, HostInLoad, Host, OutOfMemory}
+use Rattle.b2_front.specs.Meaning.{Refusal, HasLoaded, IsRefusedInGeneration, Means}
 use Rattle.b2_front.specs.Refusals.{refusal_of, pattern_of, IsWholeRefusal}
 
 -- `Holds` of a refusal as data; `Rest` where there is none.
@@ -53,6 +53,7 @@ IfOfGeneration Rest (refusals.Generation fault) = IsOfGeneration Rest fault
 abbrev pub Tells : (EvalFault → Type 0) → (Option Text → Result Planned Refusal → Type 0) → Result Made Stop → Type 0
 Tells Rest Holds (Ok plan) = Holds None (Ok (seen plan))
 Tells Rest Holds (Err (Refused why)) = IfRefusal (IfOfGeneration Rest why) (refusal_of why) (λ found. Holds (pattern_of why) (Err found))
+Tells Rest Holds (Err HostInLoad) = Unit {0}
 Tells Rest Holds (Err Host) = Unit {0}
 Tells Rest Holds (Err OutOfMemory) = Unit {0}
 
@@ -64,15 +65,25 @@ call_of left = option_map (λ pattern. (left, pattern))
 abbrev pub IsPrepared : Disk → List Text → List Text → Result Made Stop → Type 0
 IsPrepared disk words lines = Tells (IsRefusedInGeneration disk words lines) (λ pattern result. (left : ℕ) × Means disk (call_of left pattern) words lines result)
 
+-- Where the host failed in generation, the lines are all those of the load. Nothing is said where it failed in the load.
+abbrev pub LinesTold : Disk → List Text → List Text → Result Made Stop → Type 0
+LinesTold disk words lines (Ok plan) = Unit {0}
+LinesTold disk words lines (Err (Refused why)) = Unit {0}
+LinesTold disk words lines (Err HostInLoad) = Unit {0}
+LinesTold disk words lines (Err Host) = HasLoaded disk words lines
+LinesTold disk words lines (Err OutOfMemory) = Unit {0}
+
 -- no fault of the host and no out of memory is within a refusal
 abbrev pub IsWhole : Stop → Type 0
 IsWhole (Refused why) = IsWholeRefusal why
+IsWhole HostInLoad = Unit {0}
 IsWhole Host = Unit {0}
 IsWhole OutOfMemory = Unit {0}
 
 -- the count of faults rose where the host failed, and stays with every other answer but out of memory
 abbrev pub CountsStop : Stop → Outside → Outside → Type 0
 CountsStop (Refused why) before after = after.faults ≡ before.faults
+CountsStop HostInLoad before after = Rose before.faults after.faults
 CountsStop Host before after = Rose before.faults after.faults
 CountsStop OutOfMemory before after = Unit {0}
 

@@ -27,7 +27,7 @@ use Rattle.b2_front.specs.Meaning as meaning
 -- ---- faults as answers: a fault of the host and out of memory stand for themselves, others are refusals
 
 abbrev pub stop_of_load : LoadFault → Stop
-stop_of_load loading.Host = stops.Host
+stop_of_load loading.Host = stops.HostInLoad
 stop_of_load loading.OutOfMemory = stops.OutOfMemory
 stop_of_load fault = stops.Refused (refusals.Load fault)
 

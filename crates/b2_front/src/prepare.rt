@@ -4,7 +4,7 @@ ghost use Rattle.std.specs.Option.{IfSome};
 ghost use Rattle.b2_host.specs.OutsideLaws.{Keeps};
 ghost use Rattle.b2_plan.specs.Plans.{Apart};
 ghost use Rattle.b2_metatargets.specs.Numbered.{IsNumbered};
-ghost use Rattle.b2_front.specs.Preparing.{IsPrepared, IsWhole, Counts};
+ghost use Rattle.b2_front.specs.Preparing.{IsPrepared, LinesTold, IsWhole, Counts};
 ghost use Rattle.b2_front.specs.Parts.{PlansRequest, Asks, IsReady, GoesOn};
 
 use crate::again::{Ended, settled};
@@ -126,6 +126,7 @@ fn go_on<F: Files>(
 /// comes with this input. A fault of the host comes only where one of its calls failed, and no file is changed.
 pub fn prepare<F: Files>(alloc: Global, words: &[Text], files: &mut F) -> Prepared
     ensures told { IfSome (F.outside files.old).disk (λ disk. IsPrepared disk words.now result.echoes result.result) }
+    ensures lines { IfSome (F.outside files.old).disk (λ disk. LinesTold disk words.now result.echoes result.result) }
     ensures whole { IfErr result.result IsWhole }
     ensures apart { IfOk result.result (λ planned. Apart planned.plan.steps planned.plan.roots) }
     ensures disk { (F.outside files.new).disk ≡ (F.outside files.old).disk }

@@ -25,7 +25,9 @@ pub enum Refusal {
 pub enum Stop {
     /// The files or the words are refused. No fault of the host and no out of memory is within the refusal.
     Refused(Refusal),
-    /// A call of the host failed.
+    /// A call of the host failed while the projects were loaded.
+    HostInLoad,
+    /// A call of the host failed after that, in generation.
     Host,
     OutOfMemory,
 }
@@ -35,7 +37,7 @@ pub(crate) fn not_loaded(fault: LoadFault) -> Stop
     ensures { result ≡ stop_of_load fault }
 {
     match fault {
-        LoadFault::Host => Stop::Host,
+        LoadFault::Host => Stop::HostInLoad,
         LoadFault::OutOfMemory => Stop::OutOfMemory,
         other => Stop::Refused(Refusal::Load(other)),
     }

@@ -72,6 +72,8 @@ module _ (law : OneMeaning) (made : Made) (words : List Word) (command : BuildCo
       (if_map h0.disk (cause_of why) told)
       (if_map h0.disk (λ disk h plan. subst (λ (c : BuildCommand). IsPatternRefused disk c.words (answers.Refused (fault_of why))) (sym (same_command disk plan))
       (pattern_refused law disk command.words plan.echoes echoes plan.planned (plan_means disk plan) why whole h)) told) says
+  stopped o1 stops.HostInLoad result told whole counts says =
+      still_fault made words h0 h1 o0 o1 idle still (λ none. not_none none) command asked echoes counts result says
   stopped o1 stops.Host result told whole counts says =
       still_fault made words h0 h1 o0 o1 idle still (λ none. not_none none) command asked echoes counts result says
   stopped o1 stops.OutOfMemory result told whole counts says =

@@ -258,6 +258,7 @@ module _ (law : OneMeaning) (words : List Word) (look : Look) (asked : look_of w
   pub answered : (result : Result Made Stop) (answer : Answer) → IsTold result → IfErr result IsWholeStop → Counts result h0 h1 → AnswersWith look.view echoes result o0 o1 answer → Promised answer
   answered (Ok made) answer told whole counts says = answered_look made told counts answer says
   answered (Err (stops.Refused why)) answer told whole counts says = answered_refusal why told whole counts answer says
+  answered (Err stops.HostInLoad) answer told whole counts says = answered_fault counts answer says
   answered (Err stops.Host) answer told whole counts says = answered_fault counts answer says
   answered (Err stops.OutOfMemory) answer told whole counts says =
       subst Promised (sym says.0) (ended_short words h0 h1 o0 o1 says.1 (λ none. not_none none))

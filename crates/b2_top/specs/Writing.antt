@@ -57,5 +57,6 @@ pub data SaysFault (bytes : List ℕ) (before after : Output) (result : Answer) 
 abbrev pub AnswersStop : List (List ℕ) → Stop → Output → Output → Answer → Type 0
 AnswersStop echoes (stops.Refused why) before after result =
     Says (answers.Refused (fault_of why)) (refusal_report echoes [] (fault_of why)) before after result
+AnswersStop echoes stops.HostInLoad before after result = SaysFault (fault_report echoes) before after result
 AnswersStop echoes stops.Host before after result = SaysFault (fault_report echoes) before after result
 AnswersStop echoes stops.OutOfMemory before after result = (result ≡ answers.OutOfMemory) × (after ≡ before)

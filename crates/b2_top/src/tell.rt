@@ -90,7 +90,7 @@ pub fn tell_stop<S: Sink>(alloc: Global, echoes: &[Text], stop: Stop, out: &mut 
 {
     match stop {
         Stop::Refused(refusal) => tell_refusal(alloc, echoes, &[], fault_of(refusal), out),
-        Stop::Host => tell_host_fault(alloc, echoes, out),
+        Stop::HostInLoad | Stop::Host => tell_host_fault(alloc, echoes, out),
         Stop::OutOfMemory => Answer::OutOfMemory,
     }
 }

@@ -1,11 +1,16 @@
 use Rattle.std.proofs.Common.{◌∙◌}
-use Rattle.b2_front.proofs.AnswerIsWhatFilesMean.{ready_load, told_prepared, whole_prepared, apart_prepared, disk_prepared, children_prepared, keeps_prepared, counts_prepared}
+use Rattle.b2_front.proofs.AnswerIsWhatFilesMean.{ready_load, told_prepared, lines_prepared, whole_prepared, apart_prepared, disk_prepared, children_prepared, keeps_prepared, counts_prepared}
 use Rattle.b2_front.proofs.prepare.prepare.Goals as goal
 
 pub returns-clause-told : goal.returns-clause-told
 returns-clause-told g c =
     told_prepared c.args.words.now c.load-echoes.result.echoes (g.F.Files.outside c.args.files.now) (g.F.Files.outside c.load-echoes.new.files) (g.F.Files.outside c.go_on-result.new.files) c.new-turns.result c.load-echoes.new.turns
     c.new-turns.ensures.left c.new-turns.ensures.budget (g.met.F.Files.consistent c.args.files.now) c.load-echoes.result.result c.load-echoes.ensures.told c.load-echoes.ensures.disk c.go_on-result.result c.go_on-result.ensures
+
+pub returns-clause-lines : goal.returns-clause-lines
+returns-clause-lines g c =
+    lines_prepared c.args.words.now c.load-echoes.result.echoes (g.F.Files.outside c.args.files.now) (g.F.Files.outside c.load-echoes.new.files) (g.F.Files.outside c.go_on-result.new.files) c.new-turns.result c.load-echoes.new.turns
+    c.new-turns.ensures.left c.new-turns.ensures.budget (g.met.F.Files.consistent c.args.files.now) c.load-echoes.result.result c.load-echoes.ensures.told c.go_on-result.result c.go_on-result.ensures
 
 pub returns-clause-whole : goal.returns-clause-whole
 returns-clause-whole g c =
