@@ -133,6 +133,27 @@ runs 1 <<'E'
 updated 0, failed 0, skipped 2, missing 1
 E
 
+# ---- the line of the log, with the time stamps of the files, and a second build, which starts nothing
+
+# stamp FILE: its time of change in nanoseconds since 1970
+stamp() {
+    stat -c %.9Y "$1" | tr -d .
+}
+
+name=one-command
+cp -r "$top/crates/b2_cmd/data" "$work/$name" && cd "$work/$name"
+runs 0 <<'E'
+join bin/out.txt
+updated 1, failed 0, skipped 0, missing 0
+E
+holds bin/out.txt < in.txt
+printf '+1\tcat in.txt > bin/out.txt\t1\tbin/out.txt\t%s\t1\tin.txt\t%s\t.\n' "$(stamp bin/out.txt)" "$(stamp in.txt)" > "$work/line"
+holds bin/b2.log < "$work/line"
+runs 0 <<'E'
+updated 0, failed 0, skipped 0, missing 0
+E
+holds bin/b2.log < "$work/line"
+
 project words
 for words in "" /shop; do
     runs 0 --show $words <<'E'

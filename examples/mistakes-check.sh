@@ -7,6 +7,15 @@ empty() {
     cd "$work" && rm -rf "$name" && mkdir "$name" && cd "$name"
 }
 
+# dated FILE ..: each gets a time of change that no file had before, so that its time stamp is another one
+moment=1000000000
+dated() {
+    for file in "$@"; do
+        moment=$((moment + 1))
+        touch -d "@$moment" "$file"
+    done
+}
+
 # leaves NAMES: these are the names in the present folder, with a blank between two
 leaves() {
     passes "what is left: $(ls -x)" [ "$(echo *)" = "$1" ]
@@ -31,7 +40,8 @@ empty words
 echo 'ECHO loaded ;' > Jamroot
 usage='b2: usage: b2 [-jN] [-a] [-q] [--by=digest] [-n or --show] [word ..], or b2 --drill=N'
 for words in -h --help --version --clean -x -d2 -sX=1 -an -a=x '-a -a' -aa '-q -a -q' -j -j= -j0 -j65 -j04 -jx '-j -a' '-j --' '-j1 -j2' \
-    --by --by= --by=time '--by=digest --by=digest' '-n --show' '-n -n' --drill=0 --drill=x; do
+    --by --by= --by=time --by=digest=1 '--by=digest --by=digest' '--by=digest --by digest' '-n --show' '-n -n' '-n -j0' '--show -z' \
+    --drill= --drill=0 --drill=04 --drill=2001 --drill=x '--drill=4 draw'; do
     runs 3 $words <<E1
 $usage
 E1
@@ -47,6 +57,13 @@ for look in "" -n --show; do
     runs 2 $look < "$work/refusal"
 done
 leaves '*'
+empty folder
+mkdir Jamroot
+for look in "" -n --show; do
+    runs 2 $look < "$work/refusal"
+done
+refuses 'Jamroot: byte 1 is not text' "$(printf 'x\377 ;')"
+refuses 'Jamroot has 1048577 bytes' "$(head -c 1048576 /dev/zero | tr '\0' '#')"
 refuses 'Jamroot:1: open quote' 'ECHO "draw ;'
 refuses 'Jamroot:1: open actions' 'actions join { cat'
 refuses 'Jamroot:1: syntax error at }' 'if a { ECHO b ; } }'
@@ -59,11 +76,16 @@ twice a b ;'
 refuses 'Jamroot:2: more than 256 levels' 'rule again ( )
 { again ; }
 again ;'
+refuses 'Jamroot:1: more than 1000000 turns' 'while a { }'
 refuses 'Jamroot:1: bad index y' 'ECHO $(X[y]) ;'
 refuses 'Jamroot:1: bad modifier Q' 'ECHO $(X:Q) ;'
+refuses 'Jamroot:1: expansion too deep' 'ECHO $($($($($($($($($($($($($($($($($(X))))))))))))))))) ;'
+refuses 'Jamroot:1: expansion of 16777224 bytes' 'D = 0 1 2 3 4 5 6 7 8 9 ; ECHO $(D)$(D)$(D)$(D)$(D)$(D)$(D) ;'
 refuses 'Jamroot:1: not today' 'EXIT not today ;'
 refuses 'Jamroot:1: no file other.jam' 'include other.jam ;'
 refuses 'Jamroot:1: bad pattern (' 'ECHO [ MATCH "(" : a ] ;'
+refuses 'Jamroot:1: no rule f in module m' 'IMPORT m : f : n : g ;'
+refuses 'Jamroot:1: ALWAYS on a foreign target draw' 'ALWAYS draw ;'
 refuses 'Jamroot:1: bad using' 'using gcc : 12 ;'
 refuses 'Jamroot:1: bad exe' 'exe draw main.cpp ;'
 refuses 'Jamroot:2: f is there twice' 'feature.feature f : a ;
@@ -75,6 +97,9 @@ lib z : : <name>z ;'
 refuses 'Jamroot:2: unknown <toolset>msvc:<define>X' 'using gcc ;
 exe draw : main.cpp : <toolset>msvc:<define>X ;'
 refuses 'Jamroot:1: bad value odd' 'feature.feature f : a : odd ;'
+refuses 'Jamroot:3: conflict in x' 'feature.feature o : x y ;
+feature.feature f : a : composite ;
+feature.compose <f>a : <o>x <o>y ;'
 refuses 'unknown word speed=high' 'using gcc ;' speed=high
 refuses 'unknown value toolset=clang' 'using gcc ;' toolset=clang
 refuses 'conflict debug/release' 'using gcc ;' debug/release
@@ -87,6 +112,14 @@ refuses 'usage conflict in //c: <link>static <link>shared' 'using gcc ;
 alias a : : : : <link>static ;
 alias b : : : : <link>shared ;
 alias c : a b ;'
+refuses 'no alternative of //t for <colour>red' 'feature.feature colour : red green blue ;
+alias t : x : <colour>green ;
+alias t : y : <colour>blue ;'
+refuses 'alternatives 1 and 2 of //t for <colour>red' 'feature.feature colour : red green ;
+alias t : x : <colour>red ;
+alias t : y : <colour>red ;'
+refuses 'unstable requirements of //draw' 'using gcc ;
+exe draw : main.cpp : <link>shared:<threading>multi <threading>multi:<link>static ;'
 refuses 'no chain from FILE to OBJ' 'exe draw : main.cpp ;'
 refuses 'two chains from STONE to OBJ: one; two' 'using gcc ;
 type.register STONE : st ;
@@ -142,6 +175,20 @@ idle bin/a
 updated 0, failed 1, skipped 0, missing 0
 E1
 
+# ---- steps that need one another
+
+empty cycle
+printf '%s\n' "$copies" 'make a : bin/b : @copy ;' 'make b : bin/a : @copy ;' 'make c : x : @copy ;' > Jamroot
+echo text > x
+runs 2 <<'E1'
+copy bin/c
+b2: step cycle: bin/a -> bin/b -> bin/a
+E1
+holds bin/c < x
+runs 2 <<'E1'
+b2: step cycle: bin/a -> bin/b -> bin/a
+E1
+
 # ---- a command that writes much
 
 empty much
@@ -155,6 +202,77 @@ runs 0 <<'E1'
 updated 0, failed 0, skipped 0, missing 0
 E1
 
+# ---- a command that writes a gigabyte
+
+empty gigabyte
+printf '%s\n' 'actions say { head -c 1073741824 /dev/zero ; echo done > $(<) }' 'actions grow { truncate -s 1073741824 $(<) }' \
+    'make a : : @say ;' 'make b : : @grow ;' > Jamroot
+passes "all of a gigabyte that a command writes" [ "$("$B2" a | tr -cd '\0' | wc -c | tr -d ' ')" = 1073741824 ]
+runs 0 a <<'E1'
+updated 0, failed 0, skipped 0, missing 0
+E1
+runs 0 b <<'E1'
+grow bin/b
+updated 1, failed 0, skipped 0, missing 0
+E1
+# Such a file has a time stamp, and no digest.
+runs 2 --by=digest b <<'E1'
+b2: bin/b has 1073741824 bytes
+E1
+runs 0 b <<'E1'
+updated 0, failed 0, skipped 0, missing 0
+E1
+rm bin/b
+
+# ---- files at the limits of their sizes, and one byte past them
+
+# a_size NAME FILE: a project of one step, which tells how many bytes a source has
+a_size() {
+    empty "$1"
+    printf '%s\n' 'actions size { wc -c < $(>) > $(<) }' "make size : $2 : @size ;" > Jamroot
+}
+
+# is_sized BYTES WORD ..: with a source of so many bytes a build ends with status 0, and the next one starts nothing
+is_sized() {
+    bytes=$1; shift
+    truncate -s "$bytes" "$source"
+    dated "$source"
+    runs 0 "$@" <<'E1'
+size bin/size
+updated 1, failed 0, skipped 0, missing 0
+E1
+    passes "size of $source" [ "$(tr -d ' ' < bin/size)" = "$bytes" ]
+    runs 0 "$@" <<'E1'
+updated 0, failed 0, skipped 0, missing 0
+E1
+}
+
+# is_too_big BYTES WORD ..: with a source of so many bytes a build is refused, and starts nothing
+is_too_big() {
+    bytes=$1; shift
+    truncate -s "$bytes" "$source"
+    dated "$source"
+    runs 2 "$@" <<E1
+b2: $source has $bytes bytes
+E1
+}
+
+source=x.h
+a_size to-scan $source
+is_too_big 16777217
+leaves 'Jamroot x.h'
+is_sized 16777216
+is_too_big 16777217
+
+source=x
+a_size to-digest $source
+is_too_big 268435457 --by=digest
+leaves 'Jamroot x'
+is_sized 268435457
+is_sized 268435456 --by=digest
+is_too_big 268435457 --by=digest
+rm x
+
 # ---- the system fails
 
 # a_chain: a project of two steps, of which the second reads what the first one makes
@@ -164,10 +282,14 @@ a_chain() {
     echo text > x
 }
 
-# faults LINE ..: a build ends with status 4; it writes these lines, and then `b2: host fault`
+# faults [-jN] LINE ..: a build ends with status 4; it writes these lines, and then `b2: host fault`
 faults() {
+    case ${1-} in
+    -*) option=$1; shift ;;
+    *) option= ;;
+    esac
     printf '%s\n' "$@" 'b2: host fault' > "$work/lines"
-    runs 4 < "$work/lines"
+    runs 4 $option < "$work/lines"
 }
 
 # recovers LINE ..: a build ends with status 0 and starts the steps of these lines; what it makes is right, and the next one starts nothing
@@ -179,6 +301,30 @@ recovers() {
 updated 0, failed 0, skipped 0, missing 0
 E1
 }
+
+# A log at its limit counts, though bytes that are no line follow its lines; it is put back. A larger one counts as empty.
+a_chain large-log
+recovers 'copy bin/a' 'copy bin/sub/b'
+cp bin/b2.log "$work/log"
+truncate -s 268435456 bin/b2.log
+runs 0 <<'E1'
+updated 0, failed 0, skipped 0, missing 0
+E1
+holds bin/b2.log < "$work/log"
+truncate -s 268435457 bin/b2.log
+recovers 'copy bin/a' 'copy bin/sub/b'
+passes "lines of a log that is written anew" [ "$(wc -l < bin/b2.log | tr -d ' ')" = 2 ]
+
+# What else runs when a call fails is waited for: here the log is in the way, and whichever command ends last leaves its output whole.
+empty fault-beside
+printf '%s\n' "$copies" 'actions wait { sleep 1 ; cp -T $(>) $(<) }' 'make a : x : @copy ;' 'make b : x : @wait ;' 'make c : x : @copy ;' > Jamroot
+echo text > x
+mkdir -p bin/b2.log
+faults -j2 'copy bin/a' 'wait bin/b'
+for out in a b; do
+    holds bin/$out < x
+done
+passes "nothing starts after a fault" [ ! -e bin/c ]
 
 a_chain bin-is-a-file
 echo > bin
@@ -223,6 +369,160 @@ E1
 rmdir x
 echo text > x
 recovers 'copy bin/a' 'copy bin/sub/b'
+
+# ---- files that may not be read or written
+
+# The superuser may all, so that b2 runs as another user there.
+cp "$B2" "$work/program"
+chmod 755 "$work" "$work/program"
+if [ "$(id -u)" = 0 ]; then
+    echo 'exec setpriv --reuid=65534 --regid=65534 --clear-groups "${0%/*}/program" "$@"' > "$work/as-user"
+else
+    echo 'exec "${0%/*}/program" "$@"' > "$work/as-user"
+fi
+sed -i '1i #!/bin/sh' "$work/as-user"
+chmod 755 "$work/as-user"
+
+# a_users_chain NAME: a_chain, in a folder of that user
+a_users_chain() {
+    a_chain "$1"
+    [ "$(id -u)" != 0 ] || chown -R 65534:65534 .
+}
+
+owners_b2=$B2
+B2=$work/as-user
+
+a_users_chain read-only-bin
+mkdir bin
+[ "$(id -u)" != 0 ] || chown 65534:65534 bin
+chmod 555 bin
+runs 1 <<'E1'
+copy bin/a
+...failed copy bin/a...
+...skipped bin/sub/b...
+updated 0, failed 1, skipped 1, missing 0
+E1
+passes "nothing in a folder that is not to be written" [ -z "$(ls bin)" ]
+chmod 755 bin
+recovers 'copy bin/a' 'copy bin/sub/b'
+# What stands there stays: it can be neither written nor removed.
+echo other > x
+dated x
+chmod 444 bin/a
+chmod 555 bin
+faults 'copy bin/a'
+passes "an output that may not be removed" grep -q text bin/a
+chmod 755 bin
+chmod 644 bin/a
+recovers 'copy bin/a' 'copy bin/sub/b'
+
+# A log that may not be read is a fault; one that may not be written is one where something is to be written.
+chmod 0 bin/b2.log
+faults
+chmod 444 bin/b2.log
+runs 0 <<'E1'
+updated 0, failed 0, skipped 0, missing 0
+E1
+echo text > x
+dated x
+faults 'copy bin/a'
+chmod 644 bin/b2.log
+recovers 'copy bin/a' 'copy bin/sub/b'
+
+chmod 0 bin
+faults
+chmod 755 bin
+chmod 0 x
+dated x
+runs 1 <<'E1'
+copy bin/a
+...failed copy bin/a...
+...skipped bin/sub/b...
+updated 0, failed 1, skipped 1, missing 0
+E1
+chmod 644 x
+chmod 0 Jamroot
+echo 'b2: host fault' > "$work/refusal"
+for look in "" -n --show; do
+    runs 4 $look < "$work/refusal"
+done
+chmod 644 Jamroot
+recovers 'copy bin/a' 'copy bin/sub/b'
+
+B2=$owners_b2
+
+# ---- a disk without room
+
+# In a file system of 64 KiB that is full neither a command nor b2 can write; what is built once there is room is right.
+cat > "$work/no-room" <<'E1'
+mount -t tmpfs -o size=64k tmpfs disk && cd disk && cp ../Jamroot ../x . || exit
+cat /dev/zero > fill 2> /dev/null
+"$B2"; echo "status $?"
+ls bin
+# This output takes no room, and its record takes some.
+"$B2" empty; echo "status $?"
+cat bin/b2.log
+rm fill
+"$B2"; echo "status $?"
+cmp x bin/sub/b
+"$B2"; echo "status $?"
+E1
+a_chain full-disk
+printf '%s\n' 'actions touch { : > $(<) }' 'make empty : : @touch ;' 'explicit empty ;' >> Jamroot
+mkdir disk
+if unshare -rm mount -t tmpfs -o size=64k tmpfs disk 2> /dev/null; then
+    cat > "$work/expected" <<'E1'
+copy bin/a
+...failed copy bin/a...
+...skipped bin/sub/b...
+updated 0, failed 1, skipped 1, missing 0
+status 1
+touch bin/empty
+b2: host fault
+status 4
+copy bin/a
+copy bin/sub/b
+updated 2, failed 0, skipped 0, missing 0
+status 0
+updated 0, failed 0, skipped 0, missing 0
+status 0
+E1
+    B2=$B2 unshare -rm sh "$work/no-room" > "$work/happened" 2>&1
+    passes "builds on a full disk" diff "$work/expected" "$work/happened"
+else
+    echo "No file system can be mounted here: no full disk was tried."
+fi
+
+# ---- what was built is damaged
+
+a_chain damaged
+recovers 'copy bin/a' 'copy bin/sub/b'
+size=$(wc -c < bin/b2.log)
+head -c $((size - 3)) bin/b2.log > "$work/log"
+cp "$work/log" bin/b2.log
+recovers 'copy bin/sub/b'
+echo edited >> bin/a
+dated bin/a
+recovers 'copy bin/a' 'copy bin/sub/b'
+rm bin/sub/b
+recovers 'copy bin/sub/b'
+rm bin/b2.log
+recovers 'copy bin/a' 'copy bin/sub/b'
+
+# ---- b2 is ended while a command runs
+
+# The command of the second step ends b2, and leaves half of its output.
+a_chain ended
+printf '%s\n' "$copies" 'actions end { echo te > $(<) ; test -e on || { kill -9 $PPID ; exit 1 ; } ; cp -T $(>) $(<) }' \
+    'make a : x : @copy ;' 'make sub/b : a : @end ;' > Jamroot
+"$B2" > "$work/printed" 2> /dev/null
+echo $? > "$work/status"
+passes "b2 was ended" [ "$(cat "$work/status")" = 137 ]
+# The line of a start is written after the start, and so perhaps not at all.
+passes "what b2 wrote before it was ended" [ "$(head -n 1 "$work/printed")" = 'copy bin/a' ]
+passes "half of an output" grep -qx te bin/sub/b
+touch on
+recovers 'end bin/sub/b'
 
 # ---- standard output fails
 
