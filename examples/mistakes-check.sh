@@ -317,7 +317,8 @@ passes "lines of a log that is written anew" [ "$(wc -l < bin/b2.log | tr -d ' '
 
 # What else runs when a call fails is waited for: here the log is in the way, and whichever command ends last leaves its output whole.
 empty fault-beside
-printf '%s\n' "$copies" 'actions wait { sleep 1 ; cp -T $(>) $(<) }' 'make a : x : @copy ;' 'make b : x : @wait ;' 'make c : x : @copy ;' > Jamroot
+printf '%s\n' "$copies" 'actions wait { sleep 1 ; cp -T $(>) $(<) }' 'make a : x : @copy ;' 'make b : x : @wait ;' \
+    'make c : x : @copy ;' > Jamroot
 echo text > x
 mkdir -p bin/b2.log
 faults -j2 'copy bin/a' 'wait bin/b'
