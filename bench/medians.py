@@ -1,6 +1,7 @@
 """Runs the same work of several programs in turns, and prints the median seconds of each, and how many times those of the others the
 first one takes: medians.py RUNS WHAT PREPARE, then for each program its folder and its command. PREPARE is run by sh in the folder before
-each run, and not measured. A program that takes more than 30 seconds is run once."""
+each run, and not measured. Each round begins with another program, so that none always comes after the same one. A program that takes
+more than 30 seconds is run once."""
 import statistics
 import subprocess
 import sys
@@ -21,8 +22,9 @@ def timed(folder, prepare, command):
 def measured(runs, prepare, programs):
     """The seconds of all runs of each program. None stands for a run that failed, after which there is no other."""
     seconds = {folder: [] for folder, _ in programs}
-    for _ in range(runs):
-        for folder, command in programs:
+    for number in range(runs):
+        first = number % len(programs)
+        for folder, command in programs[first:] + programs[:first]:
             taken = seconds[folder]
             if None not in taken and max(taken, default=0) <= LONG:
                 taken.append(timed(folder, prepare, command))

@@ -4,8 +4,9 @@
 # The projects are 2,000 and 10,000 steps in a tree, each of which joins two files, and 5 libraries of 20 C++ sources with 100 headers.
 # For each of them: the build from nothing with four commands at a time, the build with nothing to do, and the build after one edit. The
 # programs run in turns, RUNS times each (5 where it is not given); the medians are printed, and in brackets how many times as long as
-# that program ours takes. Ninja and make do the same commands. Where valgrind is there, the instructions follow that each program
-# takes for the build with nothing to do.
+# that program ours takes. Ninja and make do the same commands; Boost.Build has its own for C++. After the edit the files are counted
+# that each program has made anew. Where valgrind is there, the instructions follow that each program takes for the build with nothing
+# to do.
 #
 # It runs the program ./b2 that setup.sh leaves, or the one that B2 names. What it is compared with is left out where it is not there:
 # ninja, make, and the b2 of Boost.Build, which is /usr/bin/b2, where Debian's packages put it, or the one that BOOST_B2 names. It takes
@@ -35,19 +36,36 @@ measured() {
     python3 "$top/bench/medians.py" "$runs" "$what" "$prepare" "$@"
 }
 
-# counted FOLDER COMMAND ..: how many instructions a program takes, in millions; 0 where valgrind cannot tell
+# remade FILE: how many files each program has made anew since this one was edited, besides logs and lists of headers
+remade() {
+    printf '%s, files made anew:' "$what"
+    for tool in b2 ninja make boost; do
+        if [ -d "$tool/bin" ]; then
+            printf ' %s %s' "$tool" "$(find "$tool/bin" "$tool"/l*/bin -type f -newer "$tool/$1" ! -name '*.log' ! -name '*.d' ! -name '*.jam' 2>/dev/null | wc -l)"
+        fi
+    done
+    echo
+}
+
+# counted FOLDER COMMAND ..: how many instructions a program takes, in millions; it is given 10 minutes
 counted() {
     tool=$1; shift
-    count=$(cd "$tool" && valgrind --tool=callgrind --callgrind-out-file=/dev/null "$@" 2>&1 >/dev/null </dev/null |
+    count=$(cd "$tool" && timeout 600 valgrind --tool=callgrind --callgrind-out-file=/dev/null "$@" 2>&1 >/dev/null </dev/null |
         sed -n 's/.*Collected : *\([0-9]*\).*/\1/p')
-    printf ' %s %s' "$tool" "$(awk -v n="${count:-0}" 'BEGIN { printf "%.1f", n / 1000000 }')"
+    if [ -n "$count" ]; then
+        printf ' %s %s' "$tool" "$(awk -v n="$count" 'BEGIN { printf "%.1f", n / 1000000 }')"
+    else
+        printf ' %s unknown' "$tool"
+    fi
 }
 
 # part WHAT EDIT: measures the project in the present folder
 part() {
-    measured "$1, from nothing" 'rm -rf bin .ninja_log .ninja_deps; [ ! -e folders ] || xargs mkdir -p < folders'
+    # Boost.Build has a folder bin for each project, and so for each library.
+    measured "$1, from nothing" 'rm -rf bin l*/bin .ninja_log .ninja_deps; [ ! -e folders ] || xargs mkdir -p < folders'
     measured "$1, nothing to do" true
     measured "$1, after one edit" "echo >> $2"
+    remade "$2"
     if command -v valgrind >/dev/null; then
         printf '%s, nothing to do, millions of instructions:' "$1"
         counted b2 "$program" -j4
