@@ -1,5 +1,5 @@
 //! What the words ask for.
-use anyhow::{Context, Result, bail};
+use crate::fault::CostFault;
 
 /// How large the project is, and how often it is updated.
 #[derive(Clone, Copy)]
@@ -12,20 +12,19 @@ pub struct Asked {
     pub chained: bool,
 }
 
-fn number(word: &str) -> Result<u32> {
-    word.parse::<u32>()
-        .context(format_args!("the word {word:?}"))
+fn number(word: &str) -> Result<u32, CostFault> {
+    Ok(word.parse::<u32>()?)
 }
 
 /// What the words ask for; the first is the program's own name.
-pub fn asked_by(words: &[String]) -> Result<Asked> {
+pub fn asked_by(words: &[String]) -> Result<Asked, CostFault> {
     let (numbers, chained) = match words {
         [_name, numbers @ .., last] => if last.as_str() == "chain" {
             (numbers, true)
         } else {
             (&words[1..], false)
         },
-        _ => bail!("no words"),
+        _ => return Err(CostFault::Words),
     };
     match numbers {
         [steps, inputs, sources, updates] => Ok(Asked {
@@ -35,6 +34,6 @@ pub fn asked_by(words: &[String]) -> Result<Asked> {
             updates: number(updates.as_str())?,
             chained,
         }),
-        _ => bail!("the words are four numbers, and then chain or nothing"),
+        _ => Err(CostFault::Words),
     }
 }

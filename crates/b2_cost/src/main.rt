@@ -6,20 +6,21 @@
 #![tactic(auto)]
 
 mod asked;
+mod fault;
 mod housed;
 mod project;
 mod updates;
 
 use crate::asked::{Asked, asked_by};
+use crate::fault::CostFault;
 use crate::project::{plan_of, source_paths};
 use crate::updates::{log_size, run_updates, starts, write_sources};
-use anyhow::Result;
 use b2_memory::memory::MemoryHost;
 use std::alloc::Global;
 use std::env;
 
 /// Makes the project, and updates it as often as is asked. Gives how many steps were started, and how many bytes the log has.
-fn run(alloc: Global, asked: Asked) -> Result<(usize, usize)> {
+fn run(alloc: Global, asked: Asked) -> Result<(usize, usize), CostFault> {
     let sources = source_paths(alloc, asked.sources)?;
     let plan = plan_of(alloc, asked, sources.as_slice())?;
     let mut host = MemoryHost::new(alloc)?;
@@ -28,7 +29,7 @@ fn run(alloc: Global, asked: Asked) -> Result<(usize, usize)> {
     Ok((starts(&host), log_size(&host)))
 }
 
-fn main(rt: HostRuntime) -> Result<()> {
+fn main(rt: HostRuntime) -> Result<(), CostFault> {
     let words: Vec<String> = env::args(&rt)?.collect(rt.alloc())?;
     let asked = asked_by(words.as_slice())?;
     let (starts, log) = run(rt.alloc(), asked)?;

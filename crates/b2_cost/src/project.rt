@@ -4,8 +4,8 @@ ghost use Rattle.b2_plan.specs.Plans.{Apart};
 ghost use Rattle.b2_virtual.specs.Clashes.{AreApart};
 
 use crate::asked::Asked;
+use crate::fault::CostFault;
 use crate::housed::are_housed;
-use anyhow::{Result, bail};
 use b2_base::path::Path;
 use b2_base::path_list::{PathList, push_paths};
 use b2_base::text::{Text, has_no_zero};
@@ -14,25 +14,25 @@ use b2_plan::step::{Step, StepList};
 use b2_virtual::builder::Builder;
 use std::alloc::Global;
 
-fn text_of(text: String) -> Result<Text> {
+fn text_of(text: String) -> Result<Text, CostFault> {
     if !has_no_zero(text.as_str()) {
-        bail!("a zero byte");
+        return Err(CostFault::Plan);
     }
     Ok(Text::from_string(text))
 }
 
-fn output_path(alloc: Global, number: u32) -> Result<Path> {
+fn output_path(alloc: Global, number: u32) -> Result<Path, CostFault> {
     let text = format!(in alloc; "bin/part{}/out{number}", number / 100)?;
     Ok(Path::normal(alloc, text.as_str())?)
 }
 
-fn source_path(alloc: Global, number: u32) -> Result<Path> {
+fn source_path(alloc: Global, number: u32) -> Result<Path, CostFault> {
     let text = format!(in alloc; "src/part{}/in{number}", number / 100)?;
     Ok(Path::normal(alloc, text.as_str())?)
 }
 
 /// The sources.
-pub fn source_paths(alloc: Global, count: u32) -> Result<PathList> {
+pub fn source_paths(alloc: Global, count: u32) -> Result<PathList, CostFault> {
     let mut paths = PathList::new(alloc);
     for number in 0..count {
         paths.push(source_path(alloc, number)?)?;
@@ -41,7 +41,12 @@ pub fn source_paths(alloc: Global, count: u32) -> Result<PathList> {
 }
 
 /// The sources that a step reads: those that come next, after the last one the first again.
-fn sources_of(alloc: Global, inputs: u32, sources: &[Path], number: u32) -> Result<PathList> {
+fn sources_of(
+    alloc: Global,
+    inputs: u32,
+    sources: &[Path],
+    number: u32,
+) -> Result<PathList, CostFault> {
     let mut ins = PathList::new(alloc);
     if sources.is_empty() {
         return Ok(ins);
@@ -55,7 +60,7 @@ fn sources_of(alloc: Global, inputs: u32, sources: &[Path], number: u32) -> Resu
 }
 
 /// The command of a step, which copies its first input.
-fn command(alloc: Global, ins: &[Path], out: &Path) -> Result<Text> {
+fn command(alloc: Global, ins: &[Path], out: &Path) -> Result<Text, CostFault> {
     let first = ins.first().map_or("", |path| path.as_str());
     text_of(format!(in alloc; "cat {first} > {}", out.as_str())?)
 }
@@ -67,7 +72,7 @@ fn step_of(
     sources: &[Path],
     outputs: &[Path],
     number: u32,
-) -> Result<Step> {
+) -> Result<Step, CostFault> {
     let mut ins = sources_of(alloc, asked.inputs, sources, number)?;
     if asked.chained {
         if let Some(before) = outputs.last() {
@@ -90,7 +95,7 @@ fn step_of(
 }
 
 /// The one output root.
-fn output_roots(alloc: Global) -> Result<PathList>
+fn output_roots(alloc: Global) -> Result<PathList, CostFault>
     ensures { IfOk result (λ roots. roots ≡ codes "bin" ∷ []) }
 {
     let mut roots = PathList::new(alloc);
@@ -99,20 +104,20 @@ fn output_roots(alloc: Global) -> Result<PathList>
 }
 
 /// The plan of steps, whose output root is `bin`.
-fn plan_with(alloc: Global, steps: StepList, wanted: PathList) -> Result<Plan>
+fn plan_with(alloc: Global, steps: StepList, wanted: PathList) -> Result<Plan, CostFault>
     requires few { length steps ≤ 65536 }
     requires apart { AreApart steps }
     ensures { IfOk result (λ plan. Apart plan.steps plan.roots) }
 {
     let roots = output_roots(alloc)?;
     if !are_housed(roots.as_slice(), steps.as_slice()) {
-        bail!("an output lies outside the output root");
+        return Err(CostFault::Plan);
     }
     Ok(Plan::new(alloc, steps, wanted, roots)?)
 }
 
 /// The plan of so many steps. All that they make is wanted.
-pub fn plan_of(alloc: Global, asked: Asked, sources: &[Path]) -> Result<Plan>
+pub fn plan_of(alloc: Global, asked: Asked, sources: &[Path]) -> Result<Plan, CostFault>
     ensures { IfOk result (λ plan. Apart plan.steps plan.roots) }
 {
     let mut builder = Builder::new(alloc);
@@ -121,7 +126,7 @@ pub fn plan_of(alloc: Global, asked: Asked, sources: &[Path]) -> Result<Plan>
         let step = step_of(alloc, asked, sources, outputs.as_slice(), number)?;
         push_paths(&mut outputs, step.outs.as_slice())?;
         if builder.add(step).is_err() {
-            bail!("step {number} cannot join the plan");
+            return Err(CostFault::Plan);
         }
     }
     plan_with(alloc, builder.into_steps(), outputs)

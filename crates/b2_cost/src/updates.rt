@@ -3,7 +3,7 @@ ghost use Rattle.std.specs.Prelude.{◌≡◌, []};
 ghost use Rattle.b2_memory.specs.Hosts.{memory_of};
 ghost use Rattle.b2_plan.specs.Plans.{Apart};
 
-use anyhow::{Result, bail};
+use crate::fault::CostFault;
 use b2_base::path::Path;
 use b2_host::children::ChildEvent;
 use b2_memory::memory::MemoryHost;
@@ -15,7 +15,7 @@ use b2_update::update_answer::UpdateAnswer;
 use std::alloc::Global;
 
 /// Writes the sources, each with its path as its text.
-pub fn write_sources(sources: &[Path], host: &mut MemoryHost) -> Result<()>
+pub fn write_sources(sources: &[Path], host: &mut MemoryHost) -> Result<(), CostFault>
     requires { (memory_of host.old).outside.children.running ≡ [] }
 {
     for path in sources {
@@ -25,11 +25,11 @@ pub fn write_sources(sources: &[Path], host: &mut MemoryHost) -> Result<()>
 }
 
 /// Makes one update.
-fn run_update(alloc: Global, plan: &Plan, host: &mut MemoryHost) -> Result<()>
+fn run_update(alloc: Global, plan: &Plan, host: &mut MemoryHost) -> Result<(), CostFault>
     requires { Apart plan.now.steps plan.now.roots }
 {
     if !host.running().is_empty() {
-        bail!("a child still runs");
+        return Err(CostFault::Update);
     }
     let options = Options {
         jobs: 4,
@@ -40,12 +40,17 @@ fn run_update(alloc: Global, plan: &Plan, host: &mut MemoryHost) -> Result<()>
     let mut out = MemorySink::new(alloc);
     match update(alloc, plan, options, host, &mut out) {
         UpdateAnswer::Done => Ok(()),
-        _ => bail!("an update did not end well"),
+        _ => Err(CostFault::Update),
     }
 }
 
 /// Makes so many updates, one after another.
-pub fn run_updates(alloc: Global, plan: &Plan, updates: u32, host: &mut MemoryHost) -> Result<()>
+pub fn run_updates(
+    alloc: Global,
+    plan: &Plan,
+    updates: u32,
+    host: &mut MemoryHost,
+) -> Result<(), CostFault>
     requires { Apart plan.now.steps plan.now.roots }
 {
     for _ in 0..updates {
