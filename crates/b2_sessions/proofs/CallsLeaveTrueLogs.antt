@@ -28,7 +28,7 @@ both_true N T (Some x) None told n t = tt
 both_true N T (Some x) (Some y) told n t = told n t
 
 -- where the later disk is visible, the earlier one is
-seen_before : (P : Disk → Disk → Type 0) (before after : Option Disk) (later : Disk) → after ≡ Some later → BothTold P before after → (disk : Disk) × (before ≡ Some disk) × P disk later
+pub seen_before : (P : Disk → Disk → Type 0) (before after : Option Disk) (later : Disk) → after ≡ Some later → BothTold P before after → (disk : Disk) × (before ≡ Some disk) × P disk later
 seen_before P None None later shows told = absurd (let e : None ≡ Some later = shows in cc)
 seen_before P None (Some y) later shows told = absurd told
 seen_before P (Some x) None later shows told = absurd told

@@ -73,18 +73,16 @@ is_edit path bytes before after disk shows bounded consistent not_log same out =
 
 -- ---- the host in memory
 
-module _ {T : Type 0} (old new : MemoryHost) (path : List ℕ) (given bytes : Option (List ℕ)) where
-  -- an edit that answered Ok is one of a session
-  pub edit_done : (r : Result T OutOfMemory) → OnOk r (memory_of new ≡ with_edit path given (memory_of old)) → given ≡ bytes → (path ≡ log_path → bytes ≡ None) → OnOk r ((out : Output) → IsEdit path bytes (moment_of old out) (moment_of new out))
-  edit_done (Ok x) same is not_log =
-      is_edit path bytes (told_outside old) (told_outside new) (told old.store) refl (stamp_within (writes_told old.store)) (kept_disk (writes_told new.store) new.store.places new.store.placed) not_log
-      (ap (λ (m : Memory). m.outside) same ∙ ap (λ (b : Option (List ℕ)). (with_edit path b (memory_of old)).outside) is)
-  edit_done (Err e) same is not_log = tt
+-- an edit that changed the memory so is one of a session
+pub edit_is : (old new : MemoryHost) (path : List ℕ) (bytes : Option (List ℕ)) → memory_of new ≡ with_edit path bytes (memory_of old) → (path ≡ log_path → bytes ≡ None) → (out : Output) → IsEdit path bytes (moment_of old out) (moment_of new out)
+edit_is old new path bytes same not_log out =
+    is_edit path bytes (told_outside old) (told_outside new) (told old.store) refl (stamp_within (writes_told old.store)) (kept_disk (writes_told new.store) new.store.places new.store.placed) not_log
+    (ap (λ (m : Memory). m.outside) same) out
 
-  -- one that did not has changed nothing
-  pub edit_not : (r : Result T OutOfMemory) → OnErr r (memory_of new ≡ memory_of old) → OnErr r (told_outside new ≡ told_outside old)
-  edit_not (Ok x) same = tt
-  edit_not (Err e) same = ap (λ (m : Memory). m.outside) same
+module _ {T : Type 0} (old new : MemoryHost) (path : List ℕ) (given bytes : Option (List ℕ)) where
+  -- the bytes are given in another way
+  pub edit_done : (r : Result T OutOfMemory) → OnOk r (memory_of new ≡ with_edit path given (memory_of old)) → given ≡ bytes → OnOk r (memory_of new ≡ with_edit path bytes (memory_of old))
+  edit_done r done is = subst (λ (b : Option (List ℕ)). OnOk r (memory_of new ≡ with_edit path b (memory_of old))) is done
 
   -- no child runs after an edit, and what may go wrong stays
   pub edit_ready : (r : Result T OutOfMemory) → OnOk r (memory_of new ≡ with_edit path given (memory_of old)) → OnErr r (memory_of new ≡ memory_of old) → IsReady (told_outside old) → IsReady (told_outside new)

@@ -1,13 +1,15 @@
 -- A host in memory that is opened again, as a session has it; and an update that is stopped.
-use Rattle.std.proofs.Common.{◌≡◌, List, [], ◌++◌, length, Option, Some, refl, ap, sym, ◌∙◌, subst, arith}
+use Rattle.std.proofs.Common.{◌≡◌, ℕ, List, [], ◌++◌, length, Option, Some, refl, ap, sym, ◌∙◌, subst, arith}
 use Rattle.b2_host.specs.declared.children.ChildEvent.{ChildEvent}
 use Rattle.b2_host.specs.Disks.{Disk, IsConsistent}
 use Rattle.b2_host.specs.ChildProcesses.{BothTold, ChangesOnlyOutputs}
 use Rattle.b2_host.specs.Outside.{Outside, Risks}
 use Rattle.b2_host.specs.Output.{Output}
+use Rattle.b2_memory.specs.Hosts.{memory_of}
 use Rattle.b2_memory.specs.Memories.{Memory, Reopens}
 use Rattle.b2_memory.specs.Results.{made_of}
 use Rattle.b2_memory.specs.Scripts.{no_risks}
+use Rattle.b2_memory.specs.declared.memory.MemoryHost.{MemoryHost}
 use Rattle.b2_runs.specs.Moments.{IsSameButRisks}
 use Rattle.b2_runs.specs.PlanChildren.{AreOfOpenSteps}
 use Rattle.b2_runs.specs.Sessions.{IsReopened, IsStop}
@@ -15,7 +17,8 @@ use Rattle.b2_update.specs.Moments.{moment}
 use Rattle.b2_words.specs.Words.{Word}
 use Rattle.b2_top.specs.declared.answer.Answer.{Answer}
 use Rattle.b2_sessions.specs.Calls.{IsCall}
-use Rattle.b2_sessions.specs.Courses.{IsReady}
+use Rattle.b2_sessions.specs.Courses.{moment_of, IsReady}
+use Rattle.b2_sessions.specs.Scenes.{scene_of, fused, IsStopped}
 use Rattle.b2_sessions.proofs.ChildrenEndInOrder.{AreDrained, drained, none_after}
 
 -- two disks that are both visible
@@ -51,20 +54,29 @@ same_but_risks before after risks out same =
     subst (λ (o : Outside). IsSameButRisks (moment before out) (moment o out)) (sym same) refl
 
 -- an update was stopped: the host was told of it, the call came, and the host was opened again
-pub is_stop : (words : List Word) (answer : Answer) (first fused : Outside) (between after : Memory) (risks : Risks) (out out_then : Output) (old new : Disk) → fused ≡ record first { risks = risks }
-    → IsCall made_of words answer (moment fused out) (moment between.outside out_then) → between.outside.disk ≡ Some old → after.outside.disk ≡ Some new → IsConsistent new → Reopens between after
+pub is_stop : (words : List Word) (answer : Answer) (first warned : Outside) (between after : Memory) (risks : Risks) (out out_then : Output) (old new : Disk) → warned ≡ record first { risks = risks }
+    → IsCall made_of words answer (moment warned out) (moment between.outside out_then) → between.outside.disk ≡ Some old → after.outside.disk ≡ Some new → IsConsistent new → Reopens between after
     → IsStop (IsCall made_of) words answer (moment first out) (moment after.outside out_then)
-is_stop words answer first fused between after risks out out_then old new same call shows shows_then consistent r =
+is_stop words answer first warned between after risks out out_then old new same call shows shows_then consistent r =
     let (steps, left) = call.answered.left_open in
     record {
-      fused = moment fused out;
-      fuse = same_but_risks first fused risks out same;
+      fused = moment warned out;
+      fuse = same_but_risks first warned risks out same;
       between = moment between.outside out_then;
       updated = call;
       events = left.events;
       events_are = left.are ∙ ap (λ (o : Outside). o.children.events ++ left.events) same;
       reopened = is_reopened left.events between after out_then old new shows shows_then consistent left.of_open r;
     }
+
+-- the host was told of it, the call came, and the host was opened again
+pub is_stopped : (words : List Word) (calls tear : ℕ) (answer : Answer) (first warned between last : MemoryHost) (out out_then : Output) → memory_of warned ≡ fused calls tear (memory_of first)
+    → IsCall made_of words answer (moment_of warned out) (moment_of between out_then) → Reopens (memory_of between) (memory_of last) → IsStopped words calls tear answer (scene_of first out) (scene_of last out_then)
+is_stopped words calls tear answer first warned between last out out_then same came reopened = record {
+  between = between;
+  came = subst (λ (m : Memory). IsCall made_of words answer (moment m.outside out) (moment_of between out_then)) same came;
+  reopened = reopened;
+}
 
 -- no child runs in a host that was opened again, and no wait may fail
 pub ready_again : (between after : Memory) → Reopens between after → IsReady after.outside

@@ -5,6 +5,7 @@ pub mod HostsReopen
 pub mod EditsAreTold
 pub mod EventsFollowOneAnother
 pub mod CallsLeaveTrueLogs
+pub mod RunsAreSessions
 pub mod SessionsPass
 pub mod SessionsEndClean
 pub mod ResultsAreTold

@@ -1,6 +1,6 @@
 -- What follows of a session, however far it came: what stood stays, no count falls, and a true log stays true.
-use Rattle.std.proofs.Common.{◌≡◌, ℕ, ◌+◌, ◌≤◌, cond, List, [], ◌∷◌, ◌++◌, take, drop, length, inl, inr, refl, ap, sym, ◌∙◌, subst, arith}
-use Rattle.std.specs.List.{count_by}
+use Rattle.std.proofs.Common.{◌≡◌, ℕ, ◌+◌, ◌≤◌, false, cond, List, [], ◌∷◌, ◌++◌, take, drop, length, inl, inr, refl, ap, sym, ◌∙◌, subst, arith}
+use Rattle.std.specs.List.{count_by, list_any}
 use Rattle.std.specs.Prelude.{Result, Ok, Err}
 use Rattle.std.specs.declared.vec.Vec.{Vec}
 use Rattle.std.specs.declared.alloc.Global.{Global}
@@ -9,7 +9,10 @@ use Rattle.std.proofs.lemmas.List.Elements.{Contains-append_left}
 use Rattle.std.proofs.lemmas.List.Sums.{sum_by-append}
 use Rattle.b2_drill.specs.declared.event.Event.{Event}
 use Rattle.b2_drill.specs.declared.event.Event.TheVariants as events
+use Rattle.b2_host.specs.Output.{Output}
 use Rattle.b2_memory.specs.Results.{made_of}
+use Rattle.b2_memory.specs.Scripts.{risks_of, AreAmong}
+use Rattle.b2_memory.specs.declared.memory.MemoryHost.{MemoryHost}
 use Rattle.b2_runs.specs.Moments.{Moment}
 use Rattle.b2_runs.specs.Sessions.{Happening, Happening.edit, Happening.update, Happening.stop, Comes, Happens, IsSession, IsAskedFor}
 use Rattle.b2_runs.proofs.TrueThroughSession.{past_grows_through_session, true_through_session}
@@ -19,10 +22,12 @@ use Rattle.b2_top.specs.Plans.{TellsApart, making_by}
 use Rattle.b2_sessions.specs.declared.fault.SessionFault.{SessionFault}
 use Rattle.b2_sessions.specs.declared.fault.SessionFault.TheVariants as faults
 use Rattle.b2_sessions.specs.Calls.{IsCall}
-use Rattle.b2_sessions.specs.Courses.{HasRun, IsSessionOf, HasPassed, TrueLogStays}
-use Rattle.b2_sessions.specs.Events.{happening_of, happenings, gives_answer}
+use Rattle.b2_sessions.specs.Courses.{moment_of, HasRun, IsSessionOf, HasPassed, TrueLogStays}
+use Rattle.b2_sessions.specs.Events.{happening_of, happenings, writes_log, gives_answer}
 use Rattle.b2_sessions.specs.Results.{RanWhole}
+use Rattle.b2_sessions.specs.Scenes.{Scene, scene_of, seen, WereRun}
 use Rattle.b2_sessions.proofs.CallsLeaveTrueLogs.{keeps_past, calls_leave_true}
+use Rattle.b2_sessions.proofs.RunsAreSessions.{is_session, run_among}
 
 -- ---- counts
 
@@ -69,11 +74,11 @@ session_counts first last hs given (renewed, same, s) =
 
 -- ---- however far a session came
 
-has_passed : (events : List Event) (count : ℕ) (first : Moment) (given : List Answer) (last : Moment) → HasRun events count first given last → HasPassed first last
-has_passed events count first given last ran =
-    let counts = session_counts first last (happenings (take count events)) given ran.session in
+has_passed : (list : List Event) (first : Moment) (given : List Answer) (last : Moment) → IsSessionOf list first given last → HasPassed first last
+has_passed list first given last session =
+    let counts = session_counts first last (happenings list) given session in
     record {
-      grows = past_grows_through_session (IsCall made_of) (λ words answer before after call. keeps_past before after call.keeps) first last (happenings (take count events)) given ran.session;
+      grows = past_grows_through_session (IsCall made_of) (λ words answer before after call. keeps_past before after call.keeps) first last (happenings list) given session;
       faults = counts.faults;
       failed_waits = counts.failed_waits;
       sink_faults = counts.sink_faults;
@@ -96,22 +101,29 @@ asked_by_all events count words asked = subst (λ l. IsAskedFor l words) whole (
     go (inl c) = inl (Contains-append_left front rest (update words) c)
     go (inr c) = inr (Contains-append_left front rest (stop words) c)
 
-true_stays : (events : List Event) (count : ℕ) (first : Moment) (given : List Answer) (last : Moment) → HasRun events count first given last → TrueLogStays events first last
-true_stays events count first given last ran tells t =
-    true_through_session (IsCall made_of) TellsApart (making_by made_of) (calls_leave_true made_of) first last (happenings (take count events)) given ran.session
+true_stays : (events : List Event) (count : ℕ) (first : Moment) (given : List Answer) (last : Moment) → IsSessionOf (take count events) first given last → TrueLogStays events first last
+true_stays events count first given last session tells t =
+    true_through_session (IsCall made_of) TellsApart (making_by made_of) (calls_leave_true made_of) first last (happenings (take count events)) given session
     (λ words asked. tells words (asked_by_all events count words asked)) t
 
 -- whatever the result
-some_run : (events : List Event) (first last : Moment) (r : Result (Vec Answer Global) SessionFault) → RanWhole events first last r → (count : ℕ) × (given : List Answer) × HasRun events count first given last
+some_run : (events : List Event) (first last : Scene) (r : Result (Vec Answer Global) SessionFault) → RanWhole events first last r → (count : ℕ) × (given : List Answer) × HasRun events count first given last
 some_run events first last (Ok given) ran = (length events, given.items, ran)
 some_run events first last (Err (faults.LogEdit index)) at = (index, at.answers, at.ran)
 some_run events first last (Err faults.OutOfMemory) cut = (cut.count, cut.answers, cut.ran)
 
-pub passed : (events : List Event) (first last : Moment) (r : Result (Vec Answer Global) SessionFault) → RanWhole events first last r → HasPassed first last
-passed events first last r ran = let (count, given, is) = some_run events first last r ran in has_passed events count first given last is
+pub passed : (events : List Event) (host : MemoryHost) (out : Output) (last : Scene) (r : Result (Vec Answer Global) SessionFault) → RanWhole events (scene_of host out) last r → HasPassed (moment_of host out) (seen last)
+passed events host out last r ran =
+    let (count, given, is) = some_run events (scene_of host out) last r ran in
+    has_passed (take count events) (moment_of host out) given (seen last) (is_session (take count events) host out given last is.no_log_edit is.ran)
 
-pub true_log : (events : List Event) (first last : Moment) (r : Result (Vec Answer Global) SessionFault) → RanWhole events first last r → TrueLogStays events first last
-true_log events first last r ran = let (count, given, is) = some_run events first last r ran in true_stays events count first given last is
+pub true_log : (events : List Event) (host : MemoryHost) (out : Output) (last : Scene) (r : Result (Vec Answer Global) SessionFault) → RanWhole events (scene_of host out) last r → TrueLogStays events (moment_of host out) (seen last)
+true_log events host out last r ran =
+    let (count, given, is) = some_run events (scene_of host out) last r ran in
+    true_stays events count (moment_of host out) given (seen last) (is_session (take count events) host out given last is.no_log_edit is.ran)
+
+pub risks_told : (events : List Event) (first last : Scene) (r : Result (Vec Answer Global) SessionFault) → RanWhole events first last r → AreAmong last.memory.outside.risks (risks_of first.memory.listed)
+risks_told events first last r ran = let (count, given, is) = some_run events first last r ran in run_among (take count events) first last given is.ran
 
 -- ---- one answer each
 
@@ -135,8 +147,14 @@ take_all [] = refl
 take_all (x ∷ all) = ap (λ l. x ∷ l) (take_all all)
 
 -- all events were run
-pub whole_session : (all : List Event) (first : Moment) (given : List Answer) (last : Moment) → HasRun all (length all) first given last → IsSessionOf all first given last
-whole_session all first given last ran = subst (λ (l : List Event). IsSessionOf l first given last) (take_all all) ran.session
+pub all_run : (all : List Event) (first : Scene) (given : List Answer) (last : Scene) → HasRun all (length all) first given last → WereRun all first given last
+all_run all first given last ran = subst (λ (l : List Event). WereRun l first given last) (take_all all) ran.ran
 
-pub one_each : (all : List Event) (first : Moment) (given : List Answer) (last : Moment) → HasRun all (length all) first given last → length given ≡ count_by gives_answer all
-one_each all first given last ran = let (renewed, same, s) = whole_session all first given last ran in counted all renewed last given s
+pub none_edits_log : (all : List Event) (first : Scene) (given : List Answer) (last : Scene) → HasRun all (length all) first given last → list_any writes_log all ≡ false
+none_edits_log all first given last ran = ap (list_any writes_log) (sym (take_all all)) ∙ ran.no_log_edit
+
+pub whole_session : (all : List Event) (host : MemoryHost) (out : Output) (given : List Answer) (last : Scene) → HasRun all (length all) (scene_of host out) given last → IsSessionOf all (moment_of host out) given (seen last)
+whole_session all host out given last ran = is_session all host out given last (none_edits_log all (scene_of host out) given last ran) (all_run all (scene_of host out) given last ran)
+
+pub one_each : (all : List Event) (first : Moment) (given : List Answer) (last : Moment) → IsSessionOf all first given last → length given ≡ count_by gives_answer all
+one_each all first given last (renewed, same, s) = counted all renewed last given s

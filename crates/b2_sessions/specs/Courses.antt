@@ -13,13 +13,14 @@ use Rattle.b2_memory.specs.Scripts.{risks_of}
 use Rattle.b2_memory.specs.declared.memory.MemoryHost.{MemoryHost}
 use Rattle.b2_runs.specs.Moments.{Moment, Shows}
 use Rattle.b2_runs.specs.SessionLaws.{IsCleanAt}
-use Rattle.b2_runs.specs.Sessions.{Happening, IsTrueAt, HoldsOfPast, PastGrows, Comes, IsSession, IsAskedFor}
+use Rattle.b2_runs.specs.Sessions.{IsTrueAt, HoldsOfPast, PastGrows, IsSession, IsAskedFor}
 use Rattle.b2_words.specs.Words.{Word}
 use Rattle.b2_top.specs.declared.answer.Answer.{Answer}
 use Rattle.b2_top.specs.declared.answer.Answer.TheVariants as answers
 use Rattle.b2_top.specs.Plans.{HasPlan, TellsApart, making_by}
 use Rattle.b2_sessions.specs.Calls.{IsCall, update_of}
 use Rattle.b2_sessions.specs.Events.{happenings, writes_log}
+use Rattle.b2_sessions.specs.Scenes.{Scene, Did, WereRun}
 
 -- the moment of a host in memory and a sink
 abbrev pub moment_of : MemoryHost → Output → Moment
@@ -37,10 +38,10 @@ NoWaitMayFail host = host.risks.wait_may_fail ≡ false
 abbrev pub IsSessionOf : List Event → Moment → List Answer → Moment → Type 0
 IsSessionOf events first answers last = IsSession (IsCall made_of) first (happenings events) answers last
 
--- The first so many events were run: they were a session, with these answers, and none of them writes the log.
-pub record HasRun (events : List Event) (count : ℕ) (first : Moment) (answers : List Answer) (last : Moment) : Type 0 where
+-- The first so many events were run, with these answers, and none of them writes the log.
+pub record HasRun (events : List Event) (count : ℕ) (first : Scene) (answers : List Answer) (last : Scene) : Type 0 where
   pub within : count ≤ length events
-  pub session : IsSessionOf (take count events) first answers last
+  pub ran : WereRun (take count events) first answers last
   pub no_log_edit : list_any writes_log (take count events) ≡ false
 
 -- no child runs, and no wait may fail
@@ -48,14 +49,14 @@ pub record IsReady (host : Outside) : Type 0 where
   pub idle : host.children.running ≡ []
   pub calm : NoWaitMayFail host
 
--- this happened, and gave its answers
-abbrev pub OneMore : Happening (List Word) → Moment → Moment → List Answer → List Answer → Type 0
-OneMore happening before after old new = (here : List Answer) × (new ≡ old ++ here) × Comes (IsCall made_of) happening before here after
+-- the event was run, and its answers were added
+abbrev pub OneMore : Event → Scene → Scene → List Answer → List Answer → Type 0
+OneMore event before after old new = (here : List Answer) × (new ≡ old ++ here) × Did event before here after
 
--- it happened, or nothing did, since no memory was left
-abbrev pub HasHappenedOrNot : {T : Type 0} → Happening (List Word) → Moment → Moment → List Answer → List Answer → Result T OutOfMemory → Type 0
-HasHappenedOrNot happening before after old new (Ok x) = OneMore happening before after old new
-HasHappenedOrNot happening before after old new (Err e) = (after ≡ before) × (new ≡ old)
+-- so it was, or nothing was done, since no memory was left
+abbrev pub HasHappenedOrNot : {T : Type 0} → Event → Scene → Scene → List Answer → List Answer → Result T OutOfMemory → Type 0
+HasHappenedOrNot event before after old new (Ok x) = OneMore event before after old new
+HasHappenedOrNot event before after old new (Err e) = (after ≡ before) × (new ≡ old)
 
 -- ---- what follows of a session
 

@@ -1,4 +1,5 @@
 pub mod Calls
 pub mod Events
+pub mod Scenes
 pub mod Courses
 pub mod Results

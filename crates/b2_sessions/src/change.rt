@@ -1,13 +1,10 @@
 //! What an event of each kind does to a host in memory.
-ghost use Rattle.std.specs.Prelude.{◌≡◌, ◌<◌, [], None, OnOk, OnErr, vec_len, vec_capacity};
-ghost use Rattle.b2_host.specs.FileCalls.{log_path};
-ghost use Rattle.b2_host.specs.Output.{Output};
-ghost use Rattle.b2_memory.specs.Hosts.{told_outside};
-ghost use Rattle.b2_memory.specs.Results.{made_of};
-ghost use Rattle.b2_runs.specs.Sessions.Happening.{update as by_update, stop as by_stop};
-ghost use Rattle.b2_runs.specs.Sessions.{IsEdit, IsStop};
-ghost use Rattle.b2_sessions.specs.Calls.{IsCall};
-ghost use Rattle.b2_sessions.specs.Courses.{moment_of, IsReady, OneMore};
+ghost use Rattle.std.specs.Prelude.{◌≡◌, ◌<◌, OnOk, OnErr, vec_len, vec_capacity};
+ghost use Rattle.b2_drill.specs.declared.event.Event.TheVariants.{Update as by_update, Stop as by_stop};
+ghost use Rattle.b2_memory.specs.Hosts.{told_outside, memory_of};
+ghost use Rattle.b2_memory.specs.Memories.{with_edit};
+ghost use Rattle.b2_sessions.specs.Courses.{IsReady, OneMore};
+ghost use Rattle.b2_sessions.specs.Scenes.{scene_of, IsStopped};
 
 use crate::call::call;
 use b2_base::fault::OutOfMemory;
@@ -21,11 +18,9 @@ use std::alloc::Global;
 
 /// Writes these bytes to a file, or deletes it where there are none. Where no memory is left nothing changes.
 pub fn edit(path: &Path, bytes: &Option<List<u8>>, host: &mut MemoryHost) -> Result<(), OutOfMemory>
-    requires ready { IsReady (told_outside host.old) }
-    requires not_log { path.now ≡ log_path → bytes.now ≡ None }
-    ensures ok { OnOk result ((out : Output)
-        → IsEdit path.now bytes.now (moment_of host.old out) (moment_of host.new out)) }
-    ensures err { OnErr result (told_outside host.new ≡ told_outside host.old) }
+    requires { IsReady (told_outside host.old) }
+    ensures ok { OnOk result (memory_of host.new ≡ with_edit path.now bytes.now (memory_of host.old)) }
+    ensures err { OnErr result (memory_of host.new ≡ memory_of host.old) }
     ensures ready { IsReady (told_outside host.new) }
 {
     match bytes {
@@ -44,8 +39,8 @@ pub fn update<S: Sink>(
 )
     requires ready { IsReady (told_outside host.old) }
     requires room { vec_len answers.old < vec_capacity answers.old }
-    ensures more { OneMore (by_update words.now) (moment_of host.old (S.output out.old))
-        (moment_of host.new (S.output out.new)) answers.old.items answers.new.items }
+    ensures more { OneMore (by_update words.now) (scene_of host.old (S.output out.old))
+        (scene_of host.new (S.output out.new)) answers.old.items answers.new.items }
     ensures ready { IsReady (told_outside host.new) }
 {
     let answer = call(alloc, words, host, out);
@@ -62,8 +57,8 @@ fn stopped<S: Sink>(
     out: &mut S,
 ) -> Answer
     requires { IsReady (told_outside host.old) }
-    ensures is_stop { IsStop (IsCall made_of) words.now result (moment_of host.old (S.output out.old))
-        (moment_of host.new (S.output out.new)) }
+    ensures stopped { IsStopped words.now limits.0 limits.1 result (scene_of host.old (S.output out.old))
+        (scene_of host.new (S.output out.new)) }
     ensures ready { IsReady (told_outside host.new) }
 {
     let (calls, tear) = limits;
@@ -85,8 +80,8 @@ pub fn stop<S: Sink>(
 )
     requires ready { IsReady (told_outside host.old) }
     requires room { vec_len answers.old < vec_capacity answers.old }
-    ensures more { OneMore (by_stop words.now) (moment_of host.old (S.output out.old))
-        (moment_of host.new (S.output out.new)) answers.old.items answers.new.items }
+    ensures more { OneMore (by_stop words.now limits.0 limits.1) (scene_of host.old (S.output out.old))
+        (scene_of host.new (S.output out.new)) answers.old.items answers.new.items }
     ensures ready { IsReady (told_outside host.new) }
 {
     let answer = stopped(alloc, words, limits, host, out);

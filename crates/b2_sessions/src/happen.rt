@@ -1,8 +1,9 @@
 //! One event of a session.
-ghost use Rattle.std.specs.Prelude.{◌≡◌, false};
+ghost use Rattle.std.specs.Prelude.{◌≡◌};
 ghost use Rattle.b2_memory.specs.Hosts.{told_outside};
-ghost use Rattle.b2_sessions.specs.Courses.{moment_of, IsReady, HasHappenedOrNot};
-ghost use Rattle.b2_sessions.specs.Events.{happening_of, writes_log};
+ghost use Rattle.b2_sessions.specs.Courses.{IsReady, HasHappenedOrNot};
+ghost use Rattle.b2_sessions.specs.Events.{writes_log};
+ghost use Rattle.b2_sessions.specs.Scenes.{scene_of};
 
 use crate::change::{edit, stop, update};
 use b2_base::fault::OutOfMemory;
@@ -27,7 +28,7 @@ pub fn writes_log(event: &Event) -> bool
     }
 }
 
-/// Runs an event that does not write the log, and adds the answer that it gives. The room for an answer is taken first:
+/// Runs an event, and adds the answer that it gives. The room for an answer is taken first:
 /// where no memory is left nothing changes.
 pub fn run_event<S: Sink>(
     alloc: Global,
@@ -36,10 +37,9 @@ pub fn run_event<S: Sink>(
     out: &mut S,
     answers: &mut Vec<Answer>,
 ) -> Result<(), OutOfMemory>
-    requires ready { IsReady (told_outside host.old) }
-    requires not_log { writes_log event.now ≡ false }
-    ensures happened { HasHappenedOrNot (happening_of event.now) (moment_of host.old (S.output out.old))
-        (moment_of host.new (S.output out.new)) answers.old.items answers.new.items result }
+    requires { IsReady (told_outside host.old) }
+    ensures happened { HasHappenedOrNot event.now (scene_of host.old (S.output out.old))
+        (scene_of host.new (S.output out.new)) answers.old.items answers.new.items result }
     ensures ready { IsReady (told_outside host.new) }
 {
     answers.reserve(1)?;

@@ -1,10 +1,12 @@
 //! A session: events, one after another.
 ghost use Rattle.std.specs.Prelude.{◌≡◌, [], false, length, IfOk, IfErr, OnOk};
 ghost use Rattle.std.specs.List.{count_by, list_any};
-ghost use Rattle.b2_memory.specs.Hosts.{told_outside};
+ghost use Rattle.b2_memory.specs.Hosts.{told_outside, memory_of};
+ghost use Rattle.b2_memory.specs.Scripts.{AreAmong, risks_of};
 ghost use Rattle.b2_sessions.specs.Courses.{moment_of, NoWaitIsToFail, IsReady, IsSessionOf, HasPassed, TrueLogStays, EndsClean};
 ghost use Rattle.b2_sessions.specs.Events.{writes_log, gives_answer};
 ghost use Rattle.b2_sessions.specs.Results.{StopsBy, Ran, RanWhole};
+ghost use Rattle.b2_sessions.specs.Scenes.{scene_of, WereRun};
 
 use crate::fault::SessionFault;
 use crate::happen::{run_event, writes_log};
@@ -25,8 +27,8 @@ fn run_all<S: Sink>(
     requires idle { (told_outside host.old).children.running ≡ [] }
     requires calm { NoWaitIsToFail host.old }
     requires no_answers { answers.old.items ≡ [] }
-    ensures ran { Ran events.now (moment_of host.old (S.output out.old)) answers.new.items
-        (moment_of host.new (S.output out.new)) result }
+    ensures ran { Ran events.now (scene_of host.old (S.output out.old)) answers.new.items
+        (scene_of host.new (S.output out.new)) result }
     ensures ready { IsReady (told_outside host.new) }
 {
     host.renew_risks();
@@ -48,8 +50,8 @@ fn session<S: Sink>(
 ) -> Result<Vec<Answer>, SessionFault>
     requires idle { (told_outside host.old).children.running ≡ [] }
     requires calm { NoWaitIsToFail host.old }
-    ensures ran { RanWhole events.now (moment_of host.old (S.output out.old))
-        (moment_of host.new (S.output out.new)) result }
+    ensures ran { RanWhole events.now (scene_of host.old (S.output out.old))
+        (scene_of host.new (S.output out.new)) result }
     ensures ready { IsReady (told_outside host.new) }
 {
     let mut answers = Vec::new(alloc);
@@ -70,18 +72,24 @@ pub fn run_session<S: Sink>(
     // A wait that was listed to fail and has failed is not listed any more.
     requires calm { NoWaitIsToFail host.old }
 
-    // The whole list of events was a session, with the answers in order, and no edit in it writes the log.
+    // All events were run one after another, with the answers in order, and no edit in them writes the log. This says exactly
+    // what an edit did to the host, and what a stop told it before its call and did after it.
+    ensures ran { IfOk result (λ answers. WereRun events.now (scene_of host.old (S.output out.old)) answers.items
+        (scene_of host.new (S.output out.new))) }
+    // So they were a session, as it is defined for any host.
     ensures session { IfOk result (λ answers. IsSessionOf events.now (moment_of host.old (S.output out.old)) answers.items
         (moment_of host.new (S.output out.new))) }
     ensures one_each { IfOk result (λ answers. length answers.items ≡ count_by gives_answer events.now) }
     ensures no_log_edit { OnOk result (list_any writes_log events.now ≡ false) }
-    // An edit that writes the log is not run, and the events before it were a session. Where the session itself is out of
-    // memory, some first events were one.
-    ensures stopped { IfErr result (StopsBy events.now (moment_of host.old (S.output out.old))
-        (moment_of host.new (S.output out.new))) }
+    // An edit that writes the log is not run, and the events before it were. Where the session itself is out of memory, some
+    // first events were.
+    ensures stopped { IfErr result (StopsBy events.now (scene_of host.old (S.output out.old))
+        (scene_of host.new (S.output out.new))) }
     // Whatever the result, another session may follow.
     ensures idle { (told_outside host.new).children.running ≡ [] }
     ensures calm { NoWaitIsToFail host.new }
+    // No more may go wrong than what was listed at the beginning.
+    ensures risks { AreAmong (told_outside host.new).risks (risks_of (memory_of host.old).listed) }
     ensures passed { HasPassed (moment_of host.old (S.output out.old)) (moment_of host.new (S.output out.new)) }
     // A true log stays true, whatever the result, where digests tell contents apart that an event judges by.
     ensures true_log { TrueLogStays events.now (moment_of host.old (S.output out.old))
