@@ -8,13 +8,18 @@ use Rattle.b2_drill.specs.declared.event.Event.{Event}
 use Rattle.b2_drill.specs.Drills.{project_edit, first_edit, first_edits, update, rounds, drill_events}
 use Rattle.b2_host.specs.Outside.{Outside}
 use Rattle.b2_host.specs.Output.{Output}
+use Rattle.b2_memory.specs.Hosts.{told_outside}
+use Rattle.b2_memory.specs.Memories.{Memory, new_memory}
+use Rattle.b2_memory.specs.Scripts.{risks_of, AreAmong}
 use Rattle.b2_memory.specs.Sinks.{new_output}
-use Rattle.b2_runs.specs.Moments.{Moment}
-use Rattle.b2_sessions.specs.Courses.{IsSessionOf}
+use Rattle.b2_memory.specs.declared.memory.MemoryHost.{MemoryHost}
+use Rattle.b2_sessions.specs.Courses.{HasRun, IsSessionOf}
 use Rattle.b2_sessions.specs.Events.{gives_answer}
 use Rattle.b2_sessions.specs.Results.{StopsBy}
+use Rattle.b2_sessions.specs.Scenes.{scene_of}
 use Rattle.b2_sessions.specs.declared.fault.SessionFault.{SessionFault}
 use Rattle.b2_sessions.specs.declared.fault.SessionFault.TheVariants as faults
+use Rattle.b2_sessions.proofs.RunsAreSessions.{is_session}
 use Rattle.b2_top.specs.declared.answer.Answer.{Answer}
 use Rattle.b2_top.specs.declared.answer.Answer.TheVariants as answers
 use Rattle.b2_drill_call.specs.Drilled.{begun, RunsOver, HasAnswered, IsDrilled, is_well, GoesWell}
@@ -66,13 +71,29 @@ answered_well n before after given answered none_failed may =
 
 -- ---- a session that stopped
 
-pub stopped_well : (n : ℕ) (list : List Event) (before after : Outside) (first last : Output) (fault : SessionFault) → list ≡ drill_events n → first ≡ new_output
-    → StopsBy list (record { host = before; out = first }) (record { host = after; out = last }) fault → before.faults ≡ 0 → after.risks.may_fail ≡ false → GoesWell n before after
-stopped_well n list before after first last (faults.LogEdit index) same new stops none_failed may =
-    goes_well n index before after stops.answers (respelled (take index list) (take index (drill_events n)) before after stops.answers first last (ap (take index) same) new stops.ran.session) none_failed may
-stopped_well n list before after first last faults.OutOfMemory same new stops none_failed may =
-    goes_well n stops.count before after stops.answers
-    (respelled (take stops.count list) (take stops.count (drill_events n)) before after stops.answers first last (ap (take stops.count) same) new stops.ran.session) none_failed may
+-- so many events of a session over the drill
+some_went_well : (n count : ℕ) (list : List Event) (before after : MemoryHost) (given : List Answer) (first last : Output) → list ≡ drill_events n → first ≡ new_output
+    → HasRun list count (scene_of before first) given (scene_of after last) → (told_outside before).faults ≡ 0 → (told_outside after).risks.may_fail ≡ false → GoesWell n (told_outside before) (told_outside after)
+some_went_well n count list before after given first last same new ran none_failed may =
+    goes_well n count (told_outside before) (told_outside after) given
+    (respelled (take count list) (take count (drill_events n)) (told_outside before) (told_outside after) given first last (ap (take count) same) new
+    (is_session (take count list) before first given (scene_of after last) ran.no_log_edit ran.ran))
+    none_failed may
+
+pub stopped_well : (n : ℕ) (list : List Event) (before after : MemoryHost) (first last : Output) (fault : SessionFault) → list ≡ drill_events n → first ≡ new_output
+    → StopsBy list (scene_of before first) (scene_of after last) fault → (told_outside before).faults ≡ 0 → (told_outside after).risks.may_fail ≡ false → GoesWell n (told_outside before) (told_outside after)
+stopped_well n list before after first last (faults.LogEdit index) same new stops none_failed may = some_went_well n index list before after stops.answers first last same new stops.ran none_failed may
+stopped_well n list before after first last faults.OutOfMemory same new stops none_failed may = some_went_well n stops.count list before after stops.answers first last same new stops.ran none_failed may
+
+-- ---- what may go wrong
+
+-- no call of the host may fail, where nothing was listed at the beginning
+pub none_may_fail : (before after : Memory) → before ≡ new_memory → AreAmong after.outside.risks (risks_of before.listed) → after.outside.risks.may_fail ≡ false
+none_may_fail before after new among = go after.outside.risks.may_fail refl
+  where
+    go : (b : Bool) → after.outside.risks.may_fail ≡ b → b ≡ false
+    go true is = absurd (true≢false (sym (among.fail is) ∙ ap (λ (m : Memory). (risks_of m.listed).may_fail) new))
+    go false is = refl
 
 -- ---- answers with the status 0
 

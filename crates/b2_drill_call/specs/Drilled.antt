@@ -1,5 +1,5 @@
 -- What a drill comes to.
-use Rattle.std.specs.Prelude.{◌≡◌, ℕ, ◌==◌, Bool, false, List, ◌++◌, take, length, Some, None, ⊤, codes}
+use Rattle.std.specs.Prelude.{◌≡◌, ℕ, ◌==◌, Bool, List, ◌++◌, take, length, Some, None, ⊤, codes}
 use Rattle.std.specs.List.{AllByRecursion, count_by}
 use Rattle.std.specs.Fmt.{decimal}
 use Rattle.b2_drill.specs.declared.event.Event.{Event}
@@ -59,10 +59,6 @@ pub record GoesWell (n : ℕ) (before after : Outside) : Type 0 where
   pub given : List Answer
   pub session : RunsOver (take count (drill_events n)) before given after
   pub no_faults : AllByRecursion IsNoFault given
-
--- so it is where no call of the host may fail afterwards, as was so at entry
-abbrev pub WentWell : ℕ → Outside → Outside → Type 0
-WentWell n before after = after.risks.may_fail ≡ false → GoesWell n before after
 
 -- ---- the answer
 

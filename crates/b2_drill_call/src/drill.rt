@@ -7,7 +7,7 @@ ghost use Rattle.b2_memory.specs.Memories.{new_memory};
 ghost use Rattle.b2_update.specs.Moments.{moment};
 ghost use Rattle.b2_top.specs.Endings.{IsUsageOrCutShort};
 ghost use Rattle.b2_drill_call.specs.Asked.{drill_of};
-ghost use Rattle.b2_drill_call.specs.Drilled.{AnswersDrill, WentWell, HasDrilled};
+ghost use Rattle.b2_drill_call.specs.Drilled.{AnswersDrill, GoesWell, HasDrilled};
 
 use crate::asked::drill_of;
 use crate::session::run_well;
@@ -25,7 +25,7 @@ fn drill<S: Sink>(alloc: Global, n: u32, host: &mut MemoryHost, out: &mut S) -> 
     requires some { 0 < n }
     requires new { memory_of host.old ≡ new_memory }
     ensures ends { HasDrilled n (moment (told_outside host.old) (S.output out.old)) (moment (told_outside host.new) (S.output out.new)) result }
-    ensures gone { WentWell n (told_outside host.old) (told_outside host.new) }
+    ensures gone { GoesWell n (told_outside host.old) (told_outside host.new) }
     ensures out_keeps { OutKeeps (S.output out.old) (S.output out.new) }
 {
     match run_well(alloc, n, host) {
@@ -54,9 +54,8 @@ pub fn run_drill<S: Sink>(
     // Words that ask for no drill get the usage line, unless the sink fails or memory runs out, and the host stays.
     ensures usage { drill_of words.now ≡ None → IsUsageOrCutShort result }
     ensures alone { drill_of words.now ≡ None → told_outside host.new ≡ told_outside host.old }
-    // Whatever the answer, what was run is the beginning of the drill, and no update in it answered Usage or with a fault,
-    // unless a call of the host may fail afterwards.
-    ensures gone { IfSome (drill_of words.now) (λ n. WentWell n (told_outside host.old) (told_outside host.new)) }
+    // Whatever the answer, what was run is the beginning of the drill, and no update in it answered Usage or with a fault.
+    ensures gone { IfSome (drill_of words.now) (λ n. GoesWell n (told_outside host.old) (told_outside host.new)) }
     ensures out_keeps { OutKeeps (S.output out.old) (S.output out.new) }
 {
     match drill_of(alloc, words) {
