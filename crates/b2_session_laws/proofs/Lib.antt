@@ -1,0 +1,3 @@
+pub mod NeighboursAreFound
+pub mod NothingStartsAgain
+pub mod StopsKeepRecords
