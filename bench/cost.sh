@@ -1,7 +1,9 @@
 #!/bin/sh
-# Prints what an update with nothing to do costs apart from the system: instructions a step, those of reading the log a byte of it,
-# and bytes of memory a file. Plans of several sizes are updated over a host in memory: steps of 3 and of 30 inputs, one step of
-# 20,000 inputs, and a chain of 20,000 steps.
+# Prints what an update with nothing to do costs apart from the system: the instructions for each step, those of the host in memory and
+# of reading the log not counted but told beside it, and the bytes of memory for each source: cost.sh [MOST]
+#
+# Plans of several sizes are updated over the host in memory: steps of 3 and of 30 inputs, one step of 20,000 inputs, a chain of 20,000
+# steps. Those of more than MOST steps are left out.
 #
 # It first builds crates/b2_cost, or runs the program that COST names. It needs valgrind, and takes about half an hour.
 set -eu
@@ -13,4 +15,4 @@ if [ -z "$program" ]; then
     program=$top/crates/b2_cost/out/b2_cost
 fi
 [ -x "$program" ] || { echo "b2_cost is not proved or not built" >&2; exit 1; }
-exec python3 "$top/bench/costs.py" "$program"
+exec python3 "$top/bench/costs.py" "$program" "$@"

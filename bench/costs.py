@@ -13,7 +13,9 @@ SIZES = [(2000, 3, 6000), (10000, 3, 30000), (50000, 3, 150000), (2000, 30, 6000
          (1, 20000, 20000), (20000, 0, 0, "chain")]
 # Two projects that differ in how many sources there are, and in nothing else.
 FEW, MANY = (50000, 3, 30000), (50000, 3, 150000)
-OPENS_LOG = "b2_journal::journal::Journal::open"
+READS_LOG = "b2_log::log::read_log"
+# What a system does where there is one.
+HOST = "b2_memory::memory::MemoryHostFiles::"
 
 
 def words_of(size, updates):
@@ -35,26 +37,27 @@ def under(tool, options, command, file):
 
 
 def instructions(program, size, updates):
-    """The instructions of a run, and those of opening the log; and how many bytes the log has."""
+    """The instructions of a run: all, those that read the log, those of the host; and how many bytes the log has."""
     with tempfile.NamedTemporaryFile() as file:
         printed = under("callgrind", [], [program] + words_of(size, updates), file.name)
         told = subprocess.run(["callgrind_annotate", "--inclusive=yes", "--threshold=100", file.name], check=True,
                               stdout=subprocess.PIPE).stdout.decode()
     counts = [(int(count.replace(",", "")), name) for count, name in re.findall(r"^ *([\d,]+) \(.*?\) +(\S.*)$", told, re.M)]
     total = sum(count for count, name in counts if name == "PROGRAM TOTALS")
-    opening = sum(count for count, name in counts if OPENS_LOG in name)
-    return total, opening, int(printed.split()[-1])
+    reading = sum(count for count, name in counts if READS_LOG in name)
+    host = sum(count for count, name in counts if HOST in name)
+    return total, reading, host, int(printed.split()[-1])
 
 
 def tell_instructions(program, size):
     """Prints what an update with nothing to do takes."""
-    first, opened_once, _ = instructions(program, size, 1)
-    second, opened_twice, log = instructions(program, size, 2)
-    opening = opened_twice - opened_once
-    each, of_byte = (second - first - opening) / size[0], opening / log
-    files = size[0] * (size[1] + len(size[3:]))
-    print(f"{label(size)}: {each:,.0f} instructions a step, {each * size[0] / files:,.0f} an input, and {of_byte:.1f} a byte of the log of "
-          f"{log:,} bytes", flush=True)
+    one, two = instructions(program, size, 1), instructions(program, size, 2)
+    total, reading, host, _ = (after - before for before, after in zip(one, two))
+    if not reading or not host:
+        sys.exit(f"the program has no function {READS_LOG}, or none of {HOST}")
+    beside, log = total - reading - host, two[3]
+    print(f"{label(size)}: {beside / size[0]:,.0f} instructions a step, {host / size[0]:,.0f} more in the host, and "
+          f"{reading / log:.1f} for each of {log:,} bytes of the log", flush=True)
 
 
 def turns(values, least):
