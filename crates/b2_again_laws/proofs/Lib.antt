@@ -1,0 +1,2 @@
+mod NextIsOfOnePlan
+mod NothingIsRepeated

@@ -1,0 +1,8 @@
+mod JamrootIsSeen
+mod RootsStayInWalks
+mod WalksBySources
+mod AnswersBySources
+mod MeaningBySources
+pub mod NextPlanIsTheSame
+pub mod SourcesStay
+mod NextFindsFresh

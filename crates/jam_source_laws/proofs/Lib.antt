@@ -1,0 +1,5 @@
+pub mod EvaluationBySources
+pub mod FilesOutsideRoots
+pub mod NativesBySources
+pub mod RightSettingsShowSame
+pub mod RootsStay
