@@ -9,8 +9,8 @@
 # to do.
 #
 # It runs the program ./b2 that setup.sh leaves, or the one that B2 names. What it is compared with is left out where it is not there:
-# ninja, make, and the b2 of Boost.Build, which is /usr/bin/b2, where Debian's packages put it, or the one that BOOST_B2 names. It takes
-# some minutes; nothing else should run then.
+# ninja, make, and the b2 of Boost.Build, which is /usr/bin/b2, where Debian's packages put it, or the one that BOOST_B2 names; that one
+# ends with status 1 where a project is too large for it, as 10,000 steps are. It takes ten minutes; nothing else should run then.
 set -eu
 . "$(dirname "$0")/program.sh"
 program=$(realpath "$program")
@@ -50,12 +50,10 @@ remade() {
 # counted FOLDER COMMAND ..: how many instructions a program takes, in millions; it is given 10 minutes
 counted() {
     tool=$1; shift
-    count=$(cd "$tool" && timeout 600 valgrind --tool=callgrind --callgrind-out-file=/dev/null "$@" 2>&1 >/dev/null </dev/null |
-        sed -n 's/.*Collected : *\([0-9]*\).*/\1/p')
-    if [ -n "$count" ]; then
-        printf ' %s %s' "$tool" "$(awk -v n="$count" 'BEGIN { printf "%.1f", n / 1000000 }')"
+    if (cd "$tool" && timeout 600 valgrind --tool=callgrind --callgrind-out-file=/dev/null "$@" >/dev/null 2>"$work/counts" </dev/null); then
+        printf ' %s %s' "$tool" "$(awk '/Collected :/ { printf "%.1f", $NF / 1000000 }' "$work/counts")"
     else
-        printf ' %s unknown' "$tool"
+        printf ' %s failed' "$tool"
     fi
 }
 
