@@ -5,7 +5,7 @@
 # Plans of several sizes are updated over the host in memory: steps of 3 and of 30 inputs, one step of 20,000 inputs, a chain of 20,000
 # steps. Those of more than MOST steps are left out.
 #
-# It first builds crates/b2_cost, or runs the program that COST names. It needs valgrind, and takes about half an hour.
+# It first builds crates/b2_cost, or runs the program that COST names. It needs valgrind, and takes about ten minutes.
 set -eu
 top=$(cd "$(dirname "$0")/.." && pwd)
 command -v valgrind >/dev/null || { echo "valgrind is not there" >&2; exit 1; }

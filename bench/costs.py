@@ -27,7 +27,8 @@ def words_of(size, updates):
 def label(size):
     """What a project is."""
     steps, inputs, sources, *chain = size
-    return f"a chain of {steps:,} steps" if chain else f"{steps:,} steps of {inputs:,} inputs from {sources:,} sources"
+    named = "1 step" if steps == 1 else f"{steps:,} steps"
+    return f"a chain of {named}" if chain else f"{named} of {inputs:,} inputs from {sources:,} sources"
 
 
 def under(tool, options, command, file):
