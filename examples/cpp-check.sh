@@ -236,3 +236,27 @@ for number in 1 2 3 4 5 6 7 8; do
     passes "b2 was stopped at compilation $number" sh -c '! grep -q "^updated " "$1"' stop "$work/printed"
     mends whole -j4 release
 done
+
+# ---- a program of a shared library, which is started in another folder (docs/MANUAL.md, 'Shared libraries')
+
+rm -rf "$work/shared" && mkdir "$work/shared" && cd "$work/shared"
+cat > u.cpp <<'E1'
+int u() { return 7; }
+E1
+cat > hello.cpp <<'E1'
+#include <cstdio>
+int u();
+int main() { std::printf("%d\n", u()); }
+E1
+
+printf '%s\n' 'using gcc ;' 'lib u : u.cpp ;' 'exe hello : hello.cpp u ;' > Jamroot
+passes "build of a shared library" "$B2"
+passes "start in the folder of Jamroot" [ "$(bin/gcc/debug/hello)" = 7 ]
+passes "no start elsewhere" sh -c '! (cd / && LD_LIBRARY_PATH=$1 "$1/hello") 2> /dev/null' start "$work/shared/bin/gcc/debug"
+cat > Jamroot <<'E1'
+using gcc ;
+lib u : u.cpp : <linkflags>-Wl,-soname,libu.so ;
+exe hello : hello.cpp u : <linkflags>'-Wl,-rpath,$ORIGIN' ;
+E1
+passes "build with a soname and a search path" "$B2"
+passes "start elsewhere" [ "$(cd / && "$work/shared/bin/gcc/debug/hello")" = 7 ]
