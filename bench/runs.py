@@ -1,4 +1,4 @@
-"""Read by kills.py and edits.py: finds the program, which is ./b2 that setup.sh leaves or the one that B2 names, runs it, reads what it
+"""Read by kills.py, edits.py and memory.py: finds the program, which is ./b2 that setup.sh leaves or the one that B2 names, runs it, reads what it
 prints, and tells what stands in a folder."""
 import hashlib
 import os
