@@ -1,4 +1,5 @@
-//! Two calls of a session, one after the other, of which the second one asks for the same again.
+//! Two calls of a session, one after the other, of which the second one asks for the same again. What it starts is said where
+//! the log between them is within its limit.
 ghost use Rattle.b2_again_laws.specs.Laws.{NextAtOnceIsOfOnePlan, NextAfterStopIsOfOnePlan, AgainStartsNone, AgainRepeatsNone, AfterStopRepeatsNone};
 
 use b2_front::laws::one_meaning;

@@ -20,8 +20,9 @@ use Rattle.b2_top.specs.declared.answer.Answer.TheVariants as answers
 use Rattle.b2_top.specs.Plans.{TellsApart, making_by}
 use Rattle.b2_sessions.specs.Calls.{update_of, HasCome, IsCall}
 
--- Two calls: one between these two moments, and one between those, before which the files are as the first one left them, or as
--- they are once the host was opened again. The log was true before them, and digests tell contents apart after them.
+-- Two calls: one between these two moments, and one between those. What comes between the calls is said apart: nothing
+-- (`IsNextAtOnce`), or the host was opened again (`IsNextAfterStop`). The log was true before them, and digests tell contents
+-- apart after them.
 pub record AreNeighbours (made : Made) (words again : List Word) : Type 0 where
   pub before : Moment
   pub between : Moment

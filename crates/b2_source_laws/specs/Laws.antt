@@ -1,10 +1,10 @@
 -- Laws of loads and plans over files that differ under the output roots alone.
 use Rattle.std.specs.Prelude.{◌≡◌, ℕ, List, Option, Ok}
-use Rattle.b2_host.specs.Disks.{Folder, Disk, IsConsistent, bytes_at}
+use Rattle.b2_host.specs.Disks.{Folder, Disk, IsConsistent}
 use Rattle.b2_metatargets.specs.declared.whole.Declared.{Declared}
-use Rattle.b2_plan.specs.Sources.{IsInRoots}
 use Rattle.b2_generate.specs.Planning.{Planned}
 use Rattle.b2_front.specs.Meaning.{Means}
+use Rattle.b2_source_laws.specs.NextPlans.{SourcesStay}
 use Rattle.jam_journal.specs.Tables.{Text}
 use Rattle.jam_eval.specs.Settings.{Reading, Setting}
 use Rattle.jam_natives.specs.Keeping.{Kept}
@@ -24,5 +24,5 @@ LoadsBySources =
 abbrev pub MeansBySources : Type 0
 MeansBySources =
     (disk other : Disk) (refused : Option (ℕ × Text)) (words lines : List Text) (plan : Planned) → IsConsistent disk → IsConsistent other
-    → ((path : Text) → (IsInRoots plan.roots path → ⊥) → bytes_at other.now path ≡ bytes_at disk.now path)
+    → SourcesStay plan.roots disk.now other.now
     → Means disk refused words lines (Ok plan) → Means other refused words lines (Ok plan)

@@ -1,7 +1,7 @@
 //! Laws of loads and plans, each the contract of a function that does nothing.
 ghost use Rattle.b2_source_laws.specs.Laws.{LoadsBySources, MeansBySources};
 
-/// A load comes to the same over other files that differ under its output roots alone.
+/// A load that ends well ends so over other files that differ under its output roots alone.
 pub fn loads_by_sources()
     ensures { LoadsBySources }
 {}

@@ -46,7 +46,7 @@ module _ {R : Type 0} (roots : List Text) where
   Agree s one two = EndsIn one → HasRoots s × (one ≡ two)
 
   -- Two settings show the same: each file that is not hidden reads the same; natives that end with these roots began with them, and
-  -- answer the same.
+  -- answer the same. What is told of a recorded call sees no files, so of it only the first half is asked.
   pub record ShowSame (one two : Setting R) : Type 0 where
     pub reads : (path : Text) → is_hidden roots path ≡ false → one.reading path ≡ two.reading path
     pub native : (name : Text) (given : List Value) (line : ℕ) (s : State R) → EndsInTold s (native_answer one name given line s)
