@@ -78,7 +78,11 @@ module _ (generators : List Generator) (layers : List (List ℕ)) (start : List 
     walk_more walked = record {
       fits = more walked.fits (length_push made place);
       first = λ rest is. subst (λ (xs : List ℕ). IsFirst (Descends generators layers start) count xs) (sym (joined made place rest)) (walked.first (place ∷ rest) (first_more (Descends generators layers types) (Descends generators layers (targets_at generators place)) depth place (goes_on generators layers types depth place passes) rest least is));
-      two = λ one two are. subst (λ (xs : List ℕ). AreFirst (Descends generators layers start) count xs ((made ++ place ∷ []) ++ two)) (sym (joined made place one)) (subst (λ (xs : List ℕ). AreFirst (Descends generators layers start) count (made ++ place ∷ one) xs) (sym (joined made place two)) (walked.two (place ∷ one) (place ∷ two) (both_more (Descends generators layers types) (Descends generators layers (targets_at generators place)) depth place (goes_on generators layers types depth place passes) one two least are)));
+      two = λ one two are. subst (λ (xs : List ℕ). AreFirst (Descends generators layers start) count xs ((made ++
+          place ∷ []) ++ two)) (sym (joined made place one)) (subst (λ (xs : List ℕ). AreFirst (Descends generators
+          layers start) count (made ++ place ∷ one) xs) (sym (joined made place two)) (walked.two (place ∷ one) (place
+          ∷ two) (both_more (Descends generators layers types) (Descends generators layers (targets_at generators
+          place)) depth place (goes_on generators layers types depth place passes) one two least are)));
     }
       where
         more : suc depth + length made ≡ count → length (made ++ place ∷ []) ≡ length made + 1 → depth + length (made ++ place ∷ []) ≡ count

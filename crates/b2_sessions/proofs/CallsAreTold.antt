@@ -24,9 +24,8 @@ use Rattle.b2_top.specs.Answered.{IsAnswered}
 use Rattle.b2_top.specs.Builds.{MayAnswer, HasBuilt, RefusedBy, HappenedBy}
 use Rattle.b2_top.specs.Plans.{TellsApart, making_by}
 use Rattle.b2_top.specs.Told.{StaysStill}
-use Rattle.b2_top.proofs.JobsAreFromOne.{some_job}
+use Rattle.b2_top.proofs.JobsAreFromOne.{some_job, few_jobs}
 use Rattle.b2_sessions.specs.Calls.{HasCome, HasDone, IsCall}
-use Rattle.b2_sessions.proofs.JobsAreWithinLimits.{few_jobs}
 
 -- what follows of a log at entry, for each way to end
 log_map : (now : Folder) (P Q : List LogLine → Type 0) (ended : UpdateAnswer) → ((log : List LogLine) → P log → Q log) → WithLog now P ended → WithLog now Q ended

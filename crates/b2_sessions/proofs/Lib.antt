@@ -1,4 +1,3 @@
-pub mod JobsAreWithinLimits
 pub mod CallsAreTold
 pub mod ChildrenEndInOrder
 pub mod HostsReopen

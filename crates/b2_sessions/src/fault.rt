@@ -1,4 +1,4 @@
-//! Why a session came to no end.
+//! The faults of a session.
 ghost use Rattle.std.specs.Prelude.{◌≡◌};
 
 use b2_base::fault::OutOfMemory;

@@ -94,7 +94,13 @@ both true b = b
 both false b = false
 
 abbrev pub every_mark : (Mark → Bool) → Bool
-every_mark f = both (f m.Plain) (both (f m.Query) (both (f m.Star) (both (f m.Plus) (both (f m.Body) (both (f m.Semicolon) (both (f m.Colon) (both (f m.BraceOpen) (both (f m.BraceClose) (both (f m.SquareOpen) (both (f m.SquareClose) (both (f m.ParenOpen) (both (f m.ParenClose) (both (f m.Equals) (both (f m.PlusEquals) (both (f m.QueryEquals) (both (f m.NotEquals) (both (f m.Not) (both (f m.And) (both (f m.Or) (both (f m.Actions) (both (f m.Case) (both (f m.Else) (both (f m.For) (both (f m.If) (both (f m.In) (both (f m.Include) (both (f m.Local) (both (f m.Module) (both (f m.On) (both (f m.Return) (both (f m.Rule) (both (f m.Switch) (both (f m.While) (f m.Unknown))))))))))))))))))))))))))))))))))
+every_mark f = both (f m.Plain) (both (f m.Query) (both (f m.Star) (both (f m.Plus) (both (f m.Body) (both (f
+    m.Semicolon) (both (f m.Colon) (both (f m.BraceOpen) (both (f m.BraceClose) (both (f m.SquareOpen) (both (f
+    m.SquareClose) (both (f m.ParenOpen) (both (f m.ParenClose) (both (f m.Equals) (both (f m.PlusEquals) (both (f
+    m.QueryEquals) (both (f m.NotEquals) (both (f m.Not) (both (f m.And) (both (f m.Or) (both (f m.Actions) (both (f
+    m.Case) (both (f m.Else) (both (f m.For) (both (f m.If) (both (f m.In) (both (f m.Include) (both (f m.Local) (both
+    (f m.Module) (both (f m.On) (both (f m.Return) (both (f m.Rule) (both (f m.Switch) (both (f m.While) (f
+    m.Unknown))))))))))))))))))))))))))))))))))
 
 pub first_true : (a b : Bool) → both a b ≡ true → a ≡ true
 first_true true b h = refl

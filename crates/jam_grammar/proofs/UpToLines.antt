@@ -61,8 +61,16 @@ if_lineless _ = refl
 mutual
   form_zeroed : (f : FormTree) → spell_form (lineless_form f) ≡ zeroed (spell_form f)
   form_zeroed (Braces block) = braced_zeroed (spell_stmts (lineless block)) (spell_stmts block) (stmts_zeroed block)
-  form_zeroed (If test block next) = ap (λ x. Key m.If ∷ x) (zeroed_after (spell_expr Anywhere test) (braced (spell_stmts (lineless block)) ++ spell_other (lineless_other next)) (braced (spell_stmts block) ++ spell_other next) (steady_expr Anywhere test) (both_zeroed (braced (spell_stmts (lineless block))) (braced (spell_stmts block)) (spell_other (lineless_other next)) (spell_other next) (braced_zeroed (spell_stmts (lineless block)) (spell_stmts block) (stmts_zeroed block)) (other_zeroed next)))
-  form_zeroed (For own name items block) = ap (λ x. Key m.For ∷ x) (zeroed_after (local_syms own) (Says name ∷ Key m.In ∷ (spell_args items ++ braced (spell_stmts (lineless block)))) (Says name ∷ Key m.In ∷ (spell_args items ++ braced (spell_stmts block))) (steady_local own) (ap (λ x. Says name ∷ Key m.In ∷ x) (zeroed_after (spell_args items) (braced (spell_stmts (lineless block))) (braced (spell_stmts block)) (steady_args items) (braced_zeroed (spell_stmts (lineless block)) (spell_stmts block) (stmts_zeroed block)))))
+  form_zeroed (If test block next) = ap (λ x. Key m.If ∷ x) (zeroed_after (spell_expr Anywhere test) (braced
+      (spell_stmts (lineless block)) ++ spell_other (lineless_other next)) (braced (spell_stmts block) ++ spell_other
+      next) (steady_expr Anywhere test) (both_zeroed (braced (spell_stmts (lineless block))) (braced (spell_stmts
+      block)) (spell_other (lineless_other next)) (spell_other next) (braced_zeroed (spell_stmts (lineless block))
+      (spell_stmts block) (stmts_zeroed block)) (other_zeroed next)))
+  form_zeroed (For own name items block) = ap (λ x. Key m.For ∷ x) (zeroed_after (local_syms own) (Says name ∷ Key
+      m.In ∷ (spell_args items ++ braced (spell_stmts (lineless block)))) (Says name ∷ Key m.In ∷ (spell_args items ++
+      braced (spell_stmts block))) (steady_local own) (ap (λ x. Says name ∷ Key m.In ∷ x) (zeroed_after (spell_args
+      items) (braced (spell_stmts (lineless block))) (braced (spell_stmts block)) (steady_args items) (braced_zeroed
+      (spell_stmts (lineless block)) (spell_stmts block) (stmts_zeroed block)))))
   form_zeroed (While test block) = ap (λ x. Key m.While ∷ x) (zeroed_after (spell_expr Anywhere test) (braced (spell_stmts (lineless block))) (braced (spell_stmts block)) (steady_expr Anywhere test) (braced_zeroed (spell_stmts (lineless block)) (spell_stmts block) (stmts_zeroed block)))
   form_zeroed (Switch value cases) = ap (λ x. Key m.Switch ∷ x) (zeroed_after (spell_args value) (braced (spell_cases (lineless_cases cases))) (braced (spell_cases cases)) (steady_args value) (braced_zeroed (spell_cases (lineless_cases cases)) (spell_cases cases) (cases_zeroed cases)))
   form_zeroed (Module name block) = ap (λ x. Key m.Module ∷ x) (zeroed_after (spell_args name) (braced (spell_stmts (lineless block))) (braced (spell_stmts block)) (steady_args name) (braced_zeroed (spell_stmts (lineless block)) (spell_stmts block) (stmts_zeroed block)))

@@ -26,7 +26,11 @@ lists_noted before now old new older k v c back e f =
 abbrev with_value : Key → (Table Value → Value) → Marked (Table Value) → Marked (Table Value)
 with_value k v p = (insert p.0 k (v p.0), p.1)
 
-pub noted_ok : {T E : Type 0} (r : Result T E) (before now : Table Value) (old new : List ListChange) (older : List (List ListChange)) (k : Key) (v : Table Value → Value) (c : ListChange) (p : Marked (Table Value)) → ◌≡◌ {A = Marked (Table Value)} (before, tables_by before (reverse old) older) p → back_by c (insert before k (v before)) ≡ before → OnOk r (now ≡ insert before k (v before)) → OnOk r (new ≡ old ++ c ∷ []) → OnOk r (◌≡◌ {A = Marked (Table Value)} (now, tables_by now (reverse new) older) (insert p.0 k (v p.0), p.1))
+pub noted_ok : {T E : Type 0} (r : Result T E) (before now : Table Value) (old new : List ListChange) (older : List
+    (List ListChange)) (k : Key) (v : Table Value → Value) (c : ListChange) (p : Marked (Table Value)) → ◌≡◌ {A =
+    Marked (Table Value)} (before, tables_by before (reverse old) older) p → back_by c (insert before k (v before)) ≡
+    before → OnOk r (now ≡ insert before k (v before)) → OnOk r (new ≡ old ++ c ∷ []) → OnOk r (◌≡◌ {A = Marked (Table
+    Value)} (now, tables_by now (reverse new) older) (insert p.0 k (v p.0), p.1))
 noted_ok (Ok x) before now old new older k v c p view back e f =
     lists_noted before now old new older k (v before) c back e f ∙ ap (with_value k v) view
 noted_ok (Err x) before now old new older k v c p view back e f = tt

@@ -48,7 +48,12 @@ closed_set (Bound n b u ∷ es) r o name x h =
     ∙ sym (ap (λ y. cond (is_some y) (closed es (step_back (Bound n b u) r)).cells (insert (closed es (step_back (Bound n b u) r)).cells (o, name) x))
     (bound_head (is_in o) r.owner (frames_by (step_back (Bound n b u) r) es) n (value_at r.cells (r.owner, n)) name (head es (step_back (Bound n b u) r) h.0.within)))
   where
-    by : (t : Bool) → is_set r.owner n o name ≡ t → (closed es (put_cell (step_back (Bound n b u) r) (o, name) x)).cells ≡ cond (is_some (bound_in (is_in o) (frames_by (step_back (Bound n b u) r) es) name)) (closed es (step_back (Bound n b u) r)).cells (insert (closed es (step_back (Bound n b u) r)).cells (o, name) x) → (closed es (step_back (Bound n b u) (put_cell r (o, name) x))).cells ≡ cond (is_some (cond t (Some (value_at r.cells (r.owner, n))) (bound_in (is_in o) (frames_by (step_back (Bound n b u) r) es) name))) (closed es (step_back (Bound n b u) r)).cells (insert (closed es (step_back (Bound n b u) r)).cells (o, name) x)
+    by : (t : Bool) → is_set r.owner n o name ≡ t → (closed es (put_cell (step_back (Bound n b u) r) (o, name)
+        x)).cells ≡ cond (is_some (bound_in (is_in o) (frames_by (step_back (Bound n b u) r) es) name)) (closed es
+        (step_back (Bound n b u) r)).cells (insert (closed es (step_back (Bound n b u) r)).cells (o, name) x) →
+        (closed es (step_back (Bound n b u) (put_cell r (o, name) x))).cells ≡ cond (is_some (cond t (Some (value_at
+        r.cells (r.owner, n))) (bound_in (is_in o) (frames_by (step_back (Bound n b u) r) es) name))) (closed es
+        (step_back (Bound n b u) r)).cells (insert (closed es (step_back (Bound n b u) r)).cells (o, name) x)
     by true e again = ap (λ q. (closed es q).cells) (stepped r (o, name) x n b u h.0.there true (turned r.owner n o name true e))
     by false e again = ap (λ q. (closed es q).cells) (stepped r (o, name) x n b u h.0.there false (turned r.owner n o name false e)) ∙ again
 
@@ -59,7 +64,12 @@ rebound_hit f rest o n v name w true false e g = cc
 rebound_hit f rest o n v name w false u e g = cc
 
 -- a further binding of another name or module does not take it
-rebound_miss : (f : Frame) (rest : List Frame) (o n : Text) (v : Value) (name : Text) (w : Value) (t u s : Bool) → (t && u) ≡ false → is_some (bound_by f.bindings name) ≡ s → cond (t && is_some (cond u (Some v) (bound_by f.bindings name))) (record f { bindings = cond u ((n, w) ∷ f.bindings) ((n, v) ∷ rebound f.bindings name w) } ∷ rest) (record f { bindings = (n, v) ∷ f.bindings } ∷ rebound_in o rest name w) ≡ with_binding (n, v) (cond (t && is_some (bound_by f.bindings name)) (record f { bindings = rebound f.bindings name w } ∷ rest) (f ∷ rebound_in o rest name w))
+rebound_miss : (f : Frame) (rest : List Frame) (o n : Text) (v : Value) (name : Text) (w : Value) (t u s : Bool) → (t
+    && u) ≡ false → is_some (bound_by f.bindings name) ≡ s → cond (t && is_some (cond u (Some v) (bound_by f.bindings
+    name))) (record f { bindings = cond u ((n, w) ∷ f.bindings) ((n, v) ∷ rebound f.bindings name w) } ∷ rest) (record
+    f { bindings = (n, v) ∷ f.bindings } ∷ rebound_in o rest name w) ≡ with_binding (n, v) (cond (t && is_some
+    (bound_by f.bindings name)) (record f { bindings = rebound f.bindings name w } ∷ rest) (f ∷ rebound_in o rest name
+    w))
 rebound_miss f rest o n v name w true true s e g = cc
 rebound_miss f rest o n v name w true false s e g = by (is_some (bound_by f.bindings name))
   where

@@ -48,7 +48,16 @@ word_goes bytes from start end begins word = go (cases_lt start end) word.ends
         absurd (true≢false (sym white.0 ∙ ap (λ i. is_white (get_or bytes i 0)) same ∙ begins.no_white))
 
 -- a word more has been read
-pub word_read : (bytes : List ℕ) (tokens : List Token) (place : Place) (start end line after : ℕ) (opens : Bool) → HasRead bytes NextWord tokens place → BeginsWord bytes place.at start → IsWord bytes start end → line ≡ line_of bytes start → after ≡ line_of bytes end → opens ≡ (is_the_key (codes "{") (the_word bytes start end line) && place.awaits) → HasRead bytes (cond opens NextBody NextWord) (tokens ++ the_word bytes start end line ∷ []) (record { at = end; line = after; awaits = is_the_key (codes "actions") (the_word bytes start end line) || (not (is_the_key (codes "{") (the_word bytes start end line)) && place.awaits) })
+pub word_read : (bytes : List ℕ) (tokens : List Token) (place : Place) (start end line after : ℕ) (opens : Bool) →
+    HasRead bytes NextWord tokens place → BeginsWord bytes place.at start → IsWord bytes start end → line ≡ line_of
+    bytes start → after ≡ line_of bytes end → opens ≡ (is_the_key (codes "{") (the_word bytes start end line) &&
+    place.awaits) → HasRead bytes (cond opens NextBody NextWord) (tokens ++ the_word bytes start end line ∷ [])
+    (record {
+      at = end;
+      line = after;
+      awaits = is_the_key (codes "actions") (the_word bytes start end line) || (not
+          (is_the_key (codes "{") (the_word bytes start end line)) && place.awaits);
+    })
 word_read bytes tokens place start end line after opens has begins word line_is after_is opens_is =
     let token : Token = the_word bytes start end line in
     let is_word : IsWordToken bytes (place_after has.read) token = record { begins = subst (λ p. BeginsWord bytes p start) (sym has.place_is) begins; word = word; has_text = refl; has_kind = refl; has_line = line_is } in
@@ -67,7 +76,16 @@ word_read bytes tokens place start end line after opens has begins word line_is 
     }
 
 -- a Key `{` that opens a body
-pub word_opens : (bytes : List ℕ) (tokens : List Token) (place : Place) (start end line after : ℕ) → HasRead bytes NextWord tokens place → BeginsWord bytes place.at start → IsWord bytes start end → line ≡ line_of bytes start → after ≡ line_of bytes end → true ≡ (is_the_key (codes "{") (the_word bytes start end line) && place.awaits) → HasOpened bytes (tokens ++ the_word bytes start end line ∷ []) (record { at = end; line = after; awaits = is_the_key (codes "actions") (the_word bytes start end line) || (not (is_the_key (codes "{") (the_word bytes start end line)) && place.awaits) }) line
+pub word_opens : (bytes : List ℕ) (tokens : List Token) (place : Place) (start end line after : ℕ) → HasRead bytes
+    NextWord tokens place → BeginsWord bytes place.at start → IsWord bytes start end → line ≡ line_of bytes start →
+    after ≡ line_of bytes end → true ≡ (is_the_key (codes "{") (the_word bytes start end line) && place.awaits) →
+    HasOpened bytes (tokens ++ the_word bytes start end line ∷ []) (record {
+      at = end;
+      line = after;
+      awaits =
+          is_the_key (codes "actions") (the_word bytes start end line) || (not (is_the_key (codes "{") (the_word bytes start
+          end line)) && place.awaits);
+    }) line
 unfolding word_read
 word_opens bytes tokens place start end line after has begins word line_is after_is opens_is =
     record { has_read = word_read bytes tokens place start end line after true has begins word line_is after_is opens_is; last_is = refl }

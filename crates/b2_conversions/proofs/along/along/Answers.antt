@@ -32,7 +32,12 @@ loop-place-preserved g c =
     record {
       given = next.1;
       goes =
-          along_more g.V.Evaluate.answers g.V.Evaluate.kept g.V.Evaluate.faults g.V.Evaluate.is_host_fault g.V.Evaluate.is_out_of_memory g.V.Evaluate.CanFault c.args.setting.now c.args.site.now (option_copied c.args.route.now.named) c.args.route.now.spare.now c.args.route.now.ids.now c.args.ins c.loop-place.place id c.loop-place.entries c.in_ok-entries.entries c.args.evaluator.now c.loop-place.evaluator c.run.new.evaluator c.args.builder.now c.loop-place.builder c.run.new.builder c.loop-place-test.true c.index-ids-place.is c.loop-place.invariant.goes
+          along_more g.V.Evaluate.answers g.V.Evaluate.kept g.V.Evaluate.faults g.V.Evaluate.is_host_fault
+          g.V.Evaluate.is_out_of_memory g.V.Evaluate.CanFault c.args.setting.now c.args.site.now (option_copied
+          c.args.route.now.named) c.args.route.now.spare.now c.args.route.now.ids.now c.args.ins
+          c.loop-place.place id c.loop-place.entries c.in_ok-entries.entries c.args.evaluator.now
+          c.loop-place.evaluator c.run.new.evaluator c.args.builder.now c.loop-place.builder c.run.new.builder
+          c.loop-place-test.true c.index-ids-place.is c.loop-place.invariant.goes
           (step_at g.V.Evaluate.answers g.V.Evaluate.kept g.V.Evaluate.faults g.V.Evaluate.is_host_fault g.V.Evaluate.is_out_of_memory g.V.Evaluate.CanFault c.args.setting.now c.args.site.now (option_copied c.args.route.now.named) c.args.route.now.spare.now c.args.route.now.ids.now c.args.ins c.loop-place.place id c.loop-place.entries c.loop-place.entries c.as_slice-outs.result.now c.loop-place.evaluator c.run.new.evaluator c.loop-place.builder c.run.new.builder (Ok c.in_ok-entries.entries) refl
           (outputs_at c.args.setting.now (option_copied c.args.route.now.named) c.args.route.now.spare.now c.args.route.now.ids.now c.loop-place.place id c.loop-place.entries c.as_slice.result.now c.as_slice-outs.result.now c.in_ok-outputs.outputs (option_copied c.named_at-named.result) c.first_tail-tail.result.now c.as_slice.ensures c.as_slice-outs.ensures c.in_ok-outputs.ensures c.named_at-named.ensures c.first_tail-tail.ensures)
           c.in_ok-entries.ensures);
@@ -52,7 +57,12 @@ returns-in_err-entries g c =
     let (y, e, q) = err_from_is_err_and c.from_residual-in_err-entries.result c.from_residual-in_err-entries.ensures.1 in
     let id = c.index-ids-place.result in
     exit e q
-    (along_fault g.V.Evaluate.answers g.V.Evaluate.kept g.V.Evaluate.faults g.V.Evaluate.is_host_fault g.V.Evaluate.is_out_of_memory g.V.Evaluate.CanFault c.args.setting.now c.args.site.now (option_copied c.args.route.now.named) c.args.route.now.spare.now c.args.route.now.ids.now c.args.ins c.loop-place.place id c.loop-place.entries c.args.evaluator.now c.loop-place.evaluator c.run.new.evaluator c.args.builder.now c.loop-place.builder c.run.new.builder c.in_err-entries.field-0.0 c.loop-place-test.true c.index-ids-place.is c.loop-place.invariant.goes
+    (along_fault g.V.Evaluate.answers g.V.Evaluate.kept g.V.Evaluate.faults g.V.Evaluate.is_host_fault
+    g.V.Evaluate.is_out_of_memory g.V.Evaluate.CanFault c.args.setting.now c.args.site.now (option_copied
+    c.args.route.now.named) c.args.route.now.spare.now c.args.route.now.ids.now c.args.ins c.loop-place.place id
+    c.loop-place.entries c.args.evaluator.now c.loop-place.evaluator c.run.new.evaluator c.args.builder.now
+    c.loop-place.builder c.run.new.builder c.in_err-entries.field-0.0 c.loop-place-test.true c.index-ids-place.is
+    c.loop-place.invariant.goes
     (step_at g.V.Evaluate.answers g.V.Evaluate.kept g.V.Evaluate.faults g.V.Evaluate.is_host_fault g.V.Evaluate.is_out_of_memory g.V.Evaluate.CanFault c.args.setting.now c.args.site.now (option_copied c.args.route.now.named) c.args.route.now.spare.now c.args.route.now.ids.now c.args.ins c.loop-place.place id c.loop-place.entries c.loop-place.entries c.as_slice-outs.result.now c.loop-place.evaluator c.run.new.evaluator c.loop-place.builder c.run.new.builder (Err c.in_err-entries.field-0.0) refl
     (outputs_at c.args.setting.now (option_copied c.args.route.now.named) c.args.route.now.spare.now c.args.route.now.ids.now c.loop-place.place id c.loop-place.entries c.as_slice.result.now c.as_slice-outs.result.now c.in_ok-outputs.outputs (option_copied c.named_at-named.result) c.first_tail-tail.result.now c.as_slice.ensures c.as_slice-outs.ensures c.in_ok-outputs.ensures c.named_at-named.ensures c.first_tail-tail.ensures)
     c.in_err-entries.ensures))

@@ -30,7 +30,13 @@ returns-in-Install g c =
 
 pub returns-in_ok-made-in-Alias : goal.returns-in_ok-made-in-Alias
 returns-in_ok-made-in-Alias g c =
-    kind_is g.V.Evaluate.answers g.V.Evaluate.kept g.V.Evaluate.faults g.V.Evaluate.is_host_fault g.V.Evaluate.is_out_of_memory g.V.Evaluate.CanFault c.args.setting.now c.args.site.now Alias c.args.evaluator.now c.args.evaluator.now c.args.builder.now c.args.builder.now (Ok c.in_ok-made-in-Alias.made) c.in-Alias.is (passed g.V.Evaluate.answers g.V.Evaluate.kept g.V.Evaluate.faults g.V.Evaluate.is_host_fault g.V.Evaluate.is_out_of_memory g.V.Evaluate.CanFault c.args.setting.now c.args.site.now c.in_ok-made-in-Alias.made c.args.evaluator.now c.args.builder.now c.in_ok-made-in-Alias.ensures)
+    kind_is g.V.Evaluate.answers g.V.Evaluate.kept g.V.Evaluate.faults g.V.Evaluate.is_host_fault
+    g.V.Evaluate.is_out_of_memory g.V.Evaluate.CanFault c.args.setting.now c.args.site.now Alias
+    c.args.evaluator.now c.args.evaluator.now c.args.builder.now c.args.builder.now (Ok
+    c.in_ok-made-in-Alias.made) c.in-Alias.is (passed g.V.Evaluate.answers g.V.Evaluate.kept g.V.Evaluate.faults
+    g.V.Evaluate.is_host_fault g.V.Evaluate.is_out_of_memory g.V.Evaluate.CanFault c.args.setting.now
+    c.args.site.now c.in_ok-made-in-Alias.made c.args.evaluator.now c.args.builder.now
+    c.in_ok-made-in-Alias.ensures)
 
 pub returns-in_err-made-in-Alias : goal.returns-in_err-made-in-Alias
 returns-in_err-made-in-Alias g c =

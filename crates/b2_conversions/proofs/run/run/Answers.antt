@@ -25,8 +25,18 @@ pub returns-in_err-ask : goal.returns-in_err-ask
 returns-in_err-ask g c =
     let (y, e, q) = err_from_is_err_and c.from_residual-in_err-ask.result c.from_residual-in_err-ask.ensures.1 in
     exit e q
-    (runs_refused g.V.Evaluate.answers g.V.Evaluate.kept g.V.Evaluate.faults g.V.Evaluate.is_host_fault g.V.Evaluate.is_out_of_memory g.V.Evaluate.CanFault c.args.setting.now c.args.site.now c.args.name.now c.args.ins c.args.outputs.now c.in_ok-made.made (job_of c.in_ok-job.job) c.in_err-ask.field-0.0 c.args.evaluator.now c.ask.new.evaluator c.args.builder.now c.ask.new.builder (job_read c.args.site.now c.args.name.now c.as_slice-outs.result.now c.in_ok-made.made c.args.ins (job_of c.in_ok-job.job) c.in_ok-job.ensures c.as_slice-outs.ensures) c.in_ok-made.ensures c.in_err-ask.ensures)
+    (runs_refused g.V.Evaluate.answers g.V.Evaluate.kept g.V.Evaluate.faults g.V.Evaluate.is_host_fault
+    g.V.Evaluate.is_out_of_memory g.V.Evaluate.CanFault c.args.setting.now c.args.site.now c.args.name.now
+    c.args.ins c.args.outputs.now c.in_ok-made.made (job_of c.in_ok-job.job) c.in_err-ask.field-0.0
+    c.args.evaluator.now c.ask.new.evaluator c.args.builder.now c.ask.new.builder (job_read c.args.site.now
+    c.args.name.now c.as_slice-outs.result.now c.in_ok-made.made c.args.ins (job_of c.in_ok-job.job)
+    c.in_ok-job.ensures c.as_slice-outs.ensures) c.in_ok-made.ensures c.in_err-ask.ensures)
 
 pub returns : goal.returns
 returns g c =
-    runs_made g.V.Evaluate.answers g.V.Evaluate.kept g.V.Evaluate.faults g.V.Evaluate.is_host_fault g.V.Evaluate.is_out_of_memory g.V.Evaluate.CanFault c.args.setting.now c.args.site.now c.args.name.now c.args.ins c.args.outputs.now c.in_ok-made.made (job_of c.in_ok-job.job) c.args.evaluator.now c.ask.new.evaluator c.args.builder.now c.ask.new.builder (job_read c.args.site.now c.args.name.now c.as_slice-outs.result.now c.in_ok-made.made c.args.ins (job_of c.in_ok-job.job) c.in_ok-job.ensures c.as_slice-outs.ensures) c.in_ok-made.ensures c.in_ok-ask.ensures
+    runs_made g.V.Evaluate.answers g.V.Evaluate.kept g.V.Evaluate.faults g.V.Evaluate.is_host_fault
+    g.V.Evaluate.is_out_of_memory g.V.Evaluate.CanFault c.args.setting.now c.args.site.now c.args.name.now
+    c.args.ins c.args.outputs.now c.in_ok-made.made (job_of c.in_ok-job.job) c.args.evaluator.now
+    c.ask.new.evaluator c.args.builder.now c.ask.new.builder (job_read c.args.site.now c.args.name.now
+    c.as_slice-outs.result.now c.in_ok-made.made c.args.ins (job_of c.in_ok-job.job) c.in_ok-job.ensures
+    c.as_slice-outs.ensures) c.in_ok-made.ensures c.in_ok-ask.ensures

@@ -25,5 +25,18 @@ returns-in_default-after_one-clause-exact c =
     c.in_default.ensures.exact c.in-Some-first_char.ensures.exact c.in_default-after_one.ensures
 
 pub pieces-preserved : goal.pieces-preserved
-pieces-preserved c = let a = c.in-Some-after_one.ensures in
-    (a.2, c.in-Some-first_char.ensures.utf8, fed_more (chars c.args.pattern.now) (chars c.args.text.now) (chars c.pieces.rest.now) (chars c.pieces.left.now) c.in-Some-first_char.character (chars c.in-Some-after_one.after.now) (chars c.in-Some-first_char.remaining.now) c.pieces.invariant.2 c.in-Some-first_char.ensures.exact a.0, drop_twice c.args.pattern.now c.pieces.rest.now c.in-Some-after_one.after.now c.pieces.invariant.3 a.1, omega (arith, c.pieces.invariant.4, c.in-Some-first_char.ensures.shorter))
+pieces-preserved c = let a = c.in-Some-after_one.ensures in (
+  a.2,
+  c.in-Some-first_char.ensures.utf8,
+  fed_more (chars c.args.pattern.now) (chars c.args.text.now) (chars
+      c.pieces.rest.now) (chars c.pieces.left.now) c.in-Some-first_char.character (chars
+      c.in-Some-after_one.after.now) (chars c.in-Some-first_char.remaining.now) c.pieces.invariant.2
+      c.in-Some-first_char.ensures.exact a.0,
+  drop_twice c.args.pattern.now c.pieces.rest.now
+      c.in-Some-after_one.after.now c.pieces.invariant.3 a.1,
+  omega (
+    arith,
+    c.pieces.invariant.4,
+    c.in-Some-first_char.ensures.shorter,
+  ),
+)

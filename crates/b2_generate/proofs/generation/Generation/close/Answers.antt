@@ -43,18 +43,53 @@ returns-in-None-clause-turn g c =
     let done = (subst (λ r. IfOk r (IsCompleted c.args.self.now.asker.index.now (reverse c.args.self.now.nodes.list.items) c.args.stack.now.newest c.in_ok-made.made (reverse c.complete.new.self.list.items) c.complete.new.self.firsts)) c.in_ok-place.was (c.complete.ensures c.args.self.now.asker.index.now c.requires.ready)) in
     is_over c.in_ok-place.place (done_over c.args.self.now.asker.index.now (reverse c.args.self.now.nodes.list.items) c.args.stack.now.newest (reverse c.args.stack.now.below.items) c.in_ok-made.made (reverse c.complete.new.self.list.items) c.complete.new.self.firsts c.in_ok-place.place done)
     (λ answered is name set start way made. (
-      done_ends (loaded_of c.args.self.now.asker.index.now c.args.self.now.roots.now answered) name set start (reverse c.args.self.now.nodes.list.items) c.args.stack.now.newest (reverse c.args.stack.now.below.items) c.args.self.now.builder c.finish.new.builder c.in_ok-made.made (reverse c.complete.new.self.list.items) c.complete.new.self.firsts c.in_ok-place.place done c.requires.kept c.requires.complete (subst (λ (xs : List Node). Finishes (loaded_of c.args.self.now.asker.index.now c.args.self.now.roots.now answered) (seen c.args.stack.now.newest.name c.args.stack.now.newest.chosen) (standing_of (reverse xs) c.args.stack.now.newest) c.args.self.now.builder (Ok (given_of (seen c.args.stack.now.newest.name c.args.stack.now.newest.chosen) (standing_of (reverse xs) c.args.stack.now.newest) c.in_ok-made.made, c.finish.new.builder))) c.as_slice.ensures.value (c.in_ok-made.ensures.made answered is)) way none,
-      done_made (loaded_of c.args.self.now.asker.index.now c.args.self.now.roots.now answered) name set start (reverse c.args.self.now.nodes.list.items) c.args.stack.now.newest (reverse c.args.stack.now.below.items) c.args.self.now.builder c.finish.new.builder c.in_ok-made.made (reverse c.complete.new.self.list.items) c.complete.new.self.firsts c.in_ok-place.place done c.requires.kept c.requires.complete (subst (λ (xs : List Node). Finishes (loaded_of c.args.self.now.asker.index.now c.args.self.now.roots.now answered) (seen c.args.stack.now.newest.name c.args.stack.now.newest.chosen) (standing_of (reverse xs) c.args.stack.now.newest) c.args.self.now.builder (Ok (given_of (seen c.args.stack.now.newest.name c.args.stack.now.newest.chosen) (standing_of (reverse xs) c.args.stack.now.newest) c.in_ok-made.made, c.finish.new.builder))) c.as_slice.ensures.value (c.in_ok-made.ensures.made answered is)) way made c.in_ok-made.ensures.grows,
+      done_ends (loaded_of c.args.self.now.asker.index.now c.args.self.now.roots.now answered) name set start (reverse
+          c.args.self.now.nodes.list.items) c.args.stack.now.newest (reverse c.args.stack.now.below.items)
+          c.args.self.now.builder c.finish.new.builder c.in_ok-made.made (reverse c.complete.new.self.list.items)
+          c.complete.new.self.firsts c.in_ok-place.place done c.requires.kept c.requires.complete (subst (λ (xs : List
+          Node). Finishes (loaded_of c.args.self.now.asker.index.now c.args.self.now.roots.now answered) (seen
+          c.args.stack.now.newest.name c.args.stack.now.newest.chosen) (standing_of (reverse xs)
+          c.args.stack.now.newest) c.args.self.now.builder (Ok (
+            given_of (seen c.args.stack.now.newest.name
+                c.args.stack.now.newest.chosen) (standing_of (reverse xs) c.args.stack.now.newest) c.in_ok-made.made,
+            c.finish.new.builder,
+          ))) c.as_slice.ensures.value (c.in_ok-made.ensures.made answered is)) way none,
+      done_made (loaded_of c.args.self.now.asker.index.now c.args.self.now.roots.now answered) name set start (reverse
+          c.args.self.now.nodes.list.items) c.args.stack.now.newest (reverse c.args.stack.now.below.items)
+          c.args.self.now.builder c.finish.new.builder c.in_ok-made.made (reverse c.complete.new.self.list.items)
+          c.complete.new.self.firsts c.in_ok-place.place done c.requires.kept c.requires.complete (subst (λ (xs : List
+          Node). Finishes (loaded_of c.args.self.now.asker.index.now c.args.self.now.roots.now answered) (seen
+          c.args.stack.now.newest.name c.args.stack.now.newest.chosen) (standing_of (reverse xs)
+          c.args.stack.now.newest) c.args.self.now.builder (Ok (
+            given_of (seen c.args.stack.now.newest.name
+                c.args.stack.now.newest.chosen) (standing_of (reverse xs) c.args.stack.now.newest) c.in_ok-made.made,
+            c.finish.new.builder,
+          ))) c.as_slice.ensures.value (c.in_ok-made.ensures.made answered is)) way made
+          c.in_ok-made.ensures.grows,
     ))
     c.in_ok-made.ensures.grows (done_adds c.args.self.now.asker.index.now (reverse c.args.self.now.nodes.list.items) c.args.stack.now.newest (reverse c.args.stack.now.below.items) c.in_ok-made.made (reverse c.complete.new.self.list.items) c.complete.new.self.firsts c.in_ok-place.place done) c.in_ok-made.ensures.leaves.same_answers c.in_ok-made.ensures.leaves.same_kept c.in_ok-made.ensures.leaves.counted
 
 pub take-requires-clause-there : goal.take-requires-clause-there
 take-requires-clause-there g c =
     subst (λ (xs : List Node). c.in_ok-place.place < length xs) (sym c.as_slice-in-Some.ensures.value)
-    (subst (λ (k : ℕ). c.in_ok-place.place < k) (length-reverse c.complete.new.self.list.items) (done_over c.args.self.now.asker.index.now (reverse c.args.self.now.nodes.list.items) c.args.stack.now.newest (reverse c.args.stack.now.below.items) c.in_ok-made.made (reverse c.complete.new.self.list.items) c.complete.new.self.firsts c.in_ok-place.place (subst (λ r. IfOk r (IsCompleted c.args.self.now.asker.index.now (reverse c.args.self.now.nodes.list.items) c.args.stack.now.newest c.in_ok-made.made (reverse c.complete.new.self.list.items) c.complete.new.self.firsts)) c.in_ok-place.was (c.complete.ensures c.args.self.now.asker.index.now c.requires.ready))).there)
+    (subst (λ (k : ℕ). c.in_ok-place.place < k) (length-reverse c.complete.new.self.list.items) (done_over
+    c.args.self.now.asker.index.now (reverse c.args.self.now.nodes.list.items) c.args.stack.now.newest (reverse
+    c.args.stack.now.below.items) c.in_ok-made.made (reverse c.complete.new.self.list.items)
+    c.complete.new.self.firsts c.in_ok-place.place (subst (λ r. IfOk r (IsCompleted
+    c.args.self.now.asker.index.now (reverse c.args.self.now.nodes.list.items) c.args.stack.now.newest
+    c.in_ok-made.made (reverse c.complete.new.self.list.items) c.complete.new.self.firsts)) c.in_ok-place.was
+    (c.complete.ensures c.args.self.now.asker.index.now c.requires.ready))).there)
 
 pub take-requires-clause-kept : goal.take-requires-clause-kept
-take-requires-clause-kept g c = subst (λ (xs : List Node). IsKept (reverse xs) c.args.self.now.asker.index.now c.in-Some.frame) (sym c.as_slice-in-Some.ensures.value) (done_kept c.args.self.now.asker.index.now (reverse c.args.self.now.nodes.list.items) c.args.stack.now.newest (reverse c.args.stack.now.below.items) c.in_ok-made.made (reverse c.complete.new.self.list.items) c.complete.new.self.firsts c.in_ok-place.place (subst (λ r. IfOk r (IsCompleted c.args.self.now.asker.index.now (reverse c.args.self.now.nodes.list.items) c.args.stack.now.newest c.in_ok-made.made (reverse c.complete.new.self.list.items) c.complete.new.self.firsts)) c.in_ok-place.was (c.complete.ensures c.args.self.now.asker.index.now c.requires.ready)) c.requires.kept c.in-Some.frame (reverse c.pop.new.self.items) (one_below c.args.stack.now.below.items c.pop.new.self.items c.in-Some.frame c.in-Some.ensures.items))
+take-requires-clause-kept g c = subst (λ (xs : List Node). IsKept (reverse xs) c.args.self.now.asker.index.now
+    c.in-Some.frame) (sym c.as_slice-in-Some.ensures.value) (done_kept c.args.self.now.asker.index.now (reverse
+    c.args.self.now.nodes.list.items) c.args.stack.now.newest (reverse c.args.stack.now.below.items) c.in_ok-made.made
+    (reverse c.complete.new.self.list.items) c.complete.new.self.firsts c.in_ok-place.place (subst (λ r. IfOk r
+    (IsCompleted c.args.self.now.asker.index.now (reverse c.args.self.now.nodes.list.items) c.args.stack.now.newest
+    c.in_ok-made.made (reverse c.complete.new.self.list.items) c.complete.new.self.firsts)) c.in_ok-place.was
+    (c.complete.ensures c.args.self.now.asker.index.now c.requires.ready)) c.requires.kept c.in-Some.frame (reverse
+    c.pop.new.self.items) (one_below c.args.stack.now.below.items c.pop.new.self.items c.in-Some.frame
+    c.in-Some.ensures.items))
 
 pub returns-in_err-take-in-Some-clause-turn : goal.returns-in_err-take-in-Some-clause-turn
 returns-in_err-take-in-Some-clause-turn g c =
@@ -62,7 +97,19 @@ returns-in_err-take-in-Some-clause-turn g c =
     clashed c.from_residual-in_err-take-in-Some.result c.in_err-take-in-Some.field-0.0 c.in-Some.frame.name _ (exit_is c.from_residual-in_err-take-in-Some.result _ c.from_residual-in_err-take-in-Some.ensures.1)
     (subst (λ (xs : List Node). IsConflict c.args.self.now.asker.index.now c.in-Some.frame.name (conflict c.args.self.now.asker.index.now (standing_of (reverse xs) c.in-Some.frame) (entry_in (reverse xs) c.in_ok-place.place).1) c.in_err-take-in-Some.field-0.0) c.as_slice-in-Some.ensures.value c.in_err-take-in-Some.ensures.clash)
     c.in_ok-made.ensures.grows
-    (λ found same answered is name set start way made. done_clashes (loaded_of c.args.self.now.asker.index.now c.args.self.now.roots.now answered) name set start (reverse c.args.self.now.nodes.list.items) c.args.stack.now.newest (reverse c.args.stack.now.below.items) c.args.self.now.builder c.finish.new.builder c.in_ok-made.made (reverse c.complete.new.self.list.items) c.complete.new.self.firsts c.in_ok-place.place done c.requires.kept c.requires.complete (subst (λ (xs : List Node). Finishes (loaded_of c.args.self.now.asker.index.now c.args.self.now.roots.now answered) (seen c.args.stack.now.newest.name c.args.stack.now.newest.chosen) (standing_of (reverse xs) c.args.stack.now.newest) c.args.self.now.builder (Ok (given_of (seen c.args.stack.now.newest.name c.args.stack.now.newest.chosen) (standing_of (reverse xs) c.args.stack.now.newest) c.in_ok-made.made, c.finish.new.builder))) c.as_slice.ensures.value (c.in_ok-made.ensures.made answered is)) way c.in-Some.frame (reverse c.pop.new.self.items) (one_below c.args.stack.now.below.items c.pop.new.self.items c.in-Some.frame c.in-Some.ensures.items) found same)
+    (λ found same answered is name set start way made. done_clashes (loaded_of c.args.self.now.asker.index.now
+    c.args.self.now.roots.now answered) name set start (reverse c.args.self.now.nodes.list.items)
+    c.args.stack.now.newest (reverse c.args.stack.now.below.items) c.args.self.now.builder c.finish.new.builder
+    c.in_ok-made.made (reverse c.complete.new.self.list.items) c.complete.new.self.firsts c.in_ok-place.place done
+    c.requires.kept c.requires.complete (subst (λ (xs : List Node). Finishes (loaded_of
+    c.args.self.now.asker.index.now c.args.self.now.roots.now answered) (seen c.args.stack.now.newest.name
+    c.args.stack.now.newest.chosen) (standing_of (reverse xs) c.args.stack.now.newest) c.args.self.now.builder (Ok (
+      given_of (seen c.args.stack.now.newest.name c.args.stack.now.newest.chosen) (standing_of (reverse xs)
+          c.args.stack.now.newest) c.in_ok-made.made,
+      c.finish.new.builder,
+    ))) c.as_slice.ensures.value
+    (c.in_ok-made.ensures.made answered is)) way c.in-Some.frame (reverse c.pop.new.self.items) (one_below
+    c.args.stack.now.below.items c.pop.new.self.items c.in-Some.frame c.in-Some.ensures.items) found same)
     c.in_ok-made.ensures.leaves.same_answers c.in_ok-made.ensures.leaves.same_kept c.in_ok-made.ensures.leaves.counted
 
 pub returns-in_ok-take-in-Some-clause-turn : goal.returns-in_ok-take-in-Some-clause-turn
@@ -72,8 +119,31 @@ returns-in_ok-take-in-Some-clause-turn g c =
     let took = subst (λ (xs : List Node). IsTaken c.args.self.now.asker.index.now (reverse xs) c.in_ok-place.place c.in-Some.frame after) c.as_slice-in-Some.ensures.value c.in_ok-take-in-Some.ensures.taken in
     goes (done_goes c.args.self.now.asker.index.now (reverse c.args.self.now.nodes.list.items) c.args.stack.now.newest (reverse c.args.stack.now.below.items) c.in_ok-made.made (reverse c.complete.new.self.list.items) c.complete.new.self.firsts c.in_ok-place.place done c.requires.kept c.in-Some.frame (reverse c.pop.new.self.items) (one_below c.args.stack.now.below.items c.pop.new.self.items c.in-Some.frame c.in-Some.ensures.items) after took)
     (λ answered is name set start way made. (
-      done_leads (loaded_of c.args.self.now.asker.index.now c.args.self.now.roots.now answered) name set start (reverse c.args.self.now.nodes.list.items) c.args.stack.now.newest (reverse c.args.stack.now.below.items) c.args.self.now.builder c.finish.new.builder c.in_ok-made.made (reverse c.complete.new.self.list.items) c.complete.new.self.firsts c.in_ok-place.place done c.requires.kept c.requires.complete (subst (λ (xs : List Node). Finishes (loaded_of c.args.self.now.asker.index.now c.args.self.now.roots.now answered) (seen c.args.stack.now.newest.name c.args.stack.now.newest.chosen) (standing_of (reverse xs) c.args.stack.now.newest) c.args.self.now.builder (Ok (given_of (seen c.args.stack.now.newest.name c.args.stack.now.newest.chosen) (standing_of (reverse xs) c.args.stack.now.newest) c.in_ok-made.made, c.finish.new.builder))) c.as_slice.ensures.value (c.in_ok-made.ensures.made answered is)) way c.in-Some.frame (reverse c.pop.new.self.items) (one_below c.args.stack.now.below.items c.pop.new.self.items c.in-Some.frame c.in-Some.ensures.items) after took,
-      done_made (loaded_of c.args.self.now.asker.index.now c.args.self.now.roots.now answered) name set start (reverse c.args.self.now.nodes.list.items) c.args.stack.now.newest (reverse c.args.stack.now.below.items) c.args.self.now.builder c.finish.new.builder c.in_ok-made.made (reverse c.complete.new.self.list.items) c.complete.new.self.firsts c.in_ok-place.place done c.requires.kept c.requires.complete (subst (λ (xs : List Node). Finishes (loaded_of c.args.self.now.asker.index.now c.args.self.now.roots.now answered) (seen c.args.stack.now.newest.name c.args.stack.now.newest.chosen) (standing_of (reverse xs) c.args.stack.now.newest) c.args.self.now.builder (Ok (given_of (seen c.args.stack.now.newest.name c.args.stack.now.newest.chosen) (standing_of (reverse xs) c.args.stack.now.newest) c.in_ok-made.made, c.finish.new.builder))) c.as_slice.ensures.value (c.in_ok-made.ensures.made answered is)) way made c.in_ok-made.ensures.grows,
+      done_leads (loaded_of c.args.self.now.asker.index.now c.args.self.now.roots.now answered) name set start
+          (reverse c.args.self.now.nodes.list.items) c.args.stack.now.newest (reverse c.args.stack.now.below.items)
+          c.args.self.now.builder c.finish.new.builder c.in_ok-made.made (reverse c.complete.new.self.list.items)
+          c.complete.new.self.firsts c.in_ok-place.place done c.requires.kept c.requires.complete (subst (λ (xs : List
+          Node). Finishes (loaded_of c.args.self.now.asker.index.now c.args.self.now.roots.now answered) (seen
+          c.args.stack.now.newest.name c.args.stack.now.newest.chosen) (standing_of (reverse xs)
+          c.args.stack.now.newest) c.args.self.now.builder (Ok (
+            given_of (seen c.args.stack.now.newest.name
+                c.args.stack.now.newest.chosen) (standing_of (reverse xs) c.args.stack.now.newest) c.in_ok-made.made,
+            c.finish.new.builder,
+          ))) c.as_slice.ensures.value (c.in_ok-made.ensures.made answered is)) way
+          c.in-Some.frame (reverse c.pop.new.self.items) (one_below c.args.stack.now.below.items c.pop.new.self.items
+          c.in-Some.frame c.in-Some.ensures.items) after took,
+      done_made (loaded_of c.args.self.now.asker.index.now c.args.self.now.roots.now answered) name set start (reverse
+          c.args.self.now.nodes.list.items) c.args.stack.now.newest (reverse c.args.stack.now.below.items)
+          c.args.self.now.builder c.finish.new.builder c.in_ok-made.made (reverse c.complete.new.self.list.items)
+          c.complete.new.self.firsts c.in_ok-place.place done c.requires.kept c.requires.complete (subst (λ (xs : List
+          Node). Finishes (loaded_of c.args.self.now.asker.index.now c.args.self.now.roots.now answered) (seen
+          c.args.stack.now.newest.name c.args.stack.now.newest.chosen) (standing_of (reverse xs)
+          c.args.stack.now.newest) c.args.self.now.builder (Ok (
+            given_of (seen c.args.stack.now.newest.name
+                c.args.stack.now.newest.chosen) (standing_of (reverse xs) c.args.stack.now.newest) c.in_ok-made.made,
+            c.finish.new.builder,
+          ))) c.as_slice.ensures.value (c.in_ok-made.ensures.made answered is)) way made
+          c.in_ok-made.ensures.grows,
     ))
     c.in_ok-made.ensures.grows (done_adds c.args.self.now.asker.index.now (reverse c.args.self.now.nodes.list.items) c.args.stack.now.newest (reverse c.args.stack.now.below.items) c.in_ok-made.made (reverse c.complete.new.self.list.items) c.complete.new.self.firsts c.in_ok-place.place done) c.in_ok-made.ensures.leaves.same_answers c.in_ok-made.ensures.leaves.same_kept c.in_ok-made.ensures.leaves.counted
 

@@ -60,7 +60,12 @@ returns-in-None-clause-roots g c = c.open.ensures.roots
 pub take-requires-clause-there : goal.take-requires-clause-there
 take-requires-clause-there g c =
     subst (λ (xs : List Node). c.in-Some.place < length xs) (sym c.as_slice.ensures.value)
-    (subst (λ (k : ℕ). c.in-Some.place < k) (length-reverse c.args.self.now.nodes.list.items) (is_there (reverse c.args.self.now.nodes.list.items) c.in-Some.place (subst (λ (o : Option ℕ). IfSome o (λ p. IsAskedAt (reverse c.args.self.now.nodes.list.items) p c.args.name c.in_ok-asked.asked)) c.in-Some.is c.in_ok-remembered.ensures.asked).node (subst (λ (o : Option ℕ). IfSome o (λ p. IsAskedAt (reverse c.args.self.now.nodes.list.items) p c.args.name c.in_ok-asked.asked)) c.in-Some.is c.in_ok-remembered.ensures.asked).there))
+    (subst (λ (k : ℕ). c.in-Some.place < k) (length-reverse c.args.self.now.nodes.list.items) (is_there (reverse
+    c.args.self.now.nodes.list.items) c.in-Some.place (subst (λ (o : Option ℕ). IfSome o (λ p. IsAskedAt (reverse
+    c.args.self.now.nodes.list.items) p c.args.name c.in_ok-asked.asked)) c.in-Some.is
+    c.in_ok-remembered.ensures.asked).node (subst (λ (o : Option ℕ). IfSome o (λ p. IsAskedAt (reverse
+    c.args.self.now.nodes.list.items) p c.args.name c.in_ok-asked.asked)) c.in-Some.is
+    c.in_ok-remembered.ensures.asked).there))
 
 pub take-requires-clause-kept : goal.take-requires-clause-kept
 take-requires-clause-kept g c = subst (λ (xs : List Node). IsKept (reverse xs) c.args.self.now.asker.index.now c.args.stack.now.newest) (sym c.as_slice.ensures.value) c.requires.kept.2

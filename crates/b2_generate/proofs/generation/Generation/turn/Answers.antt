@@ -42,7 +42,12 @@ close-requires-clause-complete g c =
 pub returns-in-Complete-clause-turn : goal.returns-in-Complete-clause-turn
 returns-in-Complete-clause-turn g c =
     turn_from (record c.args.stack.now.newest { needs = c.next.new.self } ∷ (reverse c.args.stack.now.below.items)) (c.args.stack.now.newest ∷ (reverse c.args.stack.now.below.items))
-    (λ i. needs_stay c.args.self.now.asker.index.now (reverse c.args.self.now.nodes.list.items) c.args.stack.now.newest (record c.args.stack.now.newest { needs = c.next.new.self }) c.next.new.self refl c.requires.kept.2 (c.next.ensures.stand c.args.self.now.asker.index.now c.args.stack.now.newest.chosen.target.now (under (standing_of (reverse c.args.self.now.nodes.list.items) c.args.stack.now.newest)) c.requires.kept.2.stand) i ∷ map (frame_of (reverse c.args.self.now.nodes.list.items)) (reverse c.args.stack.now.below.items)) c.close.ensures.turn
+    (λ i. needs_stay c.args.self.now.asker.index.now (reverse c.args.self.now.nodes.list.items)
+    c.args.stack.now.newest (record c.args.stack.now.newest { needs = c.next.new.self }) c.next.new.self refl
+    c.requires.kept.2 (c.next.ensures.stand c.args.self.now.asker.index.now
+    c.args.stack.now.newest.chosen.target.now (under (standing_of (reverse c.args.self.now.nodes.list.items)
+    c.args.stack.now.newest)) c.requires.kept.2.stand) i ∷ map (frame_of (reverse
+    c.args.self.now.nodes.list.items)) (reverse c.args.stack.now.below.items)) c.close.ensures.turn
 
 pub returns-in-Complete-clause-project : goal.returns-in-Complete-clause-project
 returns-in-Complete-clause-project g c = c.close.ensures.project
@@ -64,7 +69,12 @@ supply-requires-clause-due g c =
 pub returns-in-Due-clause-turn : goal.returns-in-Due-clause-turn
 returns-in-Due-clause-turn g c =
     turn_from (record c.args.stack.now.newest { needs = c.next.new.self } ∷ (reverse c.args.stack.now.below.items)) (c.args.stack.now.newest ∷ (reverse c.args.stack.now.below.items))
-    (λ i. needs_stay c.args.self.now.asker.index.now (reverse c.args.self.now.nodes.list.items) c.args.stack.now.newest (record c.args.stack.now.newest { needs = c.next.new.self }) c.next.new.self refl c.requires.kept.2 (c.next.ensures.stand c.args.self.now.asker.index.now c.args.stack.now.newest.chosen.target.now (under (standing_of (reverse c.args.self.now.nodes.list.items) c.args.stack.now.newest)) c.requires.kept.2.stand) i ∷ map (frame_of (reverse c.args.self.now.nodes.list.items)) (reverse c.args.stack.now.below.items)) c.supply.ensures.turn
+    (λ i. needs_stay c.args.self.now.asker.index.now (reverse c.args.self.now.nodes.list.items)
+    c.args.stack.now.newest (record c.args.stack.now.newest { needs = c.next.new.self }) c.next.new.self refl
+    c.requires.kept.2 (c.next.ensures.stand c.args.self.now.asker.index.now
+    c.args.stack.now.newest.chosen.target.now (under (standing_of (reverse c.args.self.now.nodes.list.items)
+    c.args.stack.now.newest)) c.requires.kept.2.stand) i ∷ map (frame_of (reverse
+    c.args.self.now.nodes.list.items)) (reverse c.args.stack.now.below.items)) c.supply.ensures.turn
 
 pub returns-in-Due-clause-project : goal.returns-in-Due-clause-project
 returns-in-Due-clause-project g c = c.supply.ensures.project
