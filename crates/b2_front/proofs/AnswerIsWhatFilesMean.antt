@@ -23,6 +23,7 @@ use Rattle.b2_project.specs.declared.project.Project.{Project}
 use Rattle.b2_project.specs.Loading.{IsProject, IsRefused, IsLoaded, TellsLoad}
 use Rattle.b2_metatargets.specs.Numbered.{IsNumbered}
 use Rattle.b2_project.specs.Loads.{Loads, loaded}
+use Rattle.b2_front.proofs.LinesBeginTheLoad.{loaded_begins}
 use Rattle.b2_planning.specs.declared.planned.Planned.{Planned as Made}
 use Rattle.b2_generate.specs.Loaded.{Loaded}
 use Rattle.b2_generate.specs.Planning.{Planned}
@@ -81,9 +82,15 @@ module _ (disk : Disk) (words lines : List Text) where
             (comes_of w found loads outcome (subst (λ (l : Loaded EvalFault). IsAsked l words outcome) (project_is w found project is) h.1))),
       )
 
+  -- what is told of a fault that is none of the host
+  as_refused : (fault : LoadFault) (last : ℕ) → IsLoaded (load_setting disk (call_of last (refused_by fault))) words load_turns last lines (Err fault)
+      → IsRefused (load_setting disk (call_of last (refused_by fault))) words load_turns last lines (load_refusal fault)
+  as_refused loading.Host last h = tt
+  as_refused fault last h = h
+
   refused_so : (fault : LoadFault) (last : ℕ) → IsLoaded (load_setting disk (call_of last (refused_by fault))) words load_turns last lines (Err fault)
       → IsPrepared disk words lines (Err (stop_of_load fault))
-  refused_so fault last h = load_told (IsRefusedInGeneration disk words lines) Comes fault (go (load_refusal fault) h)
+  refused_so fault last h = load_told (IsRefusedInGeneration disk words lines) Comes fault (go (load_refusal fault) (as_refused fault last h))
     where
       go : (why : Option LoadRefusal) → IsRefused (load_setting disk (call_of last (refused_by fault))) words load_turns last lines why
           → IfRefusal (Unit {0}) (option_map of_load why) (λ f. Comes (refused_by fault) (Err f))
@@ -98,21 +105,22 @@ module _ (disk : Disk) (words lines : List Text) where
   all_lines : HasLoaded disk words lines → (result : Result Made Stop) → LinesTold disk words lines result
   all_lines has (Ok plan) = tt
   all_lines has (Err (stops.Refused why)) = tt
-  all_lines has (Err stops.HostInLoad) = tt
+  all_lines has (Err stops.HostInLoad) = loaded_begins disk words lines has
   all_lines has (Err stops.Host) = has
   all_lines has (Err stops.OutOfMemory) = tt
 
-  no_lines : (fault : LoadFault) → LinesTold disk words lines (Err (stop_of_load fault))
-  no_lines loading.Host = tt
-  no_lines loading.OutOfMemory = tt
-  no_lines loading.NoJamroot = tt
-  no_lines (loading.NoJamfile dir) = tt
-  no_lines (loading.TooBig path size) = tt
-  no_lines (loading.Lex path fault) = tt
-  no_lines (loading.Syntax path fault) = tt
-  no_lines (loading.Eval fault) = tt
-  no_lines (loading.Declaration path rule line) = tt
-  no_lines (loading.Feature path line fault) = tt
+  first_lines : (fault : LoadFault) (last : ℕ) → IsLoaded (load_setting disk (call_of last (refused_by fault))) words load_turns last lines (Err fault)
+      → LinesTold disk words lines (Err (stop_of_load fault))
+  first_lines loading.Host last h = h
+  first_lines loading.OutOfMemory last h = tt
+  first_lines loading.NoJamroot last h = tt
+  first_lines (loading.NoJamfile dir) last h = tt
+  first_lines (loading.TooBig path size) last h = tt
+  first_lines (loading.Lex path fault) last h = tt
+  first_lines (loading.Syntax path fault) last h = tt
+  first_lines (loading.Eval fault) last h = tt
+  first_lines (loading.Declaration path rule line) last h = tt
+  first_lines (loading.Feature path line fault) last h = tt
 
 -- ---- where the files are visible
 
@@ -126,17 +134,20 @@ module _ (words lines : List Text) (from mid to : Outside) (first last : Turns) 
       subst (λ n. IsLoaded (load_setting disk None) words n last.left lines (Ok project)) left_is
       (told (load_setting disk None) (subst (λ n. IsSettingFor (load_setting disk None) n from) (sym budget_is) (setting_for from disk visible consistent None)) (λ left low high. refl))
 
+  fails_so : (disk : Disk) → from.disk ≡ Some disk → IsConsistent disk → (fault : LoadFault) → TellsLoad from words first last lines (Err fault)
+      → IsLoaded (load_setting disk (call_of last.left (refused_by fault))) words load_turns last.left lines (Err fault)
+  fails_so disk visible consistent fault told =
+      let call = call_of last.left (refused_by fault) in
+      subst (λ n. IsLoaded (load_setting disk call) words n last.left lines (Err fault)) left_is
+      (told (load_setting disk call) (subst (λ n. IsSettingFor (load_setting disk call) n from) (sym budget_is) (setting_for from disk visible consistent call)) (call_refuses first.left last.left (refused_by fault)))
+
   so : (disk : Disk) → from.disk ≡ Some disk → IsConsistent disk → (ended : Result Project LoadFault) → TellsLoad from words first last lines ended
       → mid.disk ≡ from.disk → (result : Result Made Stop) → GoesOn words ended mid to result → IsPrepared disk words lines result
   so disk visible consistent (Ok project) told same result goes =
       prepared_so disk words lines project last.left (loads_so disk visible consistent project told) result
       (subst (λ d. IfSome d (λ (e : Disk). Tells (IsRefusedFor words project.declared project.world e) (λ pattern outcome. (pattern ≡ None) × IsAsked (project_of e project.world project.declared) words outcome) result)) (same ∙ visible) goes.told)
   so disk visible consistent (Err fault) told same result goes =
-      let call = call_of last.left (refused_by fault) in
-      subst (IsPrepared disk words lines) (sym goes.0)
-      (refused_so disk words lines fault last.left
-      (subst (λ n. IsLoaded (load_setting disk call) words n last.left lines (Err fault)) left_is
-      (told (load_setting disk call) (subst (λ n. IsSettingFor (load_setting disk call) n from) (sym budget_is) (setting_for from disk visible consistent call)) (call_refuses first.left last.left (refused_by fault)))))
+      subst (IsPrepared disk words lines) (sym goes.0) (refused_so disk words lines fault last.left (fails_so disk visible consistent fault told))
 
   pub told_prepared : IfSome from.disk IsConsistent → (ended : Result Project LoadFault) → TellsLoad from words first last lines ended
       → mid.disk ≡ from.disk → (result : Result Made Stop) → GoesOn words ended mid to result → IfSome from.disk (λ disk. IsPrepared disk words lines result)
@@ -150,7 +161,8 @@ module _ (words lines : List Text) (from mid to : Outside) (first last : Turns) 
       → (result : Result Made Stop) → GoesOn words ended mid to result → LinesTold disk words lines result
   lines_so disk visible consistent (Ok project) told result goes =
       all_lines disk words lines (loaded_so disk words lines project last.left (loads_so disk visible consistent project told)) result
-  lines_so disk visible consistent (Err fault) told result goes = subst (LinesTold disk words lines) (sym goes.0) (no_lines disk words lines fault)
+  lines_so disk visible consistent (Err fault) told result goes =
+      subst (LinesTold disk words lines) (sym goes.0) (first_lines disk words lines fault last.left (fails_so disk visible consistent fault told))
 
   pub lines_prepared : IfSome from.disk IsConsistent → (ended : Result Project LoadFault) → TellsLoad from words first last lines ended
       → (result : Result Made Stop) → GoesOn words ended mid to result → IfSome from.disk (λ disk. LinesTold disk words lines result)

@@ -3,6 +3,7 @@ mod RefusalsHoldNoHostFault
 mod RefusedPatternGivesNoPlan
 mod RequestGetsPlanOrRefusal
 mod LentHostTellsTheSame
+pub mod LinesBeginTheLoad
 mod AnswerIsWhatFilesMean
 mod LoadSettingIsRight
 mod OneMeaning

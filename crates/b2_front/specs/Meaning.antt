@@ -1,5 +1,5 @@
 -- What the files of a disk and the free words of a command come to.
-use Rattle.std.specs.Prelude.{◌≡◌, ℕ, List, Option, Some, None, Result, Ok, Err}
+use Rattle.std.specs.Prelude.{◌≡◌, ℕ, List, ◌++◌, Option, Some, None, Result, Ok, Err}
 use Rattle.b2_host.specs.Disks.{Disk}
 use Rattle.jam_journal.specs.Tables.{Text}
 use Rattle.jam_scope.specs.Worlds.{Worlds}
@@ -13,7 +13,7 @@ use Rattle.b2_props.specs.Words.{target_words}
 use Rattle.b2_props.specs.Requests.{request_sets, request_fault}
 use Rattle.b2_metatargets.specs.declared.whole.Declared.{Declared}
 use Rattle.b2_walk.specs.Walks.{Walk, Refusal as LoadRefusal}
-use Rattle.b2_project.specs.Loads.{Ending, loaded, fails, Loads}
+use Rattle.b2_project.specs.Loads.{Ending, loaded, fails, lines_of, Loads}
 use Rattle.b2_alternatives.specs.declared.fault.ChoiceFault.TheVariants.{Eval}
 use Rattle.b2_conversions.specs.Faults.{eval}
 use Rattle.b2_generate.specs.Faults.{Fault, not_chosen, not_made}
@@ -53,6 +53,10 @@ pub record HasLoaded (disk : Disk) (words lines : List Text) : Type 0 where
   pub found : Declared
   pub loads : Loads (load_setting disk None) load_turns words (loaded walk found)
   pub echoes : lines ≡ walk.state.kept.echoes
+
+-- The lines begin those that the load of these words records to its end.
+abbrev pub BeginLoad : Disk → List Text → List Text → Type 0
+BeginLoad disk words lines = (ending : Ending) → Loads (load_setting disk None) load_turns words ending → (more : List Text) × (lines_of ending ≡ lines ++ more)
 
 -- the refusal of generation that is a fault of the project's own text
 pub data IsOfText (fault : EvalFault) : Fault EvalFault → Type 0 where

@@ -19,7 +19,7 @@ use Rattle.b2_front.specs.declared.refusal.Refusal.{Refusal as Why}
 use Rattle.b2_front.specs.declared.refusal.Refusal.TheVariants as refusals
 use Rattle.b2_front.specs.declared.refusal.Stop.{Stop}
 use Rattle.b2_front.specs.declared.refusal.Stop.TheVariants.{Refused, HostInLoad, Host, OutOfMemory}
-use Rattle.b2_front.specs.Meaning.{Refusal, HasLoaded, IsRefusedInGeneration, Means}
+use Rattle.b2_front.specs.Meaning.{Refusal, HasLoaded, BeginLoad, IsRefusedInGeneration, Means}
 use Rattle.b2_front.specs.Refusals.{refusal_of, pattern_of, IsWholeRefusal}
 
 -- `Holds` of a refusal as data; `Rest` where there is none.
@@ -65,11 +65,11 @@ call_of left = option_map (λ pattern. (left, pattern))
 abbrev pub IsPrepared : Disk → List Text → List Text → Result Made Stop → Type 0
 IsPrepared disk words lines = Tells (IsRefusedInGeneration disk words lines) (λ pattern result. (left : ℕ) × Means disk (call_of left pattern) words lines result)
 
--- Where the host failed in generation, the lines are all those of the load. Nothing is said where it failed in the load.
+-- Where the host failed in the load, the lines begin those of the whole load; where it failed in generation, they are all of them.
 abbrev pub LinesTold : Disk → List Text → List Text → Result Made Stop → Type 0
 LinesTold disk words lines (Ok plan) = Unit {0}
 LinesTold disk words lines (Err (Refused why)) = Unit {0}
-LinesTold disk words lines (Err HostInLoad) = Unit {0}
+LinesTold disk words lines (Err HostInLoad) = BeginLoad disk words lines
 LinesTold disk words lines (Err Host) = HasLoaded disk words lines
 LinesTold disk words lines (Err OutOfMemory) = Unit {0}
 

@@ -121,18 +121,18 @@ refuses_none : (before after : ℕ) (found : Option Text) → found ≡ None →
 refuses_none before after found e = subst (Refuses None before after) (sym e) (λ left low high. refl)
 
 -- an outcome of which the result is known, as an answer
-answered : {A B : Type 0} (view : A → B) (result : Result A EvalFault) (o : Outcome Kept B) (s : State Kept) (before after : ℕ)
-    → (Refuses None before after (refused_of result) → IsOutcome view result o s) → Agrees is_host_fault is_out_of_memory view (answer_of o) result
-answered view (Ok a) o s before after h = ap answer_of (h (refuses_none before after None refl))
-answered view (Err fault.Host) o s before after h = λ t. no_host t
-answered view (Err fault.OutOfMemory) o s before after h = λ t. no_memory t
-answered view (Err (fault.At path line why)) o s before after h = λ t.
+answered : {A B : Type 0} (setting : Setting Kept) (view : A → B) (result : Result A EvalFault) (o : Outcome Kept B) (s : State Kept) (before after : ℕ)
+    → (Refuses None before after (refused_of result) → IsOutcome setting view result o s) → Agrees is_host_fault is_out_of_memory view (answer_of o) result
+answered setting view (Ok a) o s before after h = ap answer_of (h (refuses_none before after None refl))
+answered setting view (Err fault.Host) o s before after h = λ t. no_host t
+answered setting view (Err fault.OutOfMemory) o s before after h = λ t. no_memory t
+answered setting view (Err (fault.At path line why)) o s before after h = λ t.
     ap answer_of (h (refuses_none before after (refused_in (cause_of why)) (none_if (refused_in (cause_of why)) t.no_host_fault)))
     ∙ ap (λ w. Err (fault.At path line w)) (why_is why)
 
 -- an outcome of which the result is known where a pattern was refused
 ended : {A B : Type 0} (view : A → B) (what : What Kept B) (worlds : Worlds) (disk : Disk) (result : Result A EvalFault) (left : ℕ) (s : State Kept)
-    → ((pattern : Text) → refused_of result ≡ Some pattern → IsOutcome view result (what (refusing disk left pattern) (state_in worlds)) s) → IfErr result (EndsWithRefusal what worlds disk)
+    → ((pattern : Text) → refused_of result ≡ Some pattern → IsOutcome (refusing disk left pattern) view result (what (refusing disk left pattern) (state_in worlds)) s) → IfErr result (EndsWithRefusal what worlds disk)
 ended view what worlds disk (Ok a) left s h = tt
 ended view what worlds disk (Err fault.Host) left s h = λ pattern e. none_some pattern e
 ended view what worlds disk (Err fault.OutOfMemory) left s h = λ pattern e. none_some pattern e
@@ -153,11 +153,11 @@ pub evaluates : {A B : Type 0} (view : A → B) (what : What Kept B) (m n : Mach
     → n.outside.disk ≡ m.outside.disk → n.outside.children ≡ m.outside.children → Keeps m.outside n.outside → Counts result m.outside n.outside → IfErr result HoldsNoMemory
     → Evaluates view what m.worlds m.outside n.outside result
 evaluates view what m n result begins tells disk children keeps counts whole = record {
-  told = λ now visible consistent. answered view result (what (setting_of now) (state_in m.worlds)) (state_of n) m.left n.left
-      (λ none. subst (λ s. IsOutcome view result (what (setting_of now) s) (state_of n)) (state_is m.worlds m.left m.kept begins.left begins.kept)
+  told = λ now visible consistent. answered (setting_of now) view result (what (setting_of now) (state_in m.worlds)) (state_of n) m.left n.left
+      (λ none. subst (λ s. IsOutcome (setting_of now) view result (what (setting_of now) s) (state_of n)) (state_is m.worlds m.left m.kept begins.left begins.kept)
       (tells (setting_of now) (record { budget = begins.budget; natives = begins.meaning; folder = ap folder_of visible; right = right now consistent }) none));
   refused = λ now visible consistent. ended view what m.worlds now result n.left (state_of n)
-      (λ pattern is. subst (λ s. IsOutcome view result (what (refusing now n.left pattern) s) (state_of n)) (state_is m.worlds m.left m.kept begins.left begins.kept)
+      (λ pattern is. subst (λ s. IsOutcome (refusing now n.left pattern) view result (what (refusing now n.left pattern) s) (state_of n)) (state_is m.worlds m.left m.kept begins.left begins.kept)
       (tells (refusing now n.left pattern)
       (record { budget = begins.budget; natives = begins.meaning; folder = ap folder_of visible; right = right_refusing now consistent n.left pattern })
       (subst (Refuses (Some (n.left, pattern)) m.left n.left) (sym is) refl)));

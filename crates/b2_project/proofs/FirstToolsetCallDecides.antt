@@ -20,11 +20,14 @@ use Rattle.b2_metatargets.specs.Gathering.{gathered_by}
 use Rattle.b2_metatargets.specs.Declaring.{whole, declared}
 use Rattle.jam_journal.specs.Tables.{Text}
 use Rattle.jam_eval.specs.Settings.{Setting}
+use Rattle.jam_eval.specs.States.{State}
 use Rattle.jam_natives.specs.Keeping.{Kept}
 use Rattle.b2_walk.specs.declared.fault.LoadFault.{LoadFault}
+use Rattle.b2_walk.specs.declared.fault.LoadFault.TheVariants as faults
 use Rattle.b2_walk.specs.Faults.{refusal_of}
-use Rattle.b2_walk.specs.Walking.{IsRefusedBy, Follows}
+use Rattle.b2_walk.specs.Walking.{IsRefusedBy, StopsBy, Follows}
 use Rattle.b2_walk.specs.Walks.{Walk, Refusal, declaring, Course, goes_on, refused, RunsText}
+use Rattle.b2_walk.proofs.TextRunsBesideProjects.{follows_from}
 use Rattle.b2_project.specs.Loads.{toolset_of, ends_or_goes_on, up_to_toolset, IsToolsetRun, IsEquipped}
 use Rattle.b2_project.specs.Parts.{of_declaring, IsRefusalOf, IsOfThese, IsPlain, IsToolsetAt, IsTextOf, equipped}
 
@@ -105,6 +108,19 @@ plain_declaring declaring_faults.OutOfMemory = record { whole = tt; none = refl;
 
 pub plain_refusal : {X : Type 0} (outcome : Result X _) (fault : LoadFault) → IsRefusalOf outcome fault → IsPlain fault
 plain_refusal outcome fault (found, is, h) = subst IsPlain (sym is) (plain_declaring found)
+
+-- the calls fail by no call of the host
+never_host : (found : DeclaringFault) → of_declaring found ≡ faults.Host → ⊥
+never_host (declaring_faults.Declaration path rule line) e = cc
+never_host (declaring_faults.Feature path line (features.Twice word)) e = cc
+never_host (declaring_faults.Feature path line (features.Unknown word)) e = cc
+never_host (declaring_faults.Feature path line (features.BadValue word)) e = cc
+never_host (declaring_faults.Feature path line (features.ComposeConflict word)) e = cc
+never_host (declaring_faults.Feature path line features.OutOfMemory) e = cc
+never_host declaring_faults.OutOfMemory e = cc
+
+pub refusal_is_plain : {X : Type 0} (outcome : Result X DeclaringFault) (fault : LoadFault) → IsRefusalOf outcome fault → fault ≡ faults.Host → ⊥
+refusal_is_plain outcome fault (found, is, h) e = never_host found (sym is ∙ e)
 
 -- what a refusal of calls says, as a refusal of the load
 module _ {X : Type 0} (outcome : Result X DeclaringFault) (says : Option Refusal → Type 0) (nothing : says None) (something : (found : DeclaringFault) → outcome ≡ Err found → says (Some (declaring found))) where
@@ -199,14 +215,10 @@ plain_text visits calls fault (inr (found, up, h)) = plain_refusal (tables_of vi
 
 -- ---- what comes after the walk
 
--- where the one follows from the other
-pub follows_from : (result : Result (Unit {0}) LoadFault) (comes other : Course → Type 0) (w : Walk) → ((course : Course) → other course → comes course) → Follows result other w → Follows result comes w
-follows_from (Ok u) comes other w f h = f (goes_on w) h
-follows_from (Err fault) comes other w f h = go (refusal_of fault) h
-  where
-    go : (why : Option Refusal) → IsRefusedBy why other w.state → IsRefusedBy why comes w.state
-    go None g = tt
-    go (Some why) g = f (refused why w.state) g
+-- a fault that is none of the host
+stops_plainly : (fault : LoadFault) (comes : Course → Type 0) (s : State Kept) → (fault ≡ faults.Host → ⊥) → IsRefusedBy (refusal_of fault) comes s → StopsBy fault comes s
+stops_plainly faults.Host comes s plain h = absurd (plain refl)
+stops_plainly fault comes s plain h = h
 
 module _ (setting : Setting Kept) (w : Walk) where
   pub none_equips : up_to_toolset w.calls ≡ None → equipped setting w (goes_on w)
@@ -216,10 +228,14 @@ module _ (setting : Setting Kept) (w : Walk) where
     run_as : (course : Course) → IsToolsetRun setting (tables_of w.visits found.0) found.1 w course → equipped setting w course
     run_as course h = subst (λ f. IsEquipped setting f w course) (sym is) h
 
-    calls_refused : (fault : LoadFault) → IsRefusalOf (tables_of w.visits found.0) fault → IsRefusedBy (refusal_of fault) (equipped setting w) w.state
+    run_is : (course : Course) → equipped setting w course → IsToolsetRun setting (tables_of w.visits found.0) found.1 w course
+    run_is course h = subst (λ f. IsEquipped setting f w course) is h
+
+    calls_refused : (fault : LoadFault) → IsRefusalOf (tables_of w.visits found.0) fault → StopsBy fault (equipped setting w) w.state
     calls_refused fault h =
-        refusal_says (tables_of w.visits found.0) (λ why. IsRefusedBy why (equipped setting w) w.state) tt
-        (λ why e. run_as (refused (declaring why) w.state) (subst (λ t. IsToolsetRun setting t found.1 w (refused (declaring why) w.state)) (sym e) refl)) fault h
+        stops_plainly fault (equipped setting w) w.state (refusal_is_plain (tables_of w.visits found.0) fault h)
+        (refusal_says (tables_of w.visits found.0) (λ why. IsRefusedBy why (equipped setting w) w.state) tt
+        (λ why e. run_as (refused (declaring why) w.state) (subst (λ t. IsToolsetRun setting t found.1 w (refused (declaring why) w.state)) (sym e) refl)) fault h)
 
     text_runs : {X : Type 0} (tables : Result X DeclaringFault) (course : Course) → is_ok tables ≡ true → RunsText setting (codes "gcc") (gcc_text (command_in found.1)) w course
         → IsToolsetRun setting tables found.1 w course
@@ -229,12 +245,22 @@ module _ (setting : Setting Kept) (w : Walk) where
     text_equips : (course : Course) → is_ok (tables_of w.visits found.0) ≡ true → RunsText setting (codes "gcc") (gcc_text (command_in found.1)) w course → equipped setting w course
     text_equips course ok h = run_as course (text_runs (tables_of w.visits found.0) course ok h)
 
-  pub unread_says : (fault : LoadFault) → IsTextOf w.visits w.calls (Err fault) → IsRefusedBy (refusal_of fault) (equipped setting w) w.state
-  unread_says fault (inl none) = subst (λ f. IsRefusedBy (refusal_of f) (equipped setting w) w.state) (sym none) tt
+    runs_of : {X : Type 0} (tables : Result X DeclaringFault) (course : Course) → is_ok tables ≡ true → IsToolsetRun setting tables found.1 w course
+        → RunsText setting (codes "gcc") (gcc_text (command_in found.1)) w course
+    runs_of (Ok tables) course ok h = h
+    runs_of (Err fault) course ok h = cc
+
+    equipped_runs : (course : Course) → is_ok (tables_of w.visits found.0) ≡ true → equipped setting w course → RunsText setting (codes "gcc") (gcc_text (command_in found.1)) w course
+    equipped_runs course ok h = runs_of (tables_of w.visits found.0) course ok (run_is course h)
+
+  pub unread_says : (fault : LoadFault) → IsTextOf w.visits w.calls (Err fault) → StopsBy fault (equipped setting w) w.state
+  unread_says fault (inl none) = subst (λ f. StopsBy f (equipped setting w) w.state) (sym none) tt
   unread_says fault (inr (found, up, h)) = calls_refused found up fault h
 
   pub text_says : (text : Vec ℕ Global) (result : Result (Unit {0}) LoadFault) (v : Walk) → IsTextOf w.visits w.calls (Ok (Some text))
       → Follows result (RunsText setting (codes "gcc") text.items w) v → Follows result (equipped setting w) v
   text_says text result v (found, up, ok, bytes) h =
-      follows_from result (equipped setting w) (RunsText setting (codes "gcc") text.items w) v
-      (λ course runs. text_equips found up course ok (subst (λ b. RunsText setting (codes "gcc") b w course) bytes runs)) h
+      follows_from result (equipped setting w) (RunsText setting (codes "gcc") text.items w) v (
+        λ course runs. text_equips found up course ok (subst (λ b. RunsText setting (codes "gcc") b w course) bytes runs),
+        λ course runs. subst (λ b. RunsText setting (codes "gcc") b w course) (sym bytes) (equipped_runs found up course ok runs),
+      ) h

@@ -1,4 +1,4 @@
-mod OneEnding
+pub mod OneEnding
 mod CallsFirst
 mod RecordedRulesAreDeclaring
 mod FirstToolsetCallDecides

@@ -1,6 +1,8 @@
 -- What the calls of a walk declare, as the end of a load.
 use Rattle.std.specs.Prelude.{◌⊎◌, map as each}
-use Rattle.std.proofs.Common.{◌≡◌, ℕ, List, Option, Some, None, Result, Ok, Err, refl, ap, subst}
+use Rattle.std.proofs.Common.{◌≡◌, ℕ, List, Option, Some, None, Result, Ok, Err, refl, ap, ◌∙◌, subst}
+use Rattle.b2_metatargets.specs.declared.fault.DeclaringFault.{DeclaringFault}
+use Rattle.b2_metatargets.specs.declared.whole.Declared.{Declared}
 use Rattle.b2_metatargets.specs.Declaring.{declared}
 use Rattle.b2_metatargets.specs.Laws.{visited}
 use Rattle.b2_metatargets.specs.Numbered.{IsNumbered}
@@ -12,14 +14,14 @@ use Rattle.b2_walk.specs.declared.fault.LoadFault.{LoadFault}
 use Rattle.b2_walk.specs.declared.fault.LoadFault.TheVariants as faults
 use Rattle.b2_walk.specs.declared.walk.Walk.{Walk as Walking}
 use Rattle.b2_walk.specs.Faults.{refusal_of}
-use Rattle.b2_walk.specs.Walking.{walk_of, IsRefusedBy}
-use Rattle.b2_walk.specs.Walks.{Walk, Refusal, declaring, Course, goes_on, refused}
+use Rattle.b2_walk.specs.Walking.{walk_of, IsRefusedBy, StopsBy}
+use Rattle.b2_walk.specs.Walks.{Walk, Refusal, declaring, Course, goes_on, refused, state_in}
 use Rattle.b2_project.specs.declared.project.Project.{Project}
-use Rattle.b2_project.specs.Loads.{Ending, loaded, fails, with_declared, declare, then_declare, Loads}
+use Rattle.b2_project.specs.Loads.{Ending, loaded, fails, lines_of, with_declared, declare, then_declare, Loads}
 use Rattle.b2_project.specs.declared.load.Loaded.{Loaded}
 use Rattle.b2_project.specs.Loading.{IsRefused, IsLoaded, HasParentsBefore}
 use Rattle.b2_project.specs.Parts.{IsRefusalOf, ThroughComesTo}
-use Rattle.b2_project.proofs.FirstToolsetCallDecides.{refusal_says}
+use Rattle.b2_project.proofs.FirstToolsetCallDecides.{refusal_is_plain, refusal_says}
 
 -- the project is what the walk left, with what its calls declare
 pub record IsMadeOf (w : Walking) (project : Project) : Type 0 where
@@ -40,6 +42,21 @@ IsResultOf w (Err fault) result = result ≡ Err fault
 -- the lines are those that were recorded, or no memory was left
 abbrev pub IsEnded : Walking → Result (Unit {0}) LoadFault → Loaded → Type 0
 IsEnded w ended made = (made.result ≡ Err faults.OutOfMemory) ⊎ ((made.echoes ≡ (kept_of w.natives).echoes) × IsResultOf w ended made.result)
+
+-- a fault that is none of the host
+plainly : (setting : Setting Kept) (words : List Text) (before after : ℕ) (echoes : List Text) (fault : LoadFault) → (fault ≡ faults.Host → ⊥) → IsRefused setting words before after echoes (refusal_of fault)
+    → IsLoaded setting words before after echoes (Err fault)
+plainly setting words before after echoes faults.Host plain h = absurd (plain refl)
+plainly setting words before after echoes fault plain h = h
+
+-- declaring records no line
+declared_lines : (w : Walk) (found : Result Declared DeclaringFault) → lines_of (with_declared w found) ≡ w.state.kept.echoes
+declared_lines w (Ok found) = refl
+declared_lines w (Err fault) = refl
+
+course_lines : (course : Course) → lines_of (then_declare course) ≡ (state_in course).kept.echoes
+course_lines (goes_on w) = declared_lines w (declared w.visits w.calls)
+course_lines (refused why s) = refl
 
 module _ (setting : Setting Kept) (words : List Text) (left : ℕ) where
   -- where the calls are declared, the load ends with what they declare
@@ -62,22 +79,26 @@ module _ (setting : Setting Kept) (words : List Text) (left : ℕ) where
 
     refused_so : (fault : LoadFault) → IsRefusalOf (declared w.visits w.calls.items) fault → IsLoaded setting words left after (kept_of w.natives).echoes (Err fault)
     refused_so fault h =
-        refusal_says (declared w.visits w.calls.items) (IsRefused setting words left after (kept_of w.natives).echoes) tt (λ found e. (
+        plainly setting words left after (kept_of w.natives).echoes fault (refusal_is_plain (declared w.visits w.calls.items) fault h)
+        (refusal_says (declared w.visits w.calls.items) (IsRefused setting words left after (kept_of w.natives).echoes) tt (λ found e. (
           (walk_of w after).state,
           ends_as (walk_of w after) (fails (declaring found) (walk_of w after).state) through (ap (with_declared (walk_of w after)) e),
           refl,
           refl,
-        )) fault h
+        )) fault h)
 
     pub declared_so : (result : Result Project LoadFault) → IsProjectOf w result → IsLoaded setting words left after (kept_of w.natives).echoes result
     declared_so (Ok project) h = made project h.0
     declared_so (Err fault) h = refused_so fault h
 
   -- the load was refused before
-  pub stopped_so : (w : Walking) (after : ℕ) (fault : LoadFault) → IsRefusedBy (refusal_of fault) (ThroughComesTo setting left words) (walk_of w after).state
+  refused_at : (w : Walking) (after : ℕ) (why : Option Refusal) → IsRefusedBy why (ThroughComesTo setting left words) (walk_of w after).state → IsRefused setting words left after (kept_of w.natives).echoes why
+  refused_at w after None g = tt
+  refused_at w after (Some why) g = ((walk_of w after).state, ends (refused why (walk_of w after).state) g, refl, refl)
+
+  pub stopped_so : (w : Walking) (after : ℕ) (fault : LoadFault) → StopsBy fault (ThroughComesTo setting left words) (walk_of w after).state
       → IsLoaded setting words left after (kept_of w.natives).echoes (Err fault)
-  stopped_so w after fault h = go (refusal_of fault) h
-    where
-      go : (why : Option Refusal) → IsRefusedBy why (ThroughComesTo setting left words) (walk_of w after).state → IsRefused setting words left after (kept_of w.natives).echoes why
-      go None g = tt
-      go (Some why) g = ((walk_of w after).state, ends (refused why (walk_of w after).state) g, refl, refl)
+  stopped_so w after faults.Host h = λ ending (whole, walk, course, rest, is).
+      let (more, lines) = h course (whole, walk, rest) in
+      (more, ap lines_of is ∙ course_lines course ∙ lines)
+  stopped_so w after fault h = refused_at w after (refusal_of fault) h

@@ -1,5 +1,5 @@
 -- The walk, the toolset's build text and the declarations, one after another.
-use Rattle.std.proofs.Common.{◌≡◌, ◌≤◌, ℕ, List, [], Option, Some, None, Result, Ok, Err, is_some, false, inl, inr, refl, sym, ap, ◌∙◌, subst, arith}
+use Rattle.std.proofs.Common.{◌≡◌, ◌≤◌, ℕ, List, [], codes, Option, Some, None, Result, Ok, Err, is_some, false, inl, inr, refl, sym, ap, ◌∙◌, subst, arith}
 use Rattle.std.specs.Prelude.{IfOk, IfErr}
 use Rattle.b2_host.specs.Outside.{Outside}
 use Rattle.b2_host.specs.OutsideLaws.{keeps_then, then_rose}
@@ -9,26 +9,34 @@ use Rattle.jam_eval.specs.RefusedLaws.{refuses_first, refuses_second}
 use Rattle.jam_eval.specs.Settings.{Setting}
 use Rattle.jam_eval.specs.States.{State}
 use Rattle.jam_natives.specs.Keeping.{Kept}
+use Rattle.jam_natives.specs.Rows.{jam_meaning}
 use Rattle.jam_natives.specs.Seeing.{kept_of}
+use Rattle.b2_walk.proofs.TextRunsBesideProjects.{follows_from}
 use Rattle.jam_effects.specs.declared.turns.Turns.{Turns}
 use Rattle.jam_effects.specs.Machines.{folder_of}
 use Rattle.b2_metatargets.specs.declared.visit.Visit.{Visit}
 use Rattle.b2_metatargets.specs.declared.visit.Call.{Call}
+use Rattle.b2_metatargets.specs.declared.fault.DeclaringFault.{DeclaringFault}
+use Rattle.b2_metatargets.specs.Carrying.{tables_of}
 use Rattle.b2_metatargets.specs.Declaring.{declared}
 use Rattle.b2_walk.specs.declared.fault.LoadFault.{LoadFault}
 use Rattle.b2_walk.specs.declared.fault.LoadFault.TheVariants as faults
 use Rattle.b2_walk.specs.declared.walk.Walk.{Walk as Walking}
 use Rattle.b2_walk.specs.Faults.{refusal_of, refused_of, IsWhole, IsOfWalk}
 use Rattle.b2_walk.specs.Finding.{Looked, CountsFault, Counts}
-use Rattle.b2_walk.specs.Walking.{walk_of, IsSettingFor, IsRefusedBy, WalkComesTo, TellsWalk, AreOfProjects, AreAllVisited}
-use Rattle.b2_walk.specs.Walks.{Refusal, goes_on, refused}
+use Rattle.b2_walk.specs.Walking.{walk_of, IsSettingFor, IsRefusedBy, StopsBy, WalkComesTo, TellsWalk, AreOfProjects, AreAllVisited}
+use Rattle.b2_walk.specs.Walks.{Walk, Refusal, Course, goes_on, refused, state_in, no_walk, load_root}
+use Rattle.b2_walk.specs.Laws.{AddsLines}
+use Rattle.b2_walk.proofs.LinesAreOnlyAdded.{lines_same, lines_then, text_adds}
+use Rattle.b2_walk.proofs.OneCourse.{one_course}
 use Rattle.b2_project.specs.declared.load.Loaded.{Loaded}
 use Rattle.b2_project.specs.declared.project.Project.{Project}
+use Rattle.b2_project.specs.Loads.{up_to_toolset, IsToolsetRun, IsEquipped, IsAfterWalk}
 use Rattle.b2_project.specs.Loading.{HasParentsBefore, IsLoaded, TellsLoad, IsDeclaredBy, IsOfCalls, AreRecordedIn}
 use Rattle.b2_metatargets.specs.Numbered.{IsNumbered}
 use Rattle.b2_project.specs.Parts.{IsOfThese, IsOfTheseIf, equipped, RunsToolset, ThroughComesTo, IsClosed, AreOwned, AreAll, GoesThrough}
 use Rattle.b2_project.proofs.LoadsEndAsCallsDeclare.{IsProjectOf, IsResultOf, IsEnded, declared_so, stopped_so}
-use Rattle.b2_project.proofs.FirstToolsetCallDecides.{plain_refusal, refusal_of_these, follows_from}
+use Rattle.b2_project.proofs.FirstToolsetCallDecides.{plain_refusal, refusal_of_these}
 use Rattle.b2_project.proofs.ToolsetRunsAfterTheWalk.{whole_walk}
 
 -- ---- the walk, and then the build text
@@ -61,6 +69,25 @@ stopped_before : (setting : Setting Kept) (left : ℕ) (words : List Text) (why 
 stopped_before setting left words None s h = tt
 stopped_before setting left words (Some why) s h = (refused why s, h, refl)
 
+-- what comes after the walk only adds lines
+run_adds : {X : Type 0} (setting : Setting Kept) → setting.natives ≡ jam_meaning → (tables : Result X DeclaringFault) (command : Option Text) (w : Walk) (course : Course) → IsToolsetRun setting tables command w course
+    → AddsLines w.state (state_in course)
+run_adds setting natives (Err fault) command w course is = subst (λ c. AddsLines w.state (state_in c)) (sym is) (lines_same w.state)
+run_adds setting natives (Ok tables) command w course (reading, reads, is) = subst (λ c. AddsLines w.state (state_in c)) (sym is) (text_adds setting natives (codes "gcc") reading w)
+
+equipped_adds : (setting : Setting Kept) → setting.natives ≡ jam_meaning → (found : Option (List Call × Option Text)) (w : Walk) (course : Course) → IsEquipped setting found w course → AddsLines w.state (state_in course)
+equipped_adds setting natives None w course is = subst (λ c. AddsLines w.state (state_in c)) (sym is) (lines_same w.state)
+equipped_adds setting natives (Some found) w course h = run_adds setting natives (tables_of w.visits found.0) found.1 w course h
+
+after_adds : (setting : Setting Kept) → setting.natives ≡ jam_meaning → (whole course : Course) → IsAfterWalk setting whole course → AddsLines (state_in whole) (state_in course)
+after_adds setting natives (goes_on w) course h = equipped_adds setting natives (up_to_toolset w.calls) w course h
+after_adds setting natives (refused why s) course is = subst (λ c. AddsLines s (state_in c)) (sym is) (lines_same s)
+
+stops_before : (setting : Setting Kept) → setting.natives ≡ jam_meaning → (left : ℕ) (words : List Text) (fault : LoadFault) (s : State Kept) → StopsBy fault (WalkComesTo setting left words) s
+    → StopsBy fault (ThroughComesTo setting left words) s
+stops_before setting natives left words faults.Host s h = λ course (whole, walk, after). lines_then s (state_in whole) (state_in course) (h whole walk) (after_adds setting natives whole course after)
+stops_before setting natives left words fault s h = stopped_before setting left words (refusal_of fault) s h
+
 -- a walk has no fault of declaring
 none_of_calls : (words : List Text) (fault : LoadFault) → IsOfWalk fault → IsOfCalls words fault
 none_of_calls words faults.Host h = tt
@@ -77,7 +104,7 @@ none_of_calls words (faults.Feature path line fault) h = absurd h
 pub walk_stopped : (words : List Text) (w : Walking) (first last : Turns) (from to : Outside) (fault : LoadFault) → TellsWalk from words first last w (Err fault) → IsOfWalk fault → IsClosed w
     → last.left ≤ first.left → last.budget ≡ first.budget → Looked from to → CountsFault fault from to → GoesThrough words w first last from to (Err fault)
 walk_stopped words w first last from to fault told of_walk closed turns budget looked counts = record {
-  told = λ setting right refuses. stopped_before setting first.left words (refusal_of fault) (walk_of w last.left).state (told setting right refuses);
+  told = λ setting right refuses. stops_before setting right.natives first.left words fault (walk_of w last.left).state (told setting right refuses);
   owned = tt;
   all = none_of_calls words fault of_walk;
   closed = closed;
@@ -116,7 +143,10 @@ pub went_through : (words : List Text) (w v : Walking) (first middle last : Turn
 went_through words w v first middle last from there to result told owned all closed turns budget looked counts two = record {
   told = λ setting right refuses.
       follows_from result (ThroughComesTo setting first.left words) (equipped setting (walk_of w middle.left)) (walk_of v last.left)
-      (λ course h. (goes_on (walk_of w middle.left), told setting right (refuses_first setting.refused first.left middle.left last.left (refused_of result) two.turns two.took refuses), h))
+      (let walked = told setting right (refuses_first setting.refused first.left middle.left last.left (refused_of result) two.turns two.took refuses) in (
+        λ course h. (goes_on (walk_of w middle.left), walked, h),
+        λ course (whole, walk, after). subst (λ c. IsAfterWalk setting c course) (one_course setting words (load_root setting (no_walk first.left)) whole (goes_on (walk_of w middle.left)) walk walked) after,
+      ))
       (two.told setting (setting_later setting first.budget middle.budget from there budget looked right) (refuses_second setting.refused first.left middle.left last.left (refused_of result) turns refuses));
   owned = owned_later result w v owned two.stays.visits two.stays.calls;
   all = all_later words result w v all two.stays.visits two.stays.calls two.fault;

@@ -1,27 +1,17 @@
 -- A load ends in one way.
-use Rattle.std.proofs.Common.{◌≡◌, ℕ, List, [], codes, Option, Some, None, Result, Ok, Err, refl, sym, ap, ◌∙◌, subst}
+use Rattle.std.proofs.Common.{◌≡◌, ℕ, List, codes, Option, Some, None, Result, Ok, Err, sym, ap, ◌∙◌, subst}
 use Rattle.b2_gcc.specs.BuildText.{command_in, gcc_text}
-use Rattle.b2_host.specs.Disks.{Folder}
 use Rattle.b2_metatargets.specs.declared.fault.DeclaringFault.{DeclaringFault}
 use Rattle.b2_metatargets.specs.declared.visit.Call.{Call}
 use Rattle.b2_metatargets.specs.Carrying.{tables_of}
 use Rattle.jam_journal.specs.Tables.{Text}
-use Rattle.jam_eval.specs.Settings.{Setting, Reading}
-use Rattle.jam_values.specs.FileReadings.{ReadsAny}
-use Rattle.jam_values.proofs.OneReading.{one_reading, file_reads}
+use Rattle.jam_eval.specs.Settings.{Setting}
 use Rattle.jam_natives.specs.Keeping.{Kept}
 use Rattle.b2_walk.specs.Walks.{Walk, Course, goes_on, refused, run_text, no_walk, load_root}
 use Rattle.b2_walk.specs.Laws.{OneCourse}
+use Rattle.b2_walk.proofs.TextRunsBesideProjects.{one_text}
 use Rattle.b2_project.specs.Loads.{then_declare, up_to_toolset, IsToolsetRun, IsEquipped, IsAfterWalk}
 use Rattle.b2_project.specs.Laws.{OneEnding}
-
--- a folder in which each path has these bytes
-abbrev filled : List ℕ → Folder
-filled bytes = λ path. Some (record { stamp = 0; bytes = bytes })
-
-one_text : (bytes : List ℕ) (reading other : Reading) → ReadsAny bytes reading → ReadsAny bytes other → reading ≡ other
-one_text bytes reading other h g =
-    one_reading (filled bytes) [] reading other (file_reads (filled bytes) [] bytes reading refl h) (file_reads (filled bytes) [] bytes other refl g)
 
 module _ (setting : Setting Kept) where
   one_run : {X : Type 0} (tables : Result X DeclaringFault) (command : Option Text) (w : Walk) (course other : Course)

@@ -1,5 +1,5 @@
 -- What the answer of a load says.
-use Rattle.std.specs.Prelude.{◌≡◌, ℕ, List, map as each, Option, Some, None, Result, Ok, Err}
+use Rattle.std.specs.Prelude.{◌≡◌, ℕ, List, ◌++◌, map as each, Option, Some, None, Result, Ok, Err}
 use Rattle.b2_host.specs.Outside.{Outside}
 use Rattle.b2_metatargets.specs.declared.fault.DeclaringFault.{DeclaringFault}
 use Rattle.b2_metatargets.specs.declared.fault.DeclaringFault.TheVariants as declaring_faults
@@ -22,7 +22,7 @@ use Rattle.b2_walk.specs.Faults.{refusal_of, refused_of}
 use Rattle.b2_walk.specs.Walking.{IsSettingFor, AreAllVisited}
 use Rattle.b2_walk.specs.Walks.{Walk, Refusal}
 use Rattle.b2_project.specs.declared.project.Project.{Project}
-use Rattle.b2_project.specs.Loads.{Loads, loaded, fails}
+use Rattle.b2_project.specs.Loads.{Ending, loaded, fails, lines_of, Loads}
 
 -- ---- where the files are visible
 
@@ -33,16 +33,21 @@ pub record IsProject (w : Walk) (found : Declared) (project : Project) : Type 0 
   pub declared : project.declared ≡ found
 
 module _ (setting : Setting Kept) (words : List Text) (before after : ℕ) (echoes : List Text) where
-  -- the load was refused so; nothing is said of a fault of the host and of out of memory
+  -- the load was refused so; nothing is said of out of memory
   abbrev pub IsRefused : Option Refusal → Type 0
   IsRefused None = Unit {0}
   IsRefused (Some why) = (s : State Kept) × Loads setting before words (fails why s) × (echoes ≡ s.kept.echoes) × (after ≡ s.left)
 
-  -- the answer is what is defined
+  -- the lines begin those that the load records to its end
+  abbrev pub BeginLines : Type 0
+  BeginLines = (ending : Ending) → Loads setting before words ending → (more : List Text) × (lines_of ending ≡ echoes ++ more)
+
+  -- The answer is what is defined; where the host failed, the lines are a first part of those that are.
   abbrev pub IsLoaded : Result Project LoadFault → Type 0
   IsLoaded (Ok project) =
       (w : Walk) × (found : Declared) × Loads setting before words (loaded w found) × IsProject w found project
       × (echoes ≡ w.state.kept.echoes) × (after ≡ w.state.left)
+  IsLoaded (Err faults.Host) = BeginLines
   IsLoaded (Err fault) = IsRefused (refusal_of fault)
 
 -- Where the files are visible, the answer is what is defined, for each right setting that names what was refused, if anything was.

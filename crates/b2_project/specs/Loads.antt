@@ -19,6 +19,11 @@ pub data Ending : Type 0 where
   loaded : Walk → Declared → Ending
   fails : Refusal → State Kept → Ending
 
+-- the lines that were recorded when it ended
+abbrev pub lines_of : Ending → List Text
+lines_of (loaded w found) = w.state.kept.echoes
+lines_of (fails why s) = s.kept.echoes
+
 -- the calls of the walk are carried out, and then their property texts are read
 abbrev pub with_declared : Walk → Result Declared DeclaringFault → Ending
 with_declared w (Ok found) = loaded w found

@@ -11,7 +11,8 @@ use Rattle.b2_top.specs.declared.build_command.BuildCommand.{BuildCommand}
 use Rattle.b2_top.specs.Told.{StaysStill}
 use Rattle.b2_front.specs.Laws.{OneMeaning}
 use Rattle.b2_front.specs.Meaning.{Means}
-use Rattle.b2_front.specs.Preparing.{IsPrepared, IsWhole as IsWholeStop, CountsStop}
+use Rattle.b2_front.specs.Preparing.{IsPrepared, LinesTold, IsWhole as IsWholeStop, CountsStop}
+use Rattle.b2_front.proofs.LinesBeginTheLoad.{loaded_begins}
 use Rattle.b2_front.specs.declared.refusal.Refusal.{Refusal}
 use Rattle.b2_front.specs.declared.refusal.Refusal.TheVariants as refusals
 use Rattle.b2_front.specs.declared.refusal.Stop.{Stop}
@@ -66,17 +67,18 @@ module _ (law : OneMeaning) (made : Made) (words : List Word) (command : BuildCo
   cause_of (refusals.Request fault) disk h = record { command = command; asked = asked; cause = h }
   cause_of (refusals.Generation fault) disk h = record { command = command; asked = asked; cause = h }
 
-  pub stopped : (o1 : Output) (stop : Stop) (result : Answer) → Prepared (Err stop) → IsWholeStop stop → CountsStop stop h0 h1 → AnswersStop echoes stop o0 o1 result → Stopped o1 result
-  stopped o1 (stops.Refused why) result told whole counts says =
+  pub stopped : (o1 : Output) (stop : Stop) (result : Answer) → Prepared (Err stop) → IfSome h0.disk (λ disk. LinesTold disk command.words echoes (Err stop)) → IsWholeStop stop → CountsStop stop h0 h1 → AnswersStop echoes stop o0 o1 result → Stopped o1 result
+  stopped o1 (stops.Refused why) result told lines whole counts says =
       still_refused made words h0 h1 o0 o1 idle still (λ none. not_none none) why echoes result (whole_of why whole) (λ none. not_none none) counts
       (if_map h0.disk (cause_of why) told)
       (if_map h0.disk (λ disk h plan. subst (λ (c : BuildCommand). IsPatternRefused disk c.words (answers.Refused (fault_of why))) (sym (same_command disk plan))
       (pattern_refused law disk command.words plan.echoes echoes plan.planned (plan_means disk plan) why whole h)) told) says
-  stopped o1 stops.HostInLoad result told whole counts says =
-      still_fault made words h0 h1 o0 o1 idle still (λ none. not_none none) command asked echoes counts result says
-  stopped o1 stops.Host result told whole counts says =
-      still_fault made words h0 h1 o0 o1 idle still (λ none. not_none none) command asked echoes counts result says
-  stopped o1 stops.OutOfMemory result told whole counts says =
+  stopped o1 stops.HostInLoad result told lines whole counts says =
+      still_fault made words h0 h1 o0 o1 idle still (λ none. not_none none) command asked echoes lines counts result says
+  stopped o1 stops.Host result told lines whole counts says =
+      still_fault made words h0 h1 o0 o1 idle still (λ none. not_none none) command asked echoes
+      (if_map h0.disk (λ disk has. loaded_begins disk command.words echoes has) lines) counts result says
+  stopped o1 stops.OutOfMemory result told lines whole counts says =
       subst (Stopped o1) (sym says.0) (still_short made words h0 h1 o0 o1 idle still (λ none. not_none none) says.1)
 
   -- ---- there is one

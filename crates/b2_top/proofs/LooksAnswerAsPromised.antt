@@ -11,8 +11,9 @@ use Rattle.b2_words.specs.Words.{Word}
 use Rattle.b2_planning.specs.declared.planned.Planned.{Planned as Made}
 use Rattle.b2_planning.specs.Plans.{seen}
 use Rattle.b2_front.specs.Laws.{OneMeaning}
-use Rattle.b2_front.specs.Meaning.{Means}
-use Rattle.b2_front.specs.Preparing.{IsPrepared, IsWhole as IsWholeStop, Counts}
+use Rattle.b2_front.specs.Meaning.{BeginLoad, Means}
+use Rattle.b2_front.proofs.LinesBeginTheLoad.{loaded_begins}
+use Rattle.b2_front.specs.Preparing.{IsPrepared, LinesTold, IsWhole as IsWholeStop, Counts}
 use Rattle.b2_front.specs.Refusals.{IsWholeRefusal}
 use Rattle.b2_front.specs.declared.refusal.Refusal.{Refusal}
 use Rattle.b2_front.specs.declared.refusal.Refusal.TheVariants as refusals
@@ -223,13 +224,13 @@ module _ (law : OneMeaning) (words : List Word) (look : Look) (asked : look_of w
         (λ part front. if_map h0.disk (λ disk h. report (refused (fault_of why) whole_refusal (is_refused disk h) front)) told))
 
   -- the host failed
-  module _ (rose : Rose h0.faults h1.faults) where
+  module _ (begins : IfSome h0.disk (λ disk. BeginLoad disk look.words echoes)) (rose : Rose h0.faults h1.faults) where
     ended_host : (bytes : List ℕ) → o1.written ≡ option_map (λ so_far. so_far ++ bytes) o0.written
         → ((bytes ≡ fault_report echoes) × (o1.faults ≡ o0.faults)) ⊎ (SinkFailed o0 o1 × IsFrontOf bytes (fault_report echoes))
         → HostFailedFirst (moment h0 o0) (moment h1 o1) → OutKeeps o0 o1 → Promised answers.HostFault
     ended_host bytes text ended first keeps = record {
       shown = λ e. absurd cc;
-      reported = written_told (moment h0 o0) (moment h1 o1) bytes _ text (if_all h0.disk (λ disk. record { look = look; echoes = echoes; asked = asked; ended = ended }));
+      reported = written_told (moment h0 o0) (moment h1 o1) bytes _ text (if_map h0.disk (λ disk b. record { look = look; echoes = echoes; asked = asked; begins = b; ended = ended }) begins);
       counts = first;
       usage = λ none. not_none none;
       alone = λ none. not_none none;
@@ -252,13 +253,13 @@ module _ (law : OneMeaning) (words : List Word) (look : Look) (asked : look_of w
     answered_fault result (fault_failed is f) = subst Promised (sym is) (ended_host f.part f.written (inr (f.sink, f.begins)) (first_so (inr f)) (keeps_failed (fault_report echoes) o0 o1 f))
     answered_fault result (fault_stopped is s) =
         subst Promised (sym is) (ended_memory words (moment h0 o0) (moment h1 o1) (fault_report echoes) s (λ none. not_none none)
-        (λ part front. if_all h0.disk (λ disk. host_fault echoes rose front)))
+        (λ part front. if_map h0.disk (λ disk b. host_fault look echoes asked b rose front) begins))
 
   -- whatever the files and the words came to
-  pub answered : (result : Result Made Stop) (answer : Answer) → IsTold result → IfErr result IsWholeStop → Counts result h0 h1 → AnswersWith look.view echoes result o0 o1 answer → Promised answer
-  answered (Ok made) answer told whole counts says = answered_look made told counts answer says
-  answered (Err (stops.Refused why)) answer told whole counts says = answered_refusal why told whole counts answer says
-  answered (Err stops.HostInLoad) answer told whole counts says = answered_fault counts answer says
-  answered (Err stops.Host) answer told whole counts says = answered_fault counts answer says
-  answered (Err stops.OutOfMemory) answer told whole counts says =
+  pub answered : (result : Result Made Stop) (answer : Answer) → IsTold result → IfSome h0.disk (λ disk. LinesTold disk look.words echoes result) → IfErr result IsWholeStop → Counts result h0 h1 → AnswersWith look.view echoes result o0 o1 answer → Promised answer
+  answered (Ok made) answer told lines whole counts says = answered_look made told counts answer says
+  answered (Err (stops.Refused why)) answer told lines whole counts says = answered_refusal why told whole counts answer says
+  answered (Err stops.HostInLoad) answer told lines whole counts says = answered_fault lines counts answer says
+  answered (Err stops.Host) answer told lines whole counts says = answered_fault (if_map h0.disk (λ disk has. loaded_begins disk look.words echoes has) lines) counts answer says
+  answered (Err stops.OutOfMemory) answer told lines whole counts says =
       subst Promised (sym says.0) (ended_short words h0 h1 o0 o1 says.1 (λ none. not_none none))

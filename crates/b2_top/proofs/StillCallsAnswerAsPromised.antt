@@ -36,6 +36,7 @@ use Rattle.b2_top.specs.Commands.{build_command}
 use Rattle.b2_top.specs.Plans.{HasPlan}
 use Rattle.b2_top.specs.Causes.{HasNoPlan}
 use Rattle.b2_top.specs.Builds.{RefusedBy, run_answer}
+use Rattle.b2_front.specs.Meaning.{BeginLoad}
 use Rattle.b2_top.specs.Reported.{IsRefusalReport, IsFaultReport, BeginsEarly, BeginsSome, WroteEarly, RefusalTold, TellsFault}
 use Rattle.b2_top.specs.Reported.IsEarlyReport.{usage, refusal}
 use Rattle.b2_top.specs.Reported.BeginsSome.{nothing, reporting, faulting}
@@ -256,11 +257,11 @@ module _ (made : Made) (words : List Word) (h0 h1 : Outside) (o0 o1 : Output) (i
 
   -- ---- a fault of the host
 
-  module _ (command : BuildCommand) (asked : build_command words ≡ Some command) (echoes : List Word) (rose : Rose h0.faults h1.faults) where
-    fault_at : IsFaultReport words (fault_report echoes)
-    fault_at = record { command = command; asked = asked; echoes = echoes; is = refl }
+  module _ (command : BuildCommand) (asked : build_command words ≡ Some command) (echoes : List Word) (begins : IfSome h0.disk (λ disk. BeginLoad disk command.words echoes)) (rose : Rose h0.faults h1.faults) where
+    fault_at : (disk : Disk) → BeginLoad disk command.words echoes → IsFaultReport words disk (fault_report echoes)
+    fault_at disk b = record { command = command; asked = asked; echoes = echoes; begins = b; is = refl }
 
-    still_host : (bytes : List ℕ) → o1.written ≡ option_map (λ so_far. so_far ++ bytes) o0.written → TellsFault words o0 o1 bytes → HostFailedFirst (moment h0 o0) (moment h1 o1) → OutKeeps o0 o1 → Promised answers.HostFault
+    still_host : (bytes : List ℕ) → o1.written ≡ option_map (λ so_far. so_far ++ bytes) o0.written → IfSome h0.disk (λ disk. TellsFault words disk o0 o1 bytes) → HostFailedFirst (moment h0 o0) (moment h1 o1) → OutKeeps o0 o1 → Promised answers.HostFault
     still_host bytes text ended first keeps = record {
       happened = both_still _ (if_all h0.disk (λ disk. inl still));
       counts = first;
@@ -271,7 +272,7 @@ module _ (made : Made) (words : List Word) (h0 h1 : Outside) (o0 o1 : Output) (i
       starts_none = tt;
       whole = tt;
       patterns = if_all h0.disk (λ disk. tt);
-      reported = both_still _ (if_all h0.disk (λ disk events are. inl (early bytes (TellsFault words o0 o1) text ended events are)));
+      reported = both_still _ (if_map h0.disk (λ disk told events are. inl (early bytes (TellsFault words disk o0 o1) text told events are)) ended);
       turns = no_turns answers.HostFault (λ e. cc) refl;
       left_open = no_left;
       out_keeps = keeps;
@@ -283,8 +284,8 @@ module _ (made : Made) (words : List Word) (h0 h1 : Outside) (o0 o1 : Output) (i
     pub still_fault : (result : Answer) → SaysFault (fault_report echoes) o0 o1 result → Promised result
     still_fault result (fault_said is p) =
         subst Promised (sym is) (still_host (fault_report echoes) (text_of (fault_report echoes) o0 o1 p)
-        (fault_report echoes, fault_at, inl (refl, faults_of (fault_report echoes) o0 o1 p)) (first_so (inl p)) (keeps_written (fault_report echoes) o0 o1 p))
+        (if_map h0.disk (λ disk b. (fault_report echoes, fault_at disk b, inl (refl, faults_of (fault_report echoes) o0 o1 p))) begins) (first_so (inl p)) (keeps_written (fault_report echoes) o0 o1 p))
     still_fault result (fault_failed is f) =
-        subst Promised (sym is) (still_host f.part f.written (fault_report echoes, fault_at, inr (f.sink, f.begins)) (first_so (inr f)) (keeps_failed (fault_report echoes) o0 o1 f))
+        subst Promised (sym is) (still_host f.part f.written (if_map h0.disk (λ disk b. (fault_report echoes, fault_at disk b, inr (f.sink, f.begins))) begins) (first_so (inr f)) (keeps_failed (fault_report echoes) o0 o1 f))
     still_fault result (fault_stopped is s) =
-        subst Promised (sym is) (still_memory (fault_report echoes) s (λ part front. if_all h0.disk (λ disk. faulting (fault_report echoes) rose fault_at front)))
+        subst Promised (sym is) (still_memory (fault_report echoes) s (λ part front. if_map h0.disk (λ disk b. faulting (fault_report echoes) rose (fault_at disk b) front) begins))

@@ -9,6 +9,7 @@ use Rattle.b2_base.specs.Counts.{Rose}
 use Rattle.b2_base.specs.Bytes.{IsFrontOf}
 use Rattle.b2_host.specs.Output.{Output}
 use Rattle.b2_host.specs.declared.children.ChildEvent.{ChildEvent}
+use Rattle.b2_front.specs.Meaning.{BeginLoad}
 use Rattle.b2_refusals.specs.Lines.{usage_line}
 use Rattle.b2_refusals.specs.declared.fault.Fault.{Fault}
 use Rattle.b2_refusals.specs.declared.fault.Fault.TheVariants as faults
@@ -43,11 +44,12 @@ pub record IsRefusalReport (words : List Word) (disk : Disk) (fault : Fault) (wr
   pub cause : HasNoPlan words disk echoes fault
   pub is : written ≡ refusal_report echoes [] fault
 
--- The words ask for a build, and these are some lines of ECHO and the line of a fault of the host.
-pub record IsFaultReport (words : List Word) (written : List ℕ) : Type 0 where
+-- The words ask for a build, and these are lines of ECHO that begin those of the load, and the line of a fault of the host.
+pub record IsFaultReport (words : List Word) (disk : Disk) (written : List ℕ) : Type 0 where
   pub command : BuildCommand
   pub asked : build_command words ≡ Some command
   pub echoes : List Word
+  pub begins : BeginLoad disk command.words echoes
   pub is : written ≡ fault_report echoes
 
 -- All that may be written before anything is started: the usage line, where no build is asked for; the report of a
@@ -65,13 +67,13 @@ BeginsEarly words disk written = (whole : List ℕ) × IsEarlyReport words disk 
 pub data BeginsSome (words : List Word) (disk : Disk) (host host_after : ℕ) (written : List ℕ) : Type 0 where
   nothing : written ≡ [] → BeginsSome words disk host host_after written
   reporting : BeginsEarly words disk written → BeginsSome words disk host host_after written
-  faulting : (whole : List ℕ) → Rose host host_after → IsFaultReport words whole → IsFrontOf written whole
+  faulting : (whole : List ℕ) → Rose host host_after → IsFaultReport words disk whole → IsFrontOf written whole
       → BeginsSome words disk host host_after written
 
 -- what was written where the host failed
-abbrev pub TellsFault : List Word → Output → Output → List ℕ → Type 0
-TellsFault words sink sink_after written =
-    (whole : List ℕ) × IsFaultReport words whole × IsToldOrCut sink sink_after written whole
+abbrev pub TellsFault : List Word → Disk → Output → Output → List ℕ → Type 0
+TellsFault words disk sink sink_after written =
+    (whole : List ℕ) × IsFaultReport words disk whole × IsToldOrCut sink sink_after written whole
 
 -- nothing was started, no file has changed, and bytes of which this holds were written
 abbrev pub WroteEarly : Moment → Moment → List ChildEvent → (List ℕ → Type 0) → Type 0
@@ -108,7 +110,7 @@ module _ (made : Made) (words : List Word) (before after : Moment) (disk later :
   ReportedBy (answers.Failed lists) = WroteUpdate (some_failed (lists_of lists)) IsAllOf
   ReportedBy (answers.Refused fault) = RefusalTold fault
   ReportedBy answers.Usage = WroteEarly before after events (λ written. written ≡ usage_line)
-  ReportedBy answers.HostFault = WroteEarly before after events (TellsFault words before.out after.out)
+  ReportedBy answers.HostFault = WroteEarly before after events (TellsFault words disk before.out after.out)
       ⊎ WroteUpdate host_fault (IsToldOrCut before.out after.out)
   ReportedBy answers.OutOfMemory =
       WroteEarly before after events (BeginsSome words disk before.host.faults after.host.faults)

@@ -9,7 +9,7 @@ use Rattle.b2_host.specs.Output.{Output, with_written}
 use Rattle.b2_host.specs.OutputLaws.{OutKeeps}
 use Rattle.b2_words.specs.Words.{Word}
 use Rattle.b2_generate.specs.Planning.{Planned}
-use Rattle.b2_front.specs.Meaning.{Means}
+use Rattle.b2_front.specs.Meaning.{BeginLoad, Means}
 use Rattle.b2_runs.specs.Moments.{Moment}
 use Rattle.b2_runs.specs.UpdateAnswers.{SinkFailed}
 use Rattle.b2_refusals.specs.declared.fault.Fault.{Fault}
@@ -66,11 +66,13 @@ pub record IsRefused (words : List Word) (disk : Disk) (fault : Fault) (written 
   pub cause : HasNoPlan words disk echoes fault
   pub report : written ≡ refusal_report echoes [] fault
 
--- The words are a look, and the line of a fault of the host was written; or a beginning of this, where the sink failed too.
-pub record HasHostFault (words : List Word) (sink sink_after : Output) (written : List ℕ) : Type 0 where
+-- The words are a look, and lines of ECHO that begin those of the load, and the line of a fault of the host were written; or a
+-- beginning of this, where the sink failed too.
+pub record HasHostFault (words : List Word) (disk : Disk) (sink sink_after : Output) (written : List ℕ) : Type 0 where
   pub look : Look
   pub echoes : List Word
   pub asked : look_of words ≡ Some look
+  pub begins : BeginLoad disk look.words echoes
   pub ended : ((written ≡ fault_report echoes) × (sink_after.faults ≡ sink.faults)) ⊎ (SinkFailed sink sink_after × IsFrontOf written (fault_report echoes))
 
 -- A beginning was written: of the usage line, where the words are no look, of a look at a plan, or of a refusal with its cause.
@@ -83,7 +85,8 @@ pub data BeginsReport (words : List Word) (disk : Disk) (written : List ℕ) : T
 pub data BeginsSome (words : List Word) (disk : Disk) (host host_after : ℕ) (written : List ℕ) : Type 0 where
   nothing : written ≡ [] → BeginsSome words disk host host_after written
   report : BeginsReport words disk written → BeginsSome words disk host host_after written
-  host_fault : (echoes : List Word) → Rose host host_after → IsFrontOf written (fault_report echoes) → BeginsSome words disk host host_after written
+  host_fault : (look : Look) (echoes : List Word) → look_of words ≡ Some look → BeginLoad disk look.words echoes → Rose host host_after
+      → IsFrontOf written (fault_report echoes) → BeginsSome words disk host host_after written
 
 -- what an answer says of the bytes that were written
 abbrev pub ReportedBy : List Word → Moment → Moment → Answer → Disk → List ℕ → Type 0
@@ -91,7 +94,7 @@ ReportedBy words before after answers.Ok disk written = IsShown words disk writt
 ReportedBy words before after (answers.Failed lists) disk written = ⊥
 ReportedBy words before after (answers.Refused fault) disk written = IsRefused words disk fault written
 ReportedBy words before after answers.Usage disk written = written ≡ usage_line
-ReportedBy words before after answers.HostFault disk written = HasHostFault words before.out after.out written
+ReportedBy words before after answers.HostFault disk written = HasHostFault words disk before.out after.out written
 ReportedBy words before after answers.OutOfMemory disk written = BeginsSome words disk before.host.faults after.host.faults written
 ReportedBy words before after answers.SinkFault disk written = BeginsReport words disk written
 

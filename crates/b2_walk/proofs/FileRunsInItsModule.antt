@@ -12,6 +12,8 @@ use Rattle.jam_eval.specs.Laws.{bound_of, bounds}
 use Rattle.jam_eval.specs.NativeCalls.{KeepsFrames}
 use Rattle.jam_eval.specs.Outcomes.{Outcome, close_frame}
 use Rattle.jam_eval.specs.Eval.{run}
+use Rattle.jam_eval.specs.Settings.{Setting}
+use Rattle.jam_eval.proofs.RecordsOnlyGrow.{close_begins}
 use Rattle.jam_natives.specs.Keeping.{Kept}
 use Rattle.jam_effects.specs.declared.fault.EvalFault.{EvalFault}
 use Rattle.jam_effects.specs.declared.fault.EvalFault.TheVariants as fault
@@ -22,12 +24,12 @@ use Rattle.jam_interp.specs.Parts.{run_at}
 use Rattle.b2_walk.specs.Running.{MayBePut, HasEntered, Runs, project_at}
 use Rattle.b2_walk.specs.Walks.{prepared}
 
-agrees_closed : (result : Result (Unit {0}) EvalFault) (o : Outcome Kept (Unit {0})) (c : Machine Kept) → Agrees ended result o (state_of c)
-    → Agrees ended result (close_frame o) (state_of (record c { worlds = rescoped leave c.worlds }))
-agrees_closed (Ok u) o c h = ap close_frame h
-agrees_closed (Err fault.Host) o c h = tt
-agrees_closed (Err fault.OutOfMemory) o c h = tt
-agrees_closed (Err (fault.At path line why)) o c h = ap close_frame h
+agrees_closed : (setting : Setting Kept) (result : Result (Unit {0}) EvalFault) (o : Outcome Kept (Unit {0})) (c : Machine Kept) → Agrees setting ended result o (state_of c)
+    → Agrees setting ended result (close_frame o) (state_of (record c { worlds = rescoped leave c.worlds }))
+agrees_closed setting (Ok u) o c h = ap close_frame h
+agrees_closed setting (Err fault.Host) o c h = close_begins setting o (state_of c) h
+agrees_closed setting (Err fault.OutOfMemory) o c h = tt
+agrees_closed setting (Err (fault.At path line why)) o c h = ap close_frame h
 
 -- in a frame of the module, in the world that was prepared
 runs_in : (visit : Visit) (above : Option Text) (tree : StmtTrees) (a c : Machine Kept) (inside : Worlds) (result : Result (Unit {0}) EvalFault)
@@ -35,8 +37,8 @@ runs_in : (visit : Visit) (above : Option Text) (tree : StmtTrees) (a c : Machin
     → Tells ended (run_at visit.file tree) (record a { worlds = inside }) c result
     → Tells ended (project_at visit above tree) a (record c { worlds = rescoped leave c.worlds }) result
 runs_in visit above tree a c inside result is h setting right refuses =
-    agrees_closed result (run setting visit.file tree (state_of (record a { worlds = rescoped (enter visit.«module») (changed (prepared visit above) a.worlds) }))) c
-    (subst (λ ws. Agrees ended result (run setting visit.file tree (state_of (record a { worlds = ws }))) (state_of c)) is
+    agrees_closed setting result (run setting visit.file tree (state_of (record a { worlds = rescoped (enter visit.«module») (changed (prepared visit above) a.worlds) }))) c
+    (subst (λ ws. Agrees setting ended result (run setting visit.file tree (state_of (record a { worlds = ws }))) (state_of c)) is
     (h setting (record { budget = right.budget; natives = right.natives; folder = right.folder; right = right.right }) refuses))
 
 -- the frame of the module is still there

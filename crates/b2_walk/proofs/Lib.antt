@@ -6,11 +6,12 @@ mod ModulesStayInLine
 mod FirstFileThereIsFound
 mod NativesKeepParents
 mod NativesKeepTheRecord
+pub mod LinesAreOnlyAdded
 mod FileRunsInItsModule
 mod PartsMakeTheLoad
 mod VisitDoesWhatIsDefined
-mod TextRunsBesideProjects
+pub mod TextRunsBesideProjects
 mod WhatIsDueIsVisited
-mod OneCourse
+pub mod OneCourse
 mod CallsAreThoseRecorded
 mod NothingIsLeftOpen

@@ -1,6 +1,7 @@
 -- What is promised of a text that is no project's file, in each way in which it reads, is refused or ends.
-use Rattle.std.proofs.Common.{◌≡◌, ℕ, List, None, Result, Ok, Err, refl, sym, ap, ◌∙◌, subst, arith}
+use Rattle.std.proofs.Common.{◌≡◌, ℕ, List, [], Some, None, Result, Ok, Err, refl, sym, ap, ◌∙◌, subst, arith}
 use Rattle.std.specs.Prelude.{IfErr}
+use Rattle.b2_host.specs.Disks.{Folder}
 use Rattle.jam_grammar.specs.declared.tree.Tree.{Tree}
 use Rattle.jam_grammar.specs.Trees.{whole_tree}
 use Rattle.jam_journal.specs.Tables.{Text}
@@ -13,18 +14,19 @@ use Rattle.jam_eval.specs.Eval.{run}
 use Rattle.jam_natives.specs.Keeping.{Kept}
 use Rattle.jam_values.specs.declared.files.FileReading.{FileReading}
 use Rattle.jam_values.specs.FileReadings.{reading_of, ReadsAny}
+use Rattle.jam_values.proofs.OneReading.{one_reading, file_reads}
 use Rattle.jam_effects.specs.declared.fault.EvalFault.{EvalFault}
 use Rattle.jam_interp.specs.Parts.{run_at}
 use Rattle.b2_walk.specs.declared.fault.LoadFault.{LoadFault}
 use Rattle.b2_walk.specs.declared.fault.LoadFault.TheVariants as load_faults
-use Rattle.b2_walk.specs.Faults.{refusal_of, refused_of, of_eval, of_lex, of_syntax, IsOfWalk}
+use Rattle.b2_walk.specs.Faults.{refused_of, of_eval, of_lex, of_syntax, IsOfWalk}
 use Rattle.b2_walk.specs.Finding.{Counts}
 use Rattle.b2_walk.specs.Running.{Runs}
 use Rattle.b2_walk.specs.Walking.{Follows}
-use Rattle.b2_walk.specs.Walks.{Course, goes_on, lex, too_big, syntax_at, after_run}
-use Rattle.b2_walk.specs.Doing.{Stand, What, IsOfWalkIf, RunsBeside, reads_text, reads_tree, runs_bytes}
+use Rattle.b2_walk.specs.Walks.{Walk, Course, goes_on, lex, too_big, syntax_at, after_run, run_text}
+use Rattle.b2_walk.specs.Doing.{Stand, ComeToSame, What, IsOfWalkIf, RunsBeside, reads_text, reads_tree, runs_bytes}
 use Rattle.b2_walk.proofs.FirstFileThereIsFound.{looked_same}
-use Rattle.b2_walk.proofs.PartsMakeTheLoad.{frames_same, refused_from}
+use Rattle.b2_walk.proofs.PartsMakeTheLoad.{frames_same, stops_from}
 use Rattle.b2_walk.proofs.VisitDoesWhatIsDefined.{machine_at, setting_of, refused_same, counts_eval, whole_eval, agrees_eval}
 
 -- ---- a text that does not run
@@ -89,7 +91,7 @@ module _ (path : Text) (tree : Tree) (a b : Stand) where
   pub text_stopped : (e : EvalFault) → Runs (run_at path (whole_tree tree)) (Unit {0}) (machine_at a) (machine_at b) (Err e) → RunsBeside (reads_tree path tree) a b (Err (of_eval e))
   text_stopped e runs = record {
     told = λ setting right refuses.
-        agrees_eval e (run setting path (whole_tree tree) a.walk.state) (λ s. record a.walk { state = s }) b.walk.state
+        agrees_eval setting right.natives e (run setting path (whole_tree tree) a.walk.state) (λ s. record a.walk { state = s }) b.walk.state (λ later. refl)
         (runs.told tt setting (setting_of setting a right) (subst (Refuses setting.refused a.walk.state.left b.walk.state.left) (refused_same e) refuses));
     turns = runs.turns;
     budget = runs.budget;
@@ -102,14 +104,26 @@ module _ (path : Text) (tree : Tree) (a b : Stand) where
 
 -- ---- its bytes
 
-follows_from : (result : Result (Unit {0}) LoadFault) (comes other : Course → Type 0) (w : _) → ((course : Course) → other course → comes course) → Follows result other w → Follows result comes w
-follows_from (Ok u) comes other w f h = f (goes_on w) h
-follows_from (Err fault) comes other w f h = refused_from (refusal_of fault) comes other w.state f h
+pub follows_from : (result : Result (Unit {0}) LoadFault) (comes other : Course → Type 0) (w : Walk) → ComeToSame other comes → Follows result other w → Follows result comes w
+follows_from (Ok u) comes other w f h = f.0 (goes_on w) h
+follows_from (Err fault) comes other w f h = stops_from fault comes other w.state f h
+
+-- a folder in which each path has these bytes
+abbrev filled : List ℕ → Folder
+filled bytes = λ path. Some (record { stamp = 0; bytes = bytes })
+
+-- bytes read in one way
+pub one_text : (bytes : List ℕ) (reading other : Reading) → ReadsAny bytes reading → ReadsAny bytes other → reading ≡ other
+one_text bytes reading other h g =
+    one_reading (filled bytes) [] reading other (file_reads (filled bytes) [] bytes reading refl h) (file_reads (filled bytes) [] bytes other refl g)
 
 pub bytes_ran : (path : Text) (bytes : List ℕ) (reading : Reading) (a b : Stand) (result : Result (Unit {0}) LoadFault) → ReadsAny bytes reading → RunsBeside (reads_text path reading) a b result
     → RunsBeside (runs_bytes path bytes) a b result
 bytes_ran path bytes reading a b result reads h = record {
-  told = λ setting right refuses. follows_from result (runs_bytes path bytes setting a.walk) (reads_text path reading setting a.walk) b.walk (λ course is. (reading, reads, sym is)) (h.told setting right refuses);
+  told = λ setting right refuses. follows_from result (runs_bytes path bytes setting a.walk) (reads_text path reading setting a.walk) b.walk (
+    λ course is. (reading, reads, sym is),
+    λ course (other, also, is). ap (λ r. run_text setting path r a.walk) (one_text bytes reading other reads also) ∙ sym is,
+  ) (h.told setting right refuses);
   turns = h.turns;
   budget = h.budget;
   frames = h.frames;

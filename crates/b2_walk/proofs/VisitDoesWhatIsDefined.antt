@@ -36,16 +36,17 @@ use Rattle.b2_walk.specs.declared.fault.LoadFault.TheVariants as load_faults
 use Rattle.b2_walk.specs.Directories.{module_above, place_of, is_visited, first_new, visit_of, project_files, seen, first_file}
 use Rattle.b2_walk.specs.declared.project_file.ProjectFile.{ProjectFile}
 use Rattle.b2_walk.specs.Finding.{AreReadings, IsFileFound, IsFileOf, Looked, CountsFault, LooksFor}
-use Rattle.b2_walk.specs.Faults.{refusal_of, refused_by, of_eval, of_lex, of_syntax, IsOfWalk}
+use Rattle.b2_walk.specs.Faults.{refused_by, of_eval, of_lex, of_syntax, IsOfWalk}
 use Rattle.b2_walk.specs.declared.walk.Walk.{Walk as Walking}
-use Rattle.b2_walk.specs.Walking.{walk_of, IsSettingFor, IsRefusedBy, AreVisited, one_more}
-use Rattle.b2_walk.specs.Laws.{FilesKeepParents}
+use Rattle.b2_walk.specs.Walking.{walk_of, IsSettingFor, StopsBy, AreVisited, one_more}
+use Rattle.b2_walk.specs.Laws.{FilesKeepParents, AddsLines}
 use Rattle.b2_walk.specs.Running.{MayBePut, Runs}
-use Rattle.b2_walk.specs.Walks.{Walk, lex, too_big, syntax_at, Course, goes_on, prepared, put_below, new_calls, run_project, with_project, visited, after_run, visit_file, visit_found, visit}
+use Rattle.b2_walk.specs.Walks.{Walk, lex, too_big, syntax_at, Course, goes_on, state_in, prepared, put_below, new_calls, run_project, with_project, visited, after_run, visit_file, visit_found, visit}
 use Rattle.b2_walk.specs.Calls.{call_of, names_of}
-use Rattle.b2_walk.specs.Doing.{Stand, ArePassed, AreInLine, IsNext, What, runs_tree, found_as, visits_dir, IsAdded, IsGrown, Does}
+use Rattle.b2_walk.specs.Doing.{Stand, ArePassed, AreInLine, ComeToSame, IsNext, What, runs_tree, found_as, visits_dir, IsAdded, IsGrown, Does}
+use Rattle.b2_walk.proofs.LinesAreOnlyAdded.{only_lines, ran_adds, visit_adds}
 use Rattle.b2_walk.proofs.FirstFileThereIsFound.{looked_same, looked_then, counted}
-use Rattle.b2_walk.proofs.PartsMakeTheLoad.{frames_same, agrees_from, does_from, setting_later, does_stay}
+use Rattle.b2_walk.proofs.PartsMakeTheLoad.{frames_same, same_by, agrees_from, does_from, setting_later, does_stay}
 use Rattle.b2_walk.proofs.ModulesStayInLine.{may_be_put, in_line_more}
 use Rattle.b2_walk.proofs.VisitsGrowByOne.{none_more, parent_before, no_place}
 use Rattle.jam_eval.specs.Kept.{Ends}
@@ -81,10 +82,12 @@ whole_eval evaluating.Host h = tt
 whole_eval evaluating.OutOfMemory h = tt
 whole_eval (evaluating.At path line why) h = (_, refl, h)
 
-pub agrees_eval : (e : EvalFault) (o : Outcome Kept (Unit {0})) (next : State Kept → Walk) (s : State Kept) → EvalFaults e o s → IsRefusedBy (refusal_of (of_eval e)) (λ course. after_run o next ≡ course) s
-agrees_eval evaluating.Host o next s h = tt
-agrees_eval evaluating.OutOfMemory o next s h = tt
-agrees_eval (evaluating.At path line why) o next s h = ap (λ o₁. after_run o₁ next) h
+pub agrees_eval : (setting : Setting Kept) → setting.natives ≡ jam_meaning → (e : EvalFault) (o : Outcome Kept (Unit {0})) (next : State Kept → Walk) (s : State Kept) → ((later : State Kept) → (next later).state.kept ≡ later.kept)
+    → EvalFaults setting e o s → StopsBy (of_eval e) (λ course. after_run o next ≡ course) s
+agrees_eval setting natives evaluating.Host o next s same h =
+    λ course is. subst (λ c. AddsLines s (state_in c)) is (ran_adds s o next same (h (λ kept. kept.echoes) (only_lines setting natives)))
+agrees_eval setting natives evaluating.OutOfMemory o next s same h = tt
+agrees_eval setting natives (evaluating.At path line why) o next s same h = ap (λ o₁. after_run o₁ next) h
 
 -- ---- a project whose file runs
 
@@ -106,7 +109,7 @@ pub tree_stopped : (visit : Visit) (tree : StmtTrees) (a b : Stand) (e : EvalFau
     → RunsAt visit tree a b (Err e) → Does (runs_tree visit tree) a b (Err (of_eval e))
 tree_stopped visit tree a b e next runs = record {
   told = λ setting right refuses line.
-      agrees_eval e (run_project setting visit (above_in visit a) tree a.walk.state) (visited visit a.walk) b.walk.state
+      agrees_eval setting right.natives e (run_project setting visit (above_in visit a) tree a.walk.state) (visited visit a.walk) b.walk.state (λ later. refl)
       (runs.told (may_be visit a next line) setting (setting_of setting a right) (subst (Refuses setting.refused a.walk.state.left b.walk.state.left) (refused_same e) refuses));
   turns = runs.turns;
   budget = runs.budget;
@@ -213,7 +216,7 @@ grown_from (Ok u) a outside c h = record { passed = h.passed; visited = h.visite
 grown_from (Err e) a outside c h = tt
 
 pub after_look : (what other : What) (a : Stand) (outside : Outside) (c : Stand) (result : Result (Unit {0}) LoadFault) → Looked a.outside outside → outside.faults ≡ a.outside.faults
-    → ((setting : Setting Kept) → IsSettingFor setting a.budget a.outside → (course : Course) → other setting a.walk course → what setting a.walk course)
+    → ((setting : Setting Kept) → IsSettingFor setting a.budget a.outside → ComeToSame (other setting a.walk) (what setting a.walk))
     → Does other (looked_at a outside) c result → Does what a c result
 after_look what other a outside c result looked same f h = record {
   told = λ setting right refuses line. agrees_from result (what setting a.walk) (other setting a.walk) c.walk (f setting right)
@@ -229,19 +232,20 @@ after_look what other a outside c result looked same f h = record {
 }
 
 -- the search was refused by the outside
-pub look_refused : {A : Type 0} (what : What) (a : Stand) (outside : Outside) (e : LoadFault) → LooksFor {A = A} (Err e) a.outside outside → Does what a (looked_at a outside) (Err e)
-look_refused what a outside load_faults.Host h =
-    does_stay what a (looked_at a outside) (Err load_faults.Host) (record { walk = refl; passed = refl; budget = refl; looked = h.looked; counts = h.counts; whole = tt; none = refl }) (λ setting right line. tt)
-look_refused what a outside load_faults.OutOfMemory h =
-    does_stay what a (looked_at a outside) (Err load_faults.OutOfMemory) (record { walk = refl; passed = refl; budget = refl; looked = h.looked; counts = h.counts; whole = tt; none = refl }) (λ setting right line. tt)
-look_refused what a outside load_faults.NoJamroot h = absurd h.fault
-look_refused what a outside (load_faults.NoJamfile dir) h = absurd h.fault
-look_refused what a outside (load_faults.TooBig path size) h = absurd h.fault
-look_refused what a outside (load_faults.Lex path fault) h = absurd h.fault
-look_refused what a outside (load_faults.Syntax path fault) h = absurd h.fault
-look_refused what a outside (load_faults.Eval fault) h = absurd h.fault
-look_refused what a outside (load_faults.Declaration path rule line) h = absurd h.fault
-look_refused what a outside (load_faults.Feature path line fault) h = absurd h.fault
+pub look_refused : {A : Type 0} (dir : Text) (a : Stand) (outside : Outside) (e : LoadFault) → LooksFor {A = A} (Err e) a.outside outside → Does (visits_dir dir) a (looked_at a outside) (Err e)
+look_refused dir a outside load_faults.Host h =
+    does_stay (visits_dir dir) a (looked_at a outside) (Err load_faults.Host) (record { walk = refl; passed = refl; budget = refl; looked = h.looked; counts = h.counts; whole = tt; none = refl })
+    (λ setting right line course is. subst (λ c. AddsLines a.walk.state (state_in c)) is (visit_adds setting right.natives dir a.walk))
+look_refused dir a outside load_faults.OutOfMemory h =
+    does_stay (visits_dir dir) a (looked_at a outside) (Err load_faults.OutOfMemory) (record { walk = refl; passed = refl; budget = refl; looked = h.looked; counts = h.counts; whole = tt; none = refl }) (λ setting right line. tt)
+look_refused dir a outside load_faults.NoJamroot h = absurd h.fault
+look_refused dir a outside (load_faults.NoJamfile other) h = absurd h.fault
+look_refused dir a outside (load_faults.TooBig path size) h = absurd h.fault
+look_refused dir a outside (load_faults.Lex path fault) h = absurd h.fault
+look_refused dir a outside (load_faults.Syntax path fault) h = absurd h.fault
+look_refused dir a outside (load_faults.Eval fault) h = absurd h.fault
+look_refused dir a outside (load_faults.Declaration path rule line) h = absurd h.fault
+look_refused dir a outside (load_faults.Feature path line fault) h = absurd h.fault
 
 -- ---- a project file that does not run
 
@@ -249,7 +253,7 @@ pub file_missing : (dir path : Text) (a : Stand) → Does (found_as dir (path, i
 file_missing dir path a = does_stay (found_as dir (path, is_missing)) a a (Ok tt) (record { walk = refl; passed = refl; budget = refl; looked = looked_same a.outside; counts = refl; whole = tt; none = refl }) (λ setting right line. (refl, line))
 
 refusal_stays : (what : What) (a : Stand) (fault : LoadFault) → CountsFault fault a.outside a.outside → IsOfWalk fault → refused_by fault ≡ None
-    → ((setting : Setting Kept) → IsRefusedBy (refusal_of fault) (what setting a.walk) a.walk.state) → Does what a a (Err fault)
+    → ((setting : Setting Kept) → StopsBy fault (what setting a.walk) a.walk.state) → Does what a a (Err fault)
 refusal_stays what a fault counts whole none told = does_stay what a a (Err fault) (record { walk = refl; passed = refl; budget = refl; looked = looked_same a.outside; counts = counts; whole = whole; none = none }) (λ setting right line. told setting)
 
 pub file_too_big : (dir path : Text) (size : ℕ) (a : Stand) → Does (found_as dir (path, is_too_big size)) a a (Err (load_faults.TooBig path size))
@@ -282,7 +286,7 @@ is_next dir file visits h = record { is = refl; new = no_place (place_of dir vis
 pub file_runs : (dir path : Text) (tree : StmtTrees) (a b : Stand) (visit : Visit) (result : Result (Unit {0}) LoadFault) → visit ≡ visit_of dir path a.walk.visits
     → Does (runs_tree visit tree) a b result → Does (found_as dir (path, is_file tree)) a b result
 file_runs dir path tree a b visit result is h =
-    does_from (found_as dir (path, is_file tree)) (runs_tree (visit_of dir path a.walk.visits) tree) a b result (λ setting right line course e. e)
+    does_from (found_as dir (path, is_file tree)) (runs_tree (visit_of dir path a.walk.visits) tree) a b result (λ setting right line. (λ course e. e, λ course e. e))
     (subst (λ v. Does (runs_tree v tree) a b result) is h)
 
 -- ---- directories
@@ -334,4 +338,6 @@ pub file_there : (dir : Text) (a : Stand) (outside : Outside) (c : Stand) (file 
     → IsFoundAt dir a (Some file) → Does (found_as dir (file.path, reading_of file.reading)) (looked_at a outside) c result → Does (visits_dir dir) a c result
 file_there dir a outside c file result new looked same found h =
     after_look (visits_dir dir) (found_as dir (file.path, reading_of file.reading)) a outside c result looked same
-    (λ setting right course e. visit_by setting dir a.walk course new (ap (λ f. visit_found setting dir f a.walk) (is_found dir a (Some file) setting right found) ∙ e)) h
+    (λ setting right.
+    same_by (visit setting dir a.walk) (visit_found setting dir (file.path, reading_of file.reading) a.walk)
+    (visit_by setting dir a.walk (visit_found setting dir (file.path, reading_of file.reading) a.walk) new (ap (λ f. visit_found setting dir f a.walk) (is_found dir a (Some file) setting right found)))) h

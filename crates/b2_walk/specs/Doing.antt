@@ -16,10 +16,10 @@ use Rattle.b2_metatargets.specs.declared.visit.Visit.{Visit}
 use Rattle.b2_walk.specs.declared.fault.LoadFault.{LoadFault}
 use Rattle.b2_walk.specs.declared.walk.Walk.{Walk as Walking}
 use Rattle.b2_walk.specs.Directories.{IsBefore, module_name, module_above, place_of, is_visited, first_new, visit_of}
-use Rattle.b2_walk.specs.Faults.{refusal_of, refused_of, IsOfWalk}
+use Rattle.b2_walk.specs.Faults.{refused_of, IsOfWalk}
 use Rattle.b2_walk.specs.Finding.{Looked, Counts}
 use Rattle.b2_walk.specs.Running.{RunsProject}
-use Rattle.b2_walk.specs.Walking.{walk_of, IsSettingFor, IsRefusedBy, Follows, AreVisited}
+use Rattle.b2_walk.specs.Walking.{walk_of, IsSettingFor, StopsBy, Follows, AreVisited}
 use Rattle.b2_walk.specs.Walks.{Walk, Course, goes_on, with_project, visited, after_run, run_project, RunsText, run_text, visit_found, visit, visit_all, load_dir, load_root, ComesTo}
 use Rattle.b2_walk.specs.Calls.{call_of}
 
@@ -49,6 +49,10 @@ pub record ArePassed (visits : List Visit) (passed : ℕ) (dirs : List Text) : T
 pub record AreInLine (w : Walk) : Type 0 where
   pub modules : (place : ℕ) (visit : Visit) → slice_get w.visits place ≡ Some visit → visit.«module» ≡ module_name visit.dir
   pub parents : (owner above : Text) → map.get w.state.worlds.now.parents (owner, []) ≡ Some above → (dir : Text) × (is_visited dir w.visits ≡ true) × (above ≡ module_name dir)
+
+-- the one comes to the same courses as the other
+abbrev pub ComeToSame : (Course → Type 0) → (Course → Type 0) → Type 0
+ComeToSame one other = ((course : Course) → one course → other course) × ((course : Course) → other course → one course)
 
 -- what a part of a walk is to come to, by a setting and a walk
 abbrev pub What : Type 1
@@ -82,7 +86,7 @@ loads_root = by (λ setting w. load_root setting w)
 -- the result is a course to which the part comes, with this walk
 abbrev pub Agrees : Result (Unit {0}) LoadFault → (Course → Type 0) → Walk → Type 0
 Agrees (Ok u) comes w = comes (goes_on w) × AreInLine w
-Agrees (Err fault) comes w = IsRefusedBy (refusal_of fault) comes w.state
+Agrees (Err fault) comes w = StopsBy fault comes w.state
 
 -- a text that reads so runs, or one with these statements; and what comes of its bytes
 abbrev pub reads_text : Text → Reading → What
@@ -142,10 +146,10 @@ walked words setting w course = ComesTo setting words (goes_on w) course
 abbrev pub walked_all : List Text → What
 walked_all words setting w course = ComesTo setting words (load_root setting w) course
 
--- So far nothing was refused: where the rest comes to from here, the whole comes to from there.
+-- So far nothing was refused: where the rest comes to from here, the whole comes to from there, and nowhere else.
 pub record Leads (whole rest : What) (before after : Stand) : Type 0 where
   pub told : (setting : Setting Kept) → IsSettingFor setting before.budget before.outside → NamesNone setting.refused before.walk.state.left after.walk.state.left → AreInLine before.walk
-      → AreInLine after.walk × ((course : Course) → rest setting after.walk course → whole setting before.walk course)
+      → AreInLine after.walk × ComeToSame (rest setting after.walk) (whole setting before.walk)
   pub turns : after.walk.state.left ≤ before.walk.state.left
   pub budget : after.budget ≡ before.budget
   pub frames : SameFrames before.walk.state after.walk.state

@@ -4,7 +4,7 @@ use Rattle.b2_metatargets.specs.declared.visit.Call.{Call}
 use Rattle.jam_grammar.specs.Trees.{StmtTrees}
 use Rattle.jam_journal.specs.Tables.{Text}
 use Rattle.jam_eval.specs.Eval.{run}
-use Rattle.jam_eval.specs.Kept.{Ends}
+use Rattle.jam_eval.specs.Kept.{Ends, Grows}
 use Rattle.jam_eval.specs.Laws.{SameParents}
 use Rattle.jam_eval.specs.Settings.{Setting}
 use Rattle.jam_eval.specs.States.{State}
@@ -26,6 +26,10 @@ FilesKeepParents =
 -- what was recorded stays, and more may come after it
 abbrev pub KeepsRecord : State Kept → State Kept → Type 0
 KeepsRecord s later = (more : Kept) × (later.kept.decls ≡ s.kept.decls ++ more.decls) × (later.kept.echoes ≡ s.kept.echoes ++ more.echoes)
+
+-- the lines that were recorded stay, and more may come after them
+abbrev pub AddsLines : State Kept → State Kept → Type 0
+AddsLines = Grows (λ (kept : Kept). kept.echoes)
 
 -- a file takes nothing away that was recorded before it
 abbrev pub FilesKeepRecord : Type 0

@@ -16,11 +16,13 @@ use Rattle.jam_natives.specs.Seeing.{kept_of}
 use Rattle.jam_effects.specs.declared.turns.Turns.{Turns}
 use Rattle.jam_effects.specs.Machines.{folder_of}
 use Rattle.b2_walk.specs.declared.fault.LoadFault.{LoadFault}
+use Rattle.b2_walk.specs.declared.fault.LoadFault.TheVariants as faults
 use Rattle.b2_walk.specs.declared.walk.Walk.{Walk as Walking}
 use Rattle.b2_walk.specs.Directories.{is_visited, first_new, visit_of}
 use Rattle.b2_base.specs.Segments.{here}
 use Rattle.b2_walk.specs.Faults.{refusal_of, refused_of}
-use Rattle.b2_walk.specs.Walks.{Walk, no_walk, Refusal, Course, goes_on, refused, RunsText, load_root, ComesTo}
+use Rattle.b2_walk.specs.Laws.{AddsLines}
+use Rattle.b2_walk.specs.Walks.{Walk, no_walk, Refusal, Course, goes_on, refused, state_in, RunsText, load_root, ComesTo}
 use Rattle.b2_walk.specs.Calls.{call_of, names_of}
 
 -- the walk of the code, with so many turns left
@@ -45,15 +47,21 @@ pub record IsSettingFor (setting : Setting Kept) (turns : ℕ) (outside : Outsid
   pub folder : folder_of outside.disk ≡ Some setting.sight.folder
   pub right : IsSetting setting
 
--- the load is refused so, with what stands then; nothing is said of a fault of the host and of out of memory
+-- the load is refused so, with what stands then
 abbrev pub IsRefusedBy : Option Refusal → (Course → Type 0) → State Kept → Type 0
 IsRefusedBy None comes s = Unit {0}
 IsRefusedBy (Some why) comes s = comes (refused why s)
 
+-- A fault of a load: the load is refused so. Where the host failed, the lines that were recorded begin those of each course to which
+-- something comes; nothing is said of out of memory.
+abbrev pub StopsBy : LoadFault → (Course → Type 0) → State Kept → Type 0
+StopsBy faults.Host comes s = (course : Course) → comes course → AddsLines s (state_in course)
+StopsBy fault comes s = IsRefusedBy (refusal_of fault) comes s
+
 -- the result is a course to which something comes, with this walk
 abbrev pub Follows : Result (Unit {0}) LoadFault → (Course → Type 0) → Walk → Type 0
 Follows (Ok u) comes w = comes (goes_on w)
-Follows (Err fault) comes w = IsRefusedBy (refusal_of fault) comes w.state
+Follows (Err fault) comes w = StopsBy fault comes w.state
 
 -- where a walk from Jamroot on comes to, by so many turns and the target words of a request
 abbrev pub WalkComesTo : Setting Kept → ℕ → List Text → Course → Type 0

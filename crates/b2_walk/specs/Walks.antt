@@ -48,6 +48,11 @@ pub data Course : Type 0 where
   goes_on : Walk → Course
   refused : Refusal → State Kept → Course
 
+-- what stands then
+abbrev pub state_in : Course → State Kept
+state_in (goes_on w) = w.state
+state_in (refused why s) = s
+
 abbrev pub and_then : Course → (Walk → Course) → Course
 and_then (goes_on w) next = next w
 and_then (refused why s) next = refused why s

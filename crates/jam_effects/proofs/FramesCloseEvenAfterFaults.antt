@@ -8,6 +8,7 @@ use Rattle.jam_eval.specs.States.{State, with_scopes}
 use Rattle.jam_eval.specs.Settings.{Setting}
 use Rattle.jam_eval.specs.Outcomes.{Outcome, gives, faults, in_module, close_frame}
 use Rattle.jam_eval.specs.Laws.{bounds}
+use Rattle.jam_eval.proofs.RecordsOnlyGrow.{close_begins}
 use Rattle.jam_effects.specs.declared.fault.EvalFault.{EvalFault}
 use Rattle.jam_effects.specs.declared.fault.EvalFault.TheVariants as fault
 use Rattle.jam_effects.specs.Causes.{cause_of}
@@ -38,17 +39,17 @@ bound_outer (b ∷ bs) s = bound_outer bs (bind b.0 b.1 s) ∙ with_one (b.0, b.
     with_one c (f ∷ fs) = refl
 
 module _ {R : Type 0} where
-  agrees_closed : {A B : Type 0} (view : A → B) (result : Result A EvalFault) (o : Outcome R B) (n : Machine R) (closed : Worlds)
-      → closed ≡ rescoped leave n.worlds → Agrees view result o (state_of n) → Agrees view result (close_frame o) (state_of (record n { worlds = closed }))
-  agrees_closed view (Ok v) o n closed e h = ap close_frame h ∙ ap (λ ws. gives (view v) (state_of (record n { worlds = ws }))) (sym e)
-  agrees_closed view (Err fault.Host) o n closed e h = tt
-  agrees_closed view (Err fault.OutOfMemory) o n closed e h = tt
-  agrees_closed view (Err (fault.At path line why)) o n closed e h = ap close_frame h ∙ ap (λ ws. faults (record { spot = record { path = path; line = line }; cause = cause_of why }) (state_of (record n { worlds = ws }))) (sym e)
+  agrees_closed : {A B : Type 0} (setting : Setting R) (view : A → B) (result : Result A EvalFault) (o : Outcome R B) (n : Machine R) (closed : Worlds)
+      → closed ≡ rescoped leave n.worlds → Agrees setting view result o (state_of n) → Agrees setting view result (close_frame o) (state_of (record n { worlds = closed }))
+  agrees_closed setting view (Ok v) o n closed e h = ap close_frame h ∙ ap (λ ws. gives (view v) (state_of (record n { worlds = ws }))) (sym e)
+  agrees_closed setting view (Err fault.Host) o n closed e h = close_begins setting o (state_of n) h
+  agrees_closed setting view (Err fault.OutOfMemory) o n closed e h = tt
+  agrees_closed setting view (Err (fault.At path line why)) o n closed e h = ap close_frame h ∙ ap (λ ws. faults (record { spot = record { path = path; line = line }; cause = cause_of why }) (state_of (record n { worlds = ws }))) (sym e)
 
   does_same : {A B : Type 0} (view : A → B) (what other : Setting R → State R → Outcome R B) (a b : Machine R) (result : Result A EvalFault)
       → ((setting : Setting R) → what setting (state_of a) ≡ other setting (state_of a)) → Does view other a b result → Does view what a b result
   does_same view what other a b result e h = record {
-    told = λ setting is refuses. subst (λ o. Agrees view result o (state_of b)) (sym (e setting)) (h.told setting is refuses);
+    told = λ setting is refuses. subst (λ o. Agrees setting view result o (state_of b)) (sym (e setting)) (h.told setting is refuses);
     stays = h.stays;
     counts = h.counts;
     whole = h.whole;
@@ -83,7 +84,7 @@ module _ {R : Type 0} where
       → Does view act (record m { worlds = entered }) n result → closed ≡ rescoped leave n.worlds
       → Does view (λ setting s. close_frame (act setting (record s { worlds = entered }))) m (record n { worlds = closed }) result
   closed_does view act m entered n closed result opened marked step h e = record {
-    told = λ setting is refuses. agrees_closed view result (act setting (state_of (record m { worlds = entered }))) n closed e
+    told = λ setting is refuses. agrees_closed setting view result (act setting (state_of (record m { worlds = entered }))) n closed e
         (h.told setting (record { budget = is.budget; natives = is.natives; folder = is.folder; right = is.right }) refuses);
     stays = stays_closed m entered n closed opened marked step h.stays e;
     counts = h.counts;

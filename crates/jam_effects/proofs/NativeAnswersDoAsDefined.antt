@@ -1,5 +1,5 @@
 -- What natives answer does what is defined.
-use Rattle.std.proofs.Common.{◌≡◌, ◌⊎◌, inl, inr, ℕ, suc, List, drop, Option, Some, None, Result, Ok, Err, refl, sym, ap, subst, arith}
+use Rattle.std.proofs.Common.{◌≡◌, ◌⊎◌, inl, inr, ◌∙◌, ◌++◌, ℕ, suc, List, drop, Option, Some, None, Result, Ok, Err, refl, sym, ap, subst, arith}
 use Rattle.std.specs.Option.{IfSome}
 use Rattle.b2_host.specs.Disks.{Folder, Disk}
 use Rattle.b2_host.specs.Outside.{Outside}
@@ -13,10 +13,12 @@ use Rattle.jam_eval.specs.declared.native_answer.NativeError.TheVariants as erro
 use Rattle.jam_eval.specs.Faults.{Spot, Cause, native, arity, refused_in}
 use Rattle.jam_eval.specs.Laws.{bounds}
 use Rattle.jam_eval.specs.States.{State}
+use Rattle.jam_eval.specs.Settings as settings
 use Rattle.jam_eval.specs.Settings.{Sight, IsSight, Told, Meaning, Setting}
 use Rattle.jam_eval.specs.Refused.{refused_here, Refuses}
 use Rattle.jam_eval.specs.RefusedLaws.{here_named}
-use Rattle.jam_eval.specs.NativeCalls.{IsMeant, CallsAsMeant, KeepsFrames, LooksAt, refused_of as refused_natively}
+use Rattle.jam_eval.specs.Kept.{Ends, EndsTold, Grows, Begins}
+use Rattle.jam_eval.specs.NativeCalls.{IsMeant, StaysKept, CallsAsMeant, KeepsFrames, LooksAt, refused_of as refused_natively}
 use Rattle.jam_eval.specs.Calls.{as_told, native_answer}
 use Rattle.jam_effects.specs.declared.at.At.{At}
 use Rattle.jam_effects.specs.declared.turns.Turns.{Turns}
@@ -117,13 +119,25 @@ module _ {R : Type 0} where
       (λ folder. (sight : Sight) → IsSight sight → sight.folder ≡ folder → IsMeant (setting.natives.call name given at.line sight (refused_natively r) ws k) r later now)
       right.folder (told setting.natives right.natives) setting.sight right.right.sees refl)
 
-  -- a fault of natives
-  fault_heard : {A B : Type 0} (view : A → B) (error : NativeError) (name : Text) (spot : Spot) (e : EvalFault) (told : Told B R) (s : State R) (ws : Worlds) (k : R)
-      → IsNativeFault error name spot e → IsMeant told (Err error) ws k → Agrees view (Err e) (heard name spot s told) (as_told ws k s)
-  fault_heard view (errors.Fault f) name spot e told s ws k h is = fault_agrees view spot (native f) e (heard name spot s told) (as_told ws k s) h (ap (heard name spot s) is)
-  fault_heard view errors.Arity name spot e told s ws k h is = fault_agrees view spot (arity name) e (heard name spot s told) (as_told ws k s) h (ap (heard name spot s) is)
-  fault_heard view errors.Host name spot e told s ws k h is = subst (λ x. Agrees view (Err x) (heard name spot s told) (as_told ws k s)) (sym h) tt
-  fault_heard view errors.OutOfMemory name spot e told s ws k h is = subst (λ x. Agrees view (Err x) (heard name spot s told) (as_told ws k s)) (sym h) tt
+  -- a fault of natives; where the host failed, they keep what they kept before
+  told_begins : {A : Type 0} (look : R → List Text) (name : Text) (spot : Spot) (s from : State R) (told : Told A R) → from.kept ≡ s.kept → EndsTold (Grows look) s told → Ends (Grows look) from (heard name spot s told)
+  told_begins look name spot s from (settings.answers a worlds kept) same (more, is) = (more, is ∙ ap (λ k. look k ++ more) (sym same))
+  told_begins look name spot s from (settings.refuses cause worlds kept) same (more, is) = (more, is ∙ ap (λ k. look k ++ more) (sym same))
+
+  step_begins : (setting : Setting R) (name : Text) (given : List Value) (at : At) (s : State R) (ws : Worlds) (now : R) → now ≡ s.kept → Begins setting (as_told ws now s) (native_step_at name given at setting s)
+  step_begins setting name given at s ws now same = λ look adds.
+      told_begins look name (spot_of at) s (as_told ws now s) (native_answer setting name given at.line s) same (adds.called name given at.line s)
+
+  fault_heard : {A B : Type 0} (setting : Setting R) (view : A → B) (error : NativeError) (name : Text) (spot : Spot) (e : EvalFault) (told : Told B R) (s : State R) (ws : Worlds) (k : R)
+      → IsNativeFault error name spot e → IsMeant told (Err error) ws k → (error ≡ errors.Host → Begins setting (as_told ws k s) (heard name spot s told)) → Agrees setting view (Err e) (heard name spot s told) (as_told ws k s)
+  fault_heard setting view (errors.Fault f) name spot e told s ws k h is begins = fault_agrees setting view spot (native f) e (heard name spot s told) (as_told ws k s) h (ap (heard name spot s) is)
+  fault_heard setting view errors.Arity name spot e told s ws k h is begins = fault_agrees setting view spot (arity name) e (heard name spot s told) (as_told ws k s) h (ap (heard name spot s) is)
+  fault_heard setting view errors.Host name spot e told s ws k h is begins = subst (λ x. Agrees setting view (Err x) (heard name spot s told) (as_told ws k s)) (sym h) (begins refl)
+  fault_heard setting view errors.OutOfMemory name spot e told s ws k h is begins = subst (λ x. Agrees setting view (Err x) (heard name spot s told) (as_told ws k s)) (sym h) tt
+
+  -- what natives keep stays where the host failed
+  stays_at_host : (error : NativeError) (k now : R) → StaysKept {A = NativeStep} (Err error) k now → error ≡ errors.Host → now ≡ k
+  stays_at_host error k now stays is = subst (λ x. StaysKept {A = NativeStep} (Err x) k now) is stays
 
   -- natives answer a step
   pub native_ok : (name : Text) (given : List Value) (at : At) (ws later : Worlds) (turns : Turns) (k now : R) (meaning same : Option (Meaning R)) (o after : Outside) (st : NativeStep)
@@ -137,20 +151,21 @@ module _ {R : Type 0} where
   }
 
   told_fails : (name : Text) (given : List Value) (at : At) (ws later : Worlds) (turns : Turns) (k now : R) (meaning : Option (Meaning R)) (o : Outside) (error : NativeError) (e : EvalFault) (setting : Setting R)
-      → CallsAsMeant meaning o.disk name given at.line ws k (Err error) later now → IsNativeFault error name (spot_of at) e → IsSettingOf setting (machine ws turns k meaning o)
+      → CallsAsMeant meaning o.disk name given at.line ws k (Err error) later now → StaysKept {A = NativeStep} (Err error) k now → IsNativeFault error name (spot_of at) e → IsSettingOf setting (machine ws turns k meaning o)
       → Refuses setting.refused (suc turns.left) turns.left (refused_of {A = NativeStep} (Err e)) → (e ≡ fault.OutOfMemory) ⊎ (refused_of {A = NativeStep} (Err e) ≡ refused_natively {A = NativeStep} (Err error))
-      → Agrees step (Err e) (native_step_at name given at setting (state_of (machine ws turns k meaning o))) (as_told later now (state_of (machine ws turns k meaning o)))
-  told_fails name given at ws later turns k now meaning o error e setting told h right refuses (inl memory) =
-      subst (λ x. Agrees step (Err x) (native_step_at name given at setting (state_of (machine ws turns k meaning o))) (as_told later now (state_of (machine ws turns k meaning o)))) (sym memory) tt
-  told_fails name given at ws later turns k now meaning o error e setting told h right refuses (inr same) =
-      fault_heard step error name (spot_of at) e (native_answer setting name given at.line (state_of (machine ws turns k meaning o))) (state_of (machine ws turns k meaning o)) later now h
+      → Agrees setting step (Err e) (native_step_at name given at setting (state_of (machine ws turns k meaning o))) (as_told later now (state_of (machine ws turns k meaning o)))
+  told_fails name given at ws later turns k now meaning o error e setting told kept h right refuses (inl memory) =
+      subst (λ x. Agrees setting step (Err x) (native_step_at name given at setting (state_of (machine ws turns k meaning o))) (as_told later now (state_of (machine ws turns k meaning o)))) (sym memory) tt
+  told_fails name given at ws later turns k now meaning o error e setting told kept h right refuses (inr same) =
+      fault_heard setting step error name (spot_of at) e (native_answer setting name given at.line (state_of (machine ws turns k meaning o))) (state_of (machine ws turns k meaning o)) later now h
       (meant name given at ws later turns k now meaning o (Err error) setting told right (subst (λ t. Refuses setting.refused (suc turns.left) turns.left t) same refuses))
+      (λ is. step_begins setting name given at (state_of (machine ws turns k meaning o)) later now (stays_at_host error k now kept is))
 
   pub native_fails : (name : Text) (given : List Value) (at : At) (ws later : Worlds) (turns : Turns) (k now : R) (meaning same : Option (Meaning R)) (o after : Outside) (error : NativeError) (e : EvalFault)
-      → CallsAsMeant meaning o.disk name given at.line ws k (Err error) later now → same ≡ meaning → KeepsFrames ws later → LooksAt {A = NativeStep} o after (Err error) → IsNativeFault error name (spot_of at) e
+      → CallsAsMeant meaning o.disk name given at.line ws k (Err error) later now → StaysKept {A = NativeStep} (Err error) k now → same ≡ meaning → KeepsFrames ws later → LooksAt {A = NativeStep} o after (Err error) → IsNativeFault error name (spot_of at) e
       → DoesInCall step (native_step_at name given at) (machine ws turns k meaning o) (machine later turns now same after) (Err e)
-  native_fails name given at ws later turns k now meaning same o after error e told means frames looks h = record {
-    told = λ setting right refuses. told_fails name given at ws later turns k now meaning o error e setting told h right refuses (refused_so error name (spot_of at) e h);
+  native_fails name given at ws later turns k now meaning same o after error e told kept means frames looks h = record {
+    told = λ setting right refuses. told_fails name given at ws later turns k now meaning o error e setting told kept h right refuses (refused_so error name (spot_of at) e h);
     stays = stays_asked ws later turns k now meaning same o after (Err error) means frames looks;
     counts = error_counts error name (spot_of at) e o after h looks;
     whole = error_whole error name (spot_of at) e h;

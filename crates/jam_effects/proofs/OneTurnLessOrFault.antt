@@ -61,7 +61,7 @@ module _ {R : Type 0} where
       → DoesInCall view next (record m { left = left }) n result → Does view (λ setting s. take_turn setting.budget spot s (next setting)) m n result
   turn_call view spot next m n left result e h = (let turn = turn_leads spot next m left e in record {
     told = λ setting is refuses.
-        subst (λ o. Agrees view result o (state_of n)) (sym (by_one m.left left setting.budget spot (state_of m) (next setting) e))
+        subst (λ o. Agrees setting view result o (state_of n)) (sym (by_one m.left left setting.budget spot (state_of m) (next setting) e))
         (h.told setting (setting_after setting m (record m { left = left }) turn.stays is) (subst (λ k. Refuses setting.refused k n.left (refused_of result)) (by_suc m.left left e) refuses));
     stays = stays_then m (record m { left = left }) n turn.stays h.stays;
     counts = h.counts;

@@ -5,9 +5,11 @@ use Rattle.jam_journal.specs.Scopes.{Value}
 use Rattle.jam_eval.specs.Faults.{Spot, Cause, refused_in}
 use Rattle.jam_eval.specs.States.{State}
 use Rattle.jam_eval.specs.Settings.{Setting}
+use Rattle.jam_eval.specs.Kept.{Begins}
 use Rattle.jam_eval.specs.Refused.{Refuses, TookTurn}
 use Rattle.jam_eval.specs.RefusedLaws.{refuses_first, refuses_second}
 use Rattle.jam_eval.specs.Outcomes.{Outcome, gives, Flow, then_do, then_go, either, fault_at}
+use Rattle.jam_eval.proofs.RecordsOnlyGrow.{then_begins, go_begins}
 use Rattle.jam_effects.specs.declared.flow.Flow.TheVariants as ways
 use Rattle.jam_effects.specs.declared.fault.EvalFault.{EvalFault}
 use Rattle.jam_effects.specs.declared.fault.EvalFault.TheVariants as fault
@@ -42,25 +44,28 @@ fault_took spot cause fault.OutOfMemory left h none = tt
 fault_took spot cause (fault.At path line why) left h none = subst (λ text. TookTurn text left left) (sym (ap refused_in h.1 ∙ none)) tt
 
 module _ {R : Type 0} where
-  -- a fault ends what follows
-  agrees_then : {A B C D : Type 0} (view : A → B) (other : C → D) (e : EvalFault) (o : Outcome R B) (next : B → State R → Outcome R D) (s : State R) → Agrees view (Err e) o s → Agrees other (Err e) (then_do o next) s
-  agrees_then view other fault.Host o next s h = tt
-  agrees_then view other fault.OutOfMemory o next s h = tt
-  agrees_then view other (fault.At path line why) o next s h = ap (λ p. then_do p next) h
+  -- a fault ends what follows; of what natives keep, what follows only adds to it
+  agrees_then : {A B C D : Type 0} (setting : Setting R) (view : A → B) (other : C → D) (e : EvalFault) (o : Outcome R B) (next : B → State R → Outcome R D) (s : State R)
+      → ((value : B) (later : State R) → Begins setting later (next value later)) → Agrees setting view (Err e) o s → Agrees setting other (Err e) (then_do o next) s
+  agrees_then setting view other fault.Host o next s more h = then_begins setting o next s h more
+  agrees_then setting view other fault.OutOfMemory o next s more h = tt
+  agrees_then setting view other (fault.At path line why) o next s more h = ap (λ p. then_do p next) h
 
-  agrees_go : {A : Type 0} (view : A → Flow) (e : EvalFault) (o : Outcome R Flow) (next : State R → Outcome R Flow) (s : State R) → Agrees view (Err e) o s → Agrees view (Err e) (then_go o next) s
-  agrees_go view fault.Host o next s h = tt
-  agrees_go view fault.OutOfMemory o next s h = tt
-  agrees_go view (fault.At path line why) o next s h = ap (λ p. then_go p next) h
+  agrees_go : {A : Type 0} (setting : Setting R) (view : A → Flow) (e : EvalFault) (o : Outcome R Flow) (next : State R → Outcome R Flow) (s : State R)
+      → ((later : State R) → Begins setting later (next later)) → Agrees setting view (Err e) o s → Agrees setting view (Err e) (then_go o next) s
+  agrees_go setting view fault.Host o next s more h = go_begins setting o next s h more
+  agrees_go setting view fault.OutOfMemory o next s more h = tt
+  agrees_go setting view (fault.At path line why) o next s more h = ap (λ p. then_go p next) h
 
   -- the same by another outcome that is equal
-  agrees_by : {A B : Type 0} (view : A → B) (result : Result A EvalFault) (o p : Outcome R B) (s : State R) → o ≡ p → Agrees view result p s → Agrees view result o s
-  agrees_by view result o p s e h = subst (λ x. Agrees view result x s) (sym e) h
+  agrees_by : {A B : Type 0} (setting : Setting R) (view : A → B) (result : Result A EvalFault) (o p : Outcome R B) (s : State R) → o ≡ p → Agrees setting view result p s → Agrees setting view result o s
+  agrees_by setting view result o p s e h = subst (λ x. Agrees setting view result x s) (sym e) h
 
   pub err_then : {A B C D : Type 0} (view : A → B) (other : C → D) (what : Setting R → State R → Outcome R B) (next : Setting R → B → State R → Outcome R D) (a b : Machine R) (e : EvalFault)
-      → Does view what a b (Err e) → Does other (λ setting s. then_do (what setting s) (next setting)) a b (Err e)
-  err_then view other what next a b e h = record {
-    told = λ setting is none. agrees_then view other e (what setting (state_of a)) (next setting) (state_of b) (h.told setting is none);
+      → ((setting : Setting R) (value : B) (later : State R) → Begins setting later (next setting value later)) → Does view what a b (Err e)
+      → Does other (λ setting s. then_do (what setting s) (next setting)) a b (Err e)
+  err_then view other what next a b e more h = record {
+    told = λ setting is none. agrees_then setting view other e (what setting (state_of a)) (next setting) (state_of b) (more setting) (h.told setting is none);
     stays = h.stays;
     counts = h.counts;
     whole = h.whole;
@@ -68,9 +73,10 @@ module _ {R : Type 0} where
   }
 
   pub err_then_in : {A B C D : Type 0} (view : A → B) (other : C → D) (what : Setting R → State R → Outcome R B) (next : Setting R → B → State R → Outcome R D) (a b : Machine R) (e : EvalFault)
-      → DoesInCall view what a b (Err e) → DoesInCall other (λ setting s. then_do (what setting s) (next setting)) a b (Err e)
-  err_then_in view other what next a b e h = record {
-    told = λ setting is none. agrees_then view other e (what setting (state_of a)) (next setting) (state_of b) (h.told setting is none);
+      → ((setting : Setting R) (value : B) (later : State R) → Begins setting later (next setting value later)) → DoesInCall view what a b (Err e)
+      → DoesInCall other (λ setting s. then_do (what setting s) (next setting)) a b (Err e)
+  err_then_in view other what next a b e more h = record {
+    told = λ setting is none. agrees_then setting view other e (what setting (state_of a)) (next setting) (state_of b) (more setting) (h.told setting is none);
     stays = h.stays;
     counts = h.counts;
     whole = h.whole;
@@ -85,9 +91,10 @@ module _ {R : Type 0} where
   }
 
   pub err_go : {A : Type 0} (view : A → Flow) (what : Setting R → State R → Outcome R Flow) (next : Setting R → State R → Outcome R Flow) (a b : Machine R) (e : EvalFault)
-      → Does view what a b (Err e) → Does view (λ setting s. then_go (what setting s) (next setting)) a b (Err e)
-  err_go view what next a b e h = record {
-    told = λ setting is none. agrees_go view e (what setting (state_of a)) (next setting) (state_of b) (h.told setting is none);
+      → ((setting : Setting R) (later : State R) → Begins setting later (next setting later)) → Does view what a b (Err e)
+      → Does view (λ setting s. then_go (what setting s) (next setting)) a b (Err e)
+  err_go view what next a b e more h = record {
+    told = λ setting is none. agrees_go setting view e (what setting (state_of a)) (next setting) (state_of b) (more setting) (h.told setting is none);
     stays = h.stays;
     counts = h.counts;
     whole = h.whole;
@@ -118,7 +125,7 @@ module _ {R : Type 0} where
   pub led : {A B : Type 0} (view : A → B) (what rest : Setting R → State R → Outcome R B) (a b c : Machine R) (result : Result A EvalFault) → Leads what rest a b → Does view rest b c result → Does view what a c result
   led view what rest a b c result one two = record {
     told = λ setting is refuses.
-        agrees_by view result (what setting (state_of a)) (rest setting (state_of b)) (state_of c)
+        agrees_by setting view result (what setting (state_of a)) (rest setting (state_of b)) (state_of c)
         (one.told setting is (refuses_first setting.refused a.left b.left c.left (refused_of result) two.stays.turns two.took refuses))
         (two.told setting (setting_after setting a b one.stays is) (refuses_second setting.refused a.left b.left c.left (refused_of result) one.stays.turns refuses));
     stays = stays_then a b c one.stays two.stays;
@@ -141,7 +148,7 @@ module _ {R : Type 0} where
       → DoesInCall view what a b (Ok value) → Does other (λ setting. next setting (view value)) b c result → DoesInCall other (λ setting s. then_do (what setting s) (next setting)) a c result
   in_call_then view other what next a b c value result one two = record {
     told = λ setting is refuses.
-        agrees_by other result (then_do (what setting (state_of a)) (next setting)) (next setting (view value) (state_of b)) (state_of c)
+        agrees_by setting other result (then_do (what setting (state_of a)) (next setting)) (next setting (view value) (state_of b)) (state_of c)
         (ap (λ o. then_do o (next setting)) (one.told setting is (refuses_first setting.refused (suc a.left) b.left c.left (refused_of result) two.stays.turns two.took refuses)))
         (two.told setting (setting_after setting a b one.stays is) (refuses_second setting.refused (suc a.left) b.left c.left (refused_of result) (not_more a.left b.left one.stays.turns) refuses));
     stays = stays_then a b c one.stays two.stays;
@@ -156,7 +163,7 @@ module _ {R : Type 0} where
   pub led_same : {A B : Type 0} (view : A → B) (what rest : Setting R → State R → Outcome R B) (a b c : Machine R) (result : Result A EvalFault) → b.left ≡ a.left → Leads what rest a b → DoesInCall view rest b c result → DoesInCall view what a c result
   led_same view what rest a b c result same one two = record {
     told = λ setting is refuses.
-        agrees_by view result (what setting (state_of a)) (rest setting (state_of b)) (state_of c)
+        agrees_by setting view result (what setting (state_of a)) (rest setting (state_of b)) (state_of c)
         (one.told setting is (λ left low high. absurd (omega arith)))
         (two.told setting (setting_after setting a b one.stays is) (subst (λ n. Refuses setting.refused (suc n) c.left (refused_of result)) (sym same) refuses));
     stays = stays_then a b c one.stays two.stays;
@@ -184,15 +191,15 @@ module _ {R : Type 0} where
   value_now view what a value h = record { told = λ setting is none. h setting is; stays = stays_same a; counts = refl; whole = tt; took = tt }
 
   -- a fault without a change
-  pub fault_agrees : {A B : Type 0} (view : A → B) (spot : Spot) (cause : Cause) (e : EvalFault) (o : Outcome R B) (s : State R) → IsFault spot cause e → o ≡ fault_at spot cause s → Agrees view (Err e) o s
-  fault_agrees view spot cause fault.Host o s h is = absurd h
-  fault_agrees view spot cause fault.OutOfMemory o s h is = tt
-  fault_agrees view spot cause (fault.At path line why) o s h is = is ∙ ap (λ p. fault_at p cause s) (sym h.0) ∙ ap (λ c. fault_at (record { path = path; line = line }) c s) (sym h.1)
+  pub fault_agrees : {A B : Type 0} (setting : Setting R) (view : A → B) (spot : Spot) (cause : Cause) (e : EvalFault) (o : Outcome R B) (s : State R) → IsFault spot cause e → o ≡ fault_at spot cause s → Agrees setting view (Err e) o s
+  fault_agrees setting view spot cause fault.Host o s h is = absurd h
+  fault_agrees setting view spot cause fault.OutOfMemory o s h is = tt
+  fault_agrees setting view spot cause (fault.At path line why) o s h is = is ∙ ap (λ p. fault_at p cause s) (sym h.0) ∙ ap (λ c. fault_at (record { path = path; line = line }) c s) (sym h.1)
 
   pub fault_now : {A B : Type 0} (view : A → B) (what : Setting R → State R → Outcome R B) (a : Machine R) (spot : Spot) (cause : Cause) (e : EvalFault) → IsFault spot cause e → refused_in cause ≡ None
       → ((setting : Setting R) → IsSettingOf setting a → what setting (state_of a) ≡ fault_at spot cause (state_of a)) → Does view what a a (Err e)
   fault_now view what a spot cause e h none is = record {
-    told = λ setting right refuses. fault_agrees view spot cause e (what setting (state_of a)) (state_of a) h (is setting right);
+    told = λ setting right refuses. fault_agrees setting view spot cause e (what setting (state_of a)) (state_of a) h (is setting right);
     stays = stays_same a;
     counts = fault_counts spot cause e a.outside h;
     whole = fault_whole spot cause e h;

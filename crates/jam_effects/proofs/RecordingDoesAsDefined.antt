@@ -13,7 +13,7 @@ use Rattle.jam_eval.specs.Faults.{Spot, native, arity, refused_in}
 use Rattle.jam_eval.specs.Laws.{bounds}
 use Rattle.jam_eval.specs.States.{State}
 use Rattle.jam_eval.specs.Outcomes.{gives}
-use Rattle.jam_eval.specs.Settings.{Told, answers, Meaning}
+use Rattle.jam_eval.specs.Settings.{Told, answers, Meaning, Setting}
 use Rattle.jam_eval.specs.Refused.{TookTurn}
 use Rattle.jam_eval.specs.NativeCalls.{IsMeant, ActsAsMeant, KeepsFrames, DeclinesWhole, refused_of as refused_natively}
 use Rattle.jam_eval.specs.Calls.{as_told, acted_answer}
@@ -68,12 +68,12 @@ module _ {R : Type 0} where
     keeps = keeps_same o o refl;
   }
 
-  fault_noted : (error : NativeError) (name : Text) (spot : Spot) (e : EvalFault) (told : Told Bool R) (s : State R) (ws : Worlds) (k : R)
-      → IsNativeFault error name spot e → IsMeant told (Err error) ws k → Agrees truth (Err e) (noted_by name spot s told) (as_told ws k s)
-  fault_noted (errors.Fault f) name spot e told s ws k h is = fault_agrees truth spot (native f) e (noted_by name spot s told) (as_told ws k s) h (ap (noted_by name spot s) is)
-  fault_noted errors.Arity name spot e told s ws k h is = fault_agrees truth spot (arity name) e (noted_by name spot s told) (as_told ws k s) h (ap (noted_by name spot s) is)
-  fault_noted errors.Host name spot e told s ws k h is = subst (λ x. Agrees truth (Err x) (noted_by name spot s told) (as_told ws k s)) (sym h) tt
-  fault_noted errors.OutOfMemory name spot e told s ws k h is = subst (λ x. Agrees truth (Err x) (noted_by name spot s told) (as_told ws k s)) (sym h) tt
+  fault_noted : (setting : Setting R) (error : NativeError) (name : Text) (spot : Spot) (e : EvalFault) (told : Told Bool R) (s : State R) (ws : Worlds) (k : R)
+      → IsNativeFault error name spot e → (error ≡ errors.Host → ⊥) → IsMeant told (Err error) ws k → Agrees setting truth (Err e) (noted_by name spot s told) (as_told ws k s)
+  fault_noted setting (errors.Fault f) name spot e told s ws k h not_ is = fault_agrees setting truth spot (native f) e (noted_by name spot s told) (as_told ws k s) h (ap (noted_by name spot s) is)
+  fault_noted setting errors.Arity name spot e told s ws k h not_ is = fault_agrees setting truth spot (arity name) e (noted_by name spot s told) (as_told ws k s) h (ap (noted_by name spot s) is)
+  fault_noted setting errors.Host name spot e told s ws k h not_ is = absurd (not_ refl)
+  fault_noted setting errors.OutOfMemory name spot e told s ws k h not_ is = subst (λ x. Agrees setting truth (Err x) (noted_by name spot s told) (as_told ws k s)) (sym h) tt
 
   -- no actions have the name
   pub record_none : (name : Text) (given : List Value) (at : At) (m : Machine R) → actions_place name m.worlds.now ≡ None → Does truth (record_call_at name given at) m m (Ok false)
@@ -102,8 +102,8 @@ module _ {R : Type 0} where
       → Does truth (record_call_at name given at) (machine ws turns k meaning o) (machine later turns now same o) (Err e)
   record_fails name given at key ws later turns k now meaning same o error e is told means frames not_ none h = record {
     told = λ setting right refuses_.
-        subst (λ p. Agrees truth (Err e) (recorded_by p name given at setting (state_of (machine ws turns k meaning o))) (state_of (machine later turns now same o))) (sym is)
-        (fault_noted error name (spot_of at) e (acted_answer setting name given at.line (state_of (machine ws turns k meaning o))) (state_of (machine ws turns k meaning o)) later now h (told setting.natives right.natives));
+        subst (λ p. Agrees setting truth (Err e) (recorded_by p name given at setting (state_of (machine ws turns k meaning o))) (state_of (machine later turns now same o))) (sym is)
+        (fault_noted setting error name (spot_of at) e (acted_answer setting name given at.line (state_of (machine ws turns k meaning o))) (state_of (machine ws turns k meaning o)) later now h not_ (told setting.natives right.natives));
     stays = stays_told ws later turns k now meaning same o means frames;
     counts = quiet error name (spot_of at) e o h not_;
     whole = error_whole error name (spot_of at) e h;

@@ -9,6 +9,7 @@ use Rattle.jam_scope.specs.Worlds.{Worlds}
 use Rattle.jam_eval.specs.States.{State}
 use Rattle.jam_eval.specs.Settings.{Meaning, Setting}
 use Rattle.jam_eval.specs.Outcomes.{Outcome, gives, faults}
+use Rattle.jam_eval.specs.Kept.{Begins}
 use Rattle.jam_eval.specs.Laws.{bounds}
 use Rattle.jam_eval.specs.Rolled.{back_to}
 use Rattle.jam_eval.specs.Refused.{NamesNone, Refuses, TookTurn}
@@ -46,28 +47,29 @@ abbrev pub Counts : {A : Type 0} → Result A EvalFault → Outside → Outside 
 Counts (Ok a) before after = after.faults ≡ before.faults
 Counts (Err e) before after = CountsFault e before after
 
--- The fault is that of the outcome, with this state; nothing is said where the host failed or memory ran out.
-abbrev pub Faults : {R B : Type 0} → EvalFault → Outcome R B → State R → Type 0
-Faults fault.Host outcome s = Unit {0}
-Faults fault.OutOfMemory outcome s = Unit {0}
-Faults (fault.At path line why) outcome s =
+-- The fault is that of the outcome, with this state. Where the host failed, what natives keep is a first part of what they keep after
+-- the outcome; nothing is said where memory ran out.
+abbrev pub Faults : {R B : Type 0} → Setting R → EvalFault → Outcome R B → State R → Type 0
+Faults setting fault.Host outcome s = Begins setting s outcome
+Faults setting fault.OutOfMemory outcome s = Unit {0}
+Faults setting (fault.At path line why) outcome s =
     outcome ≡ faults (record { spot = record { path = path; line = line }; cause = cause_of why }) s
 
 -- The result is the outcome, with this state.
-abbrev pub Agrees : {R A B : Type 0} → (A → B) → Result A EvalFault → Outcome R B → State R → Type 0
-Agrees view (Ok a) outcome s = outcome ≡ gives (view a) s
-Agrees view (Err e) outcome s = Faults e outcome s
+abbrev pub Agrees : {R A B : Type 0} → Setting R → (A → B) → Result A EvalFault → Outcome R B → State R → Type 0
+Agrees setting view (Ok a) outcome s = outcome ≡ gives (view a) s
+Agrees setting view (Err e) outcome s = Faults setting e outcome s
 
 module _ {R A B : Type 0} where
   -- The result is what is defined, for each right setting that names what was refused, if anything was.
   abbrev pub Tells : (A → B) → (Setting R → State R → Outcome R B) → Machine R → Machine R → Result A EvalFault → Type 0
   Tells view what before after result =
-      (setting : Setting R) → IsSettingOf setting before → Refuses setting.refused before.left after.left (refused_of result) → Agrees view result (what setting (state_of before)) (state_of after)
+      (setting : Setting R) → IsSettingOf setting before → Refuses setting.refused before.left after.left (refused_of result) → Agrees setting view result (what setting (state_of before)) (state_of after)
 
 -- What stands in a call, whose turn was taken before, does what is defined: where the meaning of natives and the files are told, for
 -- each right setting that names what was refused from this call on, if anything was.
 pub record DoesInCall {R A B : Type 0} (view : A → B) (what : Setting R → State R → Outcome R B) (before after : Machine R) (result : Result A EvalFault) : Type 0 where
-  pub told : (setting : Setting R) → IsSettingOf setting before → Refuses setting.refused (suc before.left) after.left (refused_of result) → Agrees view result (what setting (state_of before)) (state_of after)
+  pub told : (setting : Setting R) → IsSettingOf setting before → Refuses setting.refused (suc before.left) after.left (refused_of result) → Agrees setting view result (what setting (state_of before)) (state_of after)
   pub stays : Stays before after
   pub counts : Counts result before.outside after.outside
   pub whole : IfErr result HoldsNoMemory
@@ -75,7 +77,7 @@ pub record DoesInCall {R A B : Type 0} (view : A → B) (what : Setting R → St
 -- A call does what is defined: where the meaning of natives and the files are told, for each right setting that names what was
 -- refused, if anything was. Where a pattern was refused, the turn of the call was taken in it.
 pub record Does {R A B : Type 0} (view : A → B) (what : Setting R → State R → Outcome R B) (before after : Machine R) (result : Result A EvalFault) : Type 0 where
-  pub told : (setting : Setting R) → IsSettingOf setting before → Refuses setting.refused before.left after.left (refused_of result) → Agrees view result (what setting (state_of before)) (state_of after)
+  pub told : (setting : Setting R) → IsSettingOf setting before → Refuses setting.refused before.left after.left (refused_of result) → Agrees setting view result (what setting (state_of before)) (state_of after)
   pub stays : Stays before after
   pub counts : Counts result before.outside after.outside
   pub whole : IfErr result HoldsNoMemory
@@ -84,7 +86,7 @@ pub record Does {R A B : Type 0} (view : A → B) (what : Setting R → State R 
 -- The same of a call after which the world of entry stands again: of the worlds only the marks are told.
 pub record DoesAside {R A B : Type 0} (view : A → B) (what : Setting R → State R → Outcome R B) (before after : Machine R) (result : Result A EvalFault) : Type 0 where
   pub told : (setting : Setting R) → IsSettingOf setting before → Refuses setting.refused before.left after.left (refused_of result)
-      → Agrees view result (back_to before.worlds (what setting (state_of before))) (record (state_of after) { worlds = before.worlds })
+      → Agrees setting view result (back_to before.worlds (what setting (state_of before))) (record (state_of after) { worlds = before.worlds })
   pub turns : after.left ≤ before.left
   pub budget : after.budget ≡ before.budget
   pub meaning : after.meaning ≡ before.meaning

@@ -7,4 +7,5 @@ pub mod FramesStay
 pub mod IsKept
 pub mod KeptByEval
 mod OwnHold
+pub mod RecordsOnlyGrow
 mod StatementsFollow

@@ -25,6 +25,8 @@ use Rattle.jam_effects.specs.Machines.{Machine, state_of, IsSettingOf}
 use Rattle.jam_effects.specs.Does.{Agrees, Does, Leads}
 use Rattle.jam_effects.specs.Views.{value, values, What}
 use Rattle.jam_interp.specs.Parts.{arg_at, bracket_at, inner_at, args_at, args_rest, lists_at, lists_rest, call_of_at, call_head_at, call_at, deep}
+use Rattle.jam_eval.specs.Kept.{Begins}
+use Rattle.jam_eval.proofs.RecordsOnlyGrow.{then_begins, same_begins, joined_begins, args_after_begins, lists_begins, call_begins, call_head_begins}
 use Rattle.jam_effects.proofs.OrderedCallsDoAsDefined.{err_then, ok_then, led, leads_then, leads_same, value_now, fault_now}
 use Rattle.jam_effects.proofs.AnswersDoAsDefined.{answer_at, answered, expanded_is, head_is, called_or}
 use Rattle.jam_interp.proofs.OneLevelLessOrFault.{one_less, no_bracket}
@@ -34,7 +36,7 @@ module _ {R : Type 0} where
   pub does_by : {A B : Type 0} (view : A → B) (what other : Setting R → State R → Outcome R B) (a b : Machine R) (result : Result A EvalFault)
       → ((setting : Setting R) → IsSettingOf setting a → what setting (state_of a) ≡ other setting (state_of a)) → Does view other a b result → Does view what a b result
   does_by view what other a b result e h = record {
-    told = λ setting is refuses. subst (λ o. Agrees view result o (state_of b)) (sym (e setting is)) (h.told setting is refuses);
+    told = λ setting is refuses. subst (λ o. Agrees setting view result o (state_of b)) (sym (e setting is)) (h.told setting is refuses);
     stays = h.stays;
     counts = h.counts;
     whole = h.whole;
@@ -93,6 +95,9 @@ module _ {R : Type 0} where
   abbrev pub after_arg : Value → List Arg → At → Setting R → Value → State R → Outcome R Value
   after_arg found rest at setting v s = then_do (joined found v (spot_of at) s) (λ more. λ s₁. args_after setting.budget (deep at setting) more (args_tree rest) (spot_of at) s₁)
 
+  after_arg_begins : (found : Value) (rest : List Arg) (at : At) (setting : Setting R) (v : Value) (s : State R) → Begins setting s (after_arg found rest at setting v s)
+  after_arg_begins found rest at setting v s = then_begins setting _ _ s (joined_begins setting found v (spot_of at) s) (λ more later. args_after_begins setting at.levels more (args_tree rest) (spot_of at) later)
+
   next_arg : (what : Setting R → State R → Outcome R Value) (found : Value) (xs : List Arg) (one : Arg) (rest : List Arg) (at : At) (a b : Machine R) → xs ≡ one ∷ rest → Leads what (args_rest found xs at) a b → Leads what (args_rest found (one ∷ rest) at) a b
   next_arg what found xs one rest at a b e h = subst (λ l. Leads what (args_rest found l at) a b) e h
 
@@ -100,7 +105,7 @@ module _ {R : Type 0} where
       → xs ≡ one ∷ rest → Leads what (args_rest found xs at) a b → Does value (arg_at one at) b c (Err e) → Does value what a c (Err e)
   args_arg_fails what found xs one rest at a b c e is leads h =
       led value what (args_rest found (one ∷ rest) at) a b c (Err e) (next_arg what found xs one rest at a b is leads)
-      (err_then value value (arg_at one at) (after_arg found rest at) b c e h)
+      (err_then value value (arg_at one at) (after_arg found rest at) b c e (λ setting v later. after_arg_begins found rest at setting v later) h)
 
   pub args_arg_done : (what : Setting R → State R → Outcome R Value) (found : Value) (xs : List Arg) (one : Arg) (rest : List Arg) (at : At) (a b c : Machine R) (v : Value)
       → xs ≡ one ∷ rest → Leads what (args_rest found xs at) a b → Does value (arg_at one at) b c (Ok v) → Leads what (λ setting. after_arg found rest at setting v) a c
@@ -112,7 +117,8 @@ module _ {R : Type 0} where
       → Leads what (λ setting. after_arg found rest at setting v) a b → IsAnswered view (within (found ++ v)) (spot_of at) (Err e) → Does value what a b (Err e)
   args_join_fails what found v rest at a b view e leads h =
       led value what (λ setting. after_arg found rest at setting v) a b b (Err e) leads
-      (err_then view value (λ setting s. joined found v (spot_of at) s) (λ setting more s₁. args_after setting.budget (deep at setting) more (args_tree rest) (spot_of at) s₁) b b e (join_does view found v (spot_of at) b (Err e) h))
+      (err_then view value (λ setting s. joined found v (spot_of at) s) (λ setting more s₁. args_after setting.budget (deep at setting) more (args_tree rest) (spot_of at) s₁) b b e
+      (λ setting more later. args_after_begins setting at.levels more (args_tree rest) (spot_of at) later) (join_does view found v (spot_of at) b (Err e) h))
 
   pub args_goes : {U : Type 0} (what : Setting R → State R → Outcome R Value) (found v : Value) (rest : List Arg) (at : At) (a b : Machine R) (view : U → Value) (u : U)
       → Leads what (λ setting. after_arg found rest at setting v) a b → IsAnswered view (within (found ++ v)) (spot_of at) (Ok u) → Leads what (args_rest (view u) rest at) a b
@@ -134,8 +140,9 @@ module _ {R : Type 0} where
       → xs ≡ one ∷ rest → items ≡ one.items → Leads what (lists_rest made xs at) a b → Does value (args_at items at) b c (Err e) → Does values what a c (Err e)
   lists_list_fails what made xs one items rest at a b c e is same leads h =
       led values what (lists_rest made (one ∷ rest) at) a b c (Err e) (subst (λ l. Leads what (lists_rest made l at) a b) is leads)
-      (err_then values values (λ setting s. lists setting.budget (deep at setting) (lists_tree (one ∷ rest)) (spot_of at) s) (λ setting more s₁. gives (made ++ more) s₁) b c e
+      (err_then values values (λ setting s. lists setting.budget (deep at setting) (lists_tree (one ∷ rest)) (spot_of at) s) (λ setting more s₁. gives (made ++ more) s₁) b c e (λ setting more later. same_begins setting (made ++ more) later)
       (err_then value values (args_at one.items at) (λ setting v s. then_do (lists setting.budget (deep at setting) (lists_tree rest) (spot_of at) s) (λ more. λ s₁. gives (v ∷ more) s₁)) b c e
+      (λ setting v later. then_begins setting _ _ later (lists_begins setting at.levels (lists_tree rest) (spot_of at) later) (λ more last. same_begins setting (v ∷ more) last))
       (subst (λ l. Does value (args_at l at) b c (Err e)) same h)))
 
   lists_pushed : (made : List Value) (v : Value) (rest : List (Vec Arg Global)) (at : At) (setting : Setting R) (s : State R)
@@ -174,13 +181,14 @@ module _ {R : Type 0} where
 
   pub call_of_head_fails : (head : Arg) (given : List (Vec Arg Global)) (at : At) (a b : Machine R) (e : EvalFault) → Does value (arg_at head at) a b (Err e) → Does value (call_of_at head given at) a b (Err e)
   call_of_head_fails head given at a b e h =
-      err_then value value (arg_at head at) (λ setting names s₁. then_do (lists setting.budget (deep at setting) (lists_tree given) (spot_of at) s₁) (λ vs. λ s₂. call_head setting.budget (deep at setting) names vs (spot_of at) s₂)) a b e h
+      err_then value value (arg_at head at) (λ setting names s₁. then_do (lists setting.budget (deep at setting) (lists_tree given) (spot_of at) s₁) (λ vs. λ s₂. call_head setting.budget (deep at setting) names vs (spot_of at) s₂)) a b e
+      (λ setting names later. then_begins setting _ _ later (lists_begins setting at.levels (lists_tree given) (spot_of at) later) (λ vs last. call_head_begins setting at.levels names vs (spot_of at) last)) h
 
   pub call_of_lists_fail : (head : Arg) (given : List (Vec Arg Global)) (at : At) (a b c : Machine R) (names : Value) (e : EvalFault) → Does value (arg_at head at) a b (Ok names) → Does values (lists_at given at) b c (Err e) → Does value (call_of_at head given at) a c (Err e)
   call_of_lists_fail head given at a b c names e one two =
       led value (call_of_at head given at) (λ setting s₁. then_do (lists_at given at setting s₁) (λ vs. λ s₂. call_head setting.budget (deep at setting) names vs (spot_of at) s₂)) a b c (Err e)
       (ok_then value (arg_at head at) (λ setting ns s₁. then_do (lists_at given at setting s₁) (λ vs. λ s₂. call_head setting.budget (deep at setting) ns vs (spot_of at) s₂)) a b names one)
-      (err_then values value (lists_at given at) (λ setting vs s₂. call_head setting.budget (deep at setting) names vs (spot_of at) s₂) b c e two)
+      (err_then values value (lists_at given at) (λ setting vs s₂. call_head setting.budget (deep at setting) names vs (spot_of at) s₂) b c e (λ setting vs later. call_head_begins setting at.levels names vs (spot_of at) later) two)
 
   pub call_of_calls : (head : Arg) (given : List (Vec Arg Global)) (at : At) (a b c d : Machine R) (names : Value) (vs : List Value) (result : Result Value EvalFault) → Does value (arg_at head at) a b (Ok names) → Does values (lists_at given at) b c (Ok vs)
       → Does value (call_head_at names vs at) c d result → Does value (call_of_at head given at) a d result
@@ -191,6 +199,10 @@ module _ {R : Type 0} where
       (ok_then values (lists_at given at) (λ setting us s₂. call_head setting.budget (deep at setting) names us (spot_of at) s₂) b c vs two) three)
 
   -- a call of the first of some names
+  called_or_begins : (c : Option (Text × List Value)) (at : At) (setting : Setting R) (s : State R) → Begins setting s (called_or setting.budget (deep at setting) c (spot_of at) s)
+  called_or_begins None at setting s = same_begins setting {A = Value} [] s
+  called_or_begins (Some c) at setting s = call_begins setting at.levels c.0 c.1 (spot_of at) s
+
   head_leads : {A : Type 0} (view : A → Option (Text × List Value)) (names : Value) (given : List Value) (at : At) (m : Machine R) (c : A) → IsAnswered view (named names given) (spot_of at) (Ok c)
       → Leads (call_head_at names given at) (λ setting s. called_or setting.budget (deep at setting) (view c) (spot_of at) s) m m
   head_leads view names given at m c h =
@@ -201,7 +213,8 @@ module _ {R : Type 0} where
   head_fails view names given at m e h =
       does_by value (call_head_at names given at) (λ setting s. then_do (answer_at (named names given) (spot_of at) s) (λ d. λ s₁. called_or setting.budget (deep at setting) d (spot_of at) s₁)) m m (Err e)
       (λ setting is. head_is setting.budget (deep at setting) names given (spot_of at) (state_of m))
-      (err_then view value (λ setting s. answer_at (named names given) (spot_of at) s) (λ setting d s₁. called_or setting.budget (deep at setting) d (spot_of at) s₁) m m e (answered view (named names given) (spot_of at) m (Err e) h))
+      (err_then view value (λ setting s. answer_at (named names given) (spot_of at) s) (λ setting d s₁. called_or setting.budget (deep at setting) d (spot_of at) s₁) m m e
+      (λ setting d later. called_or_begins d at setting later) (answered view (named names given) (spot_of at) m (Err e) h))
 
   pub head_none : {A : Type 0} (view : A → Option (Text × List Value)) (names : Value) (given : List Value) (at : At) (m : Machine R) (c : A) → IsAnswered view (named names given) (spot_of at) (Ok c) → view c ≡ None → Does value (call_head_at names given at) m m (Ok [])
   head_none view names given at m c h none =

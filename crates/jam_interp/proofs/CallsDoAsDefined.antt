@@ -37,6 +37,7 @@ use Rattle.jam_effects.specs.Machines.{Machine, machine, state_of, IsSettingOf}
 use Rattle.jam_effects.specs.Does.{Agrees, DoesInCall, Does, Leads}
 use Rattle.jam_effects.specs.Views.{value, truth, step, flow_of, IsValueOf}
 use Rattle.jam_interp.specs.Parts.{call_at, call_head_at, applied_at, ruled_at, unruled_at, run_rule_at, stepped_at, transformed_at, filtered_at, transformed_rest, filtered_rest, bracket_call_at, stmts_at, deep, body_at}
+use Rattle.jam_eval.proofs.RecordsOnlyGrow.{then_begins, same_begins, either_begins, joined_begins, value_begins, acted_begins, native_begins, stepped_begins, transformed_begins, filtered_begins}
 use Rattle.jam_effects.proofs.OrderedCallsDoAsDefined.{err_then, err_then_in, ok_then, led, led_in, led_same, leads_then, leads_same, value_now, fault_now, weaker, in_call_then}
 use Rattle.jam_effects.proofs.OneTurnLessOrFault.{turn_call, turn_faults, turned}
 use Rattle.jam_interp.proofs.OneLevelLessOrFault.{one_less, no_call, no_bracket_call}
@@ -52,7 +53,7 @@ module _ {R : Type 0} where
   in_call_by : {A B : Type 0} (view : A → B) (what other : Setting R → State R → Outcome R B) (a b : Machine R) (result : Result A EvalFault)
       → ((setting : Setting R) → IsSettingOf setting a → what setting (state_of a) ≡ other setting (state_of a)) → DoesInCall view other a b result → DoesInCall view what a b result
   in_call_by view what other a b result e h = record {
-    told = λ setting is refuses. subst (λ o. Agrees view result o (state_of b)) (sym (e setting is)) (h.told setting is refuses);
+    told = λ setting is refuses. subst (λ o. Agrees setting view result o (state_of b)) (sym (e setting is)) (h.told setting is refuses);
     stays = h.stays;
     counts = h.counts;
     whole = h.whole;
@@ -114,7 +115,8 @@ module _ {R : Type 0} where
   pub ruled_fails : (rule : Rule) (name : Text) (given : List Value) (at : At) (a b : Machine R) (e : EvalFault) → Does value (run_rule_at rule name given at) a b (Err e) → DoesInCall value (ruled_at rule name given at) a b (Err e)
   ruled_fails rule name given at a b e h =
       weaker value (ruled_at rule name given at) a b (Err e)
-      (err_then value value (run_rule_at rule name given at) (λ setting v s. acted setting (deep at setting) (body_at at setting) name given (spot_of at) s (λ noted. λ s₁. gives v s₁)) a b e h)
+      (err_then value value (run_rule_at rule name given at) (λ setting v s. acted setting (deep at setting) (body_at at setting) name given (spot_of at) s (λ noted. λ s₁. gives v s₁)) a b e
+      (λ setting v later. acted_begins setting at.levels name given (spot_of at) later _ (λ noted last. same_begins setting v last)) h)
 
   -- what follows the rule: natives are told of the call, in which nothing is refused
   after_ruled : (v : Value) (name : Text) (given : List Value) (at : At) (b : Machine R) → (setting : Setting R) → acted setting (deep at setting) (body_at at setting) name given (spot_of at) (state_of b) (λ noted. λ s₁. gives v s₁) ≡ then_do (record_call_at name given at setting (state_of b)) (λ noted. λ s₁. gives v s₁)
@@ -129,7 +131,7 @@ module _ {R : Type 0} where
   pub ruled_untold : (rule : Rule) (name : Text) (given : List Value) (at : At) (a b c : Machine R) (v : Value) (e : EvalFault) → Does value (run_rule_at rule name given at) a b (Ok v) → Does truth (record_call_at name given at) b c (Err e) → DoesInCall value (ruled_at rule name given at) a c (Err e)
   ruled_untold rule name given at a b c v e one two =
       led_in value (ruled_at rule name given at) (λ setting s. then_do (record_call_at name given at setting s) (λ noted. λ s₁. gives v s₁)) a b c (Err e) (ruled_leads rule name given at a b v one)
-      (err_then truth value (record_call_at name given at) (λ setting noted s₁. gives v s₁) b c e two)
+      (err_then truth value (record_call_at name given at) (λ setting noted s₁. gives v s₁) b c e (λ setting noted later. same_begins setting v later) two)
 
   pub ruled_ends : (rule : Rule) (name : Text) (given : List Value) (at : At) (a b c : Machine R) (v : Value) (noted : Bool) → Does value (run_rule_at rule name given at) a b (Ok v) → Does truth (record_call_at name given at) b c (Ok noted) → DoesInCall value (ruled_at rule name given at) a c (Ok v)
   ruled_ends rule name given at a b c v noted one two =
@@ -147,10 +149,10 @@ module _ {R : Type 0} where
 
   -- ---- the value of a rule whose statements ended
 
-  value_agrees : (e : EvalFault) (o : Outcome R Flow) (s : State R) → Agrees flow_of (Err e) o s → Agrees value (Err e) (value_of o) s
-  value_agrees fault.Host o s h = tt
-  value_agrees fault.OutOfMemory o s h = tt
-  value_agrees (fault.At path line why) o s h = ap value_of h
+  value_agrees : (setting : Setting R) (e : EvalFault) (o : Outcome R Flow) (s : State R) → Agrees setting flow_of (Err e) o s → Agrees setting value (Err e) (value_of o) s
+  value_agrees setting fault.Host o s h = value_begins setting o s h
+  value_agrees setting fault.OutOfMemory o s h = tt
+  value_agrees setting (fault.At path line why) o s h = ap value_of h
 
   pub value_does : (what : Setting R → State R → Outcome R Flow) (a b : Machine R) (ended : Result Way EvalFault) (result : Result Value EvalFault) → IsValueOf ended result
       → Does flow_of what a b ended → Does value (λ setting s. value_of (what setting s)) a b result
@@ -160,7 +162,7 @@ module _ {R : Type 0} where
       subst (λ r. Does value (λ setting s. value_of (what setting s)) a b r) (sym is) (record { told = λ setting right none. ap value_of (h.told setting right none); stays = h.stays; counts = h.counts; whole = tt; took = h.took })
   value_does what a b (Err e) result is h =
       subst (λ r. Does value (λ setting s. value_of (what setting s)) a b r) (sym is) (record {
-        told = λ setting right refuses. value_agrees e (what setting (state_of a)) (state_of b) (h.told setting right refuses);
+        told = λ setting right refuses. value_agrees setting e (what setting (state_of a)) (state_of b) (h.told setting right refuses);
         stays = h.stays;
         counts = h.counts;
         whole = h.whole;
@@ -193,7 +195,8 @@ module _ {R : Type 0} where
   unruled_untold name given at a b e h =
       weaker value (unruled_at name given at) a b (Err e)
       (does_by value (unruled_at name given at) (λ setting s. then_do (record_call_at name given at setting s) (λ noted. λ s₁. not_noted noted name given at setting s₁)) a b (Err e) (unruled_is name given at a)
-      (err_then truth value (record_call_at name given at) (λ setting noted s₁. not_noted noted name given at setting s₁) a b e h))
+      (err_then truth value (record_call_at name given at) (λ setting noted s₁. not_noted noted name given at setting s₁) a b e
+      (λ setting noted later. either_begins setting noted _ _ later (λ last. same_begins setting {A = Value} [] last) (λ last. native_begins setting at.levels name given (spot_of at) last)) h))
 
   unruled_leads : (name : Text) (given : List Value) (at : At) (a b : Machine R) (noted : Bool) → Does truth (record_call_at name given at) a b (Ok noted) → Leads (unruled_at name given at) (not_noted noted name given at) a b
   unruled_leads name given at a b noted h =
@@ -217,7 +220,8 @@ module _ {R : Type 0} where
       → DoesInCall step (native_step_at name given at) b c (Err e) → DoesInCall value (unruled_at name given at) a c (Err e)
   unruled_fails name given at a b c noted e not_ same one two =
       led_same value (unruled_at name given at) (λ setting s. then_do (native_step_at name given at setting s) (λ st. λ s₁. stepped_at st name at setting s₁)) a b c (Err e) same (asks name given at a b noted not_ one)
-      (err_then_in step value (native_step_at name given at) (λ setting st s₁. stepped_at st name at setting s₁) b c e two)
+      (err_then_in step value (native_step_at name given at) (λ setting st s₁. stepped_at st name at setting s₁) b c e
+      (λ setting st later. stepped_begins setting at.levels name (spot_of at) st later) two)
 
   pub unruled_steps : (name : Text) (given : List Value) (at : At) (a b c d : Machine R) (noted : Bool) (st : NativeStep) (result : Result Value EvalFault) → noted ≡ false → b.left ≡ a.left → Does truth (record_call_at name given at) a b (Ok noted)
       → DoesInCall step (native_step_at name given at) b c (Ok st) → Does value (stepped_at st name at) c d result → DoesInCall value (unruled_at name given at) a d result
@@ -272,7 +276,8 @@ module _ {R : Type 0} where
       → xs ≡ item ∷ rest → Leads what (transformed_rest rule found xs at) a b → Does value (bracket_call_at rule item at) b c (Err e) → Does value what a c (Err e)
   transformed_fails what rule found xs item rest at a b c e is leads h =
       led value what (transformed_rest rule found (item ∷ rest) at) a b c (Err e) (subst (λ l. Leads what (transformed_rest rule found l at) a b) is leads)
-      (err_then value value (bracket_call_at rule item at) (after_item rule found rest at) b c e h)
+      (err_then value value (bracket_call_at rule item at) (after_item rule found rest at) b c e
+      (λ setting v later. then_begins setting _ _ later (joined_begins setting found v (spot_of at) later) (λ more last. transformed_begins setting at.levels rule more rest (spot_of at) last)) h)
 
   pub transformed_called : (what : Setting R → State R → Outcome R Value) (rule found xs : Value) (item : Text) (rest : Value) (at : At) (a b c : Machine R) (v : Value)
       → xs ≡ item ∷ rest → Leads what (transformed_rest rule found xs at) a b → Does value (bracket_call_at rule item at) b c (Ok v) → Leads what (λ setting. after_item rule found rest at setting v) a c
@@ -284,7 +289,8 @@ module _ {R : Type 0} where
       → Leads what (λ setting. after_item rule found rest at setting v) a b → IsAnswered view (within (found ++ v)) (spot_of at) (Err e) → Does value what a b (Err e)
   transformed_large what rule found v rest at a b view e leads h =
       led value what (λ setting. after_item rule found rest at setting v) a b b (Err e) leads
-      (err_then view value (λ setting s. joined found v (spot_of at) s) (λ setting more s₁. transformed setting (deep at setting) (body_at at setting) rule more rest (spot_of at) s₁) b b e (join_does view found v (spot_of at) b (Err e) h))
+      (err_then view value (λ setting s. joined found v (spot_of at) s) (λ setting more s₁. transformed setting (deep at setting) (body_at at setting) rule more rest (spot_of at) s₁) b b e
+      (λ setting more later. transformed_begins setting at.levels rule more rest (spot_of at) later) (join_does view found v (spot_of at) b (Err e) h))
 
   pub transformed_goes : {U : Type 0} (what : Setting R → State R → Outcome R Value) (rule found v rest : Value) (at : At) (a b : Machine R) (view : U → Value) (u : U)
       → Leads what (λ setting. after_item rule found rest at setting v) a b → IsAnswered view (within (found ++ v)) (spot_of at) (Ok u) → Leads what (transformed_rest rule (view u) rest at) a b
@@ -307,7 +313,9 @@ module _ {R : Type 0} where
   filtered_fails what rule kept xs item rest at a b c e is leads h =
       led value what (filtered_rest rule kept (item ∷ rest) at) a b c (Err e) (subst (λ l. Leads what (filtered_rest rule kept l at) a b) is leads)
       (err_then value value (λ setting s. filtered setting (deep at setting) (body_at at setting) rule (item ∷ rest) (spot_of at) s) (λ setting more s₁. gives (kept ++ more) s₁) b c e
-      (err_then value value (bracket_call_at rule item at) (λ setting v s. then_do (filtered setting (deep at setting) (body_at at setting) rule rest (spot_of at) s) (λ more. λ s₁. gives (kept_if (is_true v) item more) s₁)) b c e h))
+      (λ setting more later. same_begins setting (kept ++ more) later)
+      (err_then value value (bracket_call_at rule item at) (λ setting v s. then_do (filtered setting (deep at setting) (body_at at setting) rule rest (spot_of at) s) (λ more. λ s₁. gives (kept_if (is_true v) item more) s₁)) b c e
+      (λ setting v later. then_begins setting _ _ later (filtered_begins setting at.levels rule rest (spot_of at) later) (λ more last. same_begins setting (kept_if (is_true v) item more) last)) h))
 
   filtered_on : (rule kept : Value) (item : Text) (rest : Value) (at : At) (v : Value) (setting : Setting R) (s : State R)
       → if_true rule item kept rest at setting v s ≡ filtered_rest rule (kept ++ kept_if (is_true v) item []) rest at setting s

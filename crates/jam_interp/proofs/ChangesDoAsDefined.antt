@@ -40,7 +40,7 @@ module _ {R : Type 0} where
   pub puts_not : {A B : Type 0} (view : A → B) (what : Setting R → State R → Outcome R B) (m : Machine R) (ws : Worlds) (spot : Spot) (cause : Cause) (e : EvalFault) → SameFrames m.worlds ws → IsFault spot cause e → refused_in cause ≡ None
       → ((setting : Setting R) → IsSettingOf setting m → what setting (state_of m) ≡ fault_at spot cause (state_of (record m { worlds = ws }))) → Does view what m (record m { worlds = ws }) (Err e)
   puts_not view what m ws spot cause e same h none is = record {
-    told = λ setting right refuses. fault_agrees view spot cause e (what setting (state_of m)) (state_of (record m { worlds = ws })) h (is setting right);
+    told = λ setting right refuses. fault_agrees setting view spot cause e (what setting (state_of m)) (state_of (record m { worlds = ws })) h (is setting right);
     stays = stays_worlds m ws same;
     counts = fault_counts spot cause e m.outside h;
     whole = fault_whole spot cause e h;

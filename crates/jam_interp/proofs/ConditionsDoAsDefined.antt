@@ -16,6 +16,8 @@ use Rattle.jam_effects.specs.Machines.{Machine, state_of}
 use Rattle.jam_effects.specs.Does.{Does, Leads}
 use Rattle.jam_effects.specs.Views.{value, truth, What}
 use Rattle.jam_interp.specs.Parts.{arg_at, expr_at, any_of_at, all_of_at, same_at, deep}
+use Rattle.jam_eval.specs.Kept.{Begins}
+use Rattle.jam_eval.proofs.RecordsOnlyGrow.{then_begins, same_begins, either_begins, any_begins, all_begins}
 use Rattle.jam_effects.proofs.OrderedCallsDoAsDefined.{err_then, ok_then, led, leads_then, value_now}
 use Rattle.jam_interp.proofs.ArgumentsDoAsDefined.{does_by}
 
@@ -26,7 +28,7 @@ module _ {R : Type 0} where
 
   -- what is made of an answer
   pub made_fails : {A : Type 0} (view : A → A) (what : Setting R → State R → Outcome R A) (make : A → Bool) (a b : Machine R) (e : EvalFault) → Does view what a b (Err e) → Does truth (λ setting s. then_do (what setting s) (λ v. λ s₁. gives (make v) s₁)) a b (Err e)
-  made_fails view what make a b e h = err_then view truth what (λ setting v s₁. gives (make v) s₁) a b e h
+  made_fails view what make a b e h = err_then view truth what (λ setting v s₁. gives (make v) s₁) a b e (λ setting v later. same_begins setting (make v) later) h
 
   pub made_ends : {A : Type 0} (view : A → A) (what : Setting R → State R → Outcome R A) (make : A → Bool) (a b : Machine R) (v : A) (answer : Bool) → answer ≡ make (view v) → Does view what a b (Ok v) → Does truth (λ setting s. then_do (what setting s) (λ u. λ s₁. gives (make u) s₁)) a b (Ok answer)
   made_ends view what make a b v answer is h =
@@ -37,14 +39,16 @@ module _ {R : Type 0} where
   abbrev pub two_of : (Value → Value → Bool) → What R Value → What R Value → What R Bool
   two_of test left right setting s = then_do (left setting s) (λ a. λ s₁. then_do (right setting s₁) (λ b. λ s₂. gives (test a b) s₂))
 
-  pub two_first_fails : (test : Value → Value → Bool) (left right : What R Value) (a b : Machine R) (e : EvalFault) → Does value left a b (Err e) → Does truth (two_of test left right) a b (Err e)
-  two_first_fails test left right a b e h = err_then value truth left (λ setting u s₁. then_do (right setting s₁) (λ v. λ s₂. gives (test u v) s₂)) a b e h
+  pub two_first_fails : (test : Value → Value → Bool) (left right : What R Value) (a b : Machine R) (e : EvalFault) → ((setting : Setting R) (later : State R) → Begins setting later (right setting later)) → Does value left a b (Err e) → Does truth (two_of test left right) a b (Err e)
+  two_first_fails test left right a b e more h =
+      err_then value truth left (λ setting u s₁. then_do (right setting s₁) (λ v. λ s₂. gives (test u v) s₂)) a b e
+      (λ setting u later. then_begins setting _ _ later (more setting later) (λ v last. same_begins setting (test u v) last)) h
 
   pub two_second_fails : (test : Value → Value → Bool) (left right : What R Value) (a b c : Machine R) (u : Value) (e : EvalFault) → Does value left a b (Ok u) → Does value right b c (Err e) → Does truth (two_of test left right) a c (Err e)
   two_second_fails test left right a b c u e one two =
       led truth (two_of test left right) (λ setting s₁. then_do (right setting s₁) (λ v. λ s₂. gives (test u v) s₂)) a b c (Err e)
       (ok_then value left (λ setting w s₁. then_do (right setting s₁) (λ v. λ s₂. gives (test w v) s₂)) a b u one)
-      (err_then value truth right (λ setting v s₂. gives (test u v) s₂) b c e two)
+      (err_then value truth right (λ setting v s₂. gives (test u v) s₂) b c e (λ setting v later. same_begins setting (test u v) later) two)
 
   pub two_end : (test : Value → Value → Bool) (left right : What R Value) (a b c : Machine R) (u v : Value) (answer : Bool) → answer ≡ test u v → Does value left a b (Ok u) → Does value right b c (Ok v) → Does truth (two_of test left right) a c (Ok answer)
   two_end test left right a b c u v answer is one two =
@@ -59,7 +63,8 @@ module _ {R : Type 0} where
   pub any_fails : (what : What R Bool) (xs : List Expr) (one : Expr) (rest : List Expr) (at : At) (a b c : Machine R) (e : EvalFault) → xs ≡ one ∷ rest → Leads what (any_of_at xs at) a b → Does truth (expr_at one at) b c (Err e) → Does truth what a c (Err e)
   any_fails what xs one rest at a b c e is leads h =
       led truth what (any_of_at (one ∷ rest) at) a b c (Err e) (subst (λ l. Leads what (any_of_at l at) a b) is leads)
-      (err_then truth truth (expr_at one at) (λ setting holds s₁. either holds (λ s₂. gives true s₂) (λ s₂. any_of setting.budget (deep at setting) (exprs_tree rest) (spot_of at) s₂) s₁) b c e h)
+      (err_then truth truth (expr_at one at) (λ setting holds s₁. either holds (λ s₂. gives true s₂) (λ s₂. any_of setting.budget (deep at setting) (exprs_tree rest) (spot_of at) s₂) s₁) b c e
+      (λ setting holds later. either_begins setting holds _ _ later (λ last. same_begins setting true last) (λ last. any_begins setting at.levels (exprs_tree rest) (spot_of at) last)) h)
 
   any_next : (what : What R Bool) (xs : List Expr) (one : Expr) (rest : List Expr) (at : At) (a b c : Machine R) (holds : Bool) → xs ≡ one ∷ rest → Leads what (any_of_at xs at) a b → Does truth (expr_at one at) b c (Ok holds)
       → Leads what (λ setting s. either holds (λ s₂. gives true s₂) (λ s₂. any_of setting.budget (deep at setting) (exprs_tree rest) (spot_of at) s₂) s) a c
@@ -85,7 +90,8 @@ module _ {R : Type 0} where
   pub all_fails : (what : What R Bool) (xs : List Expr) (one : Expr) (rest : List Expr) (at : At) (a b c : Machine R) (e : EvalFault) → xs ≡ one ∷ rest → Leads what (all_of_at xs at) a b → Does truth (expr_at one at) b c (Err e) → Does truth what a c (Err e)
   all_fails what xs one rest at a b c e is leads h =
       led truth what (all_of_at (one ∷ rest) at) a b c (Err e) (subst (λ l. Leads what (all_of_at l at) a b) is leads)
-      (err_then truth truth (expr_at one at) (λ setting holds s₁. either holds (λ s₂. all_of setting.budget (deep at setting) (exprs_tree rest) (spot_of at) s₂) (λ s₂. gives false s₂) s₁) b c e h)
+      (err_then truth truth (expr_at one at) (λ setting holds s₁. either holds (λ s₂. all_of setting.budget (deep at setting) (exprs_tree rest) (spot_of at) s₂) (λ s₂. gives false s₂) s₁) b c e
+      (λ setting holds later. either_begins setting holds _ _ later (λ last. all_begins setting at.levels (exprs_tree rest) (spot_of at) last) (λ last. same_begins setting false last)) h)
 
   all_next : (what : What R Bool) (xs : List Expr) (one : Expr) (rest : List Expr) (at : At) (a b c : Machine R) (holds : Bool) → xs ≡ one ∷ rest → Leads what (all_of_at xs at) a b → Does truth (expr_at one at) b c (Ok holds)
       → Leads what (λ setting s. either holds (λ s₂. all_of setting.budget (deep at setting) (exprs_tree rest) (spot_of at) s₂) (λ s₂. gives false s₂) s) a c

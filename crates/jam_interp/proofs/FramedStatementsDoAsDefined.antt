@@ -7,14 +7,15 @@ use Rattle.jam_grammar.specs.declared.tree.Sign.{Sign}
 use Rattle.jam_grammar.specs.declared.tree.Arg.{Arg}
 use Rattle.jam_grammar.specs.declared.tree.Expr.{Expr}
 use Rattle.jam_grammar.specs.declared.tree.Block.{Block}
-use Rattle.jam_grammar.specs.declared.tree.Stmt.{Stmt}
-use Rattle.jam_grammar.specs.Trees.{value_tree}
+use Rattle.jam_grammar.specs.declared.tree.Stmt.{Stmt, out-Stmt}
+use Rattle.jam_grammar.specs.Trees.{args_tree, block_tree, expr_tree, form_tree, value_tree}
 use Rattle.jam_journal.specs.Tables.{Text}
 use Rattle.jam_journal.specs.Scopes.{Value, enter, leave, bind_each}
 use Rattle.jam_scope.specs.Worlds.{Worlds}
 use Rattle.jam_scope.specs.Changes.{rescoped, module_in}
 use Rattle.jam_eval.specs.Faults.{turns}
-use Rattle.jam_eval.specs.States.{with_scopes}
+use Rattle.jam_eval.specs.States.{State, with_scopes}
+use Rattle.jam_eval.specs.Settings.{Setting}
 use Rattle.jam_eval.specs.Outcomes.{gives, Flow, goes_on, then_do, then_go, either, take_turn, in_module, close_frame, on_target}
 use Rattle.jam_eval.specs.Includes.{included}
 use Rattle.jam_eval.specs.Forms.{done, bind_names, local_value, for_loop, for_all, set_own}
@@ -31,6 +32,8 @@ use Rattle.jam_effects.specs.Machines.{Machine, state_of}
 use Rattle.jam_effects.specs.Does.{Does, Leads}
 use Rattle.jam_effects.specs.Views.{value, truth, flow_of, What}
 use Rattle.jam_interp.specs.Parts.{deep, args_at, arg_at, expr_at, block_at, deeper_at, started_at, local_at, local_value_at, assign_on_at, include_at, included_at, module_at, on_at, for_at, rounds_at, while_at, while_rest}
+use Rattle.jam_eval.specs.Kept.{Begins}
+use Rattle.jam_eval.proofs.RecordsOnlyGrow.{then_begins, same_begins, go_begins, either_begins, turn_begins, module_begins, target_begins, args_begins, local_begins, for_all_begins, set_own_begins, included_begins, level_begins, started_begins, loop_begins, while_begins, expr_begins, block_begins}
 use Rattle.jam_effects.proofs.WhatEachKeepsAllKeep.{stays_then}
 use Rattle.jam_effects.proofs.OrderedCallsDoAsDefined.{err_then, ok_then, err_go, ok_go, ended_go, led, leads_then, leads_same, value_now, out_of_memory}
 use Rattle.jam_effects.proofs.FramesCloseEvenAfterFaults.{in_frame_does, bound_does}
@@ -38,7 +41,7 @@ use Rattle.jam_interp.proofs.ChangesDoAsDefined.{puts, stays_worlds, change_fail
 use Rattle.jam_effects.proofs.SettingNamesIsOneChange.{all_own_made}
 use Rattle.jam_effects.proofs.OneTurnLessOrFault.{turn_leads, turn_faults, turned}
 use Rattle.jam_interp.proofs.ArgumentsDoAsDefined.{does_by}
-use Rattle.jam_interp.proofs.StatementsDoAsDefined.{on_target_does}
+use Rattle.jam_interp.proofs.StatementsDoAsDefined.{on_target_does, rounds_begin}
 
 module _ {R : Type 0} where
   -- ---- names that are bound
@@ -49,8 +52,12 @@ module _ {R : Type 0} where
   abbrev pub bound_with : Value → Option (Vec Arg Global) → At → What R Flow
   bound_with ns list at = λ setting s. then_do (local_value setting (deep at setting) (value_tree list) (spot_of at) s) (λ v. λ s₁. binds ns v setting s₁)
 
+  bound_begins : (ns : Value) (list : Option (Vec Arg Global)) (at : At) (setting : Setting R) (s : State R) → Begins setting s (bound_with ns list at setting s)
+  bound_begins ns list at setting s = then_begins setting _ _ s (local_begins setting at.levels (value_tree list) (spot_of at) s) (λ v later. same_begins setting goes_on later)
+
   pub local_names_fail : (names : List Arg) (list : Option (Vec Arg Global)) (at : At) (a b : Machine R) (e : EvalFault) → Does value (args_at names at) a b (Err e) → Does flow_of (local_at names list at) a b (Err e)
-  local_names_fail names list at a b e h = err_then value flow_of (args_at names at) (λ setting ns s. bound_with ns list at setting s) a b e h
+  local_names_fail names list at a b e h =
+      err_then value flow_of (args_at names at) (λ setting ns s. bound_with ns list at setting s) a b e (λ setting ns later. bound_begins ns list at setting later) h
 
   local_named : (names : List Arg) (list : Option (Vec Arg Global)) (at : At) (a b : Machine R) (ns : Value) → Does value (args_at names at) a b (Ok ns) → Leads (local_at names list at) (bound_with ns list at) a b
   local_named names list at a b ns h = ok_then value (args_at names at) (λ setting us s. bound_with us list at setting s) a b ns h
@@ -59,7 +66,7 @@ module _ {R : Type 0} where
       → Does flow_of (local_at names list at) a c (Err e)
   local_value_fails names list at a b c ns e one two =
       led flow_of (local_at names list at) (bound_with ns list at) a b c (Err e) (local_named names list at a b ns one)
-      (err_then value flow_of (local_value_at list at) (λ setting v s. binds ns v setting s) b c e two)
+      (err_then value flow_of (local_value_at list at) (λ setting v s. binds ns v setting s) b c e (λ setting v later. same_begins setting goes_on later) two)
 
   pub local_valued : (names : List Arg) (list : Option (Vec Arg Global)) (at : At) (a b c : Machine R) (ns v : Value) → Does value (args_at names at) a b (Ok ns) → Does value (local_value_at list at) b c (Ok v) → Leads (local_at names list at) (binds ns v) a c
   local_valued names list at a b c ns v one two =
@@ -88,15 +95,29 @@ module _ {R : Type 0} where
   abbrev pub own_on : Value → List Arg → Sign → List Arg → At → What R Flow
   own_on names on sign list at = λ setting s. then_do (args_at on at setting s) (λ targets. λ s₁. own_for targets names sign list at setting s₁)
 
+  sets_own_begin : (targets names : Value) (sign : Sign) (v : Value) (at : At) (setting : Setting R) (s : State R) → Begins setting s (sets_own targets names sign v at setting s)
+  sets_own_begin targets names sign v at setting s =
+      for_all_begins setting at.levels targets _ s (λ t later. for_all_begins setting at.levels names _ later (λ name last. set_own_begins setting at.levels sign v (spot_of at) t name last))
+
+  own_for_begins : (targets names : Value) (sign : Sign) (list : List Arg) (at : At) (setting : Setting R) (s : State R) → Begins setting s (own_for targets names sign list at setting s)
+  own_for_begins targets names sign list at setting s =
+      then_begins setting _ _ s (args_begins setting at.levels (args_tree list) (spot_of at) s) (λ v later. sets_own_begin targets names sign v at setting later)
+
+  own_on_begins : (names : Value) (on : List Arg) (sign : Sign) (list : List Arg) (at : At) (setting : Setting R) (s : State R) → Begins setting s (own_on names on sign list at setting s)
+  own_on_begins names on sign list at setting s =
+      then_begins setting _ _ s (args_begins setting at.levels (args_tree on) (spot_of at) s) (λ targets later. own_for_begins targets names sign list at setting later)
+
   pub own_names_fail : (target : Arg) (on : List Arg) (sign : Sign) (list : List Arg) (at : At) (a b : Machine R) (e : EvalFault) → Does value (arg_at target at) a b (Err e) → Does flow_of (assign_on_at target on sign list at) a b (Err e)
-  own_names_fail target on sign list at a b e h = err_then value flow_of (arg_at target at) (λ setting names s. own_on names on sign list at setting s) a b e h
+  own_names_fail target on sign list at a b e h =
+      err_then value flow_of (arg_at target at) (λ setting names s. own_on names on sign list at setting s) a b e (λ setting names later. own_on_begins names on sign list at setting later) h
 
   pub own_named : (target : Arg) (on : List Arg) (sign : Sign) (list : List Arg) (at : At) (a b : Machine R) (names : Value) → Does value (arg_at target at) a b (Ok names) → Leads (assign_on_at target on sign list at) (own_on names on sign list at) a b
   own_named target on sign list at a b names h = ok_then value (arg_at target at) (λ setting ns s. own_on ns on sign list at setting s) a b names h
 
   pub own_targets_fail : (what : What R Flow) (names : Value) (on : List Arg) (sign : Sign) (list : List Arg) (at : At) (a b c : Machine R) (e : EvalFault) → Leads what (own_on names on sign list at) a b → Does value (args_at on at) b c (Err e) → Does flow_of what a c (Err e)
   own_targets_fail what names on sign list at a b c e leads h =
-      led flow_of what (own_on names on sign list at) a b c (Err e) leads (err_then value flow_of (args_at on at) (λ setting targets s. own_for targets names sign list at setting s) b c e h)
+      led flow_of what (own_on names on sign list at) a b c (Err e) leads (err_then value flow_of (args_at on at) (λ setting targets s. own_for targets names sign list at setting s) b c e
+      (λ setting targets later. own_for_begins targets names sign list at setting later) h)
 
   pub own_targeted : (what : What R Flow) (names : Value) (on : List Arg) (sign : Sign) (list : List Arg) (at : At) (a b c : Machine R) (targets : Value) → Leads what (own_on names on sign list at) a b → Does value (args_at on at) b c (Ok targets)
       → Leads what (own_for targets names sign list at) a c
@@ -105,7 +126,8 @@ module _ {R : Type 0} where
 
   pub own_value_fails : (what : What R Flow) (targets names : Value) (sign : Sign) (list : List Arg) (at : At) (a b c : Machine R) (e : EvalFault) → Leads what (own_for targets names sign list at) a b → Does value (args_at list at) b c (Err e) → Does flow_of what a c (Err e)
   own_value_fails what targets names sign list at a b c e leads h =
-      led flow_of what (own_for targets names sign list at) a b c (Err e) leads (err_then value flow_of (args_at list at) (λ setting v s. sets_own targets names sign v at setting s) b c e h)
+      led flow_of what (own_for targets names sign list at) a b c (Err e) leads (err_then value flow_of (args_at list at) (λ setting v s. sets_own targets names sign v at setting s) b c e
+      (λ setting v later. sets_own_begin targets names sign v at setting later) h)
 
   pub own_valued : (what : What R Flow) (targets names : Value) (sign : Sign) (list : List Arg) (at : At) (a b c : Machine R) (v : Value) → Leads what (own_for targets names sign list at) a b → Does value (args_at list at) b c (Ok v)
       → Leads what (sets_own targets names sign v at) a c
@@ -138,7 +160,9 @@ module _ {R : Type 0} where
   -- ---- includes
 
   pub include_fails : (names : List Arg) (at : At) (a b : Machine R) (e : EvalFault) → Does value (args_at names at) a b (Err e) → Does flow_of (include_at names at) a b (Err e)
-  include_fails names at a b e h = err_then value flow_of (args_at names at) (λ setting ns s. included setting (deep at setting) ns (spot_of at) s) a b e h
+  include_fails names at a b e h =
+      err_then value flow_of (args_at names at) (λ setting ns s. included setting (deep at setting) ns (spot_of at) s) a b e
+      (λ setting ns later. included_begins setting at.levels ns (spot_of at) later) h
 
   include_leads : (names : List Arg) (at : At) (a b : Machine R) (ns : Value) → Does value (args_at names at) a b (Ok ns) → Leads (include_at names at) (λ setting s. included setting (deep at setting) ns (spot_of at) s) a b
   include_leads names at a b ns h = ok_then value (args_at names at) (λ setting us s. included setting (deep at setting) us (spot_of at) s) a b ns h
@@ -158,7 +182,8 @@ module _ {R : Type 0} where
 
   pub module_fails : (name : List Arg) (b : Block) (at : At) (m n : Machine R) (e : EvalFault) → Does value (args_at name at) m n (Err e) → Does flow_of (module_at name b at) m n (Err e)
   module_fails name b at m n e h =
-      err_then value flow_of (args_at name at) (λ setting names s. in_module (first_of names) (λ s₁. deeper_at b (spot_of at).path at setting s₁) s) m n e h
+      err_then value flow_of (args_at name at) (λ setting names s. in_module (first_of names) (λ s₁. deeper_at b (spot_of at).path at setting s₁) s) m n e
+      (λ setting names later. module_begins setting (first_of names) _ later (λ next. level_begins setting at.levels (block_tree b) (spot_of at).path (spot_of at) next)) h
 
   pub module_does : (name : List Arg) (b : Block) (at : At) (k m : Machine R) (names : Value) (opened : Worlds) (n : Machine R) (closed : Worlds) (result : Result Way EvalFault) → Does value (args_at name at) k m (Ok names)
       → opened ≡ rescoped (enter (first_of names)) m.worlds → Does flow_of (deeper_at b (spot_of at).path at) (record m { worlds = opened }) n result → closed ≡ rescoped leave n.worlds
@@ -170,7 +195,9 @@ module _ {R : Type 0} where
 
   pub on_fails : (target : Arg) (stmt : Stmt) (at : At) (m n : Machine R) (e : EvalFault) → Does value (arg_at target at) m n (Err e) → Does flow_of (on_at target stmt at) m n (Err e)
   on_fails target stmt at m n e h =
-      err_then value flow_of (arg_at target at) (λ setting targets s. on_target targets (λ s₁. started_at stmt (spot_of at).path at.levels setting s₁) s) m n e h
+      err_then value flow_of (arg_at target at) (λ setting targets s. on_target targets (λ s₁. started_at stmt (spot_of at).path at.levels setting s₁) s) m n e
+      (λ setting targets later. target_begins setting targets _ later
+      (λ next. started_begins setting at.levels (out-Stmt stmt).line (record { path = (spot_of at).path; line = (out-Stmt stmt).line }) (form_tree (out-Stmt stmt).form) next)) h
 
   pub on_does : (target : Arg) (stmt : Stmt) (at : At) (k m : Machine R) (targets : Value) (opened : Worlds) (n : Machine R) (closed : Worlds) (result : Result Way EvalFault) → Does value (arg_at target at) k m (Ok targets)
       → opened ≡ on_entered targets m.worlds → Does flow_of (started_at stmt (spot_of at).path at.levels) (record m { worlds = opened }) n result → closed ≡ rescoped leave n.worlds
@@ -186,7 +213,9 @@ module _ {R : Type 0} where
   looped own name texts b at = λ setting s. for_loop own name (λ s₁. rounds_at name texts b at setting s₁) s
 
   pub for_fails : (own : Bool) (name : Text) (items : List Arg) (b : Block) (at : At) (m n : Machine R) (e : EvalFault) → Does value (args_at items at) m n (Err e) → Does flow_of (for_at own name items b at) m n (Err e)
-  for_fails own name items b at m n e h = err_then value flow_of (args_at items at) (λ setting texts s. looped own name texts b at setting s) m n e h
+  for_fails own name items b at m n e h =
+      err_then value flow_of (args_at items at) (λ setting texts s. looped own name texts b at setting s) m n e
+      (λ setting texts later. loop_begins setting at.levels own name _ later (λ next. rounds_begin name texts b at setting next)) h
 
   for_leads : (own : Bool) (name : Text) (items : List Arg) (b : Block) (at : At) (k m : Machine R) (texts : Value) → Does value (args_at items at) k m (Ok texts) → Leads (for_at own name items b at) (looped own name texts b at) k m
   for_leads own name items b at k m texts h = ok_then value (args_at items at) (λ setting us s. looped own name us b at setting s) k m texts h
@@ -213,12 +242,23 @@ module _ {R : Type 0} where
   abbrev pub if_holds : Bool → ℕ → Expr → Block → At → What R Flow
   if_holds holds most test b at = λ setting s. either holds (λ s₁. take_turn setting.budget (spot_of at) s₁ (λ s₂. round_then most test b at setting s₂)) done s
 
+  while_rest_begins : (most : ℕ) (test : Expr) (b : Block) (at : At) (setting : Setting R) (s : State R) → Begins setting s (while_rest most test b at setting s)
+  while_rest_begins most test b at setting s =
+      while_begins setting at.levels most (spot_of at) _ _ s (λ later. expr_begins setting at.levels (expr_tree test) (spot_of at) later) (λ later. block_begins setting at.levels (block_tree b) (spot_of at) later)
+
+  if_holds_begins : (holds : Bool) (most : ℕ) (test : Expr) (b : Block) (at : At) (setting : Setting R) (s : State R) → Begins setting s (if_holds holds most test b at setting s)
+  if_holds_begins holds most test b at setting s =
+      either_begins setting holds _ _ s
+      (λ later. turn_begins setting (spot_of at) later _ (λ begun. go_begins setting _ _ begun (block_begins setting at.levels (block_tree b) (spot_of at) begun) (λ next. while_rest_begins most test b at setting next)))
+      (λ later. same_begins setting goes_on later)
+
   pub while_first : (test : Expr) (b : Block) (at : At) (m : Machine R) → Leads (while_at test b at) (while_rest (suc m.left) test b at) m m
   while_first test b at m = leads_same (while_at test b at) (while_rest (suc m.left) test b at) m (λ setting right. refl)
 
   pub while_fails : (what : What R Flow) (most : ℕ) (test : Expr) (b : Block) (at : At) (a c d : Machine R) (e : EvalFault) → Leads what (while_rest (suc most) test b at) a c → Does truth (expr_at test at) c d (Err e) → Does flow_of what a d (Err e)
   while_fails what most test b at a c d e leads h =
-      led flow_of what (while_rest (suc most) test b at) a c d (Err e) leads (err_then truth flow_of (expr_at test at) (λ setting holds s. if_holds holds most test b at setting s) c d e h)
+      led flow_of what (while_rest (suc most) test b at) a c d (Err e) leads (err_then truth flow_of (expr_at test at) (λ setting holds s. if_holds holds most test b at setting s) c d e
+      (λ setting holds later. if_holds_begins holds most test b at setting later) h)
 
   while_held : (what : What R Flow) (most : ℕ) (test : Expr) (b : Block) (at : At) (a c d : Machine R) (holds : Bool) → Leads what (while_rest (suc most) test b at) a c → Does truth (expr_at test at) c d (Ok holds) → Leads what (if_holds holds most test b at) a d
   while_held what most test b at a c d holds leads h =
@@ -254,7 +294,8 @@ module _ {R : Type 0} where
       subst (λ k. Leads what (round_then most test b at) a k) (sym (turned d t same is)) (while_turn what most test b at a c d holds t.left yes_ leads h turn)
 
   pub round_fails : (what : What R Flow) (most : ℕ) (test : Expr) (b : Block) (at : At) (a c d : Machine R) (e : EvalFault) → Leads what (round_then most test b at) a c → Does flow_of (block_at b at) c d (Err e) → Does flow_of what a d (Err e)
-  round_fails what most test b at a c d e leads h = led flow_of what (round_then most test b at) a c d (Err e) leads (err_go flow_of (block_at b at) (while_rest most test b at) c d e h)
+  round_fails what most test b at a c d e leads h = led flow_of what (round_then most test b at) a c d (Err e) leads
+      (err_go flow_of (block_at b at) (while_rest most test b at) c d e (λ setting later. while_rest_begins most test b at setting later) h)
 
   pub round_returns : (what : What R Flow) (most : ℕ) (test : Expr) (b : Block) (at : At) (a c d : Machine R) (v : Value) → Leads what (round_then most test b at) a c → Does flow_of (block_at b at) c d (Ok (ways.Returns v))
       → Does flow_of what a d (Ok (ways.Returns v))

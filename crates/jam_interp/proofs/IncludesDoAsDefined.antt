@@ -1,5 +1,5 @@
 -- What an include does, exit by exit.
-use Rattle.std.proofs.Common.{◌≡◌, inl, inr, Bool, true, false, Option, Some, None, Result, Ok, Err, refl, sym, ap, ◌∙◌, subst, arith}
+use Rattle.std.proofs.Common.{◌≡◌, inl, inr, Bool, true, false, [], ◌∷◌, Option, Some, None, Result, Ok, Err, refl, sym, ap, ◌∙◌, subst, arith}
 use Rattle.std.specs.Option.{IfSome}
 use Rattle.b2_base.specs.Segments.{path_from}
 use Rattle.b2_host.specs.Disks.{Folder, Disk}
@@ -30,6 +30,7 @@ use Rattle.jam_effects.specs.Machines.{Machine, folder_of, state_of, IsSettingOf
 use Rattle.jam_effects.specs.Does.{Stays, Agrees, Does, Leads}
 use Rattle.jam_effects.specs.Views.{flow_of, What, IsFileEnd}
 use Rattle.jam_interp.specs.Parts.{deep, deeper_at, included_at}
+use Rattle.jam_eval.proofs.RecordsOnlyGrow.{then_begins, same_begins, begins_from, file_begins, included_begins}
 use Rattle.jam_effects.proofs.OrderedCallsDoAsDefined.{led, fault_agrees}
 use Rattle.jam_effects.proofs.FramesCloseEvenAfterFaults.{in_frame_does}
 use Rattle.jam_interp.proofs.ArgumentsDoAsDefined.{does_by}
@@ -104,15 +105,16 @@ module _ {R : Type 0} where
 
   -- the file cannot be read
   read_agrees : (e : EvalFault) (name : Text) (at : At) (m : Machine R) (ws : Worlds) (o : Outside) (setting : Setting R) → IsSettingOf setting m → IsFrozen m.worlds ws (Err e) → Tells_file name at m (Err e)
-      → Agrees flow_of (Err e) (included_at name at setting (state_of m)) (state_of (after_reading m ws o))
-  read_agrees fault.Host name at m ws o setting is frozen told = tt
+      → Agrees setting flow_of (Err e) (included_at name at setting (state_of m)) (state_of (after_reading m ws o))
+  read_agrees fault.Host name at m ws o setting is frozen told =
+      begins_from setting (included_at name at setting (state_of m)) (state_of m) (state_of (after_reading m ws o)) refl (included_begins setting at.levels (name ∷ []) (spot_of at) (state_of m))
   read_agrees fault.OutOfMemory name at m ws o setting is frozen told = tt
   read_agrees (fault.At path line why) name at m ws o setting is frozen told = go (file_so name at m (Err (fault.At path line why)) setting is told)
     where
       go : IsReadFault (file_of (is_in_roots m.worlds.now (path_at name m)) (setting.reading (path_at name m)) (path_at name m) (spot_of at)) (fault.At path line why)
-          → Agrees flow_of (Err (fault.At path line why)) (included_at name at setting (state_of m)) (state_of (after_reading m ws o))
+          → Agrees setting flow_of (Err (fault.At path line why)) (included_at name at setting (state_of m)) (state_of (after_reading m ws o))
       go (cause, so, h) =
-          fault_agrees flow_of cause.0 cause.1 (fault.At path line why) (included_at name at setting (state_of m)) (state_of (after_reading m ws o)) h
+          fault_agrees setting flow_of cause.0 cause.1 (fault.At path line why) (included_at name at setting (state_of m)) (state_of (after_reading m ws o)) h
           (read_is setting (is_in_roots m.worlds.now (path_at name m)) (setting.reading (path_at name m)) (path_at name m) at (state_of (record m { worlds = changed freeze_roots m.worlds }))
           ∙ ap (λ f. by_file f (path_at name m) at setting (state_of (record m { worlds = changed freeze_roots m.worlds }))) so
           ∙ ap (λ w. fault_at cause.0 cause.1 (state_of (record m { worlds = w }))) (sym frozen))
@@ -145,10 +147,10 @@ module _ {R : Type 0} where
           ∙ ap (λ w. file_runs file.path (whole_tree file.tree) at setting (state_of (record m { worlds = w }))) (sym frozen)
 
   -- what follows a file
-  end_agrees : (e : EvalFault) (o : Outcome R Flow) (s : State R) → Agrees flow_of (Err e) o s → Agrees flow_of (Err e) (then_do (file_ended o) (λ ended. λ s₁. gives goes_on s₁)) s
-  end_agrees fault.Host o s h = tt
-  end_agrees fault.OutOfMemory o s h = tt
-  end_agrees (fault.At path line why) o s h = ap (λ p. then_do (file_ended p) (λ ended. λ s₁. gives goes_on s₁)) h
+  end_agrees : (setting : Setting R) (e : EvalFault) (o : Outcome R Flow) (s : State R) → Agrees setting flow_of (Err e) o s → Agrees setting flow_of (Err e) (then_do (file_ended o) (λ ended. λ s₁. gives goes_on s₁)) s
+  end_agrees setting fault.Host o s h = then_begins setting (file_ended o) (λ ended s₁. gives goes_on s₁) s (file_begins setting o s h) (λ ended later. same_begins setting goes_on later)
+  end_agrees setting fault.OutOfMemory o s h = tt
+  end_agrees setting (fault.At path line why) o s h = ap (λ p. then_do (file_ended p) (λ ended. λ s₁. gives goes_on s₁)) h
 
   pub file_does : (what : What R Flow) (a b : Machine R) (ended result : Result Way EvalFault) → IsFileEnd ended result → Does flow_of what a b ended → Does flow_of (λ setting s. then_do (file_ended (what setting s)) (λ end_. λ s₁. gives goes_on s₁)) a b result
   file_does what a b (Ok way) result is h =
@@ -156,7 +158,7 @@ module _ {R : Type 0} where
       (record { told = λ setting right none. ap (λ o. then_do (file_ended o) (λ end_. λ s₁. gives goes_on s₁)) (h.told setting right none); stays = h.stays; counts = h.counts; whole = tt; took = h.took })
   file_does what a b (Err e) result is h =
       subst (λ r. Does flow_of (λ setting s. then_do (file_ended (what setting s)) (λ end_. λ s₁. gives goes_on s₁)) a b r) (sym is)
-      (record { told = λ setting right refuses. end_agrees e (what setting (state_of a)) (state_of b) (h.told setting right refuses); stays = h.stays; counts = h.counts; whole = h.whole; took = h.took })
+      (record { told = λ setting right refuses. end_agrees setting e (what setting (state_of a)) (state_of b) (h.told setting right refuses); stays = h.stays; counts = h.counts; whole = h.whole; took = h.took })
 
   pub included_runs : (name : Text) (at : At) (m : Machine R) (ws : Worlds) (o : Outside) (file : Included) (b : Block) (opened : Worlds) (n : Machine R) (closed : Worlds) (ended result : Result Way EvalFault)
       → whole_tree file.tree ≡ block_tree b → IsFrozen m.worlds ws (Ok file) → Looked m.outside o (Ok file) → Tells_file name at m (Ok file) → opened ≡ entered ws

@@ -23,6 +23,7 @@ use Rattle.jam_effects.specs.Does.{Faults, Agrees, Tells, Does}
 use Rattle.jam_effects.specs.Framing.{entered}
 use Rattle.jam_effects.specs.Views.{What, value, flow_of, ended}
 use Rattle.jam_interp.specs.Parts.{run_at, stmts_at, call_rolled_at}
+use Rattle.jam_eval.proofs.RecordsOnlyGrow.{file_begins, back_begins}
 use Rattle.jam_effects.proofs.FramesCloseEvenAfterFaults.{in_frame_does}
 use Rattle.jam_interp.proofs.ArgumentsDoAsDefined.{does_by}
 
@@ -31,25 +32,26 @@ pub rolled_back : (before after : Worlds) → after.marked ≡ before.now ∷ be
 rolled_back before after e = ap (newest_of after) e
 
 module _ {R : Type 0} where
-  agrees_back : {A B : Type 0} (view : A → B) (result : Result A EvalFault) (o : Outcome R B) (n : Machine R) (worlds : Worlds) → Agrees view result o (state_of n) → Agrees view result (back_to worlds o) (state_of (record n { worlds = worlds }))
-  agrees_back view (Ok a) o n worlds h = ap (back_to worlds) h
-  agrees_back view (Err fault.Host) o n worlds h = tt
-  agrees_back view (Err fault.OutOfMemory) o n worlds h = tt
-  agrees_back view (Err (fault.At path line why)) o n worlds h = ap (back_to worlds) h
+  agrees_back : {A B : Type 0} (setting : Setting R) (view : A → B) (result : Result A EvalFault) (o : Outcome R B) (n : Machine R) (worlds : Worlds) → Agrees setting view result o (state_of n)
+      → Agrees setting view result (back_to worlds o) (state_of (record n { worlds = worlds }))
+  agrees_back setting view (Ok a) o n worlds h = ap (back_to worlds) h
+  agrees_back setting view (Err fault.Host) o n worlds h = back_begins setting worlds o (state_of n) h
+  agrees_back setting view (Err fault.OutOfMemory) o n worlds h = tt
+  agrees_back setting view (Err (fault.At path line why)) o n worlds h = ap (back_to worlds) h
 
   pub in_copy_tells : {A B : Type 0} (view : A → B) (act : Setting R → State R → Outcome R B) (m : Machine R) (marked : Worlds) (n : Machine R) (result : Result A EvalFault) → marked ≡ mark m.worlds
       → Does view act (record m { worlds = marked }) n result → Tells view (λ setting s. in_copy (act setting) s) m (record n { worlds = m.worlds }) result
   in_copy_tells view act m marked n result is h setting right refuses =
-      agrees_back view result (act setting (state_of (record m { worlds = mark m.worlds }))) n m.worlds
-      (subst (λ ws. Agrees view result (act setting (state_of (record m { worlds = ws }))) (state_of n)) is
+      agrees_back setting view result (act setting (state_of (record m { worlds = mark m.worlds }))) n m.worlds
+      (subst (λ ws. Agrees setting view result (act setting (state_of (record m { worlds = ws }))) (state_of n)) is
       (h.told setting (record { budget = right.budget; natives = right.natives; folder = right.folder; right = right.right }) refuses))
 
   -- ---- a file that is run
 
-  faults_end : (e : EvalFault) (o : Outcome R Flow) (s : State R) → Faults e o s → Faults e (file_ended o) s
-  faults_end fault.Host o s h = tt
-  faults_end fault.OutOfMemory o s h = tt
-  faults_end (fault.At path line why) o s h = ap file_ended h
+  faults_end : (setting : Setting R) (e : EvalFault) (o : Outcome R Flow) (s : State R) → Faults setting e o s → Faults setting e (file_ended o) s
+  faults_end setting fault.Host o s h = file_begins setting o s h
+  faults_end setting fault.OutOfMemory o s h = tt
+  faults_end setting (fault.At path line why) o s h = ap file_ended h
 
   abbrev pub in_file_at : Text → StmtTrees → What R Flow
   in_file_at path tree = λ setting s. in_frame (λ s₁. stmts setting (levels setting most_levels) tree path s₁) s
@@ -58,7 +60,7 @@ module _ {R : Type 0} where
   run_ends path tree a b way h setting right refuses = ap file_ended (h.told setting right refuses)
 
   pub run_fails : (path : Text) (tree : StmtTrees) (a b : Machine R) (e : EvalFault) → Does flow_of (in_file_at path tree) a b (Err e) → Tells ended (run_at path tree) a b (Err e)
-  run_fails path tree a b e h setting right refuses = faults_end e (in_file_at path tree setting (state_of a)) (state_of b) (h.told setting right refuses)
+  run_fails path tree a b e h setting right refuses = faults_end setting e (in_file_at path tree setting (state_of a)) (state_of b) (h.told setting right refuses)
 
   -- its statements run in a frame of the present module, which is closed then
   pub file_runs : (path : Text) (tree : StmtTrees) (list : List Stmt) (n : ℕ) (m : Machine R) (opened : Worlds) (k : Machine R) (closed : Worlds) (result : Result Way EvalFault) → opened ≡ entered m.worlds → n ≡ most_levels → stmts_tree list ≡ tree
@@ -82,6 +84,6 @@ module _ {R : Type 0} where
 
   -- the fault is the same, however a value would be seen
   pub same_fault : {A B C : Type 0} (view : A → C) (other : B → C) (what : What R C) (a b : Machine R) (e : EvalFault) → Tells view what a b (Err e) → Tells other what a b (Err e)
-  same_fault view other what a b fault.Host h setting right refuses = tt
+  same_fault view other what a b fault.Host h setting right refuses = h setting right refuses
   same_fault view other what a b fault.OutOfMemory h setting right refuses = tt
   same_fault view other what a b (fault.At path line why) h setting right refuses = h setting right refuses

@@ -11,7 +11,7 @@ use Rattle.jam_grammar.specs.declared.tree.Stmt.{Stmt, out-Stmt}
 use Rattle.jam_grammar.specs.declared.tree.Sign.{Sign}
 use Rattle.jam_grammar.specs.declared.tree.Case.{Case}
 use Rattle.jam_grammar.specs.Trees as tree
-use Rattle.jam_grammar.specs.Trees.{StmtTrees, CaseTrees, form_tree, block_tree, other_tree, stmts_tree, cases_tree}
+use Rattle.jam_grammar.specs.Trees.{StmtTrees, CaseTrees, args_tree, form_tree, block_tree, other_tree, stmts_tree, cases_tree}
 use Rattle.jam_journal.specs.Tables.{Text}
 use Rattle.jam_journal.specs.Scopes.{Value, enter, leave, bind_each, assign}
 use Rattle.jam_scope.specs.Worlds.{Worlds}
@@ -19,7 +19,7 @@ use Rattle.jam_scope.specs.Changes.{rescoped, module_in}
 use Rattle.jam_eval.specs.Faults.{depth, turns}
 use Rattle.jam_eval.specs.States.{State, with_scopes}
 use Rattle.jam_eval.specs.Settings.{Setting, IsMatching}
-use Rattle.jam_eval.specs.Outcomes.{gives, Flow, returns, then_do, then_go, either, in_module, close_frame, on_target, own_bindings}
+use Rattle.jam_eval.specs.Outcomes.{gives, Flow, goes_on, returns, then_do, then_go, either, in_module, close_frame, on_target, own_bindings}
 use Rattle.jam_eval.specs.Levels.{Levels}
 use Rattle.jam_eval.specs.Forms.{block, done, form, stmts, other, for_all, set_name, first_case}
 use Rattle.jam_values.specs.Choosing.{chosen}
@@ -36,6 +36,8 @@ use Rattle.jam_effects.specs.Machines.{Machine, state_of}
 use Rattle.jam_effects.specs.Does.{Does, Leads}
 use Rattle.jam_effects.specs.Views.{value, truth, flow_of, What}
 use Rattle.jam_interp.specs.Parts.{deep, args_at, arg_at, expr_at, call_of_at, stmts_at, started_at, form_at, block_at, deeper_at, other_at, returned_at, if_at, called_at, rounds_at, assign_at, switch_at}
+use Rattle.jam_eval.specs.Kept.{Begins}
+use Rattle.jam_eval.proofs.RecordsOnlyGrow.{then_begins, same_begins, either_begins, args_begins, for_all_begins, set_name_begins, block_begins, other_begins, stmts_begins, for_begins, case_begins}
 use Rattle.jam_effects.proofs.OrderedCallsDoAsDefined.{err_then, ok_then, err_go, ok_go, ended_go, led, leads_then, value_now, fault_now, either_true, either_false}
 use Rattle.jam_effects.proofs.FramesCloseEvenAfterFaults.{in_frame_does, bound_does}
 use Rattle.jam_interp.proofs.ChangesDoAsDefined.{stays_worlds, change_fails, change_does}
@@ -83,7 +85,7 @@ module _ {R : Type 0} where
   -- ---- return, and calls as statements
 
   pub returned_fails : (list : List Arg) (at : At) (a b : Machine R) (e : EvalFault) → Does value (args_at list at) a b (Err e) → Does flow_of (returned_at list at) a b (Err e)
-  returned_fails list at a b e h = err_then value flow_of (args_at list at) (λ setting v s. gives (returns v) s) a b e h
+  returned_fails list at a b e h = err_then value flow_of (args_at list at) (λ setting v s. gives (returns v) s) a b e (λ setting v later. same_begins setting (returns v) later) h
 
   pub returned_ends : (list : List Arg) (at : At) (a b : Machine R) (v : Value) → Does value (args_at list at) a b (Ok v) → Does flow_of (returned_at list at) a b (Ok (ways.Returns v))
   returned_ends list at a b v h =
@@ -91,7 +93,7 @@ module _ {R : Type 0} where
       (ok_then value (args_at list at) (λ setting u s. gives (returns u) s) a b v h) (value_now flow_of (λ setting s. gives (returns v) s) b (ways.Returns v) (λ setting is. refl))
 
   pub called_fails : (head : Arg) (given : List (Vec Arg Global)) (at : At) (a b : Machine R) (e : EvalFault) → Does value (call_of_at head given at) a b (Err e) → Does flow_of (called_at head given at) a b (Err e)
-  called_fails head given at a b e h = err_then value flow_of (call_of_at head given at) (λ setting v s. done s) a b e h
+  called_fails head given at a b e h = err_then value flow_of (call_of_at head given at) (λ setting v s. done s) a b e (λ setting v later. same_begins setting goes_on later) h
 
   pub called_ends : (head : Arg) (given : List (Vec Arg Global)) (at : At) (a b : Machine R) (v : Value) → Does value (call_of_at head given at) a b (Ok v) → Does flow_of (called_at head given at) a b (Ok ways.GoesOn)
   called_ends head given at a b v h =
@@ -107,7 +109,9 @@ module _ {R : Type 0} where
   if_leads test b next at a c holds h = ok_then truth (expr_at test at) (λ setting t s. branches t b next at setting s) a c holds h
 
   pub if_fails : (test : Expr) (b : Block) (next : Other) (at : At) (a c : Machine R) (e : EvalFault) → Does truth (expr_at test at) a c (Err e) → Does flow_of (if_at test b next at) a c (Err e)
-  if_fails test b next at a c e h = err_then truth flow_of (expr_at test at) (λ setting t s. branches t b next at setting s) a c e h
+  if_fails test b next at a c e h =
+      err_then truth flow_of (expr_at test at) (λ setting t s. branches t b next at setting s) a c e
+      (λ setting t later. either_begins setting t _ _ later (λ last. block_begins setting at.levels (block_tree b) (spot_of at) last) (λ last. other_begins setting at.levels (other_tree next) (spot_of at) last)) h
 
   pub if_then : (test : Expr) (b : Block) (next : Other) (at : At) (a c d : Machine R) (holds : Bool) (result : Result Way EvalFault) → holds ≡ true → Does truth (expr_at test at) a c (Ok holds)
       → Does flow_of (block_at b at) c d result → Does flow_of (if_at test b next at) a d result
@@ -150,7 +154,7 @@ module _ {R : Type 0} where
       → Does flow_of (started_at one path n) b c (Err e) → Does flow_of what a c (Err e)
   stmts_fails what xs one rest path n a b c e is leads h =
       led flow_of what (λ setting s. then_go (started_at one path n setting s) (stmts_at rest path n setting)) a b c (Err e) (stmts_next what xs one rest path n a b is leads)
-      (err_go flow_of (started_at one path n) (stmts_at rest path n) b c e h)
+      (err_go flow_of (started_at one path n) (stmts_at rest path n) b c e (λ setting later. stmts_begins setting n (stmts_tree rest) path later) h)
 
   pub stmts_returns : (what : What R Flow) (xs : List Stmt) (one : Stmt) (rest : List Stmt) (path : Text) (n : ℕ) (a b c : Machine R) (v : Value) → xs ≡ one ∷ rest → Leads what (stmts_at xs path n) a b
       → Does flow_of (started_at one path n) b c (Ok (ways.Returns v)) → Does flow_of what a c (Ok (ways.Returns v))
@@ -169,6 +173,9 @@ module _ {R : Type 0} where
       led flow_of what (stmts_at [] path n) a b b (Ok ways.GoesOn) (subst (λ l. Leads what (stmts_at l path n) a b) is leads) (value_now flow_of (stmts_at [] path n) b ways.GoesOn (λ setting right. refl))
 
   -- ---- rounds
+
+  pub rounds_begin : (name : Text) (texts : Value) (b : Block) (at : At) (setting : Setting R) (s : State R) → Begins setting s (rounds_at name texts b at setting s)
+  rounds_begin name texts b at setting s = for_begins setting at.levels texts (spot_of at) name _ s (λ next. block_begins setting at.levels (block_tree b) (spot_of at) next)
 
   abbrev pub round_of : Text → Text → Value → Block → At → What R Flow
   round_of name item rest b at = λ setting s. then_go (block_at b at setting (with_scopes (assign name (item ∷ [])) s)) (rounds_at name rest b at setting)
@@ -203,7 +210,8 @@ module _ {R : Type 0} where
   pub rounds_fails : (what : What R Flow) (name : Text) (rest : Value) (b : Block) (at : At) (a c d : Machine R) (e : EvalFault) → Leads what (λ setting s. then_go (block_at b at setting s) (rounds_at name rest b at setting)) a c
       → Does flow_of (block_at b at) c d (Err e) → Does flow_of what a d (Err e)
   rounds_fails what name rest b at a c d e leads h =
-      led flow_of what (λ setting s. then_go (block_at b at setting s) (rounds_at name rest b at setting)) a c d (Err e) leads (err_go flow_of (block_at b at) (rounds_at name rest b at) c d e h)
+      led flow_of what (λ setting s. then_go (block_at b at setting s) (rounds_at name rest b at setting)) a c d (Err e) leads
+      (err_go flow_of (block_at b at) (rounds_at name rest b at) c d e (λ setting later. rounds_begin name rest b at setting later) h)
 
   pub rounds_returns : (what : What R Flow) (name : Text) (rest : Value) (b : Block) (at : At) (a c d : Machine R) (v : Value) → Leads what (λ setting s. then_go (block_at b at setting s) (rounds_at name rest b at setting)) a c
       → Does flow_of (block_at b at) c d (Ok (ways.Returns v)) → Does flow_of what a d (Ok (ways.Returns v))
@@ -224,15 +232,19 @@ module _ {R : Type 0} where
   abbrev pub sets : Value → Sign → Value → At → What R Flow
   sets names sign v at = λ setting s. for_all names (set_name sign v (spot_of at)) s
 
+  sets_begin : (names : Value) (sign : Sign) (v : Value) (at : At) (setting : Setting R) (s : State R) → Begins setting s (sets names sign v at setting s)
+  sets_begin names sign v at setting s = for_all_begins setting at.levels names _ s (λ name next. set_name_begins setting at.levels sign v (spot_of at) name next)
+
   pub assign_name_fails : (target : Arg) (sign : Sign) (list : List Arg) (at : At) (a b : Machine R) (e : EvalFault) → Does value (arg_at target at) a b (Err e) → Does flow_of (assign_at target sign list at) a b (Err e)
   assign_name_fails target sign list at a b e h =
-      err_then value flow_of (arg_at target at) (λ setting names s₁. then_do (args_at list at setting s₁) (λ v. λ s₂. sets names sign v at setting s₂)) a b e h
+      err_then value flow_of (arg_at target at) (λ setting names s₁. then_do (args_at list at setting s₁) (λ v. λ s₂. sets names sign v at setting s₂)) a b e
+      (λ setting names later. then_begins setting _ _ later (args_begins setting at.levels (args_tree list) (spot_of at) later) (λ v last. sets_begin names sign v at setting last)) h
 
   pub assign_value_fails : (target : Arg) (sign : Sign) (list : List Arg) (at : At) (a b c : Machine R) (names : Value) (e : EvalFault) → Does value (arg_at target at) a b (Ok names) → Does value (args_at list at) b c (Err e) → Does flow_of (assign_at target sign list at) a c (Err e)
   assign_value_fails target sign list at a b c names e one two =
       led flow_of (assign_at target sign list at) (λ setting s₁. then_do (args_at list at setting s₁) (λ v. λ s₂. sets names sign v at setting s₂)) a b c (Err e)
       (ok_then value (arg_at target at) (λ setting ns s₁. then_do (args_at list at setting s₁) (λ v. λ s₂. sets ns sign v at setting s₂)) a b names one)
-      (err_then value flow_of (args_at list at) (λ setting v s₂. sets names sign v at setting s₂) b c e two)
+      (err_then value flow_of (args_at list at) (λ setting v s₂. sets names sign v at setting s₂) b c e (λ setting v later. sets_begin names sign v at setting later) two)
 
   assign_leads : (target : Arg) (sign : Sign) (list : List Arg) (at : At) (a b c : Machine R) (names v : Value) → Does value (arg_at target at) a b (Ok names) → Does value (args_at list at) b c (Ok v) → Leads (assign_at target sign list at) (sets names sign v at) a c
   assign_leads target sign list at a b c names v one two =
@@ -267,7 +279,9 @@ module _ {R : Type 0} where
       go later false = later
 
   pub switch_fails : (list : List Arg) (cases : List Case) (at : At) (a b : Machine R) (e : EvalFault) → Does value (args_at list at) a b (Err e) → Does flow_of (switch_at list cases at) a b (Err e)
-  switch_fails list cases at a b e h = err_then value flow_of (args_at list at) (λ setting texts s. first_case setting (deep at setting) (first_of texts) (cases_tree cases) (spot_of at) s) a b e h
+  switch_fails list cases at a b e h =
+      err_then value flow_of (args_at list at) (λ setting texts s. first_case setting (deep at setting) (first_of texts) (cases_tree cases) (spot_of at) s) a b e
+      (λ setting texts later. case_begins setting at.levels (first_of texts) (cases_tree cases) (spot_of at) later) h
 
   switch_leads : (list : List Arg) (cases : List Case) (at : At) (a b : Machine R) (texts : Value) → Does value (args_at list at) a b (Ok texts) → Leads (switch_at list cases at) (λ setting s. first_case setting (deep at setting) (first_of texts) (cases_tree cases) (spot_of at) s) a b
   switch_leads list cases at a b texts h = ok_then value (args_at list at) (λ setting us s. first_case setting (deep at setting) (first_of us) (cases_tree cases) (spot_of at) s) a b texts h

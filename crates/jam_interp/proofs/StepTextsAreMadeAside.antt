@@ -10,6 +10,7 @@ use Rattle.jam_scope.specs.Worlds.{World, Worlds}
 use Rattle.jam_scope.specs.Changes.{changed, rescoped, open_step, mark, roll_back, newest_of}
 use Rattle.jam_scope.specs.Lines.{actions_place, find_rule}
 use Rattle.jam_eval.specs.Faults.{Spot, Cause, unknown_rule, expand, refused_in}
+use Rattle.jam_eval.specs.Settings.{Setting}
 use Rattle.jam_eval.specs.States.{State}
 use Rattle.jam_eval.specs.Outcomes.{Outcome, gives, faults, then_do, fault_at, close_frame}
 use Rattle.jam_eval.specs.Rolled.{Job, StepAnswer, step_open, body_names, back_to, text_of, body_text, actions_text, rule_if}
@@ -24,6 +25,8 @@ use Rattle.jam_eval.specs.StepJobs.{step_answer}
 use Rattle.jam_effects.specs.Rolling.{text_of_body, text_of_actions, texted, IsStepText}
 use Rattle.jam_effects.specs.Views.{value, What}
 use Rattle.jam_interp.specs.Parts.{rule_if_at, in_step_at, step_text_at}
+use Rattle.jam_eval.specs.Kept.{Begins}
+use Rattle.jam_eval.proofs.RecordsOnlyGrow.{same_begins, fault_begins, close_begins, back_begins}
 use Rattle.jam_effects.proofs.OrderedCallsDoAsDefined.{err_then, ok_then, led, value_now, fault_now, out_of_memory}
 use Rattle.jam_effects.proofs.WhatEachKeepsAllKeep.{stays_same}
 
@@ -66,6 +69,14 @@ module _ {R : Type 0} where
   abbrev pub text_at : Job → Spot → What R StepAnswer
   text_at job spot = λ setting s. actions_text job (actions_place job.name s.worlds.now) spot s
 
+  by_text_begins : (setting : Setting R) (answer : Result StepAnswer Cause) (spot : Spot) (s : State R) → Begins setting s (by_text answer spot s)
+  by_text_begins setting (Ok answer) spot s = same_begins setting answer s
+  by_text_begins setting (Err cause) spot s = fault_begins setting StepAnswer spot cause s
+
+  text_begins : (job : Job) (spot : Spot) (setting : Setting R) (s : State R) → Begins setting s (text_at job spot setting s)
+  text_begins job spot setting s =
+      subst (λ o. Begins setting s o) (sym (actions_so job (actions_place job.name s.worlds.now) spot s)) (by_text_begins setting (text_of_actions job s.worlds.now (actions_place job.name s.worlds.now)) spot s)
+
   -- the text of the actions, or its fault
   text_does : (job : Job) (spot : Spot) (m : Machine R) (result : Result StepText EvalFault) → IsStepText job spot m.worlds.now result → Does step_answer (text_at job spot) m m result
   text_does job spot m (Ok text) h =
@@ -82,7 +93,8 @@ module _ {R : Type 0} where
   step_by job spot = λ setting s. then_do (rule_if setting (find_rule job.name s.worlds.now) job spot s) (λ v. λ s₁. actions_text job (actions_place job.name s₁.worlds.now) spot s₁)
 
   step_fails : (job : Job) (at : At) (m n : Machine R) (e : EvalFault) → Does value (rule_if_at job at) m n (Err e) → Does step_answer (step_by job (spot_of at)) m n (Err e)
-  step_fails job at m n e h = err_then value step_answer (rule_if_at job at) (λ setting v s. text_at job (spot_of at) setting s) m n e h
+  step_fails job at m n e h =
+      err_then value step_answer (rule_if_at job at) (λ setting v s. text_at job (spot_of at) setting s) m n e (λ setting v later. text_begins job (spot_of at) setting later) h
 
   step_texts : (job : Job) (at : At) (m n : Machine R) (v : Value) (result : Result StepText EvalFault) → Does value (rule_if_at job at) m n (Ok v) → IsStepText job (spot_of at) n.worlds.now result → Does step_answer (step_by job (spot_of at)) m n result
   step_texts job at m n v result one two =
@@ -91,20 +103,21 @@ module _ {R : Type 0} where
 
   -- ---- aside, in a world of which the marks alone are told
 
-  aside_agrees : {A B : Type 0} (view : A → B) (result : Result A EvalFault) (o : Outcome R B) (s : State R) (ws : Worlds) → Agrees view result o s → Agrees view result (back_to ws (close_frame o)) (record s { worlds = ws })
-  aside_agrees view (Ok v) o s ws h = ap (λ p. back_to ws (close_frame p)) h
-  aside_agrees view (Err fault.Host) o s ws h = tt
-  aside_agrees view (Err fault.OutOfMemory) o s ws h = tt
-  aside_agrees view (Err (fault.At path line why)) o s ws h = ap (λ p. back_to ws (close_frame p)) h
+  aside_agrees : {A B : Type 0} (setting : Setting R) (view : A → B) (result : Result A EvalFault) (o : Outcome R B) (s : State R) (ws : Worlds) → Agrees setting view result o s
+      → Agrees setting view result (back_to ws (close_frame o)) (record s { worlds = ws })
+  aside_agrees setting view (Ok v) o s ws h = ap (λ p. back_to ws (close_frame p)) h
+  aside_agrees setting view (Err fault.Host) o s ws h = back_begins setting ws (close_frame o) s (close_begins setting o s h)
+  aside_agrees setting view (Err fault.OutOfMemory) o s ws h = tt
+  aside_agrees setting view (Err (fault.At path line why)) o s ws h = ap (λ p. back_to ws (close_frame p)) h
 
   aside_does : (job : Job) (spot : Spot) (m : Machine R) (opened : Worlds) (n : Machine R) (ws : Worlds) (result : Result StepText EvalFault)
       → record { path = job.path; line = job.line } ≡ spot → opened ≡ rescoped (enter job.owner) (changed (step_open job) m.worlds) → ws.marked ≡ n.worlds.marked
       → Does step_answer (step_by job spot) (record m { worlds = opened }) n result → DoesAside step_answer (in_step_at job) m (record n { worlds = ws }) result
   aside_does job spot m opened n ws result there is marks h = record {
     told = λ setting right refuses.
-        aside_agrees step_answer result (step_by job (record { path = job.path; line = job.line }) setting (state_of (record m { worlds = rescoped (enter job.owner) (changed (step_open job) m.worlds) }))) (state_of n) m.worlds
-        (subst (λ w. Agrees step_answer result (step_by job (record { path = job.path; line = job.line }) setting (state_of (record m { worlds = w }))) (state_of n)) is
-        (subst (λ p. Agrees step_answer result (step_by job p setting (state_of (record m { worlds = opened }))) (state_of n)) (sym there)
+        aside_agrees setting step_answer result (step_by job (record { path = job.path; line = job.line }) setting (state_of (record m { worlds = rescoped (enter job.owner) (changed (step_open job) m.worlds) }))) (state_of n) m.worlds
+        (subst (λ w. Agrees setting step_answer result (step_by job (record { path = job.path; line = job.line }) setting (state_of (record m { worlds = w }))) (state_of n)) is
+        (subst (λ p. Agrees setting step_answer result (step_by job p setting (state_of (record m { worlds = opened }))) (state_of n)) (sym there)
         (h.told setting (record { budget = right.budget; natives = right.natives; folder = right.folder; right = right.right }) refuses)));
     turns = h.stays.turns;
     budget = h.stays.budget;
@@ -153,17 +166,19 @@ module _ {R : Type 0} where
   back_twice first last (gives v s) = refl
   back_twice first last (faults f s) = refl
 
-  back_agrees : {A B : Type 0} (view : A → B) (result : Result A EvalFault) (o : Outcome R B) (s : State R) (first last : Worlds) → Agrees view result (back_to first o) (record s { worlds = first }) → Agrees view result (back_to last o) (record s { worlds = last })
-  back_agrees view (Ok v) o s first last h = sym (back_twice first last o) ∙ ap (back_to last) h
-  back_agrees view (Err fault.Host) o s first last h = tt
-  back_agrees view (Err fault.OutOfMemory) o s first last h = tt
-  back_agrees view (Err (fault.At path line why)) o s first last h = sym (back_twice first last o) ∙ ap (back_to last) h
+  back_agrees : {A B : Type 0} (setting : Setting R) (view : A → B) (result : Result A EvalFault) (o : Outcome R B) (s : State R) (first last : Worlds) → Agrees setting view result (back_to first o) (record s { worlds = first })
+      → Agrees setting view result (back_to last o) (record s { worlds = last })
+  back_agrees setting view (Ok v) o s first last h = sym (back_twice first last o) ∙ ap (back_to last) h
+  back_agrees setting view (Err fault.Host) o s first last h =
+      subst (λ p. Begins setting s p) (back_twice first last o) (back_begins setting last (back_to first o) s h)
+  back_agrees setting view (Err fault.OutOfMemory) o s first last h = tt
+  back_agrees setting view (Err (fault.At path line why)) o s first last h = sym (back_twice first last o) ∙ ap (back_to last) h
 
   pub step_tells : (job : Job) (m : Machine R) (marked : Worlds) (n : Machine R) (result : Result StepText EvalFault) → marked ≡ mark m.worlds
       → DoesAside step_answer (in_step_at job) (record m { worlds = marked }) n result → Tells step_answer (step_text_at job) m (record n { worlds = m.worlds }) result
   step_tells job m marked n result is h setting right refuses =
-      back_agrees step_answer result (in_step_at job setting (state_of (record m { worlds = mark m.worlds }))) (state_of n) (mark m.worlds) m.worlds
-      (subst (λ w. Agrees step_answer result (back_to w (in_step_at job setting (state_of (record m { worlds = w })))) (record (state_of n) { worlds = w })) is
+      back_agrees setting step_answer result (in_step_at job setting (state_of (record m { worlds = mark m.worlds }))) (state_of n) (mark m.worlds) m.worlds
+      (subst (λ w. Agrees setting step_answer result (back_to w (in_step_at job setting (state_of (record m { worlds = w })))) (record (state_of n) { worlds = w })) is
       (h.told setting (record { budget = right.budget; natives = right.natives; folder = right.folder; right = right.right }) refuses))
 
 -- a frame of the step's module, in a world with the step open

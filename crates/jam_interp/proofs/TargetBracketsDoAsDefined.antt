@@ -2,6 +2,7 @@
 use Rattle.std.proofs.Common.{◌≡◌, List, Result, Ok, Err, sym, ap, ◌∙◌, subst}
 use Rattle.jam_grammar.specs.declared.tree.Arg.{Arg}
 use Rattle.jam_grammar.specs.declared.tree.Inner.{Inner}
+use Rattle.jam_grammar.specs.Trees.{inner_tree, args_tree}
 use Rattle.jam_journal.specs.Scopes.{Value, leave}
 use Rattle.jam_scope.specs.Worlds.{Worlds}
 use Rattle.jam_scope.specs.Changes.{rescoped}
@@ -9,11 +10,13 @@ use Rattle.jam_eval.specs.Outcomes.{on_target}
 use Rattle.jam_effects.specs.declared.at.At.{At}
 use Rattle.jam_effects.specs.declared.fault.EvalFault.{EvalFault}
 use Rattle.jam_effects.specs.declared.fault.EvalFault.TheVariants as fault
+use Rattle.jam_effects.specs.Spots.{spot_of}
 use Rattle.jam_effects.specs.Framing.{on_entered}
 use Rattle.jam_effects.specs.Machines.{Machine}
 use Rattle.jam_effects.specs.Does.{Stays, Does, Leads}
 use Rattle.jam_effects.specs.Views.{value, What}
 use Rattle.jam_interp.specs.Parts.{arg_at, args_at, inner_at, on_inner_at, on_return_at}
+use Rattle.jam_eval.proofs.RecordsOnlyGrow.{target_begins, inner_begins, args_begins}
 use Rattle.jam_effects.proofs.WhatEachKeepsAllKeep.{stays_equal, stays_then}
 use Rattle.jam_effects.proofs.OrderedCallsDoAsDefined.{err_then, ok_then, led, out_of_memory}
 use Rattle.jam_interp.proofs.StatementsDoAsDefined.{on_target_does}
@@ -24,7 +27,9 @@ by_texts made opened ws texts targets e same = e ∙ ap (λ ts. made ts ws) same
 
 module _ {R : Type 0} where
   pub on_inner_fails : (target : Arg) (i : Inner) (at : At) (a b : Machine R) (e : EvalFault) → Does value (arg_at target at) a b (Err e) → Does value (on_inner_at target i at) a b (Err e)
-  on_inner_fails target i at a b e h = err_then value value (arg_at target at) (λ setting ts s. on_target ts (inner_at i at setting) s) a b e h
+  on_inner_fails target i at a b e h =
+      err_then value value (arg_at target at) (λ setting ts s. on_target ts (inner_at i at setting) s) a b e
+      (λ setting ts later. target_begins setting ts _ later (λ next. inner_begins setting at.levels (inner_tree i) (spot_of at) next)) h
 
   pub on_inner_does : (target : Arg) (i : Inner) (at : At) (k m : Machine R) (targets : Value) (opened : Worlds) (n : Machine R) (closed : Worlds) (result : Result Value EvalFault) → Does value (arg_at target at) k m (Ok targets)
       → opened ≡ on_entered targets m.worlds → Does value (inner_at i at) (record m { worlds = opened }) n result → closed ≡ rescoped leave n.worlds → Does value (on_inner_at target i at) k (record n { worlds = closed }) result
@@ -34,7 +39,9 @@ module _ {R : Type 0} where
       (on_target_does value targets (inner_at i at) m opened n closed result is h e)
 
   pub on_return_fails : (target : Arg) (list : List Arg) (at : At) (a b : Machine R) (e : EvalFault) → Does value (arg_at target at) a b (Err e) → Does value (on_return_at target list at) a b (Err e)
-  on_return_fails target list at a b e h = err_then value value (arg_at target at) (λ setting ts s. on_target ts (args_at list at setting) s) a b e h
+  on_return_fails target list at a b e h =
+      err_then value value (arg_at target at) (λ setting ts s. on_target ts (args_at list at setting) s) a b e
+      (λ setting ts later. target_begins setting ts _ later (λ next. args_begins setting at.levels (args_tree list) (spot_of at) next)) h
 
   pub on_return_does : (target : Arg) (list : List Arg) (at : At) (k m : Machine R) (targets : Value) (opened : Worlds) (n : Machine R) (closed : Worlds) (result : Result Value EvalFault) → Does value (arg_at target at) k m (Ok targets)
       → opened ≡ on_entered targets m.worlds → Does value (args_at list at) (record m { worlds = opened }) n result → closed ≡ rescoped leave n.worlds → Does value (on_return_at target list at) k (record n { worlds = closed }) result

@@ -15,7 +15,9 @@ use Rattle.jam_values.specs.declared.bindings.Bound.{Bound}
 use Rattle.jam_values.specs.Bindings.{bindings_of}
 use Rattle.jam_eval.specs.Conds.{is_true, is_same, is_within}
 use Rattle.jam_eval.specs.declared.native_answer.NativeStep.TheVariants as steps
+use Rattle.jam_eval.proofs.RecordsOnlyGrow.{arg_begins, args_begins}
 use Rattle.jam_effects.specs.Framing.{on_entered}
+use Rattle.jam_effects.specs.Spots.{spot_of}
 use Rattle.jam_effects.specs.Machines.{machine}
 use Rattle.jam_effects.specs.Views.{value, truth, flow_of, values}
 use Rattle.jam_interp.specs.Parts.{arg_at, args_at, bracket_at, args_rest, lists_at, lists_rest, call_of_at, call_head_at, call_at, applied_at, on_inner_at, on_return_at, transformed_at, transformed_rest, filtered_at, filtered_rest, run_rule_at, unruled_at, stepped_at, bracket_call_at}
@@ -123,7 +125,8 @@ conditions::all_of-returns g t c = all_hold _ _ c.args.at.now _ _ (drop_all c.ea
 
 pub conditions::same-returns-in_err-first : goal.conditions::same-returns-in_err-first
 conditions::same-returns-in_err-first g t c =
-    handed_on c.from_residual.ensures.1 (two_first_fails is_same (arg_at c.args.left.now c.args.at.now) (arg_at c.args.right.now c.args.at.now) _ _ c.in_err-first.field-0.0 c.in_err-first.ensures)
+    handed_on c.from_residual.ensures.1 (two_first_fails is_same (arg_at c.args.left.now c.args.at.now) (arg_at c.args.right.now c.args.at.now) _ _ c.in_err-first.field-0.0
+    (λ setting later. arg_begins setting c.args.at.now.levels (arg_tree c.args.right.now) (spot_of c.args.at.now) later) c.in_err-first.ensures)
 
 pub conditions::same-returns-in_err-second : goal.conditions::same-returns-in_err-second
 conditions::same-returns-in_err-second g t c = handed_on c.from_residual-in_err-second.ensures.1
@@ -135,7 +138,8 @@ conditions::same-returns g t c = two_end is_same (arg_at c.args.left.now c.args.
 
 pub conditions::among_list-returns-in_err-texts : goal.conditions::among_list-returns-in_err-texts
 conditions::among_list-returns-in_err-texts g t c =
-    handed_on c.from_residual.ensures.1 (two_first_fails is_within (arg_at c.args.value.now c.args.at.now) (args_at c.args.among.now c.args.at.now) _ _ c.in_err-texts.field-0.0 c.in_err-texts.ensures)
+    handed_on c.from_residual.ensures.1 (two_first_fails is_within (arg_at c.args.value.now c.args.at.now) (args_at c.args.among.now c.args.at.now) _ _ c.in_err-texts.field-0.0
+    (λ setting later. args_begins setting c.args.at.now.levels (args_tree c.args.among.now) (spot_of c.args.at.now) later) c.in_err-texts.ensures)
 
 pub conditions::among_list-returns-in_err-others : goal.conditions::among_list-returns-in_err-others
 conditions::among_list-returns-in_err-others g t c = handed_on c.from_residual-in_err-others.ensures.1

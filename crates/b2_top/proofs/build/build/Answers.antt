@@ -1,5 +1,5 @@
 use Rattle.std.proofs.Common.{ℕ, List, Result, IfSome, IfOk, IfErr, inl, ap, ◌∙◌, subst}
-use Rattle.b2_front.specs.Preparing.{IsPrepared, Counts, IsWhole}
+use Rattle.b2_front.specs.Preparing.{IsPrepared, LinesTold, Counts, IsWhole}
 use Rattle.b2_front.specs.declared.refusal.Stop.{Stop}
 use Rattle.b2_planning.specs.declared.planned.Planned.{Planned}
 use Rattle.b2_host.specs.ChildProcesses.{Family}
@@ -59,11 +59,13 @@ returns-clause-builds g c = λ words asked.
     let command = c.args.command.now in
     let words_told = subst (λ (l : List (List ℕ)). IfSome h0.disk (λ (disk : Disk). IsPrepared disk l echoes c.prepare-echoes.result.result)) c.as_slice.ensures c.prepare-echoes.ensures.told in
     let told = subst (λ (r : Result Planned Stop). IfSome h0.disk (λ (disk : Disk). IsPrepared disk command.words echoes r)) c.in-Err.is words_told in
+    let words_lines = subst (λ (l : List (List ℕ)). IfSome h0.disk (λ (disk : Disk). LinesTold disk l echoes c.prepare-echoes.result.result)) c.as_slice.ensures c.prepare-echoes.ensures.lines in
+    let lines_told = subst (λ (r : Result Planned Stop). IfSome h0.disk (λ (disk : Disk). LinesTold disk command.words echoes r)) c.in-Err.is words_lines in
     let whole = subst (λ (r : Result Planned Stop). IfErr r IsWhole) c.in-Err.is c.prepare-echoes.ensures.whole in
     let counts = subst (λ (r : Result Planned Stop). Counts r h0 h1) c.in-Err.is c.prepare-echoes.ensures.counts in
     let says = subst (λ (lines : List (List ℕ)). AnswersStop lines c.in-Err.stop o0 o1 c.tell_stop.result) c.as_slice-in-Err.ensures c.tell_stop.ensures in
     stopped c.one_meaning.ensures made words command asked h0 h1 o0 c.requires.idle echoes c.prepare-echoes.ensures.disk c.prepare-echoes.ensures.children
-    o1 c.in-Err.stop c.tell_stop.result told whole counts says
+    o1 c.in-Err.stop c.tell_stop.result told lines_told whole counts says
 
 pub returns-clause-none_left : goal.returns-clause-none_left
 returns-clause-none_left g c = inl (ap (λ (f : Family). f.running) c.prepare-echoes.ensures.children ∙ c.requires.idle)

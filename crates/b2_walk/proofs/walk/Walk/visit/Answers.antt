@@ -1,7 +1,16 @@
-use Rattle.std.proofs.Common.{sym, ◌∙◌, subst}
-use Rattle.b2_walk.specs.Doing.{stand}
-use Rattle.b2_walk.proofs.VisitDoesWhatIsDefined.{IsFoundAt, file_there}
+use Rattle.std.proofs.Common.{Err, sym, ap, ◌∙◌, subst}
+use Rattle.std.proofs.lemmas.Result.{err_from_is_err_and}
+use Rattle.b2_walk.specs.Doing.{stand, visits_dir, Does}
+use Rattle.b2_walk.proofs.VisitDoesWhatIsDefined.{looked_at, IsFoundAt, look_refused, file_there}
 use Rattle.b2_walk.proofs.walk.Walk.visit.Goals as goal
+
+pub returns-in_err-find_file : goal.returns-in_err-find_file
+returns-in_err-find_file g c =
+    let a = stand c.args.self.now c.args.turns.now (g.F.Files.outside c.args.files.now) in
+    let outside = g.F.Files.outside c.find_file.new.files in
+    let p = err_from_is_err_and c.from_residual.result c.from_residual.ensures.1 in
+    subst (λ result. Does (visits_dir c.args.dir.now) a (looked_at a outside) result) (sym (p.1 ∙ ap Err p.2))
+    (look_refused c.args.dir.now a outside c.in_err-find_file.field-0.0 c.in_err-find_file.ensures.effect)
 
 pub returns-in-Some : goal.returns-in-Some
 returns-in-Some g c =
