@@ -13,7 +13,7 @@ use std::hash::{Hash, Hasher};
 use std::marker::Model;
 
 /// A path that is hashed by its bytes, and seen as them.
-pub(crate) struct HashedPath {
+pub struct HashedPath {
     path: Path,
 }
 
@@ -35,7 +35,7 @@ impl Model for HashedPath {
 
 impl HashedPath {
     /// A copy of a path; takes no memory.
-    pub(crate) fn copy_of(path: &Path) -> Result<HashedPath, OutOfMemory>
+    pub fn copy_of(path: &Path) -> Result<HashedPath, OutOfMemory>
         ensures { IfOk result (λ made. made ≡ path.now) }
     {
         let path = path.copy()?;
@@ -43,7 +43,7 @@ impl HashedPath {
     }
 
     /// The path.
-    pub(crate) fn path(&self) -> &Path
+    pub fn path(&self) -> &Path
         ensures { result.now ≡ self.now }
     {
         &self.path

@@ -1,7 +1,7 @@
 //! Numbers for paths, and what is kept by number: a table of paths, a map from pairs of numbers, and marks.
 #![tactic(auto)]
 
-mod hashed_path;
+pub mod hashed_path;
 pub mod laws;
 pub mod marks;
 pub mod pair_map;

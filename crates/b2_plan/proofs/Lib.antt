@@ -1,1 +1,2 @@
 pub mod MakersGrowByOne
+pub mod EntriesMakeMaps

@@ -3,12 +3,12 @@ ghost use Rattle.std.specs.Prelude.{◌≡◌, ℕ, List};
 ghost use Rattle.std.specs.FinMap as map;
 ghost use Rattle.b2_plan.specs.Plans.{maker_of};
 
+use crate::maker_map::MakerMap;
 use crate::makers::makers_of;
 use crate::step::StepList;
 use b2_base::fault::OutOfMemory;
 use b2_base::path::Path;
 use b2_base::path_list::PathList;
-use b2_base::path_map::PathMap;
 use std::alloc::Global;
 
 /// What is to be built: the steps in order, the wanted files, and the output roots.
@@ -16,7 +16,7 @@ pub struct Plan {
     pub steps: StepList,
     pub wanted: PathList,
     pub roots: PathList,
-    makers: PathMap<u32>,
+    makers: MakerMap,
     ghost makers_are: { (path : List ℕ) → map.get makers path ≡ maker_of steps path },
 }
 
@@ -65,6 +65,6 @@ impl Plan {
     pub fn maker(&self, path: &Path) -> Option<u32>
         ensures { result ≡ maker_of self.now.steps path.now }
     {
-        self.makers.get(path).copied()
+        self.makers.get(path)
     }
 }
