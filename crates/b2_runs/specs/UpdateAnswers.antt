@@ -64,9 +64,9 @@ pub record WaitFailed (before after : Outside) : Type 0 where
 abbrev pub IsQuietHost : Outside → Outside → Type 0
 IsQuietHost before after = ((after.faults ≡ before.faults) × (after.failed_waits ≡ before.failed_waits)) ⊎ WaitFailed before after
 
--- How the counts of faults stand to an answer, which names the first fault. An answer that is no fault comes only where they
--- stay. A fault comes only where one may, its count rose, and the other's is as at entry, but for the waits after a fault of the
--- sink.
+-- How the counts of faults stand to an answer. An answer that is no fault comes only where they stay. A fault comes only where
+-- one may, its count rose, and the other's is as at entry, but for waits that failed beside a fault of the sink: which of the two
+-- came first is not told.
 abbrev pub CausedBy : Moment → Moment → UpdateAnswer → Type 0
 CausedBy before after all_went = CountsStay before after
 CausedBy before after (failed lists) = CountsStay before after
