@@ -124,6 +124,12 @@ pub taken_known : (by_digest : Bool) (bytes : List ℕ) (d : Option (List ℕ)) 
 taken_known by_digest bytes (Some digest) known = refl
 taken_known by_digest bytes None known = absurd (let x : false ≡ true = known in cc)
 
+-- a digest that is taken is known
+pub taken_some : (by_digest : Bool) (bytes : List ℕ) (d : Option (List ℕ)) → by_digest ≡ true → (digest : List ℕ) × (taken by_digest bytes d ≡ Some digest)
+taken_some by_digest bytes (Some known) so = (known, refl)
+taken_some true bytes None so = (digest_of bytes, refl)
+taken_some false bytes None so = absurd (let x : false ≡ true = so in cc)
+
 taken_so : (by_digest : Bool) (bytes : List ℕ) (d there : Option (List ℕ)) → there ≡ Some bytes → IsReadAs digest_of there d → IsReadAs digest_of there (taken by_digest bytes d)
 taken_so by_digest bytes (Some known) there e h = h
 taken_so true bytes None there e h = (bytes, e, refl)

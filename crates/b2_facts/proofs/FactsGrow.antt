@@ -159,6 +159,11 @@ pub on_either : {T E : Type 0} (r : Result T E) (P A B : Type 0) → OnOk r A �
 on_either (Ok x) P A B a b f g = f a
 on_either (Err e) P A B a b f g = g b
 
+-- what holds always holds of an error
+pub on_err : {T E : Type 0} (r : Result T E) (P : Type 0) → P → OnErr r P
+on_err (Ok x) P p = tt
+on_err (Err e) P p = p
+
 -- ---- what is told by a visible disk
 
 pub told_map : {X : Type 0} (o : Option X) (P Q : X → Type 0) → ((x : X) → P x → Q x) → IfSome o P → IfSome o Q

@@ -1,5 +1,5 @@
 -- What a read of a file tells, by its answer.
-use Rattle.std.proofs.Common.{◌≡◌, inl, inr, ℕ, Bool, List, [], Option, Some, None, Result, Ok, Err, refl, sym, ap, subst, ◌∙◌}
+use Rattle.std.proofs.Common.{◌≡◌, inl, inr, ℕ, Bool, true, List, [], Option, Some, None, Result, Ok, Err, refl, sym, ap, subst, ◌∙◌}
 use Rattle.std.specs.Prelude.{IfOk, IfErr}
 use Rattle.std.specs.Option.{IfSome}
 use Rattle.b2_host.specs.Disks.{Disk, Folder, bytes_at}
@@ -24,7 +24,7 @@ use Rattle.b2_facts.proofs.ListsAtPlaces.{some_is}
 use Rattle.b2_facts.proofs.FactsGrow.{told_map}
 use Rattle.b2_facts.proofs.DigestsAreHexadecimal.{digest_good}
 use Rattle.b2_facts.proofs.LooksAreKept.{number_file}
-use Rattle.b2_facts.proofs.BytesAreKept.{read_learns, read_true, digest_well, digest_so, line_well, line_so, bytes_well, bytes_so, not_missing, file_now}
+use Rattle.b2_facts.proofs.BytesAreKept.{read_learns, read_true, digest_well, digest_so, line_well, line_so, bytes_well, bytes_so, taken_some, not_missing, file_now}
 
 -- no includes are set
 pub none_included : (f g : Knowledge) (n : ℕ) (includes : List Include) → includes ≡ [] → ((file : FileFacts) → file_at f n ≡ Some file → g ≡ with_file f n (record file { includes = Some includes }))
@@ -69,6 +69,14 @@ module _ (f g : Knowledge) (n : ℕ) (number : IsNumber f n) where
         let r = to_read file.0 file.1 in
         read_true steps roots now b f g n file.0 (Some (includes_of bytes)) (taken by_digest bytes file.0.digest) file.1 (after file.0 file.1)
         (λ other build is planned t. bytes_so steps roots b now by_digest other bytes file.0 r.scanned (subst (λ (p : List ℕ). bytes_at now p ≡ Some bytes) (some_is path other (sym there ∙ is)) stands) build planned t)
+
+    -- by digests the digest is known
+    pub bytes_digested : (file : FileFacts) → file_at g n ≡ Some file → by_digest ≡ true → (digest : List ℕ) × (file.digest ≡ Some digest)
+    bytes_digested file e so =
+        let old = number_file f n number in
+        let same = file_now f g n old.0 (with_bytes by_digest bytes old.0) old.1 (after old.0 old.1) file e in
+        let known = taken_some by_digest bytes old.0.digest so in
+        (known.0, subst (λ (x : FileFacts). x.digest ≡ Some known.0) same known.1)
 
     pub bytes_answer : (line : ScanLine) → ((path : List ℕ) → path_at f n ≡ Some path → line ≡ record { path = path; stamp = stamp; includes = includes_of bytes }) → (path : List ℕ) (file : FileFacts) → IsFile g n path file → IsLineOf line path file
     bytes_answer line line_is path file is =

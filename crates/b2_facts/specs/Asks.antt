@@ -177,6 +177,12 @@ IsReadAnswer disk path file scanned.Known = ⊥
 IsReadAnswer disk path file (scanned.Read line) = IsLineOf line path file
 IsReadAnswer disk path file scanned.Gone = IsGoneAtRead disk path file
 
+-- by digests the digest of a file that was read to be scanned is known, so that it is not read again
+abbrev pub TakesDigest : Bool → FileFacts → Scanned → Type 0
+TakesDigest by_digest file scanned.Known = ⊤
+TakesDigest by_digest file (scanned.Read line) = by_digest ≡ true → (digest : List ℕ) × (file.digest ≡ Some digest)
+TakesDigest by_digest file scanned.Gone = ⊤
+
 -- what a digest does to the host, by its answer: at most one read of this path
 abbrev pub ReadsAtMost : {T : Type 0} → List ℕ → Outside → Outside → Result T ReadFault → Type 0
 ReadsAtMost path before after (Ok x) = (after ≡ before) ⊎ (after ≡ after_read path before)

@@ -55,7 +55,7 @@ impl Model for Facts {
 }
 
 impl Facts {
-    ghost use Rattle.std.specs.Prelude.{◌≡◌, ℕ, List as Items, Some, None, IfOk, OnOk, OnErr};
+    ghost use Rattle.std.specs.Prelude.{◌≡◌, ℕ, List as Items, Some, None, Ok, IfOk, OnOk, OnErr};
     ghost use Rattle.std.specs.Option.{option_copied, option_map};
     ghost use Rattle.b2_host.specs.Disks.{Folder};
     ghost use Rattle.b2_plan.specs.Sources.{Build};
@@ -154,6 +154,8 @@ impl Facts {
         ensures learns { Learns plan.now.steps plan.now.roots OfNone self.old self.new }
         ensures found { self.new.found ≡ self.old.found }
         ensures told { (now : Folder) → StaysTrue plan.now.steps plan.now.roots now self.old self.new }
+        ensures known { OnErr result ((n : ℕ) → path_at self.old n ≡ Some path.now → ⊥) }
+        ensures stays { (n : ℕ) → path_at self.old n ≡ Some path.now → self.new ≡ self.old }
         ensures err { OnErr result (self.new ≡ self.old) }
     {
         match self.paths.find(path) {
@@ -162,9 +164,12 @@ impl Facts {
         }
     }
 
-    /// The number of a list of directories. Equal lists have one number. After an error all is as before.
+    /// The number of a list of directories. Equal lists have one number. A list that has one takes no memory. After an error all
+    /// is as before.
     pub fn list_number(&mut self, alloc: Global, dirs: &[Path]) -> Result<u32, OutOfMemory>
         ensures list { IfOk result (λ list. dirs_at self.new list ≡ Some dirs.now) }
+        ensures once { (n : ℕ) → dirs_at self.old n ≡ Some dirs.now → result ≡ Ok n }
+        ensures stays { (n : ℕ) → dirs_at self.old n ≡ Some dirs.now → self.new ≡ self.old }
         ensures learns { (steps : Items Step) (roots : Items (Items ℕ)) → Learns steps roots OfNone self.old self.new }
         ensures told { (steps : Items Step) (roots : Items (Items ℕ)) (now : Folder) → StaysTrue steps roots now self.old self.new }
         ensures err { OnErr result (self.new ≡ self.old) }

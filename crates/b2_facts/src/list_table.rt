@@ -1,7 +1,6 @@
 //! Numbers for lists of directories.
-ghost use Rattle.std.specs.Prelude.{◌≡◌, ◌<◌, ◌∷◌, ◌++◌, [], Some, length, slice_get, IfOk, OnOk, OnErr};
-ghost use Rattle.std.specs.Option.{IfSome};
-ghost use Rattle.b2_facts.specs.Lists.{IsSameOrAdded};
+ghost use Rattle.std.specs.Prelude.{◌≡◌, ℕ, ◌<◌, ◌∷◌, ◌++◌, [], Some, Ok, length, slice_get, IfOk, OnOk, OnErr, MatchOption};
+ghost use Rattle.b2_facts.specs.Lists.{HasNoNumber, IsNumberOf, IsSameOrAdded};
 
 use b2_base::fault::OutOfMemory;
 use b2_base::path::Path;
@@ -57,13 +56,14 @@ impl ListTable {
 
     /// The number of a list, if it has one; takes no memory.
     fn find(&self, dirs: &[Path]) -> Option<u32>
-        ensures { IfSome result (λ number. slice_get self.now number ≡ Some dirs.now) }
+        ensures { MatchOption result (HasNoNumber self.now dirs.now) (IsNumberOf self.now dirs.now) }
     {
         self.numbers.get(dirs).copied()
     }
 
     /// Puts a list at the end, and answers its number.
     fn add(&mut self, alloc: Global, dirs: &[Path]) -> Result<u32, OutOfMemory>
+        requires { HasNoNumber self.old dirs.now }
         ensures place { IfOk result (λ number. slice_get self.new number ≡ Some dirs.now) }
         ensures ok { OnOk result (self.new ≡ self.old ++ dirs.now ∷ []) }
         ensures err { OnErr result (self.new ≡ self.old) }
@@ -82,10 +82,12 @@ impl ListTable {
         Ok(number)
     }
 
-    /// The number of a list, which is put at the end if it has none. Where 2 ^ 32 - 1 lists are there the answer is that
-    /// memory ran out. After an error the lists are as before.
+    /// The number of a list, which is put at the end if it has none. A list that has one takes no memory. Where 2 ^ 32 - 1
+    /// lists are there the answer is that memory ran out. After an error the lists are as before.
     pub fn number_of(&mut self, alloc: Global, dirs: &[Path]) -> Result<u32, OutOfMemory>
         ensures place { IfOk result (λ number. slice_get self.new number ≡ Some dirs.now) }
+        ensures once { (n : ℕ) → slice_get self.old n ≡ Some dirs.now → result ≡ Ok n }
+        ensures stays { (n : ℕ) → slice_get self.old n ≡ Some dirs.now → self.new ≡ self.old }
         ensures ok { OnOk result (IsSameOrAdded self.old dirs.now self.new) }
         ensures err { OnErr result (self.new ≡ self.old) }
     {

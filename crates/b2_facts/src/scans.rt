@@ -11,7 +11,7 @@ ghost use Rattle.b2_facts.specs.declared.file_facts.Seen.TheVariants as seen;
 ghost use Rattle.b2_facts.specs.Facts.{IsNumber, IsFile, path_at, file_at, with_file};
 ghost use Rattle.b2_facts.specs.Growth.{Learns, OfOne};
 ghost use Rattle.b2_facts.specs.Truth.{StaysTrue, StaysTrueOf, ScansTell};
-ghost use Rattle.b2_facts.specs.Asks.{taken, with_bytes, IsToRead, Scans, ReadsForAnswer, IsScannedAs, IsReadAnswer, IsTooBigFor};
+ghost use Rattle.b2_facts.specs.Asks.{taken, with_bytes, IsToRead, Scans, ReadsForAnswer, IsScannedAs, IsReadAnswer, TakesDigest, IsTooBigFor};
 
 use crate::digests::digest_of;
 use crate::facts::Facts;
@@ -154,6 +154,8 @@ impl Facts {
             → ReadsForAnswer path (F.outside files.old) (F.outside files.new) result }
         ensures answer { IfOk result (λ answer. (path : List ℕ) (file : FileFacts) → IsFile self.new number path file
             → IsReadAnswer (F.outside files.old).disk path file answer) }
+        ensures digested { IfOk result (λ answer. (file : FileFacts) → file_at self.new number ≡ Some file
+            → TakesDigest by_digest file answer) }
         ensures learns { (steps : List Step) (roots : List (List ℕ)) → Learns steps roots (OfOne number) self.old self.new }
         ensures told { IfSome (F.outside files.old).disk
             (λ disk. (steps : List Step) (roots : List (List ℕ)) → StaysTrue steps roots disk.now self.old self.new) }
@@ -190,6 +192,8 @@ impl Facts {
         ensures effect { Scans self.new number log.now.lines (F.outside files.old) (F.outside files.new) result }
         ensures answer { IfOk result (λ answer. (path : List ℕ) (file : FileFacts) → IsFile self.new number path file
             → IsScannedAs (F.outside files.old).disk log.now.lines self.old number path file answer) }
+        ensures digested { IfOk result (λ answer. (file : FileFacts) → file_at self.new number ≡ Some file
+            → TakesDigest by_digest file answer) }
         ensures learns { (steps : List Step) (roots : List (List ℕ)) → Learns steps roots (OfOne number) self.old self.new }
         ensures told { IfSome (F.outside files.old).disk
             (λ disk. (steps : List Step) (roots : List (List ℕ)) (b : Build) → ScansTell b disk.now log.now.lines
@@ -222,6 +226,8 @@ impl Facts {
         ensures effect { Scans self.new number log.now.lines (F.outside files.old) (F.outside files.new) result }
         ensures answer { IfOk result (λ answer. (path : List ℕ) (file : FileFacts) → IsFile self.new number path file
             → IsScannedAs (F.outside files.old).disk log.now.lines self.old number path file answer) }
+        ensures digested { IfOk result (λ answer. (file : FileFacts) → file_at self.new number ≡ Some file
+            → TakesDigest by_digest file answer) }
         ensures learns { (steps : List Step) (roots : List (List ℕ)) → Learns steps roots (OfOne number) self.old self.new }
         ensures told { IfSome (F.outside files.old).disk
             (λ disk. (steps : List Step) (roots : List (List ℕ)) (b : Build) → ScansTell b disk.now log.now.lines

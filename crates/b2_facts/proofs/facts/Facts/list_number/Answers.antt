@@ -1,5 +1,5 @@
-use Rattle.std.proofs.Common.{◌≡◌, List, ℕ, refl, ap, subst}
-use Rattle.b2_facts.specs.Facts.{Knowledge}
+use Rattle.std.proofs.Common.{◌≡◌, List, ℕ, Some, refl, sym, ap, subst, ◌∙◌}
+use Rattle.b2_facts.specs.Facts.{Knowledge, dirs_at}
 use Rattle.b2_facts.specs.Lists.{IsSameOrAdded}
 use Rattle.b2_facts.specs.Growth.{Learns, OfNone}
 use Rattle.b2_facts.specs.Truth.{StaysTrue}
@@ -27,3 +27,12 @@ returns-clause-told c = λ steps roots now. (
     (on_either c.number_of.result (StaysTrue steps roots now f h) (IsSameOrAdded c.self.inside.lists dirs c.number_of.new.self) (c.number_of.new.self ≡ c.self.inside.lists) c.number_of.ensures.ok c.number_of.ensures.err
     (λ ok. lists_true steps roots now dirs f h (lists_are f dirs c.number_of.new.self h ok refl))
     (λ same. true_equal steps roots now f h (ap (λ (ls : List (List (List ℕ))). let r : Knowledge = record f { lists = ls } in r) same))))
+
+pub returns-clause-once : goal.returns-clause-once
+returns-clause-once c = λ n at. c.number_of.ensures.once n (subst (λ (k : Knowledge). dirs_at k n ≡ Some c.args.dirs.now) (sym c.self.view_is) at)
+
+pub returns-clause-stays : goal.returns-clause-stays
+returns-clause-stays c = λ n at. (
+    let f : Knowledge = record { paths = c.self.inside.paths; files = c.self.inside.files.items; lists = c.self.inside.lists; found = c.self.inside.found } in
+    ap (λ (ls : List (List (List ℕ))). let r : Knowledge = record f { lists = ls } in r) (c.number_of.ensures.stays n (subst (λ (k : Knowledge). dirs_at k n ≡ Some c.args.dirs.now) (sym c.self.view_is) at))
+    ∙ c.self.view_is)

@@ -1,10 +1,10 @@
-use Rattle.std.proofs.Common.{◌≡◌, Some, sym, ap, subst}
+use Rattle.std.proofs.Common.{◌≡◌, ℕ, Some, sym, ap, subst}
 use Rattle.b2_facts.specs.Facts.{Knowledge, path_at}
 use Rattle.b2_facts.specs.Changes.{EntersPath}
 use Rattle.b2_facts.specs.Growth.{Learns, OfNone}
 use Rattle.b2_facts.specs.Truth.{StaysTrue}
 use Rattle.b2_facts.proofs.ListsAtPlaces.{among_at}
-use Rattle.b2_facts.proofs.FactsGrow.{on_either, learns_equal, true_equal}
+use Rattle.b2_facts.proofs.FactsGrow.{on_either, on_err, learns_equal, true_equal}
 use Rattle.b2_facts.proofs.FactsAreEntered.{enters_learns, enters_true}
 use Rattle.b2_facts.proofs.facts.Facts.number_of.Goals as goal
 
@@ -34,3 +34,10 @@ returns-in-None-clause-found c =
     let h = c.enter.new.self in
     on_either c.enter.result (h.found ≡ f.found) (EntersPath c.args.plan.now.steps c.args.plan.now.roots c.args.path.now f h) (h ≡ f) c.enter.ensures.ok c.enter.ensures.err
     (λ entered. ap (λ (k : Knowledge). k.found) entered.same) (λ same. ap (λ (k : Knowledge). k.found) same)
+
+pub returns-in-None-clause-known : goal.returns-in-None-clause-known
+returns-in-None-clause-known c = on_err c.enter.result ((n : ℕ) → path_at c.args.self.now n ≡ Some c.args.path.now → ⊥)
+    (λ n e. c.in-None.ensures (among_at c.self.inside.paths n c.args.path.now (subst (λ (k : Knowledge). path_at k n ≡ Some c.args.path.now) (sym c.self.view_is) e)))
+
+pub returns-in-None-clause-stays : goal.returns-in-None-clause-stays
+returns-in-None-clause-stays c = λ n e. absurd (c.in-None.ensures (among_at c.self.inside.paths n c.args.path.now (subst (λ (k : Knowledge). path_at k n ≡ Some c.args.path.now) (sym c.self.view_is) e)))

@@ -15,7 +15,7 @@ use Rattle.b2_facts.specs.Asks.{ReadsForAnswer, IsTooBigFor}
 use Rattle.b2_facts.proofs.ListsAtPlaces.{some_is}
 use Rattle.b2_facts.proofs.FactsGrow.{learns_same, learns_equal, true_same, true_equal, told_map, told_all}
 use Rattle.b2_facts.proofs.BytesAreKept.{reads_fail, not_too_big}
-use Rattle.b2_facts.proofs.ReadsTell.{bytes_learns, bytes_true, bytes_answer, none_included, gone_learns, gone_true, gone_read}
+use Rattle.b2_facts.proofs.ReadsTell.{bytes_learns, bytes_true, bytes_answer, bytes_digested, none_included, gone_learns, gone_true, gone_read}
 use Rattle.b2_facts.proofs.facts.Facts.read_includes.Goals as goal
 
 pub returns-in_err-answer-clause-learns : goal.returns-in_err-answer-clause-learns
@@ -69,6 +69,9 @@ returns-in_err-line-in-Bytes-clause-told g c = told_all (g.F.Files.outside c.arg
 
 pub returns-in_ok-line-in-Bytes-clause-answer : goal.returns-in_ok-line-in-Bytes-clause-answer
 returns-in_ok-line-in-Bytes-clause-answer g c = bytes_answer c.args.self.now c.keep_bytes.new.self c.args.number c.requires.number c.args.by_digest c.as_slice.result.now c.args.stamp c.requires.unread c.in_ok-line-in-Bytes.ensures.ok c.in_ok-line-in-Bytes.line c.in_ok-line-in-Bytes.ensures.line
+
+pub returns-in_ok-line-in-Bytes-clause-digested : goal.returns-in_ok-line-in-Bytes-clause-digested
+returns-in_ok-line-in-Bytes-clause-digested g c = bytes_digested c.args.self.now c.keep_bytes.new.self c.args.number c.requires.number c.args.by_digest c.as_slice.result.now c.args.stamp c.requires.unread c.in_ok-line-in-Bytes.ensures.ok
 
 pub returns-in_ok-line-in-Bytes-clause-learns : goal.returns-in_ok-line-in-Bytes-clause-learns
 returns-in_ok-line-in-Bytes-clause-learns g c = bytes_learns c.args.self.now c.keep_bytes.new.self c.args.number c.requires.number c.args.by_digest c.as_slice.result.now c.args.stamp c.requires.unread c.in_ok-line-in-Bytes.ensures.ok
