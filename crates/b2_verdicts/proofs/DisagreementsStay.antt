@@ -39,6 +39,8 @@ are_logged_more f g logged ns grows have = record { count = have.count; each = a
 first_other_more : (f g : Knowledge) (logged : List (List ℕ × ℕ)) (ns : List ℕ) (place : ℕ) → Grows f g → AreNumbers f ns → AllAsked f ns → IsFirstOther f logged ns place → IsFirstOther g logged ns place
 first_other_more f g logged ns place grows numbers asked first = record {
   within = first.within;
+  in_logged = first.in_logged;
+  in_files = first.in_files;
   before = agree_more f g logged ns place grows first.before;
   other = λ one at within same. first.other one at within (logged_before f g one (get_or ns place 0) grows (numbers place within) (asked place within) same);
 }

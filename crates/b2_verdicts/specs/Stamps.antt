@@ -61,9 +61,12 @@ pub record AreLogged (g : Knowledge) (logged : List (List ℕ × ℕ)) (ns : Lis
   pub count : length logged ≡ length ns
   pub each : AgreeUpTo g logged ns (length ns)
 
--- At a place a record first has another file than these, or another stamp, or none, or one more.
+-- At a place a record first has another file than these, or another stamp, or none, or one more. Up to there both have a file at
+-- each place.
 pub record IsFirstOther (g : Knowledge) (logged : List (List ℕ × ℕ)) (ns : List ℕ) (place : ℕ) : Type 0 where
   pub within : (place < length logged) ⊎ (place < length ns)
+  pub in_logged : place ≤ length logged
+  pub in_files : place ≤ length ns
   pub before : AgreeUpTo g logged ns place
   pub other : (one : List ℕ × ℕ) → slice_get logged place ≡ Some one → place < length ns
       → IsLogged g one (slice_index ns place) → ⊥

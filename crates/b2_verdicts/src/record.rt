@@ -199,6 +199,7 @@ pub fn find_inputs<F: Files>(
     ensures asks { Asks (IsOfStep numbers.now) Always facts.old facts.new
         (F.outside files.old) (F.outside files.new) result }
     ensures unread { by_digest ≡ false → (F.outside files.new).reads ≡ (F.outside files.old).reads }
+    ensures none_asked { step.now.notfile ≡ true → F.outside files.new ≡ F.outside files.old }
     ensures only { IfErr result (IfTooBig ((by_digest ≡ true) × (step.now.notfile ≡ false))) }
     ensures found { OnOk result (step.now.notfile ≡ false
         → AreFound by_digest (F.outside files.old).disk facts.new numbers.now.ins) }
