@@ -72,6 +72,7 @@ impl Board {
     pub fn take_look(&mut self) -> Option<u32>
         ensures none { MatchOption result ((i : ℕ) → CanLook self.old.sched i → ⊥)
             (λ number. IsNeeded self.new.sched number × IsUnjudged self.new.sched number × IsStep self.new.sched number) }
+        ensures lowest { MatchOption result ((i : ℕ) → CanLook self.old.sched i → ⊥) (LooksNext self.old.sched) }
         ensures after { MatchOption result (self.new ≡ self.old)
             (λ number. (self.new.works ≡ self.old.works) × (self.new.sched ≡ looked_at self.old.sched number)) }
         ensures board { MatchOption result (self.new ≡ self.old)
