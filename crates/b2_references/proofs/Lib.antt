@@ -5,3 +5,4 @@ pub mod ListedAreNotExplicit
 pub mod GroupsGrowByOnePair
 pub mod LoopsTakeOneMore
 pub mod AskedSetsAreProper
+mod HashedTextsAreFound

@@ -4,18 +4,18 @@ ghost use Rattle.std.specs.FinMap as map;
 ghost use Rattle.b2_metatargets.specs.declared.place.Target.{Target as Main};
 ghost use Rattle.b2_references.specs.Indexing.{AreEntries, HasOneMore, no_entry};
 
+use crate::text_table::TextTable;
 use b2_base::fault::OutOfMemory;
 use b2_base::list::List;
 use b2_base::text::Text;
 use b2_base::text_list::TextList;
-use b2_base::text_map::TextMap;
 use b2_metatargets::place::Target;
 use std::alloc::Global;
 
 /// The main targets of a project: for each name the numbers of those with it, and the names in order of declaration.
 #[derive(Drop)]
 pub(crate) struct Entry {
-    pub(crate) numbers: TextMap<List<usize>>,
+    pub(crate) numbers: TextTable<List<usize>>,
     pub(crate) names: TextList,
 }
 
@@ -24,7 +24,7 @@ impl Entry {
         ensures { result ≡ no_entry }
     {
         Entry {
-            numbers: TextMap::new(alloc),
+            numbers: TextTable::new(alloc),
             names: TextList::new(alloc),
         }
     }

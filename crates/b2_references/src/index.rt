@@ -8,11 +8,11 @@ ghost use Rattle.b2_references.specs.Names.{numbers, is_target, first_names, nam
 ghost use Rattle.b2_references.specs.References.{place_at, place_with};
 
 use crate::entries::{Entry, entries_of};
+use crate::text_table::TextTable;
 use b2_base::fault::OutOfMemory;
 use b2_base::list::List;
 use b2_base::path::Path;
 use b2_base::text::Text;
-use b2_base::text_map::TextMap;
 use b2_metatargets::place::Place;
 use b2_metatargets::whole::Declared;
 use std::alloc::Global;
@@ -23,7 +23,7 @@ use std::marker::Model;
 pub struct Index<'a> {
     alloc: Global,
     declared: &'a Declared,
-    dirs: TextMap<usize>,
+    dirs: TextTable<usize>,
     entries: Vec<Entry>,
 }
 
@@ -53,7 +53,7 @@ impl<'a> Model for Index<'a> {
 }
 
 /// Gives a directory its place, where it has none yet.
-fn add_dir(dirs: &mut TextMap<usize>, dir: &Path, place: usize) -> Result<(), OutOfMemory>
+fn add_dir(dirs: &mut TextTable<usize>, dir: &Path, place: usize) -> Result<(), OutOfMemory>
     ensures { OnOk result ((other : List ℕ) → finite.get dirs.new other ≡ option_or (finite.get dirs.old other) (if bytes_eq dir.now other then Some place else None)) }
 {
     match dirs.get(dir.as_text()) {
@@ -66,10 +66,10 @@ fn add_dir(dirs: &mut TextMap<usize>, dir: &Path, place: usize) -> Result<(), Ou
 }
 
 /// The place of the first project of each directory.
-fn dirs_of(alloc: Global, places: &[Place]) -> Result<TextMap<usize>, OutOfMemory>
+fn dirs_of(alloc: Global, places: &[Place]) -> Result<TextTable<usize>, OutOfMemory>
     ensures { IfOk result (λ made. (dir : List ℕ) → finite.get made dir ≡ position (λ p. bytes_eq p.dir dir) places.now) }
 {
-    let mut made = TextMap::new(alloc);
+    let mut made = TextTable::new(alloc);
     for (place, project) in places.iter().enumerate() {
         add_dir(&mut made, &project.dir, place)?;
     }
