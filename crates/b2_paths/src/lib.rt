@@ -1,4 +1,4 @@
-//! Numbers for paths, and what is kept by number: a table of paths, a map from pairs of numbers, and marks.
+//! The key by which a path is hashed; numbers for paths, and what is kept by number: a table, a map from pairs, and marks.
 #![tactic(auto)]
 
 pub mod hashed_path;

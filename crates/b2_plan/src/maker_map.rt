@@ -54,7 +54,7 @@ impl MakerMap {
         self.numbers.get(path.as_str()).copied()
     }
 
-    /// Gives a path a number, in place of the one that it has. After an error the map is as before.
+    /// Gives a path a number, in place of the one that it may have. After an error the map is as before.
     pub fn insert(&mut self, path: &Path, number: u32) -> Result<(), OutOfMemory>
         ensures ok { OnOk result (self.new ≡ map.insert self.old path.now number) }
         ensures err { OnErr result (self.new ≡ self.old) }

@@ -65,7 +65,7 @@ pub fn run_program<H: Children, S: Sink>(
         (moment (H.outside host.new) (S.output out.new)) }
     ensures no_command { IsNoCommand (mode_of words.now) words.now → IsUsageStatus result }
     // Up to status 3 no call of the host and no write failed. Status 4: the host failed, and no write did before the
-    // report of it began. Status 6: a write failed. With status 5 none has failed.
+    // report of it began. Status 5: no memory was left, and no write failed. Status 6: a write failed.
     ensures counts { result ≤ 3 → CountsStay (moment (H.outside host.old) (S.output out.old))
         (moment (H.outside host.new) (S.output out.new)) }
     ensures host_fault { result ≡ 4 → HostFailedFirst (moment (H.outside host.old) (S.output out.old))

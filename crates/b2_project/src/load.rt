@@ -145,7 +145,7 @@ fn no_memory(alloc: Global) -> Loaded
 /// A fault of the host comes only where the count of its faults rose. Of a project each number is a place in the list that
 /// it leads to, a parent stands before its project, and in its world no frame and no step is open and no world is marked.
 ///
-/// After a fault of the host the lines of ECHO are those that were recorded until then: a first part of those of the whole load.
+/// After a fault of the host the lines of ECHO are the first of the whole load's, where files are visible; how many is not told.
 pub fn load<F: Files>(alloc: Global, files: &mut F, words: &[Text], turns: &mut Turns) -> Loaded
     ensures told { TellsLoad (F.outside files.old) words.now turns.old turns.new result.echoes result.result }
     ensures whole { IfErr result.result IsWhole }

@@ -1,4 +1,4 @@
-//! A map from texts that is looked up by hash.
+//! A map from texts that are found by a hash.
 ghost use Rattle.std.specs.Prelude.{◌≡◌, IfOk, OnOk, []};
 ghost use Rattle.std.specs.Option.{option_copied};
 ghost use Rattle.std.specs.FinMap as map;
@@ -10,7 +10,7 @@ use indexmap::IndexMap;
 use std::alloc::Global;
 use std::marker::Model;
 
-/// One value for each of some texts, seen as a finite map from their bytes. A look-up takes no more time where there are more texts.
+/// One value for each of some texts, seen as a finite map from their bytes. It is found by a hash, since many names are looked up.
 pub(crate) struct TextTable<V: Drop> {
     values: IndexMap<HashedText, V>,
 }
