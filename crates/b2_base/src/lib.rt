@@ -4,6 +4,7 @@
 pub mod decimal;
 pub mod expand_fault;
 pub mod fault;
+mod held;
 pub mod hexadecimal;
 pub mod laws;
 pub mod list;
@@ -14,6 +15,7 @@ pub mod path_map;
 pub mod rooted;
 pub mod segments;
 pub mod shape;
+mod short_text;
 pub mod text;
 pub mod text_list;
 pub mod text_map;

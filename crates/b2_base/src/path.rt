@@ -13,7 +13,6 @@ use crate::text::{Text, has_no_zero};
 use std::alloc::Global;
 use std::cmp::Ordering;
 use std::marker::Model;
-use std::rc::Rc;
 use thiserror::Error;
 
 /// Why a text is no path.
@@ -41,10 +40,10 @@ impl From<OutOfMemory> for PathFault {
 }
 
 /// A path in normal form, seen as its bytes: `.`, `/`, or some `..` and then names, joined by slashes. An absolute path
-/// begins with a slash and has no `..`. Paths are ordered by their bytes. The copies of a path share its text.
+/// begins with a slash and has no `..`. Paths are ordered by their bytes.
 #[derive(Debug)]
 pub struct Path {
-    text: Rc<Text>,
+    text: Text,
 }
 
 /// By hand, so that dropping one is one call.
@@ -61,9 +60,9 @@ impl Model for Path {
 
     ghost Value = { List ℕ };
 
-    ghost view = { λ p. p.text.value };
+    ghost view = { λ p. p.text };
 
-    ghost invariant = { λ p. IsNormal p.text.value };
+    ghost invariant = { λ p. IsNormal p.text };
 }
 
 fn normal_text(alloc: Global, text: &str) -> Result<String, OutOfMemory>
@@ -154,36 +153,35 @@ impl Path {
             return Err(PathFault::Nul);
         }
         let text = Text::from_string(normal_text(alloc, text)?);
-        Ok(Path::of_normal(alloc, text)?)
+        Ok(Path::of_normal(text))
     }
 
     /// The path that a text in normal form is.
-    fn of_normal(alloc: Global, text: Text) -> Result<Path, OutOfMemory>
+    fn of_normal(text: Text) -> Path
         requires { IsNormal text }
-        ensures { IfOk result (λ path. path ≡ text) }
+        ensures { result ≡ text }
     {
-        let text = Rc::new(alloc, text)?;
-        Ok(Path { text })
+        Path { text }
     }
 
     /// The path with exactly this text, which it takes over. Answers None exactly where the text is not in normal form. Reads
-    /// the text once, and takes memory for its shared count alone.
-    pub fn from_text(alloc: Global, text: Text) -> Result<Option<Path>, OutOfMemory>
+    /// the text once, and takes no memory.
+    pub fn from_text(_alloc: Global, text: Text) -> Result<Option<Path>, OutOfMemory>
         ensures exact { IfOk result (λ found. IfSome found (λ path. path ≡ text)) }
         ensures normal { IfOk result (λ found. IsSome found ↔ IsNormal text) }
     {
         if is_normal(text.as_str()) {
-            Ok(Some(Path::of_normal(alloc, text)?))
+            Ok(Some(Path::of_normal(text)))
         } else {
             Ok(None)
         }
     }
 
-    /// The same path again, whose text is shared; takes no memory.
+    /// The same path again, as the copy of its text is.
     pub fn copy(&self) -> Result<Path, OutOfMemory>
         ensures { IfOk result (λ made. made ≡ self.now) }
     {
-        let text = self.text.clone()?;
+        let text = self.text.copy()?;
         Ok(Path { text })
     }
 

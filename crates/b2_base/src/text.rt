@@ -5,34 +5,37 @@ ghost use Rattle.std.specs.Str.{bytes_eq};
 ghost use Rattle.b2_base.specs.Bytes.{HasNoZero};
 
 use crate::fault::OutOfMemory;
+use crate::held::Held;
 use std::alloc::Global;
 use std::cmp::Ordering;
+use std::fmt;
 use std::marker::Model;
 
 /// Owned text with no zero byte, seen as its bytes in UTF-8. Two texts are equal where their bytes are, and they are
-/// ordered byte by byte, a text before those that it begins.
-#[derive(Debug)]
+/// ordered byte by byte, a text before those that it begins. A short text takes no memory of its own, and the copies of a
+/// long one share it.
 pub struct Text {
-    text: String,
+    held: Held,
 }
 
 /// By hand, so that dropping one is one call.
 impl Drop for Text {
     fn drop(self) {
-        let Text { text } = self;
-        drop(text);
+        let Text { held } = self;
+        drop(held);
     }
 }
 
 impl Model for Text {
-    ghost use Rattle.std.specs.Prelude.{ℕ, List, string_bytes};
+    ghost use Rattle.std.specs.Prelude.{ℕ, List};
     ghost use Rattle.b2_base.specs.Bytes.{HasNoZero};
+    ghost use Rattle.b2_base.specs.Helds.{held_bytes};
 
     ghost Value = { List ℕ };
 
-    ghost view = { λ t. string_bytes t.text };
+    ghost view = { λ t. held_bytes t.held };
 
-    ghost invariant = { λ t. HasNoZero (string_bytes t.text) };
+    ghost invariant = { λ t. HasNoZero (held_bytes t.held) };
 }
 
 /// Whether no byte is zero, which is asked of each text that is made. Takes no memory.
@@ -58,16 +61,18 @@ impl Text {
         requires { HasNoZero text.now }
         ensures { IfOk result (λ made. made ≡ text.now) }
     {
-        let text = String::from_str(alloc, text)?;
-        Ok(Text { text })
+        let held = Held::new(alloc, text)?;
+        Ok(Text { held })
     }
 
-    /// Owns the text itself, which has no zero byte; takes no memory.
+    /// Owns the text itself, which has no zero byte. Where there is no memory to share it, it stays alone.
     pub fn from_string(text: String) -> Text
         requires { HasNoZero (string_bytes text) }
         ensures { result ≡ string_bytes text }
     {
-        Text { text }
+        Text {
+            held: Held::from_string(text),
+        }
     }
 
     /// The text as a `str`.
@@ -75,15 +80,21 @@ impl Text {
         ensures value { result.now ≡ self.now }
         ensures no_zero { HasNoZero self.now }
     {
-        self.text.as_str()
+        self.held.as_str()
     }
 
-    /// The same text again.
+    /// The same text again. Takes memory only where there was none to share it.
     pub fn copy(&self) -> Result<Text, OutOfMemory>
         ensures { IfOk result (λ made. made ≡ self.now) }
     {
-        let text = self.text.clone()?;
-        Ok(Text { text })
+        let held = self.held.copy()?;
+        Ok(Text { held })
+    }
+}
+
+impl fmt::Debug for Text {
+    fn fmt<W: fmt::Write>(&self, f: &mut fmt::Formatter<W>) -> fmt::Result {
+        fmt::Debug::fmt(&self.as_str(), f)
     }
 }
 
