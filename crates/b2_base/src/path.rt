@@ -65,13 +65,26 @@ impl Model for Path {
     ghost invariant = { λ p. IsNormal p.text };
 }
 
-fn normal_text(alloc: Global, text: &str) -> Result<String, OutOfMemory>
+/// The normal form of a text, from its segments.
+fn simplified(alloc: Global, text: &str) -> Result<String, OutOfMemory>
     ensures { IfOk result (λ made. string_bytes made ≡ normal_of text.now) }
 {
     let rooted = is_rooted(text);
     let cuts = cut(alloc, text)?;
     let kept = keep(alloc, rooted, cuts.as_slice())?;
     join(alloc, rooted, kept.as_slice())
+}
+
+/// The normal form of a text. Most texts are in normal form, and their segments are not cut.
+fn normal_text(alloc: Global, text: &str) -> Result<Text, OutOfMemory>
+    requires { HasNoZero text.now }
+    ensures { IfOk result (λ made. made ≡ normal_of text.now) }
+{
+    if is_normal(text) {
+        return Text::new(alloc, text);
+    }
+    let text = simplified(alloc, text)?;
+    Ok(Text::from_string(text))
 }
 
 /// The path of a text that is not empty.
@@ -152,7 +165,7 @@ impl Path {
         if !has_no_zero(text) {
             return Err(PathFault::Nul);
         }
-        let text = Text::from_string(normal_text(alloc, text)?);
+        let text = normal_text(alloc, text)?;
         Ok(Path::of_normal(text))
     }
 
