@@ -55,6 +55,14 @@ impl<T: Drop> List<T> {
         values
     }
 
+    /// Makes room for so many values more, which are then added without memory.
+    pub fn reserve(&mut self, more: usize) -> Result<(), OutOfMemory>
+        ensures { self.new ≡ self.old }
+    {
+        self.values.reserve(more)?;
+        Ok(())
+    }
+
     /// Adds a value at the end. After an error the list is as before. A list of one value has room for one: most stay so.
     pub fn push(&mut self, value: T) -> Result<(), OutOfMemory>
         ensures ok { OnOk result (self.new ≡ self.old ++ value ∷ []) }

@@ -82,6 +82,7 @@ pub fn owned_texts(alloc: Global, words: &[&str]) -> Result<TextList, OutOfMemor
 pub fn push_copies(made: &mut TextList, texts: &[Text]) -> Result<(), OutOfMemory>
     ensures { OnOk result (made.new ≡ made.old ++ texts.now) }
 {
+    made.reserve(texts.len())?;
     for text in texts {
         made.push(text.copy()?)?;
     }

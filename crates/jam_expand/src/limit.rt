@@ -4,6 +4,7 @@ ghost use Rattle.b2_base.specs.declared.expand_fault.ExpandFault.TheVariants as 
 ghost use Rattle.jam_expand.specs.Limits.{limit, within, IsGivenBy, IsLeftBy};
 
 use b2_base::expand_fault::ExpandFault;
+use b2_base::fault::OutOfMemory;
 use b2_base::text::Text;
 use b2_base::text_list::TextList;
 use std::alloc::Global;
@@ -60,6 +61,13 @@ impl Gathered {
             texts: TextList::new(alloc),
             sum: 0,
         }
+    }
+
+    /// Makes room for so many texts more, which are then added without memory.
+    pub fn reserve(&mut self, more: usize) -> Result<(), OutOfMemory>
+        ensures { self.new ≡ self.old }
+    {
+        self.texts.reserve(more)
     }
 
     /// Adds a text, unless the list is too large with it; after an error the list is as before.

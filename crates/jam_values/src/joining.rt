@@ -13,6 +13,7 @@ pub fn join(gathered: &mut Gathered, texts: &[Text]) -> Result<(), ExpandFault>
     ensures ok { OnOk result (gathered.new ≡ gathered.old ++ texts.now) }
 {
     let _small = gathered.as_slice();
+    gathered.reserve(texts.len())?;
     for text in texts {
         gathered.push(text.copy()?)?;
     }
