@@ -1,6 +1,8 @@
 -- Usage requirements give pairs where their conditions are met, and those of a level yield to the levels below it.
-use Rattle.std.proofs.Common.{◌≡◌, ℕ, ◌+◌, ◌<◌, Bool, true, false, cond, not, ◌||◌, List, [], ◌∷◌, ◌++◌, take, drop, get_or, length, refl, sym, ◌∙◌, ap, ap₂}
+use Rattle.std.proofs.Common.{◌≡◌, ◌==◌, ℕ, ◌+◌, ◌<◌, Bool, true, false, cond, not, ◌&&◌, ◌||◌, List, [], ◌∷◌, ◌++◌, map, take, drop, get_or, length, refl, sym, ◌∙◌, ap, ap₂}
+use Rattle.std.specs.Borrow.{Bor}
 use Rattle.std.specs.List.{filter, flat_map, list_all}
+use Rattle.std.proofs.lemmas.Bool.{false≢true}
 use Rattle.std.proofs.lemmas.List.{append-nil, at_drop_more}
 use Rattle.std.proofs.lemmas.List.Concat.{flat_map-append, flat_map-cons}
 use Rattle.std.proofs.lemmas.List.Elements.{filter_agree}
@@ -16,7 +18,12 @@ use Rattle.b2_props.specs.declared.requirement.Requirement.TheVariants.{Plain}
 use Rattle.b2_props.proofs.IndexTellsWhichAreThere.{index_all}
 use Rattle.b2_props.proofs.CompletionGrowsPairByPair.{names-append}
 use Rattle.b2_props.proofs.DraftHoldsEachGainedPair.{next_take}
-use Rattle.b2_alternatives.specs.Usage.{usage_pairs, usage_in, yielding}
+use Rattle.b2_metatargets.specs.declared.place.Place.{Place}
+use Rattle.b2_metatargets.specs.declared.place.Target.{Target}
+use Rattle.b2_metatargets.specs.declared.whole.Declared.{Declared as Whole}
+use Rattle.b2_references.specs.Names.{features, lineage}
+use Rattle.b2_alternatives.specs.Usage.{usage_pairs, usage_in, yielding, own_levels, own_usage}
+use Rattle.b2_alternatives.proofs.MapsComposeAndGrow.{map_after}
 
 -- one usage requirement more
 pub usage_next : (set : List Pair) (xs : List Requirement) (i : ℕ) (x : Requirement) → i < length xs → x ≡ get_or xs i x → usage_in set (take (i + 1) xs) ≡ usage_in set (take i xs) ++ usage_pairs set x
@@ -72,3 +79,35 @@ module _ (table : List Declared) (levels : List (List Pair)) (place i : ℕ) (x 
       ∙ sym (names-append x (flat_map (λ (pairs : List Pair). pairs) (drop place levels)) q)
       ∙ sym (ap (λ (ps : List Pair). names ps q) (flat_map-cons (λ (pairs : List Pair). pairs) x (drop place levels)))
       ∙ sym (cut (λ (ls : List (List Pair)). names (flat_map (λ (pairs : List Pair). pairs) ls) q))
+
+-- ---- the levels of a main target
+
+-- the levels that are made over what references point to are those of the definition
+pub levels_are : (d : Whole) (t : Target) (set : List Pair) (items places : List (Bor Place)) → places ≡ items → map (λ p. p.now) items ≡ lineage d t.project
+    → map (λ p. usage_in set p.now.usage) places ++ usage_in set t.usage ∷ [] ≡ own_levels d t set
+levels_are d t set items places same are =
+    ap (λ (ls : List (List Pair)). ls ++ usage_in set t.usage ∷ [])
+    (ap (map (λ (p : Bor Place). usage_in set p.now.usage)) same ∙ map_after (λ (p : Place). usage_in set p.usage) (λ (p : Bor Place). p.now) items ∙ ap (map (λ (p : Place). usage_in set p.usage)) are)
+
+both_so : (a b : Bool) → (a && b) ≡ true → (a ≡ true) × (b ≡ true)
+both_so true b e = (refl, e)
+both_so false b e = absurd (false≢true e)
+
+no_usage : (set : List Pair) (usage : List Requirement) → (length usage == 0) ≡ true → usage_in set usage ≡ []
+no_usage set [] e = refl
+no_usage set (r ∷ usage) e = absurd (false≢true e)
+
+-- levels without usage requirements give nothing
+nothing_yields : (table : List Declared) (set : List Pair) (places : List (Bor Place)) (own : List Requirement) → (length own == 0) ≡ true → list_all (λ p. length p.now.usage == 0) places ≡ true
+    → yielding table (map (λ p. usage_in set p.now.usage) places ++ usage_in set own ∷ []) ≡ []
+nothing_yields table set [] own none all = ap (λ (level : List Pair). yielding table (level ∷ [])) (no_usage set own none)
+nothing_yields table set (p ∷ places) own none all =
+    let both = both_so (length p.now.usage == 0) (list_all (λ (q : Bor Place). length q.now.usage == 0) places) all in
+    ap (λ (level : List Pair). yielding table (level ∷ (map (λ (q : Bor Place). usage_in set q.now.usage) places ++ usage_in set own ∷ []))) (no_usage set p.now.usage both.0)
+    ∙ nothing_yields table set places own none both.1
+
+pub nothing_asked : (d : Whole) (t : Target) (set : List Pair) (items places : List (Bor Place)) → places ≡ items → map (λ p. p.now) items ≡ lineage d t.project
+    → (length t.usage == 0 && list_all (λ p. length p.now.usage == 0) places) ≡ true → own_usage d t set ≡ []
+nothing_asked d t set items places same are none =
+    let both = both_so (length t.usage == 0) (list_all (λ (p : Bor Place). length p.now.usage == 0) places) none in
+    ap (yielding (features d)) (sym (levels_are d t set items places same are)) ∙ nothing_yields (features d) set places t.usage both.0 both.1

@@ -1,6 +1,6 @@
 -- What is kept while what a main target depends on is generated.
-use Rattle.std.specs.Prelude.{◌≡◌, ℕ, ◌≤◌, ◌==◌, Bool, true, false, not, List, [], ◌++◌, Option, Some, None, is_some, unwrap_or, take, length}
-use Rattle.std.specs.List.{list_any, list_all}
+use Rattle.std.specs.Prelude.{◌≡◌, ℕ, ◌≤◌, Bool, true, false, not, List, [], ◌++◌, Option, Some, None, is_some, take, length}
+use Rattle.std.specs.List.{list_all}
 use Rattle.std.specs.FinMap as map
 use Rattle.b2_props.specs.Sets.{Pair, IsSet, value_of}
 use Rattle.b2_props.specs.Refinement.{refined}
@@ -20,13 +20,9 @@ use Rattle.b2_alternatives.specs.declared.dependencies.Dependencies.{Dependencie
 
 -- ---- names
 
--- the projects that are kept under a name
-abbrev pub projects_of : KnownNames → List ℕ → List ℕ
-projects_of known name = unwrap_or (map.get known.projects name) []
-
--- whether a main target is known: its project is among those that are kept under its name
+-- whether a main target is known
 abbrev pub is_known : KnownNames → Name → Bool
-is_known known name = list_any (λ project. name.0 == project) (projects_of known name.1)
+is_known known name = is_among known.names.keys name
 
 -- the names of a list are known, and no others
 pub record AreKnown (names : List Name) (index : KnownNames) : Type 0 where

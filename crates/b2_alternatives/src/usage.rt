@@ -1,11 +1,12 @@
 //! What a main target asks of those that use it.
-ghost use Rattle.std.specs.Prelude.{◌≡◌, ◌++◌, ◌||◌, List, not, filter, is_some, map, OnOk, IfOk};
+ghost use Rattle.std.specs.Prelude.{◌≡◌, ◌==◌, ◌++◌, ◌∷◌, [], ◌&&◌, ◌||◌, List, length, not, filter, is_some, map, OnOk, IfOk};
+ghost use Rattle.std.specs.List.{list_all};
 ghost use Rattle.std.specs.FinMap as map;
 ghost use Rattle.b2_features.specs.declared.attribute.Attribute.TheVariants.{Free};
 ghost use Rattle.b2_features.specs.Faults.{is_with};
 ghost use Rattle.b2_props.specs.Sets.{Pair};
 ghost use Rattle.b2_props.specs.Indexing.{IsIndexOf};
-ghost use Rattle.b2_alternatives.specs.Usage.{usage_pairs, usage_in, yielding, own_levels, own_usage, passed_usage};
+ghost use Rattle.b2_alternatives.specs.Usage.{usage_pairs, usage_in, yielding, own_usage, passed_usage};
 
 use b2_base::fault::OutOfMemory;
 use b2_base::list::List;
@@ -114,24 +115,45 @@ fn yielding(
     Ok(made)
 }
 
-/// What the usage requirements of an alternative give in a set: those of its projects, from Jamroot down, then its own.
-fn own_levels(
+/// What the usage requirements of some projects give in a set, project by project, then those of an alternative.
+fn levels_with(
     alloc: Global,
-    index: &Index<'_>,
+    places: &[&Place],
     target: &Target,
     set: &Props,
 ) -> Result<List<PairList>, OutOfMemory>
-    ensures { IfOk result (λ made. made ≡ own_levels index.now target.now set.now) }
+    ensures { IfOk result (λ made. made ≡ map (λ p. usage_in set.now p.now.usage) places.now ++ usage_in set.now target.now.usage ∷ []) }
 {
     let known = PairIndex::new(alloc, set.pairs())?;
-    let places = index.lineage(target.project)?;
-    let mut made = levels(alloc, &known, places.as_slice())?;
+    let mut made = levels(alloc, &known, places)?;
     made.push(usage_in(alloc, &known, target.usage.as_slice())?)?;
     Ok(made)
 }
 
+/// Whether a project has no usage requirements; takes no memory.
+fn asks_nothing(place: &Place) -> bool
+    ensures { result ≡ (length place.now.usage == 0) }
+{
+    place.usage.as_slice().is_empty()
+}
+
+/// Whether none of some projects has usage requirements; takes no memory.
+fn ask_nothing(places: &[&Place]) -> bool
+    ensures { result ≡ list_all (λ p. length p.now.usage == 0) places.now }
+{
+    places.iter().all(|place| asks_nothing(place))
+}
+
+/// Whether neither an alternative nor one of some projects has usage requirements; takes no memory.
+fn none_asks(places: &[&Place], target: &Target) -> bool
+    ensures { result ≡ (length target.now.usage == 0 && list_all (λ p. length p.now.usage == 0) places.now) }
+{
+    target.usage.as_slice().is_empty() && ask_nothing(places)
+}
+
 /// The usage requirements of a main target itself, judged in its set: those of its projects, from Jamroot down, then its own.
-/// A project's value of a feature that is not free yields to one that a project below it or the target gives.
+/// A project's value of a feature that is not free yields to one that a project below it or the target gives. Where none of them
+/// has any, the set is not looked at.
 pub fn own_usage(
     alloc: Global,
     index: &Index<'_>,
@@ -140,7 +162,11 @@ pub fn own_usage(
 ) -> Result<PairList, OutOfMemory>
     ensures { IfOk result (λ made. made ≡ own_usage index.now target.now set.now) }
 {
-    let levels = own_levels(alloc, index, target, set)?;
+    let places = index.lineage(target.project)?;
+    if none_asks(places.as_slice(), target) {
+        return Ok(PairList::new(alloc));
+    }
+    let levels = levels_with(alloc, places.as_slice(), target, set)?;
     yielding(alloc, &index.declared().registry, levels.as_slice())
 }
 
