@@ -1,8 +1,8 @@
 -- Usage requirements give pairs where their conditions are met, and those of a level yield to the levels below it.
-use Rattle.std.proofs.Common.{◌≡◌, ◌==◌, ℕ, ◌+◌, ◌<◌, Bool, true, false, cond, not, ◌&&◌, ◌||◌, List, [], ◌∷◌, ◌++◌, map, take, drop, get_or, length, refl, sym, ◌∙◌, ap, ap₂}
+use Rattle.std.proofs.Common.{arith, ◌≡◌, ◌==◌, ℕ, ◌+◌, ◌<◌, Bool, true, false, cond, not, ◌&&◌, ◌||◌, List, [], ◌∷◌, ◌++◌, map, take, drop, get_or, length, refl, sym, ◌∙◌, ap, ap₂}
 use Rattle.std.specs.Borrow.{Bor}
 use Rattle.std.specs.List.{filter, flat_map, list_all}
-use Rattle.std.proofs.lemmas.Bool.{false≢true}
+use Rattle.std.proofs.lemmas.Bool.{false≢true, eqb-true}
 use Rattle.std.proofs.lemmas.List.{append-nil, at_drop_more}
 use Rattle.std.proofs.lemmas.List.Concat.{flat_map-append, flat_map-cons}
 use Rattle.std.proofs.lemmas.List.Elements.{filter_agree}
@@ -95,7 +95,7 @@ both_so false b e = absurd (false≢true e)
 
 no_usage : (set : List Pair) (usage : List Requirement) → (length usage == 0) ≡ true → usage_in set usage ≡ []
 no_usage set [] e = refl
-no_usage set (r ∷ usage) e = absurd (false≢true e)
+no_usage set (r ∷ usage) e = absurd (omega (arith, eqb-true (length (r ∷ usage)) 0 e))
 
 -- levels without usage requirements give nothing
 nothing_yields : (table : List Declared) (set : List Pair) (places : List (Bor Place)) (own : List Requirement) → (length own == 0) ≡ true → list_all (λ p. length p.now.usage == 0) places ≡ true

@@ -8,7 +8,7 @@ use b2_references::name::TargetName;
 use indexmap::IndexSet;
 use std::alloc::Global;
 
-/// Names of main targets. A look-up takes no more time where there are more names.
+/// Names of main targets, which are looked up by a hash.
 pub struct KnownNames {
     names: IndexSet<TargetName>,
 }

@@ -6,6 +6,7 @@ mod TargetHasOneOutcome
 pub mod OlderNodesStay
 mod NodesAreGivenAgain
 mod MapHasWhatEntriesHave
+mod HashedNamesAreFound
 mod NewNodeKeepsOpenTargets
 mod NodeIsTakenOrClashes
 mod SuppliesAreThoseDefined

@@ -20,7 +20,8 @@ then_eq Less s = refl
 then_eq Equal s = refl
 then_eq Greater s = refl
 
-names_tied : (a b : Name) → eq_by_cmp name_cmp a b ≡ is_same a b
+-- the order ties those that are the same
+pub names_tied : (a b : Name) → eq_by_cmp name_cmp a b ≡ is_same a b
 names_tied a b = then_eq (nat_cmp a.0 b.0) (slice_cmp nat_cmp a.1 b.1) ∙ ap₂ ◌&&◌ (unsigned_tied a.0 b.0) (is_eq-slice_cmp a.1 b.1)
 
 pub reflexive : (a : Name) → is_same a a ≡ true

@@ -18,7 +18,7 @@ use Rattle.b2_conversions.specs.declared.fault.MakingFault.TheVariants.{NoChain,
 use Rattle.b2_generate.specs.Faults.{not_made}
 use Rattle.b2_generate.specs.Generation.{site, Finishes}
 use Rattle.b2_generate.specs.Loaded.{Loaded, context}
-use Rattle.b2_generate.specs.Making.{AreSupplied, IsHome, given_of}
+use Rattle.b2_generate.specs.Making.{AreSupplied, IsHome, given_of, sources_in}
 use Rattle.b2_generate.specs.Standing.{Standing}
 use Rattle.b2_generate.specs.Supplies.{final_set}
 use Rattle.b2_generate.specs.Told.{loaded_of, unless, IfFault, IsRefusal}
@@ -30,8 +30,8 @@ pub grows_none : (roots : List (List ℕ)) (steps : List Step) → Grows roots s
 grows_none roots steps = record { more = []; joined = sym (append-nil steps); housed = record {} }
 
 -- the target as the code hands it over
-abbrev pub site_with : Chosen → Home → Supplied → Site
-site_with c home given = record {
+abbrev pub site_with : Chosen → Home → List Supply → List Supply → List (List ℕ) → List Pair → Site
+site_with c home sources parts order set = record {
   kind = c.target.kind;
   name = c.target.name;
   rule = c.target.rule;
@@ -39,13 +39,14 @@ site_with c home given = record {
   dir = home.dir.now;
   owner = home.owner.now;
   file = home.file.now;
-  set = given.set;
-  sources = given.sources;
-  parts = given.parts;
-  order = given.order;
+  set = set;
+  sources = sources;
+  parts = parts;
+  order = order;
 }
 
-pub site_is : {E : Type 0} (l : Loaded E) (c : Chosen) (s : Standing) (home : Home) (given : Supplied) → IsHome l.declared c.target.project home → AreSupplied l.declared c s given → site_with c home given ≡ site l c s
+pub site_is : {E : Type 0} (l : Loaded E) (c : Chosen) (s : Standing) (home : Home) (given : Supplied) → IsHome l.declared c.target.project home → AreSupplied l.declared c s given
+    → site_with c home (sources_in given) given.parts given.order given.set ≡ site l c s
 site_is l c s home given at are = λ i. record {
   kind = c.target.kind;
   name = c.target.name;
@@ -99,9 +100,9 @@ finishes l c s before after supply usage set h final used = record {
 
 -- the steps of the code's setting and site are those of the definition
 pub acts_are : {E : Type 0} (d0 d : Declared) (roots : List (List ℕ)) (told : Answers E) (c : Chosen) (s : Standing) (home : Home) (given : Supplied) (sources parts : List Supply) (order : List (List ℕ))
-    → d0 ≡ d → IsHome d c.target.project home → AreSupplied d c s given → sources ≡ given.sources → parts ≡ given.parts → order ≡ given.order
-    → makes (context (loaded_of d0 roots told)) (site_with c home (record { sources = sources; parts = parts; order = order; set = given.set })) ≡ makes (context (loaded_of d roots told)) (site (loaded_of d roots told) c s)
+    → d0 ≡ d → IsHome d c.target.project home → AreSupplied d c s given → sources ≡ sources_in given → parts ≡ given.parts → order ≡ given.order
+    → makes (context (loaded_of d0 roots told)) (site_with c home sources parts order given.set) ≡ makes (context (loaded_of d roots told)) (site (loaded_of d roots told) c s)
 acts_are d0 d roots told c s home given sources parts order same at are first second third =
-    ap (λ (k : Declared). makes (context (loaded_of k roots told)) (site_with c home (record { sources = sources; parts = parts; order = order; set = given.set }))) same
+    ap (λ (k : Declared). makes (context (loaded_of k roots told)) (site_with c home sources parts order given.set)) same
     ∙ ap (λ (t : Site). makes (context (loaded_of d roots told)) t)
-    (ap (site_with c home) (λ i. record { sources = first i; parts = second i; order = third i; set = given.set }) ∙ site_is (loaded_of d roots told) c s home given at are)
+    ((λ i. site_with c home (first i) (second i) (third i) given.set) ∙ site_is (loaded_of d roots told) c s home given at are)

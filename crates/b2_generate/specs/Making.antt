@@ -1,5 +1,5 @@
 -- What an open main target gives, once nothing more is due.
-use Rattle.std.specs.Prelude.{◌≡◌, ◌≤◌, ℕ, List, [], ◌∷◌, Some, Result, Ok, Err, IfOk, IfErr, map, slice_get, codes}
+use Rattle.std.specs.Prelude.{◌≡◌, ◌≤◌, ℕ, List, [], ◌∷◌, Option, Some, Result, Ok, Err, IfOk, IfErr, map, slice_get, codes, unwrap_or}
 use Rattle.std.specs.List.{AllByRecursion, flat_map}
 use Rattle.std.specs.Option.{option_map_or}
 use Rattle.b2_plan.specs.declared.step.Step.{Step}
@@ -27,10 +27,20 @@ use Rattle.b2_generate.specs.declared.node.Node.{Node}
 use Rattle.b2_generate.specs.declared.making.Supplied.{Supplied}
 use Rattle.b2_generate.specs.declared.making.Home.{Home}
 use Rattle.b2_generate.specs.declared.making.Made.{Made}
+use Rattle.b2_generate.specs.declared.supplies.Wanted.{Wanted}
+use Rattle.b2_generate.specs.declared.supplies.Wanted.TheVariants.{Sources, Parts}
+
+-- what the sources supply: what all parts do, where it is not kept apart
+abbrev pub sources_in : Supplied → List Supply
+sources_in made = unwrap_or made.apart made.parts
+
+-- What the sources supply stands apart where it may not be what all parts do.
+abbrev pub IsApart : (Wanted → List Supply) → Option (List Supply) → Type 0
+IsApart given apart = unwrap_or apart (given Parts) ≡ given Sources
 
 -- what is supplied to a main target, and the final set of its properties
 pub record AreSupplied (d : Declared) (c : Chosen) (s : Standing) (made : Supplied) : Type 0 where
-  pub sources : made.sources ≡ supplied_by d is_source c s
+  pub sources : sources_in made ≡ supplied_by d is_source c s
   pub parts : made.parts ≡ supplied_by d is_part c s
   pub order : made.order ≡ map (λ e. e.path) (entries_of (supplied_by d is_order c s))
   pub set : made.set ≡ final_set d c s

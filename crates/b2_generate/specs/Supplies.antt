@@ -22,6 +22,11 @@ is_source Source = true
 is_source Library = false
 is_source Order = false
 
+abbrev pub is_library : Way → Bool
+is_library Source = false
+is_library Library = true
+is_library Order = false
+
 abbrev pub is_order : Way → Bool
 is_order Source = false
 is_order Library = false

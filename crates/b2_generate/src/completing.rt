@@ -72,7 +72,7 @@ pub(crate) fn note_first(
     ensures first { IfOk result (λ first. first ≡ unwrap_or (finite.get firsts.old name.now) place) }
     ensures firsts { OnOk result ((other : Name) → finite.get firsts.new other ≡ option_or (finite.get firsts.old other) (if is_same other name.now then Some place else None)) }
 {
-    match firsts.get(name)?.copied() {
+    match firsts.get(name).copied() {
         Some(first) => Ok(first),
         None => {
             firsts.insert(name, place)?;
@@ -135,7 +135,7 @@ fn note_newest(
     name: &TargetName,
     place: usize,
 ) -> Result<Option<usize>, OutOfMemory> {
-    let previous = newest.get(name)?.copied();
+    let previous = newest.get(name).copied();
     newest.insert(name, place)?;
     Ok(previous)
 }

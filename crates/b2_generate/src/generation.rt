@@ -37,13 +37,13 @@ pub struct Generation<'a, E: Evaluate + Drop> {
 }
 
 /// The place at which an open main target was generated first, or the earliest one of those below it, where that is smaller.
-fn earliest_for(nodes: &Nodes, below: usize, name: &TargetName) -> Result<usize, OutOfMemory>
-    ensures from { IfOk result (λ found. IsFrom found (finite.get nodes.now.firsts name.now)) }
-    ensures below { IfOk result (λ found. found ≤ below) }
+fn earliest_for(nodes: &Nodes, below: usize, name: &TargetName) -> usize
+    ensures from { IsFrom result (finite.get nodes.now.firsts name.now) }
+    ensures below { result ≤ below }
 {
-    match nodes.firsts.get(name)?.copied() {
-        Some(first) if first < below => Ok(first),
-        _ => Ok(below),
+    match nodes.firsts.get(name).copied() {
+        Some(first) if first < below => first,
+        _ => below,
     }
 }
 
@@ -61,7 +61,7 @@ fn remembered(
     ensures asked { IfOk result (λ found. IfSome found (λ place. IsAskedAt (reverse nodes.now.list.items) place name.now asked.now)) }
     ensures clear { IfOk result (λ found. IfSome found (IsClear (names_of (frames stack.now)) (reverse nodes.now.list.items))) }
 {
-    match find(nodes.list.as_slice(), &nodes.newest, name, asked)? {
+    match find(nodes.list.as_slice(), &nodes.newest, name, asked) {
         None => Ok(None),
         Some(place) => {
             if is_clear(alloc, nodes.list.as_slice(), stack, place)? {
@@ -95,7 +95,7 @@ impl<'a, E: Evaluate + Drop> Generation<'a, E> {
                 targets: cycle(alloc, self.asker.index, stack, &name)?,
             });
         }
-        let earliest = earliest_for(&self.nodes, stack.newest.earliest, &name)?;
+        let earliest = earliest_for(&self.nodes, stack.newest.earliest, &name);
         let frame = begin(&mut self.asker, name, asked, earliest)?;
         stack.open(frame)?;
         Ok(None)
@@ -187,7 +187,7 @@ impl<'a, E: Evaluate + Drop> Generation<'a, E> {
         ensures project { self.new.asker.index.now ≡ self.old.asker.index.now }
         ensures roots { self.new.roots.now ≡ self.old.roots.now }
     {
-        let earliest = earliest_for(&self.nodes, usize::MAX, &name)?;
+        let earliest = earliest_for(&self.nodes, usize::MAX, &name);
         let oldest = begin(&mut self.asker, name, asked, earliest)?;
         let mut stack = Stack::new(self.asker.alloc, oldest);
         'turns: loop {

@@ -1,5 +1,6 @@
 //! What an open main target gives, once nothing more is due.
-ghost use Rattle.std.specs.Prelude.{◌≡◌, ◌++◌, [], map, reverse, IfOk, OnOk};
+ghost use Rattle.std.specs.Prelude.{◌≡◌, ◌++◌, ◌||◌, [], map, reverse, IfOk, OnOk};
+ghost use Rattle.std.specs.List.{list_any};
 ghost use Rattle.b2_props.specs.Sets.{IsSet};
 ghost use Rattle.b2_props.specs.Refinement.{refined};
 ghost use Rattle.b2_references.specs.Names.{dir_of, features};
@@ -7,15 +8,16 @@ ghost use Rattle.b2_alternatives.specs.Usage.{own_usage, passed_usage};
 ghost use Rattle.b2_conversions.specs.Answers.{Grows};
 ghost use Rattle.b2_virtual.specs.Supplies.{entries_of, header_directories};
 ghost use Rattle.b2_generate.specs.Gathering.{supplied_to};
+ghost use Rattle.b2_generate.specs.Supplies.{is_library};
 ghost use Rattle.b2_generate.specs.Machine.{IsKept, HasPlaces, standing_of};
 ghost use Rattle.b2_generate.specs.declared.supplies.Wanted.TheVariants.{Order};
-ghost use Rattle.b2_generate.specs.Making.{AreSupplied, IsHome, chosen_of, StepsAreMade, IsFinished, IsUnfinished};
+ghost use Rattle.b2_generate.specs.Making.{AreSupplied, IsApart, IsHome, sources_in, chosen_of, StepsAreMade, IsFinished, IsUnfinished};
 ghost use Rattle.b2_generate.specs.Told.{Leaves};
 
 use crate::fault::GenFault;
 use crate::frame::Frame;
 use crate::node::Node;
-use crate::supplies::{Wanted, supplied};
+use crate::supplies::{Wanted, has_library, supplied};
 use b2_alternatives::usage::{own_usage, passed_usage};
 use b2_base::fault::OutOfMemory;
 use b2_base::list::List;
@@ -40,10 +42,23 @@ use std::alloc::Global;
 /// What is supplied to a main target, and the final set of its properties.
 #[derive(Drop)]
 struct Supplied {
-    sources: List<Supply>,
+    /// What the sources supply, where that is not what all parts do.
+    apart: Option<List<Supply>>,
     parts: List<Supply>,
     order: PathList,
     set: Props,
+}
+
+impl Supplied {
+    /// What the sources supply; takes no memory.
+    fn sources(&self) -> &[Supply]
+        ensures { result.now ≡ sources_in self.now }
+    {
+        match &self.apart {
+            Some(sources) => sources.as_slice(),
+            None => self.parts.as_slice(),
+        }
+    }
 }
 
 /// What a main target gives: the final set of its properties, its files and carried libraries, and its usage requirements.
@@ -99,6 +114,34 @@ pub fn push_paths(paths: &mut PathList, entries: &[Entry]) -> Result<(), OutOfMe
     Ok(())
 }
 
+/// The directories of the headers that were made for a main target.
+fn directories_of(alloc: Global, parts: &[Supply]) -> Result<PairList, OutOfMemory>
+    ensures { IfOk result (λ made. made ≡ header_directories (entries_of parts.now)) }
+{
+    let mut made = PairList::new(alloc);
+    for part in parts {
+        made.append(header_directories(alloc, part.entries.as_slice())?)?;
+    }
+    Ok(made)
+}
+
+/// A set refined by required pairs. It stays as it is where there are none.
+fn refined_set(
+    alloc: Global,
+    index: &Index<'_>,
+    set: &Props,
+    required: &[(Text, Text)],
+) -> Result<Props, OutOfMemory>
+    requires { IsSet (features index.now) set.now }
+    ensures value { IfOk result (λ made. made ≡ refined (features index.now) set.now required.now) }
+    ensures set { IfOk result (IsSet (features index.now)) }
+{
+    if required.is_empty() {
+        return set.copy(alloc);
+    }
+    refine(alloc, &index.declared().registry, set, required)
+}
+
 /// The set of a main target with the directories of the headers that were made for it.
 fn final_set(
     alloc: Global,
@@ -110,14 +153,8 @@ fn final_set(
     ensures value { IfOk result (λ made. made ≡ refined (features index.now) set.now (header_directories (entries_of parts.now))) }
     ensures set { IfOk result (IsSet (features index.now)) }
 {
-    let entries = entries_of(alloc, parts)?;
-    let directories = header_directories(alloc, entries.as_slice())?;
-    refine(
-        alloc,
-        &index.declared().registry,
-        set,
-        directories.as_slice(),
-    )
+    let directories = directories_of(alloc, parts)?;
+    refined_set(alloc, index, set, directories.as_slice())
 }
 
 /// The paths of what is to be there before each step of an open main target.
@@ -137,6 +174,30 @@ fn order_of(
     Ok(paths)
 }
 
+/// Whether an open main target needs a library; takes no memory.
+fn needs_library(frame: &Frame<'_>) -> bool
+    ensures { result ≡ (list_any (λ n. is_library n.way) frame.now.needs.sources.needs || list_any (λ n. is_library n.way) frame.now.needs.properties.needs) }
+{
+    has_library(frame.needs.sources()) || has_library(frame.needs.properties())
+}
+
+/// What the sources supply to an open main target, where a library is needed; else it is what all parts do.
+fn supplied_apart(
+    alloc: Global,
+    types: &Types,
+    nodes: &[Node],
+    frame: &Frame<'_>,
+) -> Result<Option<List<Supply>>, OutOfMemory>
+    requires { HasPlaces (reverse nodes.now) frame.now.done frame.now.places }
+    ensures { IfOk result (IsApart (supplied_to types.now.types (reverse nodes.now) frame.now)) }
+{
+    if needs_library(frame) {
+        Ok(Some(supplied(alloc, types, nodes, frame, Wanted::Sources)?))
+    } else {
+        Ok(None)
+    }
+}
+
 /// What the needs of an open main target supply to it.
 fn supplies_of(
     alloc: Global,
@@ -148,12 +209,12 @@ fn supplies_of(
     ensures { IfOk result (AreSupplied index.now (chosen_of frame.now) (standing_of (reverse nodes.now) frame.now)) }
 {
     let types = &index.declared().types;
-    let sources = supplied(alloc, types, nodes, frame, Wanted::Sources)?;
+    let apart = supplied_apart(alloc, types, nodes, frame)?;
     let parts = supplied(alloc, types, nodes, frame, Wanted::Parts)?;
     let order = order_of(alloc, types, nodes, frame)?;
     let set = final_set(alloc, index, frame.needs.set(), parts.as_slice())?;
     Ok(Supplied {
-        sources,
+        apart,
         parts,
         order,
         set,
@@ -213,7 +274,7 @@ fn steps_of<E: Evaluate>(
         owner: home.owner,
         file: home.file,
         set: &supplied.set,
-        sources: supplied.sources.as_slice(),
+        sources: supplied.sources(),
         parts: supplied.parts.as_slice(),
         order: supplied.order.as_slice(),
     };

@@ -1,18 +1,18 @@
 //! A map from main targets.
-ghost use Rattle.std.specs.Prelude.{◌≡◌, IfOk, OnOk};
+ghost use Rattle.std.specs.Prelude.{◌≡◌, OnOk};
 ghost use Rattle.std.specs.Option.{option_copied};
 ghost use Rattle.std.specs.FinMap as map;
 
 use b2_base::fault::OutOfMemory;
-use b2_base::text::Text;
 use b2_references::name::TargetName;
+use indexmap::IndexMap;
 use std::alloc::Global;
-use std::collections::BTreeMap;
 use std::marker::Model;
 
-/// One value for each of some main targets, seen as a finite map from their names.
+/// One value for each of some main targets, seen as a finite map from their names. They are
+/// looked up by a hash.
 pub struct NameTable<V: Drop> {
-    values: BTreeMap<(usize, Text), V>,
+    values: IndexMap<TargetName, V>,
 }
 
 /// By hand, so that dropping one is one call.
@@ -35,36 +35,28 @@ impl<V: Drop> Model for NameTable<V> {
     ghost view = { λ t. map.from_entries t.values.entries };
 }
 
-fn key_of(name: &TargetName) -> Result<(usize, Text), OutOfMemory>
-    ensures { IfOk result (λ key. key ≡ name.now) }
-{
-    Ok((name.project(), name.name().copy()?))
-}
-
 impl<V: Drop> NameTable<V> {
     /// The empty map; takes no memory.
     pub(crate) fn new(alloc: Global) -> NameTable<V>
         ensures { result ≡ map.empty }
     {
         NameTable {
-            values: BTreeMap::new(alloc),
+            values: IndexMap::new(alloc),
         }
     }
 
-    /// The value of a main target.
-    pub(crate) fn get(&self, name: &TargetName) -> Result<Option<&V>, OutOfMemory>
-        ensures { IfOk result (λ found. option_copied found ≡ map.get self.now name.now) }
+    /// The value of a main target; takes no memory.
+    pub(crate) fn get(&self, name: &TargetName) -> Option<&V>
+        ensures { option_copied result ≡ map.get self.now name.now }
     {
-        let key = key_of(name)?;
-        Ok(self.values.get(&key))
+        self.values.get(name)
     }
 
     /// Gives a main target a value.
     pub(crate) fn insert(&mut self, name: &TargetName, value: V) -> Result<(), OutOfMemory>
         ensures { OnOk result (self.new ≡ map.insert self.old name.now value) }
     {
-        let key = key_of(name)?;
-        let _before = self.values.insert(key, value)?;
+        let _before = self.values.insert(name.copy()?, value)?;
         Ok(())
     }
 }

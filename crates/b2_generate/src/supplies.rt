@@ -1,10 +1,11 @@
 //! What the needs of a main target supply to it.
 ghost use Rattle.std.specs.Prelude.{◌≡◌, ◌++◌, ◌∷◌, [], map, reverse, slice_get, option_map, IfOk, OnOk};
+ghost use Rattle.std.specs.List.{list_any};
 ghost use Rattle.std.specs.Option.{option_copied};
 ghost use Rattle.b2_virtual.specs.Supplies.{file_entry};
 ghost use Rattle.b2_generate.specs.Nodes.{entry_in};
 ghost use Rattle.b2_generate.specs.Machine.{HasPlaces};
-ghost use Rattle.b2_generate.specs.Supplies.{of_target, parts_of, supply_of, supplied};
+ghost use Rattle.b2_generate.specs.Supplies.{is_library, of_target, parts_of, supply_of, supplied};
 ghost use Rattle.b2_generate.specs.Gathering.{test_of, named_by, Gathers};
 
 use crate::frame::Frame;
@@ -48,6 +49,19 @@ fn wants(wanted: Wanted, way: Way) -> bool
     }
 }
 
+fn is_library(way: Way) -> bool
+    ensures { result ≡ is_library way }
+{
+    matches!(way, Way::Library)
+}
+
+/// Whether one of some needs is a library; takes no memory.
+pub(crate) fn has_library(needs: &[Need]) -> bool
+    ensures { result ≡ list_any (λ n. is_library n.way) needs.now }
+{
+    needs.iter().any(|need| is_library(need.way))
+}
+
 /// A file supplies itself.
 fn add_file(
     alloc: Global,
@@ -76,17 +90,13 @@ fn supply_at(nodes: &[Node], place: usize) -> Option<&Supply>
 }
 
 /// What a main target gave, where it was generated.
-fn given<'a>(
-    nodes: &'a [Node],
-    frame: &Frame<'_>,
-    name: &TargetName,
-) -> Result<Option<&'a Supply>, OutOfMemory>
+fn given<'a>(nodes: &'a [Node], frame: &Frame<'_>, name: &TargetName) -> Option<&'a Supply>
     requires { HasPlaces (reverse nodes.now) frame.now.done frame.now.places }
-    ensures { IfOk result (λ found. option_copied found ≡ supply_of (map (entry_in (reverse nodes.now)) frame.now.done) name.now) }
+    ensures { option_copied result ≡ supply_of (map (entry_in (reverse nodes.now)) frame.now.done) name.now }
 {
-    match frame.places.get(name)?.copied() {
-        None => Ok(None),
-        Some(place) => Ok(supply_at(nodes, place)),
+    match frame.places.get(name).copied() {
+        None => None,
+        Some(place) => supply_at(nodes, place),
     }
 }
 
@@ -106,7 +116,7 @@ fn add_target(
         return Ok(());
     }
     gathered.seen.add(name)?;
-    match given(nodes, frame, name)? {
+    match given(nodes, frame, name) {
         Some(supply) => gathered.made.push(supply.copy(alloc)?),
         None => Ok(()),
     }

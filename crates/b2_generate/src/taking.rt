@@ -35,28 +35,29 @@ fn before(place: usize, previous: Option<usize>) -> Option<usize>
     }
 }
 
-/// The place of a node that is of a main target and was asked for with a set. Looks at those of this main target, the newest first.
+/// The place of a node that is of a main target and was asked for with a set. Looks at those of this main target, the newest first;
+/// takes no memory.
 pub(crate) fn find(
     nodes: &[Node],
     newest: &NameTable<usize>,
     name: &TargetName,
     asked: &Props,
-) -> Result<Option<usize>, OutOfMemory>
-    ensures { IfOk result (λ found. IfSome found (λ place. IsAskedAt (reverse nodes.now) place name.now asked.now)) }
+) -> Option<usize>
+    ensures { IfSome result (λ place. IsAskedAt (reverse nodes.now) place name.now asked.now) }
 {
-    let mut next = newest.get(name)?.copied();
+    let mut next = newest.get(name).copied();
     'nodes: while let Some(place) = next {
         match nodes.get(place) {
-            None => return Ok(None),
+            None => return None,
             Some(node) => {
                 if was_asked(node, name, asked) {
-                    return Ok(Some(place));
+                    return Some(place);
                 }
                 next = before(place, node.previous);
             }
         }
     }
-    Ok(None)
+    None
 }
 
 fn conflict_fault<F: Drop>(

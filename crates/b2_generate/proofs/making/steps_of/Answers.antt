@@ -38,7 +38,7 @@ pub returns-in-Ok-clause-made : goal.returns-in-Ok-clause-made
 returns-in-Ok-clause-made g c = λ told is.
     subst (λ act. act c.args.builder.now (Ok (c.in-Ok.supply, c.make.new.builder)))
     (acts_are c.declared-declared.result.now c.args.index.now c.args.roots.now told (seen c.args.frame.now.name c.args.frame.now.chosen) (standing_of (reverse c.args.nodes.now) c.args.frame.now) c.home_of-home.result
-    c.args.supplied.now c.as_slice.result.now c.as_slice-2.result.now c.as_slice-3.result.now c.declared-declared.ensures (subst (λ d. IsHome d c.args.frame.now.chosen.target.now.project c.home_of-home.result) c.declared-declared.ensures c.home_of-home.ensures) c.requires c.as_slice.ensures c.as_slice-2.ensures c.as_slice-3.ensures)
+    c.args.supplied.now c.sources.result.now c.as_slice.result.now c.as_slice-2.result.now c.declared-declared.ensures (subst (λ d. IsHome d c.args.frame.now.chosen.target.now.project c.home_of-home.result) c.declared-declared.ensures c.home_of-home.ensures) c.requires c.sources.ensures c.as_slice.ensures c.as_slice-2.ensures)
     (c.in-Ok.ensures.made told is)
 
 pub returns-in-Ok-clause-grows : goal.returns-in-Ok-clause-grows
@@ -53,7 +53,7 @@ returns-clause-refused g c = λ told is.
     (standing_of (reverse c.args.nodes.now) c.args.frame.now) c.args.builder.now c.in-Err.fault
     (subst (λ act. IsRefused g.E.Evaluate.is_host_fault g.E.Evaluate.is_out_of_memory act c.args.builder.now c.in-Err.fault)
     (acts_are c.declared-declared.result.now c.args.index.now c.args.roots.now told (seen c.args.frame.now.name c.args.frame.now.chosen) (standing_of (reverse c.args.nodes.now) c.args.frame.now) c.home_of-home.result
-    c.args.supplied.now c.as_slice.result.now c.as_slice-2.result.now c.as_slice-3.result.now c.declared-declared.ensures (subst (λ d. IsHome d c.args.frame.now.chosen.target.now.project c.home_of-home.result) c.declared-declared.ensures c.home_of-home.ensures) c.requires c.as_slice.ensures c.as_slice-2.ensures c.as_slice-3.ensures)
+    c.args.supplied.now c.sources.result.now c.as_slice.result.now c.as_slice-2.result.now c.declared-declared.ensures (subst (λ d. IsHome d c.args.frame.now.chosen.target.now.project c.home_of-home.result) c.declared-declared.ensures c.home_of-home.ensures) c.requires c.sources.ensures c.as_slice.ensures c.as_slice-2.ensures)
     (c.in-Err.ensures.refused told is))
 
 pub returns-clause-grows : goal.returns-clause-grows

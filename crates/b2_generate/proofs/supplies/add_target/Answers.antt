@@ -15,7 +15,7 @@ returns-in-None c =
     gathers_bare c.args.types.now.types (map (entry_in (reverse c.args.nodes.now)) c.args.frame.now.done) c.args.name.now c.args.gathered.now (record { made = c.args.gathered.now.made; seen = c.add.new.self })
     (sym c.has.ensures ∙ c.if-has.false)
     (λ names known. subst (λ r. OnOk r (AreKnown (names ++ c.args.name.now ∷ []) c.add.new.self)) c.in_ok-add.was (c.add.ensures names known)) (λ i. c.args.gathered.now.made)
-    (sym (ap option_copied c.in-None.is) ∙ c.in_ok-supply.ensures)
+    (sym (ap option_copied c.in-None.is) ∙ c.given.ensures)
 
 pub returns-in_ok-copy-in-Some : goal.returns-in_ok-copy-in-Some
 returns-in_ok-copy-in-Some c =
@@ -23,5 +23,5 @@ returns-in_ok-copy-in-Some c =
     (λ made. gathers_given c.args.types.now.types (map (entry_in (reverse c.args.nodes.now)) c.args.frame.now.done) c.args.name.now c.args.gathered.now (record { made = c.push.new.self; seen = c.add.new.self })
     c.in_ok-copy-in-Some.field-0 (sym c.has.ensures ∙ c.if-has.false)
     (λ names known. subst (λ r. OnOk r (AreKnown (names ++ c.args.name.now ∷ []) c.add.new.self)) c.in_ok-add.was (c.add.ensures names known)) made
-    (ap Some c.in_ok-copy-in-Some.ensures ∙ sym (ap option_copied c.in-Some.is) ∙ c.in_ok-supply.ensures))
+    (ap Some c.in_ok-copy-in-Some.ensures ∙ sym (ap option_copied c.in-Some.is) ∙ c.given.ensures))
     c.push.ensures.ok

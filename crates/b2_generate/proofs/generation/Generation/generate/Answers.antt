@@ -7,21 +7,18 @@ use Rattle.b2_generate.proofs.StepsAreThoseDefined.{grows_none}
 use Rattle.b2_generate.proofs.TurnsAnswerTheRequest.{request_out, request_stops, unchosen_first, running_first, turn_at, run_on, run_fewer, run_ends, run_stops}
 use Rattle.b2_generate.proofs.generation.Generation.generate.Goals as goal
 
-pub returns-in_err-earliest-clause-request : goal.returns-in_err-earliest-clause-request
-returns-in_err-earliest-clause-request g c = request_out c.from_residual.result (exit_is c.from_residual.result _ c.from_residual.ensures.1) (grows_none _ _) refl refl
-
 pub begin-requires : goal.begin-requires
 begin-requires g c = c.requires.ready.numbered
 
 pub returns-in_err-oldest-clause-request : goal.returns-in_err-oldest-clause-request
 returns-in_err-oldest-clause-request g c =
-    request_stops c.from_residual-in_err-oldest.result c.in_err-oldest.field-0.0 (exit_is c.from_residual-in_err-oldest.result _ c.from_residual-in_err-oldest.ensures.1) (grows_none _ _)
+    request_stops c.from_residual.result c.in_err-oldest.field-0.0 (exit_is c.from_residual.result _ c.from_residual.ensures.1) (grows_none _ _)
     (λ answered is made. unchosen_first g.E.Evaluate.is_host_fault g.E.Evaluate.is_out_of_memory (loaded_of c.args.self.now.asker.index.now c.args.self.now.roots.now answered) c.args.name c.args.asked c.args.self.now.builder c.in_err-oldest.field-0.0 (c.in_err-oldest.ensures.refused answered is))
     c.in_err-oldest.ensures.leaves
 
 pub turns-init : goal.turns-init
 turns-init g c = (
-  running_first c.in_ok-earliest.earliest c.in_ok-oldest.oldest (frames c.new-stack.result) (λ i. c.new-stack.ensures.newest i ∷ reverse (c.new-stack.ensures.below i)) c.requires.ready c.in_ok-oldest.ensures.opened c.in_ok-earliest.ensures.from
+  running_first c.earliest_for-earliest.result c.in_ok-oldest.oldest (frames c.new-stack.result) (λ i. c.new-stack.ensures.newest i ∷ reverse (c.new-stack.ensures.below i)) c.requires.ready c.in_ok-oldest.ensures.opened c.earliest_for-earliest.ensures.from
       c.in_ok-oldest.ensures.chosen c.in_ok-oldest.ensures.leaves.same_answers c.in_ok-oldest.ensures.leaves.same_kept c.in_ok-oldest.ensures.leaves.counted,
   c.in_ok-oldest.ensures.project,
   refl,
@@ -45,9 +42,6 @@ turns-preserved g c = (run_on c.turns.invariant.0 c.in_ok-turn.field-0 c.in-None
 pub turns-smaller : goal.turns-smaller
 turns-smaller g c = run_fewer c.turns.invariant.0 c.in_ok-turn.field-0 c.in-None.is (turn_at c.turns.invariant.1 c.turns.invariant.2 c.in_ok-turn.ensures.turn)
 
-pub returns-in_err-earliest-clause-project : goal.returns-in_err-earliest-clause-project
-returns-in_err-earliest-clause-project g c = refl
-
 pub returns-in_err-oldest-clause-project : goal.returns-in_err-oldest-clause-project
 returns-in_err-oldest-clause-project g c = c.in_err-oldest.ensures.project
 
@@ -56,9 +50,6 @@ returns-in_err-turn-clause-project g c = c.in_err-turn.ensures.project ∙ c.tur
 
 pub returns-in-Some-clause-project : goal.returns-in-Some-clause-project
 returns-in-Some-clause-project g c = c.in_ok-turn.ensures.project ∙ c.turns.invariant.1
-
-pub returns-in_err-earliest-clause-roots : goal.returns-in_err-earliest-clause-roots
-returns-in_err-earliest-clause-roots g c = refl
 
 pub returns-in_err-oldest-clause-roots : goal.returns-in_err-oldest-clause-roots
 returns-in_err-oldest-clause-roots g c = refl

@@ -31,9 +31,6 @@ returns-then-is_open-clause-turn g c =
 pub begin-requires : goal.begin-requires
 begin-requires g c = c.requires.ready.numbered
 
-pub returns-in_err-earliest-clause-turn : goal.returns-in_err-earliest-clause-turn
-returns-in_err-earliest-clause-turn g c = ran_out c.from_residual-in_err-earliest.result (exit_is c.from_residual-in_err-earliest.result _ c.from_residual-in_err-earliest.ensures.1) (grows_none _ _) refl refl
-
 pub returns-in_err-frame-clause-turn : goal.returns-in_err-frame-clause-turn
 returns-in_err-frame-clause-turn g c =
     stopped c.from_residual-in_err-frame.result c.in_err-frame.field-0.0 (exit_is c.from_residual-in_err-frame.result _ c.from_residual-in_err-frame.ensures.1) (grows_none _ _)
@@ -59,10 +56,10 @@ returns-clause-turn g c =
     (subst (GoOn d (turns_of d nodes (f ∷ below)) nodes c.args.self.now.nodes.firsts) (sym frames_are)
     (opened_goes d nodes c.args.self.now.nodes.firsts f below c.requires.ready c.requires.kept c.args.name
     (due_named d (seen f.name f.chosen) (standing_of nodes f) c.args.name c.requires.waits.due) (due_is_new d (seen f.name f.chosen) (standing_of nodes f) c.args.name c.requires.waits.due)
-    c.args.asked c.in_ok-earliest.earliest h closed c.in_ok-frame.ensures.opened c.in_ok-earliest.ensures.below c.in_ok-earliest.ensures.from))
+    c.args.asked c.earliest_for-earliest.result h closed c.in_ok-frame.ensures.opened c.earliest_for-earliest.ensures.below c.earliest_for-earliest.ensures.from))
     (λ answered is name set start way made. (
       subst (λ fs. IsUnderWay (loaded_of d c.args.self.now.roots.now answered) name set start (map (frame_of nodes) fs) c.args.self.now.builder) (sym frames_are)
-          (opened_leads (loaded_of d c.args.self.now.roots.now answered) name set start nodes f below c.args.self.now.builder c.args.name c.args.asked way c.requires.waits c.in_ok-earliest.earliest h closed
+          (opened_leads (loaded_of d c.args.self.now.roots.now answered) name set start nodes f below c.args.self.now.builder c.args.name c.args.asked way c.requires.waits c.earliest_for-earliest.result h closed
           c.in_ok-frame.ensures.opened (c.in_ok-frame.ensures.chosen answered is)),
       made,
     ))
@@ -73,9 +70,6 @@ returns-in_err-cycle-clause-project g c = refl
 
 pub returns-then-is_open-clause-project : goal.returns-then-is_open-clause-project
 returns-then-is_open-clause-project g c = refl
-
-pub returns-in_err-earliest-clause-project : goal.returns-in_err-earliest-clause-project
-returns-in_err-earliest-clause-project g c = refl
 
 pub returns-in_err-frame-clause-project : goal.returns-in_err-frame-clause-project
 returns-in_err-frame-clause-project g c = c.in_err-frame.ensures.project
@@ -91,9 +85,6 @@ returns-in_err-cycle-clause-roots g c = refl
 
 pub returns-then-is_open-clause-roots : goal.returns-then-is_open-clause-roots
 returns-then-is_open-clause-roots g c = refl
-
-pub returns-in_err-earliest-clause-roots : goal.returns-in_err-earliest-clause-roots
-returns-in_err-earliest-clause-roots g c = refl
 
 pub returns-in_err-frame-clause-roots : goal.returns-in_err-frame-clause-roots
 returns-in_err-frame-clause-roots g c = refl
