@@ -99,14 +99,31 @@ fn put_act(answer: &mut Answer, form: &Form) {
     }
 }
 
+/// Puts a modifier of actions, if it stands.
+fn put_modifier(answer: &mut Answer, stands: bool, modifier: &str) {
+    if stands {
+        answer.put(modifier);
+    }
+}
+
 /// Puts a form that has no block of its own.
 fn put_simple(answer: &mut Answer, form: &Form) {
     match form {
         Form::Local { names, value } => put_local(answer, names, value.as_ref()),
         Form::Include(names) => put_named(answer, "include", names),
         Form::Return(value) => put_named(answer, "return", value),
-        Form::Actions { name, body } => {
-            put_text(answer, "actions ", name);
+        Form::Actions {
+            name,
+            together,
+            existing,
+            quietly,
+            body,
+        } => {
+            answer.put("actions ");
+            put_modifier(answer, *together, "together ");
+            put_modifier(answer, *existing, "existing ");
+            put_modifier(answer, *quietly, "quietly ");
+            put_text(answer, "", name);
             put_text(answer, " ", body);
         }
         Form::On { target, .. } => put_target(answer, "on ", target),

@@ -5,6 +5,7 @@ use Rattle.std.specs.FinMap as map
 use Rattle.jam_expand.specs.Bodies.{body_expansion}
 use Rattle.jam_journal.specs.Tables.{Text, Key}
 use Rattle.jam_journal.specs.Scopes.{Value, Scopes, look, look_in, enter, bound_in, is_special, is_in}
+use Rattle.jam_scope.specs.Rules.{Actions}
 use Rattle.jam_scope.specs.Worlds.{World}
 use Rattle.jam_scope.specs.Lines.{actions_place}
 use Rattle.jam_scope.specs.declared.notes.StepNotes.{StepNotes}
@@ -48,23 +49,23 @@ pub names_same : (outs ins : List Text) (owner : Text) (w : World) → names_her
 names_same outs ins owner w = λ i name. name_same outs ins owner w name i
 
 -- the text of actions that stand at a place
-pub step_texted : (job : Job) (w : World) (key : Key) (body text : Text) (notes : Option StepNotes) (step : StepText) (place : Option Key) → place ≡ Some key → map.get w.actions key ≡ Some body → notes ≡ w.step
-    → body_expansion (names_here job.outs job.ins (record w { scopes = enter key.0 w.scopes })) body ≡ Ok text → step_answer step ≡ noted text notes → text_of_actions job w place ≡ Ok (step_answer step)
-step_texted job w key body text notes step place is found same expands answer =
+pub step_texted : (job : Job) (w : World) (key : Key) (actions : Actions) (text : Text) (notes : Option StepNotes) (step : StepText) (place : Option Key) → place ≡ Some key → map.get w.actions key ≡ Some actions → notes ≡ w.step
+    → body_expansion (names_here job.outs job.ins (record w { scopes = enter key.0 w.scopes })) actions.text ≡ Ok text → step_answer step ≡ noted text notes → text_of_actions job w place ≡ Ok (step_answer step)
+step_texted job w key actions text notes step place is found same expands answer =
     ap (text_of_actions job w) is ∙ ap (text_of_body job key.0 w) found
-    ∙ ap (λ names. texted w.step (body_expansion names body)) (sym (names_same job.outs job.ins key.0 w)) ∙ ap (texted w.step) expands
+    ∙ ap (λ names. texted w.step (body_expansion names actions.text)) (sym (names_same job.outs job.ins key.0 w)) ∙ ap (texted w.step) expands
     ∙ ap Ok (ap (noted text) (sym same) ∙ sym answer)
 
 -- its fault
-pub step_untexted : (job : Job) (spot : Spot) (w : World) (key : Key) (body : Text) (e : EvalFault) (place : Option Key) → place ≡ Some key → map.get w.actions key ≡ Some body
-    → IsAnswered (λ (text : Text). text) (body_expansion (names_here job.outs job.ins (record w { scopes = enter key.0 w.scopes })) body) spot (Err e)
+pub step_untexted : (job : Job) (spot : Spot) (w : World) (key : Key) (actions : Actions) (e : EvalFault) (place : Option Key) → place ≡ Some key → map.get w.actions key ≡ Some actions
+    → IsAnswered (λ (text : Text). text) (body_expansion (names_here job.outs job.ins (record w { scopes = enter key.0 w.scopes })) actions.text) spot (Err e)
     → (e ≡ fault.OutOfMemory) ⊎ ((cause : Cause) × (text_of_actions job w place ≡ Err cause) × IsFault spot cause e)
-step_untexted job spot w key body e place is found (inl memory) = inl memory
-step_untexted job spot w key body e place is found (inr (f, refuses, h)) =
+step_untexted job spot w key actions e place is found (inl memory) = inl memory
+step_untexted job spot w key actions e place is found (inr (f, refuses, h)) =
     inr (
       expand f,
       ap (text_of_actions job w) is ∙ ap (text_of_body job key.0 w) found
-          ∙ ap (λ names. texted w.step (body_expansion names body)) (sym (names_same job.outs job.ins key.0 w)) ∙ ap (texted w.step) refuses,
+          ∙ ap (λ names. texted w.step (body_expansion names actions.text)) (sym (names_same job.outs job.ins key.0 w)) ∙ ap (texted w.step) refuses,
       h,
     )
 
@@ -91,19 +92,19 @@ pub place_some : {X : Type 0} (f : X → Key) (found : Option X) (x : X) (name g
 place_some f found x name given w is same some = sym (ap (λ n. actions_place n w) same) ∙ sym is ∙ ap (option_map f) some
 
 -- the text that the code has, and its fault
-pub texted_here : (job : Job) (w opened : World) (key : Key) (owner body given text : Text) (outs ins : List Text) (notes : Option StepNotes) (step : StepText) → actions_place job.name w ≡ Some key → map.get w.actions key ≡ Some body
-    → outs ≡ job.outs → ins ≡ job.ins → owner ≡ key.0 → opened ≡ record w { scopes = enter owner w.scopes } → given ≡ body → body_expansion (names_here outs ins opened) given ≡ Ok text → notes ≡ opened.step → step_answer step ≡ noted text notes
+pub texted_here : (job : Job) (w opened : World) (key : Key) (owner : Text) (actions : Actions) (given text : Text) (outs ins : List Text) (notes : Option StepNotes) (step : StepText) → actions_place job.name w ≡ Some key → map.get w.actions key ≡ Some actions
+    → outs ≡ job.outs → ins ≡ job.ins → owner ≡ key.0 → opened ≡ record w { scopes = enter owner w.scopes } → given ≡ actions.text → body_expansion (names_here outs ins opened) given ≡ Ok text → notes ≡ opened.step → step_answer step ≡ noted text notes
     → text_of_actions job w (actions_place job.name w) ≡ Ok (step_answer step)
-texted_here job w opened key owner body given text outs ins notes step is found first second home open_ same expands noted_ answer =
+texted_here job w opened key owner actions given text outs ins notes step is found first second home open_ same expands noted_ answer =
     let there = open_ ∙ ap (λ o. record w { scopes = enter o w.scopes }) home in
-    step_texted job w key body text notes step (actions_place job.name w) is found (noted_ ∙ ap (λ (v : World). v.step) open_)
-    (ap (λ names. body_expansion names body) (sym (names_opened job w opened key.0 outs ins first second there)) ∙ ap (body_expansion (names_here outs ins opened)) (sym same) ∙ expands) answer
+    step_texted job w key actions text notes step (actions_place job.name w) is found (noted_ ∙ ap (λ (v : World). v.step) open_)
+    (ap (λ names. body_expansion names actions.text) (sym (names_opened job w opened key.0 outs ins first second there)) ∙ ap (body_expansion (names_here outs ins opened)) (sym same) ∙ expands) answer
 
-pub untexted_here : (job : Job) (spot : Spot) (w opened : World) (key : Key) (owner body given : Text) (outs ins : List Text) (e : EvalFault) → actions_place job.name w ≡ Some key → map.get w.actions key ≡ Some body
-    → outs ≡ job.outs → ins ≡ job.ins → owner ≡ key.0 → opened ≡ record w { scopes = enter owner w.scopes } → given ≡ body → IsAnswered (λ (text : Text). text) (body_expansion (names_here outs ins opened) given) spot (Err e)
+pub untexted_here : (job : Job) (spot : Spot) (w opened : World) (key : Key) (owner : Text) (actions : Actions) (given : Text) (outs ins : List Text) (e : EvalFault) → actions_place job.name w ≡ Some key → map.get w.actions key ≡ Some actions
+    → outs ≡ job.outs → ins ≡ job.ins → owner ≡ key.0 → opened ≡ record w { scopes = enter owner w.scopes } → given ≡ actions.text → IsAnswered (λ (text : Text). text) (body_expansion (names_here outs ins opened) given) spot (Err e)
     → IsStepText job spot w (Err e)
-untexted_here job spot w opened key owner body given outs ins e is found first second home open_ same h =
+untexted_here job spot w opened key owner actions given outs ins e is found first second home open_ same h =
     let there = open_ ∙ ap (λ o. record w { scopes = enter o w.scopes }) home in
-    step_untexted job spot w key body e (actions_place job.name w) is found
-    (subst (λ names. IsAnswered (λ (text : Text). text) (body_expansion names body) spot (Err e)) (names_opened job w opened key.0 outs ins first second there)
+    step_untexted job spot w key actions e (actions_place job.name w) is found
+    (subst (λ names. IsAnswered (λ (text : Text). text) (body_expansion names actions.text) spot (Err e)) (names_opened job w opened key.0 outs ins first second there)
     (subst (λ b. IsAnswered (λ (text : Text). text) (body_expansion (names_here outs ins opened) b) spot (Err e)) same h))

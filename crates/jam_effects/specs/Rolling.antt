@@ -4,6 +4,7 @@ use Rattle.std.specs.FinMap as map
 use Rattle.jam_journal.specs.Tables.{Text, Key}
 use Rattle.jam_journal.specs.Scopes.{Value, look}
 use Rattle.b2_base.specs.declared.expand_fault.ExpandFault.{ExpandFault}
+use Rattle.jam_scope.specs.Rules.{Actions}
 use Rattle.jam_scope.specs.Worlds.{World}
 use Rattle.jam_scope.specs.Lines.{actions_place}
 use Rattle.jam_scope.specs.declared.notes.StepNotes.{StepNotes}
@@ -30,9 +31,9 @@ abbrev pub texted : Option StepNotes → Result Text ExpandFault → Result Step
 texted notes (Ok text) = Ok (noted text notes)
 texted notes (Err fault) = Err (expand fault)
 
-abbrev pub text_of_body : Job → Text → World → Option Text → Result StepAnswer Cause
+abbrev pub text_of_body : Job → Text → World → Option Actions → Result StepAnswer Cause
 text_of_body job owner w None = Err (unknown_rule job.name)
-text_of_body job owner w (Some body) = texted w.step (body_expansion (body_names job.outs job.ins job.outs owner w) body)
+text_of_body job owner w (Some actions) = texted w.step (body_expansion (body_names job.outs job.ins job.outs owner w) actions.text)
 
 abbrev pub text_of_actions : Job → World → Option Key → Result StepAnswer Cause
 text_of_actions job w None = Err (unknown_rule job.name)

@@ -154,10 +154,10 @@ pub fn actions_text(
     let Some(found) = world.find_actions(job.name.as_str()) else {
         return Err(unknown_rule(&job.name, at));
     };
-    let Some(body) = world.action_body(&found) else {
+    let Some(actions) = world.action_body(&found) else {
         return Err(unknown_rule(&job.name, at));
     };
-    let body = body.text().copy()?;
+    let body = actions.text().copy()?;
     let module = copy_text(alloc, found.module)?;
     let outs = texts_of(alloc, job.outs.as_slice())?;
     let ins = texts_of(alloc, job.ins.as_slice())?;

@@ -351,13 +351,20 @@ pub fn define_rule(
 }
 
 /// The present module has actions from now on.
-pub fn define_actions(world: &mut World, name: &Text, body: &Text) -> Result<Flow, EvalFault>
-    ensures ok { OnOk result (world.new ≡ changed (with_actions name.now body.now) world.old) }
+pub fn define_actions(
+    world: &mut World,
+    name: &Text,
+    together: bool,
+    existing: bool,
+    quietly: bool,
+    body: &Text,
+) -> Result<Flow, EvalFault>
+    ensures ok { OnOk result (world.new ≡ changed (with_actions name.now record { text = body.now; together = together; existing = existing; quietly = quietly }) world.old) }
     ensures goes_on { IfOk result (λ way. way ≡ ways.GoesOn) }
     ensures memory { IfErr result (λ fault. fault ≡ faults.OutOfMemory) }
     ensures err { OnErr result (world.new ≡ world.old) }
 {
-    let body = ActionBody::new(body.copy()?);
+    let body = ActionBody::new(body.copy()?, together, existing, quietly);
     world.define_actions(name.as_str(), body)?;
     Ok(Flow::GoesOn)
 }

@@ -4,6 +4,7 @@ use Rattle.jam_grammar.specs.declared.tree.Param.{Param}
 use Rattle.jam_grammar.specs.Trees.{StmtTrees}
 use Rattle.jam_journal.specs.Tables.{Text}
 use Rattle.jam_journal.specs.Scopes.{Value, enter, enter_call, bind, assign}
+use Rattle.jam_scope.specs.Rules.{Actions}
 use Rattle.jam_scope.specs.Changes.{define_rule, define_actions, set_on, freeze_roots}
 use Rattle.jam_eval.specs.States.{State, with_world, with_scopes, after_frame}
 use Rattle.jam_eval.specs.Settings.{Setting}
@@ -24,7 +25,7 @@ pub record IsKept {R : Type 0} (setting : Setting R) (Tight Loose : State R → 
   pub call_frame : (owner : Text) (s later : State R) → Loose (with_scopes (enter_call owner) s) later → Tight s (after_frame later)
   pub sets_own : (target name : Text) (value : Value) (s : State R) → Tight s (with_world (set_on target name value) s)
   pub rules : (name : Text) (params : List (List Param)) (block : StmtTrees) (path : Text) (line : ℕ) (s : State R) → Tight s (with_world (define_rule name params block path line) s)
-  pub actions : (name body : Text) (s : State R) → Tight s (with_world (define_actions name body) s)
+  pub actions : (name : Text) (body : Actions) (s : State R) → Tight s (with_world (define_actions name body) s)
   pub roots : (s : State R) → Tight s (with_world freeze_roots s)
   pub native : (name : Text) (given : List Value) (line : ℕ) (s : State R) → EndsTold Tight s (native_answer setting name given line s)
   pub records : (name : Text) (given : List Value) (line : ℕ) (s : State R) → EndsTold Tight s (acted_answer setting name given line s)

@@ -340,7 +340,7 @@ module _ {R : Type 0} (setting : Setting R) (Tight Loose : State R → State R �
       form_ends (tree.Module name trees) spot s = loosened _ s
           (then_ends _ _ s (args_ends setting.budget deep down name spot s) (λ names later. module_ends _ _ later (λ last. down.stmts_end trees spot.path spot last)))
       form_ends (tree.Rule name params trees) spot s = kept.loosen s _ (kept.rules name params trees spot.path spot.line s)
-      form_ends (tree.Actions name body) spot s = kept.loosen s _ (kept.actions name body s)
+      form_ends (tree.Actions name t e q body) spot s = kept.loosen s _ (kept.actions name record { text = body; together = t; existing = e; quietly = q } s)
       form_ends (tree.On target line f) spot s = loosened _ s
           (then_ends _ _ s (arg_ends setting.budget deep down target spot s)
           (λ targets later. target_ends targets _ later (λ last. started_ends line spot _ last (λ at next. form_ends f at next))))

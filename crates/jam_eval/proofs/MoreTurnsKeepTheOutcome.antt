@@ -315,7 +315,7 @@ module _ {R : Type 0} (setting : Setting R) (none : (left : ℕ) → refused_her
       form_few (tree.Module name trees) spot s =
           then_few _ _ _ _ (args_few name spot s) (λ names later. module_few _ _ (λ last. down.stmts_few trees spot.path spot last) later)
       form_few (tree.Rule name params trees) spot s = refl
-      form_few (tree.Actions name body) spot s = refl
+      form_few (tree.Actions name t e q body) spot s = refl
       form_few (tree.On target line f) spot s =
           then_few _ _ _ _ (arg_few target spot s) (λ targets later. target_few targets _ (λ last. started_few line spot _ (λ at next. form_few f at next) last) later)
       form_few (tree.Call head given) spot s = then_few _ _ _ _ (call_of_few head given spot s) (λ value later. refl)

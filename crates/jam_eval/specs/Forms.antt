@@ -131,7 +131,7 @@ module _ {R : Type 0} (setting : Setting R) (deep : Levels R) where
     form (tree.Module name stmts) spot s =
         with_args name spot (λ names. λ s₁. in_module (first_of names) (λ s₂. deep.stmts stmts spot.path spot s₂) s₁) s
     form (tree.Rule name params stmts) spot s = done (with_world (define_rule name params stmts spot.path spot.line) s)
-    form (tree.Actions name body) spot s = done (with_world (define_actions name body) s)
+    form (tree.Actions name t e q body) spot s = done (with_world (define_actions name record { text = body; together = t; existing = e; quietly = q }) s)
     form (tree.On target line f) spot s =
         with_arg target spot (λ targets. λ s₁. on_target targets (λ s₂. started line spot (λ at. λ s₃. form f at s₃) s₂) s₁) s
     form (tree.Call head lists) spot s = then_do (call_of setting.budget deep head lists spot s) (λ value. λ s₁. done s₁)

@@ -7,7 +7,7 @@ use Rattle.jam_journal.specs.Tables.{Text, Key}
 use Rattle.jam_journal.specs.Scopes.{Value, look_in}
 use Rattle.jam_eval.specs.Faults.{Spot, unknown_rule, expand}
 use Rattle.jam_scope.specs.declared.notes.StepNotes.{StepNotes}
-use Rattle.jam_scope.specs.Rules.{Rule}
+use Rattle.jam_scope.specs.Rules.{Rule, Actions}
 use Rattle.jam_scope.specs.Worlds.{World, Worlds}
 use Rattle.jam_scope.specs.Changes.{mark, open_step}
 use Rattle.jam_scope.specs.Lines.{find_rule, actions_place}
@@ -77,10 +77,10 @@ module _ {R : Type 0} where
   text_of (Err fault) spot s = fault_at spot (expand fault) s
   text_of (Ok text) spot s = gives (noted text s.worlds.now.step) s
 
-  -- the text of a body for a step, whose outputs are its targets
-  abbrev pub body_text : Job → Option Text → Text → Spot → State R → Outcome R StepAnswer
+  -- the text of actions for a step, whose outputs are its targets
+  abbrev pub body_text : Job → Option Actions → Text → Spot → State R → Outcome R StepAnswer
   body_text job None owner spot s = fault_at spot (unknown_rule job.name) s
-  body_text job (Some body) owner spot s = text_of (body_expansion (body_names job.outs job.ins job.outs owner s.worlds.now) body) spot s
+  body_text job (Some actions) owner spot s = text_of (body_expansion (body_names job.outs job.ins job.outs owner s.worlds.now) actions.text) spot s
 
   -- the text of the actions of the step's name, which are looked up after its rule has run
   abbrev pub actions_text : Job → Option Key → Spot → State R → Outcome R StepAnswer

@@ -11,36 +11,39 @@ mark_at n =
     else if n == 1 then m.Query
     else if n == 2 then m.Star
     else if n == 3 then m.Plus
-    else if n == 4 then m.Body
-    else if n == 5 then m.Semicolon
-    else if n == 6 then m.Colon
-    else if n == 7 then m.BraceOpen
-    else if n == 8 then m.BraceClose
-    else if n == 9 then m.SquareOpen
-    else if n == 10 then m.SquareClose
-    else if n == 11 then m.ParenOpen
-    else if n == 12 then m.ParenClose
-    else if n == 13 then m.Equals
-    else if n == 14 then m.PlusEquals
-    else if n == 15 then m.QueryEquals
-    else if n == 16 then m.NotEquals
-    else if n == 17 then m.Not
-    else if n == 18 then m.And
-    else if n == 19 then m.Or
-    else if n == 20 then m.Actions
-    else if n == 21 then m.Case
-    else if n == 22 then m.Else
-    else if n == 23 then m.For
-    else if n == 24 then m.If
-    else if n == 25 then m.In
-    else if n == 26 then m.Include
-    else if n == 27 then m.Local
-    else if n == 28 then m.Module
-    else if n == 29 then m.On
-    else if n == 30 then m.Return
-    else if n == 31 then m.Rule
-    else if n == 32 then m.Switch
-    else if n == 33 then m.While
+    else if n == 4 then m.Together
+    else if n == 5 then m.Existing
+    else if n == 6 then m.Quietly
+    else if n == 7 then m.Body
+    else if n == 8 then m.Semicolon
+    else if n == 9 then m.Colon
+    else if n == 10 then m.BraceOpen
+    else if n == 11 then m.BraceClose
+    else if n == 12 then m.SquareOpen
+    else if n == 13 then m.SquareClose
+    else if n == 14 then m.ParenOpen
+    else if n == 15 then m.ParenClose
+    else if n == 16 then m.Equals
+    else if n == 17 then m.PlusEquals
+    else if n == 18 then m.QueryEquals
+    else if n == 19 then m.NotEquals
+    else if n == 20 then m.Not
+    else if n == 21 then m.And
+    else if n == 22 then m.Or
+    else if n == 23 then m.Actions
+    else if n == 24 then m.Case
+    else if n == 25 then m.Else
+    else if n == 26 then m.For
+    else if n == 27 then m.If
+    else if n == 28 then m.In
+    else if n == 29 then m.Include
+    else if n == 30 then m.Local
+    else if n == 31 then m.Module
+    else if n == 32 then m.On
+    else if n == 33 then m.Return
+    else if n == 34 then m.Rule
+    else if n == 35 then m.Switch
+    else if n == 36 then m.While
     else m.Unknown
 
 mark_at_number : (mark : Mark) → mark_at (number mark) ≡ mark
@@ -48,6 +51,9 @@ mark_at_number m.Plain = refl
 mark_at_number m.Query = refl
 mark_at_number m.Star = refl
 mark_at_number m.Plus = refl
+mark_at_number m.Together = refl
+mark_at_number m.Existing = refl
+mark_at_number m.Quietly = refl
 mark_at_number m.Body = refl
 mark_at_number m.Semicolon = refl
 mark_at_number m.Colon = refl
@@ -94,13 +100,13 @@ both true b = b
 both false b = false
 
 abbrev pub every_mark : (Mark → Bool) → Bool
-every_mark f = both (f m.Plain) (both (f m.Query) (both (f m.Star) (both (f m.Plus) (both (f m.Body) (both (f
-    m.Semicolon) (both (f m.Colon) (both (f m.BraceOpen) (both (f m.BraceClose) (both (f m.SquareOpen) (both (f
-    m.SquareClose) (both (f m.ParenOpen) (both (f m.ParenClose) (both (f m.Equals) (both (f m.PlusEquals) (both (f
-    m.QueryEquals) (both (f m.NotEquals) (both (f m.Not) (both (f m.And) (both (f m.Or) (both (f m.Actions) (both (f
-    m.Case) (both (f m.Else) (both (f m.For) (both (f m.If) (both (f m.In) (both (f m.Include) (both (f m.Local) (both
-    (f m.Module) (both (f m.On) (both (f m.Return) (both (f m.Rule) (both (f m.Switch) (both (f m.While) (f
-    m.Unknown))))))))))))))))))))))))))))))))))
+every_mark f = both (f m.Plain) (both (f m.Query) (both (f m.Star) (both (f m.Plus) (both (f m.Together) (both (f
+    m.Existing) (both (f m.Quietly) (both (f m.Body) (both (f m.Semicolon) (both (f m.Colon) (both (f m.BraceOpen)
+    (both (f m.BraceClose) (both (f m.SquareOpen) (both (f m.SquareClose) (both (f m.ParenOpen) (both (f m.ParenClose)
+    (both (f m.Equals) (both (f m.PlusEquals) (both (f m.QueryEquals) (both (f m.NotEquals) (both (f m.Not) (both (f
+    m.And) (both (f m.Or) (both (f m.Actions) (both (f m.Case) (both (f m.Else) (both (f m.For) (both (f m.If) (both
+    (f m.In) (both (f m.Include) (both (f m.Local) (both (f m.Module) (both (f m.On) (both (f m.Return) (both (f
+    m.Rule) (both (f m.Switch) (both (f m.While) (f m.Unknown)))))))))))))))))))))))))))))))))))))
 
 pub first_true : (a b : Bool) → both a b ≡ true → a ≡ true
 first_true true b h = refl
@@ -110,98 +116,107 @@ pub second_true : (a b : Bool) → both a b ≡ true → b ≡ true
 second_true true b h = h
 second_true false b h = cc
 
+abbrev from_37 : (Mark → Bool) → Bool
+from_37 f = f m.Unknown
+
+abbrev from_36 : (Mark → Bool) → Bool
+from_36 f = both (f m.While) (from_37 f)
+
+abbrev from_35 : (Mark → Bool) → Bool
+from_35 f = both (f m.Switch) (from_36 f)
+
 abbrev from_34 : (Mark → Bool) → Bool
-from_34 f = f m.Unknown
+from_34 f = both (f m.Rule) (from_35 f)
 
 abbrev from_33 : (Mark → Bool) → Bool
-from_33 f = both (f m.While) (from_34 f)
+from_33 f = both (f m.Return) (from_34 f)
 
 abbrev from_32 : (Mark → Bool) → Bool
-from_32 f = both (f m.Switch) (from_33 f)
+from_32 f = both (f m.On) (from_33 f)
 
 abbrev from_31 : (Mark → Bool) → Bool
-from_31 f = both (f m.Rule) (from_32 f)
+from_31 f = both (f m.Module) (from_32 f)
 
 abbrev from_30 : (Mark → Bool) → Bool
-from_30 f = both (f m.Return) (from_31 f)
+from_30 f = both (f m.Local) (from_31 f)
 
 abbrev from_29 : (Mark → Bool) → Bool
-from_29 f = both (f m.On) (from_30 f)
+from_29 f = both (f m.Include) (from_30 f)
 
 abbrev from_28 : (Mark → Bool) → Bool
-from_28 f = both (f m.Module) (from_29 f)
+from_28 f = both (f m.In) (from_29 f)
 
 abbrev from_27 : (Mark → Bool) → Bool
-from_27 f = both (f m.Local) (from_28 f)
+from_27 f = both (f m.If) (from_28 f)
 
 abbrev from_26 : (Mark → Bool) → Bool
-from_26 f = both (f m.Include) (from_27 f)
+from_26 f = both (f m.For) (from_27 f)
 
 abbrev from_25 : (Mark → Bool) → Bool
-from_25 f = both (f m.In) (from_26 f)
+from_25 f = both (f m.Else) (from_26 f)
 
 abbrev from_24 : (Mark → Bool) → Bool
-from_24 f = both (f m.If) (from_25 f)
+from_24 f = both (f m.Case) (from_25 f)
 
 abbrev from_23 : (Mark → Bool) → Bool
-from_23 f = both (f m.For) (from_24 f)
+from_23 f = both (f m.Actions) (from_24 f)
 
 abbrev from_22 : (Mark → Bool) → Bool
-from_22 f = both (f m.Else) (from_23 f)
+from_22 f = both (f m.Or) (from_23 f)
 
 abbrev from_21 : (Mark → Bool) → Bool
-from_21 f = both (f m.Case) (from_22 f)
+from_21 f = both (f m.And) (from_22 f)
 
 abbrev from_20 : (Mark → Bool) → Bool
-from_20 f = both (f m.Actions) (from_21 f)
+from_20 f = both (f m.Not) (from_21 f)
 
 abbrev from_19 : (Mark → Bool) → Bool
-from_19 f = both (f m.Or) (from_20 f)
+from_19 f = both (f m.NotEquals) (from_20 f)
 
 abbrev from_18 : (Mark → Bool) → Bool
-from_18 f = both (f m.And) (from_19 f)
+from_18 f = both (f m.QueryEquals) (from_19 f)
 
 abbrev from_17 : (Mark → Bool) → Bool
-from_17 f = both (f m.Not) (from_18 f)
+from_17 f = both (f m.PlusEquals) (from_18 f)
 
 abbrev from_16 : (Mark → Bool) → Bool
-from_16 f = both (f m.NotEquals) (from_17 f)
+from_16 f = both (f m.Equals) (from_17 f)
 
 abbrev from_15 : (Mark → Bool) → Bool
-from_15 f = both (f m.QueryEquals) (from_16 f)
+from_15 f = both (f m.ParenClose) (from_16 f)
 
 abbrev from_14 : (Mark → Bool) → Bool
-from_14 f = both (f m.PlusEquals) (from_15 f)
+from_14 f = both (f m.ParenOpen) (from_15 f)
 
 abbrev from_13 : (Mark → Bool) → Bool
-from_13 f = both (f m.Equals) (from_14 f)
+from_13 f = both (f m.SquareClose) (from_14 f)
 
 abbrev from_12 : (Mark → Bool) → Bool
-from_12 f = both (f m.ParenClose) (from_13 f)
+from_12 f = both (f m.SquareOpen) (from_13 f)
 
 abbrev from_11 : (Mark → Bool) → Bool
-from_11 f = both (f m.ParenOpen) (from_12 f)
+from_11 f = both (f m.BraceClose) (from_12 f)
 
 abbrev from_10 : (Mark → Bool) → Bool
-from_10 f = both (f m.SquareClose) (from_11 f)
+from_10 f = both (f m.BraceOpen) (from_11 f)
 
 abbrev from_9 : (Mark → Bool) → Bool
-from_9 f = both (f m.SquareOpen) (from_10 f)
+from_9 f = both (f m.Colon) (from_10 f)
 
 abbrev from_8 : (Mark → Bool) → Bool
-from_8 f = both (f m.BraceClose) (from_9 f)
+from_8 f = both (f m.Semicolon) (from_9 f)
 
 abbrev from_7 : (Mark → Bool) → Bool
-from_7 f = both (f m.BraceOpen) (from_8 f)
+from_7 f = both (f m.Body) (from_8 f)
 
 abbrev from_6 : (Mark → Bool) → Bool
-from_6 f = both (f m.Colon) (from_7 f)
+from_6 f = both (f m.Quietly) (from_7 f)
 
 abbrev from_5 : (Mark → Bool) → Bool
-from_5 f = both (f m.Semicolon) (from_6 f)
+from_5 f = both (f m.Existing) (from_6 f)
 
 abbrev from_4 : (Mark → Bool) → Bool
-from_4 f = both (f m.Body) (from_5 f)
+from_4 f = both (f m.Together) (from_5 f)
 
 abbrev from_3 : (Mark → Bool) → Bool
 from_3 f = both (f m.Plus) (from_4 f)
@@ -225,94 +240,103 @@ all_4 : (f : Mark → Bool) → every_mark f ≡ true → from_4 f ≡ true
 all_4 f h = second_true (f m.Plus) (from_4 f) (all_3 f h)
 
 all_5 : (f : Mark → Bool) → every_mark f ≡ true → from_5 f ≡ true
-all_5 f h = second_true (f m.Body) (from_5 f) (all_4 f h)
+all_5 f h = second_true (f m.Together) (from_5 f) (all_4 f h)
 
 all_6 : (f : Mark → Bool) → every_mark f ≡ true → from_6 f ≡ true
-all_6 f h = second_true (f m.Semicolon) (from_6 f) (all_5 f h)
+all_6 f h = second_true (f m.Existing) (from_6 f) (all_5 f h)
 
 all_7 : (f : Mark → Bool) → every_mark f ≡ true → from_7 f ≡ true
-all_7 f h = second_true (f m.Colon) (from_7 f) (all_6 f h)
+all_7 f h = second_true (f m.Quietly) (from_7 f) (all_6 f h)
 
 all_8 : (f : Mark → Bool) → every_mark f ≡ true → from_8 f ≡ true
-all_8 f h = second_true (f m.BraceOpen) (from_8 f) (all_7 f h)
+all_8 f h = second_true (f m.Body) (from_8 f) (all_7 f h)
 
 all_9 : (f : Mark → Bool) → every_mark f ≡ true → from_9 f ≡ true
-all_9 f h = second_true (f m.BraceClose) (from_9 f) (all_8 f h)
+all_9 f h = second_true (f m.Semicolon) (from_9 f) (all_8 f h)
 
 all_10 : (f : Mark → Bool) → every_mark f ≡ true → from_10 f ≡ true
-all_10 f h = second_true (f m.SquareOpen) (from_10 f) (all_9 f h)
+all_10 f h = second_true (f m.Colon) (from_10 f) (all_9 f h)
 
 all_11 : (f : Mark → Bool) → every_mark f ≡ true → from_11 f ≡ true
-all_11 f h = second_true (f m.SquareClose) (from_11 f) (all_10 f h)
+all_11 f h = second_true (f m.BraceOpen) (from_11 f) (all_10 f h)
 
 all_12 : (f : Mark → Bool) → every_mark f ≡ true → from_12 f ≡ true
-all_12 f h = second_true (f m.ParenOpen) (from_12 f) (all_11 f h)
+all_12 f h = second_true (f m.BraceClose) (from_12 f) (all_11 f h)
 
 all_13 : (f : Mark → Bool) → every_mark f ≡ true → from_13 f ≡ true
-all_13 f h = second_true (f m.ParenClose) (from_13 f) (all_12 f h)
+all_13 f h = second_true (f m.SquareOpen) (from_13 f) (all_12 f h)
 
 all_14 : (f : Mark → Bool) → every_mark f ≡ true → from_14 f ≡ true
-all_14 f h = second_true (f m.Equals) (from_14 f) (all_13 f h)
+all_14 f h = second_true (f m.SquareClose) (from_14 f) (all_13 f h)
 
 all_15 : (f : Mark → Bool) → every_mark f ≡ true → from_15 f ≡ true
-all_15 f h = second_true (f m.PlusEquals) (from_15 f) (all_14 f h)
+all_15 f h = second_true (f m.ParenOpen) (from_15 f) (all_14 f h)
 
 all_16 : (f : Mark → Bool) → every_mark f ≡ true → from_16 f ≡ true
-all_16 f h = second_true (f m.QueryEquals) (from_16 f) (all_15 f h)
+all_16 f h = second_true (f m.ParenClose) (from_16 f) (all_15 f h)
 
 all_17 : (f : Mark → Bool) → every_mark f ≡ true → from_17 f ≡ true
-all_17 f h = second_true (f m.NotEquals) (from_17 f) (all_16 f h)
+all_17 f h = second_true (f m.Equals) (from_17 f) (all_16 f h)
 
 all_18 : (f : Mark → Bool) → every_mark f ≡ true → from_18 f ≡ true
-all_18 f h = second_true (f m.Not) (from_18 f) (all_17 f h)
+all_18 f h = second_true (f m.PlusEquals) (from_18 f) (all_17 f h)
 
 all_19 : (f : Mark → Bool) → every_mark f ≡ true → from_19 f ≡ true
-all_19 f h = second_true (f m.And) (from_19 f) (all_18 f h)
+all_19 f h = second_true (f m.QueryEquals) (from_19 f) (all_18 f h)
 
 all_20 : (f : Mark → Bool) → every_mark f ≡ true → from_20 f ≡ true
-all_20 f h = second_true (f m.Or) (from_20 f) (all_19 f h)
+all_20 f h = second_true (f m.NotEquals) (from_20 f) (all_19 f h)
 
 all_21 : (f : Mark → Bool) → every_mark f ≡ true → from_21 f ≡ true
-all_21 f h = second_true (f m.Actions) (from_21 f) (all_20 f h)
+all_21 f h = second_true (f m.Not) (from_21 f) (all_20 f h)
 
 all_22 : (f : Mark → Bool) → every_mark f ≡ true → from_22 f ≡ true
-all_22 f h = second_true (f m.Case) (from_22 f) (all_21 f h)
+all_22 f h = second_true (f m.And) (from_22 f) (all_21 f h)
 
 all_23 : (f : Mark → Bool) → every_mark f ≡ true → from_23 f ≡ true
-all_23 f h = second_true (f m.Else) (from_23 f) (all_22 f h)
+all_23 f h = second_true (f m.Or) (from_23 f) (all_22 f h)
 
 all_24 : (f : Mark → Bool) → every_mark f ≡ true → from_24 f ≡ true
-all_24 f h = second_true (f m.For) (from_24 f) (all_23 f h)
+all_24 f h = second_true (f m.Actions) (from_24 f) (all_23 f h)
 
 all_25 : (f : Mark → Bool) → every_mark f ≡ true → from_25 f ≡ true
-all_25 f h = second_true (f m.If) (from_25 f) (all_24 f h)
+all_25 f h = second_true (f m.Case) (from_25 f) (all_24 f h)
 
 all_26 : (f : Mark → Bool) → every_mark f ≡ true → from_26 f ≡ true
-all_26 f h = second_true (f m.In) (from_26 f) (all_25 f h)
+all_26 f h = second_true (f m.Else) (from_26 f) (all_25 f h)
 
 all_27 : (f : Mark → Bool) → every_mark f ≡ true → from_27 f ≡ true
-all_27 f h = second_true (f m.Include) (from_27 f) (all_26 f h)
+all_27 f h = second_true (f m.For) (from_27 f) (all_26 f h)
 
 all_28 : (f : Mark → Bool) → every_mark f ≡ true → from_28 f ≡ true
-all_28 f h = second_true (f m.Local) (from_28 f) (all_27 f h)
+all_28 f h = second_true (f m.If) (from_28 f) (all_27 f h)
 
 all_29 : (f : Mark → Bool) → every_mark f ≡ true → from_29 f ≡ true
-all_29 f h = second_true (f m.Module) (from_29 f) (all_28 f h)
+all_29 f h = second_true (f m.In) (from_29 f) (all_28 f h)
 
 all_30 : (f : Mark → Bool) → every_mark f ≡ true → from_30 f ≡ true
-all_30 f h = second_true (f m.On) (from_30 f) (all_29 f h)
+all_30 f h = second_true (f m.Include) (from_30 f) (all_29 f h)
 
 all_31 : (f : Mark → Bool) → every_mark f ≡ true → from_31 f ≡ true
-all_31 f h = second_true (f m.Return) (from_31 f) (all_30 f h)
+all_31 f h = second_true (f m.Local) (from_31 f) (all_30 f h)
 
 all_32 : (f : Mark → Bool) → every_mark f ≡ true → from_32 f ≡ true
-all_32 f h = second_true (f m.Rule) (from_32 f) (all_31 f h)
+all_32 f h = second_true (f m.Module) (from_32 f) (all_31 f h)
 
 all_33 : (f : Mark → Bool) → every_mark f ≡ true → from_33 f ≡ true
-all_33 f h = second_true (f m.Switch) (from_33 f) (all_32 f h)
+all_33 f h = second_true (f m.On) (from_33 f) (all_32 f h)
 
 all_34 : (f : Mark → Bool) → every_mark f ≡ true → from_34 f ≡ true
-all_34 f h = second_true (f m.While) (from_34 f) (all_33 f h)
+all_34 f h = second_true (f m.Return) (from_34 f) (all_33 f h)
+
+all_35 : (f : Mark → Bool) → every_mark f ≡ true → from_35 f ≡ true
+all_35 f h = second_true (f m.Rule) (from_35 f) (all_34 f h)
+
+all_36 : (f : Mark → Bool) → every_mark f ≡ true → from_36 f ≡ true
+all_36 f h = second_true (f m.Switch) (from_36 f) (all_35 f h)
+
+all_37 : (f : Mark → Bool) → every_mark f ≡ true → from_37 f ≡ true
+all_37 f h = second_true (f m.While) (from_37 f) (all_36 f h)
 
 -- what holds of each holds of this one
 pub at_each : (f : Mark → Bool) → every_mark f ≡ true → (mark : Mark) → f mark ≡ true
@@ -320,34 +344,37 @@ at_each f h m.Plain = first_true (f m.Plain) (from_1 f) h
 at_each f h m.Query = first_true (f m.Query) (from_2 f) (all_1 f h)
 at_each f h m.Star = first_true (f m.Star) (from_3 f) (all_2 f h)
 at_each f h m.Plus = first_true (f m.Plus) (from_4 f) (all_3 f h)
-at_each f h m.Body = first_true (f m.Body) (from_5 f) (all_4 f h)
-at_each f h m.Semicolon = first_true (f m.Semicolon) (from_6 f) (all_5 f h)
-at_each f h m.Colon = first_true (f m.Colon) (from_7 f) (all_6 f h)
-at_each f h m.BraceOpen = first_true (f m.BraceOpen) (from_8 f) (all_7 f h)
-at_each f h m.BraceClose = first_true (f m.BraceClose) (from_9 f) (all_8 f h)
-at_each f h m.SquareOpen = first_true (f m.SquareOpen) (from_10 f) (all_9 f h)
-at_each f h m.SquareClose = first_true (f m.SquareClose) (from_11 f) (all_10 f h)
-at_each f h m.ParenOpen = first_true (f m.ParenOpen) (from_12 f) (all_11 f h)
-at_each f h m.ParenClose = first_true (f m.ParenClose) (from_13 f) (all_12 f h)
-at_each f h m.Equals = first_true (f m.Equals) (from_14 f) (all_13 f h)
-at_each f h m.PlusEquals = first_true (f m.PlusEquals) (from_15 f) (all_14 f h)
-at_each f h m.QueryEquals = first_true (f m.QueryEquals) (from_16 f) (all_15 f h)
-at_each f h m.NotEquals = first_true (f m.NotEquals) (from_17 f) (all_16 f h)
-at_each f h m.Not = first_true (f m.Not) (from_18 f) (all_17 f h)
-at_each f h m.And = first_true (f m.And) (from_19 f) (all_18 f h)
-at_each f h m.Or = first_true (f m.Or) (from_20 f) (all_19 f h)
-at_each f h m.Actions = first_true (f m.Actions) (from_21 f) (all_20 f h)
-at_each f h m.Case = first_true (f m.Case) (from_22 f) (all_21 f h)
-at_each f h m.Else = first_true (f m.Else) (from_23 f) (all_22 f h)
-at_each f h m.For = first_true (f m.For) (from_24 f) (all_23 f h)
-at_each f h m.If = first_true (f m.If) (from_25 f) (all_24 f h)
-at_each f h m.In = first_true (f m.In) (from_26 f) (all_25 f h)
-at_each f h m.Include = first_true (f m.Include) (from_27 f) (all_26 f h)
-at_each f h m.Local = first_true (f m.Local) (from_28 f) (all_27 f h)
-at_each f h m.Module = first_true (f m.Module) (from_29 f) (all_28 f h)
-at_each f h m.On = first_true (f m.On) (from_30 f) (all_29 f h)
-at_each f h m.Return = first_true (f m.Return) (from_31 f) (all_30 f h)
-at_each f h m.Rule = first_true (f m.Rule) (from_32 f) (all_31 f h)
-at_each f h m.Switch = first_true (f m.Switch) (from_33 f) (all_32 f h)
-at_each f h m.While = first_true (f m.While) (from_34 f) (all_33 f h)
-at_each f h m.Unknown = all_34 f h
+at_each f h m.Together = first_true (f m.Together) (from_5 f) (all_4 f h)
+at_each f h m.Existing = first_true (f m.Existing) (from_6 f) (all_5 f h)
+at_each f h m.Quietly = first_true (f m.Quietly) (from_7 f) (all_6 f h)
+at_each f h m.Body = first_true (f m.Body) (from_8 f) (all_7 f h)
+at_each f h m.Semicolon = first_true (f m.Semicolon) (from_9 f) (all_8 f h)
+at_each f h m.Colon = first_true (f m.Colon) (from_10 f) (all_9 f h)
+at_each f h m.BraceOpen = first_true (f m.BraceOpen) (from_11 f) (all_10 f h)
+at_each f h m.BraceClose = first_true (f m.BraceClose) (from_12 f) (all_11 f h)
+at_each f h m.SquareOpen = first_true (f m.SquareOpen) (from_13 f) (all_12 f h)
+at_each f h m.SquareClose = first_true (f m.SquareClose) (from_14 f) (all_13 f h)
+at_each f h m.ParenOpen = first_true (f m.ParenOpen) (from_15 f) (all_14 f h)
+at_each f h m.ParenClose = first_true (f m.ParenClose) (from_16 f) (all_15 f h)
+at_each f h m.Equals = first_true (f m.Equals) (from_17 f) (all_16 f h)
+at_each f h m.PlusEquals = first_true (f m.PlusEquals) (from_18 f) (all_17 f h)
+at_each f h m.QueryEquals = first_true (f m.QueryEquals) (from_19 f) (all_18 f h)
+at_each f h m.NotEquals = first_true (f m.NotEquals) (from_20 f) (all_19 f h)
+at_each f h m.Not = first_true (f m.Not) (from_21 f) (all_20 f h)
+at_each f h m.And = first_true (f m.And) (from_22 f) (all_21 f h)
+at_each f h m.Or = first_true (f m.Or) (from_23 f) (all_22 f h)
+at_each f h m.Actions = first_true (f m.Actions) (from_24 f) (all_23 f h)
+at_each f h m.Case = first_true (f m.Case) (from_25 f) (all_24 f h)
+at_each f h m.Else = first_true (f m.Else) (from_26 f) (all_25 f h)
+at_each f h m.For = first_true (f m.For) (from_27 f) (all_26 f h)
+at_each f h m.If = first_true (f m.If) (from_28 f) (all_27 f h)
+at_each f h m.In = first_true (f m.In) (from_29 f) (all_28 f h)
+at_each f h m.Include = first_true (f m.Include) (from_30 f) (all_29 f h)
+at_each f h m.Local = first_true (f m.Local) (from_31 f) (all_30 f h)
+at_each f h m.Module = first_true (f m.Module) (from_32 f) (all_31 f h)
+at_each f h m.On = first_true (f m.On) (from_33 f) (all_32 f h)
+at_each f h m.Return = first_true (f m.Return) (from_34 f) (all_33 f h)
+at_each f h m.Rule = first_true (f m.Rule) (from_35 f) (all_34 f h)
+at_each f h m.Switch = first_true (f m.Switch) (from_36 f) (all_35 f h)
+at_each f h m.While = first_true (f m.While) (from_37 f) (all_36 f h)
+at_each f h m.Unknown = all_37 f h

@@ -5,8 +5,9 @@ use Rattle.b2_base.specs.declared.token.Token.{Token}
 use Rattle.jam_grammar.specs.Marks.{mark_of_token, mark_of_word, mark_of_key}
 use Rattle.jam_grammar.specs.Grammar.{Stmts, Begins}
 use Rattle.jam_grammar.specs.Machine.{Bad, run}
+use Rattle.jam_grammar.specs.Spelling.{none, together, existing, quietly}
 use Rattle.jam_grammar.specs.Readings.{marks, IsFirstFault, line_at, text_at}
-use Rattle.jam_grammar.specs.Examples.{AssignmentReads, OneEmptyList, NoParams, TwoParams, ConditionReads, ActionsRead, UnendedFaults, SemicolonFaults, OneMoreFaults, IfTooDeep, ElseIfTooDeep, OnTooDeep, TenListsFault, MarkedIsLast, StarIsLast, MarkIsNoName, SixtyFourBegin, braces, assignment, empty_list, no_lists, two_lists, condition, two_statements}
+use Rattle.jam_grammar.specs.Examples.{AssignmentReads, OneEmptyList, NoParams, TwoParams, ConditionReads, ActionsRead, HeadingsRead, UnendedFaults, SemicolonFaults, OneMoreFaults, IfTooDeep, ElseIfTooDeep, OnTooDeep, TenListsFault, MarkedIsLast, StarIsLast, MarkIsNoName, NameIsLast, ModifiersStandOnce, SixtyFourBegin, braces, assignment, empty_list, no_lists, two_lists, condition, two_statements, headings}
 use Rattle.jam_grammar.proofs.MachineStopsAtFirstFault.{whole_is_file, first_fault, told_fault}
 
 fault : (tokens at : List Token) → run tokens (Stmts ∷ []) ≡ Bad at → IsFirstFault tokens (line_at tokens at) (text_at at)
@@ -34,7 +35,18 @@ condition_reads = record { file = whole_is_file condition refl; spelled = (refl,
 
 pub actions_read : ActionsRead
 unfolding mark_of_token mark_of_word mark_of_key
-actions_read = record { file = whole_is_file two_statements refl; spelled = (refl, (refl, ((refl, refl), (refl, ((refl, refl), (refl, (refl, (refl, ((refl, refl), (refl, (refl, ((refl, refl), (refl, (refl, refl)))))))))))))) }
+actions_read = record { file = whole_is_file two_statements refl; spelled = (refl, (refl, (_, none, ((refl, refl), (refl, ((refl, refl), (refl, (refl, (refl, ((refl, refl), (refl, (refl, ((refl, refl), (refl, (refl, refl))))))))))))))) }
+
+pub headings_read : HeadingsRead
+unfolding mark_of_token mark_of_word mark_of_key
+headings_read =
+    record {
+      file = whole_is_file headings refl;
+      spelled = (
+        refl,
+        (refl, (_, quietly refl (together refl none), ((refl, refl), (refl, ((refl, refl), (refl, (refl, (refl, (_, existing refl (together refl none), ((refl, refl), (refl, ((refl, refl), (refl, refl))))))))))))),
+      );
+    }
 
 pub unended_faults : UnendedFaults
 unfolding mark_of_token mark_of_word mark_of_key
@@ -75,6 +87,14 @@ star_is_last = fault _ _ refl
 pub mark_is_no_name : MarkIsNoName
 unfolding mark_of_token mark_of_word mark_of_key
 mark_is_no_name = fault _ _ refl
+
+pub name_is_last : NameIsLast
+unfolding mark_of_token mark_of_word mark_of_key
+name_is_last = fault _ _ refl
+
+pub modifiers_stand_once : ModifiersStandOnce
+unfolding mark_of_token mark_of_word mark_of_key
+modifiers_stand_once = fault _ _ refl
 
 pub sixty_four_begin : SixtyFourBegin
 unfolding mark_of_token mark_of_word mark_of_key

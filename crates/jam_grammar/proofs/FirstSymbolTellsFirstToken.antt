@@ -3,7 +3,7 @@ use Rattle.std.proofs.Common.{◌≡◌, ℕ, List, [], ◌∷◌, Bool, true, f
 use Rattle.b2_base.specs.declared.token.Token.{Token}
 use Rattle.jam_grammar.specs.declared.mark.Mark.{Mark}
 use Rattle.jam_grammar.specs.declared.mark.Mark.TheVariants as m
-use Rattle.jam_grammar.specs.Marks.{mark_of_token, is_word}
+use Rattle.jam_grammar.specs.Marks.{mark_of_token, is_word, is_name}
 use Rattle.jam_grammar.specs.Spelling.{Sym, Key, Says, Named, Raw, Never, Spells, StartsOn}
 use Rattle.jam_grammar.proofs.EveryMarkIsTested.{at_each}
 
@@ -48,9 +48,14 @@ pub says_tail : (text : List ℕ) (syms : List Sym) (ts u : List Token) → Spel
 says_tail text syms [] u s = absurd s
 says_tail text syms (t ∷ ts) u s = s.1
 
-pub named_first : (text : List ℕ) (syms : List Sym) (ts u : List Token) → Spells ts (Named text ∷ syms) u → first_mark ts ≡ Some m.Plain
+-- whether a word stands there that may name a parameter
+abbrev pub name_at : Option Mark → Bool
+name_at None = false
+name_at (Some mark) = is_name mark
+
+pub named_first : (text : List ℕ) (syms : List Sym) (ts u : List Token) → Spells ts (Named text ∷ syms) u → name_at (first_mark ts) ≡ true
 named_first text syms [] u s = absurd s
-named_first text syms (t ∷ ts) u s = ap Some s.0.0
+named_first text syms (t ∷ ts) u s = s.0.0
 
 pub named_text : (text : List ℕ) (syms : List Sym) (ts u : List Token) → Spells ts (Named text ∷ syms) u → first_text ts ≡ text
 named_text text syms [] u s = absurd s
@@ -89,6 +94,9 @@ begins_arg m.Plain = true
 begins_arg m.Query = true
 begins_arg m.Star = true
 begins_arg m.Plus = true
+begins_arg m.Together = true
+begins_arg m.Existing = true
+begins_arg m.Quietly = true
 begins_arg m.SquareOpen = true
 begins_arg _ = false
 

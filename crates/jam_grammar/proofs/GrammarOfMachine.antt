@@ -2,10 +2,10 @@
 use Rattle.std.proofs.Common.{◌≡◌, ℕ, zero, suc, ◌+◌, ◌≤◌, List, [], ◌∷◌, ◌++◌, Bool, true, false, Some, None, IsTrue, nat_le, if◌then◌else◌, refl, sym, subst, arith, append_assoc}
 use Rattle.jam_grammar.specs.declared.mark.Mark.{Mark}
 use Rattle.jam_grammar.specs.declared.mark.Mark.TheVariants as m
-use Rattle.jam_grammar.specs.Marks.{same_mark, is_word}
-use Rattle.jam_grammar.specs.Grammar.{Part, Key, OneWord, Shut, Stmts, OneStmt, Tail, Assigned, LocalTail, ForTail, RuleTail, OneElse, ElseTail, OneBlock, CaseBlock, Cases, BodyBlock, ParamBlock, Params, MoreParams, Names, NameTail, OneArg, OneInner, InnerTail, Args, More, OneExpr, Both, Single, OrTail, AndTail, Compared, closes, opens, Line, Derives}
+use Rattle.jam_grammar.specs.Marks.{same_mark, is_word, is_name, only_names}
+use Rattle.jam_grammar.specs.Grammar.{Part, Key, OneWord, OneName, LastWord, Shut, Stmts, OneStmt, Tail, Assigned, LocalTail, ForTail, RuleTail, OneElse, ElseTail, OneBlock, CaseBlock, Cases, BodyBlock, Heading, Headed, ParamBlock, Params, MoreParams, Names, NameTail, OneArg, OneInner, InnerTail, Args, More, OneExpr, Both, Single, OrTail, AndTail, Compared, closes, opens, Line, Derives}
 use Rattle.jam_grammar.specs.Grammar as g
-use Rattle.jam_grammar.specs.Machine.{Move, Take, Room, Skip, Refuse, move, before, or_skip, move_key, move_word, move_arg, move_inner, move_inner_tail, move_colon, move_block, move_stmt, move_assigned, move_tail, move_for_tail, move_else_tail, move_rule_tail, move_name_tail, move_single, by_move, feed}
+use Rattle.jam_grammar.specs.Machine.{Move, Take, Room, Skip, Refuse, move, before, or_skip, move_key, move_word, move_modifier, move_heading, move_arg, move_inner, move_inner_tail, move_colon, move_block, move_stmt, move_assigned, move_tail, move_for_tail, move_else_tail, move_rule_tail, move_name_tail, move_single, by_move, feed}
 use Rattle.jam_grammar.proofs.EveryMarkIsTested.{same_mark_true}
 use Rattle.jam_grammar.proofs.WhatIsReadHasRoom.{needs, HasRoom, rooms, room_opens}
 
@@ -15,6 +15,12 @@ read_key {parts} mark h d = g.key (omega (arith, h, room_opens parts (rooms d)))
 
 pub read_word : {parts : List Part} {marks : List Mark} (mark : Mark) → IsTrue (is_word mark) → Derives parts marks → Derives (OneWord ∷ parts) (mark ∷ marks)
 read_word {parts} mark h d = g.word h (room_opens parts (rooms d)) d
+
+pub read_name : {parts : List Part} {marks : List Mark} (mark : Mark) → IsTrue (is_name mark) → Derives parts marks → Derives (OneName ∷ parts) (mark ∷ marks)
+read_name {parts} mark h d = g.name h (room_opens parts (rooms d)) d
+
+pub read_last : {parts : List Part} {marks : List Mark} (t e q : Bool) (mark : Mark) → IsTrue (only_names t e q mark) → Derives parts marks → Derives (LastWord t e q ∷ parts) (mark ∷ marks)
+read_last {parts} t e q mark h d = g.last h (room_opens parts (rooms d)) d
 
 -- what closes something needs it to be open
 abbrev pub Allowed : Part → List Part → Type 0
@@ -58,6 +64,9 @@ sound_arg m.Plain = λ more marks h d. g.by_line g.a_word (read_word m.Plain ref
 sound_arg m.Query = λ more marks h d. g.by_line g.a_word (read_word m.Query refl d)
 sound_arg m.Star = λ more marks h d. g.by_line g.a_word (read_word m.Star refl d)
 sound_arg m.Plus = λ more marks h d. g.by_line g.a_word (read_word m.Plus refl d)
+sound_arg m.Together = λ more marks h d. g.by_line g.a_word (read_word m.Together refl d)
+sound_arg m.Existing = λ more marks h d. g.by_line g.a_word (read_word m.Existing refl d)
+sound_arg m.Quietly = λ more marks h d. g.by_line g.a_word (read_word m.Quietly refl d)
 sound_arg m.SquareOpen = λ more marks h d. sound_key m.SquareOpen OneArg _ more marks refl g.a_bracket d
 sound_arg _ = tt
 
@@ -66,6 +75,9 @@ never_skip m.Plain h = cc
 never_skip m.Query h = cc
 never_skip m.Star h = cc
 never_skip m.Plus h = cc
+never_skip m.Together h = cc
+never_skip m.Existing h = cc
+never_skip m.Quietly h = cc
 never_skip m.SquareOpen h = cc
 never_skip _ h = cc
 
@@ -112,6 +124,9 @@ stmt_never_skips m.Plain h = cc
 stmt_never_skips m.Query h = cc
 stmt_never_skips m.Star h = cc
 stmt_never_skips m.Plus h = cc
+stmt_never_skips m.Together h = cc
+stmt_never_skips m.Existing h = cc
+stmt_never_skips m.Quietly h = cc
 stmt_never_skips m.SquareOpen h = cc
 stmt_never_skips _ h = cc
 
@@ -159,7 +174,10 @@ sound_rule_tail m.ParenOpen = λ more marks h d. g.by_line g.with_params (sound_
 sound_rule_tail mark = sound_as RuleTail OneBlock mark (move_block mark) g.without_params (λ more. tt) (sound_block mark)
 
 sound_names : (mark : Mark) → Sound Names mark (move Names mark)
-sound_names m.Plain = λ more marks h d. sound_key m.Plain Names _ more marks refl g.a_name d
+sound_names m.Plain = λ more marks h d. g.by_line g.a_name (read_name m.Plain refl d)
+sound_names m.Together = λ more marks h d. g.by_line g.a_name (read_name m.Together refl d)
+sound_names m.Existing = λ more marks h d. g.by_line g.a_name (read_name m.Existing refl d)
+sound_names m.Quietly = λ more marks h d. g.by_line g.a_name (read_name m.Quietly refl d)
 sound_names _ = λ more marks h d. g.by_line g.no_name d
 
 sound_name_tail : (mark : Mark) → Sound NameTail mark (move_name_tail mark)
@@ -174,7 +192,10 @@ sound_more_params _ = λ more marks h d. g.by_line g.no_more_params d
 
 sound_params : (mark : Mark) → Sound Params mark (move Params mark)
 sound_params m.Star = λ more marks h d. sound_key m.Star Params _ more marks refl g.all_further d
-sound_params m.Plain = λ more marks h d. g.by_line g.a_list (sound_key m.Plain Names (NameTail ∷ []) (MoreParams ∷ more) marks refl g.a_name d)
+sound_params m.Plain = λ more marks h d. g.by_line g.a_list (g.by_line g.a_name (read_name m.Plain refl d))
+sound_params m.Together = λ more marks h d. g.by_line g.a_list (g.by_line g.a_name (read_name m.Together refl d))
+sound_params m.Existing = λ more marks h d. g.by_line g.a_list (g.by_line g.a_name (read_name m.Existing refl d))
+sound_params m.Quietly = λ more marks h d. g.by_line g.a_list (g.by_line g.a_name (read_name m.Quietly refl d))
 sound_params m.Colon = λ more marks h d. g.by_line g.a_list (g.by_line g.no_name (sound_key m.Colon MoreParams (Params ∷ []) more marks refl g.more_params d))
 sound_params _ = λ more marks h d. g.by_line g.a_list (g.by_line g.no_name (g.by_line g.no_more_params d))
 
@@ -188,6 +209,9 @@ single_never_skips m.Plain h = cc
 single_never_skips m.Query h = cc
 single_never_skips m.Star h = cc
 single_never_skips m.Plus h = cc
+single_never_skips m.Together h = cc
+single_never_skips m.Existing h = cc
+single_never_skips m.Quietly h = cc
 single_never_skips m.SquareOpen h = cc
 single_never_skips _ h = cc
 
@@ -235,6 +259,33 @@ sound_body_block : (mark : Mark) → Sound BodyBlock mark (move BodyBlock mark)
 sound_body_block m.BraceOpen = λ more marks h d. sound_key m.BraceOpen BodyBlock _ more marks refl g.body_braces d
 sound_body_block _ = tt
 
+-- headings of actions
+sound_heading : (t e q : Bool) (mark : Mark) → Sound (Heading t e q) mark (move_heading t e q mark)
+sound_heading t e q m.Together = by t
+  where
+    by : (b : Bool) → Sound (Heading b e q) m.Together (move_modifier b (Headed true e q))
+    by false = λ more marks h d. sound_key m.Together (Heading false e q) _ more marks refl g.together d
+    by true = λ more marks h d. g.by_line g.the_name (read_last true e q m.Together refl d)
+sound_heading t e q m.Existing = by e
+  where
+    by : (b : Bool) → Sound (Heading t b q) m.Existing (move_modifier b (Headed t true q))
+    by false = λ more marks h d. sound_key m.Existing (Heading t false q) _ more marks refl g.existing d
+    by true = λ more marks h d. g.by_line g.the_name (read_last t true q m.Existing refl d)
+sound_heading t e q m.Quietly = by q
+  where
+    by : (b : Bool) → Sound (Heading t e b) m.Quietly (move_modifier b (Headed t e true))
+    by false = λ more marks h d. sound_key m.Quietly (Heading t e false) _ more marks refl g.quietly d
+    by true = λ more marks h d. g.by_line g.the_name (read_last t e true m.Quietly refl d)
+sound_heading t e q m.Plain = λ more marks h d. g.by_line g.the_name (read_last t e q m.Plain refl d)
+sound_heading t e q m.Query = λ more marks h d. g.by_line g.the_name (read_last t e q m.Query refl d)
+sound_heading t e q m.Star = λ more marks h d. g.by_line g.the_name (read_last t e q m.Star refl d)
+sound_heading t e q m.Plus = λ more marks h d. g.by_line g.the_name (read_last t e q m.Plus refl d)
+sound_heading t e q _ = tt
+
+sound_headed : (t e q : Bool) (mark : Mark) → Sound (Headed t e q) mark (or_skip (move_heading t e q mark))
+sound_headed t e q mark =
+    sound_or_skip (Headed t e q) mark (move_heading t e q mark) (λ more marks d. g.by_line g.no_word d) (sound_as (Headed t e q) (Heading t e q) mark (move_heading t e q mark) g.more_words (λ more. tt) (sound_heading t e q mark))
+
 sound_param_block : (mark : Mark) → Sound ParamBlock mark (move ParamBlock mark)
 sound_param_block m.ParenOpen = λ more marks h d. sound_key m.ParenOpen ParamBlock _ more marks refl g.param_parens d
 sound_param_block _ = tt
@@ -260,9 +311,19 @@ sound_a_word : (mark : Mark) (b : Bool) → is_word mark ≡ b → Sound OneWord
 sound_a_word mark true e = λ more marks h d. read_word mark e d
 sound_a_word mark false e = tt
 
+sound_a_name : (mark : Mark) (b : Bool) → is_name mark ≡ b → Sound OneName mark (move_word b [])
+sound_a_name mark true e = λ more marks h d. read_name mark e d
+sound_a_name mark false e = tt
+
+sound_last : (t e q : Bool) (mark : Mark) (b : Bool) → only_names t e q mark ≡ b → Sound (LastWord t e q) mark (move_word b [])
+sound_last t e q mark true is = λ more marks h d. read_last t e q mark is d
+sound_last t e q mark false is = tt
+
 pub sound : (part : Part) (mark : Mark) → Sound part mark (move part mark)
 sound (Key want) mark = sound_same want mark (same_mark want mark) refl
 sound OneWord mark = sound_a_word mark (is_word mark) refl
+sound OneName mark = sound_a_name mark (is_name mark) refl
+sound (LastWord t e q) mark = sound_last t e q mark (only_names t e q mark) refl
 sound Shut mark = λ more marks h d. g.shut h d
 sound Stmts mark = sound_or_skip Stmts mark (before (move_stmt mark) (Stmts ∷ [])) (λ more marks d. g.by_line g.no_stmt d) (sound_before Stmts OneStmt mark (Stmts ∷ []) (move_stmt mark) g.more_stmts (λ more. tt) (sound_stmt mark) (stmt_never_skips mark))
 sound OneStmt mark = sound_stmt mark
@@ -277,6 +338,8 @@ sound OneBlock mark = sound_block mark
 sound CaseBlock mark = sound_case_block mark
 sound Cases mark = sound_cases mark
 sound BodyBlock mark = sound_body_block mark
+sound (Heading t e q) mark = sound_heading t e q mark
+sound (Headed t e q) mark = sound_headed t e q mark
 sound ParamBlock mark = sound_param_block mark
 sound Params mark = sound_params mark
 sound MoreParams mark = sound_more_params mark
@@ -335,6 +398,8 @@ pub finish : (parts : List Part) → HasRoom parts → (marks : List Mark) × De
 finish [] r = ([], g.nothing)
 finish (Key mark ∷ k) r = let f = finish k r.1 in (mark ∷ f.0, g.key r.0 f.1)
 finish (OneWord ∷ k) r = let f = finish k r.1 in (m.Plain ∷ f.0, read_word m.Plain refl f.1)
+finish (OneName ∷ k) r = let f = finish k r.1 in (m.Plain ∷ f.0, read_name m.Plain refl f.1)
+finish (LastWord t e q ∷ k) r = let f = finish k r.1 in (m.Plain ∷ f.0, read_last t e q m.Plain refl f.1)
 finish (Shut ∷ k) r = let f = finish k r.1 in (f.0, g.shut r.0 f.1)
 finish (Stmts ∷ k) r = let f = finish k r.1 in (f.0, g.by_line g.no_stmt f.1)
 finish (OneStmt ∷ k) r = let f = finish k r.1 in (m.Plain ∷ m.Semicolon ∷ f.0, g.by_line g.by_arg (word_then (tail_then f.1)))
@@ -349,6 +414,8 @@ finish (OneBlock ∷ k) r = let f = finish k r.1 in (m.BraceOpen ∷ m.BraceClos
 finish (CaseBlock ∷ k) r = let f = finish k r.1 in (m.BraceOpen ∷ m.BraceClose ∷ f.0, g.by_line g.case_braces (read_key m.BraceOpen refl (g.by_line g.no_case (g.key r.0 f.1))))
 finish (Cases ∷ k) r = let f = finish k r.1 in (f.0, g.by_line g.no_case f.1)
 finish (BodyBlock ∷ k) r = let f = finish k r.1 in (m.BraceOpen ∷ m.Body ∷ m.BraceClose ∷ f.0, g.by_line g.body_braces (read_key m.BraceOpen refl (read_key m.Body refl (g.key r.0 f.1))))
+finish (Heading t e q ∷ k) r = let f = finish k r.1 in (m.Plain ∷ f.0, g.by_line g.the_name (read_last t e q m.Plain refl f.1))
+finish (Headed t e q ∷ k) r = let f = finish k r.1 in (f.0, g.by_line g.no_word f.1)
 finish (ParamBlock ∷ k) r = let f = finish k r.1 in (m.ParenOpen ∷ m.ParenClose ∷ f.0, g.by_line g.param_parens (read_key m.ParenOpen refl (g.by_line g.a_list (g.by_line g.no_name (g.by_line g.no_more_params (g.key r.0 f.1))))))
 finish (Params ∷ k) r = let f = finish k r.1 in (f.0, g.by_line g.a_list (g.by_line g.no_name (g.by_line g.no_more_params f.1)))
 finish (MoreParams ∷ k) r = let f = finish k r.1 in (f.0, g.by_line g.no_more_params f.1)

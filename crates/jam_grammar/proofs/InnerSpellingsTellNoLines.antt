@@ -6,19 +6,26 @@ use Rattle.jam_grammar.specs.declared.tree.Sign.{Sign}
 use Rattle.jam_grammar.specs.declared.tree.Sign.TheVariants as signs
 use Rattle.jam_grammar.specs.declared.tree.Param.{Param}
 use Rattle.jam_grammar.specs.Trees.{ArgTree, Word, Bracket, InnerTree, CallOf, OnInner, OnReturn, ArgTrees, NoArgs, ArgAnd, ListTrees, NoLists, ListAnd, ExprTree, Or, And, Not, Group, Bare, Equal, Differ, Within, ExprTrees, NoExprs, ExprAnd, Local, Assign, AssignOn, Call}
-use Rattle.jam_grammar.specs.Spelling.{Sym, Key, Says, Named, Raw, From, Never, Level, Anywhere, WithinOr, WithinAnd, at_or, at_and, spell_arg, spell_inner, spell_args, spell_lists, spell_further, spell_expr, spell_pair, spell_second, spell_joined, mark_syms, param_syms, takes_all, plist_syms, further_params, params_syms, sign_mark, set_syms, value_syms, local_syms, spell_form}
+use Rattle.jam_grammar.specs.Spelling.{Sym, Key, Heads, Says, Named, Raw, From, Never, Level, Anywhere, WithinOr, WithinAnd, at_or, at_and, spell_arg, spell_inner, spell_args, spell_lists, spell_further, spell_expr, spell_pair, spell_second, spell_joined, mark_syms, param_syms, takes_all, plist_syms, further_params, params_syms, sign_mark, set_syms, value_syms, local_syms, spell_form}
 use Rattle.jam_grammar.proofs.MarkTellsWhatTokenSays.{has_text}
 
--- each key of the symbols has one text, and none tells a line
+-- the marks whose tokens say one text, but for the key before headings
+abbrev pub stands : Mark → Bool
+stands m.Actions = false
+stands mark = has_text mark
+
+-- each key of the symbols stands so, and none tells a line or the heading of actions
 abbrev pub Steady : List Sym → Type 0
 Steady [] = Unit {0}
-Steady (Key mark ∷ syms) = (has_text mark ≡ true) × Steady syms
+Steady (Key mark ∷ syms) = (stands mark ≡ true) × Steady syms
+Steady (Heads a b c t e q ∷ syms) = ⊥
 Steady (From line ∷ syms) = ⊥
 Steady (_ ∷ syms) = Steady syms
 
 pub steady_append : (a b : List Sym) → Steady a → Steady b → Steady (a ++ b)
 steady_append [] b h k = k
 steady_append (Key mark ∷ a) b h k = (h.0, steady_append a b h.1 k)
+steady_append (Heads x y z t e q ∷ a) b h k = absurd h
 steady_append (Says text ∷ a) b h k = steady_append a b h k
 steady_append (Named text ∷ a) b h k = steady_append a b h k
 steady_append (Raw text ∷ a) b h k = steady_append a b h k
@@ -68,15 +75,15 @@ mutual
   steady_expr level (Differ a b) = steady_append (spell_arg a) _ (steady_arg a) (refl, steady_arg b)
   steady_expr level (Within a list) = steady_append (spell_arg a) _ (steady_arg a) (refl, steady_args list)
 
-  steady_pair : (level : Level) (mark : Mark) → has_text mark ≡ true → (xs : ExprTrees) → Steady (spell_pair level mark xs)
+  steady_pair : (level : Level) (mark : Mark) → stands mark ≡ true → (xs : ExprTrees) → Steady (spell_pair level mark xs)
   steady_pair level mark h NoExprs = tt
   steady_pair level mark h (ExprAnd first rest) = steady_append (spell_expr level first) _ (steady_expr level first) (steady_second level mark h rest)
 
-  steady_second : (level : Level) (mark : Mark) → has_text mark ≡ true → (xs : ExprTrees) → Steady (spell_second level mark xs)
+  steady_second : (level : Level) (mark : Mark) → stands mark ≡ true → (xs : ExprTrees) → Steady (spell_second level mark xs)
   steady_second level mark h NoExprs = tt
   steady_second level mark h (ExprAnd first rest) = (h, steady_append (spell_expr level first) _ (steady_expr level first) (steady_joined level mark h rest))
 
-  steady_joined : (level : Level) (mark : Mark) → has_text mark ≡ true → (xs : ExprTrees) → Steady (spell_joined level mark xs)
+  steady_joined : (level : Level) (mark : Mark) → stands mark ≡ true → (xs : ExprTrees) → Steady (spell_joined level mark xs)
   steady_joined level mark h NoExprs = tt
   steady_joined level mark h (ExprAnd first rest) = (h, steady_append (spell_expr level first) _ (steady_expr level first) (steady_joined level mark h rest))
 
@@ -103,12 +110,12 @@ pub steady_params : (lists : List (List Param)) → Steady (params_syms lists)
 steady_params [] = tt
 steady_params (first ∷ rest) = (refl, steady_append (plist_syms first ++ further_params rest) _ (steady_append (plist_syms first) _ (steady_list first) (steady_further_params rest)) (refl, tt))
 
-pub steady_sign : (sign : Sign) → has_text (sign_mark sign) ≡ true
+pub steady_sign : (sign : Sign) → stands (sign_mark sign) ≡ true
 steady_sign signs.Set = refl
 steady_sign signs.Add = refl
 steady_sign signs.Fill = refl
 
-pub steady_set : (mark : Mark) (syms : List Sym) → has_text mark ≡ true → Steady syms → Steady (set_syms mark syms)
+pub steady_set : (mark : Mark) (syms : List Sym) → stands mark ≡ true → Steady syms → Steady (set_syms mark syms)
 steady_set mark syms h k = (h, steady_append syms _ k (refl, tt))
 
 pub steady_value : (value : Option ArgTrees) → Steady (value_syms value)

@@ -11,8 +11,10 @@ pub mod FirstSymbolTellsFirstToken
 pub mod OneArg
 pub mod OneExpr
 pub mod OneParam
+pub mod OneHeading
 pub mod OneForm
 pub mod InnerSpellingsTellNoLines
+pub mod HeadingsMayTurn
 pub mod SameSayingReadsAlike
 pub mod UpToLines
 pub mod ExamplesHold

@@ -2,8 +2,8 @@
 use Rattle.std.proofs.Common.{◌≡◌, ℕ, zero, suc, ◌+◌, ◌≤◌, List, [], ◌∷◌, ◌++◌, Bool, true, false, Option, Some, None, nat_le, if◌then◌else◌, refl, sym, ap, ◌∙◌, subst, arith}
 use Rattle.jam_grammar.specs.declared.mark.Mark.{Mark}
 use Rattle.jam_grammar.specs.declared.mark.Mark.TheVariants as m
-use Rattle.jam_grammar.specs.Marks.{same_mark}
-use Rattle.jam_grammar.specs.Grammar.{Part, Key, OneWord, Shut, Stmts, OneStmt, Tail, Assigned, LocalTail, ForTail, RuleTail, OneElse, ElseTail, OneBlock, CaseBlock, Cases, BodyBlock, ParamBlock, Params, MoreParams, Names, NameTail, OneArg, OneInner, InnerTail, Args, More, OneExpr, Both, Single, OrTail, AndTail, Compared, opens, Line, Derives}
+use Rattle.jam_grammar.specs.Marks.{same_mark, is_word}
+use Rattle.jam_grammar.specs.Grammar.{Part, Key, OneWord, OneName, LastWord, Shut, Stmts, OneStmt, Tail, Assigned, LocalTail, ForTail, RuleTail, OneElse, ElseTail, OneBlock, CaseBlock, Cases, BodyBlock, Heading, Headed, ParamBlock, Params, MoreParams, Names, NameTail, OneArg, OneInner, InnerTail, Args, More, OneExpr, Both, Single, OrTail, AndTail, Compared, opens, Line, Derives}
 use Rattle.jam_grammar.specs.Grammar as g
 use Rattle.jam_grammar.specs.Machine.{Move, Take, Room, Skip, Refuse, move, move_key, move_word, is_read, by_move, feed, may_end, may_be_empty}
 use Rattle.jam_grammar.proofs.MovesCompose.{followed, lead, feed_lead}
@@ -54,6 +54,8 @@ goes_on OneStmt mark = is_else mark
 goes_on OneElse mark = is_else mark
 goes_on ElseTail mark = is_else mark
 goes_on Cases mark = either (same_mark m.Case mark) (follows mark)
+goes_on (Heading t e q) mark = is_word mark
+goes_on (Headed t e q) mark = is_word mark
 goes_on Params mark = either (is_colon mark) (marks_name mark)
 goes_on MoreParams mark = either (is_colon mark) (marks_name mark)
 goes_on Names mark = marks_name mark
@@ -157,6 +159,12 @@ line_clear g.else_if = refl
 line_clear g.case_braces = refl
 line_clear g.no_case = refl
 line_clear g.more_cases = refl
+line_clear g.the_name = refl
+line_clear g.together = refl
+line_clear g.existing = refl
+line_clear g.quietly = refl
+line_clear g.no_word = refl
+line_clear g.more_words = refl
 line_clear g.body_braces = refl
 line_clear g.with_params = refl
 line_clear g.without_params = refl
@@ -236,6 +244,12 @@ line_empty g.else_if = refl
 line_empty g.case_braces = refl
 line_empty g.no_case = refl
 line_empty g.more_cases = refl
+line_empty g.the_name = refl
+line_empty g.together = refl
+line_empty g.existing = refl
+line_empty g.quietly = refl
+line_empty g.no_word = refl
+line_empty g.more_words = refl
 line_empty g.body_braces = refl
 line_empty g.with_params = refl
 line_empty g.without_params = refl
@@ -321,6 +335,9 @@ more_stmts_agrees m.Plain = refl
 more_stmts_agrees m.Query = refl
 more_stmts_agrees m.Star = refl
 more_stmts_agrees m.Plus = refl
+more_stmts_agrees m.Together = refl
+more_stmts_agrees m.Existing = refl
+more_stmts_agrees m.Quietly = refl
 more_stmts_agrees m.SquareOpen = (refl, refl)
 more_stmts_agrees m.BraceOpen = (refl, refl)
 more_stmts_agrees m.Local = refl
@@ -345,6 +362,9 @@ by_arg_agrees m.Plain = refl
 by_arg_agrees m.Query = refl
 by_arg_agrees m.Star = refl
 by_arg_agrees m.Plus = refl
+by_arg_agrees m.Together = refl
+by_arg_agrees m.Existing = refl
+by_arg_agrees m.Quietly = refl
 by_arg_agrees m.SquareOpen = (refl, refl)
 by_arg_agrees _ = tt
 
@@ -353,6 +373,9 @@ a_call_agrees m.Plain = refl
 a_call_agrees m.Query = refl
 a_call_agrees m.Star = refl
 a_call_agrees m.Plus = refl
+a_call_agrees m.Together = refl
+a_call_agrees m.Existing = refl
+a_call_agrees m.Quietly = refl
 a_call_agrees m.SquareOpen = (refl, refl)
 a_call_agrees m.Colon = refl
 a_call_agrees m.Semicolon = refl
@@ -363,6 +386,9 @@ for_name_agrees m.Plain = refl
 for_name_agrees m.Query = refl
 for_name_agrees m.Star = refl
 for_name_agrees m.Plus = refl
+for_name_agrees m.Together = refl
+for_name_agrees m.Existing = refl
+for_name_agrees m.Quietly = refl
 for_name_agrees _ = tt
 
 else_block_agrees : (mark : Mark) → Agrees ElseTail mark (lead (OneBlock ∷ []) mark) (move ElseTail mark)
@@ -379,6 +405,9 @@ without_params_agrees _ = tt
 
 a_list_agrees : (mark : Mark) → Agrees Params mark (lead (Names ∷ MoreParams ∷ []) mark) (move Params mark)
 a_list_agrees m.Plain = refl
+a_list_agrees m.Together = refl
+a_list_agrees m.Existing = refl
+a_list_agrees m.Quietly = refl
 a_list_agrees m.Colon = refl
 a_list_agrees m.Query = tt
 a_list_agrees m.Star = refl
@@ -390,13 +419,93 @@ unmarked_agrees m.Plain = refl
 unmarked_agrees m.Query = refl
 unmarked_agrees m.Star = refl
 unmarked_agrees m.Plus = refl
+unmarked_agrees m.Together = refl
+unmarked_agrees m.Existing = refl
+unmarked_agrees m.Quietly = refl
 unmarked_agrees _ = tt
+
+a_name_agrees : (mark : Mark) → Agrees Names mark (lead (OneName ∷ NameTail ∷ []) mark) (move Names mark)
+a_name_agrees m.Plain = refl
+a_name_agrees m.Together = refl
+a_name_agrees m.Existing = refl
+a_name_agrees m.Quietly = refl
+a_name_agrees _ = tt
+
+-- headings of actions
+the_name_agrees : (t e q : Bool) (mark : Mark) → Agrees (Heading t e q) mark (lead (LastWord t e q ∷ []) mark) (move (Heading t e q) mark)
+the_name_agrees t e q m.Together = by t
+  where
+    by : (b : Bool) → Agrees (Heading b e q) m.Together (lead (LastWord b e q ∷ []) m.Together) (move (Heading b e q) m.Together)
+    by false = tt
+    by true = refl
+the_name_agrees t e q m.Existing = by e
+  where
+    by : (b : Bool) → Agrees (Heading t b q) m.Existing (lead (LastWord t b q ∷ []) m.Existing) (move (Heading t b q) m.Existing)
+    by false = tt
+    by true = refl
+the_name_agrees t e q m.Quietly = by q
+  where
+    by : (b : Bool) → Agrees (Heading t e b) m.Quietly (lead (LastWord t e b ∷ []) m.Quietly) (move (Heading t e b) m.Quietly)
+    by false = tt
+    by true = refl
+the_name_agrees t e q m.Plain = refl
+the_name_agrees t e q m.Query = refl
+the_name_agrees t e q m.Star = refl
+the_name_agrees t e q m.Plus = refl
+the_name_agrees t e q _ = tt
+
+no_word_agrees : (t e q : Bool) (mark : Mark) → Agrees (Headed t e q) mark (lead [] mark) (move (Headed t e q) mark)
+no_word_agrees t e q m.Together = by t
+  where
+    by : (b : Bool) → Agrees (Headed b e q) m.Together (lead [] m.Together) (move (Headed b e q) m.Together)
+    by false = refl
+    by true = refl
+no_word_agrees t e q m.Existing = by e
+  where
+    by : (b : Bool) → Agrees (Headed t b q) m.Existing (lead [] m.Existing) (move (Headed t b q) m.Existing)
+    by false = refl
+    by true = refl
+no_word_agrees t e q m.Quietly = by q
+  where
+    by : (b : Bool) → Agrees (Headed t e b) m.Quietly (lead [] m.Quietly) (move (Headed t e b) m.Quietly)
+    by false = refl
+    by true = refl
+no_word_agrees t e q m.Plain = refl
+no_word_agrees t e q m.Query = refl
+no_word_agrees t e q m.Star = refl
+no_word_agrees t e q m.Plus = refl
+no_word_agrees t e q _ = tt
+
+more_words_agrees : (t e q : Bool) (mark : Mark) → Agrees (Headed t e q) mark (lead (Heading t e q ∷ []) mark) (move (Headed t e q) mark)
+more_words_agrees t e q m.Together = by t
+  where
+    by : (b : Bool) → Agrees (Headed b e q) m.Together (lead (Heading b e q ∷ []) m.Together) (move (Headed b e q) m.Together)
+    by false = refl
+    by true = refl
+more_words_agrees t e q m.Existing = by e
+  where
+    by : (b : Bool) → Agrees (Headed t b q) m.Existing (lead (Heading t b q ∷ []) m.Existing) (move (Headed t b q) m.Existing)
+    by false = refl
+    by true = refl
+more_words_agrees t e q m.Quietly = by q
+  where
+    by : (b : Bool) → Agrees (Headed t e b) m.Quietly (lead (Heading t e b ∷ []) m.Quietly) (move (Headed t e b) m.Quietly)
+    by false = refl
+    by true = refl
+more_words_agrees t e q m.Plain = refl
+more_words_agrees t e q m.Query = refl
+more_words_agrees t e q m.Star = refl
+more_words_agrees t e q m.Plus = refl
+more_words_agrees t e q _ = tt
 
 a_word_agrees : (mark : Mark) → Agrees OneArg mark (lead (OneWord ∷ []) mark) (move OneArg mark)
 a_word_agrees m.Plain = refl
 a_word_agrees m.Query = refl
 a_word_agrees m.Star = refl
 a_word_agrees m.Plus = refl
+a_word_agrees m.Together = refl
+a_word_agrees m.Existing = refl
+a_word_agrees m.Quietly = refl
 a_word_agrees _ = tt
 
 inner_call_agrees : (mark : Mark) → Agrees OneInner mark (lead (OneArg ∷ Args ∷ More 8 ∷ []) mark) (move OneInner mark)
@@ -404,6 +513,9 @@ inner_call_agrees m.Plain = refl
 inner_call_agrees m.Query = refl
 inner_call_agrees m.Star = refl
 inner_call_agrees m.Plus = refl
+inner_call_agrees m.Together = refl
+inner_call_agrees m.Existing = refl
+inner_call_agrees m.Quietly = refl
 inner_call_agrees m.SquareOpen = (refl, refl)
 inner_call_agrees _ = tt
 
@@ -412,6 +524,9 @@ on_inner_agrees m.Plain = refl
 on_inner_agrees m.Query = refl
 on_inner_agrees m.Star = refl
 on_inner_agrees m.Plus = refl
+on_inner_agrees m.Together = refl
+on_inner_agrees m.Existing = refl
+on_inner_agrees m.Quietly = refl
 on_inner_agrees m.SquareOpen = (refl, refl)
 on_inner_agrees m.On = (refl, refl)
 on_inner_agrees _ = tt
@@ -421,6 +536,9 @@ more_args_agrees m.Plain = refl
 more_args_agrees m.Query = refl
 more_args_agrees m.Star = refl
 more_args_agrees m.Plus = refl
+more_args_agrees m.Together = refl
+more_args_agrees m.Existing = refl
+more_args_agrees m.Quietly = refl
 more_args_agrees m.SquareOpen = (refl, refl)
 more_args_agrees _ = tt
 
@@ -429,6 +547,9 @@ an_or_agrees m.Plain = refl
 an_or_agrees m.Query = refl
 an_or_agrees m.Star = refl
 an_or_agrees m.Plus = refl
+an_or_agrees m.Together = refl
+an_or_agrees m.Existing = refl
+an_or_agrees m.Quietly = refl
 an_or_agrees m.SquareOpen = (refl, refl)
 an_or_agrees m.Not = (refl, refl)
 an_or_agrees m.ParenOpen = (refl, refl)
@@ -439,6 +560,9 @@ an_and_agrees m.Plain = refl
 an_and_agrees m.Query = refl
 an_and_agrees m.Star = refl
 an_and_agrees m.Plus = refl
+an_and_agrees m.Together = refl
+an_and_agrees m.Existing = refl
+an_and_agrees m.Quietly = refl
 an_and_agrees m.SquareOpen = (refl, refl)
 an_and_agrees m.Not = (refl, refl)
 an_and_agrees m.ParenOpen = (refl, refl)
@@ -449,6 +573,9 @@ of_arg_agrees m.Plain = refl
 of_arg_agrees m.Query = refl
 of_arg_agrees m.Star = refl
 of_arg_agrees m.Plus = refl
+of_arg_agrees m.Together = refl
+of_arg_agrees m.Existing = refl
+of_arg_agrees m.Quietly = refl
 of_arg_agrees m.SquareOpen = (refl, refl)
 of_arg_agrees _ = tt
 
@@ -466,7 +593,7 @@ agrees g.a_while mark = key_agrees OneStmt m.While (OneExpr ∷ OneBlock ∷ [])
 agrees g.a_switch mark = key_agrees OneStmt m.Switch (Args ∷ CaseBlock ∷ []) (refl, refl) mark
 agrees g.a_module mark = key_agrees OneStmt m.Module (Args ∷ OneBlock ∷ []) (refl, refl) mark
 agrees g.a_rule mark = key_agrees OneStmt m.Rule (OneWord ∷ RuleTail ∷ []) (refl, refl) mark
-agrees g.an_action mark = key_agrees OneStmt m.Actions (OneWord ∷ BodyBlock ∷ []) (refl, refl) mark
+agrees g.an_action mark = key_agrees OneStmt m.Actions (Heading false false false ∷ BodyBlock ∷ []) (refl, refl) mark
 agrees g.an_on mark = key_agrees OneStmt m.On (OneArg ∷ OneStmt ∷ Shut ∷ []) (refl, refl) mark
 agrees g.by_arg mark = by_arg_agrees mark
 agrees g.set mark = key_agrees Tail m.Equals (Args ∷ Key m.Semicolon ∷ []) refl mark
@@ -488,6 +615,12 @@ agrees g.else_if mark = key_agrees ElseTail m.If (OneExpr ∷ OneBlock ∷ OneEl
 agrees g.case_braces mark = key_agrees CaseBlock m.BraceOpen (Cases ∷ Key m.BraceClose ∷ []) (refl, refl) mark
 agrees g.no_case mark = empty_agrees Cases refl mark
 agrees g.more_cases mark = key_agrees Cases m.Case (OneWord ∷ Key m.Colon ∷ Stmts ∷ Cases ∷ []) refl mark
+agrees (g.the_name {t} {e} {q}) mark = the_name_agrees t e q mark
+agrees (g.together {e} {q}) mark = key_agrees (Heading false e q) m.Together (Headed true e q ∷ []) refl mark
+agrees (g.existing {t} {q}) mark = key_agrees (Heading t false q) m.Existing (Headed t true q ∷ []) refl mark
+agrees (g.quietly {t} {e}) mark = key_agrees (Heading t e false) m.Quietly (Headed t e true ∷ []) refl mark
+agrees (g.no_word {t} {e} {q}) mark = no_word_agrees t e q mark
+agrees (g.more_words {t} {e} {q}) mark = more_words_agrees t e q mark
 agrees g.body_braces mark = key_agrees BodyBlock m.BraceOpen (Key m.Body ∷ Key m.BraceClose ∷ []) (refl, refl) mark
 agrees g.with_params mark = with_params_agrees mark
 agrees g.without_params mark = without_params_agrees mark
@@ -497,7 +630,7 @@ agrees g.a_list mark = a_list_agrees mark
 agrees g.no_more_params mark = empty_agrees MoreParams refl mark
 agrees g.more_params mark = key_agrees MoreParams m.Colon (Params ∷ []) refl mark
 agrees g.no_name mark = empty_agrees Names refl mark
-agrees g.a_name mark = key_agrees Names m.Plain (NameTail ∷ []) refl mark
+agrees g.a_name mark = a_name_agrees mark
 agrees g.unmarked mark = unmarked_agrees mark
 agrees g.optional mark = key_agrees NameTail m.Query (Names ∷ []) refl mark
 agrees g.any_rest mark = key_agrees NameTail m.Star ([]) refl mark
@@ -575,5 +708,7 @@ pub complete : {parts : List Part} {marks : List Mark} → Derives parts marks �
 complete g.nothing clear = refl
 complete (g.key {mark} {parts} {marks} room d) clear = ap (λ b. and_then (by_move (move_key b) parts (feed parts) mark) (accepts marks)) (same_mark_refl mark) ∙ complete d clear.1
 complete (g.word {mark} {parts} {marks} is room d) clear = ap (λ b. and_then (by_move (move_word b []) parts (feed parts) mark) (accepts marks)) is ∙ complete d clear.1
+complete (g.name {mark} {parts} {marks} is room d) clear = ap (λ b. and_then (by_move (move_word b []) parts (feed parts) mark) (accepts marks)) is ∙ complete d clear.1
+complete (g.last {t} {e} {q} {mark} {parts} {marks} is room d) clear = ap (λ b. and_then (by_move (move_word b []) parts (feed parts) mark) (accepts marks)) is ∙ complete d clear.1
 complete (g.shut {parts} {marks} room d) clear = shut_read parts marks (complete d clear.1)
 complete (g.by_line {part} {by} {parts} {marks} line d) clear = line_read part by parts marks line clear.0 (rooms d) (complete d (clear_append part by parts (line_clear line) clear.0 clear.1))

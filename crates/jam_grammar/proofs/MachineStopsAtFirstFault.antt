@@ -53,10 +53,10 @@ found (t ∷ tokens) at parts r h = by (feed parts (mark_of_token t)) refl h (λ
           stuck = f.stuck;
         }
 
-clear : IsClear (Stmts ∷ [])
+pub clear : IsClear (Stmts ∷ [])
 clear = (λ mark h. refl, tt)
 
-has_room : HasRoom (Stmts ∷ [])
+pub has_room : HasRoom (Stmts ∷ [])
 has_room = (omega arith, tt)
 
 stops : (at : List Token) (tokens : List Token) (f : Found tokens at (Stmts ∷ [])) → Stops f.prefix at
@@ -77,12 +77,13 @@ first_fault tokens at h =
     record { prefix = f.prefix; split = f.split; begins = (end.0, f.back end.0 end.1); stops = stops at tokens f }
 
 -- all was read
-ends_whole : (parts : List Part) → HasRoom parts → may_end parts ≡ true → Derives parts []
+pub ends_whole : (parts : List Part) → HasRoom parts → may_end parts ≡ true → Derives parts []
 ends_whole [] r h = g.nothing
 ends_whole (g.Shut ∷ k) r h = g.shut r.0 (ends_whole k r.1 h)
 ends_whole (g.Stmts ∷ k) r h = g.by_line g.no_stmt (ends_whole k r.1 h)
 ends_whole (g.OneElse ∷ k) r h = g.by_line g.no_else (ends_whole k r.1 h)
 ends_whole (g.Cases ∷ k) r h = g.by_line g.no_case (ends_whole k r.1 h)
+ends_whole (g.Headed t e q ∷ k) r h = g.by_line g.no_word (ends_whole k r.1 h)
 ends_whole (g.Params ∷ k) r h = g.by_line g.a_list (g.by_line g.no_name (g.by_line g.no_more_params (ends_whole k r.1 h)))
 ends_whole (g.MoreParams ∷ k) r h = g.by_line g.no_more_params (ends_whole k r.1 h)
 ends_whole (g.Names ∷ k) r h = g.by_line g.no_name (ends_whole k r.1 h)

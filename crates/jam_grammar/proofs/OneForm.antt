@@ -6,18 +6,22 @@ use Rattle.jam_grammar.specs.declared.mark.Mark.TheVariants as m
 use Rattle.jam_grammar.specs.declared.tree.Sign.{Sign}
 use Rattle.jam_grammar.specs.declared.tree.Sign.TheVariants as signs
 use Rattle.jam_grammar.specs.Trees.{ArgTrees, NoArgs, ArgAnd, ListTrees, NoLists, ListAnd, FormTree, Braces, Local, Assign, AssignOn, Include, Return, If, For, While, Switch, Module, Rule, Actions, On, Call, OtherTree, Nothing, ElseBraces, ElseIf, StmtTrees, NoStmts, StmtAnd, CaseTrees, NoCases, CaseAnd}
-use Rattle.jam_grammar.specs.Spelling.{Sym, Key, Says, Raw, From, Spells, Anywhere, spell_arg, spell_args, spell_lists, spell_further, spell_expr, params_syms, sign_mark, set_syms, value_syms, local_syms, braced, only, is_if, spell_form, spell_other, spell_stmts, spell_cases}
+use Rattle.jam_grammar.specs.Spelling.{Sym, Key, Heads, Says, Raw, From, Spells, Anywhere, spell_arg, spell_args, spell_lists, spell_further, spell_expr, params_syms, sign_mark, set_syms, value_syms, local_syms, braced, only, is_if, spell_form, spell_other, spell_stmts, spell_cases}
 use Rattle.jam_grammar.proofs.PartsCompose.{spells_split}
 use Rattle.jam_grammar.proofs.FirstSymbolTellsFirstToken.{first_mark, tail, key_first, key_tail, says_text, says_first, says_tail, word_at, raw_text, raw_tail, line_is, never_spelled, clash, same_first, begins_arg, begins_list, begins_or, at_first, cong, cong3, cong4}
 use Rattle.jam_grammar.proofs.OneArg.{arg_then_first, arg_one, args_one, lists_one, moved}
 use Rattle.jam_grammar.proofs.OneExpr.{expr_one}
 use Rattle.jam_grammar.proofs.OneParam.{params_one}
+use Rattle.jam_grammar.proofs.OneHeading.{IsNameAt, heading_one}
 
 -- the kinds of statements by their first marks
 abbrev class_of : Mark → Mark
 class_of m.Query = m.Plain
 class_of m.Star = m.Plain
 class_of m.Plus = m.Plain
+class_of m.Together = m.Plain
+class_of m.Existing = m.Plain
+class_of m.Quietly = m.Plain
 class_of m.SquareOpen = m.Plain
 class_of mark = mark
 
@@ -31,6 +35,9 @@ arg_class (Some m.Plain) h = refl
 arg_class (Some m.Query) h = refl
 arg_class (Some m.Star) h = refl
 arg_class (Some m.Plus) h = refl
+arg_class (Some m.Together) h = refl
+arg_class (Some m.Existing) h = refl
+arg_class (Some m.Quietly) h = refl
 arg_class (Some m.SquareOpen) h = refl
 arg_class (Some _) h = cc
 
@@ -45,7 +52,7 @@ form_class (While test block) = m.While
 form_class (Switch value cases) = m.Switch
 form_class (Module name block) = m.Module
 form_class (Rule name params block) = m.Rule
-form_class (Actions name body) = m.Actions
+form_class (Actions name a b c body) = m.Actions
 form_class (On target line form) = m.On
 form_class (Assign target sign value) = m.Plain
 form_class (AssignOn target on sign value) = m.Plain
@@ -62,7 +69,7 @@ form_first (While test block) ts u s = ap class (key_first m.While _ ts u s)
 form_first (Switch value cases) ts u s = ap class (key_first m.Switch _ ts u s)
 form_first (Module name block) ts u s = ap class (key_first m.Module _ ts u s)
 form_first (Rule name params block) ts u s = ap class (key_first m.Rule (Says name ∷ (params_syms params ++ braced (spell_stmts block))) ts u s)
-form_first (Actions name body) ts u s = ap class (key_first m.Actions (Says name ∷ braced (Raw body ∷ [])) ts u s)
+form_first (Actions name a b c body) ts u s = ap class (key_first m.Actions (Heads false false false a b c ∷ Says name ∷ braced (Raw body ∷ [])) ts u s)
 form_first (On target line form) ts u s = ap class (key_first m.On _ ts u s)
 form_first (Assign target sign value) ts u s = arg_class (first_mark ts) (arg_then_first target _ ts u s)
 form_first (AssignOn target on sign value) ts u s = arg_class (first_mark ts) (arg_then_first target _ ts u s)
@@ -111,7 +118,7 @@ form_goes (While test block) = refl
 form_goes (Switch value cases) = refl
 form_goes (Module name block) = refl
 form_goes (Rule name params block) = refl
-form_goes (Actions name body) = refl
+form_goes (Actions name a b c body) = refl
 form_goes (On target line form) = refl
 form_goes (Assign target sign value) = refl
 form_goes (AssignOn target on sign value) = refl
@@ -128,7 +135,7 @@ form_no_else (While test block) h = cc
 form_no_else (Switch value cases) h = cc
 form_no_else (Module name block) h = cc
 form_no_else (Rule name params block) h = cc
-form_no_else (Actions name body) h = cc
+form_no_else (Actions name a b c body) h = cc
 form_no_else (On target line form) h = cc
 form_no_else (Assign target sign value) h = cc
 form_no_else (AssignOn target on sign value) h = cc
@@ -237,6 +244,9 @@ args_then_list (Some m.Plain) h = refl
 args_then_list (Some m.Query) h = refl
 args_then_list (Some m.Star) h = refl
 args_then_list (Some m.Plus) h = refl
+args_then_list (Some m.Together) h = refl
+args_then_list (Some m.Existing) h = refl
+args_then_list (Some m.Quietly) h = refl
 args_then_list (Some m.SquareOpen) h = refl
 args_then_list (Some _) h = cc
 
@@ -291,6 +301,24 @@ args_block_one a b xs ys alone ts u v s r =
     let e = args_one a b ts q.0 p.0 q.1 p.1 (brace_no_arg q.0 (key_first m.BraceOpen _ q.0 u q.2)) (brace_no_arg p.0 (key_first m.BraceOpen _ p.0 v p.2)) in
     let f = block_one xs ys alone q.0 u v q.2 (moved (braced (spell_stmts ys)) q.0 p.0 v e.1 p.2) in
     (e.0, f.0, f.1)
+
+-- the name and the body of actions
+named_at : (name body : List ℕ) (ts u : List Token) → Spells ts (Says name ∷ braced (Raw body ∷ [])) u → IsNameAt ts
+named_at name body ts u s = (says_first name (braced (Raw body ∷ [])) ts u s, key_first m.BraceOpen (Raw body ∷ Key m.BraceClose ∷ []) (tail ts) u (says_tail name (braced (Raw body ∷ [])) ts u s))
+
+actions_one : (name other body more : List ℕ) (ts u v : List Token) → Spells ts (Says name ∷ braced (Raw body ∷ [])) u → Spells ts (Says other ∷ braced (Raw more ∷ [])) v → (name ≡ other) × (body ≡ more) × (u ≡ v)
+actions_one name other body more ts u v a b =
+    let c = key_tail m.BraceOpen (Raw body ∷ Key m.BraceClose ∷ []) (tail ts) u (says_tail name (braced (Raw body ∷ [])) ts u a) in
+    let d = key_tail m.BraceOpen (Raw more ∷ Key m.BraceClose ∷ []) (tail ts) v (says_tail other (braced (Raw more ∷ [])) ts v b) in
+    let at = tail (tail ts) in (
+      sym (says_text name (braced (Raw body ∷ [])) ts u a) ∙ says_text other (braced (Raw more ∷ [])) ts v b,
+      sym (raw_text body (Key m.BraceClose ∷ []) at u c) ∙ raw_text more (Key m.BraceClose ∷ []) at v d,
+      sym (key_tail m.BraceClose [] (tail at) u (raw_tail body (Key m.BraceClose ∷ []) at u c)) ∙ key_tail m.BraceClose [] (tail at) v (raw_tail more (Key m.BraceClose ∷ []) at v d),
+    )
+
+cong5 : {A B C D E F : Type 0} (f : A → B → C → D → E → F) {a1 a2 : A} {b1 b2 : B} {c1 c2 : C} {d1 d2 : D} {e1 e2 : E} → a1 ≡ a2 → b1 ≡ b2 → c1 ≡ c2 → d1 ≡ d2 → e1 ≡ e2 → f a1 b1 c1 d1 e1 ≡ f a2 b2 c2 d2 e2
+cong5 f {a1} {a2} {b1} {b2} {c1} {c2} {d1} {d2} {e1} {e2} g h i j k =
+    ap (λ x. f x b1 c1 d1 e1) g ∙ ap (λ x. f a2 x c1 d1 e1) h ∙ ap (λ x. f a2 b2 x d1 e1) i ∙ ap (λ x. f a2 b2 c2 x e1) j ∙ ap (λ x. f a2 b2 c2 d2 x) k
 
 differ : (f g : FormTree) (ts u v : List Token) → Spells ts (spell_form f) u → Spells ts (spell_form g) v → form_class f ≡ form_class g
 differ f g ts u v s r = sym (form_first f ts u s) ∙ form_first g ts v r
@@ -347,15 +375,12 @@ mutual
       let e = params_one params more (tail (tail ts)) q.0 p.0 q.1 p.1 (key_first m.BraceOpen _ q.0 u q.2) (key_first m.BraceOpen _ p.0 v p.2) in
       let f = block_one block body (λ ys. stmts_one block ys) q.0 u v q.2 (moved (braced (spell_stmts body)) q.0 p.0 v e.1 p.2) in
       (cong3 (λ a b c. Rule a b c) (sym (says_text name (params_syms params ++ braced (spell_stmts block)) (tail ts) u a) ∙ says_text other (params_syms more ++ braced (spell_stmts body)) (tail ts) v b) e.0 f.0, f.1)
-  form_one (Actions name body) (Actions other more) ts u v s r n k =
-      let a = key_tail m.Actions (Says name ∷ braced (Raw body ∷ [])) ts u s in
-      let b = key_tail m.Actions (Says other ∷ braced (Raw more ∷ [])) ts v r in
-      let c = key_tail m.BraceOpen (Raw body ∷ Key m.BraceClose ∷ []) (tail (tail ts)) u (says_tail name (braced (Raw body ∷ [])) (tail ts) u a) in
-      let d = key_tail m.BraceOpen (Raw more ∷ Key m.BraceClose ∷ []) (tail (tail ts)) v (says_tail other (braced (Raw more ∷ [])) (tail ts) v b) in
-      let at = tail (tail (tail ts)) in (
-        cong Actions (sym (says_text name (braced (Raw body ∷ [])) (tail ts) u a) ∙ says_text other (braced (Raw more ∷ [])) (tail ts) v b) (sym (raw_text body (Key m.BraceClose ∷ []) at u c) ∙ raw_text more (Key m.BraceClose ∷ []) at v d),
-        sym (key_tail m.BraceClose [] (tail at) u (raw_tail body (Key m.BraceClose ∷ []) at u c)) ∙ key_tail m.BraceClose [] (tail at) v (raw_tail more (Key m.BraceClose ∷ []) at v d),
-      )
+  form_one (Actions name a b c body) (Actions other x y z more) ts u v s r n k =
+      let p = key_tail m.Actions (Heads false false false a b c ∷ Says name ∷ braced (Raw body ∷ [])) ts u s in
+      let q = key_tail m.Actions (Heads false false false x y z ∷ Says other ∷ braced (Raw more ∷ [])) ts v r in
+      let e = heading_one p.1 q.1 (named_at name body p.0 u p.2) (named_at other more q.0 v q.2) in
+      let f = actions_one name other body more p.0 u v p.2 (moved (Says other ∷ braced (Raw more ∷ [])) p.0 q.0 v e.3 q.2) in
+      (cong5 (λ i j k l o. Actions i j k l o) f.0 e.0 e.1 e.2 f.1, f.2)
   form_one (On target line form) (On other number body) ts u v s r n k =
       let q = spells_split (tail ts) u (spell_arg target) (From line ∷ spell_form form) (key_tail m.On _ ts u s) in
       let p = spells_split (tail ts) v (spell_arg other) (From number ∷ spell_form body) (key_tail m.On _ ts v r) in
@@ -427,7 +452,7 @@ mutual
   form_one (Switch value cases) g ts u v s r n k = let e = differ (Switch value cases) g ts u v s r in cc
   form_one (Module name block) g ts u v s r n k = let e = differ (Module name block) g ts u v s r in cc
   form_one (Rule name params block) g ts u v s r n k = let e = differ (Rule name params block) g ts u v s r in cc
-  form_one (Actions name body) g ts u v s r n k = let e = differ (Actions name body) g ts u v s r in cc
+  form_one (Actions name a b c body) g ts u v s r n k = let e = differ (Actions name a b c body) g ts u v s r in cc
   form_one (On target line form) g ts u v s r n k = let e = differ (On target line form) g ts u v s r in cc
   form_one (Assign target sign value) g ts u v s r n k = let e = differ (Assign target sign value) g ts u v s r in cc
   form_one (AssignOn target on sign value) g ts u v s r n k = let e = differ (AssignOn target on sign value) g ts u v s r in cc

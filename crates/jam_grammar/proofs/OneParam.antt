@@ -9,7 +9,7 @@ use Rattle.jam_grammar.specs.declared.tree.Param.{Param}
 use Rattle.jam_grammar.specs.Spelling.{Sym, Key, Never, Spells, mark_syms, param_syms, no_mark, takes_all, plist_syms, further_params, params_syms}
 use Rattle.jam_grammar.proofs.PartsCompose.{spells_split}
 use Rattle.jam_grammar.proofs.OneArg.{moved}
-use Rattle.jam_grammar.proofs.FirstSymbolTellsFirstToken.{first_mark, tail, key_first, key_tail, named_first, named_text, named_tail, never_spelled, clash, same_first, at_first, cong}
+use Rattle.jam_grammar.proofs.FirstSymbolTellsFirstToken.{first_mark, tail, key_first, key_tail, name_at, named_first, named_text, named_tail, never_spelled, clash, same_first, at_first, cong}
 
 -- the marks of parameters, and how a list of them goes on
 abbrev pub marks_param : Mark → Bool
@@ -20,7 +20,26 @@ marks_param _ = false
 
 abbrev pub begins_param : Mark → Bool
 begins_param m.Plain = true
+begins_param m.Together = true
+begins_param m.Existing = true
+begins_param m.Quietly = true
 begins_param mark = marks_param mark
+
+name_no_mark : (o : Option Mark) → name_at o ≡ true → at_first marks_param o ≡ false
+name_no_mark None h = refl
+name_no_mark (Some m.Plain) h = refl
+name_no_mark (Some m.Together) h = refl
+name_no_mark (Some m.Existing) h = refl
+name_no_mark (Some m.Quietly) h = refl
+name_no_mark (Some _) h = cc
+
+name_begins : (o : Option Mark) → name_at o ≡ true → at_first begins_param o ≡ true
+name_begins None h = h
+name_begins (Some m.Plain) h = refl
+name_begins (Some m.Together) h = refl
+name_begins (Some m.Existing) h = refl
+name_begins (Some m.Quietly) h = refl
+name_begins (Some _) h = cc
 
 abbrev char_at : Option Mark → ℕ
 char_at (Some m.Query) = 63
@@ -58,11 +77,14 @@ names_first [] ts u s n = no_mark_at (first_mark ts) (ap (λ x. at_first begins_
     no_mark_at : (o : Option Mark) → at_first begins_param o ≡ false → at_first marks_param o ≡ false
     no_mark_at None h = refl
     no_mark_at (Some m.Plain) h = refl
+    no_mark_at (Some m.Together) h = refl
+    no_mark_at (Some m.Existing) h = refl
+    no_mark_at (Some m.Quietly) h = refl
     no_mark_at (Some mark) h = h
-names_first (x ∷ xs) ts u s n = ap (at_first marks_param) (named_first x.name _ ts u s)
+names_first (x ∷ xs) ts u s n = name_no_mark (first_mark ts) (named_first x.name _ ts u s)
 
 name_first : (x : Param) (xs : List Param) (ts u : List Token) → Spells ts (flat_map param_syms (x ∷ xs)) u → at_first begins_param (first_mark ts) ≡ true
-name_first x xs ts u s = ap (at_first begins_param) (named_first x.name _ ts u s)
+name_first x xs ts u s = name_begins (first_mark ts) (named_first x.name _ ts u s)
 
 mark_one : (a b : Option ℕ) (xs ys : List Param) (ts u v : List Token) → Spells ts (mark_syms a ++ flat_map param_syms xs) u → Spells ts (mark_syms b ++ flat_map param_syms ys) v → at_first begins_param (first_mark u) ≡ false → at_first begins_param (first_mark v) ≡ false → (a ≡ b) × ((w : List Token) × Spells w (flat_map param_syms xs) u × Spells w (flat_map param_syms ys) v)
 mark_one None None xs ys ts u v s r n k = (refl, (ts, s, r))

@@ -4,7 +4,7 @@ use Rattle.b2_base.specs.declared.token.Token.{Token}
 use Rattle.jam_grammar.specs.Marks.{mark_of_token}
 use Rattle.jam_grammar.specs.Grammar.{Part, opens}
 use Rattle.jam_grammar.specs.Machine.{go_on, run, feed, by_move, move}
-use Rattle.jam_grammar.specs.Spelling.{Sym, Key, Says, Named, Raw, From, Never, Spells}
+use Rattle.jam_grammar.specs.Spelling.{Sym, Key, Heads, Says, Named, Raw, From, Never, Spells}
 use Rattle.jam_grammar.specs.Gives.{Leads, Ends, ReadsPart}
 use Rattle.jam_grammar.proofs.MovesCompose.{opens_append, lead, feed_lead}
 
@@ -17,6 +17,7 @@ then_ends parts part others tokens mid at depth deeper l n e more h =
 pub spells_append : (a b c : List Token) (s r : List Sym) → Spells a s b → Spells b r c → Spells a (s ++ r) c
 spells_append a b c [] r h k = subst (λ x. Spells x r c) (sym h) k
 spells_append a b c (From n ∷ s) r h k = (h.0, spells_append a b c s r h.1 k)
+spells_append a b c (Heads x y z t e q ∷ s) r h k = (h.0, h.1, spells_append h.0 b c s r h.2 k)
 spells_append [] b c (Key mark ∷ s) r h k = absurd h
 spells_append [] b c (Says text ∷ s) r h k = absurd h
 spells_append [] b c (Named text ∷ s) r h k = absurd h
@@ -32,6 +33,7 @@ spells_append (t ∷ a) b c (Never ∷ s) r h k = absurd h
 pub spells_split : (a c : List Token) (s r : List Sym) → Spells a (s ++ r) c → (b : List Token) × Spells a s b × Spells b r c
 spells_split a c [] r h = (a, refl, h)
 spells_split a c (From n ∷ s) r h = let q = spells_split a c s r h.1 in (q.0, (h.0, q.1), q.2)
+spells_split a c (Heads x y z t e q ∷ s) r h = let w = spells_split h.0 c s r h.2 in (w.0, (h.0, h.1, w.1), w.2)
 spells_split [] c (Key mark ∷ s) r h = absurd h
 spells_split [] c (Says text ∷ s) r h = absurd h
 spells_split [] c (Named text ∷ s) r h = absurd h

@@ -8,18 +8,19 @@ use Rattle.jam_grammar.specs.declared.mark.Mark.TheVariants as m
 use Rattle.jam_grammar.specs.declared.tree.Sign.{Sign}
 use Rattle.jam_grammar.specs.declared.tree.Sign.TheVariants as signs
 use Rattle.jam_grammar.specs.declared.tree.Param.{Param}
-use Rattle.jam_grammar.specs.Marks.{mark_of_token, is_word}
-use Rattle.jam_grammar.specs.Grammar.{Part, Key, OneWord, Shut, Stmts, OneStmt, Tail, Assigned, LocalTail, ForTail, RuleTail, OneElse, ElseTail, OneBlock, CaseBlock, Cases, BodyBlock, ParamBlock, Params, MoreParams, Names, NameTail, OneArg, OneInner, InnerTail, Args, More, OneExpr, Both, Single, OrTail, AndTail, Compared, Line, Derives}
+use Rattle.jam_grammar.specs.Marks.{mark_of_token, is_word, is_name, only_names}
+use Rattle.jam_grammar.specs.Grammar.{Part, Key, OneWord, OneName, LastWord, Shut, Stmts, OneStmt, Tail, Assigned, LocalTail, ForTail, RuleTail, OneElse, ElseTail, OneBlock, CaseBlock, Cases, BodyBlock, Heading, Headed, ParamBlock, Params, MoreParams, Names, NameTail, OneArg, OneInner, InnerTail, Args, More, OneExpr, Both, Single, OrTail, AndTail, Compared, Line, Derives}
 use Rattle.jam_grammar.specs.Grammar as g
 use Rattle.jam_grammar.specs.Trees.{ArgTree, Word, Bracket, InnerTree, CallOf, OnInner, OnReturn, ArgTrees, NoArgs, ArgAnd, ListTrees, NoLists, ListAnd, ExprTree, Or, And, Not, Group, Bare, Equal, Differ, Within, ExprTrees, NoExprs, ExprAnd, FormTree, Braces, Local, Assign, AssignOn, Include, Return, If, For, While, Switch, Module, Rule, Actions, On, Call, OtherTree, Nothing, ElseBraces, ElseIf, StmtTrees, NoStmts, StmtAnd, CaseTrees, NoCases, CaseAnd}
-use Rattle.jam_grammar.specs.Spelling.{Sym, Says, Named, Raw, From, Never, Spells, StartsOn, Anywhere, WithinOr, WithinAnd, spell_arg, spell_inner, spell_args, spell_lists, spell_further, spell_expr, spell_joined, mark_syms, param_syms, no_mark, takes_all, plist_syms, further_params, params_syms, sign_mark, set_syms, value_syms, local_syms, braced, only, is_if, spell_form, spell_other, spell_stmts, spell_cases}
+use Rattle.jam_grammar.specs.Spelling.{Sym, Heads, Says, Named, Raw, From, Never, Spells, StartsOn, Anywhere, WithinOr, WithinAnd, spell_arg, spell_inner, spell_args, spell_lists, spell_further, spell_expr, spell_joined, mark_syms, param_syms, no_mark, takes_all, plist_syms, further_params, params_syms, sign_mark, set_syms, value_syms, local_syms, braced, only, is_if, spell_form, spell_other, spell_stmts, spell_cases}
 use Rattle.jam_grammar.specs.Spelling as s
+use Rattle.jam_grammar.specs.Spelling.{Switches}
 use Rattle.jam_grammar.specs.Readings.{marks}
 use Rattle.jam_grammar.specs.Laws.{FileHasTree}
 use Rattle.jam_grammar.proofs.PartsCompose.{spells_append}
 use Rattle.jam_grammar.proofs.FirstSymbolTellsFirstToken.{first_line, never_spelled}
 use Rattle.jam_grammar.proofs.SameSayingReadsAlike.{leads, leads_form}
-use Rattle.jam_grammar.proofs.MarkTellsWhatTokenSays.{plain_no_star}
+use Rattle.jam_grammar.proofs.MarkTellsWhatTokenSays.{name_no_star}
 
 -- what some parts stand for: what stands after an argument, after `else`, after `on arg`, and after what is compared
 data TailTree : Type 0 where
@@ -61,14 +62,26 @@ compared_syms (WithDiffer b) = s.Key m.NotEquals ∷ spell_arg b
 compared_syms (WithIn list) = s.Key m.In ∷ spell_args list
 
 abbrev key_syms : Mark → List ℕ → List Sym
-key_syms m.Plain text = Named text ∷ []
 key_syms m.Body text = Raw text ∷ []
 key_syms mark text = s.Key mark ∷ []
+
+-- the modifiers that have stood behind a heading, and the name
+abbrev Head : Type 0
+Head = Bool × Bool × Bool × List ℕ
+
+abbrev head_syms : Bool → Bool → Bool → Head → List Sym
+head_syms a b c v = Heads a b c v.0 v.1 v.2 ∷ Says v.3 ∷ []
+
+abbrev headed_syms : Bool → Bool → Bool → Option Head → List Sym
+headed_syms a b c None = []
+headed_syms a b c (Some v) = head_syms a b c v
 
 -- what a part stands for, and how that is spelled
 abbrev Value : Part → Type 0
 Value (Key mark) = List ℕ
 Value OneWord = List ℕ
+Value OneName = List ℕ
+Value (LastWord t e q) = List ℕ
 Value Shut = Unit {0}
 Value Stmts = StmtTrees
 Value OneStmt = ℕ × FormTree
@@ -83,6 +96,8 @@ Value OneBlock = StmtTrees
 Value CaseBlock = CaseTrees
 Value Cases = CaseTrees
 Value BodyBlock = List ℕ
+Value (Heading a b c) = Head
+Value (Headed a b c) = Option Head
 Value ParamBlock = List Param × List (List Param)
 Value Params = List Param × List (List Param)
 Value MoreParams = List (List Param)
@@ -103,6 +118,8 @@ Value Compared = ComparedTree
 abbrev syms : (part : Part) → Value part → List Sym
 syms (Key mark) v = key_syms mark v
 syms OneWord v = Says v ∷ []
+syms OneName v = Named v ∷ []
+syms (LastWord t e q) v = Says v ∷ []
 syms Shut v = []
 syms Stmts v = spell_stmts v
 syms OneStmt v = From v.0 ∷ spell_form v.1
@@ -117,6 +134,8 @@ syms OneBlock v = braced (spell_stmts v)
 syms CaseBlock v = braced (spell_cases v)
 syms Cases v = spell_cases v
 syms BodyBlock v = braced (Raw v ∷ [])
+syms (Heading a b c) v = head_syms a b c v
+syms (Headed a b c) v = headed_syms a b c v
 syms ParamBlock v = params_syms (v.0 ∷ v.1)
 syms Params v = plist_syms v.0 ++ further_params v.1
 syms MoreParams v = further_params v
@@ -188,6 +207,7 @@ starts : (list : List Sym) (ts u : List Token) → leads list ≡ true → Spell
 starts list (t ∷ ts) u h r = refl
 starts [] [] u h r = cc
 starts (s.Key mark ∷ list) [] u h r = absurd r
+starts (Heads a b c t e q ∷ list) [] u h r = cc
 starts (Says text ∷ list) [] u h r = absurd r
 starts (Named text ∷ list) [] u h r = absurd r
 starts (Raw text ∷ list) [] u h r = absurd r
@@ -286,7 +306,7 @@ by_and e (ExprAnd x xs) k ts u r w = (And (ExprAnd e (ExprAnd x xs)), u, r, w)
 -- a name is not `*`
 no_star : (text : List ℕ) (ts u : List Token) → Spells ts (Named text ∷ []) u → bytes_eq text (codes "*") ≡ false
 no_star text [] u r = absurd r
-no_star text (t ∷ ts) u r = ap (λ x. bytes_eq x (codes "*")) (sym r.0.1) ∙ plain_no_star t r.0.0
+no_star text (t ∷ ts) u r = ap (λ x. bytes_eq x (codes "*")) (sym r.0.1) ∙ name_no_star t r.0.0
 
 takes_none : (param : Param) (more : List Param) → bytes_eq param.name (codes "*") ≡ false → takes_all (param ∷ more) ≡ false
 takes_none param [] h = by (bytes_eq param.name (codes "*")) (no_mark param.mark) h
@@ -296,10 +316,10 @@ takes_none param [] h = by (bytes_eq param.name (codes "*")) (no_mark param.mark
     by false c h = refl
 takes_none param (next ∷ more) h = refl
 
-named : (k : List Part) (ts : List Token) → Values (Key m.Plain ∷ NameTail ∷ k) ts → Values (Names ∷ k) ts
+named : (k : List Part) (ts : List Token) → Values (OneName ∷ NameTail ∷ k) ts → Values (Names ∷ k) ts
 unfolding two
 named k ts w =
-    let x = two (Key m.Plain) NameTail k ts w in
+    let x = two OneName NameTail k ts w in
     let param : Param = record { name = x.0; mark = x.1.0 } in
     ((param ∷ x.1.1, takes_none param x.1.1 (no_star w.0 ts w.1 w.2)), x.2, x.3, x.4)
 
@@ -313,6 +333,22 @@ else_if k ts w =
     let form : FormTree = If x.1 x.2 x.3 in
     let r = respelled ts x.5 (spell_form form) _ (ap (λ y. s.Key m.If ∷ (spell_expr Anywhere x.1 ++ (braced (spell_stmts x.2) ++ y))) (sym (append-nil (spell_other x.3)))) x.6 in
     (ThenIf (first_line ts) form, x.5, (starts (spell_form form) ts x.5 refl r, r), x.7)
+
+-- a heading that ends, one that goes on after a modifier, and one whose name is the text of a modifier
+last_word : (t e q : Bool) (k : List Part) (ts : List Token) → Values (LastWord t e q ∷ k) ts → Values (Heading t e q ∷ k) ts
+last_word t e q k ts w = ((t, e, q, w.0), w.1, (ts, s.none, w.2), w.3)
+
+-- from one modifier less
+abbrev Before : Bool → Bool → Bool → Mark → Bool → Bool → Bool → Type 0
+Before a b c mark x y z = (token : Token) (ts left : List Token) (t e q : Bool) → mark_of_token token ≡ mark → Switches x y z t e q ts left → Switches a b c t e q (token ∷ ts) left
+
+modifier : (a b c x y z : Bool) (mark : Mark) → is_word mark ≡ true → Before a b c mark x y z → (k : List Part) (ts u : List Token) → Spells ts (s.Key mark ∷ []) u → Values (Headed x y z ∷ k) u → Values (Heading a b c ∷ k) ts
+modifier a b c x y z mark is before k [] u h w = absurd h
+modifier a b c x y z mark is before k (t ∷ ts) u h w = by w.0 w.1 w.2 w.3
+  where
+    by : (v : Option Head) (left : List Token) → Spells u (headed_syms x y z v) left → Values k left → Values (Heading a b c ∷ k) (t ∷ ts)
+    by None left r rest = ((a, b, c, t.text), left, (t ∷ ts, s.none, ((ap is_word h.0 ∙ is, refl), h.1 ∙ r)), rest)
+    by (Some v) left r rest = (v, left, (r.0, before t ts r.0 v.0 v.1 v.2 h.0 (subst (λ i. Switches x y z v.0 v.1 v.2 i r.0) (sym h.1) r.1), r.2), rest)
 
 -- what a line's parts stand for its part does
 fold_line : {part : Part} {by : List Part} → Line part by → (k : List Part) (ts : List Token) → Values (by ++ k) ts → Values (part ∷ k) ts
@@ -329,7 +365,7 @@ fold_line g.a_while k ts w = stmt3 (Key m.While) OneExpr OneBlock k ts (λ a b c
 fold_line g.a_switch k ts w = stmt3 (Key m.Switch) Args CaseBlock k ts (λ a b c. Switch b c) (λ a b c. refl) w
 fold_line g.a_module k ts w = stmt3 (Key m.Module) Args OneBlock k ts (λ a b c. Module b c) (λ a b c. refl) w
 fold_line g.a_rule k ts w = stmt3 (Key m.Rule) OneWord RuleTail k ts (λ a b c. Rule b c.0 c.1) (λ a b c. refl) w
-fold_line g.an_action k ts w = stmt3 (Key m.Actions) OneWord BodyBlock k ts (λ a b c. Actions b c) (λ a b c. refl) w
+fold_line g.an_action k ts w = stmt3 (Key m.Actions) (Heading false false false) BodyBlock k ts (λ a b c. Actions b.3 b.0 b.1 b.2 c) (λ a b c. refl) w
 fold_line g.an_on k ts w = stmt4 (Key m.On) OneArg OneStmt Shut k ts (λ a b c d. On b c.0 c.1) (λ a b c d. ap (λ x. s.Key m.On ∷ (spell_arg b ++ (From c.0 ∷ x))) (sym (append-nil (spell_form c.1)))) w
 fold_line g.by_arg k ts w = stmt2 OneArg Tail k ts made made_is w
 fold_line g.set k ts w = by3 Tail (Key m.Equals) Args (Key m.Semicolon) k ts (λ a b c. SetTail signs.Set b) (λ a b c. refl) w
@@ -351,6 +387,12 @@ fold_line g.else_if k ts w = else_if k ts w
 fold_line g.case_braces k ts w = by3 CaseBlock (Key m.BraceOpen) Cases (Key m.BraceClose) k ts (λ a b c. b) (λ a b c. refl) w
 fold_line g.no_case k ts w = (NoCases, ts, refl, w)
 fold_line g.more_cases k ts w = by5 Cases (Key m.Case) OneWord (Key m.Colon) Stmts Cases k ts (λ a b c d z. CaseAnd b d z) (λ a b c d z. refl) w
+fold_line (g.the_name {t} {e} {q}) k ts w = last_word t e q k ts w
+fold_line (g.together {e} {q}) k ts w = modifier false e q true e q m.Together refl (λ token ts left t e q is h. s.together is h) k ts w.1 w.2 w.3
+fold_line (g.existing {t} {q}) k ts w = modifier t false q t true q m.Existing refl (λ token ts left t e q is h. s.existing is h) k ts w.1 w.2 w.3
+fold_line (g.quietly {t} {e}) k ts w = modifier t e false t e true m.Quietly refl (λ token ts left t e q is h. s.quietly is h) k ts w.1 w.2 w.3
+fold_line g.no_word k ts w = (None, ts, refl, w)
+fold_line (g.more_words {t} {e} {q}) k ts w = by1 (Headed t e q) (Heading t e q) k ts (λ a. Some a) (λ a. refl) w
 fold_line g.body_braces k ts w = by3 BodyBlock (Key m.BraceOpen) (Key m.Body) (Key m.BraceClose) k ts (λ a b c. b) (λ a b c. refl) w
 fold_line g.with_params k ts w = by2 RuleTail ParamBlock OneBlock k ts (λ a b. (a.0 ∷ a.1, b)) (λ a b. refl) w
 fold_line g.without_params k ts w = by1 RuleTail OneBlock k ts (λ a. ([], a)) (λ a. refl) w
@@ -389,9 +431,15 @@ fold_line g.equal k ts w = by2 Compared (Key m.Equals) OneArg k ts (λ a b. With
 fold_line g.differ k ts w = by2 Compared (Key m.NotEquals) OneArg k ts (λ a b. WithDiffer b) (λ a b. refl) w
 fold_line g.within k ts w = by2 Compared (Key m.In) Args k ts (λ a b. WithIn b) (λ a b. refl) w
 
+-- what can only name actions is a word
+last_is_word : (t e q : Bool) (mark : Mark) → only_names t e q mark ≡ true → is_word mark ≡ true
+last_is_word t e q m.Together h = refl
+last_is_word t e q m.Existing h = refl
+last_is_word t e q m.Quietly h = refl
+last_is_word t e q mark h = h
+
 -- a token stands for itself
 key_spelled : (mark : Mark) (t : Token) (ts : List Token) → mark_of_token t ≡ mark → Spells (t ∷ ts) (key_syms mark t.text) ts
-key_spelled m.Plain t ts e = ((e, refl), refl)
 key_spelled m.Body t ts e = ((e, refl), refl)
 key_spelled mark t ts e = (e, refl)
 
@@ -408,6 +456,10 @@ values (g.key room d) [] e = cc
 values (g.key {mark} room d) (t ∷ ts) e = (t.text, ts, key_spelled mark t ts (head_is _ _ _ _ e), values d ts (rest_is _ _ _ _ e))
 values (g.word is room d) [] e = cc
 values (g.word is room d) (t ∷ ts) e = (t.text, ts, ((ap is_word (head_is _ _ _ _ e) ∙ is, refl), refl), values d ts (rest_is _ _ _ _ e))
+values (g.name is room d) [] e = cc
+values (g.name is room d) (t ∷ ts) e = (t.text, ts, ((ap is_name (head_is _ _ _ _ e) ∙ is, refl), refl), values d ts (rest_is _ _ _ _ e))
+values (g.last is room d) [] e = cc
+values (g.last {t} {e} {q} {mark} is room d) (token ∷ ts) h = (token.text, ts, ((last_is_word t e q (mark_of_token token) (ap (only_names t e q) (head_is _ _ _ _ h) ∙ is), refl), refl), values d ts (rest_is _ _ _ _ h))
 values (g.shut room d) ts e = (tt, ts, refl, values d ts e)
 values (g.by_line {part} {by} {parts} line d) ts e = fold_line line parts ts (values d ts e)
 

@@ -2,9 +2,9 @@
 use Rattle.std.proofs.Common.{◌≡◌, List, [], ◌∷◌, ◌++◌, map, Bool, true, false, refl, sym, ap, ◌∙◌, subst}
 use Rattle.b2_base.specs.declared.token.Token.{Token}
 use Rattle.jam_grammar.specs.declared.mark.Mark.TheVariants as m
-use Rattle.jam_grammar.specs.Marks.{mark_of_token, is_word}
+use Rattle.jam_grammar.specs.Marks.{mark_of_token, same_mark, is_word, is_name}
 use Rattle.jam_grammar.specs.Trees.{FormTree, Braces, Local, Assign, AssignOn, Include, Return, If, For, While, Switch, Module, Rule, Actions, On, Call, OtherTree, Nothing, ElseBraces, ElseIf, StmtTrees, NoStmts, StmtAnd, CaseTrees, NoCases, CaseAnd}
-use Rattle.jam_grammar.specs.Spelling.{Sym, Key, Says, Named, Raw, From, Never, Spells, StartsOn, Anywhere, spell_arg, spell_args, spell_expr, params_syms, local_syms, braced, only, is_if, spell_form, spell_other, spell_stmts, spell_cases}
+use Rattle.jam_grammar.specs.Spelling.{Sym, Key, Heads, Switches, none, together, existing, quietly, Says, Named, Raw, From, Never, Spells, StartsOn, Anywhere, spell_arg, spell_args, spell_expr, params_syms, local_syms, braced, only, is_if, spell_form, spell_other, spell_stmts, spell_cases}
 use Rattle.jam_grammar.specs.Alike.{unlined, lineless, lineless_form, lineless_other, lineless_cases}
 use Rattle.jam_grammar.specs.Laws.{OneTree, OneUpToLines, SameUpToLines, ReadsAlso}
 use Rattle.jam_grammar.proofs.FirstSymbolTellsFirstToken.{cong}
@@ -16,6 +16,7 @@ use Rattle.jam_grammar.proofs.SameSayingReadsAlike.{leads, Fixed, fixed_stmts}
 abbrev zeroed : List Sym → List Sym
 zeroed [] = []
 zeroed (Key mark ∷ syms) = Key mark ∷ zeroed syms
+zeroed (Heads a b c t e q ∷ syms) = Heads a b c t e q ∷ zeroed syms
 zeroed (Says text ∷ syms) = Says text ∷ zeroed syms
 zeroed (Named text ∷ syms) = Named text ∷ zeroed syms
 zeroed (Raw text ∷ syms) = Raw text ∷ zeroed syms
@@ -25,6 +26,7 @@ zeroed (Never ∷ syms) = Never ∷ zeroed syms
 zeroed_append : (a b : List Sym) → zeroed (a ++ b) ≡ zeroed a ++ zeroed b
 zeroed_append [] b = refl
 zeroed_append (Key mark ∷ a) b = ap (λ x. Key mark ∷ x) (zeroed_append a b)
+zeroed_append (Heads x y z t e q ∷ a) b = ap (λ s. Heads x y z t e q ∷ s) (zeroed_append a b)
 zeroed_append (Says text ∷ a) b = ap (λ x. Says text ∷ x) (zeroed_append a b)
 zeroed_append (Named text ∷ a) b = ap (λ x. Named text ∷ x) (zeroed_append a b)
 zeroed_append (Raw text ∷ a) b = ap (λ x. Raw text ∷ x) (zeroed_append a b)
@@ -34,6 +36,7 @@ zeroed_append (Never ∷ a) b = ap (λ x. Never ∷ x) (zeroed_append a b)
 steady_zeroed : (syms : List Sym) → Steady syms → syms ≡ zeroed syms
 steady_zeroed [] h = refl
 steady_zeroed (Key mark ∷ syms) h = ap (λ x. Key mark ∷ x) (steady_zeroed syms h.1)
+steady_zeroed (Heads a b c t e q ∷ syms) h = absurd h
 steady_zeroed (Says text ∷ syms) h = ap (λ x. Says text ∷ x) (steady_zeroed syms h)
 steady_zeroed (Named text ∷ syms) h = ap (λ x. Named text ∷ x) (steady_zeroed syms h)
 steady_zeroed (Raw text ∷ syms) h = ap (λ x. Raw text ∷ x) (steady_zeroed syms h)
@@ -81,7 +84,7 @@ mutual
   form_zeroed (AssignOn target on sign value) = steady_zeroed (spell_form (AssignOn target on sign value)) (steady_assign_on target on sign value)
   form_zeroed (Include names) = steady_zeroed (spell_form (Include names)) (steady_set m.Include (spell_args names) refl (steady_args names))
   form_zeroed (Return value) = steady_zeroed (spell_form (Return value)) (steady_set m.Return (spell_args value) refl (steady_args value))
-  form_zeroed (Actions name body) = refl
+  form_zeroed (Actions name a b c body) = refl
   form_zeroed (Call head lists) = steady_zeroed (spell_form (Call head lists)) (steady_call head lists)
 
   other_zeroed : (o : OtherTree) → spell_other (lineless_other o) ≡ zeroed (spell_other o)
@@ -108,6 +111,7 @@ flat_mark token = refl
 nothing_left : (syms : List Sym) (u : List Token) → leads syms ≡ true → Spells [] (unlined syms) u → ⊥
 nothing_left [] u h s = cc
 nothing_left (Key mark ∷ syms) u h s = s
+nothing_left (Heads a b c t e q ∷ syms) u h s = cc
 nothing_left (Says text ∷ syms) u h s = s
 nothing_left (Named text ∷ syms) u h s = s
 nothing_left (Raw text ∷ syms) u h s = s
@@ -118,22 +122,37 @@ flat_starts : (tokens : List Token) (syms : List Sym) (u : List Token) → leads
 flat_starts [] syms u h s = nothing_left syms u h s
 flat_starts (t ∷ tokens) syms u h s = refl
 
-flat_spells : (tokens u : List Token) (syms : List Sym) → Fixed syms → Spells tokens (unlined syms) u → Spells (map flat tokens) (zeroed syms) (map flat u)
-flat_spells tokens u [] f s = ap (map flat) s
-flat_spells tokens u (From line ∷ syms) f s = (flat_starts tokens syms u f.0 s, flat_spells tokens u syms f.1 s)
-flat_spells [] u (Key mark ∷ syms) f s = absurd s
-flat_spells [] u (Says text ∷ syms) f s = absurd s
-flat_spells [] u (Named text ∷ syms) f s = absurd s
-flat_spells [] u (Raw text ∷ syms) f s = absurd s
-flat_spells [] u (Never ∷ syms) f s = absurd s
-flat_spells (t ∷ tokens) u (Key mark ∷ syms) f s = (flat_mark t ∙ s.0, flat_spells tokens u syms f.1 s.1)
-flat_spells (t ∷ tokens) u (Says text ∷ syms) f s = ((ap is_word (flat_mark t) ∙ s.0.0, s.0.1), flat_spells tokens u syms f s.1)
-flat_spells (t ∷ tokens) u (Named text ∷ syms) f s = ((flat_mark t ∙ s.0.0, s.0.1), flat_spells tokens u syms f s.1)
-flat_spells (t ∷ tokens) u (Raw text ∷ syms) f s = ((flat_mark t ∙ s.0.0, s.0.1), flat_spells tokens u syms f s.1)
-flat_spells (t ∷ tokens) u (Never ∷ syms) f s = absurd s
+flat_switches : {a b c t e q : Bool} {ts left : List Token} → Switches a b c t e q ts left → Switches a b c t e q (map flat ts) (map flat left)
+flat_switches none = none
+flat_switches (together {token} is w) = together (flat_mark token ∙ is) (flat_switches w)
+flat_switches (existing {token} is w) = existing (flat_mark token ∙ is) (flat_switches w)
+flat_switches (quietly {token} is w) = quietly (flat_mark token ∙ is) (flat_switches w)
+
+flat_spells : (b : Bool) (tokens u : List Token) (syms : List Sym) → Fixed b syms → Spells tokens (unlined syms) u → Spells (map flat tokens) (zeroed syms) (map flat u)
+flat_spells true tokens u (Heads a b c t e q ∷ syms) f s = (map flat s.0, flat_switches s.1, flat_spells false s.0 u syms f.1 s.2)
+flat_spells true tokens u [] f s = absurd f
+flat_spells true tokens u (Key mark ∷ syms) f s = absurd f
+flat_spells true tokens u (Says text ∷ syms) f s = absurd f
+flat_spells true tokens u (Named text ∷ syms) f s = absurd f
+flat_spells true tokens u (Raw text ∷ syms) f s = absurd f
+flat_spells true tokens u (From line ∷ syms) f s = absurd f
+flat_spells true tokens u (Never ∷ syms) f s = absurd f
+flat_spells false tokens u [] f s = ap (map flat) s
+flat_spells false tokens u (Heads a b c t e q ∷ syms) f s = absurd f
+flat_spells false tokens u (From line ∷ syms) f s = (flat_starts tokens syms u f.0 s, flat_spells false tokens u syms f.1 s)
+flat_spells false [] u (Key mark ∷ syms) f s = absurd s
+flat_spells false [] u (Says text ∷ syms) f s = absurd s
+flat_spells false [] u (Named text ∷ syms) f s = absurd s
+flat_spells false [] u (Raw text ∷ syms) f s = absurd s
+flat_spells false [] u (Never ∷ syms) f s = absurd s
+flat_spells false (t ∷ tokens) u (Key mark ∷ syms) f s = (flat_mark t ∙ s.0, flat_spells (same_mark m.Actions mark) tokens u syms f.1 s.1)
+flat_spells false (t ∷ tokens) u (Says text ∷ syms) f s = ((ap is_word (flat_mark t) ∙ s.0.0, s.0.1), flat_spells false tokens u syms f s.1)
+flat_spells false (t ∷ tokens) u (Named text ∷ syms) f s = ((ap is_name (flat_mark t) ∙ s.0.0, s.0.1), flat_spells false tokens u syms f s.1)
+flat_spells false (t ∷ tokens) u (Raw text ∷ syms) f s = ((flat_mark t ∙ s.0.0, s.0.1), flat_spells false tokens u syms f s.1)
+flat_spells false (t ∷ tokens) u (Never ∷ syms) f s = absurd s
 
 flat_tree : (tokens : List Token) (a : StmtTrees) → Spells tokens (unlined (spell_stmts a)) [] → Spells (map flat tokens) (spell_stmts (lineless a)) []
-flat_tree tokens a s = subst (λ x. Spells (map flat tokens) x []) (sym (stmts_zeroed a)) (flat_spells tokens [] (spell_stmts a) (fixed_stmts a) s)
+flat_tree tokens a s = subst (λ x. Spells (map flat tokens) x []) (sym (stmts_zeroed a)) (flat_spells false tokens [] (spell_stmts a) (fixed_stmts a) s)
 
 pub one_tree : OneTree
 one_tree tokens a b r k = tree_one tokens a b r.spelled k.spelled
@@ -145,6 +164,7 @@ one_up_to_lines tokens a b r k = tree_one (map flat tokens) (lineless a) (linele
 unlined_zeroed : (syms : List Sym) → unlined (zeroed syms) ≡ unlined syms
 unlined_zeroed [] = refl
 unlined_zeroed (Key mark ∷ syms) = ap (λ x. Key mark ∷ x) (unlined_zeroed syms)
+unlined_zeroed (Heads a b c t e q ∷ syms) = ap (λ x. Heads a b c t e q ∷ x) (unlined_zeroed syms)
 unlined_zeroed (Says text ∷ syms) = ap (λ x. Says text ∷ x) (unlined_zeroed syms)
 unlined_zeroed (Named text ∷ syms) = ap (λ x. Named text ∷ x) (unlined_zeroed syms)
 unlined_zeroed (Raw text ∷ syms) = ap (λ x. Raw text ∷ x) (unlined_zeroed syms)
@@ -160,6 +180,7 @@ same_up_to_lines a b e = sym (unlined_lineless a) ∙ ap (λ x. unlined (spell_s
 unlined_spells : (tokens u : List Token) (syms : List Sym) → Spells tokens syms u → Spells tokens (unlined syms) u
 unlined_spells tokens u [] s = s
 unlined_spells tokens u (From line ∷ syms) s = unlined_spells tokens u syms s.1
+unlined_spells tokens u (Heads a b c t e q ∷ syms) s = (s.0, s.1, unlined_spells s.0 u syms s.2)
 unlined_spells [] u (Key mark ∷ syms) s = absurd s
 unlined_spells [] u (Says text ∷ syms) s = absurd s
 unlined_spells [] u (Named text ∷ syms) s = absurd s

@@ -1,10 +1,11 @@
 -- How many more can be open, and how many have to be, for what is still to be read.
 use Rattle.std.proofs.Common.{◌≡◌, ℕ, zero, suc, ◌+◌, ◌-◌, ◌≤◌, List, [], ◌∷◌, ◌++◌, Bool, true, false, Some, None, nat_le, if◌then◌else◌, refl, subst, arith}
 use Rattle.jam_grammar.specs.declared.mark.Mark.{Mark}
-use Rattle.jam_grammar.specs.Marks.{same_mark}
-use Rattle.jam_grammar.specs.Grammar.{Part, Key, OneWord, Shut, Stmts, OneStmt, Tail, Assigned, LocalTail, ForTail, RuleTail, OneElse, ElseTail, OneBlock, CaseBlock, Cases, BodyBlock, ParamBlock, Params, MoreParams, Names, NameTail, OneArg, OneInner, InnerTail, Args, More, OneExpr, Both, Single, OrTail, AndTail, Compared, closes, opens, Line, Derives}
+use Rattle.jam_grammar.specs.declared.mark.Mark.TheVariants as m
+use Rattle.jam_grammar.specs.Marks.{same_mark, only_names}
+use Rattle.jam_grammar.specs.Grammar.{Part, Key, OneWord, OneName, LastWord, Shut, Stmts, OneStmt, Tail, Assigned, LocalTail, ForTail, RuleTail, OneElse, ElseTail, OneBlock, CaseBlock, Cases, BodyBlock, Heading, Headed, ParamBlock, Params, MoreParams, Names, NameTail, OneArg, OneInner, InnerTail, Args, More, OneExpr, Both, Single, OrTail, AndTail, Compared, closes, opens, Line, Derives}
 use Rattle.jam_grammar.specs.Grammar as grammar
-use Rattle.jam_grammar.specs.Machine.{Move, Take, Room, Skip, Refuse, move, move_key, by_move, feed}
+use Rattle.jam_grammar.specs.Machine.{Move, Take, Room, Skip, Refuse, or_skip, move, move_key, move_word, move_modifier, move_heading, by_move, feed}
 use Rattle.jam_grammar.proofs.MovesCompose.{opens_append}
 use Rattle.jam_grammar.proofs.EveryMarkIsTested.{at_each}
 
@@ -110,6 +111,12 @@ line_gives grammar.else_if = refl
 line_gives grammar.case_braces = refl
 line_gives grammar.no_case = refl
 line_gives grammar.more_cases = refl
+line_gives grammar.the_name = refl
+line_gives grammar.together = refl
+line_gives grammar.existing = refl
+line_gives grammar.quietly = refl
+line_gives grammar.no_word = refl
+line_gives grammar.more_words = refl
 line_gives grammar.body_braces = refl
 line_gives grammar.with_params = refl
 line_gives grammar.without_params = refl
@@ -156,6 +163,8 @@ pub rooms : {parts : List Part} {marks : List Mark} → Derives parts marks → 
 rooms grammar.nothing = tt
 rooms (grammar.key room d) = (room, rooms d)
 rooms (grammar.word is room d) = (omega (arith, room), rooms d)
+rooms (grammar.name is room d) = (omega (arith, room), rooms d)
+rooms (grammar.last is room d) = (omega (arith, room), rooms d)
 rooms (grammar.shut room d) = (room, rooms d)
 rooms (grammar.by_line {part} {by} {parts} l d) =
     let r = rooms d in
@@ -172,11 +181,39 @@ fits_key : (b : Bool) (part : Part) → fits_by (move_key b) part ≡ true
 fits_key true part = grind arith
 fits_key false part = refl
 
+fits_word : (b : Bool) (part : Part) → fits_by (move_word b []) part ≡ true
+fits_word true part = grind arith
+fits_word false part = refl
+
+fits_modifier : (b : Bool) (next part : Part) → need (next ∷ []) ≡ 0 → fits_by (move_modifier b next) part ≡ true
+fits_modifier true next part h = grind arith
+fits_modifier false next part h = grind (arith, h)
+
+fits_heading : (t e q : Bool) (part : Part) (mark : Mark) → fits_by (move_heading t e q mark) part ≡ true
+fits_heading t e q part m.Together = fits_modifier t (Headed true e q) part refl
+fits_heading t e q part m.Existing = fits_modifier e (Headed t true q) part refl
+fits_heading t e q part m.Quietly = fits_modifier q (Headed t e true) part refl
+fits_heading t e q part m.Plain = grind arith
+fits_heading t e q part m.Query = grind arith
+fits_heading t e q part m.Star = grind arith
+fits_heading t e q part m.Plus = grind arith
+fits_heading t e q part _ = refl
+
+fits_skip : (v : Move) (part : Part) → fits_by v part ≡ true → fits_by (or_skip v) part ≡ true
+fits_skip (Take by) part h = h
+fits_skip (Room n by) part h = h
+fits_skip Skip part h = refl
+fits_skip Refuse part h = refl
+
 pub fits : (part : Part) (mark : Mark) → fits_by (move part mark) part ≡ true
 fits (Key want) mark = fits_key (same_mark want mark) (Key want)
 fits (More zero) mark = at_each (λ x. fits_by (move (More zero) x) (More zero)) refl mark
 fits (More (suc n)) mark = at_each (λ x. fits_by (move (More (suc n)) x) (More (suc n))) refl mark
 fits OneWord mark = at_each (λ x. fits_by (move OneWord x) OneWord) refl mark
+fits OneName mark = at_each (λ x. fits_by (move OneName x) OneName) refl mark
+fits (LastWord t e q) mark = fits_word (only_names t e q mark) (LastWord t e q)
+fits (Heading t e q) mark = fits_heading t e q (Heading t e q) mark
+fits (Headed t e q) mark = fits_skip (move_heading t e q mark) (Headed t e q) (fits_heading t e q (Headed t e q) mark)
 fits Shut mark = at_each (λ x. fits_by (move Shut x) Shut) refl mark
 fits Stmts mark = at_each (λ x. fits_by (move Stmts x) Stmts) refl mark
 fits OneStmt mark = at_each (λ x. fits_by (move OneStmt x) OneStmt) refl mark

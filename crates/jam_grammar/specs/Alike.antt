@@ -1,5 +1,5 @@
 -- What tokens say without their places, and what a tree asks them to say.
-use Rattle.std.specs.Prelude.{ℕ, List, [], ◌∷◌, codes}
+use Rattle.std.specs.Prelude.{ℕ, List, [], ◌∷◌, ◌++◌, Bool, true, false, codes}
 use Rattle.b2_base.specs.declared.token.Token.{Token}
 use Rattle.b2_base.specs.declared.token.TokenKind.{TokenKind}
 use Rattle.b2_base.specs.declared.token.TokenKind.TheVariants as kinds
@@ -7,7 +7,7 @@ use Rattle.jam_grammar.specs.declared.mark.Mark.{Mark}
 use Rattle.jam_grammar.specs.declared.mark.Mark.TheVariants as m
 use Rattle.jam_grammar.specs.Grammar.{IsFile}
 use Rattle.jam_grammar.specs.Trees.{FormTree, Braces, Local, Assign, AssignOn, Include, Return, If, For, While, Switch, Module, Rule, Actions, On, Call, OtherTree, Nothing, ElseBraces, ElseIf, StmtTrees, NoStmts, StmtAnd, CaseTrees, NoCases, CaseAnd}
-use Rattle.jam_grammar.specs.Spelling.{Sym, Key, Says, Named, Raw, From, Never, Spells, spell_stmts}
+use Rattle.jam_grammar.specs.Spelling.{Sym, Key, Heads, Says, Named, Raw, From, Never, Spells, spell_stmts}
 use Rattle.jam_grammar.specs.Readings.{marks}
 
 -- what a token says: its kind and its text
@@ -32,6 +32,9 @@ abbrev pub mark_said : Mark → Said
 mark_said m.Query = word_said (codes "?")
 mark_said m.Star = word_said (codes "*")
 mark_said m.Plus = word_said (codes "+")
+mark_said m.Together = word_said (codes "together")
+mark_said m.Existing = word_said (codes "existing")
+mark_said m.Quietly = word_said (codes "quietly")
 mark_said m.Semicolon = key_said (codes ";")
 mark_said m.Colon = key_said (codes ":")
 mark_said m.BraceOpen = key_said (codes "{")
@@ -63,10 +66,20 @@ mark_said m.Switch = key_said (codes "switch")
 mark_said m.While = key_said (codes "while")
 mark_said _ = key_said []
 
+-- what a modifier says that has not stood before and then has
+abbrev pub newly : Bool → Bool → Mark → List Said
+newly false true mark = mark_said mark ∷ []
+newly _ _ mark = []
+
+-- modifiers in the order together, existing, quietly
+abbrev pub heads_said : Bool → Bool → Bool → Bool → Bool → Bool → List Said
+heads_said a b c t e q = newly a t m.Together ++ (newly b e m.Existing ++ newly c q m.Quietly)
+
 -- what the symbols ask for, one after another
 abbrev pub asked : List Sym → List Said
 asked [] = []
 asked (Key mark ∷ syms) = mark_said mark ∷ asked syms
+asked (Heads a b c t e q ∷ syms) = heads_said a b c t e q ++ asked syms
 asked (Says text ∷ syms) = word_said text ∷ asked syms
 asked (Named text ∷ syms) = word_said text ∷ asked syms
 asked (Raw text ∷ syms) = body_said text ∷ asked syms
@@ -77,6 +90,7 @@ asked (Never ∷ syms) = asked syms
 abbrev pub unlined : List Sym → List Sym
 unlined [] = []
 unlined (Key mark ∷ syms) = Key mark ∷ unlined syms
+unlined (Heads a b c t e q ∷ syms) = Heads a b c t e q ∷ unlined syms
 unlined (Says text ∷ syms) = Says text ∷ unlined syms
 unlined (Named text ∷ syms) = Named text ∷ unlined syms
 unlined (Raw text ∷ syms) = Raw text ∷ unlined syms
@@ -104,7 +118,7 @@ abbrev mutual
   lineless_form (AssignOn target on sign value) = AssignOn target on sign value
   lineless_form (Include names) = Include names
   lineless_form (Return value) = Return value
-  lineless_form (Actions name body) = Actions name body
+  lineless_form (Actions name t e q body) = Actions name t e q body
   lineless_form (Call head lists) = Call head lists
 
   pub lineless_other : OtherTree → OtherTree

@@ -1,5 +1,5 @@
 -- Tokens that the grammar is held against.
-use Rattle.std.specs.Prelude.{ℕ, zero, suc, List, [], ◌∷◌, ◌++◌, codes, replicate, None, Some}
+use Rattle.std.specs.Prelude.{true, false, ℕ, zero, suc, List, [], ◌∷◌, ◌++◌, codes, replicate, None, Some}
 use Rattle.b2_base.specs.declared.token.Token.{Token}
 use Rattle.b2_base.specs.declared.token.TokenKind.TheVariants as kinds
 use Rattle.jam_grammar.specs.declared.tree.Sign.TheVariants as signs
@@ -110,4 +110,20 @@ two_statements = key (codes "actions") 1 ∷ word (codes "a") 1 ∷ key (codes "
 
 abbrev pub ActionsRead : Type 0
 ActionsRead = ReadsTree two_statements
-    (StmtAnd 1 (Actions (codes "a") (codes "x")) (StmtAnd 2 (On (Word (codes "t")) 3 (Call (Bracket (CallOf (Word (codes "f")) (ListAnd NoArgs NoLists))) (ListAnd NoArgs NoLists))) NoStmts))
+    (StmtAnd 1 (Actions (codes "a") false false false (codes "x")) (StmtAnd 2 (On (Word (codes "t")) 3 (Call (Bracket (CallOf (Word (codes "f")) (ListAnd NoArgs NoLists))) (ListAnd NoArgs NoLists))) NoStmts))
+
+-- `actions quietly together p {x}` and `actions existing together existing {y}`: modifiers in any order, and a name that is
+-- the text of one
+abbrev pub headings : List Token
+headings = key (codes "actions") 1 ∷ word (codes "quietly") 1 ∷ word (codes "together") 1 ∷ word (codes "p") 1 ∷ key (codes "{") 1 ∷ body (codes "x") 1 ∷ key (codes "}") 1 ∷ key (codes "actions") 2 ∷ word (codes "existing") 2 ∷ word (codes "together") 2 ∷ word (codes "existing") 2 ∷ key (codes "{") 2 ∷ body (codes "y") 2 ∷ key (codes "}") 2 ∷ []
+
+abbrev pub HeadingsRead : Type 0
+HeadingsRead = ReadsTree headings
+    (StmtAnd 1 (Actions (codes "p") true false true (codes "x")) (StmtAnd 2 (Actions (codes "existing") true true false (codes "y")) NoStmts))
+
+-- after a word that is no modifier, or a modifier that stood, the body has to come
+abbrev pub NameIsLast : Type 0
+NameIsLast = IsFirstFault (key (codes "actions") 1 ∷ word (codes "p") 1 ∷ word (codes "q") 2 ∷ []) 2 (codes "q")
+
+abbrev pub ModifiersStandOnce : Type 0
+ModifiersStandOnce = IsFirstFault (key (codes "actions") 1 ∷ word (codes "together") 1 ∷ word (codes "together") 1 ∷ word (codes "q") 3 ∷ []) 3 (codes "q")

@@ -1,15 +1,17 @@
 -- The grammar: what may stand for each part of a file, and which marks a file is made of.
-use Rattle.std.specs.Prelude.{ℕ, suc, ◌+◌, ◌≤◌, List, [], ◌∷◌, ◌++◌, IsTrue}
+use Rattle.std.specs.Prelude.{ℕ, suc, ◌+◌, ◌≤◌, List, [], ◌∷◌, ◌++◌, Bool, true, false, IsTrue}
 use Rattle.jam_grammar.specs.declared.mark.Mark.{Mark}
 use Rattle.jam_grammar.specs.declared.mark.Mark.TheVariants as m
-use Rattle.jam_grammar.specs.Marks.{is_word}
+use Rattle.jam_grammar.specs.Marks.{is_word, is_name, only_names}
 
 -- The parts of a file.
 pub data Part : Type 0 where
   -- a key, or another mark
   Key : Mark → Part
-  -- any word
+  -- any word, one that may name a parameter, and one that can only name the actions after these modifiers
   OneWord : Part
+  OneName : Part
+  LastWord : Bool → Bool → Bool → Part
   -- the end of what an `on`, a `!`, or an `else` before an `if` applies to, where no token stands
   Shut : Part
   -- statements, one statement, what stands in it after its first argument, and after `on` there
@@ -29,6 +31,10 @@ pub data Part : Type 0 where
   CaseBlock : Part
   Cases : Part
   BodyBlock : Part
+  -- what stands between `actions` and the body after these modifiers (`together`, `existing`, `quietly`), and what may
+  -- stand there behind the last of them, which is the name where nothing does
+  Heading : Bool → Bool → Bool → Part
+  Headed : Bool → Bool → Bool → Part
   -- parameters in parentheses, without them, and after the first list; names in a list; what may stand after a name
   ParamBlock : Part
   Params : Part
@@ -67,7 +73,7 @@ pub data Line : Part → List Part → Type 0 where
   a_switch : Line OneStmt (Key m.Switch ∷ Args ∷ CaseBlock ∷ [])
   a_module : Line OneStmt (Key m.Module ∷ Args ∷ OneBlock ∷ [])
   a_rule : Line OneStmt (Key m.Rule ∷ OneWord ∷ RuleTail ∷ [])
-  an_action : Line OneStmt (Key m.Actions ∷ OneWord ∷ BodyBlock ∷ [])
+  an_action : Line OneStmt (Key m.Actions ∷ Heading false false false ∷ BodyBlock ∷ [])
   an_on : Line OneStmt (Key m.On ∷ OneArg ∷ OneStmt ∷ Shut ∷ [])
   by_arg : Line OneStmt (OneArg ∷ Tail ∷ [])
   -- after the first argument: `= list ;` with one of three signs, `on list` before that, or `lists ;`
@@ -94,6 +100,13 @@ pub data Line : Part → List Part → Type 0 where
   case_braces : Line CaseBlock (Key m.BraceOpen ∷ Cases ∷ Key m.BraceClose ∷ [])
   no_case : Line Cases []
   more_cases : Line Cases (Key m.Case ∷ OneWord ∷ Key m.Colon ∷ Stmts ∷ Cases ∷ [])
+  -- modifiers, each at most once, and a name, which may be the text of a modifier too
+  the_name : {t e q : Bool} → Line (Heading t e q) (LastWord t e q ∷ [])
+  together : {e q : Bool} → Line (Heading false e q) (Key m.Together ∷ Headed true e q ∷ [])
+  existing : {t q : Bool} → Line (Heading t false q) (Key m.Existing ∷ Headed t true q ∷ [])
+  quietly : {t e : Bool} → Line (Heading t e false) (Key m.Quietly ∷ Headed t e true ∷ [])
+  no_word : {t e q : Bool} → Line (Headed t e q) []
+  more_words : {t e q : Bool} → Line (Headed t e q) (Heading t e q ∷ [])
   body_braces : Line BodyBlock (Key m.BraceOpen ∷ Key m.Body ∷ Key m.BraceClose ∷ [])
   -- `( params ) block` or a block alone
   with_params : Line RuleTail (ParamBlock ∷ OneBlock ∷ [])
@@ -106,7 +119,7 @@ pub data Line : Part → List Part → Type 0 where
   more_params : Line MoreParams (Key m.Colon ∷ Params ∷ [])
   -- names, each with `?` after it or not; `*` or `+` stands after the last one alone
   no_name : Line Names []
-  a_name : Line Names (Key m.Plain ∷ NameTail ∷ [])
+  a_name : Line Names (OneName ∷ NameTail ∷ [])
   unmarked : Line NameTail (Names ∷ [])
   optional : Line NameTail (Key m.Query ∷ Names ∷ [])
   any_rest : Line NameTail (Key m.Star ∷ [])
@@ -152,11 +165,13 @@ opens [] = 0
 opens (part ∷ rest) = closes part + opens rest
 
 -- These marks stand for these parts, one after another, and at each of them no more than 64 are open, a mark that opens or
--- closes one included. A key stands for itself, a word's part for any word, and any other part for what a line gives.
+-- closes one included. A key stands for itself, the parts of words for words, and any other part for what a line gives.
 pub data Derives : List Part → List Mark → Type 0 where
   nothing : Derives [] []
   key : {mark : Mark} {parts : List Part} {marks : List Mark} → opens (Key mark ∷ parts) ≤ 64 → Derives parts marks → Derives (Key mark ∷ parts) (mark ∷ marks)
   word : {mark : Mark} {parts : List Part} {marks : List Mark} → IsTrue (is_word mark) → opens parts ≤ 64 → Derives parts marks → Derives (OneWord ∷ parts) (mark ∷ marks)
+  name : {mark : Mark} {parts : List Part} {marks : List Mark} → IsTrue (is_name mark) → opens parts ≤ 64 → Derives parts marks → Derives (OneName ∷ parts) (mark ∷ marks)
+  last : {t e q : Bool} {mark : Mark} {parts : List Part} {marks : List Mark} → IsTrue (only_names t e q mark) → opens parts ≤ 64 → Derives parts marks → Derives (LastWord t e q ∷ parts) (mark ∷ marks)
   shut : {parts : List Part} {marks : List Mark} → opens (Shut ∷ parts) ≤ 64 → Derives parts marks → Derives (Shut ∷ parts) marks
   by_line : {part : Part} {by parts : List Part} {marks : List Mark} → Line part by → Derives (by ++ parts) marks → Derives (part ∷ parts) marks
 

@@ -45,11 +45,7 @@ FaultIsBad = (tokens at : List Token) → IsFirstFaultAt tokens at → run token
 abbrev pub PartsCompose : Type 0
 PartsCompose = (first second : List Part) (tokens mid after : List Token) (depth : ℕ) (syms more : List Sym) → ReadsPart first tokens (opens second + depth) syms mid → ReadsPart second mid depth more after → ReadsPart (first ++ second) tokens depth (syms ++ more) after
 
--- tokens that read as a tree say what it asks for
-abbrev pub SaysAsked : Type 0
-SaysAsked = (tokens : List Token) (tree : StmtTrees) → ReadsTree tokens tree → map said_of tokens ≡ asked (spell_stmts tree)
-
--- other tokens that say what it asks for read as the tree, up to lines
+-- where tokens read as a tree, others that say what it asks for read as the tree, up to lines
 abbrev pub AskedReads : Type 0
 AskedReads = (tokens others : List Token) (tree : StmtTrees) → ReadsTree tokens tree → map said_of others ≡ asked (spell_stmts tree) → ReadsUpToLines others tree
 

@@ -3,8 +3,8 @@ use Rattle.std.specs.Prelude.{ℕ, zero, suc, ◌+◌, List, [], ◌∷◌, ◌+
 use Rattle.b2_base.specs.declared.token.Token.{Token}
 use Rattle.jam_grammar.specs.declared.mark.Mark.{Mark}
 use Rattle.jam_grammar.specs.declared.mark.Mark.TheVariants as m
-use Rattle.jam_grammar.specs.Marks.{mark_of_token, is_word, same_mark}
-use Rattle.jam_grammar.specs.Grammar.{Part, Key, OneWord, Shut, Stmts, OneStmt, Tail, Assigned, LocalTail, ForTail, RuleTail, OneElse, ElseTail, OneBlock, CaseBlock, Cases, BodyBlock, ParamBlock, Params, MoreParams, Names, NameTail, OneArg, OneInner, InnerTail, Args, More, OneExpr, Both, Single, OrTail, AndTail, Compared, opens}
+use Rattle.jam_grammar.specs.Marks.{mark_of_token, is_word, is_name, only_names, same_mark}
+use Rattle.jam_grammar.specs.Grammar.{Part, Key, OneWord, OneName, LastWord, Shut, Stmts, OneStmt, Tail, Assigned, LocalTail, ForTail, RuleTail, OneElse, ElseTail, OneBlock, CaseBlock, Cases, BodyBlock, Heading, Headed, ParamBlock, Params, MoreParams, Names, NameTail, OneArg, OneInner, InnerTail, Args, More, OneExpr, Both, Single, OrTail, AndTail, Compared, opens}
 
 -- What a mark does to the part that is to be read first.
 pub data Move : Type 0 where
@@ -41,6 +41,9 @@ move_arg m.Plain = Take []
 move_arg m.Query = Take []
 move_arg m.Star = Take []
 move_arg m.Plus = Take []
+move_arg m.Together = Take []
+move_arg m.Existing = Take []
+move_arg m.Quietly = Take []
 move_arg m.SquareOpen = Room 1 (OneInner ∷ Key m.SquareClose ∷ [])
 move_arg _ = Refuse
 
@@ -77,6 +80,21 @@ abbrev pub move_body_block : Mark → Move
 move_body_block m.BraceOpen = Room 1 (Key m.Body ∷ Key m.BraceClose ∷ [])
 move_body_block _ = Refuse
 
+abbrev pub move_word : Bool → List Part → Move
+move_word true more = Take more
+move_word false more = Refuse
+
+-- headings of actions: a modifier that has stood is the name
+abbrev pub move_modifier : Bool → Part → Move
+move_modifier false next = Take (next ∷ [])
+move_modifier true next = Take []
+
+abbrev pub move_heading : Bool → Bool → Bool → Mark → Move
+move_heading t e q m.Together = move_modifier t (Headed true e q)
+move_heading t e q m.Existing = move_modifier e (Headed t true q)
+move_heading t e q m.Quietly = move_modifier q (Headed t e true)
+move_heading t e q mark = move_word (is_word mark) []
+
 -- statements: where what they need can never be opened, their first mark cannot come
 abbrev pub move_stmt : Mark → Move
 move_stmt m.BraceOpen = move_block m.BraceOpen
@@ -89,7 +107,7 @@ move_stmt m.While = Room 1 (OneExpr ∷ OneBlock ∷ [])
 move_stmt m.Switch = Room 1 (Args ∷ CaseBlock ∷ [])
 move_stmt m.Module = Room 1 (Args ∷ OneBlock ∷ [])
 move_stmt m.Rule = Room 1 (OneWord ∷ RuleTail ∷ [])
-move_stmt m.Actions = Room 1 (OneWord ∷ BodyBlock ∷ [])
+move_stmt m.Actions = Room 1 (Heading false false false ∷ BodyBlock ∷ [])
 move_stmt m.On = Room 1 (OneArg ∷ OneStmt ∷ Shut ∷ [])
 move_stmt mark = before (move_arg mark) (Tail ∷ [])
 
@@ -112,10 +130,6 @@ abbrev pub move_local_tail : Mark → Move
 move_local_tail m.Semicolon = Take []
 move_local_tail m.Equals = Take (Args ∷ Key m.Semicolon ∷ [])
 move_local_tail _ = Refuse
-
-abbrev pub move_word : Bool → List Part → Move
-move_word true more = Take more
-move_word false more = Refuse
 
 abbrev pub move_for_tail : Mark → Move
 move_for_tail m.Local = Take (OneWord ∷ Key m.In ∷ Args ∷ OneBlock ∷ [])
@@ -141,6 +155,9 @@ move_rule_tail mark = move_block mark
 abbrev pub move_params : Mark → Move
 move_params m.Star = Take []
 move_params m.Plain = Take (NameTail ∷ MoreParams ∷ [])
+move_params m.Together = Take (NameTail ∷ MoreParams ∷ [])
+move_params m.Existing = Take (NameTail ∷ MoreParams ∷ [])
+move_params m.Quietly = Take (NameTail ∷ MoreParams ∷ [])
 move_params m.Colon = Take (Params ∷ [])
 move_params _ = Skip
 
@@ -150,6 +167,9 @@ move_more_params _ = Skip
 
 abbrev pub move_names : Mark → Move
 move_names m.Plain = Take (NameTail ∷ [])
+move_names m.Together = Take (NameTail ∷ [])
+move_names m.Existing = Take (NameTail ∷ [])
+move_names m.Quietly = Take (NameTail ∷ [])
 move_names _ = Skip
 
 abbrev pub move_name_tail : Mark → Move
@@ -182,6 +202,8 @@ move_compared _ = Skip
 abbrev pub move : Part → Mark → Move
 move (Key want) mark = move_key (same_mark want mark)
 move OneWord mark = move_word (is_word mark) []
+move OneName mark = move_word (is_name mark) []
+move (LastWord t e q) mark = move_word (only_names t e q mark) []
 move Shut mark = Skip
 move Stmts mark = or_skip (before (move_stmt mark) (Stmts ∷ []))
 move OneStmt mark = move_stmt mark
@@ -196,6 +218,8 @@ move OneBlock mark = move_block mark
 move CaseBlock mark = move_case_block mark
 move Cases mark = move_cases mark
 move BodyBlock mark = move_body_block mark
+move (Heading t e q) mark = move_heading t e q mark
+move (Headed t e q) mark = or_skip (move_heading t e q mark)
 move ParamBlock mark = move_param_block mark
 move Params mark = move_params mark
 move MoreParams mark = move_more_params mark
@@ -219,6 +243,7 @@ may_be_empty Shut = true
 may_be_empty Stmts = true
 may_be_empty OneElse = true
 may_be_empty Cases = true
+may_be_empty (Headed t e q) = true
 may_be_empty Params = true
 may_be_empty MoreParams = true
 may_be_empty Names = true

@@ -5,15 +5,7 @@ use Rattle.b2_base.specs.declared.token.TokenKind.{TokenKind}
 use Rattle.b2_base.specs.declared.token.TokenKind.TheVariants as kinds
 use Rattle.b2_base.specs.declared.token.Token.{Token}
 use Rattle.jam_grammar.specs.declared.mark.Mark.{Mark}
-use Rattle.jam_grammar.specs.declared.mark.Mark.TheVariants.{Plain, Query, Star, Plus, Body, Semicolon, Colon, BraceOpen, BraceClose, SquareOpen, SquareClose, ParenOpen, ParenClose, Equals, PlusEquals, QueryEquals, NotEquals, Not, And, Or, Actions, Case, Else, For, If, In, Include, Local, Module, On, Return, Rule, Switch, While, Unknown}
-
--- the mark of a word: three of them mark parameters
-unfoldable pub mark_of_word : List ℕ → Mark
-mark_of_word text =
-    if bytes_eq text (codes "?") then Query
-    else if bytes_eq text (codes "*") then Star
-    else if bytes_eq text (codes "+") then Plus
-    else Plain
+use Rattle.jam_grammar.specs.declared.mark.Mark.TheVariants.{Plain, Query, Star, Plus, Together, Existing, Quietly, Body, Semicolon, Colon, BraceOpen, BraceClose, SquareOpen, SquareClose, ParenOpen, ParenClose, Equals, PlusEquals, QueryEquals, NotEquals, Not, And, Or, Actions, Case, Else, For, If, In, Include, Local, Module, On, Return, Rule, Switch, While, Unknown}
 
 -- the keys of the language with their marks
 abbrev pub key_marks : List (List ℕ × Mark)
@@ -25,14 +17,24 @@ key_marks =
     (codes "in", In) ∷ (codes "include", Include) ∷ (codes "local", Local) ∷ (codes "module", Module) ∷ (codes "on", On) ∷
     (codes "return", Return) ∷ (codes "rule", Rule) ∷ (codes "switch", Switch) ∷ (codes "while", While) ∷ []
 
--- the mark of the first row with this text
-abbrev pub mark_in : List (List ℕ × Mark) → List ℕ → Mark
-mark_in [] text = Unknown
-mark_in (row ∷ rows) text = if bytes_eq text row.0 then row.1 else mark_in rows text
+-- the words that the grammar knows with their marks: three mark parameters, and three are modifiers of actions
+abbrev pub word_marks : List (List ℕ × Mark)
+word_marks =
+    (codes "?", Query) ∷ (codes "*", Star) ∷ (codes "+", Plus) ∷ (codes "together", Together) ∷ (codes "existing", Existing) ∷
+    (codes "quietly", Quietly) ∷ []
+
+-- the mark of the first row with this text, and another where there is none
+abbrev pub mark_in : List (List ℕ × Mark) → Mark → List ℕ → Mark
+mark_in [] other text = other
+mark_in (row ∷ rows) other text = if bytes_eq text row.0 then row.1 else mark_in rows other text
+
+-- any other word is plain
+unfoldable pub mark_of_word : List ℕ → Mark
+mark_of_word text = mark_in word_marks Plain text
 
 -- a key that the list does not have is unknown
 unfoldable pub mark_of_key : List ℕ → Mark
-mark_of_key text = mark_in key_marks text
+mark_of_key text = mark_in key_marks Unknown text
 
 -- the mark of a text of this kind
 abbrev pub mark_by_kind : TokenKind → List ℕ → Mark
@@ -50,7 +52,25 @@ is_word Plain = true
 is_word Query = true
 is_word Star = true
 is_word Plus = true
+is_word Together = true
+is_word Existing = true
+is_word Quietly = true
 is_word _ = false
+
+-- the marks of words that may name a parameter
+abbrev pub is_name : Mark → Bool
+is_name Plain = true
+is_name Together = true
+is_name Existing = true
+is_name Quietly = true
+is_name _ = false
+
+-- the marks of words that after these modifiers can only name the actions: all but the modifiers that did not stand
+abbrev pub only_names : Bool → Bool → Bool → Mark → Bool
+only_names together existing quietly Together = together
+only_names together existing quietly Existing = existing
+only_names together existing quietly Quietly = quietly
+only_names together existing quietly mark = is_word mark
 
 -- the marks by number
 abbrev pub number : Mark → ℕ
@@ -58,37 +78,40 @@ number Plain = 0
 number Query = 1
 number Star = 2
 number Plus = 3
-number Body = 4
-number Semicolon = 5
-number Colon = 6
-number BraceOpen = 7
-number BraceClose = 8
-number SquareOpen = 9
-number SquareClose = 10
-number ParenOpen = 11
-number ParenClose = 12
-number Equals = 13
-number PlusEquals = 14
-number QueryEquals = 15
-number NotEquals = 16
-number Not = 17
-number And = 18
-number Or = 19
-number Actions = 20
-number Case = 21
-number Else = 22
-number For = 23
-number If = 24
-number In = 25
-number Include = 26
-number Local = 27
-number Module = 28
-number On = 29
-number Return = 30
-number Rule = 31
-number Switch = 32
-number While = 33
-number Unknown = 34
+number Together = 4
+number Existing = 5
+number Quietly = 6
+number Body = 7
+number Semicolon = 8
+number Colon = 9
+number BraceOpen = 10
+number BraceClose = 11
+number SquareOpen = 12
+number SquareClose = 13
+number ParenOpen = 14
+number ParenClose = 15
+number Equals = 16
+number PlusEquals = 17
+number QueryEquals = 18
+number NotEquals = 19
+number Not = 20
+number And = 21
+number Or = 22
+number Actions = 23
+number Case = 24
+number Else = 25
+number For = 26
+number If = 27
+number In = 28
+number Include = 29
+number Local = 30
+number Module = 31
+number On = 32
+number Return = 33
+number Rule = 34
+number Switch = 35
+number While = 36
+number Unknown = 37
 
 -- whether two marks are the same
 abbrev pub same_mark : Mark → Mark → Bool

@@ -18,13 +18,16 @@ use Rattle.jam_grammar.specs.declared.tree.Block.{Block}
 use Rattle.jam_grammar.specs.declared.tree.Case.{Case}
 use Rattle.jam_grammar.specs.declared.tree.Stmt.{Stmt}
 use Rattle.jam_grammar.specs.declared.tree.Tree.{Tree}
-use Rattle.jam_grammar.specs.Marks.{mark_of_token, is_word}
+use Rattle.jam_grammar.specs.Marks.{mark_of_token, is_word, is_name}
 use Rattle.jam_grammar.specs.Trees.{ArgTree, Word, Bracket, InnerTree, CallOf, OnInner, OnReturn, ArgTrees, NoArgs, ArgAnd, ListTrees, NoLists, ListAnd, ExprTree, Or, And, Not, Group, Bare, Equal, Differ, Within, ExprTrees, NoExprs, ExprAnd, FormTree, Braces, Local, Assign, AssignOn, Include, Return, If, For, While, Switch, Module, Rule, Actions, On, Call, OtherTree, Nothing, ElseBraces, ElseIf, StmtTrees, NoStmts, StmtAnd, CaseTrees, NoCases, CaseAnd, arg_tree, inner_tree, args_tree, lists_tree, expr_tree, exprs_tree, form_tree, other_tree, block_tree, stmts_tree, case_before, cases_tree, whole_tree}
 
 -- What a tree asks of the tokens, one after another.
 pub data Sym : Type 0 where
   -- a key, or one of the words `?`, `*` and `+`, by its mark
   Key : Mark → Sym
+  -- after the modifiers of actions that the first three tell (`together`, `existing`, `quietly`), words in any order with
+  -- which the others have stood
+  Heads : Bool → Bool → Bool → Bool → Bool → Bool → Sym
   -- a word of this text, whichever it is
   Says : List ℕ → Sym
   -- a word of this text that is none of `?`, `*` and `+`
@@ -179,7 +182,7 @@ abbrev mutual
   spell_form (Switch value cases) = Key m.Switch ∷ (spell_args value ++ braced (spell_cases cases))
   spell_form (Module name block) = Key m.Module ∷ (spell_args name ++ braced (spell_stmts block))
   spell_form (Rule name params block) = Key m.Rule ∷ Says name ∷ (params_syms params ++ braced (spell_stmts block))
-  spell_form (Actions name body) = Key m.Actions ∷ Says name ∷ braced (Raw body ∷ [])
+  spell_form (Actions name t e q body) = Key m.Actions ∷ Heads false false false t e q ∷ Says name ∷ braced (Raw body ∷ [])
   spell_form (On target line form) = Key m.On ∷ (spell_arg target ++ (From line ∷ spell_form form))
   spell_form (Call head lists) = spell_arg head ++ (spell_lists lists ++ Key m.Semicolon ∷ [])
 
@@ -249,8 +252,9 @@ tree_syms tree = spell_stmts (whole_tree tree)
 abbrev pub Is : Sym → Token → Type 0
 Is (Key mark) token = mark_of_token token ≡ mark
 Is (Says text) token = IsTrue (is_word (mark_of_token token)) × (token.text ≡ text)
-Is (Named text) token = (mark_of_token token ≡ m.Plain) × (token.text ≡ text)
+Is (Named text) token = IsTrue (is_name (mark_of_token token)) × (token.text ≡ text)
 Is (Raw text) token = (mark_of_token token ≡ m.Body) × (token.text ≡ text)
+Is (Heads a b c t e q) token = ⊥
 Is (From line) token = ⊥
 Is Never token = ⊥
 
@@ -259,10 +263,19 @@ abbrev pub StartsOn : ℕ → List Token → Type 0
 StartsOn line [] = ⊥
 StartsOn line (token ∷ tokens) = token.line ≡ line
 
+-- Modifiers of actions stand first, each once, in any order: from those that have stood (`together`, `existing`, `quietly`)
+-- to those that have then; and the tokens after them.
+pub data Switches : Bool → Bool → Bool → Bool → Bool → Bool → List Token → List Token → Type 0 where
+  none : {a b c : Bool} {tokens : List Token} → Switches a b c a b c tokens tokens
+  together : {b c t e q : Bool} {token : Token} {tokens left : List Token} → mark_of_token token ≡ m.Together → Switches true b c t e q tokens left → Switches false b c t e q (token ∷ tokens) left
+  existing : {a c t e q : Bool} {token : Token} {tokens left : List Token} → mark_of_token token ≡ m.Existing → Switches a true c t e q tokens left → Switches a false c t e q (token ∷ tokens) left
+  quietly : {a b t e q : Bool} {token : Token} {tokens left : List Token} → mark_of_token token ≡ m.Quietly → Switches a b true t e q tokens left → Switches a b false t e q (token ∷ tokens) left
+
 -- The symbols are spelled by the first tokens, and after those stand the others.
 abbrev pub Spells : List Token → List Sym → List Token → Type 0
 Spells tokens [] after = tokens ≡ after
 Spells tokens (From line ∷ syms) after = StartsOn line tokens × Spells tokens syms after
+Spells tokens (Heads a b c t e q ∷ syms) after = (left : List Token) × Switches a b c t e q tokens left × Spells left syms after
 Spells [] (Key mark ∷ syms) after = ⊥
 Spells [] (Says text ∷ syms) after = ⊥
 Spells [] (Named text ∷ syms) after = ⊥

@@ -69,7 +69,7 @@ mutual
     Switch : ArgTrees → CaseTrees → FormTree
     Module : ArgTrees → StmtTrees → FormTree
     Rule : List ℕ → List (List Param) → StmtTrees → FormTree
-    Actions : List ℕ → List ℕ → FormTree
+    Actions : List ℕ → Bool → Bool → Bool → List ℕ → FormTree
     On : ArgTree → ℕ → FormTree → FormTree
     Call : ArgTree → ListTrees → FormTree
 
@@ -157,7 +157,7 @@ abbrev mutual
   form_tree (form.Switch' value shape cases) = Switch (args_tree value.items) (cases_row_tree cases)
   form_tree (form.Module name block) = Module (args_tree name.items) (block_tree block)
   form_tree (form.Rule' name params place block) = Rule name (params_of params) (block_tree block)
-  form_tree (form.Actions name body) = Actions name body
+  form_tree (form.Actions name together existing quietly body) = Actions name together existing quietly body
   form_tree (form.On' target place line f) = On (arg_tree target) line (form_tree f)
   form_tree (form.Call head lists) = Call (arg_tree head) (lists_tree lists.items)
 

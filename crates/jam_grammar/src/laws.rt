@@ -1,5 +1,5 @@
 //! Laws of the grammar.
-ghost use Rattle.jam_grammar.specs.Laws.{FileOrFault, FileHasTree, NeverBoth, OneFault, WholeIsFile, FileIsWhole, BadIsFault, FaultIsBad, PartsCompose, SaysAsked, AskedReads, OneTree, OneUpToLines, SameUpToLines, ReadsAlso};
+ghost use Rattle.jam_grammar.specs.Laws.{FileOrFault, FileHasTree, NeverBoth, OneFault, WholeIsFile, FileIsWhole, BadIsFault, FaultIsBad, PartsCompose, AskedReads, OneTree, OneUpToLines, SameUpToLines, ReadsAlso};
 
 /// Each list of tokens is a file or has a first fault, never both; each file has a tree, and the first fault is one.
 pub fn first_fault_or_tree()
@@ -24,10 +24,9 @@ pub fn parts_compose()
 {}
 
 /// Where some tokens read as a tree, tokens that say what the tree asks for, by their kinds and texts, read as it up to
-/// lines; and those tokens say that.
+/// lines. It asks for the modifiers of actions in one order, in whichever they were read.
 pub fn alike()
-    ensures says { SaysAsked }
-    ensures reads { AskedReads }
+    ensures { AskedReads }
 {}
 
 /// Tokens read as one tree, and up to lines as one tree up to lines: trees are compared as data, with the texts, marks and

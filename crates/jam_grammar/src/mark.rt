@@ -7,7 +7,7 @@ use b2_base::token::{Token, TokenKind};
 /// What the grammar sees of a token: which key it is, or that it is a word or a body.
 #[derive(Clone, Copy, PartialEq, Eq)]
 pub enum Mark {
-    /// A word other than the three that mark parameters.
+    /// A word other than the three that mark parameters and the three modifiers of actions.
     Plain,
     /// The word `?`.
     Query,
@@ -15,6 +15,12 @@ pub enum Mark {
     Star,
     /// The word `+`.
     Plus,
+    /// The word `together`.
+    Together,
+    /// The word `existing`.
+    Existing,
+    /// The word `quietly`.
+    Quietly,
     /// The body of an action.
     Body,
     /// `;`
@@ -79,8 +85,8 @@ pub enum Mark {
     Unknown,
 }
 
-/// What the grammar sees of the token. A word is the same with quotes and without; the texts `?`, `*` and `+` have marks
-/// of their own among the words.
+/// What the grammar sees of the token. A word is the same with quotes and without; the texts `?`, `*`, `+`, `together`,
+/// `existing` and `quietly` have marks of their own among the words.
 #[tactic(auto, unfolding(crate::specs::Marks::mark_of_token))]
 pub fn mark_of(token: &Token) -> Mark
     ensures { result ≡ mark_of_token token.now }
@@ -92,21 +98,15 @@ pub fn mark_of(token: &Token) -> Mark
     }
 }
 
-/// The three words that mark parameters differ from all others.
-#[tactic(auto, unfolding(crate::specs::Marks::mark_of_word))]
-fn mark_of_word(text: &str) -> Mark
-    ensures { result ≡ mark_of_word text.now }
-{
-    if text == "?" {
-        Mark::Query
-    } else if text == "*" {
-        Mark::Star
-    } else if text == "+" {
-        Mark::Plus
-    } else {
-        Mark::Plain
-    }
-}
+/// The words that the grammar knows with their marks: those that mark parameters, then the modifiers of actions.
+static WORDS: [(&str, Mark); 6] = [
+    ("?", Mark::Query),
+    ("*", Mark::Star),
+    ("+", Mark::Plus),
+    ("together", Mark::Together),
+    ("existing", Mark::Existing),
+    ("quietly", Mark::Quietly),
+];
 
 /// The keys of the language with their marks: signs, then reserved words in byte order.
 static KEYS: [(&str, Mark); 29] = [
@@ -141,20 +141,28 @@ static KEYS: [(&str, Mark); 29] = [
     ("while", Mark::While),
 ];
 
-/// The mark of the first row with this text.
-fn mark_in(rows: &[(&str, Mark)], text: &str) -> Mark
-    ensures { result ≡ mark_in (map (λ row. (row.0.now, row.1)) rows.now) text.now }
+/// The mark of the first row with this text, or another where there is none.
+fn mark_in(rows: &[(&str, Mark)], other: Mark, text: &str) -> Mark
+    ensures { result ≡ mark_in (map (λ row. (row.0.now, row.1)) rows.now) other text.now }
 {
     match rows {
-        [] => Mark::Unknown,
+        [] => other,
         [first, more @ ..] => {
             if text == first.0 {
                 first.1
             } else {
-                mark_in(more, text)
+                mark_in(more, other, text)
             }
         }
     }
+}
+
+/// A text that is not among the words that the grammar knows is `Plain`.
+#[tactic(auto, unfolding(crate::specs::Marks::mark_of_word))]
+fn mark_of_word(text: &str) -> Mark
+    ensures { result ≡ mark_of_word text.now }
+{
+    mark_in(&WORDS, Mark::Plain, text)
 }
 
 /// A text that is not among the keys is `Unknown`.
@@ -162,5 +170,5 @@ fn mark_in(rows: &[(&str, Mark)], text: &str) -> Mark
 fn mark_of_key(text: &str) -> Mark
     ensures { result ≡ mark_of_key text.now }
 {
-    mark_in(&KEYS, text)
+    mark_in(&KEYS, Mark::Unknown, text)
 }

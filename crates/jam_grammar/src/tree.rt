@@ -114,10 +114,16 @@ pub enum Form {
         /// What a call does.
         block: Rc<Block>,
     },
-    /// `actions name {body}`
+    /// `actions name {body}`, with modifiers before the name or not.
     Actions {
         /// As it is written: nothing in it is expanded.
         name: Text,
+        /// Whether `together` stands among the modifiers.
+        together: bool,
+        /// Whether `existing` does.
+        existing: bool,
+        /// Whether `quietly` does.
+        quietly: bool,
         /// The text between the braces, as it stands.
         body: Text,
     },

@@ -6,6 +6,7 @@ use Rattle.b2_host.specs.OutsideLaws.{keeps_same}
 use Rattle.jam_expand.specs.Bodies.{body_expansion}
 use Rattle.jam_journal.specs.Tables.{Text, Key}
 use Rattle.jam_journal.specs.Scopes.{Value, enter}
+use Rattle.jam_scope.specs.Rules.{Actions}
 use Rattle.jam_scope.specs.Worlds.{World, Worlds}
 use Rattle.jam_scope.specs.Changes.{changed, rescoped, open_step, mark, roll_back, newest_of}
 use Rattle.jam_scope.specs.Lines.{actions_place, find_rule}
@@ -41,9 +42,9 @@ none_texted : (job : Job) (w : World) (answer : Result Text ExpandFault) (cause 
 none_texted job w (Ok text) cause e = cc
 none_texted job w (Err f) cause e = ap refused_in (sym (same_cause (expand f) cause e))
 
-none_of_body : (job : Job) (owner : Text) (w : World) (body : Option Text) (cause : Cause) → text_of_body job owner w body ≡ Err cause → refused_in cause ≡ None
+none_of_body : (job : Job) (owner : Text) (w : World) (body : Option Actions) (cause : Cause) → text_of_body job owner w body ≡ Err cause → refused_in cause ≡ None
 none_of_body job owner w None cause e = ap refused_in (sym (same_cause (unknown_rule job.name) cause e))
-none_of_body job owner w (Some body) cause e = none_texted job w (body_expansion (body_names job.outs job.ins job.outs owner w) body) cause e
+none_of_body job owner w (Some actions) cause e = none_texted job w (body_expansion (body_names job.outs job.ins job.outs owner w) actions.text) cause e
 
 none_refused : (job : Job) (w : World) (at : Option Key) (cause : Cause) → text_of_actions job w at ≡ Err cause → refused_in cause ≡ None
 none_refused job w None cause e = ap refused_in (sym (same_cause (unknown_rule job.name) cause e))
@@ -58,9 +59,9 @@ module _ {R : Type 0} where
   text_so (Ok text) spot s = refl
   text_so (Err f) spot s = refl
 
-  body_so : (job : Job) (owner : Text) (body : Option Text) (spot : Spot) (s : State R) → body_text job body owner spot s ≡ by_text (text_of_body job owner s.worlds.now body) spot s
+  body_so : (job : Job) (owner : Text) (body : Option Actions) (spot : Spot) (s : State R) → body_text job body owner spot s ≡ by_text (text_of_body job owner s.worlds.now body) spot s
   body_so job owner None spot s = refl
-  body_so job owner (Some body) spot s = text_so (body_expansion (body_names job.outs job.ins job.outs owner s.worlds.now) body) spot s
+  body_so job owner (Some actions) spot s = text_so (body_expansion (body_names job.outs job.ins job.outs owner s.worlds.now) actions.text) spot s
 
   actions_so : (job : Job) (at : Option Key) (spot : Spot) (s : State R) → actions_text job at spot s ≡ by_text (text_of_actions job s.worlds.now at) spot s
   actions_so job None spot s = refl

@@ -119,7 +119,13 @@ fn form<N: Natives, F: Files>(
             params,
             block,
         } => define_rule(alloc, world, name, params, block, at),
-        Form::Actions { name, body } => define_actions(world, name, body),
+        Form::Actions {
+            name,
+            together,
+            existing,
+            quietly,
+            body,
+        } => define_actions(world, name, *together, *existing, *quietly, body),
         Form::On { target, stmt } => on_form(alloc, world, turns, natives, files, target, stmt, at),
         Form::Call { head, lists } => called(alloc, world, turns, natives, files, head, lists, at),
     }

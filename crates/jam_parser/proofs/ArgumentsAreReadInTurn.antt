@@ -7,7 +7,7 @@ use Rattle.std.specs.declared.alloc.Global.{Global}
 use Rattle.b2_base.specs.declared.token.Token.{Token}
 use Rattle.jam_grammar.specs.declared.tree.Arg.{Arg}
 use Rattle.jam_grammar.specs.declared.mark.Mark.{Mark}
-use Rattle.jam_grammar.specs.declared.mark.Mark.TheVariants.{Plain, Query, Star, Plus, Body, SquareOpen, SquareClose, Colon, On, Return}
+use Rattle.jam_grammar.specs.declared.mark.Mark.TheVariants.{Plain, Query, Star, Plus, Together, Existing, Quietly, Body, SquareOpen, SquareClose, Colon, On, Return}
 use Rattle.jam_grammar.specs.Marks.{mark_of_token, is_word, same_mark}
 use Rattle.jam_grammar.specs.Grammar.{Part, OneArg, OneWord, OneInner, InnerTail, Args, More, opens}
 use Rattle.jam_grammar.specs.Grammar as part
@@ -31,6 +31,9 @@ arg_comes left d h = turned (Args ∷ []) (OneArg ∷ Args ∷ []) left d (omega
     same k Query h = refl
     same k Star h = refl
     same k Plus h = refl
+    same k Together h = refl
+    same k Existing h = refl
+    same k Quietly h = refl
     same k SquareOpen h = ap (λ n. if nat_le (1 + n) 64 then Some (OneInner ∷ part.Key SquareClose ∷ Args ∷ k) else None) (zero_more (opens k))
     same k _ h = cc
 
@@ -142,6 +145,9 @@ word_reads t a b text d split is e = subst (λ x. IsRead (OneWord ∷ []) x d (S
     takes_word k Query h = refl
     takes_word k Star h = refl
     takes_word k Plus h = refl
+    takes_word k Together h = refl
+    takes_word k Existing h = refl
+    takes_word k Quietly h = refl
     takes_word k _ h = cc
 
 -- where no word begins, none is read
@@ -154,4 +160,7 @@ no_word (t ∷ ts) d h k o = ap (λ x. go_on x (run ts) (t ∷ ts)) (refuses_oth
     refuses_other Query h = cc
     refuses_other Star h = cc
     refuses_other Plus h = cc
+    refuses_other Together h = cc
+    refuses_other Existing h = cc
+    refuses_other Quietly h = cc
     refuses_other _ h = refl

@@ -1,5 +1,5 @@
 -- One more name or list of parameters as it is read, and the parentheses around the lists; for the loops over them.
-use Rattle.std.proofs.Common.{◌≡◌, ℕ, List, [], ◌∷◌, ◌++◌, Bool, true, false, ◌&&◌, flat_map, refl, sym, ap, ◌∙◌, subst, append_assoc}
+use Rattle.std.proofs.Common.{◌≡◌, ℕ, List, [], ◌∷◌, ◌++◌, Bool, true, false, ◌&&◌, Some, flat_map, refl, sym, ap, ◌∙◌, subst, arith, append_assoc}
 use Rattle.std.specs.Prelude.{codes}
 use Rattle.std.specs.Str.{bytes_eq}
 use Rattle.std.proofs.lemmas.List.{append-nil}
@@ -7,15 +7,17 @@ use Rattle.std.specs.declared.vec.Vec.{Vec}
 use Rattle.std.specs.declared.alloc.Global.{Global}
 use Rattle.b2_base.specs.declared.token.Token.{Token}
 use Rattle.jam_grammar.specs.declared.tree.Param.{Param}
+use Rattle.jam_grammar.specs.declared.mark.Mark.{Mark}
 use Rattle.jam_grammar.specs.declared.mark.Mark.TheVariants as m
-use Rattle.jam_grammar.specs.Marks.{mark_of_token}
-use Rattle.jam_grammar.specs.Grammar.{Params, MoreParams, Names, NameTail}
+use Rattle.jam_grammar.specs.Marks.{mark_of_token, is_name}
+use Rattle.jam_grammar.specs.Grammar.{Part, Params, MoreParams, Names, NameTail}
+use Rattle.jam_grammar.specs.Machine.{feed, go_on, run}
 use Rattle.jam_grammar.specs.Spelling.{Key, Named, Spells, param_syms, takes_all, no_mark, plist_syms, further_params, params_syms}
 use Rattle.jam_parser.specs.Parts.{least, ComesTo}
 use Rattle.jam_parser.specs.Params.{after_name, after_list, params_read}
 use Rattle.jam_grammar.specs.Trees.{lists_of}
 use Rattle.jam_parser.specs.Starts.{StandsAfter}
-use Rattle.jam_parser.proofs.ReadingsCompose.{takes, takes_past}
+use Rattle.jam_parser.proofs.ReadingsCompose.{takes_past}
 use Rattle.jam_parser.proofs.ArgumentsAreReadInTurn.{never}
 
 -- one more parameter, which is no `*` alone
@@ -35,14 +37,20 @@ pub more_names : (xs ys : List Param) (x : Param) → ys ≡ xs ++ x ∷ [] → 
 more_names xs ys x e = ap (flat_map param_syms) e ∙ names_snoc xs x
 
 -- a name, where one may come
-pub name_comes : (may_come : Bool) (t : Token) (a b : List Token) (name : List ℕ) (d : ℕ) → may_come ≡ true → a ≡ t ∷ b → mark_of_token t ≡ m.Plain → name ≡ t.text → ComesTo (after_name may_come) (NameTail ∷ []) a d (Named name ∷ []) b
+takes_name : (k : List Part) (x : Mark) → is_name x ≡ true → feed (Names ∷ k) x ≡ Some (NameTail ∷ k)
+takes_name k m.Plain h = refl
+takes_name k m.Together h = refl
+takes_name k m.Existing h = refl
+takes_name k m.Quietly h = refl
+takes_name k _ h = cc
+
+pub name_comes : (may_come : Bool) (t : Token) (a b : List Token) (name : List ℕ) (d : ℕ) → may_come ≡ true → a ≡ t ∷ b → is_name (mark_of_token t) ≡ true → name ≡ t.text → ComesTo (after_name may_come) (NameTail ∷ []) a d (Named name ∷ []) b
 name_comes may_come t a b name d open1 h is e =
-    let taken = takes Names (NameTail ∷ []) m.Plain t a b d h is refl in
-    subst (λ x. ComesTo (after_name x) (NameTail ∷ []) a d (Named name ∷ []) b) (sym open1) record {
-      moves = taken.moves;
-      spells = subst (λ z. Spells z (Named name ∷ []) b) (sym h) ((is, sym e), refl);
-      shorter = taken.shorter;
-    }
+    subst (λ x. ComesTo (after_name x) (NameTail ∷ []) a d (Named name ∷ []) b) (sym open1) (subst (λ z. ComesTo (Names ∷ []) (NameTail ∷ []) z d (Named name ∷ []) b) (sym h) record {
+      moves = λ k o. ap (λ x. go_on x (run b) (t ∷ b)) (takes_name k (mark_of_token t) is);
+      spells = ((is, sym e), refl);
+      shorter = omega arith;
+    })
 
 pub nothing_least : (b : Bool) → least (after_name b) ≡ 0
 nothing_least true = refl

@@ -1,5 +1,5 @@
 -- Which token begins a statement, how one more statement or case is spelled, and on which line it begins.
-use Rattle.std.proofs.Common.{◌≡◌, ℕ, ◌+◌, List, [], ◌∷◌, ◌++◌, true, Some, None, nat_le, if◌then◌else◌, refl, sym, ap, ◌∙◌, subst, arith, append_assoc}
+use Rattle.std.proofs.Common.{◌≡◌, ℕ, ◌+◌, List, [], ◌∷◌, ◌++◌, true, false, Some, None, nat_le, if◌then◌else◌, refl, sym, ap, ◌∙◌, subst, arith, append_assoc}
 use Rattle.std.proofs.lemmas.List.{append-nil}
 use Rattle.std.specs.declared.vec.Vec.{Vec}
 use Rattle.std.specs.declared.alloc.Global.{Global}
@@ -36,12 +36,15 @@ stmt_comes left d h = turned (Stmts ∷ []) (OneStmt ∷ Stmts ∷ []) left d (o
     same k m.Switch h = ap (λ n. if nat_le (1 + n) 64 then Some (part.Args ∷ part.CaseBlock ∷ Stmts ∷ k) else None) (zero_more (opens k))
     same k m.Module h = ap (λ n. if nat_le (1 + n) 64 then Some (part.Args ∷ OneBlock ∷ Stmts ∷ k) else None) (zero_more (opens k))
     same k m.Rule h = ap (λ n. if nat_le (1 + n) 64 then Some (part.OneWord ∷ part.RuleTail ∷ Stmts ∷ k) else None) (zero_more (opens k))
-    same k m.Actions h = ap (λ n. if nat_le (1 + n) 64 then Some (part.OneWord ∷ part.BodyBlock ∷ Stmts ∷ k) else None) (zero_more (opens k))
+    same k m.Actions h = ap (λ n. if nat_le (1 + n) 64 then Some (part.Heading false false false ∷ part.BodyBlock ∷ Stmts ∷ k) else None) (zero_more (opens k))
     same k m.On h = ap (λ n. if nat_le (1 + n) 64 then Some (part.OneArg ∷ OneStmt ∷ part.Shut ∷ Stmts ∷ k) else None) (zero_more (opens k))
     same k m.Plain h = refl
     same k m.Query h = refl
     same k m.Star h = refl
     same k m.Plus h = refl
+    same k m.Together h = refl
+    same k m.Existing h = refl
+    same k m.Quietly h = refl
     same k m.Local h = refl
     same k m.Include h = refl
     same k m.Return h = refl

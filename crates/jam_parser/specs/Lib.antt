@@ -3,3 +3,4 @@ pub mod Starts
 pub mod Begins
 pub mod Params
 pub mod Faults
+pub mod Headings

@@ -2,8 +2,8 @@
 use Rattle.std.specs.Prelude.{◌≡◌, ℕ, List, [], ◌∷◌, Bool, true, false}
 use Rattle.b2_base.specs.declared.token.Token.{Token}
 use Rattle.jam_grammar.specs.declared.mark.Mark.{Mark}
-use Rattle.jam_grammar.specs.declared.mark.Mark.TheVariants.{Plain, Query, Star, Plus, SquareOpen, BraceOpen, Local, Include, Return, If, For, While, Switch, Module, Rule, Actions, On, Equals, PlusEquals, QueryEquals}
-use Rattle.jam_grammar.specs.Marks.{mark_of_token, is_word, same_mark}
+use Rattle.jam_grammar.specs.declared.mark.Mark.TheVariants.{Plain, Query, Star, Plus, Together, Existing, Quietly, SquareOpen, BraceOpen, Local, Include, Return, If, For, While, Switch, Module, Rule, Actions, On, Equals, PlusEquals, QueryEquals}
+use Rattle.jam_grammar.specs.Marks.{mark_of_token, is_word, is_name, same_mark}
 
 -- an argument
 abbrev pub begins_arg : Mark → Bool
@@ -11,6 +11,9 @@ begins_arg Plain = true
 begins_arg Query = true
 begins_arg Star = true
 begins_arg Plus = true
+begins_arg Together = true
+begins_arg Existing = true
+begins_arg Quietly = true
 begins_arg SquareOpen = true
 begins_arg _ = false
 
@@ -23,12 +26,20 @@ abbrev pub starts_word : List Token → Bool
 starts_word [] = false
 starts_word (token ∷ tokens) = is_word (mark_of_token token)
 
+-- a word that may name a parameter
+abbrev pub starts_name : List Token → Bool
+starts_name [] = false
+starts_name (token ∷ tokens) = is_name (mark_of_token token)
+
 -- a statement
 abbrev pub begins_stmt : Mark → Bool
 begins_stmt Plain = true
 begins_stmt Query = true
 begins_stmt Star = true
 begins_stmt Plus = true
+begins_stmt Together = true
+begins_stmt Existing = true
+begins_stmt Quietly = true
 begins_stmt SquareOpen = true
 begins_stmt BraceOpen = true
 begins_stmt Local = true

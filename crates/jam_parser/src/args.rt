@@ -24,8 +24,20 @@ pub fn at_arg(rest: &[Token]) -> bool
     ensures { result ≡ starts_arg rest.now }
 {
     match next_of(rest) {
-        Some((Mark::Plain | Mark::Query | Mark::Star | Mark::Plus | Mark::SquareOpen, _, _)) =>
-            true,
+        Some(
+            (
+                Mark::Plain
+                | Mark::Query
+                | Mark::Star
+                | Mark::Plus
+                | Mark::Together
+                | Mark::Existing
+                | Mark::Quietly
+                | Mark::SquareOpen,
+                _,
+                _,
+            ),
+        ) => true,
         _ => false,
     }
 }

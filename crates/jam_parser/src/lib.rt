@@ -4,6 +4,7 @@
 mod args;
 mod exprs;
 pub mod fault;
+mod heading;
 mod params;
 pub mod parse;
 mod reading;

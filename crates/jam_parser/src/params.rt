@@ -1,10 +1,10 @@
 //! Reading the parameters of a rule.
-ghost use Rattle.std.specs.Prelude.{◌≡◌, ℕ, ◌∷◌, [], true, false, MatchOption, MatchResult};
+ghost use Rattle.std.specs.Prelude.{◌≡◌, ℕ, ◌∷◌, [], true, false, IsTrue, MatchOption, MatchResult};
 ghost use Rattle.jam_grammar.specs.Spelling.{mark_syms, plist_syms};
 ghost use Rattle.jam_grammar.specs.Grammar.{Params, Names, NameTail};
-ghost use Rattle.jam_grammar.specs.Marks.{mark_of_token};
+ghost use Rattle.jam_grammar.specs.Marks.{mark_of_token, is_name};
 ghost use Rattle.jam_grammar.specs.declared.mark.Mark.TheVariants as marks;
-ghost use Rattle.jam_parser.specs.Starts.{starts_with, StandsAfter};
+ghost use Rattle.jam_parser.specs.Starts.{starts_name, starts_with, StandsAfter};
 ghost use Rattle.jam_parser.specs.Parts.{IsRead, ComesTo, EndsBy};
 ghost use Rattle.jam_parser.specs.Params.{after_name, after_list, params_read};
 ghost use Rattle.jam_grammar.specs.Trees.{lists_of};
@@ -19,10 +19,11 @@ use std::alloc::Global;
 
 /// The name that stands here, if one may come and does, and what stands after it.
 fn next_name<'a>(rest: &'a [Token], may_come: bool) -> Option<(&'a Token, &'a [Token])>
-    ensures { MatchOption result (may_come ≡ true → starts_with marks.Plain rest.now ≡ false) (λ next. (may_come ≡ true) × (rest.now ≡ next.0.now ∷ next.1.now) × (mark_of_token next.0.now ≡ marks.Plain)) }
+    ensures { MatchOption result (may_come ≡ true → starts_name rest.now ≡ false) (λ next. (may_come ≡ true) × (rest.now ≡ next.0.now ∷ next.1.now) × IsTrue (is_name (mark_of_token next.0.now))) }
 {
     match next_of(rest) {
-        Some((Mark::Plain, first, after)) if may_come => Some((first, after)),
+        Some((Mark::Plain | Mark::Together | Mark::Existing | Mark::Quietly, first, after))
+            if may_come => Some((first, after)),
         _ => None,
     }
 }

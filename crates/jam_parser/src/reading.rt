@@ -86,13 +86,23 @@ pub fn past<'a>(rest: &'a [Token], want: Mark) -> Option<&'a [Token]>
 }
 
 /// The first token, if it is a word, and those after it.
-fn word_of(rest: &[Token]) -> Option<(&Token, &[Token])>
+pub fn word_of(rest: &[Token]) -> Option<(&Token, &[Token])>
     ensures { MatchOption result (starts_word rest.now ≡ false) (λ next. (rest.now ≡ next.0.now ∷ next.1.now) × IsTrue (is_word (mark_of_token next.0.now))) }
 {
     match next_of(rest) {
-        Some((Mark::Plain | Mark::Query | Mark::Star | Mark::Plus, first, after)) => Some((
-            first, after,
-        )),
+        Some(
+            (
+                Mark::Plain
+                | Mark::Query
+                | Mark::Star
+                | Mark::Plus
+                | Mark::Together
+                | Mark::Existing
+                | Mark::Quietly,
+                first,
+                after,
+            ),
+        ) => Some((first, after)),
         _ => None,
     }
 }

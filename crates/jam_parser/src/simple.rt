@@ -3,13 +3,14 @@ ghost use Rattle.std.specs.Prelude.{◌≡◌, ◌<◌, ◌≤◌, ◌∷◌, �
 ghost use Rattle.jam_grammar.specs.Trees.{value_tree};
 ghost use Rattle.jam_grammar.specs.Spelling.{form_syms, arg_syms, args_syms, value_syms, braced, sign_mark};
 ghost use Rattle.jam_grammar.specs.Spelling as spelling;
-ghost use Rattle.jam_grammar.specs.Grammar.{Tail, Assigned, LocalTail, BodyBlock, OneWord, OneArg, Args, More, Key};
+ghost use Rattle.jam_grammar.specs.Grammar.{Tail, Assigned, LocalTail, Heading, BodyBlock, OneArg, Args, More, Key};
 ghost use Rattle.jam_grammar.specs.declared.mark.Mark.TheVariants as marks;
 ghost use Rattle.jam_parser.specs.Starts.{starts_sign, StandsAfter};
 ghost use Rattle.jam_parser.specs.Parts.{IsRead, ComesTo, Completes, EndsBy, Reads, ReadsOn, list_to_end};
 
 use crate::args::{arg, args, lists};
-use crate::reading::{Fault, body_here, key_here, next_of, past, word_here};
+use crate::heading::{Modes, heading};
+use crate::reading::{Fault, body_here, key_here, next_of, past};
 use b2_base::text::Text;
 use b2_base::token::Token;
 use jam_grammar::mark::Mark;
@@ -92,11 +93,25 @@ fn local_value<'a>(
 /// Reads what stands after `actions`.
 pub fn actions<'a>(rest: &'a [Token], depth: u8) -> Result<(Form, &'a [Token]), Fault<'a>>
     requires { depth < 64 }
-    ensures { ReadsOn result (spelling.Key marks.Actions ∷ []) (OneWord ∷ BodyBlock ∷ []) rest.now depth (λ r. form_syms r.0) (λ r. r.1.now) }
+    ensures { ReadsOn result (spelling.Key marks.Actions ∷ []) (Heading false false false ∷ BodyBlock ∷ []) rest.now depth (λ r. form_syms r.0) (λ r. r.1.now) }
 {
-    let (name, after) = word_here(rest, depth)?;
+    let none = Modes {
+        together: false,
+        existing: false,
+        quietly: false,
+    };
+    let (modes, name, after) = heading(rest, none, depth)?;
     let (body, after) = body_block(after, depth)?;
-    Ok((Form::Actions { name, body }, after))
+    Ok((
+        Form::Actions {
+            name,
+            together: modes.together,
+            existing: modes.existing,
+            quietly: modes.quietly,
+            body,
+        },
+        after,
+    ))
 }
 
 /// Reads a body in braces.

@@ -33,8 +33,14 @@ pub fn start_of(rest: &[Token]) -> Start<'_>
     match next_of(rest) {
         None => Start::Nothing,
         Some((mark, _, after)) => match mark {
-            Mark::Plain | Mark::Query | Mark::Star | Mark::Plus | Mark::SquareOpen =>
-                Start::Argument,
+            Mark::Plain
+            | Mark::Query
+            | Mark::Star
+            | Mark::Plus
+            | Mark::Together
+            | Mark::Existing
+            | Mark::Quietly
+            | Mark::SquareOpen => Start::Argument,
             Mark::BraceOpen => Start::Brace,
             Mark::Local => Start::Local(after),
             Mark::Include => Start::Include(after),

@@ -1,5 +1,5 @@
 -- The lexemes of a tree can stand in a text.
-use Rattle.std.proofs.Common.{◌≡◌, ℕ, Bool, true, false, cond, ◌==◌, List, [], ◌∷◌, ◌++◌, codes, Option, Some, None, refl, sym, ◌∙◌}
+use Rattle.std.proofs.Common.{◌≡◌, ℕ, Bool, true, false, cond, ◌==◌, List, [], ◌∷◌, ◌++◌, map, codes, Option, Some, None, refl, sym, ◌∙◌}
 use Rattle.std.specs.List.{All, flat_map}
 use Rattle.std.specs.Str.{bytes_eq}
 use Rattle.std.proofs.lemmas.Bool.{false≢true}
@@ -13,8 +13,8 @@ use Rattle.jam_grammar.specs.declared.tree.Sign.{Sign}
 use Rattle.jam_grammar.specs.declared.tree.Sign.TheVariants as signs
 use Rattle.jam_grammar.specs.declared.tree.Param.{Param}
 use Rattle.jam_grammar.specs.Trees.{ArgTree, Word, Bracket, InnerTree, CallOf, OnInner, OnReturn, ArgTrees, NoArgs, ArgAnd, ListTrees, NoLists, ListAnd, ExprTree, Or, And, Not, Group, Bare, Equal, Differ, Within, ExprTrees, NoExprs, ExprAnd, FormTree, Braces, Local, Assign, AssignOn, Include, Return, If, For, While, Switch, Module, Rule, Actions, On, Call, OtherTree, Nothing, ElseBraces, ElseIf, StmtTrees, NoStmts, StmtAnd, CaseTrees, NoCases, CaseAnd}
-use Rattle.jam_grammar.specs.Spelling.{Sym, Key, Says, Named, Raw, From, Never, Level, Anywhere, WithinOr, WithinAnd, at_or, at_and, spell_arg, spell_inner, spell_args, spell_lists, spell_further, spell_expr, spell_pair, spell_second, spell_joined, mark_syms, param_syms, takes_all, plist_syms, further_params, params_syms, sign_mark, set_syms, value_syms, local_syms, braced, only, is_if, spell_form, spell_other, spell_stmts, spell_cases}
-use Rattle.jam_grammar.specs.Alike.{mark_said, body_said}
+use Rattle.jam_grammar.specs.Spelling.{Sym, Key, Heads, Says, Named, Raw, From, Never, Level, Anywhere, WithinOr, WithinAnd, at_or, at_and, spell_arg, spell_inner, spell_args, spell_lists, spell_further, spell_expr, spell_pair, spell_second, spell_joined, mark_syms, param_syms, takes_all, plist_syms, further_params, params_syms, sign_mark, set_syms, value_syms, local_syms, braced, only, is_if, spell_form, spell_other, spell_stmts, spell_cases}
+use Rattle.jam_grammar.specs.Alike.{mark_said, body_said, heads_said}
 use Rattle.jam_spelling.specs.declared.lexeme.Lexeme.{Lexeme}
 use Rattle.jam_spelling.specs.Standing.{word, key, IsRaw, CanStand, nothing, a_word, a_key, an_action}
 use Rattle.jam_printer.specs.Lexemes.{lexeme_saying, written_as}
@@ -35,7 +35,7 @@ pub data Orderly : List Sym → Type 0 where
   by_name : (text : List ℕ) (more : List Sym) → Orderly more → Orderly (Named text ∷ more)
   by_line : (line : ℕ) (more : List Sym) → Orderly more → Orderly (From line ∷ more)
   by_never : (more : List Sym) → Orderly more → Orderly (Never ∷ more)
-  by_action : (name body : List ℕ) (more : List Sym) → Orderly more → Orderly (Key m.Actions ∷ Says name ∷ Key m.BraceOpen ∷ Raw body ∷ Key m.BraceClose ∷ more)
+  by_action : (name body : List ℕ) (t e q : Bool) (more : List Sym) → Orderly more → Orderly (Key m.Actions ∷ Heads false false false t e q ∷ Says name ∷ Key m.BraceOpen ∷ Raw body ∷ Key m.BraceClose ∷ more)
 
 -- ---- orderly symbols can stand
 
@@ -54,6 +54,9 @@ sign_stands m.Unknown more e stand = absurd (false≢true e)
 sign_stands m.Query more e stand = a_word (codes "?") more stand
 sign_stands m.Star more e stand = a_word (codes "*") more stand
 sign_stands m.Plus more e stand = a_word (codes "+") more stand
+sign_stands m.Together more e stand = a_word (codes "together") more stand
+sign_stands m.Existing more e stand = a_word (codes "existing") more stand
+sign_stands m.Quietly more e stand = a_word (codes "quietly") more stand
 sign_stands m.Semicolon more e stand = a_sign (codes ";") more refl refl stand
 sign_stands m.Colon more e stand = a_sign (codes ":") more refl refl stand
 sign_stands m.BraceOpen more e stand = a_sign (codes "{") more refl refl stand
@@ -87,21 +90,42 @@ rest_raw : (first : Lexeme) (more : List Lexeme) → All HasRaw (first ∷ more)
 rest_raw first more all = All-tail HasRaw first more all
 
 -- the body of an action, and what stands after it
-action_raw : (a b c d e : Lexeme) (more : List Lexeme) → All HasRaw (a ∷ b ∷ c ∷ d ∷ e ∷ more) → HasRaw d × All HasRaw more
-action_raw a b c d e more all =
-    let at_body : All HasRaw (d ∷ e ∷ more) = rest_raw c (d ∷ e ∷ more) (rest_raw b (c ∷ d ∷ e ∷ more) (rest_raw a (b ∷ c ∷ d ∷ e ∷ more) all)) in
+rest_after : (xs more : List Lexeme) → All HasRaw (xs ++ more) → All HasRaw more
+rest_after [] more all = all
+rest_after (x ∷ xs) more all = rest_after xs more (rest_raw x (xs ++ more) all)
+
+action_raw : (a : Lexeme) (xs : List Lexeme) (b c d e : Lexeme) (more : List Lexeme) → All HasRaw (a ∷ (xs ++ (b ∷ c ∷ d ∷ e ∷ more))) → HasRaw d × All HasRaw more
+action_raw a xs b c d e more all =
+    let at_name : All HasRaw (b ∷ c ∷ d ∷ e ∷ more) = rest_after xs (b ∷ c ∷ d ∷ e ∷ more) (rest_raw a (xs ++ (b ∷ c ∷ d ∷ e ∷ more)) all) in
+    let at_body : All HasRaw (d ∷ e ∷ more) = rest_raw c (d ∷ e ∷ more) (rest_raw b (c ∷ d ∷ e ∷ more) at_name) in
     (All-head HasRaw d (e ∷ more) at_body, rest_raw e more (rest_raw d (e ∷ more) at_body))
 
+-- an action with its modifiers
+modifiers : Bool → Bool → Bool → List Lexeme
+modifiers t e q = map lexeme_saying (heads_said false false false t e q)
+
+action_stands : (t e q : Bool) (name body : List ℕ) (more : List Lexeme) → IsRaw body → CanStand more → CanStand (key (codes "actions") ∷ (modifiers t e q ++ (word name ∷ key (codes "{") ∷ lexeme_saying (body_said body) ∷ key (codes "}") ∷ more)))
+unfolding modifiers
+action_stands false false false name body more raw stand = an_action (name ∷ []) body more raw stand
+action_stands false false true name body more raw stand = an_action (codes "quietly" ∷ name ∷ []) body more raw stand
+action_stands false true false name body more raw stand = an_action (codes "existing" ∷ name ∷ []) body more raw stand
+action_stands false true true name body more raw stand = an_action (codes "existing" ∷ codes "quietly" ∷ name ∷ []) body more raw stand
+action_stands true false false name body more raw stand = an_action (codes "together" ∷ name ∷ []) body more raw stand
+action_stands true false true name body more raw stand = an_action (codes "together" ∷ codes "quietly" ∷ name ∷ []) body more raw stand
+action_stands true true false name body more raw stand = an_action (codes "together" ∷ codes "existing" ∷ name ∷ []) body more raw stand
+action_stands true true true name body more raw stand = an_action (codes "together" ∷ codes "existing" ∷ codes "quietly" ∷ name ∷ []) body more raw stand
+
 pub orderly_stands : (syms : List Sym) → Orderly syms → All HasRaw (written_as syms) → CanStand (written_as syms)
+unfolding modifiers
 orderly_stands _ none raw = nothing
 orderly_stands _ (by_key mark more is rest) raw = sign_stands mark (written_as more) is (orderly_stands more rest (rest_raw _ (written_as more) raw))
 orderly_stands _ (by_word text more rest) raw = a_word text (written_as more) (orderly_stands more rest (rest_raw _ (written_as more) raw))
 orderly_stands _ (by_name text more rest) raw = a_word text (written_as more) (orderly_stands more rest (rest_raw _ (written_as more) raw))
 orderly_stands _ (by_line line more rest) raw = orderly_stands more rest raw
 orderly_stands _ (by_never more rest) raw = orderly_stands more rest raw
-orderly_stands _ (by_action name body more rest) raw =
-    let parts = action_raw (key (codes "actions")) (word name) (key (codes "{")) (lexeme_saying (body_said body)) (key (codes "}")) (written_as more) raw in
-    an_action (name ∷ []) body (written_as more) (parts.0 refl) (orderly_stands more rest parts.1)
+orderly_stands _ (by_action name body t e q more rest) raw =
+    let parts = action_raw (key (codes "actions")) (modifiers t e q) (word name) (key (codes "{")) (lexeme_saying (body_said body)) (key (codes "}")) (written_as more) raw in
+    action_stands t e q name body (written_as more) (parts.0 refl) (orderly_stands more rest parts.1)
 
 -- ---- the symbols of a tree are orderly
 
@@ -112,7 +136,7 @@ and_then _ b (by_word text more rest) k = by_word text (more ++ b) (and_then mor
 and_then _ b (by_name text more rest) k = by_name text (more ++ b) (and_then more b rest k)
 and_then _ b (by_line line more rest) k = by_line line (more ++ b) (and_then more b rest k)
 and_then _ b (by_never more rest) k = by_never (more ++ b) (and_then more b rest k)
-and_then _ b (by_action name body more rest) k = by_action name body (more ++ b) (and_then more b rest k)
+and_then _ b (by_action name body t e q more rest) k = by_action name body t e q (more ++ b) (and_then more b rest k)
 
 never : Orderly (Never ∷ [])
 never = by_never [] none
@@ -235,7 +259,7 @@ mutual
   of_form (Switch value cases) = by_key m.Switch _ refl (and_then (spell_args value) _ (of_args value) (of_braced (spell_cases cases) (of_cases cases)))
   of_form (Module name block) = by_key m.Module _ refl (and_then (spell_args name) _ (of_args name) (of_braced (spell_stmts block) (of_stmts block)))
   of_form (Rule name params block) = by_key m.Rule _ refl (by_word name _ (and_then (params_syms params) _ (of_params params) (of_braced (spell_stmts block) (of_stmts block))))
-  of_form (Actions name body) = by_action name body [] none
+  of_form (Actions name t e q body) = by_action name body t e q [] none
   of_form (On target line form) = by_key m.On _ refl (and_then (spell_arg target) _ (of_arg target) (by_line line _ (of_form form)))
   of_form (Call head lists) = and_then (spell_arg head) _ (of_arg head) (and_then (spell_lists lists) _ (of_lists lists) (one m.Semicolon refl))
 

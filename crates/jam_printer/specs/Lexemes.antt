@@ -1,7 +1,8 @@
 -- The lexemes that a tree is written with.
-use Rattle.std.specs.Prelude.{ℕ, Bool, List, [], ◌∷◌, ◌++◌, Option, map, flat_map}
+use Rattle.std.specs.Prelude.{ℕ, Bool, false, List, [], ◌∷◌, ◌++◌, Option, map, flat_map}
 use Rattle.std.specs.declared.vec.Vec.{Vec}
 use Rattle.std.specs.declared.alloc.Global.{Global}
+use Rattle.jam_grammar.specs.declared.mark.Mark.{Mark}
 use Rattle.jam_grammar.specs.declared.mark.Mark.TheVariants as marks
 use Rattle.jam_grammar.specs.declared.tree.Arg.{Arg}
 use Rattle.jam_grammar.specs.declared.tree.Block.{Block}
@@ -10,17 +11,18 @@ use Rattle.jam_grammar.specs.declared.tree.Param.{Param}
 use Rattle.jam_grammar.specs.declared.tree.Sign.{Sign}
 use Rattle.jam_grammar.specs.declared.tree.Tree.{Tree}
 use Rattle.jam_grammar.specs.Trees.{value_tree}
-use Rattle.jam_grammar.specs.Spelling.{Sym, Key, Says, Named, Raw, From, Never, Anywhere, arg_syms, args_syms, expr_syms, value_syms, set_syms, sign_mark, local_syms, params_syms, block_syms, braced, tree_syms}
-use Rattle.jam_grammar.specs.Alike.{Said, mark_said, word_said, body_said}
+use Rattle.jam_grammar.specs.Spelling.{Sym, Key, Heads, Says, Named, Raw, From, Never, Anywhere, arg_syms, args_syms, expr_syms, value_syms, set_syms, sign_mark, local_syms, params_syms, block_syms, braced, tree_syms}
+use Rattle.jam_grammar.specs.Alike.{Said, mark_said, word_said, body_said, newly, heads_said}
 use Rattle.jam_spelling.specs.declared.lexeme.Lexeme.{Lexeme}
 
 -- a lexeme that says this
 abbrev pub lexeme_saying : Said → Lexeme
 lexeme_saying said = record { kind = said.kind; text = said.text }
 
--- what is written for a symbol: the one lexeme that it asks for, and nothing for a line
+-- what is written for a symbol: the one lexeme that it asks for, those of modifiers, and nothing for a line
 abbrev pub lexemes_of_sym : Sym → List Lexeme
 lexemes_of_sym (Key mark) = lexeme_saying (mark_said mark) ∷ []
+lexemes_of_sym (Heads a b c t e q) = map lexeme_saying (heads_said a b c t e q)
 lexemes_of_sym (Says text) = lexeme_saying (word_said text) ∷ []
 lexemes_of_sym (Named text) = lexeme_saying (word_said text) ∷ []
 lexemes_of_sym (Raw text) = lexeme_saying (body_said text) ∷ []
@@ -38,6 +40,14 @@ locals_syms names value = Key marks.Local ∷ (args_syms names ++ value_syms (va
 -- the symbols of an assignment on targets
 abbrev pub assign_on_syms : Arg → List Arg → Sign → List Arg → List Sym
 assign_on_syms target on sign value = arg_syms target ++ (Key marks.On ∷ (args_syms on ++ set_syms (sign_mark sign) (args_syms value)))
+
+-- a modifier, where it stands
+abbrev pub modifier_lexemes : Bool → Mark → List Lexeme
+modifier_lexemes stands mark = map lexeme_saying (newly false stands mark)
+
+-- the symbols of an `actions`
+abbrev pub actions_syms : List ℕ → Bool → Bool → Bool → List ℕ → List Sym
+actions_syms name together existing quietly body = Key marks.Actions ∷ Heads false false false together existing quietly ∷ Says name ∷ braced (Raw body ∷ [])
 
 -- the symbols of an `if` up to the end of its block
 abbrev pub if_syms : Expr → Block → List Sym

@@ -21,6 +21,9 @@ fn key_text(mark: Mark) -> &'static str
         Mark::Query => "?",
         Mark::Star => "*",
         Mark::Plus => "+",
+        Mark::Together => "together",
+        Mark::Existing => "existing",
+        Mark::Quietly => "quietly",
         Mark::Semicolon => ";",
         Mark::Colon => ":",
         Mark::BraceOpen => "{",
@@ -58,7 +61,8 @@ fn key_kind(mark: Mark) -> TokenKind
     ensures { result ≡ (mark_said mark).kind }
 {
     match mark {
-        Mark::Query | Mark::Star | Mark::Plus => TokenKind::Word,
+        Mark::Query | Mark::Star | Mark::Plus | Mark::Together | Mark::Existing | Mark::Quietly =>
+            TokenKind::Word,
         _ => TokenKind::Key,
     }
 }

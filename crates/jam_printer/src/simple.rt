@@ -1,8 +1,8 @@
 //! The lexemes of statements that hold no others.
-ghost use Rattle.std.specs.Prelude.{◌≡◌, ◌++◌, ◌∷◌, [], IfOk, option_copied};
+ghost use Rattle.std.specs.Prelude.{◌≡◌, ◌++◌, ◌∷◌, [], false, IfOk, option_copied};
 ghost use Rattle.jam_grammar.specs.declared.mark.Mark.TheVariants as marks;
-ghost use Rattle.jam_grammar.specs.Spelling.{Key, Says, Raw, arg_syms, args_syms, lists_syms, set_syms, sign_mark, braced};
-ghost use Rattle.jam_printer.specs.Lexemes.{written_as, locals_syms, assign_on_syms};
+ghost use Rattle.jam_grammar.specs.Spelling.{Key, Heads, arg_syms, args_syms, lists_syms, set_syms, sign_mark};
+ghost use Rattle.jam_printer.specs.Lexemes.{written_as, modifier_lexemes, locals_syms, assign_on_syms, actions_syms};
 
 use crate::args::{push_arg, push_args, push_lists};
 use crate::lexemes::{push_body, push_key, push_word};
@@ -77,11 +77,44 @@ pub fn push_assign_on(
     push_set(lexemes, sign_mark(sign), value)
 }
 
+/// Appends a modifier, if it stands.
+fn push_modifier(lexemes: &mut Vec<Lexeme>, stands: bool, mark: Mark) -> Result<(), OutOfMemory>
+    ensures { IfOk result (λ _. lexemes.new.items ≡ lexemes.old.items ++ modifier_lexemes stands mark) }
+{
+    if stands {
+        push_key(lexemes, mark)
+    } else {
+        Ok(())
+    }
+}
+
+/// Appends the modifiers that stand, in the order `together`, `existing`, `quietly`.
+fn push_modifiers(
+    lexemes: &mut Vec<Lexeme>,
+    together: bool,
+    existing: bool,
+    quietly: bool,
+) -> Result<(), OutOfMemory>
+    ensures { IfOk result (λ _. lexemes.new.items ≡ lexemes.old.items ++ written_as (Heads false false false together existing quietly ∷ [])) }
+{
+    push_modifier(lexemes, together, Mark::Together)?;
+    push_modifier(lexemes, existing, Mark::Existing)?;
+    push_modifier(lexemes, quietly, Mark::Quietly)
+}
+
 /// Appends an `actions`.
-pub fn push_actions(lexemes: &mut Vec<Lexeme>, name: &Text, body: &Text) -> Result<(), OutOfMemory>
-    ensures { IfOk result (λ _. lexemes.new.items ≡ lexemes.old.items ++ written_as (Key marks.Actions ∷ Says name.now ∷ braced (Raw body.now ∷ []))) }
+pub fn push_actions(
+    lexemes: &mut Vec<Lexeme>,
+    name: &Text,
+    together: bool,
+    existing: bool,
+    quietly: bool,
+    body: &Text,
+) -> Result<(), OutOfMemory>
+    ensures { IfOk result (λ _. lexemes.new.items ≡ lexemes.old.items ++ written_as (actions_syms name.now together existing quietly body.now)) }
 {
     push_key(lexemes, Mark::Actions)?;
+    push_modifiers(lexemes, together, existing, quietly)?;
     push_word(lexemes, name)?;
     push_key(lexemes, Mark::BraceOpen)?;
     push_body(lexemes, body)?;

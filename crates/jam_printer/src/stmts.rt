@@ -76,7 +76,13 @@ fn push_stmt(lexemes: &mut Vec<Lexeme>, stmt: &Stmt) -> Result<(), OutOfMemory>
             params,
             block,
         } => push_rule(lexemes, name, params, block),
-        Form::Actions { name, body } => push_actions(lexemes, name, body),
+        Form::Actions {
+            name,
+            together,
+            existing,
+            quietly,
+            body,
+        } => push_actions(lexemes, name, *together, *existing, *quietly, body),
         Form::On { target, stmt } => push_on(lexemes, target, stmt),
         Form::Call { head, lists } => push_call(lexemes, head, lists),
     }

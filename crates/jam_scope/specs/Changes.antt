@@ -7,7 +7,7 @@ use Rattle.jam_grammar.specs.Trees.{StmtTrees}
 use Rattle.jam_journal.specs.Tables.{Text, Key, Table, row_of}
 use Rattle.jam_journal.specs.Scopes.{Value, Binding, Scopes, module_of, first_scopes}
 use Rattle.jam_scope.specs.declared.notes.StepNotes.{StepNotes}
-use Rattle.jam_scope.specs.Rules.{Rule}
+use Rattle.jam_scope.specs.Rules.{Rule, Actions}
 use Rattle.jam_scope.specs.Steps.{with_input, as_always, as_notfile}
 use Rattle.jam_scope.specs.Texts.{first_roots}
 use Rattle.b2_base.specs.Segments.{here}
@@ -68,7 +68,7 @@ abbrev pub define_rule : Text → List (List Param) → StmtTrees → Text → �
 define_rule name params block path line w =
     record w { rules = map.insert w.rules (module_in w, name) record { home = module_in w; params = params; block = block; path = path; line = line } }
 
-abbrev pub define_actions : Text → Text → World → World
+abbrev pub define_actions : Text → Actions → World → World
 define_actions name body w = record w { actions = map.insert w.actions (module_in w, name) body }
 
 abbrev pub with_rule : Option Rule → Key → Table Rule → Table Rule

@@ -4,11 +4,11 @@ use Rattle.jam_journal.specs.Tables.{Text, Table}
 use Rattle.jam_journal.specs.Marks.{Marked}
 use Rattle.jam_journal.specs.Scopes.{Value, Scopes}
 use Rattle.jam_scope.specs.declared.notes.StepNotes.{StepNotes}
-use Rattle.jam_scope.specs.Rules.{Rule}
+use Rattle.jam_scope.specs.Rules.{Rule, Actions}
 use Rattle.jam_scope.specs.Worlds.{World, Worlds}
 
 abbrev pub Parts : Type 0
-Parts = Scopes × (Table Rule × (Table Text × (Table Text × (Table Value × (Text × (List Text × (Bool × Option StepNotes)))))))
+Parts = Scopes × (Table Rule × (Table Actions × (Table Text × (Table Value × (Text × (List Text × (Bool × Option StepNotes)))))))
 
 abbrev pub world_of : Parts → World
 world_of p = record {

@@ -1,4 +1,4 @@
--- How rules, and the notes of a step, are stored as data.
+-- How rules, actions, and the notes of a step, are stored as data.
 use Rattle.std.specs.Prelude.{ℕ, Bool, List, refl}
 use Rattle.std.specs.Coded.{Coded, code_by, coded×, coded_ℕ, coded_bool}
 use Rattle.jam_grammar.specs.declared.tree.Param.{Param}
@@ -7,7 +7,7 @@ use Rattle.jam_journal.specs.Tables.{Text}
 use Rattle.jam_journal.specs.Scopes.{Value}
 use Rattle.jam_journal.specs.ScopeCodes.{text_code, value_code}
 use Rattle.jam_scope.specs.declared.notes.StepNotes.{StepNotes}
-use Rattle.jam_scope.specs.Rules.{Body, Rule}
+use Rattle.jam_scope.specs.Rules.{Body, Rule, Actions}
 use Rattle.jam_scope.specs.TreeCodes.{params_code, stmts_code}
 
 abbrev pub BodyParts : Type 0
@@ -25,6 +25,12 @@ abbrev pub rule_code : Coded Rule
 rule_code =
     code_by (Text × BodyParts) (coded× text_code body_parts_code) (λ r. (r.home, (r.params, (r.block, (r.path, r.line)))))
     (λ p. record { home = p.0; params = p.1.0; block = p.1.1.0; path = p.1.1.1.0; line = p.1.1.1.1 }) (λ _. refl)
+
+abbrev pub actions_code : Coded Actions
+actions_code =
+    code_by (Text × (Bool × (Bool × Bool))) (coded× text_code (coded× coded_bool (coded× coded_bool coded_bool)))
+    (λ a. (a.text, (a.together, (a.existing, a.quietly))))
+    (λ p. record { text = p.0; together = p.1.0; existing = p.1.1.0; quietly = p.1.1.1 }) (λ _. refl)
 
 abbrev pub notes_code : Coded StepNotes
 notes_code =

@@ -1,5 +1,5 @@
 -- Rules, as plain data.
-use Rattle.std.specs.Prelude.{ℕ, List}
+use Rattle.std.specs.Prelude.{ℕ, Bool, List}
 use Rattle.jam_grammar.specs.declared.tree.Param.{Param}
 use Rattle.jam_grammar.specs.Trees.{StmtTrees}
 use Rattle.jam_journal.specs.Tables.{Text}
@@ -21,3 +21,10 @@ pub record Rule : Type 0 where
 
 abbrev pub rule_of : Text → Body → Rule
 rule_of home body = record { home = home; params = body.params; block = body.block; path = body.path; line = body.line }
+
+-- what actions are: the text between the braces, and their modifiers
+pub record Actions : Type 0 where
+  pub text : Text
+  pub together : Bool
+  pub existing : Bool
+  pub quietly : Bool

@@ -240,7 +240,7 @@ assign_on_of (gcons target (gcons on (gcons how value))) = tree.AssignOn (arg_of
 assign_on_of g = tree.Include tree.NoArgs
 
 abbrev actions_of : Gv → FormTree
-actions_of (gcons name body) = tree.Actions (text_of name) (text_of body)
+actions_of (gcons name (gcons t (gcons e (gcons q body)))) = tree.Actions (text_of name) (bool_of t) (bool_of e) (bool_of q) (text_of body)
 actions_of g = tree.Include tree.NoArgs
 
 abbrev call_of : Gv → FormTree
@@ -267,7 +267,7 @@ abbrev mutual
   form_g (tree.AssignOn target on how value) = plain_g 2 (gcons (arg_g target) (gcons (args_g on) (gcons (sign_g how) (args_g value))))
   form_g (tree.Include names) = plain_g 3 (args_g names)
   form_g (tree.Return value) = plain_g 4 (args_g value)
-  form_g (tree.Actions name body) = plain_g 5 (gcons (text_g name) (text_g body))
+  form_g (tree.Actions name t e q body) = plain_g 5 (gcons (text_g name) (gcons (bool_g t) (gcons (bool_g e) (gcons (bool_g q) (text_g body)))))
   form_g (tree.Call head given) = plain_g 6 (gcons (arg_g head) (given_g given))
   form_g (tree.Braces block) = deep_g 0 (stmts_g block)
   form_g (tree.If test block next) = deep_g 1 (gcons (expr_g test) (gcons (stmts_g block) (other_g next)))
@@ -327,7 +327,7 @@ mutual
   form_back (tree.AssignOn target on how value) = λ i. tree.AssignOn (arg_back target i) (args_back on i) (sign_back how i) (args_back value i)
   form_back (tree.Include names) = λ i. tree.Include (args_back names i)
   form_back (tree.Return value) = λ i. tree.Return (args_back value i)
-  form_back (tree.Actions name body) = λ i. tree.Actions (text_back name i) (text_back body i)
+  form_back (tree.Actions name t e q body) = λ i. tree.Actions (text_back name i) (bool_back t i) (bool_back e i) (bool_back q i) (text_back body i)
   form_back (tree.Call head given) = λ i. tree.Call (arg_back head i) (given_back given i)
   form_back (tree.Braces block) = λ i. tree.Braces (stmts_back block i)
   form_back (tree.If test block next) = λ i. tree.If (expr_back test i) (stmts_back block i) (other_back next i)

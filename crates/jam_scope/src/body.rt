@@ -86,39 +86,76 @@ impl RuleBody {
     }
 }
 
-/// What actions run, seen as the text between the braces, before its words are expanded.
+/// What actions are: the text between the braces, before its words are expanded, and their modifiers. Seen as plain data.
 pub struct ActionBody {
     body: Text,
+    together: bool,
+    existing: bool,
+    quietly: bool,
 }
 
 /// By hand, so that dropping one is one call.
 impl Drop for ActionBody {
     fn drop(self) {
-        let ActionBody { body } = self;
+        let ActionBody {
+            body,
+            together: _,
+            existing: _,
+            quietly: _,
+        } = self;
         drop(body);
     }
 }
 
 impl Model for ActionBody {
-    ghost use Rattle.std.specs.Prelude.{ℕ, List};
+    ghost use Rattle.jam_scope.specs.Rules.{Actions};
+    ghost use Rattle.jam_scope.specs.RuleCodes.{actions_code};
 
-    ghost Value = { List ℕ };
+    ghost Value = { Actions };
 
-    ghost view = { λ a. a.body };
+    ghost coded = { actions_code };
+
+    ghost view = { λ a. record { text = a.body; together = a.together; existing = a.existing; quietly = a.quietly } };
 }
 
 impl ActionBody {
-    /// The actions with this text. Takes no memory.
-    pub fn new(body: Text) -> ActionBody
-        ensures { result ≡ body }
+    /// The actions with this text and these modifiers. Takes no memory.
+    pub fn new(body: Text, together: bool, existing: bool, quietly: bool) -> ActionBody
+        ensures { result ≡ record { text = body; together = together; existing = existing; quietly = quietly } }
     {
-        ActionBody { body }
+        ActionBody {
+            body,
+            together,
+            existing,
+            quietly,
+        }
     }
 
     /// The text. Takes no memory.
     pub fn text(&self) -> &Text
-        ensures { result.now ≡ self.now }
+        ensures { result.now ≡ self.now.text }
     {
         &self.body
+    }
+
+    /// Whether their calls for the same targets are one. Takes no memory.
+    pub fn together(&self) -> bool
+        ensures { result ≡ self.now.together }
+    {
+        self.together
+    }
+
+    /// Whether they leave out sources that do not stand and are not made. Takes no memory.
+    pub fn existing(&self) -> bool
+        ensures { result ≡ self.now.existing }
+    {
+        self.existing
+    }
+
+    /// Whether their steps are started without a line. Takes no memory.
+    pub fn quietly(&self) -> bool
+        ensures { result ≡ self.now.quietly }
+    {
+        self.quietly
     }
 }

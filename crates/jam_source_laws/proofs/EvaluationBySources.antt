@@ -316,7 +316,7 @@ module _ {R : Type 0} (roots : List Text) (setting : Setting R) (folder : Folder
       form_agrees (tree.Module name trees) spot s =
           then_agrees s _ _ _ _ (args_agree name spot s) (λ ns later. module_agrees _ _ _ (λ last. agree.stmts_agree trees spot.path spot last) later)
       form_agrees (tree.Rule name params trees) spot s = λ good. (good, refl)
-      form_agrees (tree.Actions name body) spot s = λ good. (good, refl)
+      form_agrees (tree.Actions name t e q body) spot s = λ good. (good, refl)
       form_agrees (tree.On target line f) spot s =
           then_agrees s _ _ _ _ (arg_agrees target spot s) (λ targets later. target_agrees targets _ _ (λ last. started_agrees line spot _ _ (λ at next. form_agrees f at next) last) later)
       form_agrees (tree.Call head given) spot s = then_agrees s _ _ _ _ (call_of_agrees head given spot s) (λ value later good. (good, refl))

@@ -219,7 +219,7 @@ statements::form-returns-in-Rule g t c = form_does c.args.form.now _ c.args.at.n
 
 pub statements::form-returns-in-Actions : goal.statements::form-returns-in-Actions
 statements::form-returns-in-Actions g t c = form_does c.args.form.now _ c.args.at.now _ _ c.define_actions.result (ap form_tree c.in-Actions.is)
-    (defines _ (define_actions c.in-Actions.name c.in-Actions.body) _ c.define_actions.new.world c.define_actions.result (record { frames = refl; outer = refl; marks = refl; step = refl }) (λ setting. refl)
+    (defines _ (define_actions c.in-Actions.name record { text = c.in-Actions.body; together = c.in-Actions.together; existing = c.in-Actions.existing; quietly = c.in-Actions.quietly }) _ c.define_actions.new.world c.define_actions.result (record { frames = refl; outer = refl; marks = refl; step = refl }) (λ setting. refl)
     c.define_actions.ensures.ok c.define_actions.ensures.goes_on c.define_actions.ensures.memory c.define_actions.ensures.err)
 
 pub statements::form-returns-in-On : goal.statements::form-returns-in-On

@@ -38,7 +38,7 @@ fn define_actions(alloc: Global, world: &mut World, words: &[Word]) -> Result<An
         return Err(CaseFault::WrongWords);
     };
     let name = name.as_str()?;
-    let body = ActionBody::new(body.as_text(alloc)?);
+    let body = ActionBody::new(body.as_text(alloc)?, false, false, false);
     Answer::done(alloc, world.define_actions(name, body))
 }
 

@@ -26,7 +26,7 @@ returns-in_err-text-clause-answer c =
     let w = c.args.world.now.now in
     let p = err_from_is_err_and c.from_residual-in_err-text.result c.from_residual-in_err-text.ensures.1 in
     subst (λ r. IsStepText (job_of c.args.job.now) (spot_of c.args.at.now) w r) (sym (p.1 ∙ ap Err p.2))
-    (untexted_here (job_of c.args.job.now) (spot_of c.args.at.now) w c.enter.new.self.now (c.in-Some.found.module.now, c.in-Some.found.name.now) c.as_str-2.result.now c.in-Some-action_body.body.now c.as_str-3.result.now
+    (untexted_here (job_of c.args.job.now) (spot_of c.args.at.now) w c.enter.new.self.now (c.in-Some.found.module.now, c.in-Some.found.name.now) c.as_str-2.result.now c.in-Some-action_body.actions.now c.as_str-3.result.now
     c.as_slice-3.result.now c.as_slice-4.result.now c.in_err-text.field-0.0
     (place_some _ c.find_actions.result c.in-Some.found c.args.job.now.name c.as_str.result.now w c.find_actions.ensures c.as_str.ensures.value c.in-Some.is)
     (sym c.action_body.ensures ∙ ap option_copied c.in-Some-action_body.is)
@@ -36,7 +36,7 @@ returns-in_err-text-clause-answer c =
 pub returns-clause-answer : goal.returns-clause-answer
 returns-clause-answer c =
     let w = c.args.world.now.now in
-    texted_here (job_of c.args.job.now) w c.enter.new.self.now (c.in-Some.found.module.now, c.in-Some.found.name.now) c.as_str-2.result.now c.in-Some-action_body.body.now c.as_str-3.result.now c.in_ok-text.text
+    texted_here (job_of c.args.job.now) w c.enter.new.self.now (c.in-Some.found.module.now, c.in-Some.found.name.now) c.as_str-2.result.now c.in-Some-action_body.actions.now c.as_str-3.result.now c.in_ok-text.text
     c.as_slice-3.result.now c.as_slice-4.result.now (option_copied c.step.result) c.in_ok-noted.field-0
     (place_some _ c.find_actions.result c.in-Some.found c.args.job.now.name c.as_str.result.now w c.find_actions.ensures c.as_str.ensures.value c.in-Some.is)
     (sym c.action_body.ensures ∙ ap option_copied c.in-Some-action_body.is)

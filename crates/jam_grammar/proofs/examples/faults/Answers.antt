@@ -1,4 +1,4 @@
-use Rattle.jam_grammar.proofs.ExamplesHold.{sixty_four_begin, unended_faults, semicolon_faults, one_more_faults, if_too_deep, else_if_too_deep, on_too_deep, ten_lists_fault, marked_is_last, star_is_last, mark_is_no_name}
+use Rattle.jam_grammar.proofs.ExamplesHold.{sixty_four_begin, unended_faults, semicolon_faults, one_more_faults, if_too_deep, else_if_too_deep, on_too_deep, ten_lists_fault, marked_is_last, star_is_last, mark_is_no_name, name_is_last, modifiers_stand_once}
 use Rattle.jam_grammar.proofs.examples.faults.Goals as goal
 
 pub returns-clause-sixty_four_begin : goal.returns-clause-sixty_four_begin
@@ -33,3 +33,9 @@ returns-clause-star_is_last c = star_is_last
 
 pub returns-clause-mark_is_no_name : goal.returns-clause-mark_is_no_name
 returns-clause-mark_is_no_name c = mark_is_no_name
+
+pub returns-clause-name_is_last : goal.returns-clause-name_is_last
+returns-clause-name_is_last c = name_is_last
+
+pub returns-clause-modifiers_stand_once : goal.returns-clause-modifiers_stand_once
+returns-clause-modifiers_stand_once c = modifiers_stand_once

@@ -1,4 +1,4 @@
-use Rattle.jam_grammar.proofs.ExamplesHold.{assignment_reads, one_empty_list, no_params, two_params, condition_reads, actions_read}
+use Rattle.jam_grammar.proofs.ExamplesHold.{assignment_reads, one_empty_list, no_params, two_params, condition_reads, actions_read, headings_read}
 use Rattle.jam_grammar.proofs.examples.readings.Goals as goal
 
 pub returns-clause-assignment_reads : goal.returns-clause-assignment_reads
@@ -18,3 +18,6 @@ returns-clause-condition_reads c = condition_reads
 
 pub returns-clause-actions_read : goal.returns-clause-actions_read
 returns-clause-actions_read c = actions_read
+
+pub returns-clause-headings_read : goal.returns-clause-headings_read
+returns-clause-headings_read c = headings_read

@@ -2,7 +2,7 @@ use Rattle.std.proofs.Common.{◌∷◌, [], length, ap, ◌∙◌, arith}
 use Rattle.std.specs.Prelude.{codes}
 use Rattle.std.specs.Str.{bytes_eq}
 use Rattle.jam_grammar.specs.Grammar.{Names, NameTail}
-use Rattle.jam_grammar.proofs.MarkTellsWhatTokenSays.{plain_no_star}
+use Rattle.jam_grammar.proofs.MarkTellsWhatTokenSays.{name_no_star}
 use Rattle.jam_parser.specs.Params.{after_name}
 use Rattle.jam_parser.proofs.ReadingsCompose.{composed}
 use Rattle.jam_parser.proofs.ParametersAreReadInTurn.{still_names, more_names, name_comes, nothing_least}
@@ -31,5 +31,5 @@ each-preserved c =
           (composed (Names ∷ []) (after_name c.each.may_come) (after_name mark.result.1) d inv.comes
           (composed (after_name c.each.may_come) (NameTail ∷ []) (after_name mark.result.1) d
           (name_comes c.each.may_come first left c.in-Some.after.now name d at.0 at.1 at.2 c.in_ok-name.ensures) (mark.ensures d)));
-      named = still_names old new record { name = name; mark = mark.result.0 } grown (ap (λ x. bytes_eq x (codes "*")) c.in_ok-name.ensures ∙ plain_no_star first at.2);
+      named = still_names old new record { name = name; mark = mark.result.0 } grown (ap (λ x. bytes_eq x (codes "*")) c.in_ok-name.ensures ∙ name_no_star first at.2);
     }
