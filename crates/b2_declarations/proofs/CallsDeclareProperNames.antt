@@ -66,6 +66,7 @@ is_target_call rules.Compose lists t e = cc
 is_target_call rules.FileType lists t e = cc
 is_target_call rules.Generator lists t e = cc
 is_target_call rules.Import lists t e = cc
+is_target_call (rules.Test rule) lists t e = cc
 
 -- ---- the names of rules
 
@@ -87,7 +88,7 @@ in_table P (row ∷ rows) all name rule e = go (bytes_eq name row.0) refl e (in_
 named_in_table : (name : List ℕ) (rule : Rule) → rule_of name ≡ Some rule → IsNamed rule name
 unfolding rule_of IsNamed
 named_in_table name rule e =
-    in_table IsNamed table (tt, (refl, (refl, (refl, (refl, (refl, (refl, (tt, (tt, (tt, (tt, (tt, (tt, (tt, (tt, (tt, tt)))))))))))))))) name rule e
+    in_table IsNamed table (tt, (refl, (refl, (refl, (refl, (refl, (refl, (tt, (tt, (tt, (tt, (tt, (tt, (tt, (tt, (tt, (tt, (tt, (tt, (tt, tt)))))))))))))))))))) name rule e
 
 named_after : (name : List ℕ) (kind : Kind) → rule_of name ≡ Some (rules.Target kind) → name ≡ kind_name kind
 unfolding IsNamed
@@ -175,6 +176,7 @@ given_id name lists a e =
     project_is rules.FileType same = cc
     project_is rules.Generator same = cc
     project_is rules.Import same = cc
+    project_is (rules.Test test) same = cc
 
 pub used_id : (name : List ℕ) (lists : List Texts) (id dir : List ℕ) → shape_of name lists ≡ Some (declarations.UseProject id dir) → is_rooted id ≡ true
 used_id name lists id dir e =
@@ -193,3 +195,4 @@ used_id name lists id dir e =
     id_is rules.FileType same = cc
     id_is rules.Generator same = cc
     id_is rules.Import same = cc
+    id_is (rules.Test test) same = cc

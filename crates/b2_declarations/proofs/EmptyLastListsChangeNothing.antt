@@ -22,6 +22,9 @@ use Rattle.b2_base.specs.Shapes.{is_counted, are_empty, has_shape}
 use Rattle.b2_declarations.specs.Rules.{rule_of}
 use Rattle.b2_declarations.specs.Attributes.{id_of, is_attribute, are_attributes, property_list, attributes}
 use Rattle.b2_declarations.specs.Targets.{counts_of, target}
+use Rattle.b2_declarations.specs.declared.declaration.TestRule.{TestRule}
+use Rattle.b2_declarations.specs.declared.declaration.TestRule.TheVariants.{Compile, CompileFail, Run, RunFail}
+use Rattle.b2_declarations.specs.Tests.{counts_of as test_counts, takes_source, test_of}
 use Rattle.b2_declarations.specs.Declarations.{is_shaped, declared, shape_of}
 
 -- with an empty list at the end
@@ -70,6 +73,7 @@ shaped_same rules.Compose lists = ap₂ (λ b name. b && is_some (named_pair nam
 shaped_same rules.FileType lists = shape_same (One ∷ Any ∷ []) lists
 shaped_same rules.Generator lists = shape_same (One ∷ AtLeastOne ∷ AtLeastOne ∷ Any ∷ []) lists
 shaped_same rules.Import lists = refl
+shaped_same (rules.Test rule) lists = ap₂ (λ b source. b && takes_source rule source) (shape_same (test_counts rule) lists) (text_same 0 lists)
 
 -- the first five lists, which are all that a declaration but `project` looks at
 abbrev five : List Texts → List Texts
@@ -90,6 +94,12 @@ target_same Alias lists = ap (target Alias) (five_same lists)
 target_same Make lists = ap (target Make) (five_same lists)
 target_same Install lists = ap (target Install) (five_same lists)
 
+test_same : (rule : TestRule) (lists : List Texts) → test_of rule (and_empty lists) ≡ test_of rule lists
+test_same Compile lists = ap (test_of Compile) (five_same lists)
+test_same CompileFail lists = ap (test_of CompileFail) (five_same lists)
+test_same Run lists = ap (test_of Run) (five_same lists)
+test_same RunFail lists = ap (test_of RunFail) (five_same lists)
+
 declared_same : (rule : Rule) (lists : List Texts) → declared rule (and_empty lists) ≡ declared rule lists
 declared_same rules.Project lists = ap declarations.Project (all_attributes_same lists)
 declared_same (rules.Target kind) lists = ap declarations.Main (target_same kind lists)
@@ -102,6 +112,7 @@ declared_same rules.Compose lists = ap (declared rules.Compose) (five_same lists
 declared_same rules.FileType lists = ap (declared rules.FileType) (five_same lists)
 declared_same rules.Generator lists = ap (declared rules.Generator) (five_same lists)
 declared_same rules.Import lists = refl
+declared_same (rules.Test rule) lists = ap declarations.Test (test_same rule lists)
 
 one_more : (name : List ℕ) (lists : List Texts) → shape_of name (and_empty lists) ≡ shape_of name lists
 one_more name lists = go (rule_of name)

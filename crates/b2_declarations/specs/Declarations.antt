@@ -6,7 +6,7 @@ use Rattle.b2_base.specs.Segments.{normal_of}
 use Rattle.b2_base.specs.Lists.{list_at}
 use Rattle.b2_texts.specs.Cuts.{named_pair}
 use Rattle.b2_declarations.specs.declared.declaration.Declaration.{Declaration}
-use Rattle.b2_declarations.specs.declared.declaration.Declaration.TheVariants.{Project, Main, Explicit, BuildProject, UseProject, Using, Feature, Compose, FileType, Generator, Import}
+use Rattle.b2_declarations.specs.declared.declaration.Declaration.TheVariants.{Project, Main, Explicit, BuildProject, UseProject, Using, Feature, Compose, FileType, Generator, Import, Test}
 use Rattle.b2_declarations.specs.declared.rule.Rule.{Rule}
 use Rattle.b2_declarations.specs.declared.rule.Rule.TheVariants as rules
 use Rattle.b2_base.specs.declared.shape.Count.TheVariants.{Nothing, One, AtMostOne, Any, AtLeastOne}
@@ -15,6 +15,7 @@ use Rattle.b2_base.specs.Shapes.{is_counted, has_shape}
 use Rattle.b2_declarations.specs.Rules.{rule_of}
 use Rattle.b2_declarations.specs.Attributes.{id_of, attribute_lists, are_attributes, attributes}
 use Rattle.b2_declarations.specs.Targets.{is_refused_name, counts_of, target}
+use Rattle.b2_declarations.specs.Tests.{is_test_shaped, test_of, marker_name}
 
 -- whether the lists of a call are those of its rule
 abbrev pub is_shaped : Rule → List Texts → Bool
@@ -29,6 +30,7 @@ is_shaped rules.Compose lists = has_shape (One ∷ AtLeastOne ∷ []) lists && i
 is_shaped rules.FileType lists = has_shape (One ∷ Any ∷ []) lists
 is_shaped rules.Generator lists = has_shape (One ∷ AtLeastOne ∷ AtLeastOne ∷ Any ∷ []) lists
 is_shaped rules.Import lists = true
+is_shaped (rules.Test rule) lists = is_test_shaped rule lists
 
 -- what such lists declare
 abbrev pub declared : Rule → List Texts → Declaration
@@ -43,13 +45,15 @@ declared rules.Compose lists = Compose (text_at 0 lists) (list_at 1 lists)
 declared rules.FileType lists = FileType (text_at 0 lists) (list_at 1 lists)
 declared rules.Generator lists = Generator (text_at 0 lists) (list_at 1 lists) (list_at 2 lists) (list_at 3 lists)
 declared rules.Import lists = Import
+declared (rules.Test rule) lists = Test (test_of rule lists)
 
 -- The declaration of a call, by the name of its rule and its lists. There is none where no declaring rule has this name, or
 -- the lists are not those of the rule.
 abbrev pub shape_of : List ℕ → List Texts → Option Declaration
 shape_of name lists = option_and_then (λ rule. if is_shaped rule lists then Some (declared rule lists) else None) (rule_of name)
 
--- whether a declaration is refused for a name in it: that of a main target
+-- whether a declaration is refused for a name in it: that of a main target, or of the one that marks a test
 abbrev pub is_refused : Declaration → Bool
 is_refused (Main t) = is_refused_name t.name
+is_refused (Test t) = is_refused_name (marker_name t.name)
 is_refused d = false

@@ -5,7 +5,7 @@ use Rattle.std.specs.Option.{option_and_then}
 use Rattle.b2_base.specs.Segments.{is_rooted, path_from}
 use Rattle.b2_texts.specs.Cuts.{cut_at}
 use Rattle.b2_declarations.specs.declared.declaration.Declaration.{Declaration}
-use Rattle.b2_declarations.specs.declared.declaration.Declaration.TheVariants.{Project, Main, Explicit, BuildProject, UseProject, Using, Feature, Compose, FileType, Generator, Import}
+use Rattle.b2_declarations.specs.declared.declaration.Declaration.TheVariants.{Project, Main, Explicit, BuildProject, UseProject, Using, Feature, Compose, FileType, Generator, Import, Test}
 use Rattle.b2_declarations.specs.declared.references.Reading.TheVariants.{Property}
 use Rattle.b2_declarations.specs.Lists.{Texts}
 use Rattle.b2_declarations.specs.References.{dependencies, list_dependencies}
@@ -37,3 +37,4 @@ named_directories owner (Using command) = []
 named_directories owner (Feature name values attributes) = []
 named_directories owner (FileType name suffixes) = []
 named_directories owner Import = []
+named_directories owner (Test t) = directories owner t.sources ++ directories owner (list_dependencies t.lists)

@@ -3,6 +3,7 @@ pub mod Rules
 pub mod References
 pub mod Attributes
 pub mod Targets
+pub mod Tests
 pub mod Declarations
 pub mod Directories
 pub mod Laws

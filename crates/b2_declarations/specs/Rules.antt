@@ -2,8 +2,9 @@
 use Rattle.std.specs.Prelude.{ℕ, Bool, List, [], ◌∷◌, codes, Option, Some, None, is_some, if◌then◌else◌}
 use Rattle.std.specs.Str.{bytes_eq}
 use Rattle.b2_declarations.specs.declared.declaration.Kind.TheVariants.{Exe, Lib, Obj, Alias, Make, Install}
+use Rattle.b2_declarations.specs.declared.declaration.TestRule.TheVariants.{Compile, CompileFail, Run, RunFail}
 use Rattle.b2_declarations.specs.declared.rule.Rule.{Rule}
-use Rattle.b2_declarations.specs.declared.rule.Rule.TheVariants.{Project, Target, Explicit, BuildProject, UseProject, Using, Feature, Compose, FileType, Generator, Import}
+use Rattle.b2_declarations.specs.declared.rule.Rule.TheVariants.{Project, Target, Explicit, BuildProject, UseProject, Using, Feature, Compose, FileType, Generator, Import, Test}
 
 abbrev pub rules : List (List ℕ × Rule)
 rules =
@@ -23,6 +24,10 @@ rules =
     ∷ (codes "type.register", FileType)
     ∷ (codes "generators.register-standard", Generator)
     ∷ (codes "import", Import)
+    ∷ (codes "compile", Test Compile)
+    ∷ (codes "compile-fail", Test CompileFail)
+    ∷ (codes "run", Test Run)
+    ∷ (codes "run-fail", Test RunFail)
     ∷ []
 
 -- the first row with this name

@@ -15,6 +15,17 @@ pub enum Kind {
     Install,
 }
 
+/// A rule that declares a test.
+#[derive(Clone, Copy)]
+pub enum TestRule {
+    Compile,
+    /// `compile-fail`
+    CompileFail,
+    Run,
+    /// `run-fail`
+    RunFail,
+}
+
 /// What the texts of a property list are.
 #[derive(Clone, Copy)]
 pub enum ListName {
@@ -65,6 +76,32 @@ impl Drop for MainTarget {
         drop(name);
         drop(sources);
         drop(rule);
+        drop(lists);
+    }
+}
+
+/// What a call of `compile`, `compile-fail`, `run` or `run-fail` declares.
+pub struct Test {
+    pub rule: TestRule,
+    /// The name that is given, else the base of the first source.
+    pub name: Text,
+    /// The sources, files and references.
+    pub sources: TextList,
+    /// The list of requirements alone.
+    pub lists: List<PropertyList>,
+}
+
+/// By hand, so that dropping one is one call.
+impl Drop for Test {
+    fn drop(self) {
+        let Test {
+            rule: _,
+            name,
+            sources,
+            lists,
+        } = self;
+        drop(name);
+        drop(sources);
         drop(lists);
     }
 }
@@ -131,6 +168,8 @@ pub enum Declaration {
     },
     /// `import`, which does nothing.
     Import,
+    /// `compile`, `compile-fail`, `run` and `run-fail`
+    Test(Test),
 }
 
 // By hand, so that dropping a declaration is one call of this proved function: a derived drop would be taken apart at
@@ -164,6 +203,7 @@ impl Drop for Declaration {
                 requirements: _requirements,
             } => {}
             Declaration::Import => {}
+            Declaration::Test(_test) => {}
         }
     }
 }

@@ -11,3 +11,4 @@ pub mod reading;
 mod references;
 mod rule;
 mod target;
+pub mod testing;

@@ -4,7 +4,7 @@ ghost use Rattle.b2_base.specs.Segments.{path_from};
 ghost use Rattle.b2_declarations.specs.References.{dependencies, list_dependencies};
 ghost use Rattle.b2_declarations.specs.Directories.{directories, named_directories};
 
-use crate::declaration::{Declaration, MainTarget, PropertyList};
+use crate::declaration::{Declaration, PropertyList};
 use crate::places::directory_of;
 use crate::references::{Reading, list_dependencies, push_dependencies};
 use b2_base::fault::OutOfMemory;
@@ -72,12 +72,17 @@ fn of_lists(alloc: Global, owner: &Path, lists: &[PropertyList]) -> Result<PathL
     directories(alloc, owner, values.as_slice())
 }
 
-/// The directories that a main target names.
-fn of_target(alloc: Global, owner: &Path, target: &MainTarget) -> Result<PathList, OutOfMemory>
-    ensures { IfOk result (λ found. found ≡ directories owner.now target.now.sources ++ directories owner.now (list_dependencies target.now.lists)) }
+/// The directories that sources and property lists name.
+fn of_parts(
+    alloc: Global,
+    owner: &Path,
+    sources: &[Text],
+    lists: &[PropertyList],
+) -> Result<PathList, OutOfMemory>
+    ensures { IfOk result (λ found. found ≡ directories owner.now sources.now ++ directories owner.now (list_dependencies lists.now)) }
 {
-    let values = list_dependencies(alloc, target.lists.as_slice())?;
-    let mut found = directories(alloc, owner, target.sources.as_slice())?;
+    let values = list_dependencies(alloc, lists)?;
+    let mut found = directories(alloc, owner, sources)?;
     push_directories(alloc, &mut found, owner, values.as_slice())?;
     Ok(found)
 }
@@ -93,8 +98,8 @@ fn one_directory(alloc: Global, owner: &Path, dir: &Path) -> Result<PathList, Ou
 
 /// The directories that a declaration in the file of a directory names, relative to the folder, in order and with
 /// repeats: that of `build-project` and of `use-project`, and those of references. References stand among the sources of
-/// a main target, and among the values of the features `library`, `source`, `dependency` and `use` in the property lists
-/// of a call, of requirements and usage requirements in the property after the conditions.
+/// a main target or a test, and among the values of the features `library`, `source`, `dependency` and `use` in the
+/// property lists of a call, of requirements and usage requirements in the property after the conditions.
 pub fn named_directories(
     alloc: Global,
     owner: &Path,
@@ -104,7 +109,18 @@ pub fn named_directories(
 {
     match declaration {
         Declaration::Project(attributes) => of_lists(alloc, owner, attributes.lists.as_slice()),
-        Declaration::Main(target) => of_target(alloc, owner, target),
+        Declaration::Main(target) => of_parts(
+            alloc,
+            owner,
+            target.sources.as_slice(),
+            target.lists.as_slice(),
+        ),
+        Declaration::Test(test) => of_parts(
+            alloc,
+            owner,
+            test.sources.as_slice(),
+            test.lists.as_slice(),
+        ),
         Declaration::BuildProject(dir) => one_directory(alloc, owner, dir),
         Declaration::UseProject { dir, .. } => one_directory(alloc, owner, dir),
         Declaration::Compose { parts, .. } => of_properties(alloc, owner, parts.as_slice()),

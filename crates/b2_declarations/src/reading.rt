@@ -2,6 +2,8 @@
 ghost use Rattle.std.specs.Prelude.{◌≡◌, IfOk};
 ghost use Rattle.b2_base.specs.Lists.{list_at};
 ghost use Rattle.b2_declarations.specs.Lists.{text_at};
+ghost use Rattle.b2_declarations.specs.Targets.{is_refused_name};
+ghost use Rattle.b2_declarations.specs.Tests.{marker_name};
 ghost use Rattle.b2_declarations.specs.Declarations.{is_shaped, declared, shape_of, is_refused};
 
 use crate::attributes::{are_attributes, attribute_lists, attributes, id_of};
@@ -9,6 +11,7 @@ use crate::declaration::Declaration;
 use crate::lists::{first_of, text_at};
 use crate::rule::{Rule, rule_of};
 use crate::target::{counts_of, is_refused_name, target};
+use crate::testing::{is_test_shaped, marker_name, test_of};
 use b2_base::fault::OutOfMemory;
 use b2_base::path::path_of;
 use b2_base::shape::{Count, has_shape};
@@ -44,6 +47,7 @@ fn is_shaped(rule: Rule, lists: &[TextList]) -> bool
             lists,
         ),
         Rule::Import => true,
+        Rule::Test(rule) => is_test_shaped(rule, lists),
     }
 }
 
@@ -117,6 +121,7 @@ fn declared(alloc: Global, rule: Rule, lists: &[TextList]) -> Result<Declaration
         Rule::FileType => file_type(alloc, lists),
         Rule::Generator => generator(alloc, lists),
         Rule::Import => Ok(Declaration::Import),
+        Rule::Test(rule) => Ok(Declaration::Test(test_of(alloc, rule, lists)?)),
     }
 }
 
@@ -138,13 +143,22 @@ pub fn declaration(
     Ok(Some(declared(alloc, rule, lists)?))
 }
 
+/// Whether no test has such a name, since the main target that marks it cannot have its name.
+fn is_refused_test(alloc: Global, name: &Text) -> Result<bool, OutOfMemory>
+    ensures { IfOk result (λ refused. refused ≡ is_refused_name (marker_name name.now)) }
+{
+    let marker = marker_name(alloc, name.as_str())?;
+    is_refused_name(alloc, marker.as_str())
+}
+
 /// Whether a declaration is refused for a name in it: where it is of a main target whose name is empty or absolute, has
-/// `//` or a segment `..`, or is `.` in normal form.
+/// `//` or a segment `..`, or is `.` in normal form; or of a test whose name with `.test` behind it is such a name.
 pub fn is_refused(alloc: Global, declaration: &Declaration) -> Result<bool, OutOfMemory>
     ensures { IfOk result (λ refused. refused ≡ is_refused declaration.now) }
 {
     match declaration {
         Declaration::Main(target) => is_refused_name(alloc, target.name.as_str()),
+        Declaration::Test(test) => is_refused_test(alloc, &test.name),
         Declaration::Project(_)
         | Declaration::Explicit(_)
         | Declaration::BuildProject(_)

@@ -2,7 +2,7 @@
 ghost use Rattle.std.specs.Prelude.{◌≡◌, map};
 ghost use Rattle.b2_declarations.specs.Rules.{rule_in, rule_of};
 
-use crate::declaration::Kind;
+use crate::declaration::{Kind, TestRule};
 
 /// Which declaring rule a name calls, with what its name says beside that.
 #[derive(Clone, Copy)]
@@ -19,10 +19,12 @@ pub(crate) enum Rule {
     FileType,
     Generator,
     Import,
+    /// A rule that declares a test.
+    Test(TestRule),
 }
 
 /// The declaring rules with their names.
-static RULES: [(&str, Rule); 16] = [
+static RULES: [(&str, Rule); 20] = [
     ("project", Rule::Project),
     ("exe", Rule::Target(Kind::Exe)),
     ("lib", Rule::Target(Kind::Lib)),
@@ -39,6 +41,10 @@ static RULES: [(&str, Rule); 16] = [
     ("type.register", Rule::FileType),
     ("generators.register-standard", Rule::Generator),
     ("import", Rule::Import),
+    ("compile", Rule::Test(TestRule::Compile)),
+    ("compile-fail", Rule::Test(TestRule::CompileFail)),
+    ("run", Rule::Test(TestRule::Run)),
+    ("run-fail", Rule::Test(TestRule::RunFail)),
 ];
 
 /// The rule of the first row with this name.

@@ -14,7 +14,7 @@ use Rattle.b2_gcc.specs.Calls.{with_composite, toolset_fault, with_types, with_g
 use Rattle.b2_texts.specs.Clashes.{has_two_values}
 use Rattle.b2_texts.specs.Readings.{property_reading}
 use Rattle.b2_declarations.specs.declared.declaration.Declaration.{Declaration}
-use Rattle.b2_declarations.specs.declared.declaration.Declaration.TheVariants.{Project, Main, Explicit, BuildProject, UseProject, Using, Feature, Compose, FileType, Generator, Import}
+use Rattle.b2_declarations.specs.declared.declaration.Declaration.TheVariants.{Project, Main, Explicit, BuildProject, UseProject, Using, Feature, Compose, FileType, Generator, Import, Test}
 use Rattle.b2_declarations.specs.Declarations.{is_refused}
 use Rattle.b2_metatargets.specs.declared.fault.DeclaringFault.{DeclaringFault}
 use Rattle.b2_metatargets.specs.declared.visit.Visit.{Visit}
@@ -135,6 +135,7 @@ module _ (v : Visit) (c : Call) (s t : Tables) where
   names_declared (Generator id sources targets requirements) e =
       let p = names_generator id sources targets requirements e in leaves (Some (Generator id sources targets requirements)) refl refl (ap names p.0) p.1
   names_declared Import e = let same : s ≡ t = cc in leaves (Some Import) refl refl (ap (λ (u : Tables). names u.features) (sym same)) (ap (λ (u : Tables). u.has_gcc) (sym same))
+  names_declared (Test test) e = let same : s ≡ t = cc in leaves (Some (Test test)) refl refl (ap (λ (u : Tables). names u.features) (sym same)) (ap (λ (u : Tables). u.has_gcc) (sym same))
 
   names_step : (o : Option Declaration) → carried_out v c o s ≡ Ok t → Names o s t
   unfolding with_accepted

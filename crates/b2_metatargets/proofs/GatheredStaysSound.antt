@@ -8,26 +8,28 @@ use Rattle.b2_base.specs.Segments.{path_from}
 use Rattle.b2_base.specs.Results.{and_then}
 use Rattle.b2_features.specs.Table.{Declared}
 use Rattle.b2_declarations.specs.declared.declaration.Declaration.{Declaration}
-use Rattle.b2_declarations.specs.declared.declaration.Declaration.TheVariants.{Project, Main, Explicit, BuildProject, UseProject, Using, Feature, Compose, FileType, Generator, Import}
+use Rattle.b2_declarations.specs.declared.declaration.Declaration.TheVariants.{Project, Main, Explicit, BuildProject, UseProject, Using, Feature, Compose, FileType, Generator, Import, Test}
 use Rattle.b2_declarations.specs.declared.declaration.Attributes.{Attributes}
 use Rattle.b2_declarations.specs.declared.declaration.MainTarget.{MainTarget}
+use Rattle.b2_declarations.specs.declared.declaration.Test.{Test as TestDeclared}
 use Rattle.b2_metatargets.specs.declared.fault.DeclaringFault.{DeclaringFault}
 use Rattle.b2_metatargets.specs.declared.lists.Lists.{Lists}
 use Rattle.b2_metatargets.specs.declared.visit.Visit.{Visit}
 use Rattle.b2_metatargets.specs.declared.visit.Call.{Call}
 use Rattle.b2_metatargets.specs.declared.place.Place.{Place}
 use Rattle.b2_metatargets.specs.declared.place.Target.{Target}
+use Rattle.b2_metatargets.specs.declared.place.TestCall.{TestCall}
 use Rattle.b2_metatargets.specs.declared.place.IndirectRule.{IndirectRule}
 use Rattle.b2_metatargets.specs.Calls.{visit_of}
-use Rattle.b2_metatargets.specs.Gathering.{Gathered, lists_in, numbered, rules_in, plain, with_place, attributed, with_own_id, bare, target_with, one_target_more, with_attributes, with_target, with_explicit, with_build, with_use, gathered_of, gathering, nothing_gathered, gathered_by}
+use Rattle.b2_metatargets.specs.Gathering.{Gathered, lists_in, numbered, rules_in, plain, with_place, attributed, with_own_id, bare, target_with, one_target_more, test_with, one_test_more, with_attributes, with_target, with_test, with_explicit, with_build, with_use, gathered_of, gathering, nothing_gathered, gathered_by}
 use Rattle.b2_metatargets.specs.Laws.{visited, main_in, mains, named, AreNumbered, IsSound}
 use Rattle.b2_props.specs.Requirements.{AsksBelow}
-use Rattle.b2_metatargets.proofs.NumbersStayBelowRuleCount.{numbered_below, usage_plain, rules_of_project, numbers_stay, length_changed, all_changed, map_changed}
+use Rattle.b2_metatargets.proofs.NumbersStayBelowRuleCount.{numbered_below, usage_plain, rules_of_project, numbers_stay, below_more, length_changed, all_changed, map_changed}
 use Rattle.b2_metatargets.proofs.StepsComposeUntilAFault.{all_steps_keep, all_steps_add}
 
 -- what was gathered is sound
 abbrev pub IsSoundSoFar : ℕ → Gathered → Type 0
-IsSoundSoFar projects g = IsSound projects g.places g.targets g.indirect
+IsSoundSoFar projects g = IsSound projects g.places g.targets g.tests g.indirect
 
 -- how a declaration changes what was gathered
 pub record Advances (projects : ℕ) (c : Call) (o : Option Declaration) (g t : Gathered) : Type 0 where
@@ -52,11 +54,12 @@ module _ (projects : ℕ) (c : Call) (g : Gathered) (l : Lists) where
     plain = usage_plain l.usage;
   }
 
-  attributes_sound : c.project < projects → IsSoundSoFar projects g → IsSound projects (with_place g.places c.project (attributed (length g.indirect) l)) g.targets rules
+  attributes_sound : c.project < projects → IsSoundSoFar projects g → IsSound projects (with_place g.places c.project (attributed (length g.indirect) l)) g.targets g.tests rules
   unfolding rules
   attributes_sound within sound = record {
     all_places = length_changed g.places c.project (attributed (length g.indirect) l) ∙ sound.all_places;
     of_targets = sound.of_targets;
+    of_tests = sound.of_tests;
     of_rules = All-append (λ (r : IndirectRule). r.project < projects) g.indirect (rules_in c l.requirements) sound.of_rules (rules_of_project c projects l.requirements within);
     in_places =
         all_changed g.places c.project (attributed (length g.indirect) l) (λ p. AreNumbered (length rules) p.requirements p.usage) (λ p are. lists_numbered)
@@ -65,6 +68,9 @@ module _ (projects : ℕ) (c : Call) (g : Gathered) (l : Lists) where
     in_targets =
         All-weaker (λ (t : Target). AreNumbered (length g.indirect) t.requirements t.usage) (λ t. AreNumbered (length rules) t.requirements t.usage)
         (λ t are. numbers_stay (length g.indirect) (length rules) t.requirements t.usage fewer are) g.targets sound.in_targets;
+    in_tests =
+        All-weaker (λ (t : TestCall). All (AsksBelow (length g.indirect)) t.requirements) (λ t. All (AsksBelow (length rules)) t.requirements)
+        (λ t are. below_more (length g.indirect) (length rules) t.requirements fewer are) g.tests sound.in_tests;
   }
 
   target_sound : (m : MainTarget) → c.project < projects → IsSoundSoFar projects g → IsSoundSoFar projects (one_target_more c m l g)
@@ -74,6 +80,7 @@ module _ (projects : ℕ) (c : Call) (g : Gathered) (l : Lists) where
       record {
         all_places = sound.all_places;
         of_targets = All-push (λ (t : Target). t.project < projects) g.targets made sound.of_targets within;
+        of_tests = sound.of_tests;
         of_rules = All-append (λ (r : IndirectRule). r.project < projects) g.indirect (rules_in c l.requirements) sound.of_rules (rules_of_project c projects l.requirements within);
         in_places =
             All-weaker (λ (p : Place). AreNumbered (length g.indirect) p.requirements p.usage) (λ p. AreNumbered (length rules) p.requirements p.usage)
@@ -83,16 +90,43 @@ module _ (projects : ℕ) (c : Call) (g : Gathered) (l : Lists) where
             (All-weaker (λ (t : Target). AreNumbered (length g.indirect) t.requirements t.usage) (λ t. AreNumbered (length rules) t.requirements t.usage)
             (λ t are. numbers_stay (length g.indirect) (length rules) t.requirements t.usage fewer are) g.targets sound.in_targets)
             lists_numbered;
+        in_tests =
+            All-weaker (λ (t : TestCall). All (AsksBelow (length g.indirect)) t.requirements) (λ t. All (AsksBelow (length rules)) t.requirements)
+            (λ t are. below_more (length g.indirect) (length rules) t.requirements fewer are) g.tests sound.in_tests;
+      }
+
+  test_sound : (t : TestDeclared) → c.project < projects → IsSoundSoFar projects g → IsSoundSoFar projects (one_test_more c t l g)
+  unfolding rules one_test_more
+  test_sound t within sound =
+      let made : TestCall = test_with c t (numbered (length g.indirect) l.requirements) in
+      record {
+        all_places = sound.all_places;
+        of_targets = sound.of_targets;
+        of_tests = All-push (λ (t : TestCall). t.project < projects) g.tests made sound.of_tests within;
+        of_rules = All-append (λ (r : IndirectRule). r.project < projects) g.indirect (rules_in c l.requirements) sound.of_rules (rules_of_project c projects l.requirements within);
+        in_places =
+            All-weaker (λ (p : Place). AreNumbered (length g.indirect) p.requirements p.usage) (λ p. AreNumbered (length rules) p.requirements p.usage)
+            (λ p are. numbers_stay (length g.indirect) (length rules) p.requirements p.usage fewer are) g.places sound.in_places;
+        in_targets =
+            All-weaker (λ (t : Target). AreNumbered (length g.indirect) t.requirements t.usage) (λ t. AreNumbered (length rules) t.requirements t.usage)
+            (λ t are. numbers_stay (length g.indirect) (length rules) t.requirements t.usage fewer are) g.targets sound.in_targets;
+        in_tests =
+            All-push (λ (t : TestCall). All (AsksBelow (length rules)) t.requirements) g.tests made
+            (All-weaker (λ (t : TestCall). All (AsksBelow (length g.indirect)) t.requirements) (λ t. All (AsksBelow (length rules)) t.requirements)
+            (λ t are. below_more (length g.indirect) (length rules) t.requirements fewer are) g.tests sound.in_tests)
+            lists_numbered.below;
       }
 
 -- a change of a project that its requirements and its usage do not see
-changed_sound : (projects project : ℕ) (g : Gathered) (change : Place → Place) → ((p : Place) (n : ℕ) → AreNumbered n p.requirements p.usage → AreNumbered n (change p).requirements (change p).usage) → IsSoundSoFar projects g → IsSound projects (with_place g.places project change) g.targets g.indirect
+changed_sound : (projects project : ℕ) (g : Gathered) (change : Place → Place) → ((p : Place) (n : ℕ) → AreNumbered n p.requirements p.usage → AreNumbered n (change p).requirements (change p).usage) → IsSoundSoFar projects g → IsSound projects (with_place g.places project change) g.targets g.tests g.indirect
 changed_sound projects project g change keeps sound = record {
   all_places = length_changed g.places project change ∙ sound.all_places;
   of_targets = sound.of_targets;
+  of_tests = sound.of_tests;
   of_rules = sound.of_rules;
   in_places = all_changed g.places project change (λ p. AreNumbered (length g.indirect) p.requirements p.usage) (λ p are. keeps p (length g.indirect) are) sound.in_places;
   in_targets = sound.in_targets;
+  in_tests = sound.in_tests;
 }
 
 module _ (features : List Declared) (v : Visit) (projects : ℕ) (c : Call) (g t : Gathered) where
@@ -133,6 +167,21 @@ module _ (features : List Declared) (v : Visit) (projects : ℕ) (c : Call) (g t
           })
       go (Err f) e = cc
 
+  test_advances : (m : TestDeclared) → with_test features v c m g ≡ Ok t → Advances projects c (Some (Test m)) g t
+  unfolding with_test one_test_more
+  test_advances m e = go (lists_in features v c m.lists) e
+    where
+      go : (r : Result Lists DeclaringFault) → and_then (λ l. Ok (one_test_more c m l g)) r ≡ Ok t → Advances projects c (Some (Test m)) g t
+      go (Ok l) e =
+          let made : Gathered = one_test_more c m l g in
+          let same : made ≡ t = cc in
+          subst (Advances projects c (Some (Test m)) g) same (record {
+            sound = test_sound projects c g l m;
+            places = refl;
+            targets = sym (append-nil (named g.targets));
+          })
+      go (Err f) e = cc
+
   explicit_advances : (names : List (List ℕ)) → with_explicit c names g ≡ t → Advances projects c (Some (Explicit names)) g t
   explicit_advances names same = subst (Advances projects c (Some (Explicit names)) g) same (record {
     sound = λ within sound. changed_sound projects c.project g (λ p. record p { explicit = p.explicit ++ names }) (λ p n are. are) sound;
@@ -168,6 +217,7 @@ module _ (features : List Declared) (v : Visit) (projects : ℕ) (c : Call) (g t
   declaration_advances (Some (FileType name suffixes)) e = nothing_more (Some (FileType name suffixes)) refl cc
   declaration_advances (Some (Generator id sources targets requirements)) e = nothing_more (Some (Generator id sources targets requirements)) refl cc
   declaration_advances (Some Import) e = nothing_more (Some Import) refl cc
+  declaration_advances (Some (Test m)) e = test_advances m e
 
 -- ---- all calls
 
@@ -182,9 +232,11 @@ module _ (features : List Declared) (visits : List Visit) (calls : List Call) (g
       begins = record {
         all_places = length-map visits bare;
         of_targets = All-nil (λ (t : Target). t.project < length visits);
+        of_tests = All-nil (λ (t : TestCall). t.project < length visits);
         of_rules = All-nil (λ (r : IndirectRule). r.project < length visits);
         in_places = All-map (λ (p : Place). AreNumbered 0 p.requirements p.usage) bare visits (λ k d within. record { below = All-nil (AsksBelow 0); plain = All-nil (AsksBelow 0) });
         in_targets = All-nil (λ (t : Target). AreNumbered 0 t.requirements t.usage);
+        in_tests = All-nil (λ (t : TestCall). All (AsksBelow 0) t.requirements);
       }
 
   pub all_visited : All (λ c. c.project < length visits) calls → map visited g.places ≡ visits

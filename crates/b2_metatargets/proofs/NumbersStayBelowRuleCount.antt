@@ -50,6 +50,9 @@ rules_of_project c projects (Indirect rule ∷ xs) within =
     All-cons (λ (r : IndirectRule). r.project < projects) (record { project = c.project; rule = rule; line = c.line }) (filter_map (rule_of c) xs) within (rules_of_project c projects xs within)
 
 -- numbers stay below a greater number of rules
+pub below_more : (m n : ℕ) (rs : List Requirement) → m ≤ n → All (AsksBelow m) rs → All (AsksBelow n) rs
+below_more m n rs le below = All-weaker (AsksBelow m) (AsksBelow n) (more_rules m n le) rs below
+
 pub numbers_stay : (m n : ℕ) (rs us : List Requirement) → m ≤ n → AreNumbered m rs us → AreNumbered n rs us
 numbers_stay m n rs us le are = record { below = All-weaker (AsksBelow m) (AsksBelow n) (more_rules m n le) rs are.below; plain = are.plain }
 

@@ -11,7 +11,7 @@ use Rattle.b2_gcc.specs.Calls.{toolset_fault, with_toolset, with_types, are_type
 use Rattle.b2_texts.specs.Clashes.{has_two_values}
 use Rattle.b2_texts.specs.Readings.{property_reading, all_read}
 use Rattle.b2_declarations.specs.declared.declaration.Declaration.{Declaration}
-use Rattle.b2_declarations.specs.declared.declaration.Declaration.TheVariants.{Project, Main, Explicit, BuildProject, UseProject, Using, Feature, Compose, FileType, Generator, Import}
+use Rattle.b2_declarations.specs.declared.declaration.Declaration.TheVariants.{Project, Main, Explicit, BuildProject, UseProject, Using, Feature, Compose, FileType, Generator, Import, Test}
 use Rattle.b2_declarations.specs.Declarations.{is_refused}
 use Rattle.b2_metatargets.specs.declared.fault.DeclaringFault.{DeclaringFault}
 use Rattle.b2_metatargets.specs.declared.visit.Visit.{Visit}
@@ -104,6 +104,7 @@ with_declaration v c (Compose property parts) t = with_compose v c property part
 with_declaration v c (FileType name suffixes) t = with_type v c name suffixes t
 with_declaration v c (Generator id sources targets requirements) t = with_generator v c id sources targets requirements t
 with_declaration v c Import t = Ok t
+with_declaration v c (Test test) t = Ok t
 
 -- a declaration carried out, unless its output roots or its name is refused
 unfoldable pub with_accepted : Visit → Call → Declaration → Tables → Result Tables DeclaringFault

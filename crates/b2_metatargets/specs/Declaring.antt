@@ -10,7 +10,7 @@ use Rattle.b2_metatargets.specs.Gathering.{Gathered, gathered_by}
 
 -- all of it
 abbrev pub whole : Tables → Gathered → Declared
-whole t g = record { places = g.places; targets = g.targets; ids = g.ids; registry = t.features; types = t.registered; indirect = g.indirect }
+whole t g = record { places = g.places; targets = g.targets; tests = g.tests; ids = g.ids; registry = t.features; types = t.registered; indirect = g.indirect }
 
 -- The calls are carried out in order, up to the first that is refused. Then their property texts are read in order, in the
 -- table of all features, up to the first that is refused.

@@ -1,4 +1,4 @@
--- What the declaring calls of a load make of its projects and main targets, one call after another.
+-- What the declaring calls of a load make of its projects, main targets and tests, one call after another.
 use Rattle.std.specs.Prelude.{ℕ, ◌+◌, Bool, true, false, not, ◌&&◌, List, [], ◌∷◌, ◌++◌, Option, Some, None, is_some, Result, Ok, map, length, slice_get, slice_set, if◌then◌else◌}
 use Rattle.std.specs.List.{filter_map, list_all}
 use Rattle.std.specs.Option.{option_map_or}
@@ -17,18 +17,20 @@ use Rattle.b2_texts.specs.declared.reading.RequirementText.TheVariants.{Plain, I
 use Rattle.b2_texts.specs.Clashes.{has_two_values, unconditional_pairs}
 use Rattle.b2_texts.specs.Readings.{usage_reading, requirement_reading, all_read}
 use Rattle.b2_declarations.specs.declared.declaration.Declaration.{Declaration}
-use Rattle.b2_declarations.specs.declared.declaration.Declaration.TheVariants.{Project, Main, Explicit, BuildProject, UseProject}
+use Rattle.b2_declarations.specs.declared.declaration.Declaration.TheVariants.{Project, Main, Explicit, BuildProject, UseProject, Test}
 use Rattle.b2_declarations.specs.declared.declaration.Attributes.{Attributes}
 use Rattle.b2_declarations.specs.declared.declaration.ListName.{ListName}
 use Rattle.b2_declarations.specs.declared.declaration.ListName.TheVariants.{Requirements, DefaultBuild, Usage}
 use Rattle.b2_declarations.specs.declared.declaration.MainTarget.{MainTarget}
 use Rattle.b2_declarations.specs.declared.declaration.PropertyList.{PropertyList}
+use Rattle.b2_declarations.specs.declared.declaration.Test.{Test as TestDeclared}
 use Rattle.b2_metatargets.specs.declared.fault.DeclaringFault.{DeclaringFault}
 use Rattle.b2_metatargets.specs.declared.visit.Visit.{Visit}
 use Rattle.b2_metatargets.specs.declared.visit.Call.{Call}
 use Rattle.b2_metatargets.specs.declared.lists.Lists.{Lists}
 use Rattle.b2_metatargets.specs.declared.place.Place.{Place}
 use Rattle.b2_metatargets.specs.declared.place.Target.{Target}
+use Rattle.b2_metatargets.specs.declared.place.TestCall.{TestCall}
 use Rattle.b2_metatargets.specs.declared.place.IndirectRule.{IndirectRule}
 use Rattle.b2_metatargets.specs.Outcomes.{all_steps}
 use Rattle.b2_metatargets.specs.Calls.{visit_of, unless, after_reading}
@@ -125,10 +127,11 @@ with_own_id ids (Some id) dir = with_id ids id dir
 
 -- ---- projects and main targets
 
--- what was gathered so far: the projects, the main targets, the ids, and the rules of indirect requirements
+-- what was gathered so far: the projects, the main targets, the tests, the ids, and the rules of indirect requirements
 pub record Gathered : Type 0 where
   pub places : List Place
   pub targets : List Target
+  pub tests : List TestCall
   pub ids : List (List ℕ × List ℕ)
   pub indirect : List IndirectRule
 
@@ -179,6 +182,21 @@ one_target_more c m l g = record g {
 unfoldable pub with_target : List Declared → Visit → Call → MainTarget → Gathered → Result Gathered DeclaringFault
 with_target features v c m g = and_then (λ l. Ok (one_target_more c m l g)) (lists_in features v c m.lists)
 
+-- a test of a call, with its requirements
+abbrev pub test_with : Call → TestDeclared → List Requirement → TestCall
+test_with c t requirements = record { project = c.project; rule = c.rule; name = t.name; sources = t.sources; requirements = requirements; line = c.line }
+
+-- one test more; its indirect requirements have the next free numbers
+unfoldable pub one_test_more : Call → TestDeclared → Lists → Gathered → Gathered
+one_test_more c t l g = record g {
+  tests = g.tests ++ test_with c t (numbered (length g.indirect) l.requirements) ∷ [];
+  indirect = g.indirect ++ rules_in c l.requirements;
+}
+
+-- a test: its list is read
+unfoldable pub with_test : List Declared → Visit → Call → TestDeclared → Gathered → Result Gathered DeclaringFault
+with_test features v c t g = and_then (λ l. Ok (one_test_more c t l g)) (lists_in features v c t.lists)
+
 -- `explicit`: names that a request of the project does not stand for
 abbrev pub with_explicit : Call → List (List ℕ) → Gathered → Gathered
 with_explicit c names g = record g { places = with_place g.places c.project (λ p. record p { explicit = p.explicit ++ names }) }
@@ -195,6 +213,7 @@ with_use v id dir g = record g { ids = with_id g.ids id (path_from v.dir dir) }
 abbrev pub gathered : List Declared → Visit → Call → Declaration → Gathered → Result Gathered DeclaringFault
 gathered features v c (Project attributes) g = with_attributes features v c attributes g
 gathered features v c (Main target) g = with_target features v c target g
+gathered features v c (Test test) g = with_test features v c test g
 gathered features v c (Explicit names) g = Ok (with_explicit c names g)
 gathered features v c (BuildProject dir) g = Ok (with_build v c dir g)
 gathered features v c (UseProject id dir) g = Ok (with_use v id dir g)
@@ -207,7 +226,7 @@ gathered_of features v c (Some d) g = gathered features v c d g
 
 -- the projects before any call
 abbrev pub nothing_gathered : List Visit → Gathered
-nothing_gathered visits = record { places = map bare visits; targets = []; ids = []; indirect = [] }
+nothing_gathered visits = record { places = map bare visits; targets = []; tests = []; ids = []; indirect = [] }
 
 -- the step of a call among the projects of a load
 abbrev pub gathering : List Declared → List Visit → Gathered → Call → Result Gathered DeclaringFault

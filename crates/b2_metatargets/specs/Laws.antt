@@ -11,6 +11,7 @@ use Rattle.b2_metatargets.specs.declared.visit.Visit.{Visit}
 use Rattle.b2_metatargets.specs.declared.visit.Call.{Call}
 use Rattle.b2_metatargets.specs.declared.place.Place.{Place}
 use Rattle.b2_metatargets.specs.declared.place.Target.{Target}
+use Rattle.b2_metatargets.specs.declared.place.TestCall.{TestCall}
 use Rattle.b2_metatargets.specs.declared.place.IndirectRule.{IndirectRule}
 
 -- ---- projects and main targets
@@ -40,12 +41,14 @@ pub record AreNumbered (rules : ℕ) (requirements usage : List Requirement) : T
   pub plain : All (AsksBelow 0) usage
 
 -- each number is a place in the list that it leads to
-pub record IsSound (projects : ℕ) (places : List Place) (targets : List Target) (rules : List IndirectRule) : Type 0 where
+pub record IsSound (projects : ℕ) (places : List Place) (targets : List Target) (tests : List TestCall) (rules : List IndirectRule) : Type 0 where
   pub all_places : length places ≡ projects
   pub of_targets : All (λ t. t.project < projects) targets
+  pub of_tests : All (λ t. t.project < projects) tests
   pub of_rules : All (λ r. r.project < projects) rules
   pub in_places : All (λ p. AreNumbered (length rules) p.requirements p.usage) places
   pub in_targets : All (λ t. AreNumbered (length rules) t.requirements t.usage) targets
+  pub in_tests : All (λ t. All (AsksBelow (length rules)) t.requirements) tests
 
 -- ---- features
 

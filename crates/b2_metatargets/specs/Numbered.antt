@@ -5,4 +5,4 @@ use Rattle.b2_metatargets.specs.Laws.{IsSound}
 
 -- each number in what is declared is a place in the list that it leads to
 abbrev pub IsNumbered : Declared → Type 0
-IsNumbered d = IsSound (length d.places) d.places d.targets d.indirect
+IsNumbered d = IsSound (length d.places) d.places d.targets d.tests d.indirect

@@ -8,4 +8,4 @@ abbrev pub seen : Inside → Tables
 seen t = record { features = t.registry; registered = t.types; has_gcc = t.has_gcc; begun = t.begun.items }
 
 abbrev pub brought : Drawn → Gathered
-brought g = record { places = g.places.items; targets = g.targets; ids = g.ids; indirect = g.indirect }
+brought g = record { places = g.places.items; targets = g.targets; tests = g.tests; ids = g.ids; indirect = g.indirect }

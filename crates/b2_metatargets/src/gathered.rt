@@ -1,7 +1,7 @@
-//! The projects and the main targets of a load, filled call by call.
+//! The projects, the main targets and the tests of a load, filled call by call.
 ghost use Rattle.std.specs.Prelude.{◌≡◌, ◌<◌, ◌++◌, Ok, All, length, map, IfOk, IfErr, OnOk};
 ghost use Rattle.b2_metatargets.specs.Outcomes.{IsFaultOf};
-ghost use Rattle.b2_metatargets.specs.Gathering.{nothing_gathered, bare, attributed, target_with, one_target_more, rules_in, with_place, with_own_id, with_attributes, with_target, with_explicit, with_build, with_use, gathered, gathered_of, gathered_by};
+ghost use Rattle.b2_metatargets.specs.Gathering.{nothing_gathered, bare, attributed, target_with, one_target_more, test_with, one_test_more, rules_in, with_place, with_own_id, with_attributes, with_target, with_test, with_explicit, with_build, with_use, gathered, gathered_of, gathered_by};
 ghost use Rattle.b2_metatargets.specs.Views.{brought};
 
 use crate::directories::directory_in;
@@ -9,7 +9,7 @@ use crate::fault::DeclaringFault;
 use crate::ids::Ids;
 use crate::lists::{Lists, read_lists};
 use crate::numbers::{numbered, plain_all};
-use crate::place::{IndirectRule, Place, Target};
+use crate::place::{IndirectRule, Place, Target, TestCall};
 use crate::visit::{Call, Visit, visit_of};
 use b2_base::fault::OutOfMemory;
 use b2_base::list::List;
@@ -17,18 +17,19 @@ use b2_base::path::Path;
 use b2_base::path_list::PathList;
 use b2_base::text::Text;
 use b2_base::text_list::{TextList, copy_texts, push_copies};
-use b2_declarations::declaration::{Attributes, Declaration, MainTarget};
+use b2_declarations::declaration::{Attributes, Declaration, MainTarget, Test};
 use b2_features::registry::Registry;
 use b2_props::pair_list::PairList;
 use b2_props::requirement::Requirement;
 use std::alloc::Global;
 
-/// The projects, the main targets, the ids and the rules of indirect requirements so far.
+/// The projects, the main targets, the tests, the ids and the rules of indirect requirements so far.
 #[derive(Drop)]
 pub(crate) struct Gathered {
     alloc: Global,
     pub(crate) places: Vec<Place>,
     pub(crate) targets: List<Target>,
+    pub(crate) tests: List<TestCall>,
     pub(crate) ids: Ids,
     pub(crate) indirect: List<IndirectRule>,
 }
@@ -102,6 +103,27 @@ fn target_of(
     })
 }
 
+/// A test of a call.
+fn test_call_of(
+    alloc: Global,
+    call: &Call,
+    test: &Test,
+    requirements: List<Requirement>,
+) -> Result<TestCall, OutOfMemory>
+    ensures { IfOk result (λ made. made ≡ test_with call.now test.now requirements) }
+{
+    let rule = call.rule.copy()?;
+    let name = test.name.copy()?;
+    Ok(TestCall {
+        project: call.project,
+        rule,
+        name,
+        sources: copy_texts(alloc, test.sources.as_slice())?,
+        requirements,
+        line: call.line,
+    })
+}
+
 impl Gathered {
     fn new(alloc: Global, visits: &[Visit]) -> Result<Gathered, OutOfMemory>
         ensures { IfOk result (λ made. brought made ≡ nothing_gathered visits.now) }
@@ -110,6 +132,7 @@ impl Gathered {
             alloc,
             places: bare_all(alloc, visits)?,
             targets: List::new(alloc),
+            tests: List::new(alloc),
             ids: Ids::new(alloc),
             indirect: List::new(alloc),
         })
@@ -119,7 +142,7 @@ impl Gathered {
         requires { call.now.project < length self.old.places.items }
         ensures places { OnOk result (self.new.places.items ≡ with_place self.old.places.items call.now.project (attributed (length self.old.indirect) lists)) }
         ensures rules { OnOk result (self.new.indirect ≡ self.old.indirect ++ rules_in call.now lists.requirements) }
-        ensures others { (self.new.targets ≡ self.old.targets) × (self.new.ids ≡ self.old.ids) }
+        ensures others { (self.new.targets ≡ self.old.targets) × (self.new.tests ≡ self.old.tests) × (self.new.ids ≡ self.old.ids) }
         ensures projects { length self.new.places.items ≡ length self.old.places.items }
     {
         let requirements = numbered(self.alloc, call, lists.requirements, &mut self.indirect)?;
@@ -199,6 +222,32 @@ impl Gathered {
         Ok(())
     }
 
+    #[tactic(auto, unfolding(crate::specs::Gathering::one_test_more))]
+    fn push_test(&mut self, call: &Call, test: &Test, lists: Lists) -> Result<(), OutOfMemory>
+        ensures ok { OnOk result (brought self.new ≡ one_test_more call.now test.now lists (brought self.old)) }
+        ensures projects { self.new.places ≡ self.old.places }
+    {
+        let requirements = numbered(self.alloc, call, lists.requirements, &mut self.indirect)?;
+        let call = test_call_of(self.alloc, call, test, requirements)?;
+        self.tests.push(call)
+    }
+
+    fn add_test(
+        &mut self,
+        registry: &Registry,
+        visit: &Visit,
+        call: &Call,
+        test: &Test,
+    ) -> Result<(), DeclaringFault>
+        ensures ok { OnOk result (with_test registry.now visit.now call.now test.now (brought self.old) ≡ Ok (brought self.new)) }
+        ensures fault { IfErr result (IsFaultOf (with_test registry.now visit.now call.now test.now (brought self.old))) }
+        ensures projects { self.new.places ≡ self.old.places }
+    {
+        let lists = read_lists(self.alloc, registry, visit, call, test.lists.as_slice())?;
+        self.push_test(call, test, lists)?;
+        Ok(())
+    }
+
     fn add_explicit(&mut self, call: &Call, names: &[Text]) -> Result<(), OutOfMemory>
         requires { call.now.project < length self.old.places.items }
         ensures ok { OnOk result (brought self.new ≡ with_explicit call.now names.now (brought self.old)) }
@@ -243,6 +292,7 @@ impl Gathered {
                 self.add_attributes(registry, visit, call, attributes)
             }
             Declaration::Main(main) => self.add_target(registry, visit, call, main),
+            Declaration::Test(test) => self.add_test(registry, visit, call, test),
             Declaration::Explicit(names) => Ok(self.add_explicit(call, names.as_slice())?),
             Declaration::BuildProject(dir) => Ok(self.add_build(visit, call, dir)?),
             Declaration::UseProject { id, dir } => Ok(self.add_use(visit, id, dir)?),

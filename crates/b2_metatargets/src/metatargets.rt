@@ -12,10 +12,10 @@ use crate::whole::Declared;
 use b2_base::list::List;
 use std::alloc::Global;
 
-/// What the declaring calls of a load make of it. First the calls are carried out in order of recording. Each has the shape
-/// of its rule, and neither its output roots nor its main target's name is refused. A second `project` call of one project
-/// is refused, a second `using gcc` does nothing. The property texts of `feature.compose` and
-/// `generators.register-standard` are read in the tables so far.
+/// What the declaring calls of a load make of it. First the calls are carried out in order of recording. Each has the
+/// shape of its rule, and neither its output roots nor the name of its main target or its test is refused. A second
+/// `project` call of one project is refused, a second `using gcc` does nothing. The property texts of `feature.compose`
+/// and `generators.register-standard` are read in the tables so far.
 ///
 /// Then the other property texts are read in order of recording, in the table of all features and the directory of the
 /// project: of each call its property lists in their order. Requirements that give a feature that is not free two values
@@ -30,13 +30,14 @@ pub fn declared(alloc: Global, visits: &[Visit], calls: &[Call]) -> Result<Decla
     ensures places { IfOk result (λ made. map visited made.places ≡ visits.now) }
     ensures targets { IfOk result (λ made. named made.targets ≡ mains calls.now) }
     ensures features { IfOk result (λ made. names made.registry ≡ feature_names false calls.now) }
-    ensures sound { IfOk result (λ made. IsSound (length visits.now) made.places made.targets made.indirect) }
+    ensures sound { IfOk result (λ made. IsSound (length visits.now) made.places made.targets made.tests made.indirect) }
 {
     let tables = tables_of(alloc, visits, calls)?;
     let gathered = gathered_by(alloc, &tables.registry, visits, calls)?;
     Ok(Declared {
         places: List::from_vec(gathered.places),
         targets: gathered.targets,
+        tests: gathered.tests,
         ids: gathered.ids,
         registry: tables.registry,
         types: tables.types,

@@ -86,6 +86,35 @@ impl Drop for Target {
     }
 }
 
+/// A call of a rule that declares a test: the place of its project, the rule, the name of the test, what the call says,
+/// and its line.
+pub struct TestCall {
+    pub project: usize,
+    pub rule: Text,
+    pub name: Text,
+    pub sources: TextList,
+    pub requirements: List<Requirement>,
+    pub line: u32,
+}
+
+/// By hand, so that dropping one is one call.
+impl Drop for TestCall {
+    fn drop(self) {
+        let TestCall {
+            project: _,
+            rule,
+            name,
+            sources,
+            requirements,
+            line: _,
+        } = self;
+        drop(rule);
+        drop(name);
+        drop(sources);
+        drop(requirements);
+    }
+}
+
 /// The rule that answers an indirect requirement: the place of the project that requires it, the rule's name, and the line
 /// of the call.
 pub struct IndirectRule {

@@ -281,7 +281,8 @@ impl Tables {
             | Declaration::Explicit(_)
             | Declaration::BuildProject(_)
             | Declaration::UseProject { .. }
-            | Declaration::Import => Ok(()),
+            | Declaration::Import
+            | Declaration::Test(_) => Ok(()),
         }
     }
 

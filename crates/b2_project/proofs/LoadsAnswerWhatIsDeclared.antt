@@ -15,11 +15,11 @@ use Rattle.b2_project.specs.Parts.{IsDeclaredOf, IsFoundOf, IsToldOf, project_in
 use Rattle.b2_project.proofs.LoadsEndAsCallsDeclare.{IsResultOf, IsEnded}
 
 pub declared_of : (w : Walking) (found : Declared) (visits : List Visit) (calls : List Call) → visits ≡ w.visits → HaveParentsBefore visits → calls ≡ w.calls.items
-    → declared visits calls ≡ Ok found → map visited found.places ≡ visits → IsSound (length visits) found.places found.targets found.indirect
+    → declared visits calls ≡ Ok found → map visited found.places ≡ visits → IsSound (length visits) found.places found.targets found.tests found.indirect
     → IsDeclaredOf w (Ok found)
 declared_of w found visits calls same parents all is places sound = (
   subst (λ (cs : List Call). declared w.visits cs ≡ Ok found) all (subst (λ (vs : List Visit). declared vs calls ≡ Ok found) same is),
-  subst (λ n. IsSound n found.places found.targets found.indirect) (ap (λ (vs : List Visit). length vs) (sym places) ∙ length-map found.places visited) sound,
+  subst (λ n. IsSound n found.places found.targets found.tests found.indirect) (ap (λ (vs : List Visit). length vs) (sym places) ∙ length-map found.places visited) sound,
   subst HaveParentsBefore (sym places) parents,
   places ∙ same,
 )

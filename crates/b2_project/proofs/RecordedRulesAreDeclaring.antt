@@ -30,7 +30,7 @@ recorded_declare name =
     let rest =
     list_any is (
     codes "explicit" ∷ codes "build-project" ∷ codes "use-project" ∷ codes "using" ∷ codes "feature.feature" ∷ codes "feature.compose" ∷ codes "type.register"
-    ∷ codes "generators.register-standard" ∷ codes "import" ∷ []
+    ∷ codes "generators.register-standard" ∷ codes "import" ∷ codes "compile" ∷ codes "compile-fail" ∷ codes "run" ∷ codes "run-fail" ∷ []
     ) in
     ap (λ tail. is (codes "project") || (is (codes "exe") || (is (codes "lib") || (is (codes "obj") || (is (codes "alias") || tail))))) (swapped (is (codes "install")) (is (codes "make")) rest)
     ∙ sym (found_among name rules)

@@ -2,3 +2,4 @@ pub mod Loads
 pub mod Loading
 pub mod Laws
 pub mod Parts
+pub mod Targets

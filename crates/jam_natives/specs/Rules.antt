@@ -79,6 +79,10 @@ declaring =
     ∷ codes "type.register"
     ∷ codes "generators.register-standard"
     ∷ codes "import"
+    ∷ codes "compile"
+    ∷ codes "compile-fail"
+    ∷ codes "run"
+    ∷ codes "run-fail"
     ∷ []
 
 unfoldable pub is_declaring : Text → Bool

@@ -151,7 +151,7 @@ pub fn shape_of(native: Native) -> &'static [Count]
 }
 
 /// The names of the declaring rules.
-static DECLARING: [&str; 16] = [
+static DECLARING: [&str; 20] = [
     "project",
     "exe",
     "lib",
@@ -168,6 +168,10 @@ static DECLARING: [&str; 16] = [
     "type.register",
     "generators.register-standard",
     "import",
+    "compile",
+    "compile-fail",
+    "run",
+    "run-fail",
 ];
 
 /// Whether a rule of this name declares; takes no memory.

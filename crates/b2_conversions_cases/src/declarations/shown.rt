@@ -1,7 +1,7 @@
 //! How declarations are shown.
 use b2_base::text::Text;
 use b2_declarations::declaration::{
-    Attributes, Declaration, Kind, ListName, MainTarget, PropertyList,
+    Attributes, Declaration, Kind, ListName, MainTarget, PropertyList, Test, TestRule,
 };
 use transcript::answer::Answer;
 
@@ -70,6 +70,21 @@ fn push_main_target(answer: &mut Answer, target: &MainTarget) {
     push_lists(answer, target.lists.as_slice());
 }
 
+fn test_word(rule: TestRule) -> &'static str {
+    match rule {
+        TestRule::Compile => "compile",
+        TestRule::CompileFail => "compile-fail",
+        TestRule::Run => "run",
+        TestRule::RunFail => "run-fail",
+    }
+}
+
+fn push_test(answer: &mut Answer, test: &Test) {
+    push_headed(answer, test_word(test.rule), test.name.as_str());
+    push_list(answer, "sources", test.sources.as_slice());
+    push_lists(answer, test.lists.as_slice());
+}
+
 fn push_project(answer: &mut Answer, attributes: &Attributes) {
     push_maybe_headed(answer, "project", attributes.id.as_ref());
     push_lists(answer, attributes.lists.as_slice());
@@ -128,6 +143,7 @@ pub fn push_declaration(answer: &mut Answer, declaration: &Declaration) {
         Declaration::Using { command } => {
             push_maybe_headed(answer, "using gcc", command.as_ref());
         }
+        Declaration::Test(test) => push_test(answer, test),
         _ => push_registered(answer, declaration),
     }
 }

@@ -31,5 +31,5 @@ returns-clause-features c = names_of_calls c.args.visits.now c.args.calls.now (s
 
 pub returns-clause-sound : goal.returns-clause-sound
 returns-clause-sound c =
-    subst (λ places. IsSound (length c.args.visits.now) places c.in_ok-gathered.gathered.targets c.in_ok-gathered.gathered.indirect) (sym c.from_vec.ensures)
+    subst (λ places. IsSound (length c.args.visits.now) places c.in_ok-gathered.gathered.targets c.in_ok-gathered.gathered.tests c.in_ok-gathered.gathered.indirect) (sym c.from_vec.ensures)
     (all_sound c.in_ok-tables.tables.registry c.args.visits.now c.args.calls.now (brought c.in_ok-gathered.gathered) c.in_ok-gathered.ensures.ok c.requires)

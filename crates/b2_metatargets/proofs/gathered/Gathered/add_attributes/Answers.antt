@@ -18,4 +18,4 @@ returns-clause-ok c =
     ∙ ap Ok
     (sym
     (attributed_is c.args.visit.now c.args.call.now a c.in_ok-lists.lists (brought c.args.self.now) c.attribute.new.self c.add_own_id.new.self c.in_ok-attribute.ensures.places c.in_ok-attribute.ensures.rules
-    c.attribute.ensures.others.0 c.attribute.ensures.others.1 c.in_ok-add_own_id.ensures.ok))
+    c.attribute.ensures.others.0 c.attribute.ensures.others.1 c.attribute.ensures.others.2 c.in_ok-add_own_id.ensures.ok))
