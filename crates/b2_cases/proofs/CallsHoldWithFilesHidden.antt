@@ -109,7 +109,7 @@ waits_hidden made other before after (Ok done) ended = record {
   ends_well = ended.ends_well;
   same = ap hidden ended.same;
 }
-waits_hidden made other before after (Err e) failed = record { may_fail = failed.may_fail; wait_may_fail = failed.wait_may_fail; rose = failed.rose; waits = failed.waits; worked = tt; same = ap hidden failed.same }
+waits_hidden made other before after (Err e) failed = record { may_fail = failed.may_fail; wait_may_fail = failed.wait_may_fail; rose = failed.rose; waits = failed.waits; once = failed.once; worked = tt; same = ap hidden failed.same }
 
 -- where no child process runs, none runs after what leaves all but the files
 pub stays_idle : (before after : Outside) → hidden after ≡ hidden before → before.children.running ≡ [] → after.children.running ≡ []

@@ -31,7 +31,7 @@ pub no_wait : (before : Outside) (rest : ℕ) → length before.children.running
 no_wait before rest left = record {
   waited = inl (record { faults = refl; waits = refl; left = left });
   at_least = omega (arith, left);
-  not_again = λ more. absurd (omega (arith, more));
+  not_again = omega (arith, left);
   keeps = keeps_same before before refl;
   reads = refl;
   given = refl;
@@ -111,10 +111,10 @@ waited_out made rest x y z (Err e) d w = inr (
       (one_more_left greatest_count rest x.failed_waits y.failed_waits z.failed_waits (length y.children.running) w.waits.kept w.waits.more (for_all_but (suc rest) x y d.waited)),
 )
 
--- so many are left at least, and one more where a wait failed
+-- so many are left at least, and one more for each wait that failed
 record AreLeft (rest : ℕ) (before after : Outside) : Type 0 where
   at_least : rest ≤ length after.children.running
-  not_again : before.failed_waits < after.failed_waits → rest < length after.children.running
+  not_again : after.failed_waits + rest ≤ before.failed_waits + length after.children.running
 
 are_left : (made : Made) (rest : ℕ) (x y z : Outside) (r : Result (ℕ × Bool) Failed) → Drains (suc rest) x y → Waits made y z r → AreLeft rest x z
 are_left made rest x y z (Ok done) d w =
@@ -123,12 +123,14 @@ are_left made rest x y z (Ok done) d w =
     let low = d.at_least in
     record {
       at_least = omega (arith, less, low);
-      not_again = λ more. (let lower = d.not_again (subst (λ n. x.failed_waits < n) waits more) in omega (arith, less, lower));
+      not_again = (let lower = d.not_again in omega (arith, less, waits, lower));
     }
 are_left made rest x y z (Err e) d w =
     let same : length z.children.running ≡ length y.children.running = ap (λ (o : Outside). length o.children.running) w.same in
     let low = d.at_least in
-    record { at_least = omega (arith, same, low); not_again = λ more. omega (arith, same, low) }
+    let lower = d.not_again in
+    let once = w.once in
+    record { at_least = omega (arith, same, low); not_again = omega (arith, same, lower, once) }
 
 -- the ends that came, and perhaps one more
 ends_came : (made : Made) (x y z : Outside) (r : Result (ℕ × Bool) Failed) (events : List ChildEvent) → EndsCame events x y → Waits made y z r → EndsCame events x z

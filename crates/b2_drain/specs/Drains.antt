@@ -45,12 +45,12 @@ pub record EndsCame (events : List ChildEvent) (before after : Outside) : Type 0
   pub open_ends : OpenEnds events ends
   pub left : AreOfOpenSteps (events ++ ends) after.children.running
 
--- All that waiting for all children but so many does to a host, whatever ran. At least so many are left. Where a wait failed,
--- more are left, for it was not tried again.
+-- All that waiting for all children but so many does to a host, whatever ran. At least so many are left, and one more for each
+-- wait that failed, for none is tried again.
 pub record Drains (rest : ℕ) (before after : Outside) : Type 0 where
   pub waited : WaitedOut rest before after
   pub at_least : rest ≤ length after.children.running
-  pub not_again : before.failed_waits < after.failed_waits → rest < length after.children.running
+  pub not_again : after.failed_waits + rest ≤ before.failed_waits + length after.children.running
   pub keeps : Keeps before after
   pub reads : after.reads ≡ before.reads
   pub given : after.children.given ≡ before.children.given

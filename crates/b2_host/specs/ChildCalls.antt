@@ -1,4 +1,4 @@
-use Rattle.std.specs.Prelude.{◌≡◌, ℕ, List, Bool, true, false, Result, Ok, Err}
+use Rattle.std.specs.Prelude.{◌≡◌, ℕ, ◌+◌, ◌≤◌, List, Bool, true, false, Result, Ok, Err}
 use Rattle.b2_host.specs.declared.fault.Failed.{Failed}
 use Rattle.b2_host.specs.declared.fault.IoFault.{IoFault}
 use Rattle.b2_host.specs.declared.fault.IoFault.TheVariants as faults
@@ -23,12 +23,14 @@ pub record Awaits (made : List ℕ → List (List ℕ × List ℕ) → List ℕ 
   pub ends_well : before.risks.may_end_badly ≡ false → well ≡ true
   pub same : after ≡ record before { disk = after.disk; children = after.children }
 
--- A wait failed, where calls and waits may: both counts rose, the same children run, and they may have written on.
+-- A wait failed, where calls and waits may: both counts rose, that of failed waits by one at most, the same children run, and they
+-- may have written on.
 pub record AwaitFails (before after : Outside) : Type 0 where
   pub may_fail : before.risks.may_fail ≡ true
   pub wait_may_fail : before.risks.wait_may_fail ≡ true
   pub rose : Rose before.faults after.faults
   pub waits : Rose before.failed_waits after.failed_waits
+  pub once : after.failed_waits ≤ before.failed_waits + 1
   pub worked : BothTold (ChangesOnlyOutputs before.children.running) before.disk after.disk
   pub same : after ≡ record before { disk = after.disk; faults = after.faults; failed_waits = after.failed_waits }
 

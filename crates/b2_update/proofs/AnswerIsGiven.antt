@@ -1,5 +1,5 @@
 -- What an answer says over every host, wherever the update ended.
-use Rattle.std.proofs.Common.{◌≡◌, ◌⊎◌, inl, inr, ℕ, ◌+◌, ◌<◌, Bool, true, false, List, [], ◌∷◌, ◌++◌, refl, sym, ap, subst, ◌∙◌, length, arith, append_assoc, append-nil}
+use Rattle.std.proofs.Common.{◌≡◌, ◌≤◌, ◌⊎◌, inl, inr, ℕ, ◌+◌, ◌<◌, Bool, true, false, List, [], ◌∷◌, ◌++◌, refl, sym, ap, subst, ◌∙◌, length, arith, append_assoc, append-nil}
 use Rattle.std.specs.List.{Contains}
 use Rattle.std.proofs.lemmas.Bool.{cases_lt}
 use Rattle.std.proofs.lemmas.List.Elements.{Contains-append_left}
@@ -36,7 +36,7 @@ pub come_is_answered : (plan : Plan) (jobs : ℕ) (entry here : Moment) (answer 
 come_is_answered plan jobs entry here answer come = record {
   counts = come.caused;
   none_left = inl come.idle;
-  not_again = λ rose. absurd (let same = come.counts.waits in omega (arith, rose, same));
+  not_again = (let same = come.counts.waits in omega (arith, same));
   kept = come.kept;
   turns = record {
     events = come.events;
@@ -60,7 +60,8 @@ come_is_answered plan jobs entry here answer come = record {
 
 -- how many children are left besides those that are to be waited for: none where no wait failed, else one
 abbrev pub Left : ℕ → Moment → Moment → Type 0
-Left rest entry mid = ((rest ≡ 0) × (mid.host.failed_waits ≡ entry.host.failed_waits)) ⊎ (WaitFailed entry.host mid.host × (rest ≡ 1))
+Left rest entry mid = ((rest ≡ 0) × (mid.host.failed_waits ≡ entry.host.failed_waits))
+    ⊎ (WaitFailed entry.host mid.host × (mid.host.failed_waits ≤ entry.host.failed_waits + 1) × (rest ≡ 1))
 
 -- the answer of a stop names nothing
 abbrev is_fault : RunAnswer → Bool
@@ -177,8 +178,8 @@ module _ (plan : Plan) (jobs count : ℕ) (entry mid : Moment) (after : Outside)
       ]
 
   again : Left rest entry mid → NotTriedAgain entry.host after
-  again (inl (zero_rest, same)) rose = let more = drains.not_again (omega (arith, rose, same)) in omega (arith, more, zero_rest)
-  again (inr (failed, one_rest)) rose = let least = drains.at_least in omega (arith, least, one_rest)
+  again (inl (zero_rest, same)) = let more = drains.not_again in omega (arith, more, same)
+  again (inr (failed, once, one_rest)) = let more = drains.not_again in omega (arith, more, once, one_rest)
 
   pub stop_is_answered : (f : Knowledge) (all : Bool) (answer : UpdateAnswer) → IsStopAnswer f stop all answer → IsQuietHost mid.host after
       → (all ≡ true → AllWaited rest mid.host after) → (all ≡ false → WaitFailed mid.host after × (mid.host.risks.may_fail ≡ true))
@@ -190,7 +191,7 @@ module _ (plan : Plan) (jobs count : ℕ) (entry mid : Moment) (after : Outside)
       ends.came ∙ ap (λ (l : List ChildEvent). l ++ ends.ends) halts.happened.are ∙ append_assoc entry.host.children.events halts.events ends.ends in
       record {
         counts = caused f all answer stop halts.caused is quiet waited missed;
-        none_left = elim how [ inl (zero_rest, same) ↦ none_since none zero_rest | inr (failed, one_rest) ↦ one_since failed one_rest ];
+        none_left = elim how [ inl (zero_rest, same) ↦ none_since none zero_rest | inr (failed, once, one_rest) ↦ one_since failed one_rest ];
         not_again = again how;
         kept = kept;
         turns = record {
@@ -216,7 +217,7 @@ module _ (plan : Plan) (jobs count : ℕ) (entry mid : Moment) (after : Outside)
 pub rest_is : (count : ℕ) (entry mid : Moment) → AreToWaitFor count entry mid
     → (rest : ℕ) × (length mid.host.children.running ≡ count + rest) × Left rest entry mid
 rest_is count entry mid (inl (same, all)) = (0, (omega (arith, all)), inl (refl, same))
-rest_is count entry mid (inr (failed, more)) = (1, more, inr (failed, refl))
+rest_is count entry mid (inr (failed, once, more)) = (1, more, inr (failed, once, refl))
 
 -- ---- an update that has stopped before any event
 
@@ -229,4 +230,4 @@ begin_is_answered plan jobs entry here f stop answer halts idle is =
   where
     how : length here.host.children.running ≡ 0 → AreToWaitFor 0 entry here → Left 0 entry here
     how none (inl (same, all)) = inl (refl, same)
-    how none (inr (failed, one)) = absurd (omega (arith, none, one))
+    how none (inr (failed, once, one)) = absurd (omega (arith, none, one))

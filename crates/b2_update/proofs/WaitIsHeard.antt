@@ -1,5 +1,5 @@
 -- A child has ended, or a wait failed: what holds then, over every host.
-use Rattle.std.proofs.Common.{◌≡◌, ℕ, ◌+◌, Bool, true, false, List, [], ◌∷◌, ◌++◌, inl, inr, Option, Some, None, IfSome, Ok, Err, is_some, length, refl, sym, ap, subst, ◌∙◌, arith, append_assoc}
+use Rattle.std.proofs.Common.{◌≡◌, ℕ, ◌+◌, ◌≤◌, Bool, true, false, List, [], ◌∷◌, ◌++◌, inl, inr, Option, Some, None, IfSome, Ok, Err, is_some, length, refl, sym, ap, subst, ◌∙◌, arith, append_assoc}
 use Rattle.std.specs.List.{Contains}
 use Rattle.std.proofs.lemmas.List.Edits.{length-remove}
 use Rattle.std.proofs.lemmas.List.Elements.{Contains-append_left}
@@ -157,6 +157,7 @@ module _ (made : Made) (plan : Plan) (entry : Moment) (x y : Outside) (o : Outpu
         planned = λ child c. (let p = going.planned.planned child (subst (λ (z : Outside). Contains z.children.running child) f.same c) in (p.step, p.at, p.outs));
         waits = inr (
           record { may = sym (ap (λ (k : Risks). k.wait_may_fail) going.kept.host.risks) ∙ f.wait_may_fail; faults = faults; waits = subst (λ k. Rose k y.failed_waits) going.counts.waits f.waits },
+          subst (λ k. y.failed_waits ≤ k + 1) going.counts.waits f.once,
           ap (λ (z : Outside). length z.children.running) f.same ∙ going.planned.waits ∙ sym count,
         );
         kept = record { host = keeps_then entry.host x y going.kept.host (keeps_waits made x y (Err (record {})) f); out = going.kept.out };

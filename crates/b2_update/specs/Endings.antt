@@ -1,5 +1,5 @@
 -- How an update ends.
-use Rattle.std.specs.Prelude.{◌≡◌, ◌⊎◌, ℕ, ◌<◌, Bool, true, false, List, [], length, Some, Result, Ok, Err, MatchResult}
+use Rattle.std.specs.Prelude.{◌≡◌, ◌⊎◌, ℕ, ◌+◌, ◌≤◌, Bool, true, false, List, [], length, Some, Result, Ok, Err, MatchResult}
 use Rattle.std.specs.List.{Contains}
 use Rattle.b2_host.specs.declared.children.ChildEvent.{ChildEvent}
 use Rattle.b2_host.specs.declared.children.ChildEvent.TheVariants.{Done}
@@ -53,9 +53,9 @@ pub record HasCome (plan : Plan) (jobs : ℕ) (entry here : Moment) (answer : Up
   pub none_failed : answer_of answer ≡ all_went → (i : ℕ) → Contains (as_counted short events) (Done i false) → ⊥
   pub named_failed : (i : ℕ) → Contains (failed_of (answer_of answer)) i → Contains (as_counted short events) (Done i false)
 
--- where a wait failed a child is left, for the wait was not tried again
+-- for each wait that failed a child is left, for no wait was tried again
 abbrev pub NotTriedAgain : Outside → Outside → Type 0
-NotTriedAgain before after = before.failed_waits < after.failed_waits → 0 < length after.children.running
+NotTriedAgain before after = after.failed_waits ≤ before.failed_waits + length after.children.running
 
 -- What an answer says over every host, wherever the update ended.
 pub record IsAnswered (plan : Plan) (jobs : ℕ) (entry here : Moment) (answer : UpdateAnswer) : Type 0 where

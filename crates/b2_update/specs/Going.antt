@@ -105,11 +105,12 @@ EndsAs plan i well here false = well ≡ true
 
 -- ---- where an update has stopped
 
--- as many children run as are to be waited for, and no wait failed; or one more, for which a wait failed
+-- as many children run as are to be waited for, and no wait failed; or one more, for which one wait failed
 abbrev pub AreToWaitFor : ℕ → Moment → Moment → Type 0
 AreToWaitFor count entry here =
     ((here.host.failed_waits ≡ entry.host.failed_waits) × (length here.host.children.running ≡ count))
-    ⊎ (WaitFailed entry.host here.host × (length here.host.children.running ≡ count + 1))
+    ⊎ (WaitFailed entry.host here.host × (here.host.failed_waits ≤ entry.host.failed_waits + 1)
+    × (length here.host.children.running ≡ count + 1))
 
 -- An update has stopped, and so many children are to be waited for.
 pub record Halts (plan : Plan) (jobs count : ℕ) (entry here : Moment) (stop : Stop) : Type 0 where

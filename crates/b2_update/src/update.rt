@@ -167,7 +167,7 @@ pub fn update<H: Children, S: Sink>(
     ensures counts { CausedBy (moment (H.outside host.old) (S.output out.old)) (moment (H.outside host.new) (S.output out.new)) (answer_of result) }
     // No child is left, but for one for each wait that failed. A wait fails only where one may, and then both counts of the host rise.
     ensures none_left { LeavesNone (H.outside host.old) (H.outside host.new) }
-    // A wait that failed is not tried again: the child that it was for is left.
+    // A wait that failed is not tried again: for each a child is left.
     ensures not_again { NotTriedAgain (H.outside host.old) (H.outside host.new) }
     // No count falls, what may go wrong stays, visible files stay visible, and all that stood stays among the past.
     ensures keeps { Keeps (H.outside host.old) (H.outside host.new) }
