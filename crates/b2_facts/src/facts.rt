@@ -154,7 +154,7 @@ impl Facts {
         ensures learns { Learns plan.now.steps plan.now.roots OfNone self.old self.new }
         ensures found { self.new.found ≡ self.old.found }
         ensures told { (now : Folder) → StaysTrue plan.now.steps plan.now.roots now self.old self.new }
-        ensures known { OnErr result ((n : ℕ) → path_at self.old n ≡ Some path.now → ⊥) }
+        ensures absent { OnErr result ((n : ℕ) → path_at self.old n ≡ Some path.now → ⊥) }
         ensures stays { (n : ℕ) → path_at self.old n ≡ Some path.now → self.new ≡ self.old }
         ensures err { OnErr result (self.new ≡ self.old) }
     {

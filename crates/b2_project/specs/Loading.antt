@@ -42,7 +42,7 @@ module _ (setting : Setting Kept) (words : List Text) (before after : ℕ) (echo
   abbrev pub BeginLines : Type 0
   BeginLines = (ending : Ending) → Loads setting before words ending → (more : List Text) × (lines_of ending ≡ echoes ++ more)
 
-  -- The answer is what is defined; where the host failed, the lines are a first part of those that are.
+  -- The answer is what is defined. Where the host failed, the lines begin those that the load is defined to give.
   abbrev pub IsLoaded : Result Project LoadFault → Type 0
   IsLoaded (Ok project) =
       (w : Walk) × (found : Declared) × Loads setting before words (loaded w found) × IsProject w found project

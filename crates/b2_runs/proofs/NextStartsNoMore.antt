@@ -34,7 +34,7 @@ use Rattle.b2_runs.proofs.StopLeavesNone.{noted_through_work}
 -- ---- the log at entry
 
 -- the log in a folder is one list of lines
-log_is_one : (folder : Folder) (log other : List LogLine) → IsLogIn folder log → IsLogIn folder other → log ≡ other
+pub log_is_one : (folder : Folder) (log other : List LogLine) → IsLogIn folder log → IsLogIn folder other → log ≡ other
 log_is_one folder log other is also = go (bytes_at folder log_path) is also
   where
     go : (o : Option (List ℕ)) → IsLogHeld o log → IsLogHeld o other → log ≡ other
@@ -50,7 +50,7 @@ some_log folder none = go (bytes_at folder log_path) none
     go (Some bytes) without = file_is_some_log bytes without
 
 -- what is said of the log at entry is said of its lines
-of_log : (now : Folder) (P : List LogLine → Type 0) (answer : UpdateAnswer) → WithLog now P answer → (log : List LogLine) → IsLogIn now log → P log
+pub of_log : (now : Folder) (P : List LogLine → Type 0) (answer : UpdateAnswer) → WithLog now P answer → (log : List LogLine) → IsLogIn now log → P log
 of_log now P answer w log is = go answer w
   where
     found : (other : List LogLine) → IsLogIn now other → P other → P log

@@ -66,7 +66,7 @@ IsQuietHost before after = ((after.faults ≡ before.faults) × (after.failed_wa
 
 -- How the counts of faults stand to an answer. An answer that is no fault comes only where they stay. A fault comes only where
 -- one may, its count rose, and the other's is as at entry, but for waits that failed beside a fault of the sink: which of the two
--- came first is not told.
+-- came first is not told. Where memory ran out, the sink's count stays, and the host's may have risen by waits that failed.
 abbrev pub CausedBy : Moment → Moment → UpdateAnswer → Type 0
 CausedBy before after all_went = CountsStay before after
 CausedBy before after (failed lists) = CountsStay before after

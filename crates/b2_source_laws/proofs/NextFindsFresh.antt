@@ -28,7 +28,7 @@ use Rattle.b2_top.specs.Plans.{HasPlan, options_of, update_at, update_for, Meets
 use Rattle.b2_source_laws.specs.NextPlans.{SourcesStay, AsksAgain}
 use Rattle.b2_source_laws.specs.NextCalls.{NextFindsFresh}
 use Rattle.b2_source_laws.proofs.NextPlanIsTheSame.{updates_leave_sources, next_is_of_same_plan}
-use Rattle.b2_source_laws.proofs.SourcesStay.{log_is_one}
+use Rattle.b2_runs.proofs.NextStartsNoMore.{log_is_one}
 
 -- what two told things come to together
 both_told : (P Q R : Disk → Disk → Type 0) (a b : Option Disk) → ((x y : Disk) → P x y → Q x y → R x y) → BothTold P a b → BothTold Q a b → BothTold R a b

@@ -19,8 +19,9 @@ use Rattle.b2_runs.specs.Moments.{Moment}
 use Rattle.b2_runs.specs.Sessions.{HostUpdated, IsReopened}
 use Rattle.b2_runs.specs.Soundness.{Distinguishes, UsesTrueLines}
 use Rattle.b2_runs.specs.Staleness.{Update}
-use Rattle.b2_runs.specs.UpdateAnswers.{UpdateAnswer, UpdateAnswer.all_went, UpdateAnswer.failed, UpdateAnswer.step_cycle, UpdateAnswer.too_big, UpdateAnswer.host_fault, UpdateAnswer.sink_fault, UpdateAnswer.out_of_memory, HasUpdated, WithLog}
-use Rattle.b2_runs.proofs.FileIsOneLog.{file_is_one_log, file_is_some_log}
+use Rattle.b2_runs.specs.UpdateAnswers.{UpdateAnswer, HasUpdated}
+use Rattle.b2_runs.proofs.FileIsOneLog.{file_is_some_log}
+use Rattle.b2_runs.proofs.NextStartsNoMore.{of_log}
 use Rattle.b2_source_laws.specs.NextPlans.{SourcesStay}
 use Rattle.b2_source_laws.proofs.NextPlanIsTheSame.{updates_leave_sources}
 
@@ -42,28 +43,6 @@ some_log folder none = go (bytes_at folder log_path) none
     go : (o : Option (List ℕ)) → ((log : List LogLine) → IsLogHeld o log → ⊥) → ⊥
     go None without = without [] refl
     go (Some bytes) without = file_is_some_log bytes without
-
-pub log_is_one : (folder : Folder) (log other : List LogLine) → IsLogIn folder log → IsLogIn folder other → log ≡ other
-log_is_one folder log other is also = go (bytes_at folder log_path) is also
-  where
-    go : (o : Option (List ℕ)) → IsLogHeld o log → IsLogHeld o other → log ≡ other
-    go None e f = e ∙ sym f
-    go (Some bytes) e f = file_is_one_log bytes log other e f
-
-of_log : (now : Folder) (P : List LogLine → Type 0) (answer : UpdateAnswer) → WithLog now P answer → (log : List LogLine) → IsLogIn now log → P log
-of_log now P answer w log is = go answer w
-  where
-    found : (other : List LogLine) → IsLogIn now other → P other → P log
-    found other also p = subst P (log_is_one now other log also is) p
-
-    go : (a : UpdateAnswer) → WithLog now P a → P log
-    go all_went (other, also, p) = found other also p
-    go (failed lists) (other, also, p) = found other also p
-    go (step_cycle list) (other, also, p) = found other also p
-    go (too_big path size) (other, also, p) = found other also p
-    go host_fault p = p log is
-    go sink_fault p = p log is
-    go out_of_memory p = p log is
 
 stay_then : (roots : List (List ℕ)) (a b c : Folder) → SourcesStay roots a b → SourcesStay roots b c → SourcesStay roots a c
 stay_then roots a b c one two = λ path outside. two path outside ∙ one path outside

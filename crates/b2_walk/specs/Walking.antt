@@ -47,7 +47,7 @@ pub record IsSettingFor (setting : Setting Kept) (turns : ℕ) (outside : Outsid
   pub folder : folder_of outside.disk ≡ Some setting.sight.folder
   pub right : IsSetting setting
 
--- the load is refused so, with what stands then
+-- the load is refused so, if it is, with what stands then
 abbrev pub IsRefusedBy : Option Refusal → (Course → Type 0) → State Kept → Type 0
 IsRefusedBy None comes s = Unit {0}
 IsRefusedBy (Some why) comes s = comes (refused why s)

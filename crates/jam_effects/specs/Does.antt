@@ -47,8 +47,8 @@ abbrev pub Counts : {A : Type 0} → Result A EvalFault → Outside → Outside 
 Counts (Ok a) before after = after.faults ≡ before.faults
 Counts (Err e) before after = CountsFault e before after
 
--- The fault is that of the outcome, with this state. Where the host failed, what natives keep is a first part of what they keep after
--- the outcome; nothing is said where memory ran out.
+-- The fault is that of the outcome, with this state. Where the host failed, texts to which natives only add begin those that are there
+-- after the outcome; nothing is said where memory ran out.
 abbrev pub Faults : {R B : Type 0} → Setting R → EvalFault → Outcome R B → State R → Type 0
 Faults setting fault.Host outcome s = Begins setting s outcome
 Faults setting fault.OutOfMemory outcome s = Unit {0}

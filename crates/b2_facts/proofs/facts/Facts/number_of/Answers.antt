@@ -35,8 +35,8 @@ returns-in-None-clause-found c =
     on_either c.enter.result (h.found ≡ f.found) (EntersPath c.args.plan.now.steps c.args.plan.now.roots c.args.path.now f h) (h ≡ f) c.enter.ensures.ok c.enter.ensures.err
     (λ entered. ap (λ (k : Knowledge). k.found) entered.same) (λ same. ap (λ (k : Knowledge). k.found) same)
 
-pub returns-in-None-clause-known : goal.returns-in-None-clause-known
-returns-in-None-clause-known c = on_err c.enter.result ((n : ℕ) → path_at c.args.self.now n ≡ Some c.args.path.now → ⊥)
+pub returns-in-None-clause-absent : goal.returns-in-None-clause-absent
+returns-in-None-clause-absent c = on_err c.enter.result ((n : ℕ) → path_at c.args.self.now n ≡ Some c.args.path.now → ⊥)
     (λ n e. c.in-None.ensures (among_at c.self.inside.paths n c.args.path.now (subst (λ (k : Knowledge). path_at k n ≡ Some c.args.path.now) (sym c.self.view_is) e)))
 
 pub returns-in-None-clause-stays : goal.returns-in-None-clause-stays
