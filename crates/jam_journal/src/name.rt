@@ -4,6 +4,7 @@ ghost use Rattle.jam_journal.specs.Held.{held_text};
 
 use crate::slots::{fixed_name, slot_of};
 use b2_base::fault::OutOfMemory;
+use b2_base::text::{Text, has_no_zero};
 use std::alloc::Global;
 use std::marker::Model;
 use std::rc::Rc;
@@ -13,11 +14,13 @@ use std::rc::Rc;
 enum Held {
     /// As that of a place for the names of argument lists, or as the empty text.
     Fixed(usize),
+    /// As a text with no zero byte, which takes no memory of its own where it is short.
+    Plain(Text),
     /// As one that is shared.
     Shared(Rc<String>),
 }
 
-/// A text, seen as its bytes. The names of argument lists and the empty text take no memory, other texts are shared.
+/// A text, seen as its bytes. The names of argument lists and short texts take no memory, other texts are shared.
 pub struct Name {
     held: Held,
 }
@@ -43,6 +46,9 @@ impl Model for Name {
 fn shared(alloc: Global, text: &str) -> Result<Held, OutOfMemory>
     ensures { IfOk result (λ made. held_text made ≡ text.now) }
 {
+    if has_no_zero(text) {
+        return Ok(Held::Plain(Text::new(alloc, text)?));
+    }
     let text = String::from_str(alloc, text)?;
     Ok(Held::Shared(Rc::new(alloc, text)?))
 }
@@ -66,6 +72,7 @@ impl Name {
     {
         let held = match &self.held {
             Held::Fixed(place) => Held::Fixed(*place),
+            Held::Plain(text) => Held::Plain(text.copy()?),
             Held::Shared(text) => Held::Shared(text.clone()?),
         };
         Ok(Name { held })
@@ -77,6 +84,7 @@ impl Name {
     {
         match &self.held {
             Held::Fixed(place) => fixed_name(*place),
+            Held::Plain(text) => text.as_str(),
             Held::Shared(text) => text.as_str(),
         }
     }
