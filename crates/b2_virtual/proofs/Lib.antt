@@ -9,3 +9,4 @@ pub mod LogPathIsNormal
 pub mod NearestKeysTellNesting
 pub mod FirstClashHasNoneBefore
 pub mod RepeatsAreLeftOut
+pub mod PlainPathsStayAsTheyAre

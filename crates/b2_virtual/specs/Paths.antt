@@ -1,5 +1,5 @@
 -- The paths of outputs. A slash is the byte 47, a dot the byte 46.
-use Rattle.std.specs.Prelude.{ℕ, ◌==◌, List, [], ◌∷◌, ◌++◌, ◌⊎◌, Option, Some, None, map, codes, if◌then◌else◌}
+use Rattle.std.specs.Prelude.{ℕ, ◌==◌, Bool, not, List, [], ◌∷◌, ◌++◌, ◌⊎◌, Option, Some, None, map, codes, if◌then◌else◌}
 use Rattle.std.specs.List.{Contains, list_any, before_last, join_with_byte}
 use Rattle.b2_base.specs.Segments.{normal_of, path_from, file_name, without_suffix, segments, is_rooted, is_up}
 use Rattle.b2_plan.specs.Sources.{IsInRoots}
@@ -9,6 +9,10 @@ use Rattle.b2_plan.specs.Sources.{IsInRoots}
 -- a `..` counts as `up`
 abbrev pub up_shown : List ℕ → List ℕ
 up_shown segment = if is_up segment then codes "up" else segment
+
+-- a segment that is no `..`
+abbrev pub is_down : List ℕ → Bool
+is_down segment = not (is_up segment)
 
 -- The tail of a source is its own path: each `..` becomes `up`, and `root` stands before a leading slash.
 abbrev pub source_tail : List ℕ → List ℕ

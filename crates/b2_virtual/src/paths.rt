@@ -2,22 +2,38 @@
 ghost use Rattle.std.specs.Prelude.{◌≡◌, ◌↔◌, IfOk, IfErr, IsTrue, ◌⊎◌};
 ghost use Rattle.std.specs.List.{Contains};
 ghost use Rattle.b2_base.specs.Bytes.{HasNoZero};
+ghost use Rattle.b2_base.specs.Segments.{here};
 ghost use Rattle.b2_plan.specs.Sources.{IsInRoots};
 ghost use Rattle.b2_virtual.specs.Refusals.{IsOutsideBy};
 ghost use Rattle.b2_virtual.specs.Paths.{named_tail, output_path, located, IsPlaced};
 
 use crate::fault::VirtualFault;
 use b2_base::fault::OutOfMemory;
-use b2_base::path::{Path, joined_path, path_from};
+use b2_base::path::{Path, joined_path, path_from, path_of};
+use b2_base::rooted::is_rooted;
 use b2_plan::roots::is_in_roots;
 use std::alloc::Global;
+
+/// The tail of an output that has a name in the folder. Most names are their own tails, and their segments are not cut.
+fn tail_here(alloc: Global, name: &str) -> Result<Path, OutOfMemory>
+    requires { HasNoZero name.now }
+    ensures { IfOk result (λ tail. tail ≡ named_tail here name.now) }
+{
+    if is_rooted(name) {
+        return joined_path(alloc, ".", name);
+    }
+    path_of(alloc, name)
+}
 
 /// The tail of an output that has a name in a project's directory.
 pub fn named_tail(alloc: Global, dir: &Path, name: &str) -> Result<Path, OutOfMemory>
     requires { HasNoZero name.now }
     ensures { IfOk result (λ tail. tail ≡ named_tail dir.now name.now) }
 {
-    joined_path(alloc, dir.as_str(), name)
+    match dir.as_str() {
+        "." => tail_here(alloc, name),
+        dir => joined_path(alloc, dir, name),
+    }
 }
 
 /// The path of an output in `bin`: below the elements of its properties, which are joined by slashes, its tail.
@@ -25,6 +41,9 @@ pub fn output_path(alloc: Global, elements: &str, tail: &Path) -> Result<Path, O
     requires { HasNoZero elements.now }
     ensures { IfOk result (λ path. path ≡ output_path elements.now tail.now) }
 {
+    if elements.is_empty() {
+        return joined_path(alloc, "bin", tail.as_str());
+    }
     let folder = format!(in alloc; "bin/{elements}")?;
     joined_path(alloc, folder.as_str(), tail.as_str())
 }

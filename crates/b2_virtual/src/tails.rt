@@ -1,10 +1,10 @@
 //! The tails of sources and of converted files.
 ghost use Rattle.std.specs.Prelude.{◌≡◌, ◌++◌, map, string_bytes, IfOk, IfSome};
-ghost use Rattle.std.specs.List.{join_with_byte};
+ghost use Rattle.std.specs.List.{join_with_byte, list_all};
 ghost use Rattle.std.specs.Option.{option_copied};
 ghost use Rattle.b2_base.specs.Bytes.{HasNoZero};
 ghost use Rattle.b2_base.specs.Segments.{segments, texts, without_suffix};
-ghost use Rattle.b2_virtual.specs.Paths.{up_shown, source_tail, dotted, converted_tail};
+ghost use Rattle.b2_virtual.specs.Paths.{up_shown, source_tail, dotted, converted_tail, is_down};
 
 use b2_base::fault::OutOfMemory;
 use b2_base::path::{Path, path_of};
@@ -37,8 +37,8 @@ fn with_ups_shown(alloc: Global, text: &str) -> Result<String, OutOfMemory>
     Ok(shown.join(alloc, "/")?)
 }
 
-/// The tail of a source's path: the path itself, where each `..` becomes `up`, and `root` stands before a leading slash.
-pub fn source_tail(alloc: Global, path: &Path) -> Result<Path, OutOfMemory>
+/// The tail of a path that is shown otherwise than it is.
+fn shown_tail(alloc: Global, path: &Path) -> Result<Path, OutOfMemory>
     ensures { IfOk result (λ tail. tail ≡ source_tail path.now) }
 {
     let text = path.as_str();
@@ -46,6 +46,33 @@ pub fn source_tail(alloc: Global, path: &Path) -> Result<Path, OutOfMemory>
     let rest = with_ups_shown(alloc, text)?;
     let text = format!(in alloc; "{root}{rest}")?;
     path_of(alloc, text.as_str())
+}
+
+fn is_down(segment: &str) -> bool
+    ensures { result ≡ is_down segment.now }
+{
+    segment != ".."
+}
+
+/// Whether no segment of a text is `..`; takes no memory.
+fn are_down(text: &str) -> bool
+    ensures { result ≡ list_all is_down (segments text.now) }
+{
+    text.split('/').all(|segment| is_down(segment))
+}
+
+/// The tail of a source's path: the path itself, where each `..` becomes `up`, and `root` stands before a leading slash.
+pub fn source_tail(alloc: Global, path: &Path) -> Result<Path, OutOfMemory>
+    ensures { IfOk result (λ tail. tail ≡ source_tail path.now) }
+{
+    // Most paths are their own tails, and their segments are not cut.
+    if is_rooted(path.as_str()) {
+        return shown_tail(alloc, path);
+    }
+    if are_down(path.as_str()) {
+        return path.copy();
+    }
+    shown_tail(alloc, path)
 }
 
 /// A file's name without its suffix, which begins at the last dot.

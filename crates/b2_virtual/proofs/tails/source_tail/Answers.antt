@@ -1,15 +1,13 @@
-use Rattle.std.proofs.Common.{◌∙◌, ap, sym, subst}
-use Rattle.b2_base.specs.Bytes.{HasNoZero}
-use Rattle.b2_virtual.proofs.PiecesBringNoZero.{clean_both, clean_root, clean_nothing, clean_ups}
+use Rattle.std.proofs.Common.{◌≡◌, IfOk, List, ℕ, ◌∙◌, ap, sym, subst}
+use Rattle.std.specs.List.{list_all}
+use Rattle.b2_base.specs.Segments.{is_rooted, segments}
+use Rattle.b2_virtual.specs.Paths.{is_down}
+use Rattle.b2_virtual.proofs.PlainPathsStayAsTheyAre.{own_tail}
 use Rattle.b2_virtual.proofs.tails.source_tail.Goals as goal
-use Rattle.b2_virtual.proofs.tails.source_tail.Goals.{then-is_rooted, else-is_rooted}
 
-pub path_of-requires : goal.path_of-requires
-path_of-requires c =
-    let root : HasNoZero c.if-is_rooted.root.now =
-    elim c.if-is_rooted.branch [
-      | then-is_rooted w ↦ subst HasNoZero (sym (ap (λ r. r.now) w.root-is)) clean_root
-      | else-is_rooted w ↦ subst HasNoZero (sym (ap (λ r. r.now) w.root-is)) clean_nothing
-    ] in
-    subst HasNoZero (sym (c.as_str.ensures.value ∙ c.in_ok-text.ensures.ok))
-    (clean_both c.if-is_rooted.root.now _ root (subst HasNoZero (sym c.in_ok-rest.ensures) (clean_ups c.as_str-text.result.now (subst HasNoZero (sym c.as_str-text.ensures.value) c.as_str-text.ensures.no_zero))))
+pub returns-then-are_down : goal.returns-then-are_down
+returns-then-are_down c =
+    let path : List ℕ = c.args.path.now in
+    let relative = ap is_rooted (sym c.as_str.ensures.value) ∙ sym c.is_rooted.ensures ∙ c.if-is_rooted.false in
+    let down = ap (λ t. list_all is_down (segments t)) (sym c.as_str-2.ensures.value) ∙ sym c.are_down.ensures ∙ c.if-are_down.true in
+    subst (λ (t : List ℕ). IfOk c.copy.result (λ made. made ≡ t)) (sym (own_tail path c.as_str.ensures.normal relative down)) c.copy.ensures
