@@ -6,3 +6,4 @@ pub mod GroupsGrowByOnePair
 pub mod LoopsTakeOneMore
 pub mod AskedSetsAreProper
 mod HashedTextsAreFound
+mod FilesOfTheFolderStayAsTheyAre

@@ -1,6 +1,7 @@
 //! What sources, values of dependency properties and words name.
 ghost use Rattle.std.specs.Prelude.{◌≡◌, ◌∷◌, [], IfOk};
 ghost use Rattle.b2_base.specs.Bytes.{HasNoZero};
+ghost use Rattle.b2_base.specs.Segments.{path_from};
 ghost use Rattle.b2_references.specs.declared.meaning.Meaning.TheVariants as meanings;
 ghost use Rattle.b2_references.specs.References.{project_before, target_meaning, reference_meaning, id_meaning, target_or_file, directory_meaning, plain_value_meaning, plain_word_meaning, source_meaning, value_meaning, word_meaning};
 
@@ -10,7 +11,7 @@ use crate::name::{NameList, TargetName};
 use crate::projects::project_meaning;
 use crate::written::cut_reference;
 use b2_base::fault::OutOfMemory;
-use b2_base::path::{Path, folder, path_from};
+use b2_base::path::{Path, folder, path_from, path_of};
 use b2_base::rooted::is_rooted;
 use b2_base::text::Text;
 use std::alloc::Global;
@@ -94,6 +95,16 @@ fn id_meaning(alloc: Global, index: &Index, id: &str) -> Result<Meaning, OutOfMe
     }
 }
 
+/// The path of a file of a directory. In the folder most texts are paths already, and their segments are not cut.
+fn file_in(alloc: Global, dir: &Path, text: &Text) -> Result<Path, OutOfMemory>
+    ensures { IfOk result (λ path. path ≡ path_from dir.now text.now) }
+{
+    match dir.as_str() {
+        "." => path_of(alloc, text.as_str()),
+        _ => path_from(alloc, dir, text.as_str()),
+    }
+}
+
 /// A text without `//`: a main target of a project, else a file of its directory.
 #[tactic(auto, unfolding(crate::specs::References::target_or_file))]
 fn target_or_file(
@@ -108,7 +119,7 @@ fn target_or_file(
         return one_target(alloc, project, text.copy()?);
     }
     let dir = index.dir_of(project)?;
-    let path = path_from(alloc, &dir, text.as_str())?;
+    let path = file_in(alloc, &dir, text)?;
     Ok(Meaning::File { path })
 }
 
