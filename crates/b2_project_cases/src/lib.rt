@@ -12,6 +12,7 @@
 //! - `projects` shows each project with its number, directory, file and module, and `in` its parent's number, where it has a
 //!   parent. `targets` shows each main target with its project's number, kind and name, and its line. Below each stand its
 //!   lists that are not empty: requirements as `<feature>value` after their conditions, or as `@` and the number of a rule.
+//! - `tests` shows each test with its project's number, rule, name and line, and below it its sources and requirements.
 //! - `indirect` shows the rules of indirect requirements: number, project, rule, line. `dir_of ID ..` shows the directory of
 //!   an id, `roots` the output roots.
 //! - `count` shows the number of features, `find NAME ..` features with their values and attributes, `parts_of F V` what a

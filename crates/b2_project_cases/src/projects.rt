@@ -2,7 +2,7 @@
 use crate::shown::{push_list, push_pair_list, push_requirements};
 use b2_base::path::Path;
 use b2_conversions_cases::declarations::shown::kind_word;
-use b2_metatargets::place::{IndirectRule, Place, Target};
+use b2_metatargets::place::{IndirectRule, Place, Target, TestCall};
 use jam_natives::decl::Decl;
 use std::alloc::Global;
 use transcript::answer::Answer;
@@ -88,6 +88,27 @@ pub fn targets(alloc: Global, targets: &[Target]) -> Result<Answer, CaseFault> {
     let mut answer = Answer::new(alloc);
     for target in targets {
         push_target(&mut answer, target);
+    }
+    Ok(answer)
+}
+
+/// Adds a test: the number of its project, its rule, name and line, and what its call says.
+fn push_test(answer: &mut Answer, test: &TestCall) {
+    answer.put_number(test.project as u64);
+    answer.put(" ");
+    answer.put(test.rule.as_str());
+    answer.put_word(test.name.as_str());
+    put_source_line(answer, test.line);
+    answer.end_line();
+    push_list(answer, "sources", test.sources.as_slice());
+    push_requirements(answer, "requirements", test.requirements.as_slice());
+}
+
+/// The tests in order of recording.
+pub fn tests(alloc: Global, tests: &[TestCall]) -> Result<Answer, CaseFault> {
+    let mut answer = Answer::new(alloc);
+    for test in tests {
+        push_test(&mut answer, test);
     }
     Ok(answer)
 }

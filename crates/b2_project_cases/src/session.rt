@@ -1,7 +1,7 @@
 //! The commands by their names.
 use crate::host::{edit, fail_calls};
 use crate::load::{Kept, load};
-use crate::projects::{decls, indirect, projects, targets};
+use crate::projects::{decls, indirect, projects, targets, tests};
 use crate::tables::{dirs, features, look_up, parts_of};
 use b2_base::fault::OutOfMemory;
 use b2_memory::memory::MemoryHost;
@@ -52,6 +52,7 @@ fn shown_of_declared(
     match command {
         "projects" => projects(alloc, declared.places.as_slice()),
         "targets" => targets(alloc, declared.targets.as_slice()),
+        "tests" => tests(alloc, declared.tests.as_slice()),
         "indirect" => indirect(alloc, declared.indirect.as_slice()),
         "dir_of" => dirs(alloc, &declared.ids, words),
         _ => shown_of_tables(alloc, declared, command, words),

@@ -8,9 +8,9 @@
 //! - `enter MODULE`, `enter_call MODULE` and `leave` open and close frames; `leave` answers `no frame` where none was opened
 //!   since the newest mark. `module` and `caller` show the present module, and the one that the innermost call keeps.
 //! - `mark` and `roll_back` mark the world and go back to the newest mark; `marked` tells whether there is one.
-//! - `define_rule NAME LINE` defines a rule without statements that stands in that line, and `define_actions NAME BODY`
+//! - `define_rule NAME LINE` defines a rule without statements that stands in that line, and `define_actions NAME BODY MODIFIERS`
 //!   actions. `find_rule NAME` and `find_actions NAME` show the module and the name where they are found, with the rule's home
-//!   and line, or the body. `import_rule MODULE NAME MODULE NAME` puts a rule into a module under a name.
+//!   and line, or the modifiers and the body. `import_rule MODULE NAME MODULE NAME` puts a rule into a module under a name.
 //!   `rule_at MODULE NAME LINE` takes a share of a rule, defines the name again in the present module, and shows the share.
 //!   `rule_body MODULE NAME` shows a rule's home and line, and `rule_names MODULE` a module's own rules.
 //!   `set_parent MODULE PARENT` puts a module above another one, or answers `not above` where it may not be there.

@@ -46,6 +46,13 @@ fn find_rule(alloc: Global, world: &World, words: &[Word]) -> Result<Answer, Cas
     Ok(answer)
 }
 
+/// Puts a modifier of actions, if it stands.
+fn put_modifier(answer: &mut Answer, stands: bool, modifier: &str) {
+    if stands {
+        answer.put(modifier);
+    }
+}
+
 fn find_actions(alloc: Global, world: &World, words: &[Word]) -> Result<Answer, CaseFault> {
     let Some(at) = world.find_actions(only(words)?) else {
         return Answer::line(alloc, "none");
@@ -56,6 +63,9 @@ fn find_actions(alloc: Global, world: &World, words: &[Word]) -> Result<Answer, 
     let mut answer = Answer::new(alloc);
     put_place(&mut answer, &at);
     answer.put(": ");
+    put_modifier(&mut answer, actions.together(), "together ");
+    put_modifier(&mut answer, actions.existing(), "existing ");
+    put_modifier(&mut answer, actions.quietly(), "quietly ");
     answer.push_line(actions.text().as_str());
     Ok(answer)
 }

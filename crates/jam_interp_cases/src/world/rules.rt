@@ -33,12 +33,25 @@ fn define_rule(alloc: Global, world: &mut World, words: &[Word]) -> Result<Answe
     Answer::done(alloc, define(alloc, world, name, line))
 }
 
+/// Whether a word stands among these.
+fn has_word(words: &[Word], word: &str) -> bool {
+    for other in words {
+        if other.bytes() == word.as_bytes() {
+            return true;
+        }
+    }
+    false
+}
+
 fn define_actions(alloc: Global, world: &mut World, words: &[Word]) -> Result<Answer, CaseFault> {
-    let [name, body] = words else {
+    let [name, body, modifiers @ ..] = words else {
         return Err(CaseFault::WrongWords);
     };
     let name = name.as_str()?;
-    let body = ActionBody::new(body.as_text(alloc)?, false, false, false);
+    let together = has_word(modifiers, "together");
+    let existing = has_word(modifiers, "existing");
+    let quietly = has_word(modifiers, "quietly");
+    let body = ActionBody::new(body.as_text(alloc)?, together, existing, quietly);
     Answer::done(alloc, world.define_actions(name, body))
 }
 
