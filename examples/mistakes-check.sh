@@ -68,6 +68,7 @@ refuses 'Jamroot:1: open quote' 'ECHO "draw ;'
 refuses 'Jamroot:1: open actions' 'actions join { cat'
 refuses 'Jamroot:1: syntax error at }' 'if a { ECHO b ; } }'
 refuses 'Jamroot:1: syntax error at end of file' 'ECHO hello;'
+refuses 'Jamroot:1: syntax error at join' 'actions piecemeal join { cat }'
 refuses 'Jamroot:1: unknown rule glob-tree' 'ECHO [ glob-tree *.cpp ] ;'
 refuses 'Jamroot:2: unknown rule os.name' 'import os ;
 ECHO [ os.name ] ;'
@@ -88,6 +89,8 @@ refuses 'Jamroot:1: no rule f in module m' 'IMPORT m : f : n : g ;'
 refuses 'Jamroot:1: ALWAYS on a foreign target draw' 'ALWAYS draw ;'
 refuses 'Jamroot:1: bad using' 'using gcc : 12 ;'
 refuses 'Jamroot:1: bad exe' 'exe draw main.cpp ;'
+refuses 'Jamroot:1: bad run' 'run draw.cpp : circle ;'
+refuses 'Jamroot:1: bad compile-fail' 'compile-fail draw.c ;'
 refuses 'Jamroot:2: f is there twice' 'feature.feature f : a ;
 feature.feature f : b ;'
 refuses 'Jamroot:2: unknown cxxstd' 'using gcc ;
