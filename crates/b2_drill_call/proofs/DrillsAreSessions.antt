@@ -1,5 +1,5 @@
 -- What a session over the events of a drill is to the drill.
-use Rattle.std.proofs.Common.{◌≡◌, ℕ, zero, suc, ◌+◌, Bool, true, false, List, [], ◌∷◌, ◌++◌, take, length, Result, Ok, Err, refl, sym, ap, ap₂, subst, ◌∙◌, arith}
+use Rattle.std.proofs.Common.{◌≡◌, ℕ, zero, suc, ◌<◌, ◌≤◌, ◌+◌, Bool, true, false, List, [], ◌∷◌, ◌++◌, take, length, refl, sym, ap, subst, ◌∙◌, arith}
 use Rattle.std.proofs.Math.Seq.{take-length}
 use Rattle.std.proofs.lemmas.Bool.{true≢false, and_parts}
 use Rattle.std.proofs.lemmas.List.Sums.{sum_by-append}
@@ -23,7 +23,8 @@ use Rattle.b2_sessions.proofs.RunsAreSessions.{is_session}
 use Rattle.b2_top.specs.declared.answer.Answer.{Answer}
 use Rattle.b2_top.specs.declared.answer.Answer.TheVariants as answers
 use Rattle.b2_drill_call.specs.Drilled.{begun, RunsOver, HasAnswered, IsDrilled, is_well, GoesWell}
-use Rattle.b2_drill_call.proofs.DrillsHaveNoFaults.{goes_well}
+use Rattle.b2_drill_call.proofs.DrillsGoWell.{IsDrillOf, goes_well}
+use Rattle.b2_drill_laws.specs.Laws.{DrillsGoWell}
 
 -- ---- seven updates
 
@@ -65,35 +66,45 @@ has_answered n list before after given first last same new session one_each = re
   seven = one_each ∙ ap (count_by gives_answer) same ∙ seven_answers n;
 }
 
-pub answered_well : (n : ℕ) (before after : Outside) (given : List Answer) → HasAnswered n before given after → before.faults ≡ 0 → after.risks.may_fail ≡ false → GoesWell n before after
-answered_well n before after given answered none_failed may =
-    goes_well n (length (drill_events n)) before after given (subst (λ l. RunsOver l before given after) (sym (take-length (drill_events n))) answered.session) none_failed may
+pub answered_well : DrillsGoWell → (n : ℕ) (before after : Outside) (given : List Answer) → HasAnswered n before given after → IsDrillOf n before after → GoesWell n before after
+answered_well law n before after given answered drill =
+    goes_well law n (length (drill_events n)) before after given (subst (λ l. RunsOver l before given after) (sym (take-length (drill_events n))) answered.session) drill
 
 -- ---- a session that stopped
 
 -- so many events of a session over the drill
-some_went_well : (n count : ℕ) (list : List Event) (before after : MemoryHost) (given : List Answer) (first last : Output) → list ≡ drill_events n → first ≡ new_output
-    → HasRun list count (scene_of before first) given (scene_of after last) → (told_outside before).faults ≡ 0 → (told_outside after).risks.may_fail ≡ false → GoesWell n (told_outside before) (told_outside after)
-some_went_well n count list before after given first last same new ran none_failed may =
-    goes_well n count (told_outside before) (told_outside after) given
+some_went_well : DrillsGoWell → (n count : ℕ) (list : List Event) (before after : MemoryHost) (given : List Answer) (first last : Output) → list ≡ drill_events n → first ≡ new_output
+    → HasRun list count (scene_of before first) given (scene_of after last) → IsDrillOf n (told_outside before) (told_outside after) → GoesWell n (told_outside before) (told_outside after)
+some_went_well law n count list before after given first last same new ran drill =
+    goes_well law n count (told_outside before) (told_outside after) given
     (respelled (take count list) (take count (drill_events n)) (told_outside before) (told_outside after) given first last (ap (take count) same) new
     (is_session (take count list) before first given (scene_of after last) ran.no_log_edit ran.ran))
-    none_failed may
+    drill
 
-pub stopped_well : (n : ℕ) (list : List Event) (before after : MemoryHost) (first last : Output) (fault : SessionFault) → list ≡ drill_events n → first ≡ new_output
-    → StopsBy list (scene_of before first) (scene_of after last) fault → (told_outside before).faults ≡ 0 → (told_outside after).risks.may_fail ≡ false → GoesWell n (told_outside before) (told_outside after)
-stopped_well n list before after first last (faults.LogEdit index) same new stops none_failed may = some_went_well n index list before after stops.answers first last same new stops.ran none_failed may
-stopped_well n list before after first last faults.OutOfMemory same new stops none_failed may = some_went_well n stops.count list before after stops.answers first last same new stops.ran none_failed may
+pub stopped_well : DrillsGoWell → (n : ℕ) (list : List Event) (before after : MemoryHost) (first last : Output) (fault : SessionFault) → list ≡ drill_events n → first ≡ new_output
+    → StopsBy list (scene_of before first) (scene_of after last) fault → IsDrillOf n (told_outside before) (told_outside after) → GoesWell n (told_outside before) (told_outside after)
+stopped_well law n list before after first last (faults.LogEdit index) same new stops drill = some_went_well law n index list before after stops.answers first last same new stops.ran drill
+stopped_well law n list before after first last faults.OutOfMemory same new stops drill = some_went_well law n stops.count list before after stops.answers first last same new stops.ran drill
 
 -- ---- what may go wrong
 
--- no call of the host may fail, where nothing was listed at the beginning
-pub none_may_fail : (before after : Memory) → before ≡ new_memory → AreAmong after.outside.risks (risks_of before.listed) → after.outside.risks.may_fail ≡ false
-none_may_fail before after new among = go after.outside.risks.may_fail refl
+-- no call of the host may fail, and no child may end badly, where nothing was listed at the beginning
+pub is_drill : (n : ℕ) (before after : Memory) → 0 < n → n ≤ 2000 → before ≡ new_memory → AreAmong after.outside.risks (risks_of before.listed) → IsDrillOf n before.outside after.outside
+is_drill n before after some few new among = record {
+  some = some;
+  few = few;
+  new = ap (λ (m : Memory). m.outside) new;
+  may_fail = fails after.outside.risks.may_fail refl;
+  may_end_badly = ends after.outside.risks.may_end_badly refl;
+}
   where
-    go : (b : Bool) → after.outside.risks.may_fail ≡ b → b ≡ false
-    go true is = absurd (true≢false (sym (among.fail is) ∙ ap (λ (m : Memory). (risks_of m.listed).may_fail) new))
-    go false is = refl
+    fails : (b : Bool) → after.outside.risks.may_fail ≡ b → b ≡ false
+    fails true is = absurd (true≢false (sym (among.fail is) ∙ ap (λ (m : Memory). (risks_of m.listed).may_fail) new))
+    fails false is = refl
+
+    ends : (b : Bool) → after.outside.risks.may_end_badly ≡ b → b ≡ false
+    ends true is = absurd (true≢false (sym (among.badly is) ∙ ap (λ (m : Memory). (risks_of m.listed).may_end_badly) new))
+    ends false is = refl
 
 -- ---- answers with the status 0
 

@@ -1,4 +1,4 @@
--- Words that ask for a drill ask for one target or more.
+-- Words that ask for a drill ask for one target or more, and for at most 2,000.
 use Rattle.std.proofs.Common.{◌≡◌, ℕ, zero, suc, ◌≤◌, ◌<◌, Bool, true, false, cond, List, [], ◌∷◌, codes, Option, Some, None, option_map, subst, arith}
 use Rattle.std.specs.Prelude.{⊤, filter, option_and_then}
 use Rattle.std.specs.List.{filter_map}
@@ -12,23 +12,27 @@ use Rattle.b2_words.specs.declared.words.Command.TheVariants as commands
 use Rattle.b2_words.specs.declared.words.Words.{Words}
 use Rattle.b2_drill_call.specs.Asked.{steps_in, drill_in, drill_of}
 
--- a drill has some target
+-- a drill has some target, and no more than there may be
+abbrev IsOfDrill : ℕ → ℕ → Type 0
+IsOfDrill most k = (0 < k) × (k ≤ most)
+
 abbrev HasTarget : Command → Type 0
 HasTarget (commands.Build options) = ⊤
 HasTarget (commands.Look view) = ⊤
-HasTarget (commands.Drill steps) = 0 < steps
+HasTarget (commands.Drill steps) = IsOfDrill most_steps steps
 
 abbrev Has : Option Words → Type 0
 Has found = IfSome found (λ (read : Words). HasTarget read.command)
 
-by_greatest : (n : ℕ) (is : Bool) (found : Option ℕ) → IfSome found (λ k. 0 < k) → IfSome (cond is (Some (suc n)) found) (λ k. 0 < k)
-by_greatest n true found h = omega arith
-by_greatest n false found h = h
+by_greatest : (n : ℕ) (is : Bool) (found : Option ℕ) → IfSome found (IsOfDrill n) → IfSome (cond is (Some (suc n)) found) (IsOfDrill (suc n))
+by_greatest n true found h = (omega arith, omega arith)
+by_greatest n false None h = tt
+by_greatest n false (Some k) h = let most : k ≤ n = h.1 in (h.0, omega (arith, most))
 
-number_from_one : (most : ℕ) (word : Word) → IfSome (number most word) (λ k. 0 < k)
+number_in : (most : ℕ) (word : Word) → IfSome (number most word) (IsOfDrill most)
 unfolding number
-number_from_one zero word = tt
-number_from_one (suc n) word = by_greatest n (bytes_eq (decimal (suc n)) word) (number n word) (number_from_one n word)
+number_in zero word = tt
+number_in (suc n) word = by_greatest n (bytes_eq (decimal (suc n)) word) (number n word) (number_in n word)
 
 command_has : (options : Option BuildOptions) (steps table : Bool) → IfSome (option_and_then (λ o. command_meant o steps table) options) HasTarget
 command_has None steps table = tt
@@ -55,7 +59,7 @@ meaning_has (Some all_items) =
     meant_has (filter_map jobs_in all_items) (filter_map by_in all_items) (filter is_all all_items) (filter is_quit all_items)
     (filter is_steps all_items) (filter is_table all_items) (filter_map word_in all_items)
 
-drill_has : (steps : Option ℕ) → IfSome steps (λ k. 0 < k) → Has (option_map (λ n. with_words [] (commands.Drill n)) steps)
+drill_has : (steps : Option ℕ) → IfSome steps (IsOfDrill most_steps) → Has (option_map (λ n. with_words [] (commands.Drill n)) steps)
 drill_has None h = tt
 drill_has (Some n) h = h
 
@@ -64,21 +68,27 @@ reading_has [] = meaning_has (items by_shape [])
 reading_has (word ∷ rest) = by_lead (after_lead (codes "--drill=") word)
   where
     by_rest : (count : Word) (after : List Word) → Has (drill_reading count after)
-    by_rest count [] = drill_has (number most_steps count) (number_from_one most_steps count)
+    by_rest count [] = drill_has (number most_steps count) (number_in most_steps count)
     by_rest count (other ∷ after) = tt
 
     by_lead : (count : Option Word) → Has (reading_by count word rest)
     by_lead None = meaning_has (items by_shape (word ∷ rest))
     by_lead (Some count) = by_rest count rest
 
-pub some_target : (words : List Word) (n : ℕ) → drill_of words ≡ Some n → 0 < n
-some_target words n asked = by_reading (reading words) (reading_has words) asked
+targets_in : (words : List Word) (n : ℕ) → drill_of words ≡ Some n → IsOfDrill most_steps n
+targets_in words n asked = by_reading (reading words) (reading_has words) asked
   where
-    by_command : (read : Command) → HasTarget read → steps_in read ≡ Some n → 0 < n
+    by_command : (read : Command) → HasTarget read → steps_in read ≡ Some n → IsOfDrill most_steps n
     by_command (commands.Build options) h is = absurd cc
     by_command (commands.Look view) h is = absurd cc
-    by_command (commands.Drill steps) h is = let same : steps ≡ n = cc in subst (λ k. 0 < k) same h
+    by_command (commands.Drill steps) h is = let same : steps ≡ n = cc in subst (IsOfDrill most_steps) same h
 
-    by_reading : (found : Option Words) → Has found → drill_in found ≡ Some n → 0 < n
+    by_reading : (found : Option Words) → Has found → drill_in found ≡ Some n → IsOfDrill most_steps n
     by_reading None h is = absurd cc
     by_reading (Some read) h is = by_command read.command h is
+
+pub some_target : (words : List Word) (n : ℕ) → drill_of words ≡ Some n → 0 < n
+some_target words n asked = (targets_in words n asked).0
+
+pub few_targets : (words : List Word) (n : ℕ) → drill_of words ≡ Some n → n ≤ 2000
+few_targets words n asked = (targets_in words n asked).1

@@ -1,4 +1,4 @@
 pub mod DrillsHaveTargets
-pub mod DrillsHaveNoFaults
+pub mod DrillsGoWell
 pub mod DrillsAreSessions
 pub mod SummariesTellDrills

@@ -1,12 +1,12 @@
 -- What is written at the end of a drill, and what its answer says.
-use Rattle.std.proofs.Common.{◌≡◌, ℕ, ◌≤◌, true, false, List, ap, sym, subst, ◌∙◌, refl, inl, inr, Option, Some, None, Result, Ok, Err, arith}
+use Rattle.std.proofs.Common.{◌≡◌, ℕ, List, ap, sym, subst, ◌∙◌, refl, inl, inr, Option, Some, None, Result, Ok, Err, arith}
 use Rattle.std.specs.Option.{IfSome}
 use Rattle.std.proofs.lemmas.Bool.{true≢false}
 use Rattle.std.specs.List.{count_by}
 use Rattle.b2_host.specs.declared.fault.IoFault.{IoFault}
 use Rattle.b2_host.specs.declared.fault.IoFault.TheVariants as faults
 use Rattle.b2_host.specs.Outside.{Outside}
-use Rattle.b2_host.specs.Output.{Output, with_written}
+use Rattle.b2_host.specs.Output.{Output}
 use Rattle.b2_host.specs.OutputLaws.{OutKeeps}
 use Rattle.b2_memory.specs.Memories.{new_memory}
 use Rattle.b2_refusals.specs.Lines.{usage_line}
@@ -20,7 +20,7 @@ use Rattle.b2_top.specs.declared.answer.Answer.TheVariants as answers
 use Rattle.b2_words.specs.Words.{Word}
 use Rattle.b2_drill_call.specs.Asked.{drill_of}
 use Rattle.b2_drill_call.specs.Drilled.{IsDrilled, HasDrilled, AnswersDrill, GoesWell, summary_line}
-use Rattle.b2_drill_call.proofs.DrillsHaveNoFaults.{goes_nowhere}
+use Rattle.b2_drill_call.proofs.DrillsGoWell.{goes_nowhere}
 
 -- what a line that was said keeps of the sink
 pub says_keeps : (answer : Answer) (bytes : List ℕ) (before after : Output) (result : Answer) → Says answer bytes before after result → OutKeeps before after

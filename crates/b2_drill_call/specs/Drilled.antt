@@ -1,9 +1,10 @@
 -- What a drill comes to.
-use Rattle.std.specs.Prelude.{◌≡◌, ℕ, ◌==◌, Bool, List, ◌++◌, take, length, Some, None, ⊤, codes}
+use Rattle.std.specs.Prelude.{◌≡◌, ℕ, ◌==◌, Bool, List, ◌++◌, take, length, Some, None, codes}
 use Rattle.std.specs.List.{AllByRecursion, count_by}
 use Rattle.std.specs.Fmt.{decimal}
 use Rattle.b2_drill.specs.declared.event.Event.{Event}
 use Rattle.b2_drill.specs.Drills.{line, drill_events}
+use Rattle.b2_drill_laws.specs.Laws.{IsOkOrMemory}
 use Rattle.b2_host.specs.Outside.{Outside}
 use Rattle.b2_host.specs.Output.{Output, with_written}
 use Rattle.b2_memory.specs.Sinks.{new_output}
@@ -43,22 +44,12 @@ pub record IsDrilled (n : ℕ) (before after : Outside) : Type 0 where
 abbrev pub is_well : Answer → Bool
 is_well answer = status_of answer == 0
 
--- the answer is neither Usage nor a fault of the host or of the sink
-abbrev pub IsNoFault : Answer → Type 0
-IsNoFault answers.Ok = ⊤
-IsNoFault (answers.Failed lists) = ⊤
-IsNoFault (answers.Refused fault) = ⊤
-IsNoFault answers.Usage = ⊥
-IsNoFault answers.HostFault = ⊥
-IsNoFault answers.OutOfMemory = ⊤
-IsNoFault answers.SinkFault = ⊥
-
--- Some first events of the drill were a session, in which no update answered Usage or with a fault.
+-- Some first events of the drill were a session, in which each update answered Ok or out of memory.
 pub record GoesWell (n : ℕ) (before after : Outside) : Type 0 where
   pub count : ℕ
   pub given : List Answer
   pub session : RunsOver (take count (drill_events n)) before given after
-  pub no_faults : AllByRecursion IsNoFault given
+  pub ok_or_memory : AllByRecursion IsOkOrMemory given
 
 -- ---- the answer
 

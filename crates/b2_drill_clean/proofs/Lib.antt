@@ -1,0 +1,3 @@
+pub mod NoneIsScanned
+pub mod StepsByNumber
+pub mod EachOutputHasAValue

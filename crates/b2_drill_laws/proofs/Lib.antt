@@ -1,0 +1,3 @@
+pub mod UpdatesGoWell
+pub mod DrillsAreCourses
+pub mod SessionsGoWell

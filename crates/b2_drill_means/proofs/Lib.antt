@@ -1,0 +1,2 @@
+pub mod FilesComeToThePlan
+pub mod NoPatternStands

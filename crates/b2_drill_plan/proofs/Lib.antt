@@ -1,0 +1,4 @@
+pub mod StepsJoinInTurn
+pub mod NamesAreFound
+pub mod TargetsAreGenerated
+pub mod RequestIsPlanned

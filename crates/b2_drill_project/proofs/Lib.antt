@@ -1,0 +1,3 @@
+pub mod NamesAreGood
+pub mod CallsDeclareTargets
+pub mod WalkFindsOneProject

@@ -1,0 +1,4 @@
+pub mod NamesNeedNoQuotes
+pub mod FileIsItsSpelling
+pub mod TokensSpellTheTree
+pub mod FileIsSmall
