@@ -1,9 +1,10 @@
--- Why a choice refuses a main target, whether one of a name is open, and the loop that lists the cycle back to it.
+-- Why a choice refuses a main target, and the loop that lists the cycle back to it.
 use Rattle.std.proofs.Common.{◌≡◌, ◌<◌, ◌≤◌, ◌==◌, ◌+◌, ℕ, Bool, true, false, true≢false, ◌||◌, length, take, get_or, List, [], ◌∷◌, ◌++◌, map, reverse, Err, refl, sym, ap, ap₂, subst, ◌∙◌, if◌then◌else◌}
 use Rattle.std.specs.Prelude.{not}
 use Rattle.std.specs.List.{list_any}
 use Rattle.std.proofs.lemmas.Grind.{reverse_onto}
 use Rattle.std.proofs.lemmas.List.{map-append, reverse-reverse, take_all}
+use Rattle.std.proofs.Math.Bool.{or-false}
 use Rattle.std.proofs.Math.Dec.{eqb-suc-zero}
 use Rattle.std.proofs.lemmas.List.Folds.{list_any-append}
 use Rattle.b2_props.specs.Sets.{Pair}
@@ -51,31 +52,11 @@ names_listed (f ∷ below) =
 pub names_below : (fs : List Frame) → names_of (reverse fs) ≡ map (λ f. f.name) fs
 names_below fs = names_listed (reverse fs) ∙ ap (map (λ (k : Frame). k.name)) (reverse-reverse fs)
 
-any_named : (fs : List Frame) (name : Name) → list_any (λ (f : Frame). is_same name f.name) fs ≡ list_any (is_same name) (map (λ f. f.name) fs)
-any_named [] name = refl
-any_named (f ∷ more) name = ap (λ (b : Bool). is_same name f.name || b) (any_named more name)
-
-or_false : (b : Bool) → (b || false) ≡ b
-or_false true = refl
-or_false false = refl
-
--- whether one of the open targets has a name
-pub is_open : (newest : Frame) (fs : List Frame) (name : Name) → (list_any (λ (f : Frame). is_same name f.name) fs || is_same name newest.name) ≡ is_among (names_of (newest ∷ reverse fs)) name
-is_open newest fs name =
-    ap₂ ◌||◌ (any_named fs name) (sym (or_false (is_same name newest.name)))
-    ∙ sym (ap (λ (names : List Name). is_among (names ++ newest.name ∷ []) name) (names_below fs) ∙ list_any-append (is_same name) (map (λ f. f.name) fs) (newest.name ∷ []))
-
-pub open_below : (newest : Frame) (fs : List Frame) (name : Name) → list_any (λ (f : Frame). is_same name f.name) fs ≡ true → true ≡ is_among (names_of (newest ∷ reverse fs)) name
-open_below newest fs name e = ap (λ (b : Bool). b || is_same name newest.name) (sym e) ∙ is_open newest fs name
-
-pub open_newest : (newest : Frame) (fs : List Frame) (name : Name) → list_any (λ (f : Frame). is_same name f.name) fs ≡ false → is_same name newest.name ≡ is_among (names_of (newest ∷ reverse fs)) name
-open_newest newest fs name e = ap (λ (b : Bool). b || is_same name newest.name) (sym e) ∙ is_open newest fs name
-
 -- ---- a cycle
 
 -- the targets from one of a name on, and the last one
 pub from_last : (name : Name) (names : List Name) (last : Name) → is_among (names ++ last ∷ []) name ≡ true → from_first name (names ++ last ∷ []) ≡ from_first name names ++ last ∷ []
-from_last name [] last e = ap (λ (b : Bool). if b then last ∷ [] else []) (sym (or_false (is_same name last)) ∙ e)
+from_last name [] last e = ap (λ (b : Bool). if b then last ∷ [] else []) (sym (or-false (is_same name last)) ∙ e)
 from_last name (first ∷ more) last e = cases (is_same name first) (from_last name more last) e
   where
     cases : (b : Bool) → (is_among (more ++ last ∷ []) name ≡ true → from_first name (more ++ last ∷ []) ≡ from_first name more ++ last ∷ []) → (b || is_among (more ++ last ∷ []) name) ≡ true

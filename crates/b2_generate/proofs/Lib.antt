@@ -16,6 +16,7 @@ pub mod SameNamesAreEqual
 mod NewNodeIsDatedRightly
 mod EarlyExitGivesTheFault
 mod CycleListsOpenTargets
+mod OpenTargetsAreFound
 pub mod OpeningLeadsOn
 mod OpenTargetsAreKeptRightly
 mod MakingAgainGivesTheSame

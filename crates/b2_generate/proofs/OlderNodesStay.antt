@@ -66,7 +66,8 @@ pub entry_is : (nodes : List Node) (place : ℕ) (n : Node) → node_in nodes pl
 entry_is [] place n e = cc
 entry_is (m ∷ older) place n e = entry_step m older place n (entry_is older place n) (place == length older) refl e
 
-slice_last : (xs : List Node) (n : Node) (place : ℕ) → slice_get (xs ++ n ∷ []) place ≡ (if place == length xs then Some n else slice_get xs place)
+-- one more element at the end
+pub slice_last : {X : Type 0} (xs : List X) (n : X) (place : ℕ) → slice_get (xs ++ n ∷ []) place ≡ (if place == length xs then Some n else slice_get xs place)
 slice_last [] n zero = refl
 slice_last [] n (suc place) = sym (ap (λ (b : Bool). if b then Some n else None) (eqb-suc-zero place))
 slice_last (x ∷ xs) n zero = sym (ap (λ (b : Bool). if b then Some n else Some x) (eqb-zero-suc (length xs)))

@@ -23,3 +23,4 @@ pub mod Pieces
 pub mod Wholes
 pub mod Places
 pub mod Clear
+pub mod Waiting

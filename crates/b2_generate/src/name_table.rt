@@ -1,5 +1,5 @@
 //! A map from main targets.
-ghost use Rattle.std.specs.Prelude.{◌≡◌, OnOk};
+ghost use Rattle.std.specs.Prelude.{◌≡◌, OnErr, OnOk};
 ghost use Rattle.std.specs.Option.{option_copied};
 ghost use Rattle.std.specs.FinMap as map;
 
@@ -52,9 +52,10 @@ impl<V: Drop> NameTable<V> {
         self.values.get(name)
     }
 
-    /// Gives a main target a value.
+    /// Gives a main target a value. Where memory runs out, the map is as before.
     pub(crate) fn insert(&mut self, name: &TargetName, value: V) -> Result<(), OutOfMemory>
-        ensures { OnOk result (self.new ≡ map.insert self.old name.now value) }
+        ensures given { OnOk result (self.new ≡ map.insert self.old name.now value) }
+        ensures same { OnErr result (self.new ≡ self.old) }
     {
         let _before = self.values.insert(name.copy()?, value)?;
         Ok(())

@@ -77,7 +77,8 @@ fn conflict_fault<F: Drop>(
 
 /// Notes a node that was generated for an open target, under its name too.
 fn note(frame: &mut Frame<'_>, name: &TargetName, place: usize) -> Result<(), OutOfMemory>
-    ensures { OnOk result (Notes name.now place frame.old frame.new) }
+    ensures notes { OnOk result (Notes name.now place frame.old frame.new) }
+    ensures name { frame.new.name ≡ frame.old.name }
 {
     let _first = note_first(&mut frame.places, name, place)?;
     frame.done.push(place)
@@ -95,6 +96,7 @@ pub(crate) fn take<F: Drop>(
     requires kept { IsKept (reverse nodes.now) index.now frame.old }
     ensures taken { OnOk result (IsTaken index.now (reverse nodes.now) place frame.old frame.new) }
     ensures clash { IfErr result (IsConflict index.now frame.old.name (conflict index.now (standing_of (reverse nodes.now) frame.old) (entry_in (reverse nodes.now) place).1)) }
+    ensures name { frame.new.name ≡ frame.old.name }
 {
     let node = &nodes[place];
     match frame.needs.add(index, &node.name, &node.usage)? {

@@ -15,4 +15,4 @@ returns-in_ok-insert-in-None-clause-first c = sym (ap (λ o. unwrap_or o c.args.
 
 pub returns-in_ok-insert-in-None-clause-firsts : goal.returns-in_ok-insert-in-None-clause-firsts
 returns-in_ok-insert-in-None-clause-firsts c = λ other.
-    ap (λ m. finite.get m other) c.in_ok-insert-in-None.ensures ∙ noted_now c.args.firsts.now c.args.name.now c.args.place (sym c.get.ensures ∙ sym c.copied.ensures ∙ c.in-None.is) other
+    ap (λ m. finite.get m other) c.in_ok-insert-in-None.ensures.given ∙ noted_now c.args.firsts.now c.args.name.now c.args.place (sym c.get.ensures ∙ sym c.copied.ensures ∙ c.in-None.is) other

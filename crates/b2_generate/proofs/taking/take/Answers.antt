@@ -45,4 +45,4 @@ returns-in_ok-note-in-None-clause-taken g c =
     takes_node c.args.index.now c.args.nodes.now c.args.place c.args.frame.now c.note.new.frame n c.add.new.self c.requires.kept c.requires.there c.index-nodes-place.is
     (added c.args.index.now c.args.frame.now (reverse c.args.nodes.now) n.name n.usage c.add.new.self c.add.result c.in_ok-found.field-0 _
     (c.add.ensures c.args.frame.now.chosen.target.now (under (standing_of (reverse c.args.nodes.now) c.args.frame.now)) c.requires.kept.stand) c.in_ok-found.was c.in-None.is)
-    c.in_ok-note-in-None.ensures
+    c.in_ok-note-in-None.ensures.notes

@@ -1,8 +1,9 @@
-use Rattle.std.proofs.Common.{arith, ◌<◌, ℕ, List, [], Ok, Err, IfOk, map, length, reverse, refl, sym, subst}
+use Rattle.std.proofs.Common.{arith, ◌<◌, ℕ, List, [], Ok, Err, IfOk, map, length, reverse, refl, sym, ap, subst, ◌∙◌}
 use Rattle.std.proofs.lemmas.List.{length-reverse}
+use Rattle.b2_references.specs.Names.{is_among}
 use Rattle.b2_alternatives.specs.Picking.{seen}
 use Rattle.b2_generate.specs.Generation.{Generates, Finishes}
-use Rattle.b2_generate.specs.Machine.{frame_of, standing_of, IsKept}
+use Rattle.b2_generate.specs.Machine.{frame_of, names_of, standing_of, IsKept}
 use Rattle.b2_generate.specs.Making.{given_of}
 use Rattle.b2_generate.specs.Nodes.{entry_in}
 use Rattle.b2_generate.specs.Opening.{IsConflict}
@@ -11,6 +12,7 @@ use Rattle.b2_generate.specs.Taking.{IsTaken}
 use Rattle.b2_generate.specs.Turning.{IsCompleted}
 use Rattle.b2_generate.specs.declared.node.Node.{Node}
 use Rattle.b2_generate.specs.Told.{loaded_of, IsRefusal}
+use Rattle.b2_generate.proofs.OpenTargetsAreFound.{rest_found, none_twice, popped_found, popped_closed}
 use Rattle.b2_generate.proofs.TakingLeadsOn.{clashed}
 use Rattle.b2_generate.proofs.NewNodeLeadsOn.{none_below, one_below, done_over, done_adds, done_kept, done_goes, done_made, done_ends, done_leads, done_clashes}
 use Rattle.b2_generate.proofs.EarlyExitGivesTheFault.{exit_is}
@@ -18,6 +20,31 @@ use Rattle.b2_generate.proofs.OpeningLeadsOn.{refusal_weaker}
 use Rattle.b2_generate.proofs.StackLeadsToTheOutcome.{falls_last}
 use Rattle.b2_generate.proofs.TurnKeepsItsPromise.{stopped, ran_out, goes, is_over}
 use Rattle.b2_generate.proofs.generation.Generation.close.Goals as goal
+
+pub invariant_of-stack : goal.invariant_of-stack
+invariant_of-stack g c =
+    let s = c.args.stack.now in
+    record {
+      found = popped_found s.places s.below.items c.pop.new.self.items c.pop.result s.found c.pop.ensures.items;
+      closed = popped_closed s.newest s.below.items c.pop.new.self.items c.pop.result s.closed c.pop.ensures.items;
+    }
+
+pub invariant_of-stack-in-Some : goal.invariant_of-stack-in-Some
+invariant_of-stack-in-Some g c =
+    let s = c.args.stack.now in
+    record {
+      found = rest_found s.places s.below.items c.pop.new.self.items c.in-Some.frame s.found c.in-Some.ensures.items;
+      closed = none_twice s.places s.below.items c.pop.new.self.items c.in-Some.frame s.found c.in-Some.ensures.items;
+    }
+
+pub invariant_of-stack-in-Some-2 : goal.invariant_of-stack-in-Some-2
+invariant_of-stack-in-Some-2 g c =
+    let s = c.args.stack.now in
+    record {
+      found = rest_found s.places s.below.items c.pop.new.self.items c.in-Some.frame s.found c.in-Some.ensures.items;
+      closed = ap (is_among (names_of (reverse c.pop.new.self.items))) c.take.ensures.name
+          ∙ none_twice s.places s.below.items c.pop.new.self.items c.in-Some.frame s.found c.in-Some.ensures.items;
+    }
 
 pub finish-requires : goal.finish-requires
 finish-requires g c = subst (λ (xs : List Node). IsKept (reverse xs) c.args.self.now.asker.index.now c.args.stack.now.newest) (sym c.as_slice.ensures.value) c.requires.kept.2

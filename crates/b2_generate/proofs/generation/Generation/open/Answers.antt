@@ -1,6 +1,8 @@
-use Rattle.std.proofs.Common.{ℕ, ◌∷◌, Option, map, reverse, refl, sym, subst, ◌∙◌}
+use Rattle.std.proofs.Common.{ℕ, ◌∷◌, Option, ap, map, reverse, refl, sym, subst, ◌∙◌}
 use Rattle.b2_alternatives.specs.Picking.{seen}
-use Rattle.b2_generate.specs.Machine.{frame_of, standing_of}
+use Rattle.b2_references.specs.Names.{is_among}
+use Rattle.b2_generate.specs.Machine.{frame_of, standing_of, names_of}
+use Rattle.b2_generate.specs.Opening.{frames}
 use Rattle.b2_generate.specs.Stack.{IsUnderWay}
 use Rattle.b2_generate.specs.Told.{loaded_of}
 use Rattle.b2_generate.specs.Turning.{GoOn, turns_of}
@@ -38,6 +40,9 @@ returns-in_err-frame-clause-turn g c =
     unchosen_falls (loaded_of c.args.self.now.asker.index.now c.args.self.now.roots.now answered) name set start (reverse c.args.self.now.nodes.list.items) c.args.stack.now.newest (reverse c.args.stack.now.below.items)
     c.args.self.now.builder c.args.name c.args.asked way c.requires.waits g.E.Evaluate.is_host_fault g.E.Evaluate.is_out_of_memory c.in_err-frame.field-0.0 (sym c.is_open.ensures ∙ c.if-is_open.false) (c.in_err-frame.ensures.refused answered is))
     c.in_err-frame.ensures.leaves
+
+pub open-requires : goal.open-requires
+open-requires g c = record { closed = ap (is_among (names_of (frames c.args.stack.now))) c.in_ok-frame.ensures.opened.named ∙ sym c.is_open.ensures ∙ c.if-is_open.false }
 
 pub returns-in_err-open-clause-turn : goal.returns-in_err-open-clause-turn
 returns-in_err-open-clause-turn g c =

@@ -3,6 +3,7 @@ use Rattle.std.proofs.lemmas.List.{length-reverse}
 use Rattle.b2_props.specs.Sets.{IsSet, Pair}
 use Rattle.b2_metatargets.specs.declared.whole.Declared.{Declared}
 use Rattle.b2_props.specs.Elements.{propagated}
+use Rattle.b2_references.specs.Names.{is_among}
 use Rattle.b2_alternatives.specs.Picking.{seen}
 use Rattle.b2_generate.specs.Clear.{IsClear}
 use Rattle.b2_generate.specs.Machine.{names_of, standing_of, IsKept}
@@ -22,6 +23,12 @@ use Rattle.b2_generate.proofs.MakingAgainGivesTheSame.{due_is_new}
 use Rattle.b2_generate.proofs.StepsAreThoseDefined.{grows_none}
 use Rattle.b2_generate.proofs.TurnKeepsItsPromise.{ran_out, goes, is_there}
 use Rattle.b2_generate.proofs.generation.Generation.supply.Goals as goal
+
+pub invariant_of-stack : goal.invariant_of-stack
+invariant_of-stack g c = record {
+  found = c.args.stack.now.found;
+  closed = ap (is_among (names_of (reverse c.args.stack.now.below.items))) c.take.ensures.name ∙ c.args.stack.now.closed;
+}
 
 pub propagated-requires : goal.propagated-requires
 propagated-requires g c =

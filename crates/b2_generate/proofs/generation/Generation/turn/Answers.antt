@@ -13,6 +13,9 @@ use Rattle.b2_generate.proofs.StackLeadsToTheOutcome.{falls}
 use Rattle.b2_generate.proofs.TurnKeepsItsPromise.{stopped, ran_out, turn_from, needs_stay, needs_kept, next_there}
 use Rattle.b2_generate.proofs.generation.Generation.turn.Goals as goal
 
+pub invariant_of-stack : goal.invariant_of-stack
+invariant_of-stack g c = record { found = c.args.stack.now.found; closed = c.args.stack.now.closed }
+
 pub returns-in_err-next-clause-turn : goal.returns-in_err-next-clause-turn
 returns-in_err-next-clause-turn g c = ran_out c.from_residual.result (exit_is c.from_residual.result _ c.from_residual.ensures.1) (grows_none _ _) refl refl
 
