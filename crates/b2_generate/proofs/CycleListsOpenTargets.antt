@@ -1,12 +1,10 @@
 -- Why a choice refuses a main target, and the loop that lists the cycle back to it.
-use Rattle.std.proofs.Common.{◌≡◌, ◌<◌, ◌≤◌, ◌==◌, ◌+◌, ℕ, Bool, true, false, true≢false, ◌||◌, length, take, get_or, List, [], ◌∷◌, ◌++◌, map, reverse, Err, refl, sym, ap, ap₂, subst, ◌∙◌, if◌then◌else◌}
+use Rattle.std.proofs.Common.{◌≡◌, ◌<◌, ◌≤◌, ◌==◌, ◌+◌, ℕ, Bool, true, false, true≢false, ◌||◌, length, take, get_or, List, [], ◌∷◌, ◌++◌, map, reverse, Err, refl, sym, ap, subst, ◌∙◌, if◌then◌else◌}
 use Rattle.std.specs.Prelude.{not}
-use Rattle.std.specs.List.{list_any}
 use Rattle.std.proofs.lemmas.Grind.{reverse_onto}
 use Rattle.std.proofs.lemmas.List.{map-append, reverse-reverse, take_all}
 use Rattle.std.proofs.Math.Bool.{or-false}
 use Rattle.std.proofs.Math.Dec.{eqb-suc-zero}
-use Rattle.std.proofs.lemmas.List.Folds.{list_any-append}
 use Rattle.b2_props.specs.Sets.{Pair}
 use Rattle.b2_metatargets.specs.declared.whole.Declared.{Declared}
 use Rattle.b2_references.specs.Names.{Name, is_same, is_among}

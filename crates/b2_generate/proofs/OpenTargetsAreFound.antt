@@ -11,7 +11,7 @@ use Rattle.std.proofs.lemmas.Option.{none-some}
 use Rattle.b2_references.specs.Names.{Name, is_same, is_among}
 use Rattle.b2_generate.specs.Machine.{names_of}
 use Rattle.b2_generate.specs.Tables.{Table}
-use Rattle.b2_generate.specs.Waiting.{places_of, AreFound}
+use Rattle.b2_generate.specs.Waiting.{AreFound}
 use Rattle.b2_generate.specs.declared.frame.Frame.{Frame}
 use Rattle.b2_generate.proofs.OlderNodesStay.{slice_last}
 use Rattle.b2_generate.proofs.SameNamesAreEqual.{reflexive, turned, same, get_put_name}

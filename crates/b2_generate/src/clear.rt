@@ -22,7 +22,7 @@ fn mark(marks: &mut Vec<bool>, places: &[usize])
 }
 
 /// Whether the node at a place is not marked, or not of an open main target. What was generated for a marked one is marked. Takes
-/// time in proportion to the number of open main targets and to what was generated for the node itself, and no memory.
+/// time in proportion to what was generated for the node itself, and no memory.
 fn passes(nodes: &[Node], stack: &Stack<'_>, marks: &mut Vec<bool>, place: usize) -> bool
     requires there { place < length nodes.now }
     requires size { place < length marks.old.items }
@@ -61,8 +61,8 @@ fn is_clear_below(
 }
 
 /// Whether none of the main targets that were opened for the node at a place is open. Where each of them was generated first before
-/// each open one was, that is known at once; else it takes time in proportion to the place, and for each node that was generated
-/// for this one to the number of open main targets.
+/// each open one was, that is known at once; else it takes time in proportion to the place, and to what was generated for the nodes
+/// that were generated for this one.
 pub(crate) fn is_clear(
     alloc: Global,
     nodes: &[Node],

@@ -20,6 +20,7 @@ pub(crate) struct Stack<'a> {
     pub(crate) below: Vec<Frame<'a>>,
     /// The places of those below by their names. One that waits no longer may keep its place here, so that closing takes no memory.
     pub(crate) places: NameTable<usize>,
+    // Each of those below is found at its place, and so no two of them have one name. None has the name of the newest.
     ghost found: { AreFound places (reverse below.items) } by { Prim.hlevel props },
     ghost closed: { is_among (names_of (reverse below.items)) newest.name ≡ false },
 }
