@@ -79,9 +79,9 @@ board_begins plan number f g b v step about now_about grown is numbered none at 
     (tells_nothing number g v b.sched) (work_begins plan number g b.sched v step now_about at reach none_told none_waits)
     (λ k found. absurd (none_some found.work (sym none ∙ found.begun))) (λ lack. absurd (none_some lack.work (sym none ∙ lack.begun)))
 
-pub begin_grows : {T : Type 0} (steps : List Step) (roots : List (List ℕ)) (settled : ℕ → Type 0) (members : List ℕ) (s t : Sights) (x : Outside) (v : T) → t ≡ record s { facts = t.facts; marks = t.marks } → Learns steps roots OfNone s.facts t.facts
-    → ((now : Folder) → StaysTrue steps roots now s.facts t.facts) → LearnsMore steps roots settled members s x t x (Ok v)
-begin_grows {T} steps roots settled members s t x v same learns told = subst (λ (z : Sights). LearnsMore {T = T} steps roots settled members s x z x (Ok v)) (sym same)
+pub begin_grows : {T : Type 0} {notes : Bool} (steps : List Step) (roots : List (List ℕ)) (settled : ℕ → Type 0) (members : List ℕ) (s t : Sights) (x : Outside) (v : T) → t ≡ record s { facts = t.facts; marks = t.marks } → Learns steps roots OfNone s.facts t.facts
+    → ((now : Folder) → StaysTrue steps roots now s.facts t.facts) → LearnsMore notes steps roots settled members s x t x (Ok v)
+begin_grows {T} {notes} steps roots settled members s t x v same learns told = subst (λ (z : Sights). LearnsMore {T = T} notes steps roots settled members s x z x (Ok v)) (sym same)
     (grows_marks {T = T} steps roots settled members s (record s { facts = t.facts }) x x (Ok v) t.marks
     (look_same steps roots settled s t.facts learns x (told_all x.disk (λ d. StaysTrue steps roots d.now s.facts t.facts) (λ d. told d.now)) {T = T} members x v refl))
 

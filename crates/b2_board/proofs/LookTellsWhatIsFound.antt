@@ -215,9 +215,9 @@ module _ (steps : List Step) (i : ℕ) (s : Schedule) (f g : Knowledge) (w : Wor
 
 -- ---- what is known grows
 
-pub grows_told : {T S : Type 0} (steps : List Step) (roots : List (List ℕ)) (settled : ℕ → Type 0) (q r : Reach) (x y : Sights) (before after : Outside) (value : T) (answer : S) → r ≡ q → LearnsMore steps roots settled q.members x before y after (Ok value) → LearnsMore steps roots settled r.members x before y after (Ok answer)
-grows_told {T} {S} steps roots settled q r x y before after value answer same a = subst (λ (z : Reach). LearnsMore {T = S} steps roots settled z.members x before y after (Ok answer)) (sym same) (grows_ok steps roots settled q.members x y before after value answer a)
+pub grows_told : {T S : Type 0} {notes : Bool} (steps : List Step) (roots : List (List ℕ)) (settled : ℕ → Type 0) (q r : Reach) (x y : Sights) (before after : Outside) (value : T) (answer : S) → r ≡ q → LearnsMore notes steps roots settled q.members x before y after (Ok value) → LearnsMore notes steps roots settled r.members x before y after (Ok answer)
+grows_told {T} {S} {notes} steps roots settled q r x y before after value answer same a = subst (λ (z : Reach). LearnsMore {T = S} notes steps roots settled z.members x before y after (Ok answer)) (sym same) (grows_ok steps roots settled q.members x y before after value answer a)
 
-pub grows_untold : {T S : Type 0} (steps : List Step) (roots : List (List ℕ)) (settled : ℕ → Type 0) (q r : Reach) (x y : Sights) (before after : Outside) (value : T) → r ≡ q → LearnsMore steps roots settled q.members x before y after (Ok value) → LearnsMore {T = S} steps roots settled r.members x before y after (Err stops.OutOfMemory)
-grows_untold {T} {S} steps roots settled q r x y before after value same a = subst (λ (z : Reach). LearnsMore {T = S} steps roots settled z.members x before y after (Err stops.OutOfMemory)) (sym same)
+pub grows_untold : {T S : Type 0} {notes : Bool} (steps : List Step) (roots : List (List ℕ)) (settled : ℕ → Type 0) (q r : Reach) (x y : Sights) (before after : Outside) (value : T) → r ≡ q → LearnsMore notes steps roots settled q.members x before y after (Ok value) → LearnsMore {T = S} notes steps roots settled r.members x before y after (Err stops.OutOfMemory)
+grows_untold {T} {S} {notes} steps roots settled q r x y before after value same a = subst (λ (z : Reach). LearnsMore {T = S} notes steps roots settled z.members x before y after (Err stops.OutOfMemory)) (sym same)
     (grows_then steps roots settled q.members q.members x y y before after after value (Err stops.OutOfMemory) (λ m among. among) a (grows_no_memory steps roots settled q.members y after))

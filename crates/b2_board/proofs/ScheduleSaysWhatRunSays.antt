@@ -74,7 +74,7 @@ module _ (u : Update) (events : List ChildEvent) (disk : Disk) (f : Knowledge) (
   needs_so i k needed need = elim (is.needs i k need) [ inl e ↦ absurd (not_zero_so i needed e) | inr (found, asker) ↦ found_so i k found ]
 
   -- a file that is not given by what is known is missing
-  missing_so : (n : ℕ) (path : List ℕ) (file : FileFacts) → IsFile f n path file → IsNotGivenBy file → IsMissing u.build path
+  pub missing_so : (n : ℕ) (path : List ℕ) (file : FileFacts) → IsFile f n path file → IsNotGivenBy file → IsMissing u.build path
   missing_so n path file at none given = elim given [
     | inl source ↦ (let (bytes, so) = source in elim none.no_source [
       | inl rooted ↦ so.outside ((true_so.about.planned n path file at).rooted.0 rooted)
@@ -103,11 +103,11 @@ module _ (u : Update) (events : List ChildEvent) (disk : Disk) (f : Knowledge) (
   -- ---- where nothing can be looked at, it was told all
 
   module _ (none : but ≡ 0) (still : (i : ℕ) → CanLook s i → ⊥) (settles : HasSettled u events s) where
-    seen_so : (i : ℕ) → IsNeeded s i → IsSeen s f works i
+    pub seen_so : (i : ℕ) → IsNeeded s i → IsSeen s f works i
     seen_so i needed = is.seen i (λ e. not_zero_so i needed (e ∙ none)) needed (still i)
 
     -- the maker of a pending member is not settled in the run
-    far_so : (i : ℕ) → IsNeeded s i → (w : Work) → IsWorkOn u.build.steps s f i w → IsLookedAt s f i w → IsAsFarInRun u events f w.reach
+    pub far_so : (i : ℕ) → IsNeeded s i → (w : Work) → IsWorkOn u.build.steps s f i w → IsLookedAt s f i w → IsAsFarInRun u events f w.reach
     far_so i needed w on looked = record {
       whole = looked.as_far.whole;
       waiting = λ n number file among known made there.
@@ -160,7 +160,7 @@ module _ (u : Update) (events : List ChildEvent) (disk : Disk) (f : Knowledge) (
     tells_all = record { needs = all_needs; lacks = all_lacks }
 
 -- the board is one of the update
-of_update : (u : Update) (plan : Plan) (but : ℕ) (f : Knowledge) (s : Schedule) (works : List (Option Work)) → u.build.steps ≡ plan.steps → u.build.wanted ≡ plan.wanted → IsBoardOf plan.steps plan.wanted but f s works → IsBoardOf u.build.steps u.build.wanted but f s works
+pub of_update : (u : Update) (plan : Plan) (but : ℕ) (f : Knowledge) (s : Schedule) (works : List (Option Work)) → u.build.steps ≡ plan.steps → u.build.wanted ≡ plan.wanted → IsBoardOf plan.steps plan.wanted but f s works → IsBoardOf u.build.steps u.build.wanted but f s works
 of_update u plan but f s works steps wanted is =
     subst (λ x. IsBoardOf x u.build.wanted but f s works) (sym steps) (subst (λ x. IsBoardOf plan.steps x but f s works) (sym wanted) is)
 

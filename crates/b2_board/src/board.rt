@@ -98,6 +98,7 @@ impl Board {
         ensures begun { OnOk result ((work : Work) × (work_at self.new.works.items number ≡ Some work)) }
         ensures board { IsBoard plan.now number sights.new.facts self.new }
         ensures sched { self.new.sched ≡ self.old.sched }
+        ensures others { (i : ℕ) → (i ≡ number → ⊥) → work_at self.new.works.items i ≡ work_at self.old.works.items i }
         ensures sights { sights.new ≡ record sights.old { facts = sights.new.facts; marks = sights.new.marks } }
         ensures learns { Learns plan.now.steps plan.now.roots OfNone sights.old.facts sights.new.facts }
         ensures told { (now : Folder) → StaysTrue plan.now.steps plan.now.roots now sights.old.facts sights.new.facts }
@@ -120,6 +121,7 @@ impl Board {
         sights: &mut Sights,
         files: &mut F,
         number: u32,
+        notes: bool,
     ) -> Result<bool, Stop>
         requires about { IsAbout plan.now.steps plan.now.roots sights.old.facts }
         requires board { IsBoard plan.now number sights.old.facts self.old }
@@ -130,21 +132,23 @@ impl Board {
         ensures reach { (work : Work) (step : Step) → work_at self.new.works.items number ≡ Some work
             → step_at plan.now.steps number ≡ Some step
             → IsReachOf plan.now.steps (IsSettled self.old.sched) step sights.new.facts work.reach }
-        ensures grows { LearnsMore plan.now.steps plan.now.roots (IsSettled self.old.sched) (members_of self.new number)
+        ensures grows { LearnsMore notes plan.now.steps plan.now.roots (IsSettled self.old.sched) (members_of self.new number)
             sights.old (F.outside files.old) sights.new (F.outside files.new) result }
+        ensures others { (i : ℕ) → (i ≡ number → ⊥) → work_at self.new.works.items i ≡ work_at self.old.works.items i }
         ensures board { OnOk result (IsBoard plan.now number sights.new.facts self.new) }
         ensures more { OnOk result (NeedsMore self.old.sched self.new.sched) }
         ensures left { OnOk result (looks_left self.new.sched ≤ looks_left self.old.sched) }
         ensures looked { IfOk result (λ closed. IsLookOf closed sights.new.facts self.new number) }
     {
         match &mut self.works[number as usize] {
-            Some(work) => work.look(alloc, plan, &mut self.sched, sights, files, number),
+            Some(work) => work.look(alloc, plan, &mut self.sched, sights, files, number, notes),
             None => unreachable!(),
         }
     }
 
-    /// Looks at a step: goes on with the work on it as far as files are settled, and tells the schedule what it finds. Answers
-    /// whether all that the step reads is settled; it is then to be judged. After an error the work on it is still in order.
+    /// Looks at a step: goes on with the work on it as far as files are settled, and tells the schedule what it finds. Where
+    /// `notes` is true, the line of each file that is read is noted. Answers whether all that the step reads is settled; it is then
+    /// to be judged. After an error the work on it is still in order.
     pub fn look<F: Files>(
         &mut self,
         alloc: Global,
@@ -152,6 +156,7 @@ impl Board {
         sights: &mut Sights,
         files: &mut F,
         number: u32,
+        notes: bool,
     ) -> Result<bool, Stop>
         requires about { IsAbout plan.now.steps plan.now.roots sights.old.facts }
         requires board { IsBoard plan.now number sights.old.facts self.old }
@@ -161,15 +166,16 @@ impl Board {
         ensures reach { (work : Work) (step : Step) → work_at self.new.works.items number ≡ Some work
             → step_at plan.now.steps number ≡ Some step
             → IsReachOf plan.now.steps (IsSettled self.old.sched) step sights.new.facts work.reach }
-        ensures grows { LearnsMore plan.now.steps plan.now.roots (IsSettled self.old.sched) (members_of self.new number)
+        ensures grows { LearnsMore notes plan.now.steps plan.now.roots (IsSettled self.old.sched) (members_of self.new number)
             sights.old (F.outside files.old) sights.new (F.outside files.new) result }
+        ensures others { (i : ℕ) → (i ≡ number → ⊥) → work_at self.new.works.items i ≡ work_at self.old.works.items i }
         ensures board { OnOk result (IsBoard plan.now number sights.new.facts self.new) }
         ensures more { OnOk result (NeedsMore self.old.sched self.new.sched) }
         ensures left { OnOk result (looks_left self.new.sched ≤ looks_left self.old.sched) }
         ensures looked { IfOk result (λ closed. IsLookOf closed sights.new.facts self.new number) }
     {
         self.begin(alloc, plan, sights, number)?;
-        self.go_on(alloc, plan, sights, files, number)
+        self.go_on(alloc, plan, sights, files, number, notes)
     }
 
     /// Tells whether a step is stale of which all that it reads is settled. A fresh one settles. Takes no memory.

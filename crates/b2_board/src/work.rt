@@ -118,8 +118,9 @@ impl Work {
         Ok(())
     }
 
-    /// Goes on as far as files are settled, and tells the schedule what the step needs and whether it lacks a file. Answers
-    /// whether all that the step reads is settled. After an error the work is still in order.
+    /// Goes on as far as files are settled, and tells the schedule what the step needs and whether it lacks a file. Where `notes`
+    /// is true, the line of each file that is read is noted. Answers whether all that the step reads is settled. After an error the
+    /// work is still in order.
     pub fn look<F: Files>(
         &mut self,
         alloc: Global,
@@ -128,6 +129,7 @@ impl Work {
         sights: &mut Sights,
         files: &mut F,
         number: u32,
+        notes: bool,
     ) -> Result<bool, Stop>
         requires about { IsAbout plan.now.steps plan.now.roots sights.old.facts }
         requires schedule { IsOfPlan plan.now sched.old }
@@ -136,13 +138,13 @@ impl Work {
         requires work { IsWorkOn plan.now.steps sched.old sights.old.facts number self.old }
         ensures reach { (step : Step) → step_at plan.now.steps number ≡ Some step
             → IsReachOf plan.now.steps (IsSettled sched.old) step sights.new.facts self.new.reach }
-        ensures grows { LearnsMore plan.now.steps plan.now.roots (IsSettled sched.old) self.new.reach.members
+        ensures grows { LearnsMore notes plan.now.steps plan.now.roots (IsSettled sched.old) self.new.reach.members
             sights.old (F.outside files.old) sights.new (F.outside files.new) result }
         ensures keeps { (n : ℕ) → Contains self.old.reach.members n → Contains self.new.reach.members n }
         ensures looks { OnOk result (LooksOnce plan.now.steps sights.new.facts number sched.old sched.new self.new) }
         ensures closed { IfOk result (λ closed. IsClosedTold closed sched.new sights.new.facts number self.new) }
     {
-        self.reach.go_on(alloc, plan, sched, sights, files)?;
+        self.reach.go_on(alloc, plan, sched, sights, files, notes)?;
         self.tell(alloc, sched, &sights.facts, number)?;
         if self.reach.lacks {
             sched.lack(number);

@@ -17,6 +17,7 @@ ghost use Rattle.b2_journal.specs.Notes.{Notes};
 use crate::opening::{first_lines, put_back};
 use crate::reading::read_at;
 use crate::rule::Rule;
+use b2_base::fault::OutOfMemory;
 use b2_base::path::Path;
 use b2_host::fault::IoFault;
 use b2_host::files::Files;
@@ -82,6 +83,15 @@ impl Journal {
             path,
             log: first.log,
         })
+    }
+
+    /// A journal of the lines of a log, for look-ups alone: the log's file is not opened, and stays as it is.
+    pub fn of_log(alloc: Global, log: Log) -> Result<Journal, OutOfMemory>
+        requires { AllByRecursion IsGood log.lines }
+        ensures { IfOk result (λ journal. journal ≡ log.lines) }
+    {
+        let path = log_file(alloc)?;
+        Ok(Journal { alloc, path, log })
     }
 
     /// Appends a proper line, by one call. After an error the journal is as before, and of the line nothing stands in the file

@@ -1,5 +1,5 @@
 -- What looks at files do, one after another, and of which files they learn.
-use Rattle.std.proofs.Common.{◌≡◌, inl, inr, ℕ, ◌<◌, true, false, List, [], ◌∷◌, Option, Some, None, Result, Ok, Err, refl, sym, ap, subst, ◌∙◌, arith}
+use Rattle.std.proofs.Common.{◌≡◌, inl, inr, ℕ, ◌<◌, Bool, true, false, List, [], ◌∷◌, Option, Some, None, Result, Ok, Err, refl, sym, ap, subst, ◌∙◌, arith}
 use Rattle.std.specs.List.{Contains, AllZip}
 use Rattle.std.proofs.lemmas.Bool.{false≢true}
 use Rattle.std.proofs.lemmas.Option.{slice_get_within}
@@ -85,7 +85,7 @@ module _ (steps : List Step) (roots : List (List ℕ)) where
   pub looks_asked : {T : Type 0} (P : ℕ → Type 0) (Q : Folder → Type 0) (s t : Sights) (x y : Outside) (r : Result T Stop) → t.by_digest ≡ s.by_digest → Asks P Q s.facts t.facts x y r → LooksAtFiles steps roots P s x t y r
   looks_asked P Q s t x y r way a = record { only_log = a.effect.only_log; faults = a.counts; learns = a.learns.learns steps roots; way = way }
 
-  pub looks_learned : {T : Type 0} (settled : ℕ → Type 0) (members : List ℕ) (s t : Sights) (x y : Outside) (r : Result T Stop) → LearnsMore steps roots settled members s x t y r → LooksAtFiles steps roots (IsNumberAtHand steps settled t.facts) s x t y r
+  pub looks_learned : {T : Type 0} {notes : Bool} (settled : ℕ → Type 0) (members : List ℕ) (s t : Sights) (x y : Outside) (r : Result T Stop) → LearnsMore notes steps roots settled members s x t y r → LooksAtFiles steps roots (IsNumberAtHand steps settled t.facts) s x t y r
   looks_learned settled members s t x y r a = record { only_log = a.only_log; faults = a.faults; learns = a.learns; way = a.by_digest }
 
   -- a line was noted

@@ -1,5 +1,5 @@
 -- What a look at one step tells of an update that is under way.
-use Rattle.std.proofs.Common.{◌≡◌, ◌↔◌, inl, inr, ℕ, zero, suc, ◌<◌, ◌≤◌, List, [], ◌++◌, length, Option, Some, None, Result, Ok, Err, refl, sym, ap, subst, ◌∙◌, append-nil, arith}
+use Rattle.std.proofs.Common.{◌≡◌, ◌↔◌, inl, inr, ℕ, zero, suc, ◌<◌, ◌≤◌, true, List, [], ◌++◌, length, Option, Some, None, Result, Ok, Err, refl, sym, ap, subst, ◌∙◌, append-nil, arith}
 use Rattle.std.specs.List.{Contains}
 use Rattle.b2_host.specs.declared.children.ChildEvent.{ChildEvent}
 use Rattle.b2_host.specs.Disks.{Disk, bytes_at}
@@ -59,12 +59,12 @@ unasked_stands : (stamp : ℕ) → seen.Unasked ≡ seen.Stands stamp → ⊥
 unasked_stands stamp e = let f : seen.Unasked ≡ seen.Stands stamp = e in cc
 
 -- the step with a number within the plan
-plan_step : (steps : List Step) (number : ℕ) → 0 < number → number ≤ length steps → (step : Step) × (step_at steps number ≡ Some step)
+pub plan_step : (steps : List Step) (number : ℕ) → 0 < number → number ≤ length steps → (step : Step) × (step_at steps number ≡ Some step)
 plan_step steps zero some within = absurd (omega (arith, some))
 plan_step steps (suc place) some within = get_some steps place (omega (arith, within))
 
 -- what is needed by a schedule that was told the truth is needed in the run
-needed_in_run : (u : Update) (events : List ChildEvent) (s : Schedule) → ((i : ℕ) → IsFirst s i ↔ MakesWanted u i) → ((i k : ℕ) → IsNeeded s i → Needs s i k → NeedsStep u events i k) → (i : ℕ) → IsNeeded s i → NeededOf (MakesWanted u) (NeedsStep u events) i
+pub needed_in_run : (u : Update) (events : List ChildEvent) (s : Schedule) → ((i : ℕ) → IsFirst s i ↔ MakesWanted u i) → ((i k : ℕ) → IsNeeded s i → Needs s i k → NeedsStep u events i k) → (i : ℕ) → IsNeeded s i → NeededOf (MakesWanted u) (NeedsStep u events) i
 needed_in_run u events s firsts needs i (first_needed k f) = first_needed k ((firsts k).0 f)
 needed_in_run u events s firsts needs i (of_needed k j n r) = of_needed k j (needed_in_run u events s firsts needs j n) (needs j k n r)
 
@@ -84,7 +84,7 @@ module _ (plan : Plan) (number : ℕ) (l : Looks) (board : Board) (s t : Sights)
   the_step : (step : Step) × (step_at plan.steps number ≡ Some step)
   the_step = let low = is_step.within in let size = is.board.size in plan_step plan.steps number is_step.some (omega (arith, low, size))
 
-  module _ {T : Type 0} (r : Result T Stop) (grows : LearnsMore plan.steps plan.roots (IsSettled l.board.sched) (members_of board number) s x t y r) (u : Update) (events : List ChildEvent) (first : List LogLine) (reads : List Read) (before after : Disk) (before_is : x.disk ≡ Some before) (after_is : y.disk ≡ Some after)
+  module _ {T : Type 0} (r : Result T Stop) (grows : LearnsMore true plan.steps plan.roots (IsSettled l.board.sched) (members_of board number) s x t y r) (u : Update) (events : List ChildEvent) (first : List LogLine) (reads : List Read) (before after : Disk) (before_is : x.disk ≡ Some before) (after_is : y.disk ≡ Some after)
       (by : IsUpdateBy plan l u) (distinct : Distinguishes u after.past) (under : IsUnderWay u events first reads before s) (looks : AreTrueLooks u events before s l) where
     build : IsBuildOf plan.steps plan.roots u.build
     build = record { steps_are = by.steps; roots_are = by.roots; inc = under.update.build.inc; looks = under.update.build.looks }
@@ -154,13 +154,13 @@ module _ (plan : Plan) (number : ℕ) (l : Looks) (board : Board) (s t : Sights)
             (so.path, so.is_file.path_is, big_to_scan bytes (record { scanned = ap (λ scan. scan so.path) under.update.scanned ∙ scanned; input = input so.path known; settled = value }) many more))
 
   -- all went well
-  pub look_told : {T : Type 0} (v : T) → NeedsMore l.board.sched board.sched → LearnsMore plan.steps plan.roots (IsSettled l.board.sched) (members_of board number) s x t y (Ok v) → LookTold plan x l s y (record l { board = board }) t (Ok v)
+  pub look_told : {T : Type 0} (v : T) → NeedsMore l.board.sched board.sched → LearnsMore true plan.steps plan.roots (IsSettled l.board.sched) (members_of board number) s x t y (Ok v) → LookTold plan x l s y (record l { board = board }) t (Ok v)
   look_told {T} v more grows = both_by (ChangesOnlyAt log_path) (Tells plan x l s y (record l { board = board }) t (Ok v)) x.disk y.disk grows.only_log.files (λ before after before_is after_is u events first reads by distinct follows under looks.
       let w = course_on u events first plan.steps (IsSettled l.board.sched) t.facts (members_of board number) after distinct (called (Ok v) grows u events first reads before after before_is after_is by distinct under looks) x reads s.journal before s.journal t.journal x y grows.course
       (ends (Ok v) grows u events first reads before after before_is after_is by distinct under looks) (started (Ok v) grows u events first reads before after before_is after_is by distinct under looks) after after_is in
       let state : (i : ℕ) → state_of board.sched i ≡ state_of l.board.sched i = looked_state plan number s.facts t.facts l board more in
       let truly = sight (Ok v) grows u events first reads before after before_is after_is by distinct under looks in
-      let lined = told_of (StaysLined plan.steps plan.roots s t) x.disk y.disk before after before_is after_is grows.lined u under.apart (build (Ok v) grows u events first reads before after before_is after_is by distinct under looks) under.sight under.lined in
+      let lined = told_of (StaysLined plan.steps plan.roots s t) x.disk y.disk before after before_is after_is (grows.lined refl) u under.apart (build (Ok v) grows u events first reads before after before_is after_is by distinct under looks) under.sight under.lined in
       record {
         more = w.more;
         adds = w.adds;
@@ -179,7 +179,7 @@ module _ (plan : Plan) (number : ℕ) (l : Looks) (board : Board) (s t : Sights)
       })
 
   -- it stopped
-  pub look_stopped : {T : Type 0} (stop : Stop) → LearnsMore {T = T} plan.steps plan.roots (IsSettled l.board.sched) (members_of board number) s x t y (Err stop) → LookTold {T = T} plan x l s y (record l { board = board }) t (Err stop)
+  pub look_stopped : {T : Type 0} (stop : Stop) → LearnsMore {T = T} true plan.steps plan.roots (IsSettled l.board.sched) (members_of board number) s x t y (Err stop) → LookTold {T = T} plan x l s y (record l { board = board }) t (Err stop)
   look_stopped {T} stop grows = both_by (ChangesOnlyAt log_path) (Tells {T = T} plan x l s y (record l { board = board }) t (Err stop)) x.disk y.disk grows.only_log.files (λ before after before_is after_is u events first reads by distinct follows under looks.
       let h = stop_on u events first plan.steps (IsSettled l.board.sched) t.facts (members_of board number) after distinct (called {T = T} (Err stop) grows u events first reads before after before_is after_is by distinct under looks) x reads s.journal before t.facts s.journal t.journal x y grows.course
       (ends {T = T} (Err stop) grows u events first reads before after before_is after_is by distinct under looks) (started {T = T} (Err stop) grows u events first reads before after before_is after_is by distinct under looks) after after_is in

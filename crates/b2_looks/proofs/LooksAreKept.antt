@@ -37,7 +37,7 @@ use Rattle.b2_looks.proofs.FilesAreNumbered.{named_grow}
 
 -- ---- the files of a step
 
-has_bytes_grows : (steps : List Step) (f g : Knowledge) (n : ℕ) → Grows f g → IsNumber f n → has_bytes steps f n ≡ has_bytes steps g n
+pub has_bytes_grows : (steps : List Step) (f g : Knowledge) (n : ℕ) → Grows f g → IsNumber f n → has_bytes steps f n ≡ has_bytes steps g n
 has_bytes_grows steps f g n grows number =
     let (file, known) = get_some f.files n number.1 in
     let (later, at, more) = grows.files n file known in

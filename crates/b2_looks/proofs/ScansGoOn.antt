@@ -1,5 +1,5 @@
 -- An update that is under way goes on as members are scanned, each read with its line directly after it, or has stopped as one may.
-use Rattle.std.proofs.Common.{◌≡◌, ◌≢◌, inr, ℕ, true, List, [], ◌∷◌, ◌++◌, option_map, Option, Some, None, Ok, Err, refl, sym, ap, subst, ◌∙◌, append_assoc}
+use Rattle.std.proofs.Common.{◌≡◌, ◌≢◌, inl, inr, ℕ, Bool, true, false, List, [], ◌∷◌, ◌++◌, option_map, Option, Some, None, Ok, Err, refl, sym, ap, subst, ◌∙◌, append_assoc}
 use Rattle.std.specs.Option.{IfSome}
 use Rattle.std.specs.List.{Contains, AllByRecursion}
 use Rattle.std.proofs.lemmas.List.Elements.{Contains-append_left}
@@ -81,10 +81,10 @@ PastGrows a b = (old : Past) → Contains a.past old → Contains b.past old
 past_grows : (a b : Disk) → ChangesOnlyAt log_path a b → PastGrows a b
 past_grows a b only old among = subst (λ l. Contains l old) (sym only.past) (Contains-append_left a.past only.more old among)
 
-course_past : (steps : List Step) (settled : ℕ → Type 0) (f : Knowledge) (members : List ℕ) (log more : List LogLine) (x y : Outside) → Course steps settled f members log x more y → BothTold PastGrows x.disk y.disk
+course_past : {notes : Bool} (steps : List Step) (settled : ℕ → Type 0) (f : Knowledge) (members : List ℕ) (log more : List LogLine) (x y : Outside) → Course notes steps settled f members log x more y → BothTold PastGrows x.disk y.disk
 course_past steps settled f members log more x y (looks l before after same) = both_same PastGrows before.disk after.disk (ap (λ (o : Outside). o.disk) same) (λ d e old among. among)
 course_past steps settled f members log more x y (read_gone l before path stamp r away) = both_same PastGrows before.disk before.disk refl (λ d e old among. among)
-course_past steps settled f members log more x y (noted l before after line v n) = both_map (ChangesOnlyAt log_path) PastGrows before.disk after.disk past_grows n.only_log.files
+course_past steps settled f members log more x y (noted l before after line v on n) = both_map (ChangesOnlyAt log_path) PastGrows before.disk after.disk past_grows n.only_log.files
 course_past steps settled f members log more x y (then_next a b c p q r first later) =
     both_then PastGrows PastGrows PastGrows p.disk q.disk r.disk (λ d e g one two old among. two old (one old among)) (course_past steps settled f members a b p q first) (course_past steps settled f members b c q r later)
 
@@ -210,13 +210,16 @@ module _ (u : Update) (events : List ChildEvent) (first : List LogLine) (steps :
       let w = was d (sym disk_same ∙ d_is) in
       record { more = w.more; adds = subst (AddsReads w.more x.reads) (sym reads_same) w.adds; agrees = w.agrees; going = w.going; noted = w.noted }
 
-  pub course_on : (log more : List LogLine) (p q : Outside) → Course steps settled f members log p more q → Ends q → Goes log p → Goes more q
+  pub course_on : (log more : List LogLine) (p q : Outside) → Course true steps settled f members log p more q → Ends q → Goes log p → Goes more q
   course_on log more p q (looks l before after same) ends was = on_same l before after (ap (λ (o : Outside). o.disk) same) (ap (λ (o : Outside). o.reads) same) was
   course_on log more p q (read_gone l before path stamp due away) ends was = λ d d_is. (
       let w = was d d_is in
       let stands = stands_then d l (reads ++ w.more) w.going w.agrees path stamp due in
-      absurd (none_some stamp (sym (ap (option_map (λ (x : File). x.stamp)) (if_at (λ (disk : Disk). disk.now path ≡ None) before.disk d d_is away)) ∙ stands)))
-  course_on log more p q (noted l before after line v n) ends was = on_noted l before after line v n ends was
+      elim away [
+        | inl off ↦ absurd (let e : true ≡ false = off in cc)
+        | inr gone ↦ absurd (none_some stamp (sym (ap (option_map (λ (x : File). x.stamp)) (if_at (λ (disk : Disk). disk.now path ≡ None) before.disk d d_is gone)) ∙ stands))
+      ])
+  course_on log more p q (noted l before after line v on n) ends was = on_noted l before after line v n ends was
   course_on log more p q (then_next a b c x1 y1 z1 one two) ends was = course_on b c y1 z1 two ends (course_on a b x1 y1 one
       (λ d d_is. let (e, e_is, grows) = both_forth PastGrows y1.disk z1.disk d (course_past steps settled f members b c y1 z1 two) d_is in λ old among. ends e e_is old (grows old among)) was)
 
@@ -235,7 +238,7 @@ module _ (u : Update) (events : List ChildEvent) (first : List LogLine) (steps :
   cut_by a b log rs line io.Failed w only consistent course notes = noted_cut u events first rs a b log (lines.Scan line) w only consistent course (notes (log_file u.build.folder) w.file)
   cut_by a b log rs line io.OutOfMemory w only consistent course notes = subst (λ (d : Disk). IsLogCut u events d.now) (sym notes) (going_cut u events first rs a log w)
 
-  pub stop_on : (g : Knowledge) (log more : List LogLine) (p z : Outside) → CourseToStop steps settled f members log p more z → Ends z → Goes log p → (disk : Disk) → z.disk ≡ Some disk → HasStopped z g disk
+  pub stop_on : (g : Knowledge) (log more : List LogLine) (p z : Outside) → CourseToStop true steps settled f members log p more z → Ends z → Goes log p → (disk : Disk) → z.disk ≡ Some disk → HasStopped z g disk
   stop_on g log more p z (whole course) ends was d d_is = halted_on g more z d (course_on log more p z course ends was d d_is)
   stop_on g log more p z (unnoted y path stamp course due same) ends was d d_is =
       let disk_same : z.disk ≡ y.disk = ap (λ (o : Outside). o.disk) same in
@@ -253,7 +256,7 @@ module _ (u : Update) (events : List ChildEvent) (first : List LogLine) (steps :
           too_big = big;
         });
       }
-  stop_on g log more p z (cut y line fault course n) ends was b b_is =
+  stop_on g log more p z (cut y line fault on course n) ends was b b_is =
       let (a, a_is, only) = both_back (ChangesOnlyAt log_path) y.disk z.disk b n.only_log.files b_is in
       let w = course_on log more p y course (λ e e_is. let (h, h_is, changed) = both_forth (ChangesOnlyAt log_path) y.disk z.disk e n.only_log.files e_is in λ old among. ends h h_is old (past_grows e h changed old among)) was a a_is in
       let consistent = if_at IsConsistent z.disk b b_is n.consistent in

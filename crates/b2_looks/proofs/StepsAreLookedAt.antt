@@ -127,7 +127,7 @@ looks_waited plan number f l seen waits is = record { board = board_waits plan.s
 
 -- ---- what is learned
 
-pub look_learns : {T : Type 0} (plan : Plan) (l : Looks) (members : List ℕ) (s t : Sights) (x y : Outside) (r : Result T Stop) → LearnsMore plan.steps plan.roots (IsSettled l.board.sched) members s x t y r → LooksAtFiles plan.steps plan.roots (IsOfUnstarted l.board.sched t.facts) s x t y r
+pub look_learns : {T : Type 0} {notes : Bool} (plan : Plan) (l : Looks) (members : List ℕ) (s t : Sights) (x y : Outside) (r : Result T Stop) → LearnsMore notes plan.steps plan.roots (IsSettled l.board.sched) members s x t y r → LooksAtFiles plan.steps plan.roots (IsOfUnstarted l.board.sched t.facts) s x t y r
 look_learns plan l members s t x y r a = looks_map plan.steps plan.roots (IsNumberAtHand plan.steps (IsSettled l.board.sched) t.facts) (IsOfUnstarted l.board.sched t.facts) s t x y r (λ n is. at_hand_unstarted plan.steps l.board.sched t.facts n is) (looks_learned plan.steps plan.roots (IsSettled l.board.sched) members s t x y r a)
 
 -- one look, and then another

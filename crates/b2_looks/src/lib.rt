@@ -6,4 +6,4 @@
 
 pub mod laws;
 pub mod looks;
-mod step_files;
+pub mod step_files;

@@ -262,7 +262,7 @@ impl Looks {
         ensures told { LookTold plan.now (F.outside files.old) self.old sights.old
             (F.outside files.new) self.new sights.new result }
     {
-        if self.board.look(alloc, plan, sights, files, number)? {
+        if self.board.look(alloc, plan, sights, files, number, true)? {
             self.judge(alloc, plan, sights, files, number)?;
         }
         Ok(())

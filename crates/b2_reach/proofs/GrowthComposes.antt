@@ -54,23 +54,23 @@ module _ (steps : List Step) (settled more : ℕ → Type 0) (f g : Knowledge) (
         consistent = n.consistent;
       }
 
-  course_up : (log after_log : List LogLine) (x y : Outside) → Course steps settled f members log x after_log y → Course steps more g most log x after_log y
+  course_up : {notes : Bool} (log after_log : List LogLine) (x y : Outside) → Course notes steps settled f members log x after_log y → Course notes steps more g most log x after_log y
   course_up log after_log x y (looks l before after same) = looks l before after same
   course_up log after_log x y (read l before path stamp r away) = read l before path stamp (to_read_up l path stamp r) away
-  course_up log after_log x y (noted l before after line v n) = noted l before after line v (noted_up l line before after (Ok v) n)
+  course_up log after_log x y (noted l before after line v on n) = noted l before after line v on (noted_up l line before after (Ok v) n)
   course_up log after_log x y (next a b c p q r first then) = next a b c p q r (course_up a b p q first) (course_up b c q r then)
 
-  course_told_up : {T : Type 0} (log after_log : List LogLine) (x y : Outside) (r : Result T Stop) → CourseTold steps settled f members log x after_log y r → CourseTold steps more g most log x after_log y r
-  course_told_up log after_log x y (Ok v) course = course_up log after_log x y course
-  course_told_up log after_log x z (Err stop) (whole course) = whole (course_up log after_log x z course)
-  course_told_up log after_log x z (Err stop) (unnoted y path stamp course r last) = unnoted y path stamp (course_up log after_log x y course) (to_read_up after_log path stamp r) last
-  course_told_up log after_log x z (Err stop) (cut y line fault course n) = cut y line fault (course_up log after_log x y course) (noted_up after_log line y z (Err fault) n)
+  course_told_up : {T : Type 0} (notes : Bool) (log after_log : List LogLine) (x y : Outside) (r : Result T Stop) → CourseTold notes steps settled f members log x after_log y r → CourseTold notes steps more g most log x after_log y r
+  course_told_up notes log after_log x y (Ok v) course = course_up log after_log x y course
+  course_told_up notes log after_log x z (Err stop) (whole course) = whole (course_up log after_log x z course)
+  course_told_up notes log after_log x z (Err stop) (unnoted y path stamp course r last) = unnoted y path stamp (course_up log after_log x y course) (to_read_up after_log path stamp r) last
+  course_told_up notes log after_log x z (Err stop) (cut y line fault on course n) = cut y line fault on (course_up log after_log x y course) (noted_up after_log line y z (Err fault) n)
 
-course_then : {T : Type 0} (steps : List Step) (settled : ℕ → Type 0) (f : Knowledge) (members : List ℕ) (log more most : List LogLine) (x y z : Outside) (r : Result T Stop) → Course steps settled f members log x more y → CourseTold steps settled f members more y most z r → CourseTold steps settled f members log x most z r
+course_then : {T : Type 0} {notes : Bool} (steps : List Step) (settled : ℕ → Type 0) (f : Knowledge) (members : List ℕ) (log more most : List LogLine) (x y z : Outside) (r : Result T Stop) → Course notes steps settled f members log x more y → CourseTold notes steps settled f members more y most z r → CourseTold notes steps settled f members log x most z r
 course_then steps settled f members log more most x y z (Ok v) a b = next log more most x y z a b
 course_then steps settled f members log more most x y z (Err stop) a (whole b) = whole (next log more most x y z a b)
 course_then steps settled f members log more most x y z (Err stop) a (unnoted w path stamp b r last) = unnoted w path stamp (next log more most x y w a b) r last
-course_then steps settled f members log more most x y z (Err stop) a (cut w line fault b n) = cut w line fault (next log more most x y w a b) n
+course_then steps settled f members log more most x y z (Err stop) a (cut w line fault on b n) = cut w line fault on (next log more most x y w a b) n
 
 -- ---- counts
 
@@ -143,13 +143,13 @@ lined_then steps roots s t w x y z (Ok v) told first again = go x y z told first
     go (Some a) (Some b) (Some c) told first again = λ u apart build is lined. again u apart build (told u apart build is) (first u apart build is lined)
 
 -- more steps are settled, and more numbers are members
-pub grows_up : {T : Type 0} (steps : List Step) (roots : List (List ℕ)) (settled more : ℕ → Type 0) (members most : List ℕ) (s t : Sights) (x y : Outside) (r : Result T Stop) → ((number : ℕ) → settled number → more number) → ((m : ℕ) → Contains members m → Contains most m)
-    → LearnsMore steps roots settled members s x t y r → LearnsMore steps roots more most s x t y r
-grows_up steps roots settled more members most s t x y r so wider a = record {
+pub grows_up : {notes : Bool} {T : Type 0} (steps : List Step) (roots : List (List ℕ)) (settled more : ℕ → Type 0) (members most : List ℕ) (s t : Sights) (x y : Outside) (r : Result T Stop) → ((number : ℕ) → settled number → more number) → ((m : ℕ) → Contains members m → Contains most m)
+    → LearnsMore notes steps roots settled members s x t y r → LearnsMore notes steps roots more most s x t y r
+grows_up {notes} steps roots settled more members most s t x y r so wider a = record {
   only_log = a.only_log;
   faults = a.faults;
   learns = learns_more steps roots (IsNumberAtHand steps settled t.facts) (IsNumberAtHand steps more t.facts) s.facts t.facts (λ n is. hand_up steps settled more t.facts t.facts n so (grows_same t.facts) is) a.learns;
-  course = course_told_up steps settled more t.facts t.facts members most so (grows_same t.facts) wider s.journal t.journal x y r a.course;
+  course = course_told_up steps settled more t.facts t.facts members most so (grows_same t.facts) wider notes s.journal t.journal x y r a.course;
   told = a.told;
   lined = a.lined;
   too_big = big_up steps settled more members most t.facts y r so wider a.too_big;
@@ -157,8 +157,8 @@ grows_up steps roots settled more members most s t x y r so wider a = record {
 }
 
 -- one call, and then another
-pub grows_then : {T S : Type 0} (steps : List Step) (roots : List (List ℕ)) (settled : ℕ → Type 0) (members most : List ℕ) (s t w : Sights) (x y z : Outside) (v : T) (r : Result S Stop) → ((m : ℕ) → Contains members m → Contains most m)
-    → LearnsMore steps roots settled members s x t y (Ok v) → LearnsMore steps roots settled most t y w z r → LearnsMore steps roots settled most s x w z r
+pub grows_then : {T S : Type 0} {notes : Bool} (steps : List Step) (roots : List (List ℕ)) (settled : ℕ → Type 0) (members most : List ℕ) (s t w : Sights) (x y z : Outside) (v : T) (r : Result S Stop) → ((m : ℕ) → Contains members m → Contains most m)
+    → LearnsMore notes steps roots settled members s x t y (Ok v) → LearnsMore notes steps roots settled most t y w z r → LearnsMore notes steps roots settled most s x w z r
 grows_then steps roots settled members most s t w x y z v r wider a b = record {
   only_log = log_changes_then x y z a.only_log b.only_log;
   faults = told_then x y z r a.only_log.risks a.faults b.faults;
@@ -166,64 +166,64 @@ grows_then steps roots settled members most s t w x y z v r wider a b = record {
       (learns_more steps roots (IsNumberAtHand steps settled t.facts) (IsNumberAtHand steps settled w.facts) s.facts t.facts (λ n is. hand_up steps settled settled t.facts w.facts n (λ k so. so) b.learns.grows is) a.learns) b.learns;
   course = course_then steps settled w.facts most s.journal t.journal w.journal x y z r (course_up steps settled settled t.facts w.facts members most (λ number is. is) b.learns.grows wider s.journal t.journal x y a.course) b.course;
   told = both_then (StaysTrueSight steps roots s t) (StaysTrueSight steps roots t w) (StaysTrueSight steps roots s w) x.disk y.disk z.disk (λ c d e p q u apart build is. q u apart build (p u apart build is)) a.told b.told;
-  lined = lined_then steps roots s t w x.disk y.disk z.disk r a.told a.lined b.lined;
+  lined = λ on. lined_then steps roots s t w x.disk y.disk z.disk r a.told (a.lined on) (b.lined on);
   too_big = b.too_big;
   by_digest = b.by_digest ∙ a.by_digest;
 }
 
 -- a stop is handed on
-pub grows_err : {T S : Type 0} (steps : List Step) (roots : List (List ℕ)) (settled : ℕ → Type 0) (members : List ℕ) (s t : Sights) (x y : Outside) (stop : Stop) → LearnsMore {T = T} steps roots settled members s x t y (Err stop) → LearnsMore {T = S} steps roots settled members s x t y (Err stop)
+pub grows_err : {T S : Type 0} {notes : Bool} (steps : List Step) (roots : List (List ℕ)) (settled : ℕ → Type 0) (members : List ℕ) (s t : Sights) (x y : Outside) (stop : Stop) → LearnsMore {T = T} notes steps roots settled members s x t y (Err stop) → LearnsMore {T = S} notes steps roots settled members s x t y (Err stop)
 grows_err {T} {S} steps roots settled members s t x y stop a = record {
   only_log = a.only_log;
   faults = told_err T S x y stop a.faults;
   learns = a.learns;
   course = a.course;
   told = a.told;
-  lined = tt;
+  lined = λ on. tt;
   too_big = big_err T S steps settled members t.facts y stop a.too_big;
   by_digest = a.by_digest;
 }
 
 -- a stop is handed on by the exit of a `?`
-pub grows_err_as : {T S : Type 0} {steps : List Step} {roots : List (List ℕ)} {settled : ℕ → Type 0} {members : List ℕ} {s t : Sights} {x y : Outside} (stop : Stop) (r : Result S Stop) → r ≡ Err stop → LearnsMore {T = T} steps roots settled members s x t y (Err stop) → LearnsMore {T = S} steps roots settled members s x t y r
-grows_err_as {T} {S} {steps} {roots} {settled} {members} {s} {t} {x} {y} stop r is a = subst (LearnsMore {T = S} steps roots settled members s x t y) (sym is) (grows_err {T = T} {S = S} steps roots settled members s t x y stop a)
+pub grows_err_as : {T S : Type 0} {steps : List Step} {roots : List (List ℕ)} {settled : ℕ → Type 0} {members : List ℕ} {s t : Sights} {x y : Outside} {notes : Bool} (stop : Stop) (r : Result S Stop) → r ≡ Err stop → LearnsMore {T = T} notes steps roots settled members s x t y (Err stop) → LearnsMore {T = S} notes steps roots settled members s x t y r
+grows_err_as {T} {S} {steps} {roots} {settled} {members} {s} {t} {x} {y} {notes} stop r is a = subst (LearnsMore {T = S} notes steps roots settled members s x t y) (sym is) (grows_err {T = T} {S = S} steps roots settled members s t x y stop a)
 
 -- another value of the same
-pub grows_ok : {T S : Type 0} (steps : List Step) (roots : List (List ℕ)) (settled : ℕ → Type 0) (members : List ℕ) (s t : Sights) (x y : Outside) (v : T) (w : S) → LearnsMore steps roots settled members s x t y (Ok v) → LearnsMore steps roots settled members s x t y (Ok w)
+pub grows_ok : {T S : Type 0} {notes : Bool} (steps : List Step) (roots : List (List ℕ)) (settled : ℕ → Type 0) (members : List ℕ) (s t : Sights) (x y : Outside) (v : T) (w : S) → LearnsMore notes steps roots settled members s x t y (Ok v) → LearnsMore notes steps roots settled members s x t y (Ok w)
 grows_ok steps roots settled members s t x y v w a = record { only_log = a.only_log; faults = a.faults; learns = a.learns; course = a.course; told = a.told; lined = a.lined; too_big = tt; by_digest = a.by_digest }
 
 -- nothing happens, but that marks change
-pub grows_none : (steps : List Step) (roots : List (List ℕ)) (settled : ℕ → Type 0) (members : List ℕ) (s : Sights) (x : Outside) (v : Unit {0}) → LearnsMore steps roots settled members s x s x (Ok v)
+pub grows_none : {notes : Bool} (steps : List Step) (roots : List (List ℕ)) (settled : ℕ → Type 0) (members : List ℕ) (s : Sights) (x : Outside) (v : Unit {0}) → LearnsMore notes steps roots settled members s x s x (Ok v)
 grows_none steps roots settled members s x v = record {
   only_log = log_changes_same x x refl;
   faults = refl;
   learns = learns_same steps roots (IsNumberAtHand steps settled s.facts) s.facts;
   course = looks s.journal x x refl;
   told = both_same (StaysTrueSight steps roots s s) x.disk x.disk refl (λ d e u apart build is. is);
-  lined = both_same (StaysLined steps roots s s) x.disk x.disk refl (λ d e u apart build is lined. lined);
+  lined = λ on. both_same (StaysLined steps roots s s) x.disk x.disk refl (λ d e u apart build is lined. lined);
   too_big = tt;
   by_digest = refl;
 }
 
 -- no memory is left
-pub grows_no_memory : {T : Type 0} (steps : List Step) (roots : List (List ℕ)) (settled : ℕ → Type 0) (members : List ℕ) (s : Sights) (x : Outside) → LearnsMore {T = T} steps roots settled members s x s x (Err stops.OutOfMemory)
+pub grows_no_memory : {T : Type 0} {notes : Bool} (steps : List Step) (roots : List (List ℕ)) (settled : ℕ → Type 0) (members : List ℕ) (s : Sights) (x : Outside) → LearnsMore {T = T} notes steps roots settled members s x s x (Err stops.OutOfMemory)
 grows_no_memory steps roots settled members s x = record {
   only_log = log_changes_same x x refl;
   faults = refl;
   learns = learns_same steps roots (IsNumberAtHand steps settled s.facts) s.facts;
   course = whole (looks s.journal x x refl);
   told = both_same (StaysTrueSight steps roots s s) x.disk x.disk refl (λ d e u apart build is. is);
-  lined = tt;
+  lined = λ on. tt;
   too_big = tt;
   by_digest = refl;
 }
 
 -- so it does after what was done
-pub grows_stop : {T S : Type 0} {steps : List Step} {roots : List (List ℕ)} {settled : ℕ → Type 0} {members : List ℕ} {s t : Sights} {x y : Outside} (v : T) → LearnsMore steps roots settled members s x t y (Ok v) → LearnsMore {T = S} steps roots settled members s x t y (Err stops.OutOfMemory)
+pub grows_stop : {T S : Type 0} {steps : List Step} {roots : List (List ℕ)} {settled : ℕ → Type 0} {members : List ℕ} {s t : Sights} {x y : Outside} {notes : Bool} (v : T) → LearnsMore notes steps roots settled members s x t y (Ok v) → LearnsMore {T = S} notes steps roots settled members s x t y (Err stops.OutOfMemory)
 grows_stop {T} {S} {steps} {roots} {settled} {members} {s} {t} {x} {y} v a = grows_then {T = T} {S = S} steps roots settled members members s t t x y y v (Err stops.OutOfMemory) (λ m is. is) a (grows_no_memory {T = S} steps roots settled members t y)
 
 -- marks do not count
-pub grows_marks : {T : Type 0} (steps : List Step) (roots : List (List ℕ)) (settled : ℕ → Type 0) (members : List ℕ) (s t : Sights) (x y : Outside) (r : Result T Stop) (marks : List Bool) → LearnsMore steps roots settled members s x t y r → LearnsMore steps roots settled members s x (record t { marks = marks }) y r
+pub grows_marks : {T : Type 0} {notes : Bool} (steps : List Step) (roots : List (List ℕ)) (settled : ℕ → Type 0) (members : List ℕ) (s t : Sights) (x y : Outside) (r : Result T Stop) (marks : List Bool) → LearnsMore notes steps roots settled members s x t y r → LearnsMore notes steps roots settled members s x (record t { marks = marks }) y r
 grows_marks steps roots settled members s t x y r marks a = record {
   only_log = a.only_log;
   faults = a.faults;

@@ -1,5 +1,5 @@
 -- Pending members whose makers are settled are taken in, and are pending no longer.
-use Rattle.std.proofs.Common.{◌≡◌, ◌⊎◌, inl, inr, ℕ, ◌+◌, ◌<◌, ◌≤◌, List, [], ◌∷◌, ◌++◌, get_or, take, Some, Ok, slice_get, length, sym, ap, subst, ◌∙◌, arith}
+use Rattle.std.proofs.Common.{Bool, ◌≡◌, ◌⊎◌, inl, inr, ℕ, ◌+◌, ◌<◌, ◌≤◌, List, [], ◌∷◌, ◌++◌, get_or, take, Some, Ok, slice_get, length, sym, ap, subst, ◌∙◌, arith}
 use Rattle.std.specs.List.{Contains}
 use Rattle.std.proofs.lemmas.Bool.{cases_lt}
 use Rattle.std.proofs.lemmas.Option.{slice_get_within}
@@ -34,7 +34,7 @@ done_or_waits_grows steps roots settled f g r q n about is grown same more (inl 
 done_or_waits_grows steps roots settled f g r q n about is grown same more (inr waits_so) = inr (waits_on_grows steps roots settled f g n about is grown waits_so)
 
 -- a pending member that was taken is done, or waits on
-pub taken_pending : (plan : Plan) (settled : ℕ → Type 0) (number : ℕ) (r q : Reach) (s t : Sights) (x y : Outside) (due : Due) → Takes plan settled number r s x q t y (Ok due) → Contains r.pending number → IsDoneOrWaits plan.steps settled t.facts q number
+pub taken_pending : {notes : Bool} (plan : Plan) (settled : ℕ → Type 0) (number : ℕ) (r q : Reach) (s t : Sights) (x y : Outside) (due : Due) → Takes notes plan settled number r s x q t y (Ok due) → Contains r.pending number → IsDoneOrWaits plan.steps settled t.facts q number
 taken_pending plan settled number r q s t x y due took among = go due took.after_due
   where
     pending : Contains q.pending number
@@ -78,8 +78,8 @@ one_more_place P pending at number is so each place n low place_is = elim (cases
 ]
 
 -- one more pending member is done, or waits on
-pub done_next : (plan : Plan) (settled : ℕ → Type 0) (number at : ℕ) (first r q : Reach) (s t : Sights) (x y : Outside) (due : Due) → IsAbout plan.steps plan.roots s.facts → IsInOrder plan.steps settled s.facts r → r.pending ≡ first.pending → slice_get first.pending at ≡ Some number
-    → Takes plan settled number r s x q t y (Ok due) → ((place n : ℕ) → place < at → slice_get first.pending place ≡ Some n → IsDoneOrWaits plan.steps settled s.facts r n)
+pub done_next : {notes : Bool} (plan : Plan) (settled : ℕ → Type 0) (number at : ℕ) (first r q : Reach) (s t : Sights) (x y : Outside) (due : Due) → IsAbout plan.steps plan.roots s.facts → IsInOrder plan.steps settled s.facts r → r.pending ≡ first.pending → slice_get first.pending at ≡ Some number
+    → Takes notes plan settled number r s x q t y (Ok due) → ((place n : ℕ) → place < at → slice_get first.pending place ≡ Some n → IsDoneOrWaits plan.steps settled s.facts r n)
     → (place n : ℕ) → place < at + 1 → slice_get first.pending place ≡ Some n → IsDoneOrWaits plan.steps settled t.facts q n
 done_next plan settled number at first r q s t x y due about order same is took each place n low place_is =
     let number_among : Contains r.pending number = subst (λ l. Contains l number) (sym same) (among_at first.pending at number is) in

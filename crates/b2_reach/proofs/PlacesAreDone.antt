@@ -104,13 +104,13 @@ module _ (plan : Plan) (settled : ℕ → Type 0) (number : ℕ) (r : Reach) (s 
   pending_same : ChangesMembers r q → WaitMore settled t.facts r.pending q.pending
   pending_same same n among = inl (subst (λ l. Contains l n) (ap (λ (p : Reach). p.pending) same) among)
 
-  pub next_waits : (result : Result Due Stop) → Takes plan settled number r s x q t y result → WaitMore settled t.facts r.pending q.pending
+  pub next_waits : {notes : Bool} (result : Result Due Stop) → Takes notes plan settled number r s x q t y result → WaitMore settled t.facts r.pending q.pending
   next_waits result took = pending_same took.same
 
-  pub next_no_memory : (due : Due) → Takes plan settled number r s x q t y (Ok due) → LearnsMore {T = Unit {0}} plan.steps plan.roots settled q.members s x t y (Err stops.OutOfMemory)
+  pub next_no_memory : {notes : Bool} (due : Due) → Takes notes plan settled number r s x q t y (Ok due) → LearnsMore {T = Unit {0}} notes plan.steps plan.roots settled q.members s x t y (Err stops.OutOfMemory)
   next_no_memory due took = grows_then plan.steps plan.roots settled q.members q.members s t t x y y due (Err stops.OutOfMemory) (λ m a. a) took.grows (grows_no_memory plan.steps plan.roots settled q.members t y)
 
-  module _ (due : Due) (took : Takes plan settled number r s x q t y (Ok due)) (about : IsAbout plan.steps plan.roots s.facts) (at : slice_get r.members r.done ≡ Some number) (low : r.done < length r.members) where
+  module _ {notes : Bool} (due : Due) (took : Takes notes plan settled number r s x q t y (Ok due)) (about : IsAbout plan.steps plan.roots s.facts) (at : slice_get r.members r.done ≡ Some number) (low : r.done < length r.members) where
     still_at : slice_get q.members q.done ≡ Some number
     still_at =
         let e : slice_get (r.members ++ took.takes.gathers.added) r.done ≡ Some number = get_stays r.members took.takes.gathers.added r.done number at in
@@ -131,5 +131,5 @@ module _ (plan : Plan) (settled : ℕ → Type 0) (number : ℕ) (r : Reach) (s 
     pub next_marked : AreMarked t.marks (with_due q number due).members
     next_marked = subst (AreMarked t.marks) (sym (due_members q number due)) took.marked
 
-    pub next_grows : (v : Unit {0}) → LearnsMore plan.steps plan.roots settled (with_due q number due).members s x t y (Ok v)
-    next_grows v = subst (λ l. LearnsMore plan.steps plan.roots settled l s x t y (Ok v)) (sym (due_members q number due)) (grows_ok plan.steps plan.roots settled q.members s t x y due v took.grows)
+    pub next_grows : (v : Unit {0}) → LearnsMore notes plan.steps plan.roots settled (with_due q number due).members s x t y (Ok v)
+    next_grows v = subst (λ l. LearnsMore notes plan.steps plan.roots settled l s x t y (Ok v)) (sym (due_members q number due)) (grows_ok plan.steps plan.roots settled q.members s t x y due v took.grows)

@@ -1,5 +1,5 @@
 -- An update that has read well goes on to while members are scanned.
-use Rattle.std.proofs.Common.{◌≡◌, ◌≢◌, inl, inr, ℕ, List, [], ◌∷◌, ◌++◌, Option, Some, None, Result, Ok, Err, option_map, true, refl, sym, ap, subst, subst₂, ◌∙◌}
+use Rattle.std.proofs.Common.{◌≡◌, ◌≢◌, inl, inr, ℕ, Bool, true, false, List, [], ◌∷◌, ◌++◌, Option, Some, None, Result, Ok, Err, option_map, refl, sym, ap, subst, subst₂, ◌∙◌}
 use Rattle.std.specs.Option.{IfSome}
 use Rattle.std.specs.List.{Contains}
 use Rattle.std.proofs.lemmas.List.Elements.{Contains-append_left}
@@ -37,6 +37,9 @@ use Rattle.b2_reach.proofs.GrowthComposes.{both_then, both_same}
 use Rattle.b2_reach.proofs.MembersAreKnown.{read_is_known}
 
 -- ---- disks and reads
+
+true_false : true ≡ false → ⊥
+true_false e = let f : true ≡ false = e in cc
 
 -- what is told of two disks holds where the later one is visible
 both_at : (P : Disk → Disk → Type 0) (o p : Option Disk) (b : Disk) → BothTold P o p → p ≡ Some b → (a : Disk) × (o ≡ Some a) × P a b
@@ -81,17 +84,17 @@ both_map P Q None (Some b) f told = absurd told
 both_map P Q (Some a) None f told = absurd told
 both_map P Q (Some a) (Some b) f told = f a b told
 
-course_agrees : (steps : List Step) (settled : ℕ → Type 0) (f : Knowledge) (members : List ℕ) (log more : List LogLine) (x y : Outside) → Course steps settled f members log x more y → BothTold Agrees x.disk y.disk
+course_agrees : {notes : Bool} (steps : List Step) (settled : ℕ → Type 0) (f : Knowledge) (members : List ℕ) (log more : List LogLine) (x y : Outside) → Course notes steps settled f members log x more y → BothTold Agrees x.disk y.disk
 course_agrees steps settled f members log more x y (looks l before after same) = both_same Agrees before.disk after.disk (ap (λ (o : Outside). o.disk) same) (λ d e path other. refl)
 course_agrees steps settled f members log more x y (read_gone l before path stamp r away) = both_same Agrees before.disk before.disk refl (λ d e other apart. refl)
-course_agrees steps settled f members log more x y (noted l before after line v n) = both_map (ChangesOnlyAt log_path) Agrees before.disk after.disk (λ a b only. only.others) n.only_log.files
+course_agrees steps settled f members log more x y (noted l before after line v on n) = both_map (ChangesOnlyAt log_path) Agrees before.disk after.disk (λ a b only. only.others) n.only_log.files
 course_agrees steps settled f members log more x y (then_next a b c p q r first later) =
     both_then Agrees Agrees Agrees p.disk q.disk r.disk (λ d e g one two path other. two path other ∙ one path other) (course_agrees steps settled f members a b p q first) (course_agrees steps settled f members b c q r later)
 
-stop_agrees : (steps : List Step) (settled : ℕ → Type 0) (f : Knowledge) (members : List ℕ) (log more : List LogLine) (x z : Outside) → CourseToStop steps settled f members log x more z → BothTold Agrees x.disk z.disk
+stop_agrees : {notes : Bool} (steps : List Step) (settled : ℕ → Type 0) (f : Knowledge) (members : List ℕ) (log more : List LogLine) (x z : Outside) → CourseToStop notes steps settled f members log x more z → BothTold Agrees x.disk z.disk
 stop_agrees steps settled f members log more x z (whole course) = course_agrees steps settled f members log more x z course
 stop_agrees steps settled f members log more x z (unnoted y path stamp course r last) = subst (λ o. BothTold Agrees x.disk o) (sym (ap (λ (o : Outside). o.disk) last)) (course_agrees steps settled f members log more x y course)
-stop_agrees steps settled f members log more x z (cut y line fault course n) =
+stop_agrees steps settled f members log more x z (cut y line fault on course n) =
     both_then Agrees Agrees Agrees x.disk y.disk z.disk (λ d e g one two path other. two path other ∙ one path other) (course_agrees steps settled f members log more x y course)
     (both_map (ChangesOnlyAt log_path) Agrees y.disk z.disk (λ a b only. only.others) n.only_log.files)
 
@@ -187,16 +190,19 @@ module _ (u : Update) (events : List ChildEvent) (entry : Option (List ℕ)) (no
         }),
       )
 
-  course_well : (log more : List LogLine) (x y : Outside) → Course steps settled f members log x more y → Well log x → Well more y
+  course_well : (log more : List LogLine) (x y : Outside) → Course true steps settled f members log x more y → Well log x → Well more y
   course_well log more x y (looks l before after same) well = λ d rs disk_is reads_is. well d rs (sym (ap (λ (o : Outside). o.disk) same) ∙ disk_is) (sym (ap (λ (o : Outside). o.reads) same) ∙ reads_is)
   course_well log more x y (read_gone l before path stamp r away) well = λ d rb disk_is reads_is. (
       let (rs, rs_is, rb_is) = reads_are path d rb before.reads before.disk reads_is disk_is in
       let (agrees, was) = well d rs disk_is rs_is in
-      absurd (not_gone u events entry now l d agrees rs was path stamp (called l path stamp r) r.unknown (if_at (λ (disk : Disk). disk.now path ≡ None) before.disk d disk_is away)))
-  course_well log more x y (noted l before after line v n) well = well_noted l before after line v n well
+      elim away [
+        | inl off ↦ absurd (true_false off)
+        | inr gone ↦ absurd (not_gone u events entry now l d agrees rs was path stamp (called l path stamp r) r.unknown (if_at (λ (disk : Disk). disk.now path ≡ None) before.disk d disk_is gone))
+      ])
+  course_well log more x y (noted l before after line v on n) well = well_noted l before after line v n well
   course_well log more x y (then_next a b c p q r first later) well = course_well b c q r later (course_well a b p q first well)
 
-  stop_well : (log more : List LogLine) (x z : Outside) → CourseToStop steps settled f members log x more z → Well log x → ReadsUpToLast u events z
+  stop_well : (log more : List LogLine) (x z : Outside) → CourseToStop true steps settled f members log x more z → Well log x → ReadsUpToLast u events z
   stop_well log more x z (whole course) well d rs disk_is reads_is = let (agrees, was) = course_well log more x z course well d rs disk_is reads_is in (was.once, was.leave)
   stop_well log more x z (unnoted y path stamp course r last) well d rb disk_is reads_is =
       let y_disk : y.disk ≡ Some d = sym (ap (λ (o : Outside). o.disk) last) ∙ disk_is in
@@ -205,7 +211,7 @@ module _ (u : Update) (events : List ChildEvent) (entry : Option (List ℕ)) (no
       let call = called more path stamp r in
       subst (λ l. ReadsOnce u events d.past l × ReadsLeaveLines u d.past l) (sym rb_is)
       (once_more u events entry now more d agrees rs was path stamp call r.unknown, leave_more u events entry now more d agrees rs was path stamp call r.unknown)
-  stop_well log more x z (cut y line fault course n) well b rb disk_is reads_is =
+  stop_well log more x z (cut y line fault on course n) well b rb disk_is reads_is =
       let (a, a_is, only) = both_at (ChangesOnlyAt log_path) y.disk z.disk b n.only_log.files disk_is in
       let (rs, rs_is, rb_is) = reads_are line.path a rb y.reads y.disk (sym (appends_reads {T = Unit {0}} (spelling (lines.Scan line)) (after_read line.path y) z (Err fault) n.appends) ∙ reads_is) a_is in
       let (agrees, was) = course_well log more x y course well a rs a_is rs_is in

@@ -44,7 +44,7 @@ use Rattle.b2_reach.specs.declared.sights.Sights.{Sights}
 use Rattle.b2_reach.specs.Files.{IsAtHand, IsAtHand.source as hand_source, IsAtHand.made as hand_made, IsNumberAtHand, IsMakerOf}
 use Rattle.b2_facts.specs.Stops.{StopTold, stop_of_io, stop_of_read}
 use Rattle.b2_journal.specs.Notes.{Notes}
-use Rattle.b2_reach.specs.Courses.{IsDueToRead, IsScanNoted, Course, Course.looks, Course.read, Course.noted, CourseToStop, CourseToStop.whole, CourseToStop.unnoted, CourseToStop.cut}
+use Rattle.b2_reach.specs.Courses.{IsDueToRead, IsScanNoted, HasNoLine, Course, Course.looks, Course.read, Course.noted, CourseToStop, CourseToStop.whole, CourseToStop.unnoted, CourseToStop.cut}
 use Rattle.b2_reach.specs.Sightings.{IsTrueSight, StaysTrueSight, StaysLined, TellsTooBig, LearnsMore, IsReadOrGone}
 use Rattle.b2_reach.proofs.FoundMakerMakesPath.{maker_makes}
 use Rattle.b2_reach.proofs.ReachGrows.{at_hand_grows, was_file}
@@ -71,6 +71,9 @@ fails_disk x y failed = ap (λ (o : Outside). o.disk) failed.same
 told_at : {X : Type 0} (P : X → Type 0) (o : Option X) (d : X) → o ≡ Some d → IfSome o P → P d
 told_at P o d e h = subst (λ z. IfSome z P) e h
 
+true_false : true ≡ false → ⊥
+true_false e = let f : true ≡ false = e in cc
+
 one_among : (n : ℕ) → Contains (n ∷ []) n
 one_among n = (zero, omega arith, refl)
 
@@ -90,44 +93,44 @@ module _ (steps : List Step) (roots : List (List ℕ)) (settled : ℕ → Type 0
   look_lined : (d : Disk) → x.disk ≡ Some d → StaysLined steps roots s seen_more d d
   look_lined d e u apart build is lined = lined_grows steps roots OfNone s.facts g s.journal (about_plan steps roots u.build s.facts build is.about) learns (λ n path file none. absurd none) lined
 
-  pub look_same : {T : Type 0} (members : List ℕ) (y : Outside) (v : T) → y ≡ x → LearnsMore steps roots settled members s x seen_more y (Ok v)
+  pub look_same : {T : Type 0} {notes : Bool} (members : List ℕ) (y : Outside) (v : T) → y ≡ x → LearnsMore notes steps roots settled members s x seen_more y (Ok v)
   look_same members y v same = record {
     only_log = log_changes_same x y same;
     faults = faults_same x y same;
     learns = look_learns;
     course = looks s.journal x y (looks_same x y same);
     told = both_same (StaysTrueSight steps roots s seen_more) x.disk y.disk (ap (λ (o : Outside). o.disk) same) look_told;
-    lined = both_same (StaysLined steps roots s seen_more) x.disk y.disk (ap (λ (o : Outside). o.disk) same) look_lined;
+    lined = λ on. both_same (StaysLined steps roots s seen_more) x.disk y.disk (ap (λ (o : Outside). o.disk) same) look_lined;
     too_big = tt;
     by_digest = refl;
   }
 
-  pub look_fails : {T : Type 0} (members : List ℕ) (y : Outside) → Fails x y → LearnsMore {T = T} steps roots settled members s x seen_more y (Err stops.Host)
+  pub look_fails : {T : Type 0} {notes : Bool} (members : List ℕ) (y : Outside) → Fails x y → LearnsMore {T = T} notes steps roots settled members s x seen_more y (Err stops.Host)
   look_fails members y failed = record {
     only_log = log_changes_fails x y failed;
     faults = (failed.may_fail, failed.rose);
     learns = look_learns;
     course = whole (looks s.journal x y failed.same);
     told = both_same (StaysTrueSight steps roots s seen_more) x.disk y.disk (fails_disk x y failed) look_told;
-    lined = tt;
+    lined = λ on. tt;
     too_big = tt;
     by_digest = refl;
   }
 
-  pub look_no_memory : {T : Type 0} (members : List ℕ) (y : Outside) → y ≡ x → LearnsMore {T = T} steps roots settled members s x seen_more y (Err stops.OutOfMemory)
+  pub look_no_memory : {T : Type 0} {notes : Bool} (members : List ℕ) (y : Outside) → y ≡ x → LearnsMore {T = T} notes steps roots settled members s x seen_more y (Err stops.OutOfMemory)
   look_no_memory members y same = record {
     only_log = log_changes_same x y same;
     faults = faults_same x y same;
     learns = look_learns;
     course = whole (looks s.journal x y (looks_same x y same));
     told = both_same (StaysTrueSight steps roots s seen_more) x.disk y.disk (ap (λ (o : Outside). o.disk) same) look_told;
-    lined = tt;
+    lined = λ on. tt;
     too_big = tt;
     by_digest = refl;
   }
 
   -- a look, by its result
-  pub look_io : {T : Type 0} (members : List ℕ) (y : Outside) (fault : IoFault) → IoLooks {T = T} x y (Err fault) → LearnsMore {T = T} steps roots settled members s x seen_more y (Err (stop_of_io fault))
+  pub look_io : {T : Type 0} {notes : Bool} (members : List ℕ) (y : Outside) (fault : IoFault) → IoLooks {T = T} x y (Err fault) → LearnsMore {T = T} notes steps roots settled members s x seen_more y (Err (stop_of_io fault))
   look_io members y io.Failed failed = look_fails members y failed
   look_io members y io.OutOfMemory same = look_no_memory members y same
 
@@ -189,38 +192,38 @@ module _ (steps : List Step) (roots : List (List ℕ)) (s : Sights) (g : Knowled
       (λ n one at. scan_not_log u apart build about n one at later.0 later.1) is
 
   -- where the file was not read
-  pub scan_same : {T : Type 0} (y : Outside) (v : T) → y ≡ x → ((d : Disk) → x.disk ≡ Some d → StaysLined steps roots s scanned_sights d d) → LearnsMore steps roots maker (number ∷ []) s x scanned_sights y (Ok v)
+  pub scan_same : {T : Type 0} {notes : Bool} (y : Outside) (v : T) → y ≡ x → ((d : Disk) → x.disk ≡ Some d → StaysLined steps roots s scanned_sights d d) → LearnsMore notes steps roots maker (number ∷ []) s x scanned_sights y (Ok v)
   scan_same y v same lined = record {
     only_log = log_changes_same x y same;
     faults = faults_same x y same;
     learns = scan_learns;
     course = looks s.journal x y (looks_same x y same);
     told = both_same (StaysTrueSight steps roots s scanned_sights) x.disk y.disk (ap (λ (o : Outside). o.disk) same) scan_told;
-    lined = both_same (StaysLined steps roots s scanned_sights) x.disk y.disk (ap (λ (o : Outside). o.disk) same) lined;
+    lined = λ on. both_same (StaysLined steps roots s scanned_sights) x.disk y.disk (ap (λ (o : Outside). o.disk) same) lined;
     too_big = tt;
     by_digest = refl;
   }
 
-  pub scan_fails : {T : Type 0} (y : Outside) → Fails x y → LearnsMore {T = T} steps roots maker (number ∷ []) s x scanned_sights y (Err stops.Host)
+  pub scan_fails : {T : Type 0} {notes : Bool} (y : Outside) → Fails x y → LearnsMore {T = T} notes steps roots maker (number ∷ []) s x scanned_sights y (Err stops.Host)
   scan_fails y failed = record {
     only_log = log_changes_fails x y failed;
     faults = (failed.may_fail, failed.rose);
     learns = scan_learns;
     course = whole (looks s.journal x y failed.same);
     told = both_same (StaysTrueSight steps roots s scanned_sights) x.disk y.disk (fails_disk x y failed) scan_told;
-    lined = tt;
+    lined = λ on. tt;
     too_big = tt;
     by_digest = refl;
   }
 
-  pub scan_no_memory : {T : Type 0} (y : Outside) → y ≡ x → LearnsMore {T = T} steps roots maker (number ∷ []) s x scanned_sights y (Err stops.OutOfMemory)
+  pub scan_no_memory : {T : Type 0} {notes : Bool} (y : Outside) → y ≡ x → LearnsMore {T = T} notes steps roots maker (number ∷ []) s x scanned_sights y (Err stops.OutOfMemory)
   scan_no_memory y same = record {
     only_log = log_changes_same x y same;
     faults = faults_same x y same;
     learns = scan_learns;
     course = whole (looks s.journal x y (looks_same x y same));
     told = both_same (StaysTrueSight steps roots s scanned_sights) x.disk y.disk (ap (λ (o : Outside). o.disk) same) scan_told;
-    lined = tt;
+    lined = λ on. tt;
     too_big = tt;
     by_digest = refl;
   }
@@ -238,10 +241,10 @@ module _ (steps : List Step) (roots : List (List ℕ)) (s : Sights) (g : Knowled
     unknown = r.unknown;
   }
 
-  read_course : (y : Outside) (r : ReadsToScan g number s.journal x y) → IfSome x.disk (λ disk. disk.now r.path ≡ None) → Course steps maker g (number ∷ []) s.journal x s.journal y
-  read_course y r away = subst (Course steps maker g (number ∷ []) s.journal x s.journal) (sym r.read) (read s.journal x r.path r.stamp (to_read y r) away)
+  read_course : {notes : Bool} (y : Outside) (r : ReadsToScan g number s.journal x y) → HasNoLine notes r.path x → Course notes steps maker g (number ∷ []) s.journal x s.journal y
+  read_course {notes} y r away = subst (Course notes steps maker g (number ∷ []) s.journal x s.journal) (sym r.read) (read s.journal x r.path r.stamp (to_read y r) away)
 
-  read_last : (y : Outside) → ReadsToScan g number s.journal x y → CourseToStop steps maker g (number ∷ []) s.journal x s.journal y
+  read_last : {notes : Bool} (y : Outside) → ReadsToScan g number s.journal x y → CourseToStop notes steps maker g (number ∷ []) s.journal x s.journal y
   read_last y r = unnoted x r.path r.stamp (looks s.journal x x refl) (to_read y r) r.read
 
   read_log : (y : Outside) → ReadsToScan g number s.journal x y → ChangesOnlyLog x y
@@ -250,40 +253,41 @@ module _ (steps : List Step) (roots : List (List ℕ)) (s : Sights) (g : Knowled
   read_disk : (y : Outside) → ReadsToScan g number s.journal x y → y.disk ≡ x.disk
   read_disk y r = ap (λ (o : Outside). o.disk) r.read
 
-  pub read_gone : {T : Type 0} (y : Outside) (v : T) (r : ReadsToScan g number s.journal x y) → IfSome x.disk (λ disk. disk.now r.path ≡ None) → ((d : Disk) → x.disk ≡ Some d → StaysLined steps roots s scanned_sights d d) → LearnsMore steps roots maker (number ∷ []) s x scanned_sights y (Ok v)
-  read_gone y v r away lined = record {
+  -- and has no line
+  pub read_unlined : {T : Type 0} {notes : Bool} (y : Outside) (v : T) (r : ReadsToScan g number s.journal x y) → HasNoLine notes r.path x → (notes ≡ true → (d : Disk) → x.disk ≡ Some d → StaysLined steps roots s scanned_sights d d) → LearnsMore notes steps roots maker (number ∷ []) s x scanned_sights y (Ok v)
+  read_unlined y v r away lined = record {
     only_log = read_log y r;
     faults = ap (λ (o : Outside). o.faults) r.read;
     learns = scan_learns;
     course = read_course y r away;
     told = both_same (StaysTrueSight steps roots s scanned_sights) x.disk y.disk (read_disk y r) scan_told;
-    lined = both_same (StaysLined steps roots s scanned_sights) x.disk y.disk (read_disk y r) lined;
+    lined = λ on. both_same (StaysLined steps roots s scanned_sights) x.disk y.disk (read_disk y r) (lined on);
     too_big = tt;
     by_digest = refl;
   }
 
-  pub read_no_memory : {T : Type 0} (y : Outside) → ReadsToScan g number s.journal x y → LearnsMore {T = T} steps roots maker (number ∷ []) s x scanned_sights y (Err stops.OutOfMemory)
+  pub read_no_memory : {T : Type 0} {notes : Bool} (y : Outside) → ReadsToScan g number s.journal x y → LearnsMore {T = T} notes steps roots maker (number ∷ []) s x scanned_sights y (Err stops.OutOfMemory)
   read_no_memory y r = record {
     only_log = read_log y r;
     faults = ap (λ (o : Outside). o.faults) r.read;
     learns = scan_learns;
     course = read_last y r;
     told = both_same (StaysTrueSight steps roots s scanned_sights) x.disk y.disk (read_disk y r) scan_told;
-    lined = tt;
+    lined = λ on. tt;
     too_big = tt;
     by_digest = refl;
   }
 
   -- where it was too big
-  pub read_too_big : {T : Type 0} (y : Outside) (size : ℕ) → IsNumber s.facts number → ReadsToScan g number s.journal x y → IfSome x.disk (λ disk. (path : List ℕ) → path_at s.facts number ≡ Some path → IsTooBigFor 16777216 path disk.now (faults.TooBig size))
-      → LearnsMore {T = T} steps roots maker (number ∷ []) s x scanned_sights y (Err (stops.TooBig number size))
+  pub read_too_big : {T : Type 0} {notes : Bool} (y : Outside) (size : ℕ) → IsNumber s.facts number → ReadsToScan g number s.journal x y → IfSome x.disk (λ disk. (path : List ℕ) → path_at s.facts number ≡ Some path → IsTooBigFor 16777216 path disk.now (faults.TooBig size))
+      → LearnsMore {T = T} notes steps roots maker (number ∷ []) s x scanned_sights y (Err (stops.TooBig number size))
   read_too_big y size within r large = record {
     only_log = read_log y r;
     faults = ap (λ (o : Outside). o.faults) r.read;
     learns = scan_learns;
     course = read_last y r;
     told = both_same (StaysTrueSight steps roots s scanned_sights) x.disk y.disk (read_disk y r) scan_told;
-    lined = tt;
+    lined = λ on. tt;
     too_big = record {
       among = one_among number;
       path = r.path;
@@ -367,26 +371,26 @@ module _ (steps : List Step) (roots : List (List ℕ)) (s : Sights) (g : Knowled
         let h = scan_told d e u apart build is in
         sight_line u d scanned_sights noted_sights line (line_true u d scanned_sights number r.file line line_file answer.stands answer.includes h) refl refl h
 
-    pub read_noted : {T : Type 0} (v : Unit {0}) (w : T) → AllByRecursion IsGood (s.journal ++ lines.Scan line ∷ []) → Appends log_path (spelling (lines.Scan line)) y z (Ok v) → BothTold (λ old new. Notes (lines.Scan line) s.journal old new (Ok v)) y.disk z.disk → z.faults ≡ y.faults → ((d : Disk) → x.disk ≡ Some d → StaysLined steps roots s noted_sights d d) → LearnsMore steps roots maker (number ∷ []) s x noted_sights z (Ok w)
-    read_noted v w good appends notes counts lined = record {
+    pub read_noted : {T : Type 0} {notes : Bool} (v : Unit {0}) (w : T) → notes ≡ true → AllByRecursion IsGood (s.journal ++ lines.Scan line ∷ []) → Appends log_path (spelling (lines.Scan line)) y z (Ok v) → BothTold (λ old new. Notes (lines.Scan line) s.journal old new (Ok v)) y.disk z.disk → z.faults ≡ y.faults → ((d : Disk) → x.disk ≡ Some d → StaysLined steps roots s noted_sights d d) → LearnsMore notes steps roots maker (number ∷ []) s x noted_sights z (Ok w)
+    read_noted v w on good appends notes counts lined = record {
       only_log = log_changes_then x y z (read_log y r) only;
       faults = counts ∙ ap (λ (o : Outside). o.faults) r.read;
       learns = scan_learns;
-      course = noted s.journal x z line v (line_noted (Ok v) good appends notes);
+      course = noted s.journal x z line v on (line_noted (Ok v) good appends notes);
       told = moved_both noted_sights line_told;
-      lined = lined_both noted_sights lined;
+      lined = λ on. lined_both noted_sights lined;
       too_big = tt;
       by_digest = refl;
     }
 
-    pub read_cut : {T : Type 0} (fault : IoFault) → Appends {T = Unit {0}} log_path (spelling (lines.Scan line)) y z (Err fault) → BothTold (λ old new. Notes {T = Unit {0}} (lines.Scan line) s.journal old new (Err fault)) y.disk z.disk → IoFaultTold {T = Unit {0}} y.faults z.faults (Err fault) → LearnsMore {T = T} steps roots maker (number ∷ []) s x scanned_sights z (Err (stop_of_io fault))
-    read_cut {T} fault appends notes counts = record {
+    pub read_cut : {T : Type 0} {notes : Bool} (fault : IoFault) → notes ≡ true → Appends {T = Unit {0}} log_path (spelling (lines.Scan line)) y z (Err fault) → BothTold (λ old new. Notes {T = Unit {0}} (lines.Scan line) s.journal old new (Err fault)) y.disk z.disk → IoFaultTold {T = Unit {0}} y.faults z.faults (Err fault) → LearnsMore {T = T} notes steps roots maker (number ∷ []) s x scanned_sights z (Err (stop_of_io fault))
+    read_cut {T} fault on appends notes counts = record {
       only_log = log_changes_then x y z (read_log y r) only;
       faults = cut_told T fault appends counts;
       learns = scan_learns;
-      course = cut x line fault (looks s.journal x x refl) (line_noted (Err fault) tt appends notes);
+      course = cut x line fault on (looks s.journal x x refl) (line_noted (Err fault) tt appends notes);
       told = moved_both scanned_sights scan_told;
-      lined = tt;
+      lined = λ on. tt;
       too_big = cut_big T fault;
       by_digest = refl;
     }
@@ -437,8 +441,8 @@ gone_read s g number x y has within grown does file at is =
 
 module _ (steps : List Step) (roots : List (List ℕ)) (s : Sights) (g : Knowledge) (number : ℕ) (within : IsNumber s.facts number) (file : FileFacts) (known : file_at s.facts number ≡ Some file) (scanned : file.scanned ≡ true)
     (hand : IsAtHand steps (IsMakerOf s.facts number) file) (learns : Learns steps roots (OfOne number) s.facts g) (x y : Outside) where
-  abbrev Comes : (T : Type 0) → Sights → Outside → Result T Stop → Type 0
-  Comes T t z result = LearnsMore {T = T} steps roots (IsMakerOf s.facts number) (number ∷ []) s x t z result
+  abbrev Comes : (T : Type 0) → Bool → Sights → Outside → Result T Stop → Type 0
+  Comes T notes t z result = LearnsMore {T = T} notes steps roots (IsMakerOf s.facts number) (number ∷ []) s x t z result
 
   -- what is true of the file with this number afterwards
   true_after : (told : IfSome x.disk (ScanTold s g)) (d : Disk) → x.disk ≡ Some d → (u : Update) → Apart u.build.steps u.build.roots → IsBuildOf steps roots u.build → IsTrueSight u d s → IsTrueSight u d (record s { facts = g })
@@ -469,7 +473,7 @@ module _ (steps : List Step) (roots : List (List ℕ)) (s : Sights) (g : Knowled
         | inr lost ↦ absurd (none_some bytes (sym (ap (option_map (λ (f : File). f.bytes)) (told_at (λ disk. disk.now path ≡ None) x.disk d e lost.gone)) ∙ stands))
       ])) lined
 
-  pub exit_known : (v : Bool) → DoesScan s g number s.journal x y (Ok answers.Known) → Comes Bool (record s { facts = g }) y (Ok v)
+  pub exit_known : {notes : Bool} (v : Bool) → DoesScan s g number s.journal x y (Ok answers.Known) → Comes Bool notes (record s { facts = g }) y (Ok v)
   exit_known v does = scan_same steps roots s g number file known hand scanned learns x does.told y v does.effect (known_lined does)
 
   away_at : (r : ReadsToScan g number s.journal x y) → DoesScan s g number s.journal x y (Ok answers.Gone) → IfSome x.disk (λ disk. disk.now r.path ≡ None)
@@ -478,19 +482,24 @@ module _ (steps : List Step) (roots : List (List ℕ)) (s : Sights) (g : Knowled
     | inr lost ↦ lost.gone
   ]
 
-  pub exit_gone : (v : Bool) → DoesScan s g number s.journal x y (Ok answers.Gone) → Comes Bool (record s { facts = g }) y (Ok v)
+  pub exit_gone : {notes : Bool} (v : Bool) → DoesScan s g number s.journal x y (Ok answers.Gone) → Comes Bool notes (record s { facts = g }) y (Ok v)
   exit_gone v does = elim does.effect [
     | inl same ↦ scan_same steps roots s g number file known hand scanned learns x does.told y v same (gone_lined does)
-    | inr r ↦ read_gone steps roots s g number file known hand scanned learns x does.told y v r (away_at r does) (gone_lined does)
+    | inr r ↦ read_unlined steps roots s g number file known hand scanned learns x does.told y v r (inr (away_at r does)) (λ on. gone_lined does)
   ]
 
-  pub exit_fault : (fault : ReadFault) → DoesScan s g number s.journal x y (Err fault) → Comes Bool (record s { facts = g }) y (Err (stop_of_read fault number))
+  pub exit_fault : {notes : Bool} (fault : ReadFault) → DoesScan s g number s.journal x y (Err fault) → Comes Bool notes (record s { facts = g }) y (Err (stop_of_read fault number))
   exit_fault faults.Failed does = scan_fails steps roots s g number file known hand scanned learns x does.told {T = Bool} y does.effect
   exit_fault faults.OutOfMemory does = elim does.effect [
     | inl same ↦ scan_no_memory steps roots s g number file known hand scanned learns x does.told {T = Bool} y same
     | inr r ↦ read_no_memory steps roots s g number file known hand scanned learns x does.told {T = Bool} y r
   ]
   exit_fault (faults.TooBig size) does = read_too_big steps roots s g number file known hand scanned learns x does.told {T = Bool} y size within does.effect does.too_big
+
+  -- lines are not noted
+  pub exit_unnoted : {notes : Bool} (line : ScanLine) (v : Bool) → notes ≡ false → DoesScan s g number s.journal x y (Ok (answers.Read line)) → Comes Bool notes (record s { facts = g }) y (Ok v)
+  exit_unnoted line v off does =
+      read_unlined steps roots s g number file known hand scanned learns x does.told y v does.effect (inl off) (λ on. absurd (true_false (sym on ∙ off)))
 
   module _ (line : ScanLine) (does : DoesScan s g number s.journal x y (Ok (answers.Read line))) (z : Outside) (only : ChangesOnlyLog y z) (consistent : IfSome z.disk IsConsistent) (journal : List LogLine) where
     line_lined : (d : Disk) → x.disk ≡ Some d → StaysLined steps roots s (record s { facts = g; journal = s.journal ++ lines.Scan line ∷ [] }) d d
@@ -506,19 +515,19 @@ module _ (steps : List Step) (roots : List (List ℕ)) (s : Sights) (g : Knowled
         record { stamp = line.stamp; stands = told.stands; line = line; found = subst (λ p. find_scan p line.stamp (s.journal ++ lines.Scan line ∷ []) ≡ Some line) told.path_is (last_scan s.journal line) }))
         (lined_after_line u.build d.now s.facts s.journal (lines.Scan line) is.facts (λ t same. (let f : lines.Scan line ≡ lines.Scan t = same in let one : line ≡ t = cc in subst (λ (q : ScanLine). stamp_at d.now q.path ≡ Some q.stamp) one stands)) lined)
 
-    pub exit_noted : (v : Unit {0}) → journal ≡ s.journal ++ lines.Scan line ∷ [] → AllByRecursion IsGood journal → Appends log_path (spelling (lines.Scan line)) y z (Ok v) → z.faults ≡ y.faults → BothTold (λ old new. Notes (lines.Scan line) s.journal old new (Ok v)) y.disk z.disk
-        → Comes Bool (record s { facts = g; journal = journal }) z (Ok true)
-    exit_noted v longer good appends counts notes =
+    pub exit_noted : {notes : Bool} (v : Unit {0}) → notes ≡ true → journal ≡ s.journal ++ lines.Scan line ∷ [] → AllByRecursion IsGood journal → Appends log_path (spelling (lines.Scan line)) y z (Ok v) → z.faults ≡ y.faults → BothTold (λ old new. Notes (lines.Scan line) s.journal old new (Ok v)) y.disk z.disk
+        → Comes Bool notes (record s { facts = g; journal = journal }) z (Ok true)
+    exit_noted {notes} v on longer good appends counts noted_so =
         let r = does.effect in
-        subst (λ j. Comes Bool (record s { facts = g; journal = j }) z (Ok true)) (sym longer)
-        (read_noted steps roots s g number file known hand scanned learns x does.told y r line (does.answer r.path r.file r.is_file) z only consistent v true (subst (AllByRecursion IsGood) longer good) appends notes counts line_lined)
+        subst (λ j. Comes Bool notes (record s { facts = g; journal = j }) z (Ok true)) (sym longer)
+        (read_noted steps roots s g number file known hand scanned learns x does.told y r line (does.answer r.path r.file r.is_file) z only consistent v true on (subst (AllByRecursion IsGood) longer good) appends noted_so counts line_lined)
 
-    pub exit_cut : (fault : IoFault) → journal ≡ s.journal → Appends {T = Unit {0}} log_path (spelling (lines.Scan line)) y z (Err fault) → IoFaultTold {T = Unit {0}} y.faults z.faults (Err fault)
-        → BothTold (λ old new. Notes {T = Unit {0}} (lines.Scan line) s.journal old new (Err fault)) y.disk z.disk → Comes Bool (record s { facts = g; journal = journal }) z (Err (stop_of_io fault))
-    exit_cut fault same appends counts notes =
+    pub exit_cut : {notes : Bool} (fault : IoFault) → notes ≡ true → journal ≡ s.journal → Appends {T = Unit {0}} log_path (spelling (lines.Scan line)) y z (Err fault) → IoFaultTold {T = Unit {0}} y.faults z.faults (Err fault)
+        → BothTold (λ old new. Notes {T = Unit {0}} (lines.Scan line) s.journal old new (Err fault)) y.disk z.disk → Comes Bool notes (record s { facts = g; journal = journal }) z (Err (stop_of_io fault))
+    exit_cut {notes} fault on same appends counts noted_so =
         let r = does.effect in
-        subst (λ j. Comes Bool (record s { facts = g; journal = j }) z (Err (stop_of_io fault))) (sym same)
-        (read_cut steps roots s g number file known hand scanned learns x does.told y r line (does.answer r.path r.file r.is_file) z only consistent {T = Bool} fault appends notes counts)
+        subst (λ j. Comes Bool notes (record s { facts = g; journal = j }) z (Err (stop_of_io fault))) (sym same)
+        (read_cut steps roots s g number file known hand scanned learns x does.told y r line (does.answer r.path r.file r.is_file) z only consistent {T = Bool} fault on appends noted_so counts)
 
 -- ---- a scan, and then the search for what the file includes
 
@@ -526,8 +535,8 @@ module _ (steps : List Step) (roots : List (List ℕ)) (s : Sights) (g : Knowled
 maker_before : (f g : Knowledge) (n k : ℕ) (file : FileFacts) → facts.Grows f g → file_at f n ≡ Some file → IsMakerOf g n k → IsMakerOf f n k
 maker_before f g n k file grown at is = record { file = file; file_is = at; made = sym (was_file f g n file is.file grown at is.file_is).maker ∙ is.made }
 
-pub scan_then : {S : Type 0} (steps : List Step) (roots : List (List ℕ)) (s t w : Sights) (number : ℕ) (file : FileFacts) (x y z : Outside) (v : Bool) (r : Result S Stop) → file_at s.facts number ≡ Some file
-    → LearnsMore steps roots (IsMakerOf s.facts number) (number ∷ []) s x t y (Ok v) → LearnsMore steps roots (IsMakerOf t.facts number) (number ∷ []) t y w z r → LearnsMore steps roots (IsMakerOf s.facts number) (number ∷ []) s x w z r
+pub scan_then : {S : Type 0} {notes : Bool} (steps : List Step) (roots : List (List ℕ)) (s t w : Sights) (number : ℕ) (file : FileFacts) (x y z : Outside) (v : Bool) (r : Result S Stop) → file_at s.facts number ≡ Some file
+    → LearnsMore notes steps roots (IsMakerOf s.facts number) (number ∷ []) s x t y (Ok v) → LearnsMore notes steps roots (IsMakerOf t.facts number) (number ∷ []) t y w z r → LearnsMore notes steps roots (IsMakerOf s.facts number) (number ∷ []) s x w z r
 scan_then steps roots s t w number file x y z v r at first next =
     grows_then steps roots (IsMakerOf s.facts number) (number ∷ []) (number ∷ []) s t w x y z v r (λ m is. is) first
     (grows_up steps roots (IsMakerOf t.facts number) (IsMakerOf s.facts number) (number ∷ []) (number ∷ []) t w y z r (λ k is. maker_before s.facts t.facts number k file first.learns.grows at is) (λ m is. is) next)

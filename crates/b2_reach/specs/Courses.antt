@@ -1,5 +1,5 @@
 -- What is done to the host while files are scanned: reads, each with its line in the log directly after it.
-use Rattle.std.specs.Prelude.{◌≡◌, ℕ, true, List, [], ◌∷◌, ◌++◌, Option, Some, None, Result, Ok, Err, OnOk}
+use Rattle.std.specs.Prelude.{◌≡◌, ◌⊎◌, ℕ, Bool, true, false, List, [], ◌∷◌, ◌++◌, Option, Some, None, Result, Ok, Err, OnOk}
 use Rattle.std.specs.Option.{IfSome}
 use Rattle.std.specs.List.{Contains, AllByRecursion}
 use Rattle.b2_host.specs.declared.fault.IoFault.{IoFault}
@@ -45,37 +45,44 @@ pub record IsScanNoted (steps : List Step) (settled : ℕ → Type 0) (f : Knowl
   pub only_log : ChangesOnlyLog before after
   pub consistent : IfSome after.disk IsConsistent
 
--- How a host and a log go on while members are scanned: nothing is done but looks, or a member is read, and its line is noted. A
--- member that was gone when it was read has none.
-pub data Course (steps : List Step) (settled : ℕ → Type 0) (f : Knowledge) (members : List ℕ) : List LogLine → Outside
-    → List LogLine → Outside → Type 0 where
+-- a read has no line: lines are not noted, or the file was gone when it was read
+abbrev pub HasNoLine : Bool → List ℕ → Outside → Type 0
+HasNoLine notes path before = (notes ≡ false) ⊎ IfSome before.disk (λ disk. disk.now path ≡ None)
+
+-- How a host and a log go on while members are scanned: nothing is done but looks; or a member is read that has no line; or one is
+-- read, and its line is noted, where lines are.
+pub data Course (notes : Bool) (steps : List Step) (settled : ℕ → Type 0) (f : Knowledge) (members : List ℕ) : List LogLine
+    → Outside → List LogLine → Outside → Type 0 where
   looks : (log : List LogLine) (before after : Outside) → after ≡ record before { faults = after.faults }
-      → Course steps settled f members log before log after
+      → Course notes steps settled f members log before log after
   read : (log : List LogLine) (before : Outside) (path : List ℕ) (stamp : ℕ)
-      → IsDueToRead steps settled f members log path stamp → IfSome before.disk (λ disk. disk.now path ≡ None)
-      → Course steps settled f members log before log (after_read path before)
-  noted : (log : List LogLine) (before after : Outside) (line : ScanLine) (x : Unit {0})
+      → IsDueToRead steps settled f members log path stamp → HasNoLine notes path before
+      → Course notes steps settled f members log before log (after_read path before)
+  noted : (log : List LogLine) (before after : Outside) (line : ScanLine) (x : Unit {0}) → notes ≡ true
       → IsScanNoted steps settled f members log line before after (Ok x)
-      → Course steps settled f members log before (log ++ lines.Scan line ∷ []) after
-  next : (log more most : List LogLine) (x y z : Outside) → Course steps settled f members log x more y
-      → Course steps settled f members more y most z → Course steps settled f members log x most z
+      → Course notes steps settled f members log before (log ++ lines.Scan line ∷ []) after
+  next : (log more most : List LogLine) (x y z : Outside) → Course notes steps settled f members log x more y
+      → Course notes steps settled f members more y most z → Course notes steps settled f members log x most z
 
 -- How they go on up to a stop: so, or last of all a member was read that has no line, or the note of a line failed.
-pub data CourseToStop (steps : List Step) (settled : ℕ → Type 0) (f : Knowledge) (members : List ℕ)
+pub data CourseToStop (notes : Bool) (steps : List Step) (settled : ℕ → Type 0) (f : Knowledge) (members : List ℕ)
     (log : List LogLine) (x : Outside) (more : List LogLine) (z : Outside) : Type 0 where
-  whole : Course steps settled f members log x more z → CourseToStop steps settled f members log x more z
-  unnoted : (y : Outside) (path : List ℕ) (stamp : ℕ) → Course steps settled f members log x more y
+  whole : Course notes steps settled f members log x more z → CourseToStop notes steps settled f members log x more z
+  unnoted : (y : Outside) (path : List ℕ) (stamp : ℕ) → Course notes steps settled f members log x more y
       → IsDueToRead steps settled f members more path stamp → z ≡ after_read path y
-      → CourseToStop steps settled f members log x more z
-  cut : (y : Outside) (line : ScanLine) (fault : IoFault) → Course steps settled f members log x more y
+      → CourseToStop notes steps settled f members log x more z
+  cut : (y : Outside) (line : ScanLine) (fault : IoFault) → notes ≡ true
+      → Course notes steps settled f members log x more y
       → IsScanNoted steps settled f members more line y z (Err fault)
-      → CourseToStop steps settled f members log x more z
+      → CourseToStop notes steps settled f members log x more z
 
 -- how they go on, by the result
-abbrev pub CourseTold : {T : Type 0} → List Step → (ℕ → Type 0) → Knowledge → List ℕ → List LogLine → Outside
+abbrev pub CourseTold : {T : Type 0} → Bool → List Step → (ℕ → Type 0) → Knowledge → List ℕ → List LogLine → Outside
     → List LogLine → Outside → Result T Stop → Type 0
-CourseTold steps settled f members log before more after (Ok x) = Course steps settled f members log before more after
-CourseTold steps settled f members log before more after (Err stop) = CourseToStop steps settled f members log before more after
+CourseTold notes steps settled f members log before more after (Ok x) =
+    Course notes steps settled f members log before more after
+CourseTold notes steps settled f members log before more after (Err stop) =
+    CourseToStop notes steps settled f members log before more after
 
 -- Where files are visible the log's file has the lines, or the note of one more failed.
 pub data LeavesLines (entry : Option (List ℕ)) (log : List LogLine) (now : Folder) : Type 0 where

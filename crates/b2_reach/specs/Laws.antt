@@ -1,5 +1,5 @@
 -- Laws of what a step is known to read.
-use Rattle.std.specs.Prelude.{◌≡◌, ◌↔◌, ℕ, ◌<◌, true, List, [], ◌∷◌, ◌++◌, length, Option, Some, None}
+use Rattle.std.specs.Prelude.{◌≡◌, ◌↔◌, ℕ, ◌<◌, Bool, true, false, List, [], ◌∷◌, ◌++◌, length, Option, Some, None}
 use Rattle.std.specs.List.{Contains}
 use Rattle.b2_host.specs.declared.children.ChildEvent.{ChildEvent}
 use Rattle.b2_host.specs.Disks.{Folder, Disk}
@@ -160,17 +160,23 @@ ReachStaysAsForgotten = (steps : List Step) (roots : List (List ℕ)) (s : Sched
 
 -- while members are scanned, the log's file has the lines
 abbrev pub LinesStay : Type 0
-LinesStay = (steps : List Step) (s : Schedule) (f : Knowledge) (members : List ℕ) (log more : List LogLine)
-    (before after : Outside) → Course steps (IsSettled s) f members log before more after
+LinesStay = (notes : Bool) (steps : List Step) (s : Schedule) (f : Knowledge) (members : List ℕ) (log more : List LogLine)
+    (before after : Outside) → Course notes steps (IsSettled s) f members log before more after
     → BothTold (λ old new. (entry : Option (List ℕ)) → HasLines entry old.now log → HasLines entry new.now more)
     before.disk after.disk
 
 -- up to a stop it has them too, or the note of one more failed
 abbrev pub LinesAreLeft : Type 0
-LinesAreLeft = (steps : List Step) (s : Schedule) (f : Knowledge) (members : List ℕ) (log more : List LogLine)
-    (before after : Outside) → CourseToStop steps (IsSettled s) f members log before more after
+LinesAreLeft = (notes : Bool) (steps : List Step) (s : Schedule) (f : Knowledge) (members : List ℕ) (log more : List LogLine)
+    (before after : Outside) → CourseToStop notes steps (IsSettled s) f members log before more after
     → BothTold (λ old new. (entry : Option (List ℕ)) → HasLines entry old.now log → LeavesLines entry more new.now)
     before.disk after.disk
+
+-- where lines are not noted, neither the files nor the lines change
+abbrev pub UnnotedIsStill : Type 0
+UnnotedIsStill = (steps : List Step) (s : Schedule) (f : Knowledge) (members : List ℕ) (log more : List LogLine)
+    (before after : Outside) → CourseToStop false steps (IsSettled s) f members log before more after
+    → (more ≡ log) × (after.disk ≡ before.disk)
 
 -- A step is needed, and this is known so far of what it reads, which is true in a run.
 pub record IsNeededReach (u : Update) (events : List ChildEvent) (disk : Disk) (s : Schedule) (f : Knowledge) (r : Reach) :
@@ -188,7 +194,7 @@ abbrev pub ReadsGoOn : Type 0
 ReadsGoOn = (u : Update) (events : List ChildEvent) (disk : Disk) (s : Schedule) (f : Knowledge) (r : Reach)
     (entry : Option (List ℕ)) (log more : List LogLine) (before after : Outside)
     → after.disk ≡ Some disk → IsNeededReach u events disk s f r
-    → Course u.build.steps (IsSettled s) f r.members log before more after
+    → Course true u.build.steps (IsSettled s) f r.members log before more after
     → ReadsWell u events entry log before → ReadsWell u events entry more after
 
 -- where the work stops it has read well but for the line of its last read
@@ -196,5 +202,5 @@ abbrev pub ReadsGoOnToStop : Type 0
 ReadsGoOnToStop = (u : Update) (events : List ChildEvent) (disk : Disk) (s : Schedule) (f : Knowledge) (r : Reach)
     (entry : Option (List ℕ)) (log more : List LogLine) (before after : Outside)
     → after.disk ≡ Some disk → IsNeededReach u events disk s f r
-    → CourseToStop u.build.steps (IsSettled s) f r.members log before more after
+    → CourseToStop true u.build.steps (IsSettled s) f r.members log before more after
     → ReadsWell u events entry log before → ReadsUpToLast u events after

@@ -92,16 +92,17 @@ TellsTooBig steps settled f members after (Err (stops.TooBig number size)) =
 -- ---- how it grows
 
 -- What is known grows while members are taken in. Of files that a step makes, or that lie under an output root, nothing new is
--- known but of those at hand. Nothing changes on the host but the log's file, which has the line of each member that was read.
--- Where work did not stop, the log goes on to have the line of each file of which is known what it includes.
-pub record LearnsMore {T : Type 0} (steps : List Step) (roots : List (List ℕ)) (settled : ℕ → Type 0)
+-- known but of those at hand. Nothing changes on the host but the log's file, which has the line of each member that was read; where
+-- lines are not noted, it does not change. Where they are and work did not stop, the log goes on to have the line of each file of
+-- which is known what it includes.
+pub record LearnsMore {T : Type 0} (notes : Bool) (steps : List Step) (roots : List (List ℕ)) (settled : ℕ → Type 0)
     (members : List ℕ) (s : Sights) (before : Outside) (t : Sights) (after : Outside) (result : Result T Stop) : Type 0 where
   pub only_log : ChangesOnlyLog before after
   pub faults : StopTold before after result
   pub learns : Learns steps roots (IsNumberAtHand steps settled t.facts) s.facts t.facts
-  pub course : CourseTold steps settled t.facts members s.journal before t.journal after result
+  pub course : CourseTold notes steps settled t.facts members s.journal before t.journal after result
   pub told : BothTold (StaysTrueSight steps roots s t) before.disk after.disk
-  pub lined : OnOk result (BothTold (StaysLined steps roots s t) before.disk after.disk)
+  pub lined : notes ≡ true → OnOk result (BothTold (StaysLined steps roots s t) before.disk after.disk)
   pub too_big : TellsTooBig steps settled t.facts members after result
   pub by_digest : t.by_digest ≡ s.by_digest
 

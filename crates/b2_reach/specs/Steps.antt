@@ -74,19 +74,19 @@ with_due r number dues.Wait = record r { done = r.done + 1; pending = r.pending 
 with_due r number dues.Read = record r { done = r.done + 1 }
 
 -- A member was taken: what was due with it is done, unless the work stopped.
-pub record Takes (plan : Plan) (settled : ℕ → Type 0) (number : ℕ) (r : Reach) (s : Sights) (before : Outside)
+pub record Takes (notes : Bool) (plan : Plan) (settled : ℕ → Type 0) (number : ℕ) (r : Reach) (s : Sights) (before : Outside)
     (q : Reach) (t : Sights) (after : Outside) (result : Result Due Stop) : Type 0 where
   pub same : ChangesMembers r q
   pub takes : TakesIn plan settled t.facts r q
   pub after_due : IfOk result (λ due. (file : FileFacts) → file_at t.facts number ≡ Some file
       → IsAfter plan.steps settled t.facts q.list q.members number file due)
   pub marked : OnOk result (AreMarked t.marks q.members)
-  pub grows : LearnsMore plan.steps plan.roots settled q.members s before t after result
+  pub grows : LearnsMore notes plan.steps plan.roots settled q.members s before t after result
 
 -- The work went on, or stopped: members came in, of those that are pending now each was so before or waits on, and what is known
 -- has grown.
-pub record Goes {T : Type 0} (plan : Plan) (settled : ℕ → Type 0) (r : Reach) (s : Sights) (before : Outside)
+pub record Goes {T : Type 0} (notes : Bool) (plan : Plan) (settled : ℕ → Type 0) (r : Reach) (s : Sights) (before : Outside)
     (q : Reach) (t : Sights) (after : Outside) (result : Result T Stop) : Type 0 where
   pub takes : TakesIn plan settled t.facts r q
   pub waiting : WaitMore settled t.facts r.pending q.pending
-  pub grows : LearnsMore plan.steps plan.roots settled q.members s before t after result
+  pub grows : LearnsMore notes plan.steps plan.roots settled q.members s before t after result

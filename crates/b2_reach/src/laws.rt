@@ -1,5 +1,5 @@
 //! Laws of what a step is known to read.
-ghost use Rattle.b2_reach.specs.Laws.{MembersAreKnown, MembersAreAllKnown, LacksMissing, KnownHasLine, LinedAsFactsGrow, LinedAsOneGrows, LinedAfterLine, LinedAsForgotten, ReadIsKnown, TooBigIsKnown, StaysAsFar, ReachStays, OpenedStays, ReachStaysAsForgotten, LinesStay, LinesAreLeft, ReadsGoOn, ReadsGoOnToStop};
+ghost use Rattle.b2_reach.specs.Laws.{MembersAreKnown, MembersAreAllKnown, LacksMissing, KnownHasLine, LinedAsFactsGrow, LinedAsOneGrows, LinedAfterLine, LinedAsForgotten, ReadIsKnown, TooBigIsKnown, StaysAsFar, ReachStays, OpenedStays, ReachStaysAsForgotten, LinesStay, LinesAreLeft, UnnotedIsStill, ReadsGoOn, ReadsGoOnToStop};
 
 /// A step is known to read each member.
 pub fn members_are_known()
@@ -80,6 +80,11 @@ pub fn lines_stay()
 /// Up to a stop it has them too, or the note of one more failed.
 pub fn lines_are_left()
     ensures { LinesAreLeft }
+{}
+
+/// Where lines are not noted, neither the files nor the lines change.
+pub fn unnoted_is_still()
+    ensures { UnnotedIsStill }
 {}
 
 /// An update that has read well goes on to while members of a needed step are scanned.

@@ -1,5 +1,5 @@
 //! What a step is known to read so far.
-ghost use Rattle.std.specs.Prelude.{◌≡◌, ◌+◌, ◌^◌, ◌<◌, ◌⊎◌, [], ◌∷◌, ℕ, List as Items, true, false, length, Some, IfOk, OnOk, OnErr};
+ghost use Rattle.std.specs.Prelude.{◌≡◌, ◌+◌, ◌^◌, ◌<◌, ◌⊎◌, [], ◌∷◌, ℕ, List as Items, Bool, true, false, length, Some, IfOk, OnOk, OnErr};
 ghost use Rattle.std.specs.List.{Contains};
 ghost use Rattle.b2_host.specs.Disks.{Folder};
 ghost use Rattle.b2_plan.specs.declared.step.Step.{Step};
@@ -72,8 +72,8 @@ fn look<F: Files>(
     ensures due { IfOk result (λ due. (file : FileFacts) → file_at sights.new.facts number ≡ Some file
         → IsDue plan.now.steps (IsSettled sched.now) file due) }
     ensures marks { sights.new.marks ≡ sights.old.marks }
-    ensures grows { LearnsMore plan.now.steps plan.now.roots (IsSettled sched.now) [] sights.old (F.outside files.old) sights.new
-        (F.outside files.new) result }
+    ensures grows { (notes : Bool) → LearnsMore notes plan.now.steps plan.now.roots (IsSettled sched.now) [] sights.old
+        (F.outside files.old) sights.new (F.outside files.new) result }
 {
     let given = sights.facts.is_given(files, number)?;
     Ok(due_of(plan, sched, sights.facts.file(number), given))
@@ -197,6 +197,7 @@ impl Reach {
         sights: &mut Sights,
         files: &mut F,
         number: u32,
+        notes: bool,
     ) -> Result<(), Stop>
         requires list { IsList sights.old.facts self.old.list }
         requires number { IsNumber sights.old.facts number }
@@ -209,10 +210,10 @@ impl Reach {
         ensures done { OnOk result ((file : FileFacts) → file_at sights.new.facts number ≡ Some file
             → IsFoundWithin sights.new.facts self.old.list self.new.members number file) }
         ensures marked { OnOk result (AreMarked sights.new.marks self.new.members) }
-        ensures grows { LearnsMore plan.now.steps plan.now.roots (IsMakerOf sights.old.facts number) (number ∷ []) sights.old
-            (F.outside files.old) sights.new (F.outside files.new) result }
+        ensures grows { LearnsMore notes plan.now.steps plan.now.roots (IsMakerOf sights.old.facts number) (number ∷ [])
+            sights.old (F.outside files.old) sights.new (F.outside files.new) result }
     {
-        sights.read(alloc, plan, files, self.list, number)?;
+        sights.read(alloc, plan, files, self.list, number, notes)?;
         self.add_found(sights, number)?;
         Ok(())
     }
@@ -226,18 +227,19 @@ impl Reach {
         sights: &mut Sights,
         files: &mut F,
         number: u32,
+        notes: bool,
     ) -> Result<Due, Stop>
         requires about { IsAbout plan.now.steps plan.now.roots sights.old.facts }
         requires schedule { IsOfPlan plan.now sched.now }
         requires in_order { IsInOrder plan.now.steps (IsSettled sched.now) sights.old.facts self.old }
         requires member { Contains self.old.members number }
         requires marked { AreMarked sights.old.marks self.old.members }
-        ensures { Takes plan.now (IsSettled sched.now) number self.old sights.old (F.outside files.old) self.new sights.new
+        ensures { Takes notes plan.now (IsSettled sched.now) number self.old sights.old (F.outside files.old) self.new sights.new
             (F.outside files.new) result }
     {
         match look(plan, sched, sights, files, number)? {
             Due::Read => {
-                self.take_in(alloc, plan, sights, files, number)?;
+                self.take_in(alloc, plan, sights, files, number, notes)?;
                 Ok(Due::Read)
             }
             Due::Nothing => Ok(Due::Nothing),
@@ -269,19 +271,20 @@ impl Reach {
         sched: &Sched,
         sights: &mut Sights,
         files: &mut F,
+        notes: bool,
     ) -> Result<(), Stop>
         requires about { IsAbout plan.now.steps plan.now.roots sights.old.facts }
         requires schedule { IsOfPlan plan.now sched.now }
         requires in_order { IsInOrder plan.now.steps (IsSettled sched.now) sights.old.facts self.old }
         requires place { self.old.done < length self.old.members }
         requires marked { AreMarked sights.old.marks self.old.members }
-        ensures goes { Goes plan.now (IsSettled sched.now) self.old sights.old (F.outside files.old) self.new sights.new
+        ensures goes { Goes notes plan.now (IsSettled sched.now) self.old sights.old (F.outside files.old) self.new sights.new
             (F.outside files.new) result }
         ensures done { OnOk result (self.new.done ≡ self.old.done + 1) }
         ensures marked { OnOk result (AreMarked sights.new.marks self.new.members) }
     {
         let number = self.members.as_slice()[self.done];
-        let due = self.take(alloc, plan, sched, sights, files, number)?;
+        let due = self.take(alloc, plan, sched, sights, files, number, notes)?;
         self.tell(number, due)?;
         Ok(())
     }
@@ -294,17 +297,18 @@ impl Reach {
         sched: &Sched,
         sights: &mut Sights,
         files: &mut F,
+        notes: bool,
     ) -> Result<(), Stop>
         requires about { IsAbout plan.now.steps plan.now.roots sights.old.facts }
         requires schedule { IsOfPlan plan.now sched.now }
         requires in_order { IsInOrder plan.now.steps (IsSettled sched.now) sights.old.facts self.old }
         requires marked { AreMarked sights.old.marks self.old.members }
-        ensures goes { Goes plan.now (IsSettled sched.now) self.old sights.old (F.outside files.old) self.new sights.new
+        ensures goes { Goes notes plan.now (IsSettled sched.now) self.old sights.old (F.outside files.old) self.new sights.new
             (F.outside files.new) result }
         ensures whole { OnOk result (self.new.done ≡ length self.new.members) }
     {
         while self.done < self.members.as_slice().len() {
-            self.take_next(alloc, plan, sched, sights, files)?;
+            self.take_next(alloc, plan, sched, sights, files, notes)?;
         }
         Ok(())
     }
@@ -317,13 +321,14 @@ impl Reach {
         sched: &Sched,
         sights: &mut Sights,
         files: &mut F,
+        notes: bool,
     ) -> Result<(), Stop>
         requires about { IsAbout plan.now.steps plan.now.roots sights.old.facts }
         requires schedule { IsOfPlan plan.now sched.now }
         requires in_order { IsInOrder plan.now.steps (IsSettled sched.now) sights.old.facts self.old }
         requires marked { AreMarked sights.old.marks self.old.members }
         ensures same { ChangesMembers self.old self.new }
-        ensures goes { Goes plan.now (IsSettled sched.now) self.old sights.old (F.outside files.old) self.new sights.new
+        ensures goes { Goes notes plan.now (IsSettled sched.now) self.old sights.old (F.outside files.old) self.new sights.new
             (F.outside files.new) result }
         ensures done { OnOk result ((n : ℕ) → Contains self.old.pending n
             → IsDoneOrWaits plan.now.steps (IsSettled sched.now) sights.new.facts self.new n) }
@@ -332,7 +337,7 @@ impl Reach {
         let mut at = 0;
         while at < self.pending.as_slice().len() {
             let number = self.pending.as_slice()[at];
-            let _due = self.take(alloc, plan, sched, sights, files, number)?;
+            let _due = self.take(alloc, plan, sched, sights, files, number, notes)?;
             at += 1;
         }
         Ok(())
@@ -391,17 +396,18 @@ impl Reach {
         sched: &Sched,
         sights: &mut Sights,
         files: &mut F,
+        notes: bool,
     ) -> Result<(), Stop>
         requires about { IsAbout plan.now.steps plan.now.roots sights.old.facts }
         requires schedule { IsOfPlan plan.now sched.now }
         requires in_order { IsInOrder plan.now.steps (IsSettled sched.now) sights.old.facts self.old }
         requires marked { AreMarked sights.old.marks self.old.members }
-        ensures goes { Goes plan.now (IsSettled sched.now) self.old sights.old (F.outside files.old) self.new sights.new
+        ensures goes { Goes notes plan.now (IsSettled sched.now) self.old sights.old (F.outside files.old) self.new sights.new
             (F.outside files.new) result }
         ensures waiting { OnOk result ((n : ℕ) → Contains self.new.pending n → WaitsOn (IsSettled sched.now) sights.new.facts n) }
         ensures marked { OnOk result (AreMarked sights.new.marks self.new.members) }
     {
-        self.take_settled(alloc, plan, sched, sights, files)?;
+        self.take_settled(alloc, plan, sched, sights, files, notes)?;
         self.drop_settled(alloc, plan, sched, &sights.facts)?;
         Ok(())
     }
@@ -414,17 +420,18 @@ impl Reach {
         sched: &Sched,
         sights: &mut Sights,
         files: &mut F,
+        notes: bool,
     ) -> Result<(), Stop>
         requires about { IsAbout plan.now.steps plan.now.roots sights.old.facts }
         requires schedule { IsOfPlan plan.now sched.now }
         requires in_order { IsInOrder plan.now.steps (IsSettled sched.now) sights.old.facts self.old }
         requires marked { AreMarked sights.old.marks self.old.members }
-        ensures goes { Goes plan.now (IsSettled sched.now) self.old sights.old (F.outside files.old) self.new sights.new
+        ensures goes { Goes notes plan.now (IsSettled sched.now) self.old sights.old (F.outside files.old) self.new sights.new
             (F.outside files.new) result }
         ensures as_far { OnOk result (IsAsFar (IsSettled sched.now) sights.new.facts self.new) }
     {
-        self.take_pending(alloc, plan, sched, sights, files)?;
-        self.take_rest(alloc, plan, sched, sights, files)
+        self.take_pending(alloc, plan, sched, sights, files, notes)?;
+        self.take_rest(alloc, plan, sched, sights, files, notes)
     }
 
     /// Adds inputs of a step, each once.
@@ -468,8 +475,9 @@ impl Reach {
     }
 
     /// Takes in all members that can be: sources, and outputs of settled steps. Those that are scanned are read, unless what
-    /// they include is known or the log tells it; the line of each that is read is noted directly after the read. Scanned
-    /// outputs of other steps wait. Nothing is done where no member is to be taken. After an error the work is still in order.
+    /// they include is known or the log tells it. Where `notes` is true, the line of each that is read is noted directly after
+    /// the read; else the log stays as it is. Scanned outputs of other steps wait. Nothing is done where no member is to be
+    /// taken. After an error the work is still in order.
     pub fn go_on<F: Files>(
         &mut self,
         alloc: Global,
@@ -477,6 +485,7 @@ impl Reach {
         sched: &Sched,
         sights: &mut Sights,
         files: &mut F,
+        notes: bool,
     ) -> Result<(), Stop>
         requires about { IsAbout plan.now.steps plan.now.roots sights.old.facts }
         requires schedule { IsOfPlan plan.now sched.now }
@@ -486,13 +495,13 @@ impl Reach {
             → IsOfStep plan.now.steps (IsSettled sched.now) step sights.new.facts self.new }
         ensures gathers { Gathers plan.now.steps (IsSettled sched.now) sights.new.facts self.old self.new }
         ensures as_far { OnOk result (IsAsFar (IsSettled sched.now) sights.new.facts self.new) }
-        ensures grows { LearnsMore plan.now.steps plan.now.roots (IsSettled sched.now) self.new.members sights.old
+        ensures grows { LearnsMore notes plan.now.steps plan.now.roots (IsSettled sched.now) self.new.members sights.old
             (F.outside files.old) sights.new (F.outside files.new) result }
     {
         if !self.is_due(plan, sched, &sights.facts) {
             return Ok(());
         }
         self.mark_members(&mut sights.marks)?;
-        self.take_all(alloc, plan, sched, sights, files)
+        self.take_all(alloc, plan, sched, sights, files, notes)
     }
 }

@@ -1,5 +1,5 @@
 //! What an update knows, beside its schedule.
-ghost use Rattle.std.specs.Prelude.{◌≡◌, [], ◌∷◌, ℕ, List as Items, true, false, Some, None, IfOk};
+ghost use Rattle.std.specs.Prelude.{◌≡◌, [], ◌∷◌, ℕ, List as Items, Bool, true, false, Some, None, IfOk};
 ghost use Rattle.b2_plan.specs.declared.step.Step.{Step};
 ghost use Rattle.b2_facts.specs.declared.file_facts.FileFacts.{FileFacts};
 ghost use Rattle.b2_facts.specs.declared.file_facts.Seen.TheVariants as seen;
@@ -45,8 +45,15 @@ impl Drop for Sights {
 }
 
 impl Sights {
-    /// Scans a file, and notes its line where it was read. Answers whether what it includes is known: else it is gone.
-    fn scan<F: Files>(&mut self, alloc: Global, files: &mut F, number: u32) -> Result<bool, Stop>
+    /// Scans a file, and where it was read notes its line, if lines are noted. Answers whether what it includes is known: else it is
+    /// gone.
+    fn scan<F: Files>(
+        &mut self,
+        alloc: Global,
+        files: &mut F,
+        number: u32,
+        notes: bool,
+    ) -> Result<bool, Stop>
         requires number { IsNumber self.old.facts number }
         requires known { (file : FileFacts) × (file_at self.old.facts number ≡ Some file) × (file.scanned ≡ true) }
         ensures marks { self.new.marks ≡ self.old.marks }
@@ -55,7 +62,7 @@ impl Sights {
         ensures grows { (steps : Items Step) (roots : Items (Items ℕ))
             → ((file : FileFacts) → file_at self.old.facts number ≡ Some file
             → IsAtHand steps (IsMakerOf self.old.facts number) file)
-            → LearnsMore steps roots (IsMakerOf self.old.facts number) (number ∷ []) self.old (F.outside files.old)
+            → LearnsMore notes steps roots (IsMakerOf self.old.facts number) (number ∷ []) self.old (F.outside files.old)
             self.new (F.outside files.new) result }
     {
         match self
@@ -64,6 +71,9 @@ impl Sights {
         {
             Ok(Scanned::Known) => Ok(true),
             Ok(Scanned::Read(line)) => {
+                if !notes {
+                    return Ok(true);
+                }
                 self.journal.note(files, LogLine::Scan(line))?;
                 Ok(true)
             }
@@ -86,14 +96,15 @@ impl Sights {
         requires read { (file : FileFacts) → file_at self.old.facts number ≡ Some file → IsRead file }
         ensures marks { self.new.marks ≡ self.old.marks }
         ensures found { IfOk result (λ found. (targets : Items ℕ) × (found_at self.new.facts list number ≡ Some targets)) }
-        ensures grows { LearnsMore plan.now.steps plan.now.roots (IsMakerOf self.old.facts number) (number ∷ []) self.old
-            (F.outside files.old) self.new (F.outside files.new) result }
+        ensures grows { (notes : Bool) → LearnsMore notes plan.now.steps plan.now.roots (IsMakerOf self.old.facts number)
+            (number ∷ []) self.old (F.outside files.old) self.new (F.outside files.new) result }
     {
         self.facts.find_includes(alloc, plan, files, list, number)?;
         Ok(())
     }
 
-    /// Scans a file that is at hand, and finds the files that it includes, unless it is gone.
+    /// Scans a file that is at hand, and finds the files that it includes, unless it is gone. Where it was read its line is noted, if
+    /// lines are.
     pub(crate) fn read<F: Files>(
         &mut self,
         alloc: Global,
@@ -101,6 +112,7 @@ impl Sights {
         files: &mut F,
         list: u32,
         number: u32,
+        notes: bool,
     ) -> Result<(), Stop>
         requires list { IsList self.old.facts list }
         requires number { IsNumber self.old.facts number }
@@ -110,10 +122,10 @@ impl Sights {
         ensures marks { self.new.marks ≡ self.old.marks }
         ensures found { IfOk result
             (λ found. (file : FileFacts) → file_at self.new.facts number ≡ Some file → IsFoundOrGone self.new.facts list number file) }
-        ensures grows { LearnsMore plan.now.steps plan.now.roots (IsMakerOf self.old.facts number) (number ∷ []) self.old
+        ensures grows { LearnsMore notes plan.now.steps plan.now.roots (IsMakerOf self.old.facts number) (number ∷ []) self.old
             (F.outside files.old) self.new (F.outside files.new) result }
     {
-        if self.scan(alloc, files, number)? {
+        if self.scan(alloc, files, number, notes)? {
             self.find(alloc, plan, files, list, number)?;
         }
         Ok(())

@@ -169,6 +169,14 @@ impl Sched {
         matches!(self.states[step as usize], State::Settled)
     }
 
+    /// Whether a step is needed: it makes a wanted file, or a needed step was said to need it.
+    pub fn needed(&self, step: u32) -> bool
+        requires { IsStep self.now step }
+        ensures { IsTrue result ↔ IsNeeded self.now step }
+    {
+        !self.dependents[step as usize].as_slice().is_empty()
+    }
+
     /// The lowest step that was judged stale and not started, which from now on runs; None where there is none, or as many
     /// steps run as may. Takes no memory.
     pub fn take_start(&mut self) -> Option<u32>

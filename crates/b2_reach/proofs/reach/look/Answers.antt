@@ -22,7 +22,7 @@ told_of None steps roots f g told = tt
 told_of (Some disk) steps roots f g told = told steps roots
 
 pub returns-in_err-given-clause-grows : goal.returns-in_err-given-clause-grows
-returns-in_err-given-clause-grows g c =
+returns-in_err-given-clause-grows g c notes =
     let (y, e, q) = err_from_is_err_and c.from_residual.result c.from_residual.ensures.1 in
     let s = c.args.sights.now in
     let steps = c.args.plan.now.steps in
@@ -51,7 +51,7 @@ returns-clause-due g c file at =
     subst (λ x. IsDue c.args.plan.now.steps (IsSettled c.args.sched.now) x c.due_of.result) (some_is c.file.result.now file (sym c.file.ensures ∙ at)) c.due_of.ensures
 
 pub returns-clause-grows : goal.returns-clause-grows
-returns-clause-grows g c =
+returns-clause-grows g c notes =
     let s = c.args.sights.now in
     let steps = c.args.plan.now.steps in
     let roots = c.args.plan.now.roots in

@@ -1,5 +1,5 @@
-use Rattle.std.proofs.Common.{◌≡◌, Some, None, length, sym, ap, subst, ◌∙◌, arith}
-use Rattle.std.proofs.lemmas.List.{get_or_default, get_or-set_same}
+use Rattle.std.proofs.Common.{◌≡◌, Some, None, length, refl, sym, ap, subst, ◌∙◌, arith}
+use Rattle.std.proofs.lemmas.List.{get_or_default, get_or-set_same, get_or-set_other}
 use Rattle.b2_plan.specs.Plans.{step_at}
 use Rattle.b2_facts.specs.Growth.{OfNone}
 use Rattle.b2_facts.proofs.FactsGrow.{learns_same, true_same}
@@ -48,6 +48,15 @@ pub returns-clause-begun : goal.returns-clause-begun
 returns-clause-begun c =
     let within = number_within c.args.plan.now c.args.number c.args.sights.now.facts c.args.self.now c.requires.board c.args.number c.requires.step in
     (c.new.result, get_or-set_same c.args.self.now.works.items c.args.number (Some c.new.result) None within)
+
+pub returns-then-is_some-clause-others : goal.returns-then-is_some-clause-others
+returns-then-is_some-clause-others c i other = refl
+
+pub returns-in_err-reach-clause-others : goal.returns-in_err-reach-clause-others
+returns-in_err-reach-clause-others c i other = refl
+
+pub returns-clause-others : goal.returns-clause-others
+returns-clause-others c i other = get_or-set_other c.args.self.now.works.items c.args.number i (Some c.new.result) None other
 
 pub returns-clause-board : goal.returns-clause-board
 returns-clause-board c =

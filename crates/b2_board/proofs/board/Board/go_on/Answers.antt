@@ -1,6 +1,6 @@
 use Rattle.std.proofs.Common.{◌≤◌, Bool, Some, None, set, sym, ap, subst, ◌∙◌, arith}
 use Rattle.std.specs.Vec.{with_item}
-use Rattle.std.proofs.lemmas.List.{get_or_default}
+use Rattle.std.proofs.lemmas.List.{get_or_default, get_or-set_other}
 use Rattle.b2_sched.specs.Schedules.{IsSettled}
 use Rattle.b2_facts.proofs.ListsAtPlaces.{some_is, none_some}
 use Rattle.b2_reach.specs.Reaches.{IsReachOf}
@@ -43,8 +43,11 @@ returns-clause-reach g c work step begun at =
 pub returns-clause-grows : goal.returns-clause-grows
 returns-clause-grows g c =
     let here = here_at c.args.plan.now c.args.number c.args.sights.now.facts c.args.self.now c.requires.board c.requires.step c.look.new.self in
-    subst (λ l. LearnsMore {T = Bool} c.args.plan.now.steps c.args.plan.now.roots (IsSettled c.args.self.now.sched) l c.args.sights.now (g.F.Files.outside c.args.files.now) c.look.new.sights (g.F.Files.outside c.look.new.files) c.look.result)
+    subst (λ l. LearnsMore {T = Bool} c.args.notes c.args.plan.now.steps c.args.plan.now.roots (IsSettled c.args.self.now.sched) l c.args.sights.now (g.F.Files.outside c.args.files.now) c.look.new.sights (g.F.Files.outside c.look.new.files) c.look.result)
     (ap members_in (sym here)) c.look.ensures.grows
+
+pub returns-clause-others : goal.returns-clause-others
+returns-clause-others g c i other = get_or-set_other c.args.self.now.works.items c.args.number i (Some c.look.new.self) None other
 
 pub returns-clause-board : goal.returns-clause-board
 returns-clause-board g c =

@@ -21,7 +21,7 @@ returns-in_err-begin-clause-grows g c =
     let settled = IsSettled c.args.self.now.sched in
     let members = members_of c.begin.new.self c.args.number in
     let x = g.F.Files.outside c.args.files.now in
-    subst (LearnsMore {T = Bool} steps roots settled members c.args.sights.now x c.begin.new.sights x) (sym (e ∙ ap Err q))
+    subst (LearnsMore {T = Bool} c.args.notes steps roots settled members c.args.sights.now x c.begin.new.sights x) (sym (e ∙ ap Err q))
     (grows_stop {T = Unit {0}} {S = Bool} tt (begin_grows {T = Unit {0}} steps roots settled members c.args.sights.now c.begin.new.sights x tt c.begin.ensures.sights c.begin.ensures.learns c.begin.ensures.told))
 
 pub go_on-requires-clause-about : goal.go_on-requires-clause-about
@@ -46,6 +46,9 @@ pub returns-clause-reach : goal.returns-clause-reach
 returns-clause-reach g c work step begun at =
     subst (λ (s : Schedule). IsReachOf c.args.plan.now.steps (IsSettled s) step c.go_on.new.sights.facts work.reach) c.begin.ensures.sched (c.go_on.ensures.reach work step begun at)
 
+pub returns-clause-others : goal.returns-clause-others
+returns-clause-others g c i other = c.go_on.ensures.others i other ∙ c.begin.ensures.others i other
+
 pub returns-clause-grows : goal.returns-clause-grows
 returns-clause-grows g c =
     let steps = c.args.plan.now.steps in
@@ -56,7 +59,7 @@ returns-clause-grows g c =
     let y = g.F.Files.outside c.go_on.new.files in
     grows_then {T = Unit {0}} {S = Bool} steps roots settled members members c.args.sights.now c.begin.new.sights c.go_on.new.sights x x y tt c.go_on.result (λ m among. among)
     (begin_grows {T = Unit {0}} steps roots settled members c.args.sights.now c.begin.new.sights x tt c.begin.ensures.sights c.begin.ensures.learns c.begin.ensures.told)
-    (subst (λ (s : Schedule). LearnsMore {T = Bool} steps roots (IsSettled s) members c.begin.new.sights x c.go_on.new.sights y c.go_on.result) c.begin.ensures.sched c.go_on.ensures.grows)
+    (subst (λ (s : Schedule). LearnsMore {T = Bool} c.args.notes steps roots (IsSettled s) members c.begin.new.sights x c.go_on.new.sights y c.go_on.result) c.begin.ensures.sched c.go_on.ensures.grows)
 
 pub returns-clause-board : goal.returns-clause-board
 returns-clause-board g c = c.go_on.ensures.board

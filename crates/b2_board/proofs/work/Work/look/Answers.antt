@@ -89,7 +89,7 @@ returns-in_err-tell-clause-grows g c =
     let settled = IsSettled c.args.sched.now in
     let before = g.F.Files.outside c.args.files.now in
     let after = g.F.Files.outside c.go_on.new.files in
-    subst (LearnsMore {T = Bool} steps roots settled c.tell.new.self.reach.members c.args.sights.now before c.go_on.new.sights after) (sym (e ∙ ap Err q))
+    subst (LearnsMore {T = Bool} c.args.notes steps roots settled c.tell.new.self.reach.members c.args.sights.now before c.go_on.new.sights after) (sym (e ∙ ap Err q))
     (grows_untold {T = Unit {0}} {S = Bool} steps roots settled c.go_on.new.self c.tell.new.self.reach c.args.sights.now c.go_on.new.sights before after tt c.tell.ensures.reach c.in_ok-go_on.ensures.grows)
 
 pub returns-in_err-tell-clause-keeps : goal.returns-in_err-tell-clause-keeps

@@ -42,7 +42,7 @@ returns-in_err-add_found-clause-grows g c =
     let maker = IsMakerOf s.facts c.args.number in
     let before = g.F.Files.outside c.args.files.now in
     let after = g.F.Files.outside c.read.new.files in
-    subst (λ w. LearnsMore {T = Unit {0}} steps roots maker (c.args.number ∷ []) s before w after c.from_residual-in_err-add_found.result) (sym c.add_found.ensures.sights)
+    subst (λ w. LearnsMore {T = Unit {0}} c.args.notes steps roots maker (c.args.number ∷ []) s before w after c.from_residual-in_err-add_found.result) (sym c.add_found.ensures.sights)
     (grows_err_as {T = Unit {0}} stops.OutOfMemory c.from_residual-in_err-add_found.result (e ∙ ap Err q)
     (grows_marks {T = Unit {0}} steps roots maker (c.args.number ∷ []) s c.read.new.self before after (Err stops.OutOfMemory) c.add_found.new.sights.marks (grows_stop {S = Unit {0}} tt c.in_ok-read.ensures.grows)))
 
@@ -66,5 +66,5 @@ returns-clause-grows g c =
     let maker = IsMakerOf s.facts c.args.number in
     let before = g.F.Files.outside c.args.files.now in
     let after = g.F.Files.outside c.read.new.files in
-    subst (λ w. LearnsMore {T = Unit {0}} steps roots maker (c.args.number ∷ []) s before w after (Ok tt)) (sym c.add_found.ensures.sights)
+    subst (λ w. LearnsMore {T = Unit {0}} c.args.notes steps roots maker (c.args.number ∷ []) s before w after (Ok tt)) (sym c.add_found.ensures.sights)
     (grows_marks steps roots maker (c.args.number ∷ []) s c.read.new.self before after (Ok tt) c.add_found.new.sights.marks c.in_ok-read.ensures.grows)

@@ -47,7 +47,7 @@ returns-in_err-tell-clause-goes g c =
     let after = g.F.Files.outside c.take.new.files in
     let number = get_or c.as_slice.result.now r.done 0 in
     let took = c.in_ok-due.ensures in
-    subst (λ p. Goes {T = Unit {0}} plan settled r s before p t after c.from_residual-in_err-tell.result) (sym c.in_err-tell.ensures.err)
+    subst (λ p. Goes {T = Unit {0}} c.args.notes plan settled r s before p t after c.from_residual-in_err-tell.result) (sym c.in_err-tell.ensures.err)
     (goes_err_as {T = Unit {0}} stops.OutOfMemory c.from_residual-in_err-tell.result (e ∙ ap Err q)
     (record { takes = took.takes; waiting = next_waits plan settled number r s before c.take.new.self t after (Ok c.in_ok-due.due) took; grows = next_no_memory plan settled number r s before c.take.new.self t after c.in_ok-due.due took }))
 
@@ -66,7 +66,7 @@ returns-clause-goes g c =
     let took = c.in_ok-due.ensures in
     let low = low_in c.as_slice.result.now r.members r.done c.as_slice.ensures c.requires.place in
     let at : slice_get r.members r.done ≡ Some number = subst (λ l. slice_get l r.done ≡ Some number) c.as_slice.ensures (slice_get-get_or c.as_slice.result.now r.done 0 low) in
-    subst (λ p. Goes plan settled r s before p t after (Ok tt)) (sym c.in_ok-tell.ensures.ok)
+    subst (λ p. Goes c.args.notes plan settled r s before p t after (Ok tt)) (sym c.in_ok-tell.ensures.ok)
     (record {
       takes = next_takes plan settled number r s before q t after due took c.requires.about at c.requires.place;
       waiting = next_waiting plan settled number r s before q t after due took c.requires.about at c.requires.place;

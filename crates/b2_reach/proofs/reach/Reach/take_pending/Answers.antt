@@ -26,7 +26,7 @@ drop_settled-requires-clause-done g c n among = c.in_ok-take_settled.ensures.don
 pub returns-in_err-drop_settled-clause-goes : goal.returns-in_err-drop_settled-clause-goes
 returns-in_err-drop_settled-clause-goes g c =
     let (y, e, q) = err_from_is_err_and c.from_residual-in_err-drop_settled.result c.from_residual-in_err-drop_settled.ensures.1 in
-    subst (λ p. Goes {T = Unit {0}} c.args.plan.now (IsSettled c.args.sched.now) c.args.self.now c.args.sights.now (g.F.Files.outside c.args.files.now) p c.take_settled.new.sights (g.F.Files.outside c.take_settled.new.files) c.from_residual-in_err-drop_settled.result) (sym c.in_err-drop_settled.ensures.err)
+    subst (λ p. Goes {T = Unit {0}} c.args.notes c.args.plan.now (IsSettled c.args.sched.now) c.args.self.now c.args.sights.now (g.F.Files.outside c.args.files.now) p c.take_settled.new.sights (g.F.Files.outside c.take_settled.new.files) c.from_residual-in_err-drop_settled.result) (sym c.in_err-drop_settled.ensures.err)
     (goes_err_as {T = Unit {0}} stops.OutOfMemory c.from_residual-in_err-drop_settled.result (e ∙ ap Err q) (goes_stop {S = Unit {0}} tt c.in_ok-take_settled.ensures.goes))
 
 pub returns-clause-goes : goal.returns-clause-goes
@@ -38,7 +38,7 @@ returns-clause-goes g c =
     let t = c.take_settled.new.sights in
     let kept = c.drop_settled.new.self.pending in
     let same = c.drop_settled.ensures.same in
-    subst (λ p. Goes plan settled c.args.self.now c.args.sights.now before p t after (Ok tt)) (sym same)
+    subst (λ p. Goes c.args.notes plan settled c.args.self.now c.args.sights.now before p t after (Ok tt)) (sym same)
     (goes_dropped plan settled c.args.self.now c.take_settled.new.self c.args.sights.now t before after (Ok tt) kept (subst (IsInOrder plan.steps settled t.facts) same c.drop_settled.ensures.in_order) c.in_ok-drop_settled.ensures.waiting c.in_ok-take_settled.ensures.goes)
 
 pub returns-clause-marked : goal.returns-clause-marked

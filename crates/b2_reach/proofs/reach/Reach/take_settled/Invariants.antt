@@ -7,7 +7,7 @@ use Rattle.b2_reach.proofs.reach.Reach.take_settled.Given as goal
 abbrev pub invariant-loop-at : goal.invariant-loop-at
 invariant-loop-at g l = record {
   same : ChangesMembers l.fn.self l.self;
-  goes : Goes {T = Unit {0}} l.plan (IsSettled l.sched) l.fn.self l.fn.sights (g.F.Files.outside l.fn.files) l.self l.sights (g.F.Files.outside l.files) (Ok tt);
+  goes : Goes {T = Unit {0}} l.notes l.plan (IsSettled l.sched) l.fn.self l.fn.sights (g.F.Files.outside l.fn.files) l.self l.sights (g.F.Files.outside l.files) (Ok tt);
   done : (place n : ℕ) → place < l.at → slice_get l.fn.self.pending place ≡ Some n → IsDoneOrWaits l.plan.steps (IsSettled l.sched) l.sights.facts l.self n;
   marked : AreMarked l.sights.marks l.self.members;
 }

@@ -28,14 +28,14 @@ returns-in_err-find-clause-grows g c =
     let stop = c.in_err-find.field-0.0 in
     grows_err_as {T = Unit {0}} stop c.from_residual-in_err-find.result (e ∙ ap Err q)
     (scan_then {S = Unit {0}} c.args.plan.now.steps c.args.plan.now.roots s c.scan.new.self c.find.new.self c.args.number file (g.F.Files.outside c.args.files.now) (g.F.Files.outside c.scan.new.files) (g.F.Files.outside c.find.new.files) c.in_ok-scan.field-0 (Err stop) at
-    (c.in_ok-scan.ensures.grows c.args.plan.now.steps c.args.plan.now.roots c.requires.at_hand) c.in_err-find.ensures.grows)
+    (c.in_ok-scan.ensures.grows c.args.plan.now.steps c.args.plan.now.roots c.requires.at_hand) (c.in_err-find.ensures.grows c.args.notes))
 
 pub returns-in_ok-find-clause-grows : goal.returns-in_ok-find-clause-grows
 returns-in_ok-find-clause-grows g c =
     let s = c.args.self.now in
     let (file, at, scanned) = c.requires.known in
     scan_then c.args.plan.now.steps c.args.plan.now.roots s c.scan.new.self c.find.new.self c.args.number file (g.F.Files.outside c.args.files.now) (g.F.Files.outside c.scan.new.files) (g.F.Files.outside c.find.new.files) c.in_ok-scan.field-0 (Ok tt) at
-    (c.in_ok-scan.ensures.grows c.args.plan.now.steps c.args.plan.now.roots c.requires.at_hand) c.in_ok-find.ensures.grows
+    (c.in_ok-scan.ensures.grows c.args.plan.now.steps c.args.plan.now.roots c.requires.at_hand) (c.in_ok-find.ensures.grows c.args.notes)
 
 pub returns-else-branch-clause-grows : goal.returns-else-branch-clause-grows
 returns-else-branch-clause-grows g c =

@@ -6,7 +6,7 @@ use Rattle.b2_facts.proofs.ListsAtPlaces.{some_is}
 use Rattle.b2_facts.specs.Stops.{stop_of_io, stop_of_read}
 use Rattle.b2_reach.proofs.GrowthComposes.{grows_err_as}
 use Rattle.b2_reach.proofs.ReachGrows.{number_grows}
-use Rattle.b2_reach.proofs.ScansAreNoted.{does_at, known_read, gone_read, exit_known, exit_gone, exit_fault, exit_noted, exit_cut}
+use Rattle.b2_reach.proofs.ScansAreNoted.{does_at, known_read, gone_read, exit_known, exit_gone, exit_fault, exit_unnoted, exit_noted, exit_cut}
 use Rattle.b2_reach.proofs.sights.Sights.scan.Goals as goal
 
 pub returns-in_err-note-in-Ok-Read-clause-grows : goal.returns-in_err-note-in-Ok-Read-clause-grows
@@ -22,7 +22,7 @@ returns-in_err-note-in-Ok-Read-clause-grows g c steps roots hand =
     let at_note = c.in_err-note-in-Ok-Read.ensures in
     grows_err_as (stop_of_io fault) c.from_residual.result (e ∙ ap Err q)
     (exit_cut steps roots s c.scan.new.self c.args.number c.requires.number file at scanned (hand file at) (c.scan.ensures.learns steps roots) before mid c.in-Ok-Read.line does (g.F.Files.outside c.note.new.files) at_note.only_log (g.met.F.Files.consistent c.note.new.files)
-    c.note.new.self fault at_note.err at_note.appends at_note.counts at_note.notes)
+    c.note.new.self fault c.if-not-notes.false at_note.err at_note.appends at_note.counts at_note.notes)
 
 pub file-requires : goal.file-requires
 file-requires g c = number_grows c.args.self.now.facts c.scan.new.self c.args.number (c.scan.ensures.learns [] []).grows c.requires.number
@@ -54,7 +54,17 @@ returns-in_ok-note-in-Ok-Read-clause-grows g c steps roots hand =
     (record { effect = c.scan.ensures.effect; answer = c.scan.ensures.answer; told = c.scan.ensures.told; too_big = c.scan.ensures.too_big }) in
     let at_note = c.in_ok-note-in-Ok-Read.ensures in
     exit_noted steps roots s c.scan.new.self c.args.number c.requires.number file at scanned (hand file at) (c.scan.ensures.learns steps roots) before mid c.in-Ok-Read.line does (g.F.Files.outside c.note.new.files) at_note.only_log (g.met.F.Files.consistent c.note.new.files)
-    c.note.new.self tt at_note.ok at_note.good at_note.appends at_note.counts at_note.notes
+    c.note.new.self tt c.if-not-notes.false at_note.ok at_note.good at_note.appends at_note.counts at_note.notes
+
+pub returns-then-not-notes-clause-grows : goal.returns-then-not-notes-clause-grows
+returns-then-not-notes-clause-grows g c steps roots hand =
+    let s = c.args.self.now in
+    let (file, at, scanned) = c.requires.known in
+    let before = g.F.Files.outside c.args.files.now in
+    let mid = g.F.Files.outside c.scan.new.files in
+    let does = does_at s c.scan.new.self c.args.number c.log.result.now.lines before mid c.scan.result (Ok (answers.Read c.in-Ok-Read.line)) c.log.ensures.lines (c.in-Ok-Read.is ∙ ap Ok c.in-Ok-Read.field-0-is)
+    (record { effect = c.scan.ensures.effect; answer = c.scan.ensures.answer; told = c.scan.ensures.told; too_big = c.scan.ensures.too_big }) in
+    exit_unnoted steps roots s c.scan.new.self c.args.number c.requires.number file at scanned (hand file at) (c.scan.ensures.learns steps roots) before mid c.in-Ok-Read.line true c.if-not-notes.true does
 
 pub returns-in-Ok-Gone-clause-read : goal.returns-in-Ok-Gone-clause-read
 returns-in-Ok-Gone-clause-read g c file at =
