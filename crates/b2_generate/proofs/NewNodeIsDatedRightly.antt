@@ -7,8 +7,9 @@ use Rattle.std.specs.FinMap as finite
 use Rattle.std.proofs.lemmas.List.{take_all, reverse-reverse, reverse-append, length-reverse}
 use Rattle.std.proofs.lemmas.List.Folds.{flat_map-map}
 use Rattle.std.proofs.lemmas.Option.{slice_get_past}
+use Rattle.b2_props.specs.Sets.{IsSet}
 use Rattle.b2_metatargets.specs.declared.whole.Declared.{Declared}
-use Rattle.b2_references.specs.Names.{Name, is_same}
+use Rattle.b2_references.specs.Names.{Name, is_same, features}
 use Rattle.b2_generate.specs.Machine.{HasPlaces}
 use Rattle.b2_generate.specs.Making.{IsLatest}
 use Rattle.b2_generate.specs.Nodes.{entry_in, row_of, node_in, latest_in, first_in, IsEarly, AreEarly, AreDated}
@@ -123,8 +124,8 @@ node_dated n older first dated there is latest = (
 -- an open main target became a node
 pub completed : (d : Declared) (older : List Node) (f : Frame) (made : Made) (n : Node) (before after : Table ℕ) (place latest : ℕ)
     → HasPlaces older f.done f.places → AreReady d older before → place ≡ length older → IsNodeOf f made latest n → IsNoted f.name place before after
-    → IsLatest older f.done (unwrap_or (finite.get before f.name) place) latest → IsCompleted d older f made (n ∷ older) after place
-completed d older f made n before after place latest_place has was place_is is noted latest = record {
+    → IsLatest older f.done (unwrap_or (finite.get before f.name) place) latest → IsSet (features d) made.set → IsCompleted d older f made (n ∷ older) after place
+completed d older f made n before after place latest_place has was place_is is noted latest set = record {
   node = n;
   nodes = refl;
   place_is = place_is;
@@ -144,6 +145,7 @@ completed d older f made n before after place latest_place has was place_is is n
     firsts = λ name. noted.firsts name ∙ ap (λ (o : Option ℕ). option_or o (if is_same name f.name then Some place else None)) (was.firsts name)
         ∙ ap (λ (p : ℕ). option_or (first_in older name) (if is_same name f.name then Some p else None)) place_is
         ∙ ap (λ (m : Name). option_or (first_in older name) (if is_same name m then Some (length older) else None)) (sym is.named);
+    sets = (subst (IsSet (features d)) (sym is.set) set, was.sets);
   };
 }
 
@@ -151,7 +153,7 @@ completed d older f made n before after place latest_place has was place_is is n
 pub completes : (d : Declared) (listed after_listed : List Node) (f : Frame) (made : Made) (n : Node) (before after : Table ℕ) (latest : ℕ)
     → HasPlaces (reverse listed) f.done f.places → after_listed ≡ listed ++ n ∷ [] → IsNodeOf f made latest n → IsNoted f.name (length listed) before after
     → IsLatest (reverse listed) f.done (unwrap_or (finite.get before f.name) (length listed)) latest
-    → AreReady d (reverse listed) before → IsCompleted d (reverse listed) f made (reverse after_listed) after (length listed)
-completes d listed after_listed f made n before after latest_place has pushed is noted latest was =
+    → AreReady d (reverse listed) before → IsSet (features d) made.set → IsCompleted d (reverse listed) f made (reverse after_listed) after (length listed)
+completes d listed after_listed f made n before after latest_place has pushed is noted latest was set =
     subst (λ (nodes : List Node). IsCompleted d (reverse listed) f made nodes after (length listed)) (sym (ap reverse pushed ∙ reverse-append listed (n ∷ [])))
-    (completed d (reverse listed) f made n before after (length listed) latest_place has was (sym (length-reverse listed)) is noted latest)
+    (completed d (reverse listed) f made n before after (length listed) latest_place has was (sym (length-reverse listed)) is noted latest set)

@@ -146,6 +146,7 @@ module _ {S E K : Type 0} {answers : S → Option (Answers E)} {kept : S → K} 
         subst (λ (given : List Generated). Answered (loaded_of d roots answered) pieces start (Ok (given, mid_steps))) (append-nil (given_at mid_nodes places))
         ((so_far.leads answered is made).0 (Ok ([], mid_steps))
         (subst (λ (k : List Asked). Answered (loaded_of d roots answered) k mid_steps (Ok ([], mid_steps))) (sym none) (all_given mid_steps)));
+    sets = so_far.ready.sets;
     grows = so_far.grows;
     leaves = record { same_answers = so_far.same_answers; same_kept = so_far.same_kept; counted = so_far.counted; known = record {} };
   }
@@ -191,6 +192,7 @@ module _ {S E K : Type 0} {answers : S → Option (Answers E)} {kept : S → K} 
               refusal_weaker is_host is_out (λ why. (more : List Asked) → Answered (loaded_of d roots answered) (piece ∷ more) mid_steps (Err why)) (λ why. Answered (loaded_of d roots answered) pieces start (Err why))
               (λ why refuses. before.0 (Err why) (subst (λ (k : List Asked). Answered (loaded_of d roots answered) k mid_steps (Err why)) (sym e) (refuses rest)))
               fault (p.given answered (so_far.same_answers ∙ is) before.1);
+          sets = record {};
           grows = grows_then roots start mid_steps after so_far.grows p.grows;
           leaves = record {
             same_answers = p.leaves.same_answers ∙ so_far.same_answers;
@@ -209,6 +211,7 @@ module _ {S E K : Type 0} {answers : S → Option (Answers E)} {kept : S → K} 
         subst (λ (k : Result (List ℕ) (GenFault E)). ArePieces answers kept faults is_host is_out CanFault d roots pieces old_nodes start old nodes after new k) (sym h)
         (record {
           given = λ answered is made. record {};
+          sets = record {};
           grows = grows_then roots start mid_steps after so_far.grows p.grows;
           leaves = record {
             same_answers = p.leaves.same_answers ∙ so_far.same_answers;

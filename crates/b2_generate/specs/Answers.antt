@@ -1,8 +1,10 @@
 -- What generation gives.
 use Rattle.std.specs.Prelude.{ℕ, List, Result}
+use Rattle.std.specs.List.{AllByRecursion}
 use Rattle.b2_plan.specs.declared.step.Step.{Step}
-use Rattle.b2_props.specs.Sets.{Pair}
-use Rattle.b2_references.specs.Names.{Name}
+use Rattle.b2_props.specs.Sets.{Pair, IsSet}
+use Rattle.b2_metatargets.specs.declared.whole.Declared.{Declared}
+use Rattle.b2_references.specs.Names.{Name, features}
 use Rattle.b2_virtual.specs.declared.entry.Supply.{Supply}
 use Rattle.b2_generate.specs.Faults.{Fault}
 
@@ -11,6 +13,10 @@ pub record Row : Type 0 where
   pub name : Name
   pub alternative : ℕ
   pub set : List Pair
+
+-- the properties of each row are a set of the features that are declared
+abbrev pub HaveSets : Declared → List Row → Type 0
+HaveSets d rows = AllByRecursion (λ row. IsSet (features d) row.set) rows
 
 -- What a main target gives: its entries and the libraries that it carries on, its usage requirements, and the rows of all that was
 -- opened for it, its own first.

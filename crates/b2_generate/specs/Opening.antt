@@ -14,9 +14,10 @@ use Rattle.b2_alternatives.specs.Standing.{StandAt}
 use Rattle.b2_alternatives.specs.declared.asker.Asker.{Asker}
 use Rattle.b2_alternatives.specs.declared.conflict.Conflict.{Conflict}
 use Rattle.b2_alternatives.specs.declared.fault.ChoiceFault.{ChoiceFault}
+use Rattle.b2_generate.specs.Answers.{HaveSets}
 use Rattle.b2_generate.specs.Faults.{Fault, not_chosen}
 use Rattle.b2_generate.specs.Generation.{from_first}
-use Rattle.b2_generate.specs.Nodes.{first_in, AreDated}
+use Rattle.b2_generate.specs.Nodes.{row_of, first_in, AreDated}
 use Rattle.b2_generate.specs.Tables.{Table}
 use Rattle.b2_generate.specs.Told.{IsRefusal}
 use Rattle.b2_generate.specs.declared.node.Node.{Node}
@@ -29,11 +30,12 @@ use Rattle.b2_generate.specs.declared.fault.GenFault.TheVariants.{UsageConflict,
 abbrev pub frames : Stack → List Frame
 frames s = s.newest ∷ reverse s.below.items
 
--- the nodes and the look-up of their places are kept rightly
+-- the nodes and the look-up of their places are kept rightly, and the properties of each node are a set
 pub record AreReady (d : Declared) (nodes : List Node) (places : Table ℕ) : Type 0 where
   pub numbered : IsNumbered d
   pub dated : AreDated nodes
   pub firsts : (name : Name) → finite.get places name ≡ first_in nodes name
+  pub sets : HaveSets d (map row_of nodes)
 
 -- a main target was opened for a set, and nothing was generated for it
 pub record IsOpened (d : Declared) (name : Name) (set : List Pair) (bound : ℕ) (f : Frame) : Type 0 where

@@ -5,9 +5,9 @@ use Rattle.b2_metatargets.specs.declared.whole.Declared.{Declared}
 use Rattle.b2_references.specs.declared.asked.Asked.{Asked}
 use Rattle.b2_evaluation.specs.Answers.{Answers}
 use Rattle.b2_conversions.specs.Answers.{Grows}
-use Rattle.b2_generate.specs.Answers.{Generated, Outcome}
+use Rattle.b2_generate.specs.Answers.{Generated, Outcome, HaveSets}
 use Rattle.b2_generate.specs.Loaded.{Loaded}
-use Rattle.b2_generate.specs.Nodes.{entry_in, AreAdded}
+use Rattle.b2_generate.specs.Nodes.{entry_in, row_of, AreAdded}
 use Rattle.b2_generate.specs.Opening.{AreReady}
 use Rattle.b2_generate.specs.Planning as planning
 use Rattle.b2_generate.specs.Remembered.{AreMade}
@@ -60,6 +60,7 @@ pub record ArePieces {S E K : Type 0} (answers : S → Option (Answers E)) (kept
     (nodes : List Node) (after : List Step) (new : S) (result : Result (List ℕ) (GenFault E)) : Type 0 where
   pub given : (answered : Answers E) → answers old ≡ Some answered → AreMade (loaded_of d roots answered) old_nodes before
       → AreGiven (loaded_of d roots answered) is_host is_out pieces before nodes after result
+  pub sets : OnOk result (HaveSets d (map row_of nodes))
   pub grows : Grows roots before after
   pub leaves : Leaves answers kept faults is_host is_out CanFault old new result
 

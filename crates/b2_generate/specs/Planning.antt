@@ -20,11 +20,13 @@ pub record Line : Type 0 where
   pub alternative : ℕ
   pub set : List Pair
 
--- what a request asks to build: steps, wanted files and output roots; and the table of main targets
+-- What a request asks to build: steps, wanted files and output roots; the rows of the main targets that were opened for it, each
+-- different one once; and the table, which has a line for each row.
 pub record Planned : Type 0 where
   pub steps : List Step
   pub wanted : List (List ℕ)
   pub roots : List (List ℕ)
+  pub rows : List Row
   pub table : List Line
 
 -- ---- the table
@@ -61,6 +63,7 @@ module _ {E : Type 0} (l : Loaded E) where
     steps = steps;
     wanted = flat_map (λ g. map (λ e. e.path) g.supply.entries) made;
     roots = l.roots;
+    rows = first_rows (flat_map (λ g. g.rows) made);
     table = map (line l.declared) (first_rows (flat_map (λ g. g.rows) made));
   }
 

@@ -3,10 +3,10 @@ use Rattle.std.specs.Prelude.{◌≡◌, ◌<◌, ℕ, Bool, List, [], ◌∷◌
 use Rattle.std.specs.Option.{option_or, unwrap_or}
 use Rattle.std.specs.FinMap as finite
 use Rattle.b2_plan.specs.declared.step.Step.{Step}
-use Rattle.b2_props.specs.Sets.{Pair}
+use Rattle.b2_props.specs.Sets.{Pair, IsSet}
 use Rattle.b2_metatargets.specs.declared.whole.Declared.{Declared}
 use Rattle.b2_evaluation.specs.Answers.{Answers}
-use Rattle.b2_references.specs.Names.{Name, name_of, is_same}
+use Rattle.b2_references.specs.Names.{Name, name_of, is_same, features}
 use Rattle.b2_alternatives.specs.Picking.{seen}
 use Rattle.b2_conversions.specs.Answers.{Grows}
 use Rattle.b2_generate.specs.Generation.{Generates}
@@ -55,10 +55,10 @@ pub record IsCompleted (d : Declared) (old : List Node) (f : Frame) (made : Made
 abbrev pub IsLatestFor : Nodes → Frame → ℕ → Type 0
 IsLatestFor nodes f latest = IsLatest (reverse nodes.list.items) f.done (unwrap_or (finite.get nodes.firsts f.name) (length nodes.list.items)) latest
 
--- an open main target became a further node, at the place that is answered
+-- an open main target, whose final properties are a set, became a further node, at the place that is answered
 abbrev pub Completes : {F : Type 0} → Nodes → Frame → Made → Nodes → Result ℕ F → Type 0
 Completes old f made new result =
-    (d : Declared) → AreReady d (reverse old.list.items) old.firsts → IfOk result (IsCompleted d (reverse old.list.items) f made (reverse new.list.items) new.firsts)
+    (d : Declared) → AreReady d (reverse old.list.items) old.firsts → IsSet (features d) made.set → IfOk result (IsCompleted d (reverse old.list.items) f made (reverse new.list.items) new.firsts)
 
 -- the turns that are left for some open main targets
 abbrev pub turns_of : Declared → List Node → List Frame → ℕ

@@ -298,6 +298,7 @@ pub(crate) fn finish<E: Evaluate>(
     requires { IsKept (reverse nodes.now) index.now frame.now }
     ensures made { IsFinished E.Evaluate index.now roots.now (reverse nodes.now) frame.now evaluator.old builder.old builder.new result }
     ensures refused { IsUnfinished E.Evaluate index.now roots.now (reverse nodes.now) frame.now evaluator.old builder.old result }
+    ensures set { IfOk result (λ made. IsSet (features index.now) made.set) }
     ensures grows { Grows roots.now builder.old builder.new }
     ensures leaves { Leaves E.answers E.kept E.faults E.is_host_fault E.is_out_of_memory E.CanFault evaluator.old evaluator.new result }
 {

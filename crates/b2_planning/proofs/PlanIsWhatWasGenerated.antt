@@ -1,7 +1,7 @@
 -- The plan of what was generated, and the answer for a request.
-use Rattle.std.proofs.Common.{arith, ◌≡◌, ◌<◌, ◌≤◌, ◌==◌, zero, suc, ℕ, Bool, true, false, List, [], ◌∷◌, ◌++◌, Option, Some, None, Result, Ok, Err, length, map, reverse, get_or, codes, refl, sym, ap, subst, ◌∙◌, if◌then◌else◌}
+use Rattle.std.proofs.Common.{arith, ◌≡◌, ◌<◌, ◌≤◌, ◌==◌, zero, suc, ℕ, Bool, true, false, cond, not, List, [], ◌∷◌, ◌++◌, Option, Some, None, Result, Ok, Err, length, map, reverse, get_or, codes, refl, sym, ap, subst, ◌∙◌, if◌then◌else◌}
 use Rattle.std.specs.Prelude.{slice_get}
-use Rattle.std.specs.List.{AllByRecursion, Contains, flat_map}
+use Rattle.std.specs.List.{AllByRecursion, Contains, filter, flat_map}
 use Rattle.std.specs.FinMap as finite
 use Rattle.std.proofs.lemmas.Bool.{eqb-true}
 use Rattle.std.proofs.lemmas.List.{length-reverse}
@@ -20,13 +20,14 @@ use Rattle.b2_alternatives.specs.declared.fault.ChoiceFault.TheVariants as choic
 use Rattle.b2_conversions.specs.Answers.{AreHoused, Grows}
 use Rattle.b2_virtual.specs.declared.entry.Supply.{Supply}
 use Rattle.b2_conversions.specs.declared.fault.MakingFault.TheVariants as makings
-use Rattle.b2_generate.specs.Answers.{Generated}
+use Rattle.b2_generate.specs.Answers.{Row, Generated, HaveSets}
 use Rattle.b2_generate.specs.Faults.{Fault}
 use Rattle.b2_generate.specs.Loaded.{Loaded}
-use Rattle.b2_generate.specs.Nodes.{entry_in, given_by}
+use Rattle.b2_generate.specs.Nodes.{entry_in, row_of, given_by}
 use Rattle.b2_generate.specs.Opening.{AreReady}
 use Rattle.b2_generate.specs.Pieces.{given_at, ArePieces}
-use Rattle.b2_generate.specs.Planning.{Plans, line, first_rows, planned, Answers as Answered}
+use Rattle.b2_generate.specs.Places.{rows_at}
+use Rattle.b2_generate.specs.Planning.{Plans, line, is_same_row, first_rows, planned, Answers as Answered}
 use Rattle.b2_generate.specs.Wholes.{whole_fault, IsWhole}
 use Rattle.b2_planning.specs.Plans.{seen, planned_at, wanted_at, IsResultOf, IsAnswered}
 use Rattle.b2_generate.specs.Tables.{Table, name_cmp}
@@ -104,8 +105,40 @@ planned_is l nodes places steps = λ i. record {
   steps = steps;
   wanted = flat_given nodes (λ (g : Generated). map (λ e. e.path) g.supply.entries) places i;
   roots = l.roots;
+  rows = first_rows (flat_given nodes (λ (g : Generated). g.rows) places i);
   table = map (line l.declared) (first_rows (flat_given nodes (λ (g : Generated). g.rows) places i));
 }
+
+-- ---- the sets of rows
+
+have_both : (d : Declared) (rows more : List Row) → HaveSets d rows → HaveSets d more → HaveSets d (rows ++ more)
+have_both d [] more these those = those
+have_both d (row ∷ rows) more (one, these) those = (one, have_both d rows more these those)
+
+flat_sets : (d : Declared) (f : ℕ → List Row) (places : List ℕ) → ((place : ℕ) → HaveSets d (f place)) → HaveSets d (flat_map f places)
+flat_sets d f [] each = record {}
+flat_sets d f (place ∷ more) each = have_both d (f place) (flat_map f more) (each place) (flat_sets d f more each)
+
+-- those of what was opened for the node at a place
+entry_sets : (d : Declared) (nodes : List Node) (place : ℕ) → HaveSets d (map row_of nodes) → HaveSets d (entry_in nodes place).1.rows
+entry_sets d [] place had = record {}
+entry_sets d (n ∷ older) place (own, others) = go (place == length older) (λ child. entry_sets d older child others)
+  where
+    go : (b : Bool) → ((child : ℕ) → HaveSets d (entry_in older child).1.rows) → HaveSets d (if b then (n.name, given_by older n) else entry_in older place).1.rows
+    go true each = (own, flat_sets d (λ child. (entry_in older child).1.rows) n.children each)
+    go false each = each place
+
+filter_sets : (d : Declared) (p : Row → Bool) (rows : List Row) → HaveSets d rows → HaveSets d (filter p rows)
+filter_sets d p [] had = record {}
+filter_sets d p (row ∷ rows) (one, more) = go (p row) (filter_sets d p rows more)
+  where
+    go : (b : Bool) → HaveSets d (filter p rows) → HaveSets d (cond b (row ∷ filter p rows) (filter p rows))
+    go true rest = (one, rest)
+    go false rest = rest
+
+first_sets : (d : Declared) (rows : List Row) → HaveSets d rows → HaveSets d (first_rows rows)
+first_sets d [] had = record {}
+first_sets d (row ∷ rows) (one, more) = (one, filter_sets d (λ other. not (is_same_row row other)) (first_rows rows) (first_sets d rows more))
 
 -- ---- out of memory
 
@@ -198,7 +231,7 @@ pub begun_ready : (d2 d : Declared) (nodes : List Node) (firsts : Table ℕ) →
 begun_ready d2 d nodes firsts e none empty numbered =
     subst (λ (k : Declared). AreReady k nodes firsts) (sym e)
     (subst (λ (ns : List Node). AreReady d ns firsts) (sym none)
-    (record { numbered = numbered; dated = record {}; firsts = λ name. ap (λ (t : Table ℕ). finite.get t name) empty ∙ finite.get-empty name_cmp name }))
+    (record { numbered = numbered; dated = record {}; firsts = λ name. ap (λ (t : Table ℕ). finite.get t name) empty ∙ finite.get-empty name_cmp name; sets = record {} }))
 
 pub pieces_at : {S E K : Type 0} {answers : S → Option (Answers E)} {kept : S → K} {faults : S → ℕ} {is_host is_out : E → Bool} {CanFault : K → E → Type 0}
     {d2 d : Declared} {roots2 roots : List (List ℕ)} {pieces : List Asked} {old_nodes : List Node} {before : List Step} {old2 old : S}
@@ -232,6 +265,7 @@ module _ {S E K : Type 0} {answers : S → Option (Answers E)} {kept : S → K} 
         told = λ answered is. record {};
         apart = record {};
         same_roots = record {};
+        sets = record {};
         leaves = record { same_answers = told; same_kept = held; counted = record {}; known = record {} };
         whole = is_whole gen.OutOfMemory;
       })
@@ -248,6 +282,7 @@ module _ {S E K : Type 0} {answers : S → Option (Answers E)} {kept : S → K} 
       };
       apart = apart;
       same_roots = ap (λ k. k.roots) is;
+      sets = subst (HaveSets d) (sym (ap (λ k. k.rows) is)) (first_sets d (flat_map (rows_at nodes) places) (flat_sets d (rows_at nodes) places (λ place. entry_sets d nodes place q.sets)));
       leaves = record { same_answers = q.leaves.same_answers; same_kept = q.leaves.same_kept; counted = q.leaves.counted; known = record {} };
       whole = record {};
     }
@@ -267,6 +302,7 @@ module _ {S E K : Type 0} {answers : S → Option (Answers E)} {kept : S → K} 
           (subst (λ (o : Option (Fault E)). IfFault (λ f. Answered (loaded_of d roots answered) pieces [] (Err f)) o) (sym (whole_same is_host is_out why)) (q.given answered known (record {})));
       apart = record {};
       same_roots = record {};
+      sets = record {};
       leaves = record {
         same_answers = q.leaves.same_answers;
         same_kept = q.leaves.same_kept;

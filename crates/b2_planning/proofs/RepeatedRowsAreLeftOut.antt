@@ -14,7 +14,7 @@ use Rattle.b2_generate.specs.Nodes.{row_of}
 use Rattle.b2_generate.specs.declared.node.Node.{Node}
 use Rattle.b2_planning.specs.declared.planned.Built.{Built}
 use Rattle.b2_generate.specs.Planning.{is_same_row, first_rows, line}
-use Rattle.b2_planning.specs.TableRows.{has_row, with_row, lines_of}
+use Rattle.b2_planning.specs.TableRows.{has_row, with_row, lines_of, rows_of}
 use Rattle.b2_generate.proofs.SameNamesAreEqual.{same, reflexive}
 
 -- ---- equal rows
@@ -209,3 +209,9 @@ pub written : {E : Type 0} (r : Result (List Built) E) (d : Declared) (found lis
     → IfOk r (λ made. lines_of made ≡ map (λ (n : Bor Node). line d (row_of n.now)) listed) → IfOk r (λ made. lines_of made ≡ map (line d) rows)
 written (Ok made) d found listed rows same is lines = lines ∙ ap (map (λ (n : Bor Node). line d (row_of n.now))) same ∙ lines_again d found ∙ ap (map (line d)) is
 written (Err fault) d found listed rows same is lines = record {}
+
+-- and their rows are those rows
+pub rows_found : {E : Type 0} (r : Result (List Built) E) (found listed : List (Bor Node)) (rows : List Row) → listed ≡ found → map (λ (n : Bor Node). row_of n.now) found ≡ rows
+    → IfOk r (λ made. rows_of made ≡ map (λ (n : Bor Node). row_of n.now) listed) → IfOk r (λ made. rows_of made ≡ rows)
+rows_found (Ok made) found listed rows same is told = told ∙ ap (map (λ (n : Bor Node). row_of n.now)) same ∙ is
+rows_found (Err fault) found listed rows same is told = record {}

@@ -8,6 +8,7 @@ use Rattle.b2_metatargets.specs.declared.whole.Declared.{Declared}
 use Rattle.b2_evaluation.specs.Answers.{Answers}
 use Rattle.b2_references.specs.Requests.{asked}
 use Rattle.b2_references.specs.declared.asked.Asked.{Asked}
+use Rattle.b2_generate.specs.Answers.{HaveSets}
 use Rattle.b2_generate.specs.Loaded.{Loaded}
 use Rattle.b2_generate.specs.Nodes.{entry_in}
 use Rattle.b2_generate.specs.Planning as planning
@@ -19,13 +20,13 @@ use Rattle.b2_generate.specs.declared.fault.GenFault.{GenFault}
 use Rattle.b2_generate.specs.declared.fault.GenFault.TheVariants as faults
 use Rattle.b2_generate.specs.declared.node.Node.{Node}
 use Rattle.b2_planning.specs.declared.plan.Answered.{Answered}
-use Rattle.b2_planning.specs.TableRows.{lines_of}
+use Rattle.b2_planning.specs.TableRows.{lines_of, rows_of}
 use Rattle.b2_planning.specs.declared.planned.Planned.{Planned}
 
 -- ---- a plan with its table
 
 abbrev pub seen : Planned → planning.Planned
-seen p = record { steps = p.plan.steps; wanted = p.plan.wanted; roots = p.plan.roots; table = lines_of p.table }
+seen p = record { steps = p.plan.steps; wanted = p.plan.wanted; roots = p.plan.roots; rows = rows_of p.table; table = lines_of p.table }
 
 -- what the code answers is the plan of a request, or why it has none, unless that is a fault of the host or out of memory
 abbrev pub IsPlanned : {E : Type 0} → Loaded E → (E → Bool) → (E → Bool) → Request → Result Planned (GenFault E) → Type 0
@@ -48,6 +49,7 @@ planned_at d roots nodes places steps = record {
   steps = steps;
   wanted = flat_map (wanted_at nodes) places;
   roots = roots;
+  rows = first_rows (flat_map (rows_at nodes) places);
   table = map (line d) (first_rows (flat_map (rows_at nodes) places));
 }
 
@@ -64,6 +66,7 @@ pub record IsAnswered {S E K : Type 0} (answers : S → Option (Answers E)) (kep
   pub told : IsPlanOf answers is_host is_out d roots request old result
   pub apart : IfOk result (λ p. Apart p.plan.steps p.plan.roots)
   pub same_roots : IfOk result (λ p. p.plan.roots ≡ roots)
+  pub sets : IfOk result (λ p. HaveSets d (rows_of p.table))
   pub leaves : Leaves answers kept faults is_host is_out CanFault old new result
   pub whole : IfErr result IsWhole
 

@@ -25,6 +25,13 @@ lines_of table = map line_of table
 
 -- ---- rows
 
+abbrev pub row_of_line : Built → Row
+row_of_line b = record { name = b.name; alternative = b.alternative; set = b.set }
+
+-- the rows of the lines of a table, in order
+abbrev pub rows_of : List Built → List Row
+rows_of table = map row_of_line table
+
 -- whether a row is among some rows
 abbrev pub has_row : List Row → Row → Bool
 has_row rows row = list_any (is_same_row row) rows

@@ -5,9 +5,10 @@ ghost use Rattle.std.specs.FinMap as finite;
 ghost use Rattle.b2_plan.specs.Plans.{Apart};
 ghost use Rattle.b2_virtual.specs.Clashes.{AreInRoots};
 ghost use Rattle.b2_metatargets.specs.Numbered.{IsNumbered};
+ghost use Rattle.b2_generate.specs.Answers.{HaveSets};
 ghost use Rattle.b2_generate.specs.Planning.{first_rows, line};
 ghost use Rattle.b2_generate.specs.Places.{rows_at};
-ghost use Rattle.b2_planning.specs.TableRows.{lines_of};
+ghost use Rattle.b2_planning.specs.TableRows.{lines_of, rows_of};
 ghost use Rattle.b2_generate.specs.Wholes.{IsWhole};
 ghost use Rattle.b2_planning.specs.Plans.{seen, planned_at, wanted_at, IsPlanOf, IsResultOf, AnswersPieces, AnswersEach, AnswersRequest};
 ghost use Rattle.b2_generate.specs.Told.{Leaves};
@@ -83,6 +84,7 @@ fn parts_of(
 ) -> Result<Parts, OutOfMemory>
     ensures wanted { IfOk result (λ made. made.wanted ≡ flat_map (wanted_at (reverse nodes.now)) places.now) }
     ensures table { IfOk result (λ made. lines_of made.table ≡ map (line index.now) (first_rows (flat_map (rows_at (reverse nodes.now)) places.now))) }
+    ensures rows { IfOk result (λ made. rows_of made.table ≡ first_rows (flat_map (rows_at (reverse nodes.now)) places.now)) }
     ensures roots { IfOk result (λ made. made.roots ≡ roots.now) }
 {
     let wanted = wanted_of(alloc, nodes, places)?;
@@ -224,7 +226,8 @@ fn over_index<'a, E: Evaluate + Drop>(
 }
 
 /// Plans a request: what it asks for is generated piece by piece. Its steps stand in the plan once each, in order of generation; the
-/// wanted files are those of the pieces, in order. The first refusal is the answer.
+/// wanted files are those of the pieces, in order. The properties of each line of the table are a set. The first refusal is the
+/// answer.
 ///
 /// `declared` is what loading found, and `bin` stands among the output roots. The evaluator is handed back as it was, but for the
 /// count of the host's faults. Out of memory is one fault, whichever crate ran out of it.
@@ -240,6 +243,7 @@ pub fn plan<E: Evaluate + Drop>(
     ensures told { IsPlanOf E.answers E.is_host_fault E.is_out_of_memory declared.now roots.now request.now evaluator result.result }
     ensures apart { IfOk result.result (λ p. Apart p.plan.steps p.plan.roots) }
     ensures roots { IfOk result.result (λ p. p.plan.roots ≡ roots.now) }
+    ensures sets { IfOk result.result (λ p. HaveSets declared.now (rows_of p.table)) }
     ensures leaves { Leaves E.answers E.kept E.faults E.is_host_fault E.is_out_of_memory E.CanFault evaluator result.evaluator result.result }
     ensures whole { IfErr result.result IsWhole }
 {

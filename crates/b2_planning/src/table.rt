@@ -5,7 +5,7 @@ ghost use Rattle.std.specs.Option.{option_copied};
 ghost use Rattle.b2_generate.specs.Nodes.{entry_in, row_of};
 ghost use Rattle.b2_generate.specs.Planning.{first_rows, line};
 ghost use Rattle.b2_generate.specs.Places.{is_before};
-ghost use Rattle.b2_planning.specs.TableRows.{lines_of, line_of, found_rows, with_row, row_of_key, IsWalk, IsBegun, Opens};
+ghost use Rattle.b2_planning.specs.TableRows.{lines_of, line_of, rows_of, row_of_line, found_rows, with_row, row_of_key, IsWalk, IsBegun, Opens};
 
 use crate::planned::Built;
 use b2_base::fault::OutOfMemory;
@@ -132,17 +132,20 @@ fn nodes_of<'a>(
 
 /// The line of a node.
 fn built(alloc: Global, index: &Index<'_>, node: &Node) -> Result<Built, OutOfMemory>
-    ensures { IfOk result (λ made. line_of made ≡ line index.now (row_of node.now)) }
+    ensures line { IfOk result (λ made. line_of made ≡ line index.now (row_of node.now)) }
+    ensures row { IfOk result (λ made. row_of_line made ≡ row_of node.now) }
 {
     Ok(Built {
         target: index.target_text(node.name.project(), node.name.name())?,
+        name: node.name.copy()?,
         alternative: node.number,
         set: node.set.copy(alloc)?,
     })
 }
 
 fn lines(alloc: Global, index: &Index<'_>, nodes: &[&Node]) -> Result<List<Built>, OutOfMemory>
-    ensures { IfOk result (λ made. lines_of made ≡ map (λ n. line index.now (row_of n.now)) nodes.now) }
+    ensures lines { IfOk result (λ made. lines_of made ≡ map (λ n. line index.now (row_of n.now)) nodes.now) }
+    ensures rows { IfOk result (λ made. rows_of made ≡ map (λ n. row_of n.now) nodes.now) }
 {
     let mut made = List::new(alloc);
     for node in nodes {
@@ -158,7 +161,8 @@ pub(crate) fn table_of(
     nodes: &[Node],
     asked: &[usize],
 ) -> Result<List<Built>, OutOfMemory>
-    ensures { IfOk result (λ made. lines_of made ≡ map (line index.now) (first_rows (flat_map (λ place. (entry_in (reverse nodes.now) place).1.rows) asked.now))) }
+    ensures lines { IfOk result (λ made. lines_of made ≡ map (line index.now) (first_rows (flat_map (λ place. (entry_in (reverse nodes.now) place).1.rows) asked.now))) }
+    ensures rows { IfOk result (λ made. rows_of made ≡ first_rows (flat_map (λ place. (entry_in (reverse nodes.now) place).1.rows) asked.now)) }
 {
     let found = nodes_of(alloc, nodes, asked)?;
     lines(alloc, index, found.as_slice())

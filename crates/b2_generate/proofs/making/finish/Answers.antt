@@ -16,6 +16,9 @@ pub returns-in_err-supplied-clause-refused : goal.returns-in_err-supplied-clause
 returns-in_err-supplied-clause-refused g c = λ told is.
     is_refused g.E.Evaluate.is_host_fault g.E.Evaluate.is_out_of_memory _ c.from_residual.result _ (exit_is c.from_residual.result _ c.from_residual.ensures.1) (record {})
 
+pub returns-in_err-supplied-clause-set : goal.returns-in_err-supplied-clause-set
+returns-in_err-supplied-clause-set g c = none_made c.from_residual.result _ _ (exit_is c.from_residual.result _ c.from_residual.ensures.1)
+
 pub returns-in_err-supplied-clause-grows : goal.returns-in_err-supplied-clause-grows
 returns-in_err-supplied-clause-grows g c = grows_none c.args.roots.now c.args.builder.now
 
@@ -36,6 +39,9 @@ returns-in_err-supply-clause-refused g c = λ told is.
     is_refused g.E.Evaluate.is_host_fault g.E.Evaluate.is_out_of_memory _ c.from_residual-in_err-supply.result c.in_err-supply.field-0.0
     (exit_is c.from_residual-in_err-supply.result _ c.from_residual-in_err-supply.ensures.1) (c.in_err-supply.ensures.refused told is)
 
+pub returns-in_err-supply-clause-set : goal.returns-in_err-supply-clause-set
+returns-in_err-supply-clause-set g c = none_made c.from_residual-in_err-supply.result _ _ (exit_is c.from_residual-in_err-supply.result _ c.from_residual-in_err-supply.ensures.1)
+
 pub returns-in_err-supply-clause-grows : goal.returns-in_err-supply-clause-grows
 returns-in_err-supply-clause-grows g c = c.in_err-supply.ensures.grows
 
@@ -51,6 +57,9 @@ pub returns-in_err-usage-clause-refused : goal.returns-in_err-usage-clause-refus
 returns-in_err-usage-clause-refused g c = λ told is.
     is_refused g.E.Evaluate.is_host_fault g.E.Evaluate.is_out_of_memory _ c.from_residual-in_err-usage.result _ (exit_is c.from_residual-in_err-usage.result _ c.from_residual-in_err-usage.ensures.1) (record {})
 
+pub returns-in_err-usage-clause-set : goal.returns-in_err-usage-clause-set
+returns-in_err-usage-clause-set g c = none_made c.from_residual-in_err-usage.result _ _ (exit_is c.from_residual-in_err-usage.result _ c.from_residual-in_err-usage.ensures.1)
+
 pub returns-in_err-usage-clause-grows : goal.returns-in_err-usage-clause-grows
 returns-in_err-usage-clause-grows g c = c.in_ok-supply.ensures.grows
 
@@ -63,6 +72,9 @@ pub returns-clause-made : goal.returns-clause-made
 returns-clause-made g c = λ told is.
     finishes (loaded_of c.args.index.now c.args.roots.now told) (seen c.args.frame.now.name c.args.frame.now.chosen) (standing_of (reverse c.args.nodes.now) c.args.frame.now) c.args.builder.now c.steps_of.new.builder
     c.in_ok-supply.supply c.in_ok-usage.usage c.in_ok-supplied.supplied.set (c.in_ok-supply.ensures.made told is) c.in_ok-supplied.ensures.set c.in_ok-usage.ensures
+
+pub returns-clause-set : goal.returns-clause-set
+returns-clause-set g c = c.in_ok-supplied.ensures.is_set
 
 pub returns-clause-grows : goal.returns-clause-grows
 returns-clause-grows g c = c.in_ok-supply.ensures.grows

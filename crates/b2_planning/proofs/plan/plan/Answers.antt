@@ -41,3 +41,9 @@ returns-in-Ok-clause-whole g c = (answered_at c.in-Ok.ensures c.over_index.ensur
 
 pub returns-in-Err-clause-whole : goal.returns-in-Err-clause-whole
 returns-in-Err-clause-whole g c = (c.no_memory.ensures c.args.declared.now c.args.roots.now c.args.request.now).whole
+
+pub returns-in-Ok-clause-sets : goal.returns-in-Ok-clause-sets
+returns-in-Ok-clause-sets g c = (answered_at c.in-Ok.ensures c.over_index.ensures).sets
+
+pub returns-in-Err-clause-sets : goal.returns-in-Err-clause-sets
+returns-in-Err-clause-sets g c = (c.no_memory.ensures c.args.declared.now c.args.roots.now c.args.request.now).sets

@@ -7,6 +7,7 @@ returns-clause-seen c = λ i. record {
   steps = (c.in_ok-plan.ensures.steps ∙ c.into_steps.ensures.steps) i;
   wanted = (c.in_ok-plan.ensures.wanted ∙ c.in_ok-made.ensures.wanted) i;
   roots = (c.in_ok-plan.ensures.roots ∙ c.in_ok-made.ensures.roots) i;
+  rows = c.in_ok-made.ensures.rows i;
   table = c.in_ok-made.ensures.table i;
 }
 

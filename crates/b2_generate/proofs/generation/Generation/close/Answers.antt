@@ -67,7 +67,7 @@ returns-in_err-place-clause-turn g c = ran_out c.from_residual-in_err-place.resu
 pub returns-in-None-clause-turn : goal.returns-in-None-clause-turn
 returns-in-None-clause-turn g c =
     let none = none_below c.args.stack.now.below.items (omega (arith, c.in-None.ensures.cases.0, c.args.stack.now.below.ok.0)) in
-    let done = (subst (λ r. IfOk r (IsCompleted c.args.self.now.asker.index.now (reverse c.args.self.now.nodes.list.items) c.args.stack.now.newest c.in_ok-made.made (reverse c.complete.new.self.list.items) c.complete.new.self.firsts)) c.in_ok-place.was (c.complete.ensures c.args.self.now.asker.index.now c.requires.ready)) in
+    let done = (subst (λ r. IfOk r (IsCompleted c.args.self.now.asker.index.now (reverse c.args.self.now.nodes.list.items) c.args.stack.now.newest c.in_ok-made.made (reverse c.complete.new.self.list.items) c.complete.new.self.firsts)) c.in_ok-place.was (c.complete.ensures c.args.self.now.asker.index.now c.requires.ready c.in_ok-made.ensures.set)) in
     is_over c.in_ok-place.place (done_over c.args.self.now.asker.index.now (reverse c.args.self.now.nodes.list.items) c.args.stack.now.newest (reverse c.args.stack.now.below.items) c.in_ok-made.made (reverse c.complete.new.self.list.items) c.complete.new.self.firsts c.in_ok-place.place done)
     (λ answered is name set start way made. (
       done_ends (loaded_of c.args.self.now.asker.index.now c.args.self.now.roots.now answered) name set start (reverse
@@ -105,7 +105,7 @@ take-requires-clause-there g c =
     c.complete.new.self.firsts c.in_ok-place.place (subst (λ r. IfOk r (IsCompleted
     c.args.self.now.asker.index.now (reverse c.args.self.now.nodes.list.items) c.args.stack.now.newest
     c.in_ok-made.made (reverse c.complete.new.self.list.items) c.complete.new.self.firsts)) c.in_ok-place.was
-    (c.complete.ensures c.args.self.now.asker.index.now c.requires.ready))).there)
+    (c.complete.ensures c.args.self.now.asker.index.now c.requires.ready c.in_ok-made.ensures.set))).there)
 
 pub take-requires-clause-kept : goal.take-requires-clause-kept
 take-requires-clause-kept g c = subst (λ (xs : List Node). IsKept (reverse xs) c.args.self.now.asker.index.now
@@ -114,13 +114,13 @@ take-requires-clause-kept g c = subst (λ (xs : List Node). IsKept (reverse xs) 
     (reverse c.complete.new.self.list.items) c.complete.new.self.firsts c.in_ok-place.place (subst (λ r. IfOk r
     (IsCompleted c.args.self.now.asker.index.now (reverse c.args.self.now.nodes.list.items) c.args.stack.now.newest
     c.in_ok-made.made (reverse c.complete.new.self.list.items) c.complete.new.self.firsts)) c.in_ok-place.was
-    (c.complete.ensures c.args.self.now.asker.index.now c.requires.ready)) c.requires.kept c.in-Some.frame (reverse
+    (c.complete.ensures c.args.self.now.asker.index.now c.requires.ready c.in_ok-made.ensures.set)) c.requires.kept c.in-Some.frame (reverse
     c.pop.new.self.items) (one_below c.args.stack.now.below.items c.pop.new.self.items c.in-Some.frame
     c.in-Some.ensures.items))
 
 pub returns-in_err-take-in-Some-clause-turn : goal.returns-in_err-take-in-Some-clause-turn
 returns-in_err-take-in-Some-clause-turn g c =
-    let done = (subst (λ r. IfOk r (IsCompleted c.args.self.now.asker.index.now (reverse c.args.self.now.nodes.list.items) c.args.stack.now.newest c.in_ok-made.made (reverse c.complete.new.self.list.items) c.complete.new.self.firsts)) c.in_ok-place.was (c.complete.ensures c.args.self.now.asker.index.now c.requires.ready)) in
+    let done = (subst (λ r. IfOk r (IsCompleted c.args.self.now.asker.index.now (reverse c.args.self.now.nodes.list.items) c.args.stack.now.newest c.in_ok-made.made (reverse c.complete.new.self.list.items) c.complete.new.self.firsts)) c.in_ok-place.was (c.complete.ensures c.args.self.now.asker.index.now c.requires.ready c.in_ok-made.ensures.set)) in
     clashed c.from_residual-in_err-take-in-Some.result c.in_err-take-in-Some.field-0.0 c.in-Some.frame.name _ (exit_is c.from_residual-in_err-take-in-Some.result _ c.from_residual-in_err-take-in-Some.ensures.1)
     (subst (λ (xs : List Node). IsConflict c.args.self.now.asker.index.now c.in-Some.frame.name (conflict c.args.self.now.asker.index.now (standing_of (reverse xs) c.in-Some.frame) (entry_in (reverse xs) c.in_ok-place.place).1) c.in_err-take-in-Some.field-0.0) c.as_slice-in-Some.ensures.value c.in_err-take-in-Some.ensures.clash)
     c.in_ok-made.ensures.grows
@@ -141,7 +141,7 @@ returns-in_err-take-in-Some-clause-turn g c =
 
 pub returns-in_ok-take-in-Some-clause-turn : goal.returns-in_ok-take-in-Some-clause-turn
 returns-in_ok-take-in-Some-clause-turn g c =
-    let done = (subst (λ r. IfOk r (IsCompleted c.args.self.now.asker.index.now (reverse c.args.self.now.nodes.list.items) c.args.stack.now.newest c.in_ok-made.made (reverse c.complete.new.self.list.items) c.complete.new.self.firsts)) c.in_ok-place.was (c.complete.ensures c.args.self.now.asker.index.now c.requires.ready)) in
+    let done = (subst (λ r. IfOk r (IsCompleted c.args.self.now.asker.index.now (reverse c.args.self.now.nodes.list.items) c.args.stack.now.newest c.in_ok-made.made (reverse c.complete.new.self.list.items) c.complete.new.self.firsts)) c.in_ok-place.was (c.complete.ensures c.args.self.now.asker.index.now c.requires.ready c.in_ok-made.ensures.set)) in
     let after = c.take.new.frame in
     let took = subst (λ (xs : List Node). IsTaken c.args.self.now.asker.index.now (reverse xs) c.in_ok-place.place c.in-Some.frame after) c.as_slice-in-Some.ensures.value c.in_ok-take-in-Some.ensures.taken in
     goes (done_goes c.args.self.now.asker.index.now (reverse c.args.self.now.nodes.list.items) c.args.stack.now.newest (reverse c.args.stack.now.below.items) c.in_ok-made.made (reverse c.complete.new.self.list.items) c.complete.new.self.firsts c.in_ok-place.place done c.requires.kept c.in-Some.frame (reverse c.pop.new.self.items) (one_below c.args.stack.now.below.items c.pop.new.self.items c.in-Some.frame c.in-Some.ensures.items) after took)
