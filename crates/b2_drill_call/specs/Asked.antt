@@ -9,13 +9,14 @@ use Rattle.b2_words.specs.declared.words.Words.{Words}
 abbrev pub steps_in : Command → Option ℕ
 steps_in (commands.Build options) = None
 steps_in (commands.Look view) = None
+steps_in (commands.Explain all) = None
+steps_in commands.Clean = None
 steps_in (commands.Drill steps) = Some steps
 
 abbrev pub drill_in : Option Words → Option ℕ
 drill_in None = None
 drill_in (Some read) = steps_in read.command
 
--- How many targets the drill has that words ask for. There is none where they are not of the grammar, or ask for a build or a
--- look.
+-- How many targets the drill has that words ask for. There is none where they are not of the grammar, or ask for something else.
 abbrev pub drill_of : List Word → Option ℕ
 drill_of words = drill_in (reading words)

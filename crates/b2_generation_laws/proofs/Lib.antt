@@ -5,3 +5,4 @@ mod OwnRowThenThoseOpened
 mod JoinedStepsStayApart
 mod MakingKeepsOutputsApart
 mod PlanOutputsAreApart
+mod DeclaredIdsAreDistinct

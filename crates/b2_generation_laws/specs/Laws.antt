@@ -1,9 +1,13 @@
 -- Laws of plans.
-use Rattle.std.specs.Prelude.{ℕ, List, Ok, codes}
+use Rattle.std.specs.Prelude.{◌≡◌, ℕ, List, Ok, codes}
 use Rattle.std.specs.List.{Contains}
 use Rattle.b2_plan.specs.Plans.{Apart}
 use Rattle.b2_props.specs.Sets.{Pair}
 use Rattle.b2_generators.specs.Table.{HaveDistinctIds}
+use Rattle.b2_metatargets.specs.declared.visit.Call.{Call}
+use Rattle.b2_metatargets.specs.declared.visit.Visit.{Visit}
+use Rattle.b2_metatargets.specs.declared.whole.Declared.{Declared}
+use Rattle.b2_metatargets.specs.Declaring.{declared}
 use Rattle.b2_generate.specs.Loaded.{Loaded}
 use Rattle.b2_generate.specs.Planning.{Planned, Plans}
 
@@ -12,3 +16,8 @@ use Rattle.b2_generate.specs.Planning.{Planned, Plans}
 abbrev pub PlansAreApart : Type 0 → Type 0
 PlansAreApart E = (l : Loaded E) (sets : List (List Pair)) (words : List (List ℕ)) (planned : Planned) →
     Contains l.roots (codes "bin") → HaveDistinctIds l.declared.types.generators → Plans l sets words (Ok planned) → Apart planned.steps planned.roots
+
+-- no two generators that the calls of a load declare have one id
+abbrev pub IdsAreDistinct : Type 0
+IdsAreDistinct = (visits : List Visit) (calls : List Call) (found : Declared) → declared visits calls ≡ Ok found
+    → HaveDistinctIds found.types.generators

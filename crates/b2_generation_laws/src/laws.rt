@@ -1,6 +1,6 @@
 //! Laws of generation and of plans, each the contract of a function that does nothing.
 ghost use Rattle.b2_generate.specs.Laws.{SameAnswer, OwnRowIsFirst, RowsAreOpenings};
-ghost use Rattle.b2_generation_laws.specs.Laws.{PlansAreApart};
+ghost use Rattle.b2_generation_laws.specs.Laws.{PlansAreApart, IdsAreDistinct};
 
 /// What a main target gives depends on the target and the set alone: neither on what is open nor on the steps before.
 pub fn same_answer<E>()
@@ -21,4 +21,9 @@ pub fn rows_are_openings<E>()
 /// whatever the project's own text answers.
 pub fn plans_are_apart<E>()
     ensures { PlansAreApart E }
+{}
+
+/// No two generators that the calls of a load declare have one id.
+pub fn ids_are_distinct()
+    ensures { IdsAreDistinct }
 {}

@@ -1,4 +1,4 @@
-//! Laws of generation and of plans that no part of the program cites.
+//! Laws of generation and of plans.
 #![tactic(auto)]
 
 pub mod laws;

@@ -1,11 +1,10 @@
 -- Whichever command the words are for, what it promises of its answer is the cause of the status.
-use Rattle.std.proofs.Common.{◌≡◌, ◌≤◌, ◌⊎◌, ℕ, List, [], None, inl, inr, refl, sym, ap, ◌∙◌, subst, arith}
-use Rattle.b2_host.specs.ChildProcesses.{Family}
+use Rattle.std.proofs.Common.{◌≡◌, ◌≤◌, ℕ, List, [], inl, inr, refl, sym, ap, ◌∙◌, subst, arith}
+use Rattle.b2_host.specs.ChildProcesses.{Family, BothTold}
 use Rattle.b2_host.specs.Outside.{Outside}
-use Rattle.b2_host.specs.OutsideLaws.{Keeps, keeps_same}
+use Rattle.b2_host.specs.OutsideLaws.{Keeps, keeps_same, both_map}
 use Rattle.b2_host.specs.Output.{Output, with_written}
 use Rattle.b2_host.specs.OutputLaws.{OutKeeps}
-use Rattle.b2_drill_call.specs.Asked.{drill_of}
 use Rattle.b2_endings.specs.declared.failed_lists.FailedLists.{FailedLists}
 use Rattle.b2_refusals.specs.Wholes.{IsWhole}
 use Rattle.b2_refusals.specs.declared.fault.Fault.{Fault}
@@ -14,6 +13,8 @@ use Rattle.b2_runs.specs.UpdateAnswers.{LeavesNone}
 use Rattle.b2_drain.specs.Drains.{Made}
 use Rattle.b2_words.specs.Words.{Word}
 use Rattle.b2_top.specs.Answered.{CleanTold, HappenedTold, CountsTold}
+use Rattle.b2_top.specs.Explains.{IsTold as IsExplainedTold, IsOfExplain, CauseTold as ExplainCauseTold}
+use Rattle.b2_top.specs.Cleans.{CauseTold as CleanCauseTold}
 use Rattle.b2_top.specs.Endings.{IsUsageOrCutShort, IfRefused}
 use Rattle.b2_top.specs.Modes.{mode_of}
 use Rattle.b2_top.specs.Shows.{IsShown, IsOfLook, CauseTold, CountsTold as LookCounts}
@@ -22,9 +23,10 @@ use Rattle.b2_top.specs.Told.{CountsStay, HostFailedFirst, WrittenTold}
 use Rattle.b2_top.specs.declared.answer.Answer.{Answer}
 use Rattle.b2_top.specs.declared.answer.Answer.TheVariants as answers
 use Rattle.b2_top.specs.declared.mode.Mode.{Mode}
-use Rattle.b2_top.specs.declared.mode.Mode.TheVariants.{Build, Look, Drill}
-use Rattle.b2_program.specs.Called.{IsBuild, IsLook, IsDrill, AnswersOver, Promises, EndsWith}
-use Rattle.b2_program.specs.Causes.{IsFailed, IsRefusedFor, IsRefused, IsNoCommand, IsUsage, IsUsageStatus, IsSinkFault, IsDrillDone}
+use Rattle.b2_top.specs.declared.mode.Mode.TheVariants.{Build, Look, Explain, Clean, Drill}
+use Rattle.b2_source_laws.specs.AfterCleaning.{LeavesToBuild, NextAfterCleaning}
+use Rattle.b2_program.specs.Called.{IsBuild, IsLook, IsExplanation, IsCleaning, IsDrill, AnswersOver, Promises, EndsWith}
+use Rattle.b2_program.specs.Causes.{IsFailed, IsRefusedFor, IsRefused, IsNoCommand, IsUsage, IsUsageStatus, IsSinkFault, IsDrillDone, IsCleanedFor}
 use Rattle.b2_program.proofs.StatusTellsAnswer.{at_most_six, is_ok, is_failed, is_refused, is_usage}
 
 -- ---- answers
@@ -118,6 +120,18 @@ module _ (made : Made) (words : List Word) (before after : Moment) (status : ℕ
     keeps = p.keeps;
     out_keeps = p.answered.out_keeps;
   }
+  of_mode Explain idle p = record {
+    counts = look_counts before after a p.counts;
+    none_left = inl (ap (λ (f : Family). f.running) p.children ∙ idle);
+    keeps = p.keeps;
+    out_keeps = p.out_keeps;
+  }
+  of_mode Clean idle p = record {
+    counts = look_counts before after a p.counts;
+    none_left = inl (ap (λ (f : Family). f.running) p.children ∙ idle);
+    keeps = p.keeps;
+    out_keeps = p.out_keeps;
+  }
   of_mode Drill idle p = record {
     counts = drill_counts words before after p.last a p.host p.answered;
     none_left = inl (ap (λ (o : Outside). o.children.running) p.host ∙ idle);
@@ -143,6 +157,21 @@ module _ (made : Made) (words : List Word) (before after : Moment) (status : ℕ
       let p : IsLook words before after a = subst Has is e.promised in
       p.answered.shown (is_ok a (sym e.is ∙ well))
 
+  pub explained_told : mode_of words ≡ Explain → status ≡ 0 → WrittenTold before after (IsExplainedTold words)
+  explained_told is well =
+      let p : IsExplanation words before after a = subst Has is e.promised in
+      p.explained (is_ok a (sym e.is ∙ well))
+
+  pub cleaned_told : mode_of words ≡ Clean → status ≡ 0 → BothTold (IsCleanedFor words) before.host.disk after.host.disk
+  cleaned_told is well =
+      let p : IsCleaning words before after a = subst Has is e.promised in
+      both_map _ _ before.host.disk after.host.disk (p.cleaned (is_ok a (sym e.is ∙ well))) (λ disk later told. told.0)
+
+  pub leaves_to_build : NextAfterCleaning → mode_of words ≡ Clean → status ≡ 0 → LeavesToBuild made words before.host after.host
+  leaves_to_build law is well =
+      let p : IsCleaning words before after a = subst Has is e.promised in
+      law made words before after (subst (IsCleaning words before after) (is_ok a (sym e.is ∙ well)) p)
+
   pub drilled_told : mode_of words ≡ Drill → status ≡ 0 → IsDrillDone words before.out after.out
   drilled_told is well =
       let p : IsDrill words before after a = subst Has is e.promised in
@@ -157,6 +186,8 @@ module _ (made : Made) (words : List Word) (before after : Moment) (status : ℕ
       go : (m : Mode) → mode_of words ≡ m → Has m → IsFailed made words before.host after.host
       go Build is p = record { is_build = is; lists = found.0; updated = subst (HappenedTold made words before.host after.host) found.1 p.answered.happened }
       go Look is p = absurd (subst IsOfLook found.1 p.answered.not_failed)
+      go Explain is p = absurd (subst IsOfExplain found.1 p.not_failed)
+      go Clean is p = absurd (subst IsOfLook found.1 p.not_failed)
       go Drill is p = absurd (subst (λ answer. AnswersOver words before.out after.out answer p.last) found.1 p.answered)
 
   pub refused_told : status ≡ 2 → IsRefused made words before.host after.host
@@ -171,6 +202,8 @@ module _ (made : Made) (words : List Word) (before after : Moment) (status : ℕ
       go : (m : Mode) → mode_of words ≡ m → Has m → IsRefused made words before.host after.host
       go Build is p = of Build is (subst (IfRefused IsWhole) found.1 p.answered.whole) (subst (HappenedTold made words before.host after.host) found.1 p.answered.happened)
       go Look is p = of Look is (subst (IfRefused IsWhole) found.1 p.answered.whole) (subst (CauseTold words before.host) found.1 p.answered.cause)
+      go Explain is p = of Explain is (subst (IfRefused IsWhole) found.1 p.whole) (subst (ExplainCauseTold words before.host) found.1 p.cause)
+      go Clean is p = of Clean is (subst (IfRefused IsWhole) found.1 p.whole) (subst (CleanCauseTold words before.host) found.1 p.cause)
       go Drill is p = absurd (subst (λ answer. AnswersOver words before.out after.out answer p.last) found.1 p.answered)
 
   pub usage_told_so : status ≡ 3 → IsUsage words before after
@@ -187,6 +220,10 @@ module _ (made : Made) (words : List Word) (before after : Moment) (status : ℕ
           record { none = none_so Build is none; host = p.answered.alone none; out = p.answered.usage_told found }
       go Look is p = let none = p.answered.no_usage found in
           record { none = none_so Look is none; host = p.answered.alone none; out = p.answered.usage_told found }
+      go Explain is p = let none = p.no_usage found in
+          record { none = none_so Explain is none; host = p.alone none; out = p.usage_told found }
+      go Clean is p = let none = p.no_usage found in
+          record { none = none_so Clean is none; host = p.alone none; out = p.usage_told found }
       go Drill is p = let said = subst (λ answer. AnswersOver words before.out after.out answer p.last) found p.answered in
           record { none = none_so Drill is said.no_drill; host = p.host; out = said.written }
 
@@ -196,6 +233,8 @@ module _ (made : Made) (words : List Word) (before after : Moment) (status : ℕ
       go : (m : Mode) → mode_of words ≡ m → IsNoCommand m words → Has m → IsUsageOrCutShort a
       go Build is none p = p.answered.usage none
       go Look is none p = p.answered.usage none
+      go Explain is none p = p.usage none
+      go Clean is none p = p.usage none
       go Drill is none p = p.usage none
 
   -- ---- counts

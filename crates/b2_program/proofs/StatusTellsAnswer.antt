@@ -1,5 +1,5 @@
 -- A status tells of which kind the answer is.
-use Rattle.std.proofs.Common.{◌≡◌, ◌≤◌, ◌⊎◌, inl, inr, refl, ap, arith}
+use Rattle.std.proofs.Common.{◌≡◌, ◌≤◌, refl, arith}
 use Rattle.b2_endings.specs.declared.failed_lists.FailedLists.{FailedLists}
 use Rattle.b2_refusals.specs.declared.fault.Fault.{Fault}
 use Rattle.b2_top.specs.Statuses.{status_of}

@@ -15,11 +15,13 @@ use Rattle.b2_drill_call.specs.Drilled.{AnswersDrill}
 use Rattle.b2_top.specs.Answered.{IsAnswered}
 use Rattle.b2_top.specs.Endings.{IsUsageOrCutShort}
 use Rattle.b2_top.specs.Shows.{IsAnswered as IsLookAnswered}
+use Rattle.b2_top.specs.Explains.{IsAnswered as IsExplanationAnswered}
+use Rattle.b2_top.specs.Cleans.{IsAnswered as IsCleaningAnswered}
 use Rattle.b2_top.specs.Modes.{mode_of}
 use Rattle.b2_top.specs.Statuses.{status_of}
 use Rattle.b2_top.specs.declared.answer.Answer.{Answer}
 use Rattle.b2_top.specs.declared.mode.Mode.{Mode}
-use Rattle.b2_top.specs.declared.mode.Mode.TheVariants.{Build, Look, Drill}
+use Rattle.b2_top.specs.declared.mode.Mode.TheVariants.{Build, Look, Explain, Clean, Drill}
 
 -- all that the build command promises
 pub record IsBuild (made : Made) (words : List Word) (before after : Moment) (answer : Answer) : Type 0 where
@@ -33,6 +35,14 @@ pub record IsLook (words : List Word) (before after : Moment) (answer : Answer) 
   pub disk : after.host.disk ≡ before.host.disk
   pub children : after.host.children ≡ before.host.children
   pub keeps : Keeps before.host after.host
+
+-- all that the explain command promises
+abbrev pub IsExplanation : List Word → Moment → Moment → Answer → Type 0
+IsExplanation words before after answer = IsExplanationAnswered words before after answer
+
+-- all that the clean command promises
+abbrev pub IsCleaning : List Word → Moment → Moment → Answer → Type 0
+IsCleaning words before after answer = IsCleaningAnswered words before after answer
 
 -- what a drill promises of its answer, over a host in memory of its own, which is new before it and `last` after it
 abbrev pub AnswersOver : List Word → Output → Output → Answer → Outside → Type 0
@@ -50,6 +60,8 @@ pub record IsDrill (words : List Word) (before after : Moment) (answer : Answer)
 abbrev pub Promises : Mode → Made → List Word → Moment → Moment → Answer → Type 0
 Promises Build made words before after answer = IsBuild made words before after answer
 Promises Look made words before after answer = IsLook words before after answer
+Promises Explain made words before after answer = IsExplanation words before after answer
+Promises Clean made words before after answer = IsCleaning words before after answer
 Promises Drill made words before after answer = IsDrill words before after answer
 
 -- The status is that of an answer of which all holds that the command promises which the words are for.

@@ -1,6 +1,7 @@
 -- The cause of each status.
 use Rattle.std.specs.Prelude.{◌≡◌, ◌⊎◌, ℕ, List, None, IfSome}
 use Rattle.b2_host.specs.ChildProcesses.{BothTold}
+use Rattle.b2_host.specs.Disks.{Disk}
 use Rattle.b2_host.specs.Outside.{Outside}
 use Rattle.b2_host.specs.Output.{Output, with_written}
 use Rattle.b2_refusals.specs.Lines.{usage_line}
@@ -17,13 +18,18 @@ use Rattle.b2_memory.specs.Memories.{new_memory}
 use Rattle.b2_update.specs.Moments.{moment}
 use Rattle.b2_words.specs.Words.{Word}
 use Rattle.b2_top.specs.Answered.{StaysOrWaits}
+use Rattle.b2_top.specs.Asked.{explain_command, explained_words, clean_words}
+use Rattle.b2_top.specs.Explains.{IsTooBigPlan}
+use Rattle.b2_top.specs.Cleans.{HasPlan as IsCleaningPlan}
+use Rattle.b2_top.specs.FreePlans.{HasNoFreePlan}
+use Rattle.b2_explain.specs.Cleaning.{IsCleaned}
 use Rattle.b2_top.specs.Builds.{HasBuilt, RefusedBy}
 use Rattle.b2_top.specs.Commands.{build_command}
 use Rattle.b2_top.specs.Looks.{look_of}
 use Rattle.b2_top.specs.Modes.{mode_of}
 use Rattle.b2_top.specs.Shows.{HasNoPlan}
 use Rattle.b2_top.specs.declared.mode.Mode.{Mode}
-use Rattle.b2_top.specs.declared.mode.Mode.TheVariants.{Build, Look, Drill}
+use Rattle.b2_top.specs.declared.mode.Mode.TheVariants.{Build, Look, Explain, Clean, Drill}
 
 -- The words are a build, and its update ended with these lists.
 pub record IsFailed (made : Made) (words : List Word) (before after : Outside) : Type 0 where
@@ -38,6 +44,10 @@ IsRefusedFor Build made words before after fault =
     BothTold (λ disk later. RefusedBy made words before after disk later fault) before.disk after.disk
 IsRefusedFor Look made words before after fault =
     IfSome before.disk (λ disk. (echoes : List Word) × HasNoPlan words disk echoes fault)
+IsRefusedFor Explain made words before after fault = IfSome before.disk (λ disk.
+    ((echoes : List Word) × HasNoFreePlan (explained_words words) disk echoes fault) ⊎ IsTooBigPlan words disk fault)
+IsRefusedFor Clean made words before after fault =
+    IfSome before.disk (λ disk. (echoes : List Word) × HasNoFreePlan (clean_words words) disk echoes fault)
 IsRefusedFor Drill made words before after fault = ⊥
 
 -- Something is refused, and the words and the files are its cause.
@@ -50,6 +60,8 @@ pub record IsRefused (made : Made) (words : List Word) (before after : Outside) 
 abbrev pub IsNoCommand : Mode → List Word → Type 0
 IsNoCommand Build words = build_command words ≡ None
 IsNoCommand Look words = look_of words ≡ None
+IsNoCommand Explain words = explain_command words ≡ None
+IsNoCommand Clean words = clean_words words ≡ None
 IsNoCommand Drill words = drill_of words ≡ None
 
 -- The words are of no command. The usage line was written, and nothing else was done.
@@ -66,6 +78,10 @@ IsUsageStatus status = (status ≡ 3) ⊎ (status ≡ 5) ⊎ (status ≡ 6)
 pub record IsSinkFault (before after : Moment) : Type 0 where
   pub sink : SinkFailed before.out after.out
   pub host : StaysOrWaits before.host after.host
+
+-- the words ask for cleaning, the files come to a plan, and its steps were cleaned
+abbrev pub IsCleanedFor : List Word → Disk → Disk → Type 0
+IsCleanedFor words disk later = (plan : IsCleaningPlan words disk) × IsCleaned plan.planned.steps disk later
 
 -- The words ask for a drill, in which each update answered Ok, and its summary was written. It ran over a host in memory of its own.
 pub record IsDrillDone (words : List Word) (before after : Output) : Type 0 where

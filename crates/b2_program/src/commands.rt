@@ -3,7 +3,7 @@ ghost use Rattle.std.specs.Prelude.{◌≡◌, []};
 ghost use Rattle.b2_update.specs.Moments.{moment};
 ghost use Rattle.b2_top.specs.Modes.{mode_of};
 ghost use Rattle.b2_host.specs.Outside.{Outside};
-ghost use Rattle.b2_program.specs.Called.{IsBuild, IsLook, IsDrill, Promises};
+ghost use Rattle.b2_program.specs.Called.{IsBuild, IsLook, IsExplanation, IsCleaning, IsDrill, Promises};
 
 use b2_base::text::Text;
 use b2_drill_call::drill::drill_in_memory;
@@ -11,6 +11,8 @@ use b2_host::children::Children;
 use b2_host::files::Files;
 use b2_host::sink::Sink;
 use b2_top::answer::Answer;
+use b2_top::clean::clean_b2;
+use b2_top::explain::explain_b2;
 use b2_top::mode::{Mode, mode_of};
 use b2_top::run::run_b2;
 use b2_top::show::show_b2;
@@ -31,6 +33,22 @@ fn look<H: Files, S: Sink>(alloc: Global, words: &[Text], host: &mut H, out: &mu
         (moment (H.outside host.new) (S.output out.new)) result }
 {
     show_b2(alloc, words, host, out)
+}
+
+/// The explain command.
+fn explain<H: Files, S: Sink>(alloc: Global, words: &[Text], host: &mut H, out: &mut S) -> Answer
+    ensures { IsExplanation words.now (moment (H.outside host.old) (S.output out.old))
+        (moment (H.outside host.new) (S.output out.new)) result }
+{
+    explain_b2(alloc, words, host, out)
+}
+
+/// The clean command.
+fn clean<H: Files, S: Sink>(alloc: Global, words: &[Text], host: &mut H, out: &mut S) -> Answer
+    ensures { IsCleaning words.now (moment (H.outside host.old) (S.output out.old))
+        (moment (H.outside host.new) (S.output out.new)) result }
+{
+    clean_b2(alloc, words, host, out)
 }
 
 /// The drill command, over a host in memory of its own.
@@ -54,6 +72,8 @@ pub fn run_command<H: Children, S: Sink>(
     match mode_of(words) {
         Mode::Build => build(alloc, words, host, out),
         Mode::Look => look(alloc, words, host, out),
+        Mode::Explain => explain(alloc, words, host, out),
+        Mode::Clean => clean(alloc, words, host, out),
         Mode::Drill => drill(alloc, words, out),
     }
 }

@@ -7,15 +7,19 @@ ghost use Rattle.b2_update.specs.Moments.{moment};
 ghost use Rattle.b2_top.specs.Answered.{CleanTold};
 ghost use Rattle.b2_top.specs.Told.{CountsStay, HostFailedFirst, WrittenTold};
 ghost use Rattle.b2_top.specs.Shows.{IsShown};
+ghost use Rattle.b2_top.specs.Explains.{IsTold as IsExplainedTold};
+ghost use Rattle.b2_host.specs.ChildProcesses.{BothTold};
 ghost use Rattle.b2_top.specs.Modes.{mode_of};
-ghost use Rattle.b2_top.specs.declared.mode.Mode.TheVariants.{Build, Look, Drill};
+ghost use Rattle.b2_top.specs.declared.mode.Mode.TheVariants.{Build, Look, Explain, Clean, Drill};
+ghost use Rattle.b2_source_laws.specs.AfterCleaning.{LeavesToBuild};
 ghost use Rattle.b2_program.specs.Called.{EndsWith};
-ghost use Rattle.b2_program.specs.Causes.{IsFailed, IsRefused, IsUsage, IsNoCommand, IsUsageStatus, IsSinkFault, IsDrillDone};
+ghost use Rattle.b2_program.specs.Causes.{IsFailed, IsRefused, IsUsage, IsNoCommand, IsUsageStatus, IsSinkFault, IsDrillDone, IsCleanedFor};
 
 use crate::commands::run_command;
 use b2_base::text::Text;
 use b2_host::children::Children;
 use b2_host::sink::Sink;
+use b2_source_laws::after_cleaning::next_after_cleaning;
 use std::alloc::Global;
 
 /// Carries out the command that the words are for, and gives the status of its answer.
@@ -30,8 +34,8 @@ fn run<H: Children, S: Sink>(alloc: Global, words: &[Text], host: &mut H, out: &
     status
 }
 
-/// Builds the project among the host's files, shows what it means, or runs a drill over files in memory, as the words ask
-/// for; what it has to say goes to the sink. Gives the exit status of the answer, from 0 to 6.
+/// Builds the project among the host's files, shows what it means, tells why its steps are to run, removes what they made, or runs a
+/// drill over files in memory, as the words ask for; what it has to say goes to the sink. Gives the exit status of the answer, from 0 to 6.
 pub fn run_program<H: Children, S: Sink>(
     alloc: Global,
     words: &[Text],
@@ -54,6 +58,19 @@ pub fn run_program<H: Children, S: Sink>(
     ensures shown { mode_of words.now ≡ Look → result ≡ 0
         → WrittenTold (moment (H.outside host.old) (S.output out.old)) (moment (H.outside host.new) (S.output out.new))
         (IsShown words.now) }
+    // After an explanation with status 0 exactly the lines of ECHO were written, and the line of each needed step with its cause.
+    ensures explained { mode_of words.now ≡ Explain → result ≡ 0
+        → WrittenTold (moment (H.outside host.old) (S.output out.old)) (moment (H.outside host.new) (S.output out.new))
+        (IsExplainedTold words.now) }
+    // After cleaning with status 0 no output stands of the plan's steps, but for those of notfile steps, and the log tells no record
+    // of them.
+    ensures cleaned { mode_of words.now ≡ Clean → result ≡ 0 → BothTold (IsCleanedFor words.now)
+        (H.outside host.old).disk (H.outside host.new).disk }
+    // After cleaning with status 0 the next build of the same free words, with no edit between them, has the cleaned plan again, and
+    // none of its steps is fresh. Each one that is needed starts, or it is told why not; with status 0 each wanted file has the bytes of
+    // the clean build of the sources as they stood before cleaning.
+    ensures builds_anew { mode_of words.now ≡ Clean → result ≡ 0
+        → LeavesToBuild H.made words.now (H.outside host.old) (H.outside host.new) }
     // A drill with status 0 was a session over a host in memory, in which each update answered Ok; its summary was written.
     ensures drilled { mode_of words.now ≡ Drill → result ≡ 0 → IsDrillDone words.now (S.output out.old) (S.output out.new) }
     // Status 1: a build of which steps failed or were skipped, or files are missing.
@@ -79,5 +96,6 @@ pub fn run_program<H: Children, S: Sink>(
     ensures keeps { Keeps (H.outside host.old) (H.outside host.new) }
     ensures out_keeps { OutKeeps (S.output out.old) (S.output out.new) }
 {
+    next_after_cleaning();
     run(alloc, words, host, out)
 }

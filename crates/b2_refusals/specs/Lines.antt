@@ -25,7 +25,7 @@ abbrev pub refusal_line : List Step → Fault → List ℕ
 refusal_line steps fault = own_line (fault_text steps fault)
 
 abbrev pub usage_line : List ℕ
-usage_line = own_line (codes "usage: b2 [-jN] [-a] [-q] [--by=digest] [-n or --show] [word ..], or b2 --drill=N")
+usage_line = own_line (codes "usage: b2 [-jN] [-a] [-q] [--by=digest] [-n, --show, --explain or --clean] [word ..], or b2 --drill=N")
 
 -- ---- looks
 

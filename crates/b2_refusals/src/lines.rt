@@ -18,7 +18,7 @@ use std::alloc::Global;
 pub fn usage_line() -> &'static str
     ensures { result.now ≡ usage_line }
 {
-    "b2: usage: b2 [-jN] [-a] [-q] [--by=digest] [-n or --show] [word ..], or b2 --drill=N\n"
+    "b2: usage: b2 [-jN] [-a] [-q] [--by=digest] [-n, --show, --explain or --clean] [word ..], or b2 --drill=N\n"
 }
 
 /// It takes no memory, so that it can be written after any fault, and does not say which call failed.

@@ -6,3 +6,7 @@ mod MeaningBySources
 pub mod NextPlanIsTheSame
 pub mod SourcesStay
 mod NextFindsFresh
+mod MeaningIsApart
+mod CleanedStepsStart
+mod RefusalIsOfPattern
+mod NextBuildsAnew

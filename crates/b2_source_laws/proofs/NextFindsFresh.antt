@@ -31,7 +31,7 @@ use Rattle.b2_source_laws.proofs.NextPlanIsTheSame.{updates_leave_sources, next_
 use Rattle.b2_runs.proofs.NextStartsNoMore.{log_is_one}
 
 -- what two told things come to together
-both_told : (P Q R : Disk → Disk → Type 0) (a b : Option Disk) → ((x y : Disk) → P x y → Q x y → R x y) → BothTold P a b → BothTold Q a b → BothTold R a b
+pub both_told : (P Q R : Disk → Disk → Type 0) (a b : Option Disk) → ((x y : Disk) → P x y → Q x y → R x y) → BothTold P a b → BothTold Q a b → BothTold R a b
 both_told P Q R None None f p q = tt
 both_told P Q R None (Some y) f p q = p
 both_told P Q R (Some x) None f p q = p
@@ -48,7 +48,7 @@ module _ (one_meaning : OneMeaning) (made : Made) (words : List Word) (before af
       let both : Ok p.planned ≡ Ok q.planned = (one_meaning disk None q.command.words p.echoes q.echoes (Ok p.planned) (Ok q.planned) moved q.means).1 in
       cc
 
-  one_update : (p q : HasPlan words disk) (log other : List LogLine) → log ≡ other → update_for made p log ≡ update_for made q other
+  pub one_update : (p q : HasPlan words disk) (log other : List LogLine) → log ≡ other → update_for made p log ≡ update_for made q other
   one_update p q log other is =
       ap (λ l. update_for made p l) is
       ∙ ap (λ (c : BuildCommand). update_at made (options_of c.options) p.planned disk.now other) (one_command p q)

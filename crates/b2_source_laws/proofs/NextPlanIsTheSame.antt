@@ -22,7 +22,7 @@ use Rattle.b2_source_laws.specs.NextPlans.{SourcesStay, AsksAgain}
 use Rattle.b2_source_laws.proofs.MeaningBySources.{means_by_sources}
 
 -- the log lies in `bin`
-log_under : IsUnder log_path (codes "bin")
+pub log_under : IsUnder log_path (codes "bin")
 log_under = record { next = codes "b2.log"; more = []; rooted = refl; goes_on = refl; not_above = λ e. cc }
 
 pub updates_leave_sources : (u : Update) (events : List ChildEvent) (before now : Folder) → Apart u.build.steps u.build.roots → OnlyOutputsChange u events before now → SourcesStay u.build.roots before now

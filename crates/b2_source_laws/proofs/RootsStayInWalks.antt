@@ -1,6 +1,7 @@
 -- Frozen output roots stay in a walk, and they are frozen once Jamroot was visited.
-use Rattle.std.proofs.Common.{◌≡◌, ℕ, Bool, true, false, List, [], ◌∷◌, codes, Option, Some, None, Result, Ok, Err, refl, sym, subst}
+use Rattle.std.proofs.Common.{◌≡◌, ℕ, zero, Bool, true, false, List, [], ◌∷◌, codes, Option, Some, None, Result, Ok, Err, refl, sym, subst, arith}
 use Rattle.std.specs.Prelude.{if◌then◌else◌}
+use Rattle.std.specs.List.{Contains}
 use Rattle.b2_base.specs.Segments.{here}
 use Rattle.b2_base.proofs.NormalMakesNormalForms.{is_normal_normal}
 use Rattle.b2_metatargets.specs.declared.fault.DeclaringFault.{DeclaringFault}
@@ -39,7 +40,7 @@ StaysCourse from (goes_on w) = KeepsRoots from w.state.worlds.now
 StaysCourse from (refused why s) = KeepsRoots from s.worlds.now
 
 frozen_then : (w later : World) → KeepsRoots w later → KeepsRoots w (freeze_roots later)
-frozen_then w later h = ((λ frozen. (refl, (h.0 frozen).1)), h.1)
+frozen_then w later h = ((λ frozen. (refl, (h.0 frozen).1)), h.1, h.2)
 
 shift_course : (a b : World) (c : Course) → KeepsRoots a b → StaysCourse b c → StaysCourse a c
 shift_course a b (goes_on w) before after = roots_then a b w.state.worlds.now before after
@@ -186,21 +187,28 @@ first_are =
 
 -- ---- a load
 
+abbrev IsSettledWalk : Walk → Type 0
+IsSettledWalk w = (w.state.worlds.now.frozen ≡ true) × AreRoots w.state.worlds.now.roots × Contains w.state.worlds.now.roots (codes "bin")
+
 abbrev Settled : Ending → Type 0
-Settled (loaded w found) = (w.state.worlds.now.frozen ≡ true) × AreRoots w.state.worlds.now.roots
+Settled (loaded w found) = IsSettledWalk w
 Settled (fails why s) = Unit {0}
 
-declared_settled : (r : Result Declared DeclaringFault) (w : Walk) → (w.state.worlds.now.frozen ≡ true) × AreRoots w.state.worlds.now.roots → Settled (with_declared w r)
+declared_settled : (r : Result Declared DeclaringFault) (w : Walk) → IsSettledWalk w → Settled (with_declared w r)
 declared_settled (Ok found) w h = h
 declared_settled (Err fault) w h = tt
 
+-- `bin` is the first output root
+first_is_bin : Contains first_roots (codes "bin")
+first_is_bin = (zero, omega arith, refl)
+
 then_settled : (setting : Setting Kept) (left : ℕ) (course : Course) → StaysCourse (no_walk left).state.worlds.now course → FrozenCourse course → Settled (then_declare course)
-then_settled setting left (goes_on w) stays frozen = declared_settled (declared w.visits w.calls) w (frozen, stays.1 first_are)
+then_settled setting left (goes_on w) stays frozen = declared_settled (declared w.visits w.calls) w (frozen, stays.1 first_are, stays.2 (codes "bin") first_is_bin)
 then_settled setting left (refused why s) stays frozen = tt
 
--- a load that ends well leaves frozen output roots, which are what may be one
+-- a load that ends well leaves frozen output roots, which are what may be one, and `bin` among them
 pub load_settles : (setting : Setting Kept) → setting.natives ≡ jam_meaning → (left : ℕ) (words : List Text) (w : Walk) (found : Declared) → Loads setting left words (loaded w found)
-    → (w.state.worlds.now.frozen ≡ true) × AreRoots w.state.worlds.now.roots
+    → IsSettledWalk w
 load_settles setting natives left words w found (whole, comes, course, after, is) =
     let stays = walk_stays setting natives (no_walk left).state.worlds.now whole course after
     (comes_stays setting natives words (no_walk left).state.worlds.now (load_root setting (no_walk left)) whole comes (root_stays setting natives left)) in

@@ -1,6 +1,7 @@
 -- Laws of loads and plans over files that differ under the output roots alone.
 use Rattle.std.specs.Prelude.{◌≡◌, ℕ, List, Option, Ok}
 use Rattle.b2_host.specs.Disks.{Folder, Disk, IsConsistent}
+use Rattle.b2_plan.specs.Plans.{Apart}
 use Rattle.b2_metatargets.specs.declared.whole.Declared.{Declared}
 use Rattle.b2_generate.specs.Planning.{Planned}
 use Rattle.b2_front.specs.Meaning.{Means}
@@ -26,3 +27,9 @@ MeansBySources =
     (disk other : Disk) (refused : Option (ℕ × Text)) (words lines : List Text) (plan : Planned) → IsConsistent disk → IsConsistent other
     → SourcesStay plan.roots disk.now other.now
     → Means disk refused words lines (Ok plan) → Means other refused words lines (Ok plan)
+
+-- the outputs of the plan that files and words come to are apart
+abbrev pub MeaningIsApart : Type 0
+MeaningIsApart =
+    (disk : Disk) (refused : Option (ℕ × Text)) (words lines : List Text) (plan : Planned)
+    → Means disk refused words lines (Ok plan) → Apart plan.steps plan.roots

@@ -1,3 +1,4 @@
 pub mod Laws
 pub mod NextPlans
 pub mod NextCalls
+pub mod AfterCleaning

@@ -5,7 +5,7 @@ use Rattle.std.specs.List.{filter_map}
 use Rattle.std.specs.Option.{IfSome}
 use Rattle.std.specs.Str.{bytes_eq}
 use Rattle.std.specs.Fmt.{decimal}
-use Rattle.b2_words.specs.Words.{Word, Item, number, most_jobs, most_steps, jobs_meant, digest_meant, build_options, options_meant, command_meant, with_words, command_asked, meant, meaning, items, by_shape, after_lead, drill_reading, reading_by, reading, stand_once, first, stands, jobs_in, by_in, word_in, is_all, is_quit, is_steps, is_table}
+use Rattle.b2_words.specs.Words.{Word, Item, number, most_jobs, most_steps, jobs_meant, digest_meant, build_options, options_meant, command_meant, with_words, command_asked, meant, meaning, items, by_shape, after_lead, drill_reading, reading_by, reading, stand_once, first, stands, jobs_in, by_in, word_in, is_all, is_quit, is_steps, is_table, is_explain, is_clean}
 use Rattle.b2_words.specs.declared.words.BuildOptions.{BuildOptions}
 use Rattle.b2_words.specs.declared.words.Command.{Command}
 use Rattle.b2_words.specs.declared.words.Command.TheVariants as commands
@@ -22,6 +22,8 @@ IsUpTo most n = (1 ≤ n) × (n ≤ most)
 abbrev HasJob : Command → Type 0
 HasJob (commands.Build options) = IsUpTo most_jobs options.jobs
 HasJob (commands.Look view) = ⊤
+HasJob (commands.Explain all) = ⊤
+HasJob commands.Clean = ⊤
 HasJob (commands.Drill steps) = ⊤
 
 one_more : (most : ℕ) (found : Option ℕ) → IfSome found (IsUpTo most) → IfSome found (IsUpTo (suc most))
@@ -47,13 +49,29 @@ options_from_one all quit None digest h = tt
 options_from_one all quit (Some count) None h = tt
 options_from_one all quit (Some count) (Some digest) h = h
 
-command_has : (options : Option BuildOptions) (steps table : Bool) → IfSome options (λ (o : BuildOptions). IsUpTo most_jobs o.jobs)
-    → IfSome (option_and_then (λ o. command_meant o steps table) options) HasJob
-command_has None steps table h = tt
-command_has (Some o) false false h = h
-command_has (Some o) false true h = tt
-command_has (Some o) true false h = tt
-command_has (Some o) true true h = tt
+explain_has : (digest all : Bool) → IfSome (cond digest None (Some (commands.Explain all))) HasJob
+explain_has true all = tt
+explain_has false all = tt
+
+command_has : (options : Option BuildOptions) (steps table explain clean : Bool) → IfSome options (λ (o : BuildOptions). IsUpTo most_jobs o.jobs)
+    → IfSome (option_and_then (λ o. command_meant o steps table explain clean) options) HasJob
+command_has None steps table explain clean h = tt
+command_has (Some o) false false false false h = h
+command_has (Some o) false false false true h = tt
+command_has (Some o) false false true false h = explain_has o.digest o.all
+command_has (Some o) false false true true h = tt
+command_has (Some o) false true false false h = tt
+command_has (Some o) false true false true h = tt
+command_has (Some o) false true true false h = tt
+command_has (Some o) false true true true h = tt
+command_has (Some o) true false false false h = tt
+command_has (Some o) true false false true h = tt
+command_has (Some o) true false true false h = tt
+command_has (Some o) true false true true h = tt
+command_has (Some o) true true false false h = tt
+command_has (Some o) true true false true h = tt
+command_has (Some o) true true true false h = tt
+command_has (Some o) true true true true h = tt
 
 words_have : (once : Bool) (free : List Word) (command : Option Command) → IfSome command HasJob
     → IfSome (cond once (option_map (with_words free) command) None) (λ (read : Words). HasJob read.command)
@@ -64,10 +82,10 @@ words_have false free command h = tt
 abbrev Read : Option Words → Type 0
 Read found = IfSome found (λ (read : Words). HasJob read.command)
 
-meant_has : (jobs by : List Word) (all quit steps table : List Item) (free : List Word) → Read (meant jobs by all quit steps table free)
-meant_has jobs by all quit steps table free =
-    words_have (stand_once jobs by all quit steps table) free (command_asked (first jobs) (first by) (stands all) (stands quit) (stands steps) (stands table))
-    (command_has (options_meant (first jobs) (first by) (stands all) (stands quit)) (stands steps) (stands table)
+meant_has : (jobs by : List Word) (all quit steps table explain clean : List Item) (free : List Word) → Read (meant jobs by all quit steps table explain clean free)
+meant_has jobs by all quit steps table explain clean free =
+    words_have (stand_once jobs by all quit steps table explain clean) free (command_asked (first jobs) (first by) (stands all) (stands quit) (stands steps) (stands table) (stands explain) (stands clean))
+    (command_has (options_meant (first jobs) (first by) (stands all) (stands quit)) (stands steps) (stands table) (stands explain) (stands clean)
     (options_from_one (stands all) (stands quit) (jobs_meant (first jobs)) (digest_meant (first by)) (jobs_from_one (first jobs))))
 
 meaning_has : (found : Option (List Item)) → Read (option_and_then meaning found)
@@ -75,7 +93,7 @@ unfolding meaning
 meaning_has None = tt
 meaning_has (Some all_items) =
     meant_has (filter_map jobs_in all_items) (filter_map by_in all_items) (filter is_all all_items) (filter is_quit all_items)
-    (filter is_steps all_items) (filter is_table all_items) (filter_map word_in all_items)
+    (filter is_steps all_items) (filter is_table all_items) (filter is_explain all_items) (filter is_clean all_items) (filter_map word_in all_items)
 
 drill_has : (steps : Option ℕ) → Read (option_map (λ n. with_words [] (commands.Drill n)) steps)
 drill_has None = tt
@@ -99,6 +117,8 @@ asked_jobs words command asked = by_reading (reading words) (reading_has words) 
     by_command : (free : List Word) (read : Command) → HasJob read → option_map (command_of free) (options_in read) ≡ Some command → IsUpTo most_jobs command.options.jobs
     by_command free (commands.Build options) h is = let same : command_of free options ≡ command = cc in subst (λ (c : BuildCommand). IsUpTo most_jobs c.options.jobs) same h
     by_command free (commands.Look view) h is = absurd cc
+    by_command free (commands.Explain all) h is = absurd cc
+    by_command free commands.Clean h is = absurd cc
     by_command free (commands.Drill steps) h is = absurd cc
 
     by_reading : (found : Option Words) → Read found → command_in found ≡ Some command → IsUpTo most_jobs command.options.jobs

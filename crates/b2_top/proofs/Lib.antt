@@ -1,6 +1,6 @@
 mod FaultsCountFromEarlier
 mod PiecesWrittenMakeTheWhole
-mod OnlyPatternsRefuseAPlan
+pub mod OnlyPatternsRefuseAPlan
 mod WrittenBytesAreTold
 pub mod JobsAreFromOne
 mod TrueLinesAreStable
@@ -9,5 +9,8 @@ mod StillCallsAnswerAsPromised
 mod UpdatesAnswerAsPromised
 mod BuildsAnswerAsPromised
 mod PromisesFollowFromCalls
-mod ViewIsFoundBeforeDashes
+mod ModeIsFoundBeforeDashes
 mod LooksAnswerAsPromised
+mod CleansAnswerAsPromised
+mod CausesAreReadFromLog
+mod ExplanationsAnswerAsPromised

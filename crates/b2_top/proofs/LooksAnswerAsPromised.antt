@@ -134,7 +134,7 @@ answered_usage words host x y result none (stopped is s) =
 
 -- ---- a look
 
-is_of_planning : (why : Refusal) → IsOfPlanning (fault_of why)
+pub is_of_planning : (why : Refusal) → IsOfPlanning (fault_of why)
 is_of_planning (refusals.Load fault) = tt
 is_of_planning (refusals.Request fault) = tt
 is_of_planning (refusals.Generation fault) = tt

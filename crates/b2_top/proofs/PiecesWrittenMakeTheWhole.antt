@@ -62,10 +62,10 @@ writes_nothing bytes x = record { part = []; begins = (bytes, refl); same = writ
 
 -- ---- one piece after another
 
-front_more : (part a b : List ℕ) → IsFrontOf part a → IsFrontOf part (a ++ b)
+pub front_more : (part a b : List ℕ) → IsFrontOf part a → IsFrontOf part (a ++ b)
 front_more part a b f = (f.0 ++ b, ap (λ t. t ++ b) f.1 ∙ append_assoc part f.0 b)
 
-front_after : (part a b : List ℕ) → IsFrontOf part b → IsFrontOf (a ++ part) (a ++ b)
+pub front_after : (part a b : List ℕ) → IsFrontOf part b → IsFrontOf (a ++ part) (a ++ b)
 front_after part a b f = (f.0, ap (λ t. a ++ t) f.1 ∙ sym (append_assoc a part f.0))
 
 -- it stopped in the first bytes

@@ -12,6 +12,8 @@ use Rattle.b2_top.specs.declared.build_command.BuildCommand.{BuildCommand}
 abbrev pub options_in : Command → Option BuildOptions
 options_in (commands.Build options) = Some options
 options_in (commands.Look view) = None
+options_in (commands.Explain all) = None
+options_in commands.Clean = None
 options_in (commands.Drill steps) = None
 
 abbrev pub command_of : List Word → BuildOptions → BuildCommand
@@ -21,7 +23,6 @@ abbrev pub command_in : Option Words → Option BuildCommand
 command_in None = None
 command_in (Some read) = option_map (command_of read.words) (options_in read.command)
 
--- How words ask to be built, and of which free words. They do not where they are not of the grammar, or ask for a look
--- or a drill.
+-- How words ask to be built, and of which free words. They do not where they are not of the grammar, or ask for something else.
 abbrev pub build_command : List Word → Option BuildCommand
 build_command words = command_in (reading words)

@@ -16,3 +16,7 @@ pub mod Modes
 pub mod Looks
 pub mod Tells
 pub mod Shows
+pub mod Asked
+pub mod FreePlans
+pub mod Explains
+pub mod Cleans

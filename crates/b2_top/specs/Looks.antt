@@ -21,6 +21,8 @@ use Rattle.b2_top.specs.declared.look.Look.{Look}
 abbrev pub view_of : Command → Option View
 view_of (commands.Build options) = None
 view_of (commands.Look view) = Some view
+view_of (commands.Explain all) = None
+view_of commands.Clean = None
 view_of (commands.Drill steps) = None
 
 abbrev pub look_at : List Word → View → Look
@@ -30,7 +32,7 @@ abbrev pub look_in : Option Words → Option Look
 look_in None = None
 look_in (Some read) = option_map (look_at read.words) (view_of read.command)
 
--- what words ask to be shown, and of which free words; none where they are not of the grammar, or ask for a build or a drill
+-- what words ask to be shown, and of which free words; none where they are not of the grammar, or ask for something else
 abbrev pub look_of : List Word → Option Look
 look_of words = look_in (reading words)
 

@@ -1,10 +1,14 @@
-//! The commands of the program, from the words of the command line to the answer: a build, whose plan is carried out, and a look,
-//! which prints the steps or the table of a plan.
+//! The commands of the program, from the words of the command line to the answer: a build, whose plan is carried out; a look, which
+//! prints the steps or the table of a plan; an explanation, which tells why steps are to run; and cleaning, which removes what they
+//! have made.
 #![tactic(auto)]
 
 pub mod answer;
+mod asked;
 mod build;
 mod build_command;
+pub mod clean;
+pub mod explain;
 pub mod laws;
 pub mod lines;
 mod look;

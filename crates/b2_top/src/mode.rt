@@ -1,7 +1,7 @@
 //! What the program is called for.
 ghost use Rattle.std.specs.Prelude.{◌≡◌};
 ghost use Rattle.b2_base.specs.Bytes.{HasNoZero};
-ghost use Rattle.b2_top.specs.Modes.{is_drill, is_view, has_view, mode_of};
+ghost use Rattle.b2_top.specs.Modes.{is_drill, mode_named, mode_asked, mode_of};
 
 use b2_base::text::Text;
 use b2_words::lead::after_lead;
@@ -13,6 +13,10 @@ pub enum Mode {
     Build,
     /// To show the table or the steps of a plan.
     Look,
+    /// To tell why steps are to run, or are not.
+    Explain,
+    /// To remove what steps have made.
+    Clean,
     /// To run the updates of a generated project in memory.
     Drill,
 }
@@ -24,29 +28,40 @@ fn is_drill(word: &str) -> bool
     after_lead(word, "--drill=").is_some()
 }
 
-fn is_view(word: &str) -> bool
-    ensures { result ≡ is_view word.now }
+/// What a word alone asks for that is one of `-n`, `--show`, `--explain` and `--clean`.
+fn mode_named(word: &str) -> Option<Mode>
+    ensures { result ≡ mode_named word.now }
 {
-    word == "-n" || word == "--show"
+    if word == "-n" || word == "--show" {
+        return Some(Mode::Look);
+    }
+    if word == "--explain" {
+        return Some(Mode::Explain);
+    }
+    if word == "--clean" {
+        return Some(Mode::Clean);
+    }
+    None
 }
 
-/// Whether a word before the first `--` is `-n` or `--show`.
-fn has_view(words: &[Text]) -> bool
-    ensures { result ≡ has_view words.now }
+/// What the first such word before the first `--` asks for.
+fn mode_asked(words: &[Text]) -> Option<Mode>
+    ensures { result ≡ mode_asked words.now }
 {
     for word in words {
         if word.as_str() == "--" {
-            return false;
+            return None;
         }
-        if is_view(word.as_str()) {
-            return true;
+        let mode = mode_named(word.as_str());
+        if mode.is_some() {
+            return mode;
         }
     }
-    false
+    None
 }
 
-/// Drill where the first word begins with `--drill=`; else Look where a word before the first `--` is `-n` or `--show`; else Build.
-/// Takes no memory.
+/// Drill where the first word begins with `--drill=`. Else Look, Explain or Clean by the first of the words `-n`, `--show`,
+/// `--explain` and `--clean` before the first `--`, and Build where none of them stands there. Takes no memory.
 pub fn mode_of(words: &[Text]) -> Mode
     ensures { result ≡ mode_of words.now }
 {
@@ -56,8 +71,5 @@ pub fn mode_of(words: &[Text]) -> Mode
     if is_drill(first.as_str()) {
         return Mode::Drill;
     }
-    if has_view(words) {
-        return Mode::Look;
-    }
-    Mode::Build
+    mode_asked(words).unwrap_or(Mode::Build)
 }

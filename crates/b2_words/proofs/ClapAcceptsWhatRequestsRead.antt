@@ -13,7 +13,7 @@ use Rattle.b2_base.specs.Bytes.{HasNoZero}
 use Rattle.b2_words.specs.Parser.{build_app, is_true}
 use Rattle.b2_words.proofs.RequestsReadLeftToRight.{Request, nothing, read_all}
 use Rattle.b2_words.proofs.NewValuesChangeOneRow.{has_row-all_of, all_of-same, all_of-other}
-use Rattle.b2_words.proofs.RowsShowTheRequest.{Shows, jr, ar, qr, nr, br, sr, wr, rules, shape, word_id, value_list, word_values}
+use Rattle.b2_words.proofs.RowsShowTheRequest.{Shows, jr, ar, qr, nr, br, sr, er, cr, wr, rules, shape, word_id, value_list, word_values}
 use Rattle.b2_words.proofs.ClapAgreesOnGroups.{or_else_stops}
 use Rattle.b2_words.proofs.ClapAgreesOnAllWords.{CleanWords, Fits, ends, walk_at, reads}
 
@@ -32,6 +32,8 @@ pub record ShowsAll (r : Request) (rows : List Row) : Type 0 where
   pub quit : all_of (codes "quit") rows ≡ flag_list (r.given (codes "quit"))
   pub steps : all_of (codes "steps") rows ≡ flag_list (r.given (codes "steps"))
   pub show : all_of (codes "show") rows ≡ flag_list (r.given (codes "show"))
+  pub explain : all_of (codes "explain") rows ≡ flag_list (r.given (codes "explain"))
+  pub clean : all_of (codes "clean") rows ≡ flag_list (r.given (codes "clean"))
   pub words : all_of word_id rows ≡ word_values r.words
   pub no_zero : AllByRecursion HasNoZero r.words
 
@@ -65,13 +67,17 @@ defaults_none rows =
     let four = with_default three nr in
     let five = with_default four br in
     let six = with_default five sr in
+    let seven = with_default six er in
+    let eight = with_default seven cr in
     (λ i. or_else (or_true (has_row (codes "jobs") rows) [] [] i)
     (or_else (either_way (has_row (codes "all") one) [] i)
     (or_else (either_way (has_row (codes "quit") two) [] i)
     (or_else (either_way (has_row (codes "steps") three) [] i)
     (or_else (or_true (has_row (codes "by") four) [] [] i)
     (or_else (either_way (has_row (codes "show") five) [] i)
-    (or_else (or_true (has_row (codes "word") six) [] [] i) [])))))))
+    (or_else (either_way (has_row (codes "explain") six) [] i)
+    (or_else (either_way (has_row (codes "clean") seven) [] i)
+    (or_else (or_true (has_row (codes "word") eight) [] [] i) [])))))))))
 
 -- a flag that was not used gets `false`
 module _ (id : Text) (a : Rule) (self : bytes_eq id id ≡ true) where
@@ -108,43 +114,81 @@ module _ (rows : List Row) where
   abbrev four : List Row
   four = defaulted (codes "show") sr refl three
 
-  -- the rows with the defaults of all flags
-  last_is : with_default (with_default (with_default (with_default (with_default (with_default (with_default rows jr) ar) qr) nr) br) sr) wr ≡ four
+  abbrev five : List Row
+  five = defaulted (codes "explain") er refl four
+
+  abbrev six : List Row
+  six = defaulted (codes "clean") cr refl five
+
+  -- the rows with the defaults of all arguments, one after another
+  abbrev all_defaults : List Row
+  all_defaults =
+      with_default (with_default (with_default (with_default (with_default (with_default (with_default (with_default (with_default rows jr) ar) qr) nr) br) sr) er) cr) wr
+
+  -- they are those of all flags
+  last_is : all_defaults ≡ six
   last_is =
-      (λ i. with_default (with_default (with_default (with_default (with_default (with_default (same_way (has_row (codes "jobs") rows) rows i) ar) qr) nr) br) sr) wr)
-      ∙ (λ i. with_default (with_default (same_way (has_row (codes "by") three) three i) sr) wr)
-      ∙ same_way (has_row (codes "word") four) four
+      (λ i. with_default (with_default (with_default (with_default (with_default (with_default (with_default (with_default (same_way (has_row (codes "jobs") rows) rows i) ar) qr) nr) br) sr) er) cr) wr)
+      ∙ (λ i. with_default (with_default (with_default (with_default (same_way (has_row (codes "by") three) three i) sr) er) cr) wr)
+      ∙ same_way (has_row (codes "word") six) six
 
-  at_three : (id : Text) → bytes_eq (codes "show") id ≡ false → all_of id four ≡ all_of id three
-  at_three id d = flag_other (codes "show") sr refl id three d
+  at_five : (id : Text) → bytes_eq (codes "clean") id ≡ false → all_of id six ≡ all_of id five
+  at_five id f = flag_other (codes "clean") cr refl id five f
 
-  at_two : (id : Text) → bytes_eq (codes "steps") id ≡ false → bytes_eq (codes "show") id ≡ false → all_of id four ≡ all_of id two
-  at_two id c d = at_three id d ∙ flag_other (codes "steps") nr refl id two c
+  at_four : (id : Text) → bytes_eq (codes "explain") id ≡ false → bytes_eq (codes "clean") id ≡ false → all_of id six ≡ all_of id four
+  at_four id e f = at_five id f ∙ flag_other (codes "explain") er refl id four e
 
-  at_one : (id : Text) → bytes_eq (codes "quit") id ≡ false → bytes_eq (codes "steps") id ≡ false → bytes_eq (codes "show") id ≡ false → all_of id four ≡ all_of id one
-  at_one id b c d = at_two id c d ∙ flag_other (codes "quit") qr refl id one b
+  at_three : (id : Text) → bytes_eq (codes "show") id ≡ false → bytes_eq (codes "explain") id ≡ false → bytes_eq (codes "clean") id ≡ false → all_of id six ≡ all_of id three
+  at_three id d e f = at_four id e f ∙ flag_other (codes "show") sr refl id three d
 
-  at_rows : (id : Text) → bytes_eq (codes "all") id ≡ false → bytes_eq (codes "quit") id ≡ false → bytes_eq (codes "steps") id ≡ false → bytes_eq (codes "show") id ≡ false → all_of id four ≡ all_of id rows
-  at_rows id a b c d = at_one id b c d ∙ flag_other (codes "all") ar refl id rows a
+  at_two : (id : Text) → bytes_eq (codes "steps") id ≡ false → bytes_eq (codes "show") id ≡ false → bytes_eq (codes "explain") id ≡ false → bytes_eq (codes "clean") id ≡ false → all_of id six ≡ all_of id two
+  at_two id c d e f = at_three id d e f ∙ flag_other (codes "steps") nr refl id two c
 
-  four_shows : (r : Request) → Shows r rows → ShowsAll r four
-  four_shows r s = record {
-    jobs = at_rows (codes "jobs") refl refl refl refl ∙ s.given (codes "jobs") refl;
-    by = at_rows (codes "by") refl refl refl refl ∙ s.given (codes "by") refl;
-    all = at_one (codes "all") refl refl refl ∙ flag_default (codes "all") ar refl (r.given (codes "all")) rows (λ v e. s.flags (codes "all") v refl e) (s.given (codes "all") refl);
-    quit = at_two (codes "quit") refl refl ∙ flag_default (codes "quit") qr refl (r.given (codes "quit")) one (λ v e. s.flags (codes "quit") v refl e)
-        (flag_other (codes "all") ar refl (codes "quit") rows refl ∙ s.given (codes "quit") refl);
-    steps = at_three (codes "steps") refl ∙ flag_default (codes "steps") nr refl (r.given (codes "steps")) two (λ v e. s.flags (codes "steps") v refl e)
-        (flag_other (codes "quit") qr refl (codes "steps") one refl ∙ flag_other (codes "all") ar refl (codes "steps") rows refl ∙ s.given (codes "steps") refl);
-    show = flag_default (codes "show") sr refl (r.given (codes "show")) three (λ v e. s.flags (codes "show") v refl e)
-        (flag_other (codes "steps") nr refl (codes "show") two refl ∙ flag_other (codes "quit") qr refl (codes "show") one refl ∙ flag_other (codes "all") ar refl (codes "show") rows refl ∙ s.given (codes "show") refl);
-    words = at_rows word_id refl refl refl refl ∙ s.words;
+  at_one : (id : Text) → bytes_eq (codes "quit") id ≡ false → bytes_eq (codes "steps") id ≡ false → bytes_eq (codes "show") id ≡ false → bytes_eq (codes "explain") id ≡ false → bytes_eq (codes "clean") id ≡ false → all_of id six ≡ all_of id one
+  at_one id b c d e f = at_two id c d e f ∙ flag_other (codes "quit") qr refl id one b
+
+  at_rows : (id : Text) → bytes_eq (codes "all") id ≡ false → bytes_eq (codes "quit") id ≡ false → bytes_eq (codes "steps") id ≡ false → bytes_eq (codes "show") id ≡ false → bytes_eq (codes "explain") id ≡ false
+      → bytes_eq (codes "clean") id ≡ false → all_of id six ≡ all_of id rows
+  at_rows id a b c d e f = at_one id b c d e f ∙ flag_other (codes "all") ar refl id rows a
+
+  -- what the flags before have made of the rows of another one
+  one_at : (id : Text) → bytes_eq (codes "all") id ≡ false → all_of id one ≡ all_of id rows
+  one_at id a = flag_other (codes "all") ar refl id rows a
+
+  two_at : (id : Text) → bytes_eq (codes "all") id ≡ false → bytes_eq (codes "quit") id ≡ false → all_of id two ≡ all_of id rows
+  two_at id a b = flag_other (codes "quit") qr refl id one b ∙ one_at id a
+
+  three_at : (id : Text) → bytes_eq (codes "all") id ≡ false → bytes_eq (codes "quit") id ≡ false → bytes_eq (codes "steps") id ≡ false → all_of id three ≡ all_of id rows
+  three_at id a b c = flag_other (codes "steps") nr refl id two c ∙ two_at id a b
+
+  four_at : (id : Text) → bytes_eq (codes "all") id ≡ false → bytes_eq (codes "quit") id ≡ false → bytes_eq (codes "steps") id ≡ false → bytes_eq (codes "show") id ≡ false → all_of id four ≡ all_of id rows
+  four_at id a b c d = flag_other (codes "show") sr refl id three d ∙ three_at id a b c
+
+  five_at : (id : Text) → bytes_eq (codes "all") id ≡ false → bytes_eq (codes "quit") id ≡ false → bytes_eq (codes "steps") id ≡ false → bytes_eq (codes "show") id ≡ false → bytes_eq (codes "explain") id ≡ false
+      → all_of id five ≡ all_of id rows
+  five_at id a b c d e = flag_other (codes "explain") er refl id four e ∙ four_at id a b c d
+
+  six_shows : (r : Request) → Shows r rows → ShowsAll r six
+  six_shows r s = record {
+    jobs = at_rows (codes "jobs") refl refl refl refl refl refl ∙ s.given (codes "jobs") refl;
+    by = at_rows (codes "by") refl refl refl refl refl refl ∙ s.given (codes "by") refl;
+    all = at_one (codes "all") refl refl refl refl refl ∙ flag_default (codes "all") ar refl (r.given (codes "all")) rows (λ v e. s.flags (codes "all") v refl e) (s.given (codes "all") refl);
+    quit = at_two (codes "quit") refl refl refl refl ∙ flag_default (codes "quit") qr refl (r.given (codes "quit")) one (λ v e. s.flags (codes "quit") v refl e)
+        (one_at (codes "quit") refl ∙ s.given (codes "quit") refl);
+    steps = at_three (codes "steps") refl refl refl ∙ flag_default (codes "steps") nr refl (r.given (codes "steps")) two (λ v e. s.flags (codes "steps") v refl e)
+        (two_at (codes "steps") refl refl ∙ s.given (codes "steps") refl);
+    show = at_four (codes "show") refl refl ∙ flag_default (codes "show") sr refl (r.given (codes "show")) three (λ v e. s.flags (codes "show") v refl e)
+        (three_at (codes "show") refl refl refl ∙ s.given (codes "show") refl);
+    explain = at_five (codes "explain") refl ∙ flag_default (codes "explain") er refl (r.given (codes "explain")) four (λ v e. s.flags (codes "explain") v refl e)
+        (four_at (codes "explain") refl refl refl refl ∙ s.given (codes "explain") refl);
+    clean = flag_default (codes "clean") cr refl (r.given (codes "clean")) five (λ v e. s.flags (codes "clean") v refl e)
+        (five_at (codes "clean") refl refl refl refl refl ∙ s.given (codes "clean") refl);
+    words = at_rows word_id refl refl refl refl refl refl ∙ s.words;
     no_zero = s.no_zero;
   }
 
-  finished_shows : (r : Request) → Shows r rows →
-      ShowsAll r (with_default (with_default (with_default (with_default (with_default (with_default (with_default rows jr) ar) qr) nr) br) sr) wr)
-  finished_shows r s = subst (ShowsAll r) (sym last_is) (four_shows r s)
+  finished_shows : (r : Request) → Shows r rows → ShowsAll r all_defaults
+  finished_shows r s = subst (ShowsAll r) (sym last_is) (six_shows r s)
 
 no_value : (v : Text) → None ≡ Some v → v ≡ codes "true"
 no_value v e = absurd cc

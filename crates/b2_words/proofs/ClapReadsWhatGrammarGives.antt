@@ -39,7 +39,9 @@ module _ (f : Found) (rows : List Row) (same : rows_of f ≡ rows) (r : Request)
       let quit = ap is_true (at (codes "quit")) ∙ flag_shown (codes "quit") rows (r.given (codes "quit")) s.quit in
       let steps = ap is_true (at (codes "steps")) ∙ flag_shown (codes "steps") rows (r.given (codes "steps")) s.steps in
       let show = ap is_true (at (codes "show")) ∙ flag_shown (codes "show") rows (r.given (codes "show")) s.show in
-      λ i. option_map (with_words (words_at i)) (command_asked (jobs i) (by i) (all i) (quit i) (steps i) (show i))
+      let explain = ap is_true (at (codes "explain")) ∙ flag_shown (codes "explain") rows (r.given (codes "explain")) s.explain in
+      let clean = ap is_true (at (codes "clean")) ∙ flag_shown (codes "clean") rows (r.given (codes "clean")) s.clean in
+      λ i. option_map (with_words (words_at i)) (command_asked (jobs i) (by i) (all i) (quit i) (steps i) (show i) (explain i) (clean i))
 
   found_plain : All HasNoZero (words_found f)
   found_plain = subst (All HasNoZero) (sym words_at) (All-from_recursion HasNoZero r.words s.no_zero)

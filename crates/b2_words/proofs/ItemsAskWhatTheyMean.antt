@@ -4,7 +4,7 @@ use Rattle.std.proofs.lemmas.List.{append-nil}
 use Rattle.std.specs.List.{filter_map}
 use Rattle.b2_words.specs.declared.words.BuildOptions.{BuildOptions}
 use Rattle.b2_words.specs.declared.words.Words.{Words}
-use Rattle.b2_words.specs.Words.{Word, Item, with_jobs, with_all, with_quit, with_by, with_steps, with_table, free_word, jobs_in, by_in, word_in, is_all, is_quit, is_steps, is_table, first, at_most_one, stands, stand_once, build_options, jobs_meant, digest_meant, command_meant, command_asked, most_jobs, with_words, meant}
+use Rattle.b2_words.specs.Words.{Word, Item, with_jobs, with_all, with_quit, with_by, with_steps, with_table, with_explain, with_clean, free_word, jobs_in, by_in, word_in, is_all, is_quit, is_steps, is_table, is_explain, is_clean, first, at_most_one, stands, stand_once, build_options, jobs_meant, digest_meant, command_meant, command_asked, most_jobs, with_words, meant}
 use Rattle.b2_words.proofs.OnlyDecimalsAreNumbers.{number_hyphen}
 use Rattle.b2_words.proofs.RequestsReadLeftToRight.{Request, put, use_option, use_flag, with_word, after_dashes, requested}
 
@@ -15,6 +15,8 @@ take_item with_quit r = use_flag (codes "quit") r
 take_item (with_by value) r = use_option (codes "by") value r
 take_item with_steps r = use_flag (codes "steps") r
 take_item with_table r = use_flag (codes "show") r
+take_item with_explain r = use_flag (codes "explain") r
+take_item with_clean r = use_flag (codes "clean") r
 take_item (free_word word) r = Some (with_word word r)
 
 abbrev pub take_items : List Item → Request → Option Request
@@ -40,6 +42,7 @@ meant_after r items =
     meant (of_value (r.given (codes "jobs")) (filter_map jobs_in items)) (of_value (r.given (codes "by")) (filter_map by_in items))
     (of_flag with_all (r.given (codes "all")) (filter is_all items)) (of_flag with_quit (r.given (codes "quit")) (filter is_quit items))
     (of_flag with_steps (r.given (codes "steps")) (filter is_steps items)) (of_flag with_table (r.given (codes "show")) (filter is_table items))
+    (of_flag with_explain (r.given (codes "explain")) (filter is_explain items)) (of_flag with_clean (r.given (codes "clean")) (filter is_clean items))
     (r.words ++ filter_map word_in items)
 
 one_value : (o : Option Word) → at_most_one (of_value o []) ≡ true
@@ -58,9 +61,9 @@ first_flag : (item : Item) (o : Option Word) → stands (of_flag item o []) ≡ 
 first_flag item None = refl
 first_flag item (Some v) = refl
 
--- six tests, and what six options ask for
-abbrev all_of_six : Bool → Bool → Bool → Bool → Bool → Bool → Bool
-all_of_six a b c d e f = a && (b && (c && (d && (e && f))))
+-- eight tests
+abbrev all_of_eight : Bool → Bool → Bool → Bool → Bool → Bool → Bool → Bool → Bool
+all_of_eight a b c d e f g h = a && (b && (c && (d && (e && (f && (g && h))))))
 
 nothing_more : (r : Request) → meant_after r [] ≡ requested r
 nothing_more r =
@@ -70,9 +73,13 @@ nothing_more r =
     let q = r.given (codes "quit") in
     let s = r.given (codes "steps") in
     let t = r.given (codes "show") in
-    λ i. cond (all_of_six (one_value j i) (one_value b i) (one_flag with_all a i) (one_flag with_quit q i) (one_flag with_steps s i) (one_flag with_table t i))
+    let x = r.given (codes "explain") in
+    let c = r.given (codes "clean") in
+    λ i. cond (all_of_eight (one_value j i) (one_value b i) (one_flag with_all a i) (one_flag with_quit q i) (one_flag with_steps s i) (one_flag with_table t i)
+    (one_flag with_explain x i) (one_flag with_clean c i))
     (option_map (with_words (append-nil r.words i))
-    (command_asked (first_value j i) (first_value b i) (first_flag with_all a i) (first_flag with_quit q i) (first_flag with_steps s i) (first_flag with_table t i)))
+    (command_asked (first_value j i) (first_value b i) (first_flag with_all a i) (first_flag with_quit q i) (first_flag with_steps s i) (first_flag with_table t i)
+    (first_flag with_explain x i) (first_flag with_clean c i)))
     None
 
 none_1 : {A : Type 0} (a : Bool) (x : Option A) → cond (a && false) x None ≡ None
@@ -94,6 +101,14 @@ none_4 false b c d x = refl
 none_5 : {A : Type 0} (a b c d e : Bool) (x : Option A) → cond (a && (b && (c && (d && (e && false))))) x None ≡ None
 none_5 true b c d e x = none_4 b c d e x
 none_5 false b c d e x = refl
+
+none_6 : {A : Type 0} (a b c d e f : Bool) (x : Option A) → cond (a && (b && (c && (d && (e && (f && false)))))) x None ≡ None
+none_6 true b c d e f x = none_5 b c d e f x
+none_6 false b c d e f x = refl
+
+none_7 : {A : Type 0} (a b c d e f g : Bool) (x : Option A) → cond (a && (b && (c && (d && (e && (f && (g && false))))))) x None ≡ None
+none_7 true b c d e f g x = none_6 b c d e f g x
+none_7 false b c d e f g x = refl
 
 -- one more use of an option is refused where one was given before
 used_more : (o : Option Word) (items : List Item) (s : Request) (after : Option Word → Option Words) → asked_after s items ≡ after None → ((u : Word) → after (Some u) ≡ None) →
@@ -120,36 +135,52 @@ module _ (items : List Item) (r : Request) where
   abbrev ts : List Item
   ts = of_flag with_table (r.given (codes "show")) (filter is_table items)
 
+  abbrev xs : List Item
+  xs = of_flag with_explain (r.given (codes "explain")) (filter is_explain items)
+
+  abbrev cs : List Item
+  cs = of_flag with_clean (r.given (codes "clean")) (filter is_clean items)
+
   abbrev ws : List Word
   ws = r.words ++ filter_map word_in items
 
   jobs_taken : (v : Word) → asked_after (put (codes "jobs") v r) items ≡ meant_after (put (codes "jobs") v r) items → asked_after r (with_jobs v ∷ items) ≡ meant_after r (with_jobs v ∷ items)
   jobs_taken v more = used_more (r.given (codes "jobs")) items (put (codes "jobs") v r)
-      (λ o. meant (of_value o (v ∷ filter_map jobs_in items)) bs alls qs ss ts ws) more (λ u. refl)
+      (λ o. meant (of_value o (v ∷ filter_map jobs_in items)) bs alls qs ss ts xs cs ws) more (λ u. refl)
 
   by_taken : (v : Word) → asked_after (put (codes "by") v r) items ≡ meant_after (put (codes "by") v r) items → asked_after r (with_by v ∷ items) ≡ meant_after r (with_by v ∷ items)
   by_taken v more = used_more (r.given (codes "by")) items (put (codes "by") v r)
-      (λ o. meant js (of_value o (v ∷ filter_map by_in items)) alls qs ss ts ws) more (λ u. none_1 (at_most_one js) _)
+      (λ o. meant js (of_value o (v ∷ filter_map by_in items)) alls qs ss ts xs cs ws) more (λ u. none_1 (at_most_one js) _)
 
   all_taken : asked_after (put (codes "all") (codes "true") r) items ≡ meant_after (put (codes "all") (codes "true") r) items → asked_after r (with_all ∷ items) ≡ meant_after r (with_all ∷ items)
   all_taken more = used_more (r.given (codes "all")) items (put (codes "all") (codes "true") r)
-      (λ o. meant js bs (of_flag with_all o (with_all ∷ filter is_all items)) qs ss ts ws) more (λ u. none_2 (at_most_one js) (at_most_one bs) _)
+      (λ o. meant js bs (of_flag with_all o (with_all ∷ filter is_all items)) qs ss ts xs cs ws) more (λ u. none_2 (at_most_one js) (at_most_one bs) _)
 
   quit_taken : asked_after (put (codes "quit") (codes "true") r) items ≡ meant_after (put (codes "quit") (codes "true") r) items → asked_after r (with_quit ∷ items) ≡ meant_after r (with_quit ∷ items)
   quit_taken more = used_more (r.given (codes "quit")) items (put (codes "quit") (codes "true") r)
-      (λ o. meant js bs alls (of_flag with_quit o (with_quit ∷ filter is_quit items)) ss ts ws) more (λ u. none_3 (at_most_one js) (at_most_one bs) (at_most_one alls) _)
+      (λ o. meant js bs alls (of_flag with_quit o (with_quit ∷ filter is_quit items)) ss ts xs cs ws) more (λ u. none_3 (at_most_one js) (at_most_one bs) (at_most_one alls) _)
 
   steps_taken : asked_after (put (codes "steps") (codes "true") r) items ≡ meant_after (put (codes "steps") (codes "true") r) items → asked_after r (with_steps ∷ items) ≡ meant_after r (with_steps ∷ items)
   steps_taken more = used_more (r.given (codes "steps")) items (put (codes "steps") (codes "true") r)
-      (λ o. meant js bs alls qs (of_flag with_steps o (with_steps ∷ filter is_steps items)) ts ws) more (λ u. none_4 (at_most_one js) (at_most_one bs) (at_most_one alls) (at_most_one qs) _)
+      (λ o. meant js bs alls qs (of_flag with_steps o (with_steps ∷ filter is_steps items)) ts xs cs ws) more (λ u. none_4 (at_most_one js) (at_most_one bs) (at_most_one alls) (at_most_one qs) _)
 
   table_taken : asked_after (put (codes "show") (codes "true") r) items ≡ meant_after (put (codes "show") (codes "true") r) items → asked_after r (with_table ∷ items) ≡ meant_after r (with_table ∷ items)
   table_taken more = used_more (r.given (codes "show")) items (put (codes "show") (codes "true") r)
-      (λ o. meant js bs alls qs ss (of_flag with_table o (with_table ∷ filter is_table items)) ws) more
+      (λ o. meant js bs alls qs ss (of_flag with_table o (with_table ∷ filter is_table items)) xs cs ws) more
       (λ u. none_5 (at_most_one js) (at_most_one bs) (at_most_one alls) (at_most_one qs) (at_most_one ss) _)
 
+  explain_taken : asked_after (put (codes "explain") (codes "true") r) items ≡ meant_after (put (codes "explain") (codes "true") r) items → asked_after r (with_explain ∷ items) ≡ meant_after r (with_explain ∷ items)
+  explain_taken more = used_more (r.given (codes "explain")) items (put (codes "explain") (codes "true") r)
+      (λ o. meant js bs alls qs ss ts (of_flag with_explain o (with_explain ∷ filter is_explain items)) cs ws) more
+      (λ u. none_6 (at_most_one js) (at_most_one bs) (at_most_one alls) (at_most_one qs) (at_most_one ss) (at_most_one ts) _)
+
+  clean_taken : asked_after (put (codes "clean") (codes "true") r) items ≡ meant_after (put (codes "clean") (codes "true") r) items → asked_after r (with_clean ∷ items) ≡ meant_after r (with_clean ∷ items)
+  clean_taken more = used_more (r.given (codes "clean")) items (put (codes "clean") (codes "true") r)
+      (λ o. meant js bs alls qs ss ts xs (of_flag with_clean o (with_clean ∷ filter is_clean items)) ws) more
+      (λ u. none_7 (at_most_one js) (at_most_one bs) (at_most_one alls) (at_most_one qs) (at_most_one ss) (at_most_one ts) (at_most_one xs) _)
+
   word_taken : (w : Word) → asked_after (with_word w r) items ≡ meant_after (with_word w r) items → asked_after r (free_word w ∷ items) ≡ meant_after r (free_word w ∷ items)
-  word_taken w more = more ∙ ap (meant js bs alls qs ss ts) (append_assoc r.words (w ∷ []) (filter_map word_in items))
+  word_taken w more = more ∙ ap (meant js bs alls qs ss ts xs cs) (append_assoc r.words (w ∷ []) (filter_map word_in items))
 
 pub taken : (items : List Item) (r : Request) → asked_after r items ≡ meant_after r items
 taken [] r = sym (nothing_more r)
@@ -159,6 +190,8 @@ taken (with_quit ∷ items) r = quit_taken items r (taken items (put (codes "qui
 taken (with_by v ∷ items) r = by_taken items r v (taken items (put (codes "by") v r))
 taken (with_steps ∷ items) r = steps_taken items r (taken items (put (codes "steps") (codes "true") r))
 taken (with_table ∷ items) r = table_taken items r (taken items (put (codes "show") (codes "true") r))
+taken (with_explain ∷ items) r = explain_taken items r (taken items (put (codes "explain") (codes "true") r))
+taken (with_clean ∷ items) r = clean_taken items r (taken items (put (codes "clean") (codes "true") r))
 taken (free_word w ∷ items) r = word_taken items r w (taken items (with_word w r))
 
 pub take_more : (items more : List Item) (r : Request) → take_items (items ++ more) r ≡ option_and_then (take_items more) (take_items items r)
@@ -206,28 +239,34 @@ module _ (d : ℕ) (more : Word) (r : Request) (items : List Item) where
   abbrev table_list : List Item
   table_list = of_flag with_table (r.given (codes "show")) (filter is_table items)
 
+  abbrev explain_list : List Item
+  explain_list = of_flag with_explain (r.given (codes "explain")) (filter is_explain items)
+
+  abbrev clean_list : List Item
+  clean_list = of_flag with_clean (r.given (codes "clean")) (filter is_clean items)
+
   abbrev word_list : List Word
   word_list = r.words ++ filter_map word_in items
 
   pub jobs_hyphen : meant_after r (with_jobs (45 ∷ d ∷ more) ∷ items) ≡ None
   jobs_hyphen = by (r.given (codes "jobs"))
     where
-      by : (o : Option Word) → meant (of_value o (word ∷ filter_map jobs_in items)) by_list all_list quit_list steps_list table_list word_list ≡ None
+      by : (o : Option Word) → meant (of_value o (word ∷ filter_map jobs_in items)) by_list all_list quit_list steps_list table_list explain_list clean_list word_list ≡ None
       by (Some u) = refl
       by None =
-          ap (λ (n : Option ℕ). cond (stand_once (word ∷ filter_map jobs_in items) by_list all_list quit_list steps_list table_list)
-          (option_map (with_words word_list) (option_and_then (λ (options : BuildOptions). command_meant options (stands steps_list) (stands table_list))
+          ap (λ (n : Option ℕ). cond (stand_once (word ∷ filter_map jobs_in items) by_list all_list quit_list steps_list table_list explain_list clean_list)
+          (option_map (with_words word_list) (option_and_then (λ (options : BuildOptions). command_meant options (stands steps_list) (stands table_list) (stands explain_list) (stands clean_list))
           (option_and_then (λ (count : ℕ). option_map (build_options count (stands all_list) (stands quit_list)) (digest_meant (first by_list))) n))) None)
           (number_hyphen most_jobs (d ∷ more) (omega arith))
-          ∙ same_way (stand_once (word ∷ filter_map jobs_in items) by_list all_list quit_list steps_list table_list) None
+          ∙ same_way (stand_once (word ∷ filter_map jobs_in items) by_list all_list quit_list steps_list table_list explain_list clean_list) None
 
   pub by_hyphen : meant_after r (with_by (45 ∷ d ∷ more) ∷ items) ≡ None
   by_hyphen = by (r.given (codes "by"))
     where
-      by : (o : Option Word) → meant jobs_list (of_value o (word ∷ filter_map by_in items)) all_list quit_list steps_list table_list word_list ≡ None
+      by : (o : Option Word) → meant jobs_list (of_value o (word ∷ filter_map by_in items)) all_list quit_list steps_list table_list explain_list clean_list word_list ≡ None
       by (Some u) = none_1 (at_most_one jobs_list) _
       by None =
-          ap (λ (o : Option BuildOptions). cond (stand_once jobs_list (word ∷ filter_map by_in items) all_list quit_list steps_list table_list)
-          (option_map (with_words word_list) (option_and_then (λ (options : BuildOptions). command_meant options (stands steps_list) (stands table_list)) o)) None)
+          ap (λ (o : Option BuildOptions). cond (stand_once jobs_list (word ∷ filter_map by_in items) all_list quit_list steps_list table_list explain_list clean_list)
+          (option_map (with_words word_list) (option_and_then (λ (options : BuildOptions). command_meant options (stands steps_list) (stands table_list) (stands explain_list) (stands clean_list)) o)) None)
           (none_then (λ (count : ℕ). option_map (build_options count (stands all_list) (stands quit_list)) (digest_meant (Some word))) (jobs_meant (first jobs_list)) (λ count. refl))
-          ∙ same_way (stand_once jobs_list (word ∷ filter_map by_in items) all_list quit_list steps_list table_list) None
+          ∙ same_way (stand_once jobs_list (word ∷ filter_map by_in items) all_list quit_list steps_list table_list explain_list clean_list) None

@@ -5,9 +5,9 @@ use Rattle.std.specs.Option.{option_map_or}
 use Rattle.std.specs.List.{before_first}
 use Rattle.std.specs.Str.{bytes_eq}
 use Rattle.b2_words.specs.declared.words.Words.{Words}
-use Rattle.b2_words.specs.Words.{Word, Item, with_jobs, with_all, with_quit, with_by, with_steps, free_word, Next, by_shape, jobs_value, by_value, Said, says, says_first, jobs_said, group_said, by_said, table_said, long_said, option_said, after_hyphen, word_said, items, is_equals, value_in, meaning, build_reading}
+use Rattle.b2_words.specs.Words.{Word, Item, with_jobs, with_all, with_quit, with_by, with_steps, with_table, with_explain, with_clean, free_word, Next, by_shape, jobs_value, by_value, Said, says, says_first, jobs_said, group_said, by_said, flag_said, long_said, option_said, after_hyphen, word_said, items, is_equals, value_in, meaning, build_reading}
 use Rattle.b2_words.specs.Grouped.{has_n, is_grouped, any_grouped}
-use Rattle.b2_words.proofs.RequestsReadLeftToRight.{Request, Point, nothing, use_option, use_flag, with_word, free_point, jobs_in_group, letters, by_read, show_read, long_read, option_read, word_read, value_read, read_from, read_all, after_dashes, requested}
+use Rattle.b2_words.proofs.RequestsReadLeftToRight.{Request, Point, nothing, use_option, use_flag, with_word, free_point, jobs_in_group, letters, by_read, flag_read, long_read, option_read, word_read, value_read, read_from, read_all, after_dashes, requested}
 use Rattle.b2_words.proofs.ItemsAskWhatTheyMean.{take_item, take_items, asked_after, meant_after, taken, take_more, words_taken, jobs_hyphen, by_hyphen}
 use Rattle.b2_words.proofs.WordsHaveFourShapes.{dashes, long, short, plain, kind_of_word}
 
@@ -114,14 +114,26 @@ by_agrees : (value : Option Word) (r : Request) → by_read value r ≡ put_said
 by_agrees (Some v) r = one_use (use_option (codes "by") v r)
 by_agrees None r = refl
 
-show_agrees : (value : Option Word) (r : Request) → show_read value r ≡ put_said r (table_said value)
+show_agrees : (value : Option Word) (r : Request) → flag_read (codes "show") value r ≡ put_said r (flag_said with_table value)
 show_agrees (Some v) r = refl
 show_agrees None r = one_use (use_flag (codes "show") r)
 
-long_by : (value : Option Word) (r : Request) (by show : Bool) → cond by (by_read value r) (cond show (show_read value r) None) ≡ put_said r (cond by (by_said value) (cond show (table_said value) None))
-long_by value r true show = by_agrees value r
-long_by value r false true = show_agrees value r
-long_by value r false false = refl
+explain_agrees : (value : Option Word) (r : Request) → flag_read (codes "explain") value r ≡ put_said r (flag_said with_explain value)
+explain_agrees (Some v) r = refl
+explain_agrees None r = one_use (use_flag (codes "explain") r)
+
+clean_agrees : (value : Option Word) (r : Request) → flag_read (codes "clean") value r ≡ put_said r (flag_said with_clean value)
+clean_agrees (Some v) r = refl
+clean_agrees None r = one_use (use_flag (codes "clean") r)
+
+long_by : (value : Option Word) (r : Request) (by show explain clean : Bool)
+    → cond by (by_read value r) (cond show (flag_read (codes "show") value r) (cond explain (flag_read (codes "explain") value r) (cond clean (flag_read (codes "clean") value r) None)))
+    ≡ put_said r (cond by (by_said value) (cond show (flag_said with_table value) (cond explain (flag_said with_explain value) (cond clean (flag_said with_clean value) None))))
+long_by value r true show explain clean = by_agrees value r
+long_by value r false true explain clean = show_agrees value r
+long_by value r false false true clean = explain_agrees value r
+long_by value r false false false true = clean_agrees value r
+long_by value r false false false false = refl
 
 -- what follows the hyphen of an option: a group is no `-n` and has no `n`
 abbrev option_by : Word → Bool → Bool → Option Said
@@ -155,6 +167,7 @@ option_agrees : (d : ℕ) (rest : Word) (r : Request) → is_grouped (45 ∷ d �
 option_agrees d rest r apart = ⊎_elim
     (λ h. ap (λ (b : Bool). cond b (long_read (before_first is_equals rest) (value_in rest) r) (letters (d ∷ rest) r)) h
     ∙ long_by (value_in rest) r (bytes_eq (codes "by") (before_first is_equals rest)) (bytes_eq (codes "show") (before_first is_equals rest))
+    (bytes_eq (codes "explain") (before_first is_equals rest)) (bytes_eq (codes "clean") (before_first is_equals rest))
     ∙ sym (ap (λ (b : Bool). put_said r (option_by (d ∷ rest) b (bytes_eq (d ∷ rest) (codes "n")))) h))
     (λ h. ap (λ (b : Bool). cond b (long_read (before_first is_equals rest) (value_in rest) r) (letters (d ∷ rest) r)) h ∙ by rest h apart)
     (cases_Bool (d == 45))

@@ -51,12 +51,16 @@ abbrev pub by_read : Option Word → Request → Option Point
 by_read (Some value) r = option_map free_point (use_option (codes "by") value r)
 by_read None r = Some (r, by_value)
 
-abbrev pub show_read : Option Word → Request → Option Point
-show_read (Some value) r = None
-show_read None r = option_map free_point (use_flag (codes "show") r)
+abbrev pub flag_read : Word → Option Word → Request → Option Point
+flag_read id (Some value) r = None
+flag_read id None r = option_map free_point (use_flag id r)
 
 abbrev pub long_read : Word → Option Word → Request → Option Point
-long_read name value r = cond (bytes_eq (codes "by") name) (by_read value r) (cond (bytes_eq (codes "show") name) (show_read value r) None)
+long_read name value r =
+    cond (bytes_eq (codes "by") name) (by_read value r)
+    (cond (bytes_eq (codes "show") name) (flag_read (codes "show") value r)
+    (cond (bytes_eq (codes "explain") name) (flag_read (codes "explain") value r)
+    (cond (bytes_eq (codes "clean") name) (flag_read (codes "clean") value r) None)))
 
 abbrev pub option_read : Word → Request → Option Point
 option_read [] r = None
@@ -89,7 +93,8 @@ read_all words = read_from words (nothing, by_shape)
 abbrev pub command_requested : Request → Option Command
 command_requested r =
     command_asked (r.given (codes "jobs")) (r.given (codes "by")) (is_some (r.given (codes "all"))) (is_some (r.given (codes "quit")))
-    (is_some (r.given (codes "steps"))) (is_some (r.given (codes "show")))
+    (is_some (r.given (codes "steps"))) (is_some (r.given (codes "show"))) (is_some (r.given (codes "explain")))
+    (is_some (r.given (codes "clean")))
 
 abbrev pub requested : Request → Option Words
 requested r = option_map (with_words r.words) (command_requested r)

@@ -13,7 +13,7 @@ use Rattle.clap.specs.declared.error.kind.ErrorKind.TheVariants as kind
 use Rattle.clap.specs.declared.builder.value_parser.Reading.{Reading}
 use Rattle.clap.specs.declared.parser.matches.ValueSource.TheVariants.{CommandLine}
 use Rattle.b2_base.specs.Bytes.{HasNoZero}
-use Rattle.b2_words.specs.Parser.{build_app, jobs_rule, all_rule, quit_rule, steps_rule, by_rule, show_rule, word_rule}
+use Rattle.b2_words.specs.Parser.{build_app, jobs_rule, all_rule, quit_rule, steps_rule, by_rule, show_rule, explain_rule, clean_rule, word_rule}
 use Rattle.b2_words.proofs.RequestsReadLeftToRight.{Request, put, use_option, use_flag, with_word}
 use Rattle.b2_words.proofs.NewValuesChangeOneRow.{has_row-all_of, without-none, all_of-same, all_of-other}
 
@@ -36,6 +36,12 @@ br = filled by_rule
 abbrev pub sr : Rule
 sr = filled show_rule
 
+abbrev pub er : Rule
+er = filled explain_rule
+
+abbrev pub cr : Rule
+cr = filled clean_rule
+
 abbrev pub wr : Rule
 wr = with_index 1 (filled word_rule)
 
@@ -43,7 +49,7 @@ abbrev pub shape : Shape
 shape = (built build_app).top
 
 abbrev pub rules : List Rule
-rules = jr ∷ ar ∷ qr ∷ nr ∷ br ∷ sr ∷ wr ∷ []
+rules = jr ∷ ar ∷ qr ∷ nr ∷ br ∷ sr ∷ er ∷ cr ∷ wr ∷ []
 
 rules_are : shape.rules ≡ rules
 rules_are = refl
@@ -60,7 +66,9 @@ word_values (w ∷ ws) = Some (w ∷ ws)
 
 -- the ids of flags
 abbrev pub is_flag : Text → Bool
-is_flag id = bytes_eq (codes "all") id || (bytes_eq (codes "quit") id || (bytes_eq (codes "steps") id || bytes_eq (codes "show") id))
+is_flag id =
+    bytes_eq (codes "all") id || (bytes_eq (codes "quit") id || (bytes_eq (codes "steps") id || (bytes_eq (codes "show") id
+    || (bytes_eq (codes "explain") id || bytes_eq (codes "clean") id))))
 
 pub record Shows (r : Request) (rows : List Row) : Type 0 where
   pub given : (id : Text) → bytes_eq word_id id ≡ false → all_of id rows ≡ value_list (r.given id)
@@ -176,6 +184,12 @@ module _ (r : Request) (rows : List Row) (s : Shows r rows) where
 
   pub show_step : Uses (use_flag (codes "show") r) (use_fault false sr [] rows) (used sr [] rows)
   show_step = use_step (codes "show") (codes "true") (reading_by sr) _ refl refl refl (λ _. refl) refl
+
+  pub explain_step : Uses (use_flag (codes "explain") r) (use_fault false er [] rows) (used er [] rows)
+  explain_step = use_step (codes "explain") (codes "true") (reading_by er) _ refl refl refl (λ _. refl) refl
+
+  pub clean_step : Uses (use_flag (codes "clean") r) (use_fault false cr [] rows) (used cr [] rows)
+  clean_step = use_step (codes "clean") (codes "true") (reading_by cr) _ refl refl refl (λ _. refl) refl
 
   pub jobs_step : (v : Text) → Uses (use_option (codes "jobs") v r) (use_fault false jr (v ∷ []) rows) (used jr (v ∷ []) rows)
   jobs_step v = use_step (codes "jobs") v (reading_by jr) _ refl refl refl (λ e. absurd (true≢false (sym e))) refl

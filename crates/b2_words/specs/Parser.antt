@@ -27,6 +27,12 @@ by_rule = record (new_rule (codes "by")) { long = Some (codes "by"); action = So
 abbrev pub show_rule : Rule
 show_rule = record (new_rule (codes "show")) { long = Some (codes "show"); action = Some SetTrue }
 
+abbrev pub explain_rule : Rule
+explain_rule = record (new_rule (codes "explain")) { long = Some (codes "explain"); action = Some SetTrue }
+
+abbrev pub clean_rule : Rule
+clean_rule = record (new_rule (codes "clean")) { long = Some (codes "clean"); action = Some SetTrue }
+
 abbrev pub word_rule : Rule
 word_rule = record (new_rule (codes "word")) { action = Some Append }
 
@@ -40,7 +46,7 @@ abbrev pub short_app : App
 short_app = with_rule (with_rule (with_rule (with_rule empty_app jobs_rule) all_rule) quit_rule) steps_rule
 
 abbrev pub build_app : App
-build_app = with_rule (with_rule (with_rule short_app by_rule) show_rule) word_rule
+build_app = with_rule (with_rule (with_rule (with_rule (with_rule short_app by_rule) show_rule) explain_rule) clean_rule) word_rule
 
 -- whether a flag's value says that it stands
 abbrev pub is_true : Option Text → Bool
@@ -56,6 +62,7 @@ unfoldable pub command_in : Found → Option Command
 command_in f =
     command_asked (first_value f (codes "jobs")) (first_value f (codes "by")) (is_true (first_value f (codes "all")))
     (is_true (first_value f (codes "quit"))) (is_true (first_value f (codes "steps"))) (is_true (first_value f (codes "show")))
+    (is_true (first_value f (codes "explain"))) (is_true (first_value f (codes "clean")))
 
 -- what the matches ask for
 abbrev pub asked_in : Found → Option Words

@@ -37,6 +37,8 @@ pub data Item : Type 0 where
   with_by : Word → Item
   with_steps : Item
   with_table : Item
+  with_explain : Item
+  with_clean : Item
   free_word : Word → Item
 
 -- how the next word is read: by its shape, or as the value of `-j` or of `--by`
@@ -93,16 +95,18 @@ abbrev pub by_said : Option Word → Option Said
 by_said (Some value) = Some (says (with_by value))
 by_said None = Some ([], by_value)
 
--- `--show` has no value
-abbrev pub table_said : Option Word → Option Said
-table_said (Some value) = None
-table_said None = Some (says with_table)
+-- a flag, which has no value
+abbrev pub flag_said : Item → Option Word → Option Said
+flag_said item (Some value) = None
+flag_said item None = Some (says item)
 
 -- what follows `--`: a name, and a value after the first `=`, if there is one
 abbrev pub long_said : Word → Option Word → Option Said
 long_said name value =
     if bytes_eq (codes "by") name then by_said value
-    else if bytes_eq (codes "show") name then table_said value
+    else if bytes_eq (codes "show") name then flag_said with_table value
+    else if bytes_eq (codes "explain") name then flag_said with_explain value
+    else if bytes_eq (codes "clean") name then flag_said with_clean value
     else None
 
 abbrev pub value_in : Word → Option Word
@@ -167,6 +171,14 @@ abbrev pub is_table : Item → Bool
 is_table with_table = true
 is_table _ = false
 
+abbrev pub is_explain : Item → Bool
+is_explain with_explain = true
+is_explain _ = false
+
+abbrev pub is_clean : Item → Bool
+is_clean with_clean = true
+is_clean _ = false
+
 abbrev pub first : {A : Type 0} → List A → Option A
 first [] = None
 first (x ∷ rest) = Some x
@@ -176,9 +188,10 @@ at_most_one [] = true
 at_most_one (x ∷ rest) = not (is_some (first rest))
 
 -- each option stands at most once
-abbrev pub stand_once : List Word → List Word → List Item → List Item → List Item → List Item → Bool
-stand_once jobs by all quit steps table =
-    at_most_one jobs && (at_most_one by && (at_most_one all && (at_most_one quit && (at_most_one steps && at_most_one table))))
+abbrev pub stand_once : List Word → List Word → List Item → List Item → List Item → List Item → List Item → List Item → Bool
+stand_once jobs by all quit steps table explain clean =
+    at_most_one jobs && (at_most_one by && (at_most_one all && (at_most_one quit && (at_most_one steps
+    && (at_most_one table && (at_most_one explain && at_most_one clean))))))
 
 -- the number of jobs, 1 where none is given
 abbrev pub jobs_meant : Option Word → Option ℕ
@@ -197,36 +210,44 @@ abbrev pub options_meant : Option Word → Option Word → Bool → Bool → Opt
 options_meant jobs by all quit =
     option_and_then (λ count. option_map (build_options count all quit) (digest_meant by)) (jobs_meant jobs)
 
--- a build, or a look where exactly one of `-n` and `--show` stands
-abbrev pub command_meant : BuildOptions → Bool → Bool → Option Command
-command_meant options false false = Some (commands.Build options)
-command_meant options true false = Some (commands.Look views.Steps)
-command_meant options false true = Some (commands.Look views.Table)
-command_meant options true true = None
+-- an explanation, which is by stamps alone
+abbrev pub explain_meant : BuildOptions → Option Command
+explain_meant options = if options.digest then None else Some (commands.Explain options.all)
+
+-- a build; or a look, an explanation or cleaning, where exactly one of `-n`, `--show`, `--explain` and `--clean` stands
+abbrev pub command_meant : BuildOptions → Bool → Bool → Bool → Bool → Option Command
+command_meant options false false false false = Some (commands.Build options)
+command_meant options true false false false = Some (commands.Look views.Steps)
+command_meant options false true false false = Some (commands.Look views.Table)
+command_meant options false false true false = explain_meant options
+command_meant options false false false true = Some commands.Clean
+command_meant options _ _ _ _ = None
 
 abbrev pub with_words : List Word → Command → Words
 with_words free command = record { command = command; words = free }
 
-abbrev pub command_asked : Option Word → Option Word → Bool → Bool → Bool → Bool → Option Command
-command_asked jobs by all quit steps table =
-    option_and_then (λ options. command_meant options steps table) (options_meant jobs by all quit)
+abbrev pub command_asked : Option Word → Option Word → Bool → Bool → Bool → Bool → Bool → Bool → Option Command
+command_asked jobs by all quit steps table explain clean =
+    option_and_then (λ options. command_meant options steps table explain clean) (options_meant jobs by all quit)
 
 -- whether a flag stands
 abbrev pub stands : List Item → Bool
 stands same = is_some (first same)
 
 -- what the uses of each option and the free words ask for
-abbrev pub meant : List Word → List Word → List Item → List Item → List Item → List Item → List Word → Option Words
-meant jobs by all quit steps table free =
-    if stand_once jobs by all quit steps table
-    then option_map (with_words free) (command_asked (first jobs) (first by) (stands all) (stands quit) (stands steps) (stands table))
+abbrev pub meant : List Word → List Word → List Item → List Item → List Item → List Item → List Item → List Item → List Word → Option Words
+meant jobs by all quit steps table explain clean free =
+    if stand_once jobs by all quit steps table explain clean
+    then option_map (with_words free) (command_asked (first jobs) (first by) (stands all) (stands quit) (stands steps) (stands table)
+    (stands explain) (stands clean))
     else None
 
 -- what items ask for
 unfoldable pub meaning : List Item → Option Words
 meaning all_items =
     meant (filter_map jobs_in all_items) (filter_map by_in all_items) (filter is_all all_items) (filter is_quit all_items)
-    (filter is_steps all_items) (filter is_table all_items) (filter_map word_in all_items)
+    (filter is_steps all_items) (filter is_table all_items) (filter is_explain all_items) (filter is_clean all_items)
+    (filter_map word_in all_items)
 
 -- ---- command lines
 
@@ -236,7 +257,7 @@ after_lead [] word = Some word
 after_lead (byte ∷ lead) [] = None
 after_lead (byte ∷ lead) (head ∷ word) = if byte == head then after_lead lead word else None
 
--- the words of a build or a look
+-- the words of a build, a look, an explanation or of cleaning
 abbrev pub build_reading : List Word → Option Words
 build_reading words = option_and_then meaning (items by_shape words)
 

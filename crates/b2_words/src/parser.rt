@@ -27,7 +27,7 @@ fn short_options<'a>(alloc: Global) -> Result<Command<'a>, AllocError>
     with_quit.arg(steps)
 }
 
-/// The command of which clap reads the words of a build or a look. It has neither help nor a version.
+/// The command of which clap reads the words of a build, a look, an explanation or of cleaning. It has neither help nor a version.
 pub fn build_command<'a>(alloc: Global) -> Result<Command<'a>, AllocError>
     ensures { IfOk result (λ c. app_of c ≡ build_app) }
 {
@@ -38,6 +38,14 @@ pub fn build_command<'a>(alloc: Global) -> Result<Command<'a>, AllocError>
         .long("show")
         .action(ArgAction::SetTrue);
     let with_show = with_by.arg(show)?;
+    let explain = Arg::new(alloc, "explain")
+        .long("explain")
+        .action(ArgAction::SetTrue);
+    let with_explain = with_show.arg(explain)?;
+    let clean = Arg::new(alloc, "clean")
+        .long("clean")
+        .action(ArgAction::SetTrue);
+    let with_clean = with_explain.arg(clean)?;
     let word = Arg::new(alloc, "word").action(ArgAction::Append);
-    with_show.arg(word)
+    with_clean.arg(word)
 }

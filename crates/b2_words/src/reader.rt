@@ -43,7 +43,9 @@ fn command_in(matches: &ArgMatches<'_>) -> Option<Command>
     let options = options_of(jobs, by, all, quit)?;
     let steps = is_given(matches, "steps");
     let table = is_given(matches, "show");
-    command_of(options, steps, table)
+    let explain = is_given(matches, "explain");
+    let clean = is_given(matches, "clean");
+    command_of(options, steps, table, explain, clean)
 }
 
 fn words_in(alloc: Global, matches: &ArgMatches<'_>) -> Result<TextList, OutOfMemory>
@@ -135,8 +137,9 @@ fn read_drill(alloc: Global, count: &str, rest: &[Text]) -> Result<Words, WordsF
 
 /// Reads the words of the command line, without the program's own name.
 ///
-/// A build: `[-jN] [-a] [-q] [--by=digest] [word ..]`, N from 1 to 64. A look: the same with exactly one of `-n` and
-/// `--show`. A drill: `--drill=N` alone, N from 1 to 2,000. Each option stands at most once, and `--` ends the options.
+/// A build: `[-jN] [-a] [-q] [--by=digest] [word ..]`, N from 1 to 64. A look: the same with `-n` or `--show`. An explanation: the
+/// same with `--explain`, and without `--by`. Cleaning: the same with `--clean`. Of these four words at most one stands. A drill:
+/// `--drill=N` alone, N from 1 to 2,000. Each option stands at most once, and `--` ends the options.
 pub fn read_words(alloc: Global, words: &[Text]) -> Result<Words, WordsFault>
     // What is read is what the grammar gives.
     ensures ok { IfOk result (λ read. reading words.now ≡ Some read) }

@@ -1,6 +1,6 @@
 //! What the values of options ask for.
 ghost use Rattle.std.specs.Prelude.{◌≡◌, option_map};
-ghost use Rattle.b2_words.specs.Words.{jobs_meant, digest_meant, options_meant, command_meant};
+ghost use Rattle.b2_words.specs.Words.{jobs_meant, digest_meant, options_meant, explain_meant, command_meant};
 
 use crate::number::number_of;
 use crate::words::{BuildOptions, Command, View};
@@ -45,14 +45,32 @@ pub fn options_of(
     })
 }
 
-/// The command, where not both views are asked for.
-pub fn command_of(options: BuildOptions, steps: bool, table: bool) -> Option<Command>
-    ensures { result ≡ command_meant options steps table }
+/// An explanation, which is by time stamps alone.
+fn explain_of(options: BuildOptions) -> Option<Command>
+    ensures { result ≡ explain_meant options }
 {
-    match (steps, table) {
-        (false, false) => Some(Command::Build(options)),
-        (true, false) => Some(Command::Look(View::Steps)),
-        (false, true) => Some(Command::Look(View::Table)),
-        (true, true) => None,
+    if options.digest {
+        return None;
+    }
+    Some(Command::Explain { all: options.all })
+}
+
+/// The command, where at most one of a view, an explanation and cleaning is asked for.
+pub fn command_of(
+    options: BuildOptions,
+    steps: bool,
+    table: bool,
+    explain: bool,
+    clean: bool,
+) -> Option<Command>
+    ensures { result ≡ command_meant options steps table explain clean }
+{
+    match (steps, table, explain, clean) {
+        (false, false, false, false) => Some(Command::Build(options)),
+        (true, false, false, false) => Some(Command::Look(View::Steps)),
+        (false, true, false, false) => Some(Command::Look(View::Table)),
+        (false, false, true, false) => explain_of(options),
+        (false, false, false, true) => Some(Command::Clean),
+        _ => None,
     }
 }

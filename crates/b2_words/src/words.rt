@@ -29,6 +29,11 @@ pub enum Command {
     Build(BuildOptions),
     /// Shows the plan. The options of a build may stand beside it and change nothing.
     Look(View),
+    /// Tells why each needed step is to run, or is not. With `all`, all that is needed is to run. Judging is by time stamps; the
+    /// other options of a build may stand beside it and change nothing.
+    Explain { all: bool },
+    /// Removes the outputs of the plan's steps. The options of a build may stand beside it and change nothing.
+    Clean,
     /// Is to run the updates of a generated project of so many steps in memory.
     Drill { steps: u32 },
 }

@@ -3,6 +3,7 @@ use Rattle.std.proofs.Common.{◌≡◌, ℕ, Bool, true, false, not, ◌&&◌, 
 use Rattle.std.specs.Prelude.{if◌then◌else◌}
 use Rattle.std.specs.List.{list_any}
 use Rattle.std.specs.Str.{bytes_eq}
+use Rattle.std.proofs.lemmas.List.Elements.{Contains-append_left}
 use Rattle.std.proofs.lemmas.Bool.{false≢true, and_parts, or_parts, not-true}
 use Rattle.b2_base.specs.Lists.{list_at, first_of}
 use Rattle.b2_base.specs.Segments.{normal_of}
@@ -32,12 +33,13 @@ use Rattle.jam_natives.specs.Rows.{Answer, read, read_answer, add_each, noted, f
 use Rattle.jam_source_laws.specs.Sources.{AreRoots, KeepsRoots, RootsStay}
 
 pub still : (w : World) → KeepsRoots w w
-still w = ((λ frozen. (frozen, refl)), (λ are. are))
+still w = ((λ frozen. (frozen, refl)), (λ are. are), (λ root c. c))
 
 pub roots_then : (a b c : World) → KeepsRoots a b → KeepsRoots b c → KeepsRoots a c
 roots_then a b c one two = (
   (λ frozen. ((two.0 (one.0 frozen).0).0, (two.0 (one.0 frozen).0).1 ∙ (one.0 frozen).1)),
   (λ are. two.1 (one.1 are)),
+  (λ root c. two.2 root (one.2 root c)),
 )
 
 every_append : (xs ys : List Text) → AreRoots xs → AreRoots ys → AreRoots (xs ++ ys)
@@ -70,7 +72,11 @@ roots_are (dir ∷ dirs) none =
 
 added : (frozen : Bool) (dirs : Value) (w : World) → w.frozen ≡ frozen → AreRoots dirs → KeepsRoots w (if frozen then w else record w { roots = w.roots ++ dirs })
 added true dirs w is are = still w
-added false dirs w is are = ((λ frozen. absurd (false≢true (sym is ∙ frozen))), (λ were. every_append w.roots dirs were are))
+added false dirs w is are = (
+  (λ frozen. absurd (false≢true (sym is ∙ frozen))),
+  (λ were. every_append w.roots dirs were are),
+  (λ root c. Contains-append_left w.roots dirs root c),
+)
 
 either_added : (b : Bool) (dirs : Value) (w : World) → (b ≡ true → AreRoots dirs) → KeepsRoots w (if b then add_roots dirs w else w)
 either_added true dirs w are = added w.frozen dirs w refl (are refl)
@@ -122,8 +128,8 @@ row_stays natives.Import lists sight refused ws kept =
     (imported (first_of (list_at 0 lists)) (list_at 1 lists) (first_of (list_at 2 lists)) (list_at 3 lists) ws kept) (refuses of_arity ws kept) ws
     (imported_stays (first_of (list_at 0 lists)) (list_at 1 lists) (first_of (list_at 2 lists)) (list_at 3 lists) ws kept) (still ws.now)
 row_stays natives.Export lists sight refused ws kept = imported_stays (first_of (list_at 0 lists)) (list_at 1 lists) [] (list_at 1 lists) ws kept
-row_stays natives.Glob lists sight refused ws kept = ((λ frozen. (refl, refl)), (λ are. are))
-row_stays natives.ProjectGlob lists sight refused ws kept = ((λ frozen. (refl, refl)), (λ are. are))
+row_stays natives.Glob lists sight refused ws kept = ((λ frozen. (refl, refl)), (λ are. are), (λ root c. c))
+row_stays natives.ProjectGlob lists sight refused ws kept = ((λ frozen. (refl, refl)), (λ are. are), (λ root c. c))
 
 declare_stays : (marked : List World) (name : Text) (lists : List Value) (line : ℕ) (ws : Worlds) (kept : Kept) → Stays ws (declare_at marked name lists line ws kept)
 declare_stays [] name lists line ws kept = with_stays name lists ws.now
@@ -154,7 +160,7 @@ roots_kept setting is = record {
   sets_own = λ target name value s. still s.worlds.now;
   rules = λ name params block path line s. still s.worlds.now;
   actions = λ name body s. still s.worlds.now;
-  roots = λ s. ((λ frozen. (refl, refl)), (λ are. are));
+  roots = λ s. ((λ frozen. (refl, refl)), (λ are. are), (λ root c. c));
   native = λ name given line s. told_stays (native_answer setting name given line s) s
       (subst (λ m. Stays s.worlds (m.call name given line setting.sight (refused_here setting.refused s.left) s.worlds s.kept)) (sym is)
       (call_stays (native_of name) name given line setting.sight (refused_here setting.refused s.left) s.worlds s.kept));

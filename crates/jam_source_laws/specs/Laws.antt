@@ -34,7 +34,7 @@ FilesShowSame =
     → All IsNormal roots → setting.natives ≡ jam_meaning → IsSetting setting → IsSetting (over setting folder names reading)
     → BytesAgree roots setting.sight.folder folder → ShowSame roots setting (over setting folder names reading)
 
--- with the native rules of projects, frozen output roots stay, and each output root is what may be one
+-- with the native rules of projects, frozen output roots stay, each output root is what may be one, and none is taken away
 abbrev pub FileKeepsRoots : Type 0
 FileKeepsRoots = (setting : Setting Kept) → setting.natives ≡ jam_meaning → (path : Text) (tree : StmtTrees) (s : State Kept) → Ends RootsStay s (run setting path tree s)
 

@@ -1,6 +1,6 @@
 -- What evaluation sees of files outside the output roots.
 use Rattle.std.specs.Prelude.{◌≡◌, ℕ, Bool, true, false, List, codes}
-use Rattle.std.specs.List.{list_any, AllByRecursion}
+use Rattle.std.specs.List.{Contains, list_any, AllByRecursion}
 use Rattle.std.specs.Str.{bytes_eq}
 use Rattle.b2_base.specs.Segments.{normal_of}
 use Rattle.b2_base.specs.Normal.{IsNormal}
@@ -69,9 +69,10 @@ pub record IsRoot (root : Text) : Type 0 where
 abbrev pub AreRoots : List Text → Type 0
 AreRoots = AllByRecursion IsRoot
 
--- where no root could be added, none was added and none can be; and output roots are what may be one
+-- Where no root could be added, none was added and none can be; output roots are what may be one; and none is taken away.
 abbrev pub KeepsRoots : World → World → Type 0
 KeepsRoots w later = (w.frozen ≡ true → (later.frozen ≡ true) × (later.roots ≡ w.roots)) × (AreRoots w.roots → AreRoots later.roots)
+    × ((root : Text) → Contains w.roots root → Contains later.roots root)
 
 abbrev pub RootsStay : {R : Type 0} → State R → State R → Type 0
 RootsStay s later = KeepsRoots s.worlds.now later.worlds.now

@@ -12,7 +12,7 @@ pub fn files_show_same()
     ensures { FilesShowSame }
 {}
 
-/// Output roots that are frozen stay, also after a fault, and each one is in normal form and not the folder itself.
+/// Output roots that are frozen stay, also after a fault, and none is taken away. Each one is in normal form and not the folder itself.
 pub fn roots_stay()
     ensures file { FileKeepsRoots }
     ensures call { CallKeepsRoots }

@@ -19,11 +19,21 @@ fn push_build(answer: &mut Answer, options: BuildOptions) {
     answer.end_line();
 }
 
+fn push_explain(answer: &mut Answer, all: bool) {
+    answer.put("explain");
+    if all {
+        answer.put(" all");
+    }
+    answer.end_line();
+}
+
 fn push_command(answer: &mut Answer, command: Asked) {
     match command {
         Asked::Build(options) => push_build(answer, options),
         Asked::Look(View::Steps) => answer.push_line("look steps"),
         Asked::Look(View::Table) => answer.push_line("look table"),
+        Asked::Explain { all } => push_explain(answer, all),
+        Asked::Clean => answer.push_line("clean"),
         Asked::Drill { steps } => {
             answer.put("drill ");
             answer.put_number(steps as u64);

@@ -16,6 +16,18 @@ returns-in-Look g c =
     let after = moment (g.H.Files.outside c.look.new.host) (g.S.Sink.output c.look.new.out) in
     subst (λ (m : Mode). Promises m g.H.Children.made c.args.words.now before after c.look.result) (sym c.in-Look.is ∙ c.mode_of.ensures) c.look.ensures
 
+pub returns-in-Explain : goal.returns-in-Explain
+returns-in-Explain g c =
+    let before = moment (g.H.Files.outside c.args.host.now) (g.S.Sink.output c.args.out.now) in
+    let after = moment (g.H.Files.outside c.explain.new.host) (g.S.Sink.output c.explain.new.out) in
+    subst (λ (m : Mode). Promises m g.H.Children.made c.args.words.now before after c.explain.result) (sym c.in-Explain.is ∙ c.mode_of.ensures) c.explain.ensures
+
+pub returns-in-Clean : goal.returns-in-Clean
+returns-in-Clean g c =
+    let before = moment (g.H.Files.outside c.args.host.now) (g.S.Sink.output c.args.out.now) in
+    let after = moment (g.H.Files.outside c.clean.new.host) (g.S.Sink.output c.clean.new.out) in
+    subst (λ (m : Mode). Promises m g.H.Children.made c.args.words.now before after c.clean.result) (sym c.in-Clean.is ∙ c.mode_of.ensures) c.clean.ensures
+
 pub returns-in-Drill : goal.returns-in-Drill
 returns-in-Drill g c =
     let host = g.H.Files.outside c.args.host.now in

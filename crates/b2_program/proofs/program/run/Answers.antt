@@ -1,4 +1,3 @@
-use Rattle.std.proofs.Common.{refl}
 use Rattle.b2_program.proofs.program.run.Goals as goal
 
 pub returns : goal.returns

@@ -20,6 +20,24 @@ returns-clause-shown g c =
     let after = moment (g.H.Files.outside c.run.new.host) (g.S.Sink.output c.run.new.out) in
     cause_.shown_told g.H.Children.made c.args.words.now before after c.run.result c.run.ensures
 
+pub returns-clause-explained : goal.returns-clause-explained
+returns-clause-explained g c =
+    let before = moment (g.H.Files.outside c.args.host.now) (g.S.Sink.output c.args.out.now) in
+    let after = moment (g.H.Files.outside c.run.new.host) (g.S.Sink.output c.run.new.out) in
+    cause_.explained_told g.H.Children.made c.args.words.now before after c.run.result c.run.ensures
+
+pub returns-clause-cleaned : goal.returns-clause-cleaned
+returns-clause-cleaned g c =
+    let before = moment (g.H.Files.outside c.args.host.now) (g.S.Sink.output c.args.out.now) in
+    let after = moment (g.H.Files.outside c.run.new.host) (g.S.Sink.output c.run.new.out) in
+    cause_.cleaned_told g.H.Children.made c.args.words.now before after c.run.result c.run.ensures
+
+pub returns-clause-builds_anew : goal.returns-clause-builds_anew
+returns-clause-builds_anew g c =
+    let before = moment (g.H.Files.outside c.args.host.now) (g.S.Sink.output c.args.out.now) in
+    let after = moment (g.H.Files.outside c.run.new.host) (g.S.Sink.output c.run.new.out) in
+    cause_.leaves_to_build g.H.Children.made c.args.words.now before after c.run.result c.run.ensures c.next_after_cleaning.ensures
+
 pub returns-clause-drilled : goal.returns-clause-drilled
 returns-clause-drilled g c =
     let before = moment (g.H.Files.outside c.args.host.now) (g.S.Sink.output c.args.out.now) in

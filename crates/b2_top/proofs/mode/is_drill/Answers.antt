@@ -1,5 +1,5 @@
 use Rattle.std.proofs.Common.{is_some, sym, ap, ◌∙◌}
-use Rattle.b2_top.proofs.ViewIsFoundBeforeDashes.{some_mapped}
+use Rattle.b2_top.proofs.ModeIsFoundBeforeDashes.{some_mapped}
 use Rattle.b2_top.proofs.mode.is_drill.Goals as goal
 
 pub returns : goal.returns

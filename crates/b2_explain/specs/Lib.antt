@@ -1,0 +1,14 @@
+pub mod Faults
+pub mod Firsts
+pub mod Entries
+pub mod Whys
+pub mod Lines
+pub mod Sights
+pub mod SeenCauses
+pub mod Surveys
+pub mod Explained
+pub mod Found
+pub mod Checks
+pub mod Cleaning
+pub mod Removing
+pub mod Laws
