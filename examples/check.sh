@@ -52,6 +52,11 @@ passes() {
     fi
 }
 
+# stamp FILE: its time of change in nanoseconds since 1970
+stamp() {
+    stat -c %.9Y "$1" | tr -d .
+}
+
 # shows PAGE: what the console blocks of a page show is what happens in the present folder, where each line that begins with `$ ` is a
 # command, and those below it are what it prints
 shows() {
@@ -85,6 +90,15 @@ E
 runs 0 <<'E'
 updated 0, failed 0, skipped 0, missing 0
 E
+runs 0 --explain <<'E'
+join bin/greeting.txt: fresh
+count bin/count.txt: fresh
+E
+touch -r bin/greeting.txt -d '+1 second' world.txt
+runs 0 --explain <<E
+join bin/greeting.txt: bin/greeting.txt of $(stamp bin/greeting.txt) is older than world.txt of $(stamp world.txt)
+count bin/count.txt: waits for bin/greeting.txt
+E
 for words in "" -a -aj2 --by=digest; do
     touch world.txt
     runs 0 $words <<'E'
@@ -101,6 +115,27 @@ runs 0 -a <<'E'
 join bin/greeting.txt
 count bin/count.txt
 updated 2, failed 0, skipped 0, missing 0
+E
+runs 0 --clean count.txt <<'E'
+...removed bin/greeting.txt...
+...removed bin/count.txt...
+removed 2
+E
+passes "nothing but the log after --clean" [ "$(ls bin)" = b2.log ]
+runs 0 --explain <<'E'
+join bin/greeting.txt: output bin/greeting.txt missing
+count bin/count.txt: waits for bin/greeting.txt
+E
+runs 0 --clean <<'E'
+removed 0
+E
+runs 0 <<'E'
+join bin/greeting.txt
+count bin/count.txt
+updated 2, failed 0, skipped 0, missing 0
+E
+holds bin/count.txt <<'E'
+2
 E
 project hello
 runs 0 greeting.txt <<'E'
@@ -126,6 +161,10 @@ b2: no target nothing
 E
 project hello
 rm world.txt
+runs 0 --explain <<'E'
+join bin/greeting.txt: lacks world.txt
+count bin/count.txt: waits for bin/greeting.txt
+E
 runs 1 <<'E'
 ...missing world.txt...
 ...skipped bin/greeting.txt...
@@ -134,11 +173,6 @@ updated 0, failed 0, skipped 2, missing 1
 E
 
 # ---- the line of the log, with the time stamps of the files, and a second build, which starts nothing
-
-# stamp FILE: its time of change in nanoseconds since 1970
-stamp() {
-    stat -c %.9Y "$1" | tr -d .
-}
 
 name=one-command
 cp -r "$top/crates/b2_cmd/data" "$work/$name" && cd "$work/$name"

@@ -21,15 +21,15 @@ leaves() {
     passes "what is left: $(ls -x)" [ "$(echo *)" = "$1" ]
 }
 
-# refuses TEXT JAMROOT WORD ..: with this Jamroot and these words a build and both looks end with status 2 and the line `b2: TEXT`,
-# and no file is made
+# refuses TEXT JAMROOT WORD ..: with this Jamroot and these words a build, both looks, `--explain` and `--clean` end with status 2 and
+# the line `b2: TEXT`, and no file is made
 refuses() {
     refusal=$1 jamroot=$2; shift 2
     empty mistake
     printf '%s\n' "$jamroot" > Jamroot
     echo "b2: $refusal" > "$work/refusal"
-    for look in "" -n --show; do
-        runs 2 $look "$@" < "$work/refusal"
+    for option in "" -n --show --explain --clean; do
+        runs 2 $option "$@" < "$work/refusal"
     done
     leaves Jamroot
 }
@@ -38,9 +38,11 @@ refuses() {
 
 empty words
 echo 'ECHO loaded ;' > Jamroot
-usage='b2: usage: b2 [-jN] [-a] [-q] [--by=digest] [-n or --show] [word ..], or b2 --drill=N'
-for words in -h --help --version --clean -x -d2 -sX=1 -an -a=x '-a -a' -aa '-q -a -q' -j -j= -j0 -j65 -j04 -jx '-j -a' '-j --' '-j1 -j2' \
+usage='b2: usage: b2 [-jN] [-a] [-q] [--by=digest] [-n, --show, --explain or --clean] [word ..], or b2 --drill=N'
+for words in -h --help --version -x -d2 -sX=1 -an -a=x '-a -a' -aa '-q -a -q' -j -j= -j0 -j65 -j04 -jx '-j -a' '-j --' '-j1 -j2' \
     --by --by= --by=time --by=digest=1 '--by=digest --by=digest' '--by=digest --by digest' '-n --show' '-n -n' '-n -j0' '--show -z' \
+    '-n --explain' '--explain --show' '--explain --clean' '--clean -n' '--explain --explain' '--clean --clean' --explain=x --clean= \
+    '--explain --by=digest' '--by digest --explain' '--explain -a -a' '--clean -z' \
     --drill= --drill=0 --drill=04 --drill=2001 --drill=x '--drill=4 draw'; do
     runs 3 $words <<E1
 $usage
@@ -53,14 +55,14 @@ leaves Jamroot
 
 empty none
 echo 'b2: no Jamroot' > "$work/refusal"
-for look in "" -n --show; do
-    runs 2 $look < "$work/refusal"
+for option in "" -n --show --explain --clean; do
+    runs 2 $option < "$work/refusal"
 done
 leaves '*'
 empty folder
 mkdir Jamroot
-for look in "" -n --show; do
-    runs 2 $look < "$work/refusal"
+for option in "" -n --show --explain --clean; do
+    runs 2 $option < "$work/refusal"
 done
 refuses 'Jamroot: byte 1 is not text' "$(printf 'x\377 ;')"
 refuses 'Jamroot has 1048577 bytes' "$(head -c 1048576 /dev/zero | tr '\0' '#')"
@@ -305,7 +307,8 @@ updated 0, failed 0, skipped 0, missing 0
 E1
 }
 
-# A log at its limit counts, though bytes that are no line follow its lines; it is put back. A larger one counts as empty.
+# A log at its limit counts, though bytes that are no line follow its lines; it is put back. A larger one counts as empty, and
+# cleaning leaves it empty.
 a_chain large-log
 recovers 'copy bin/a' 'copy bin/sub/b'
 cp bin/b2.log "$work/log"
@@ -317,6 +320,18 @@ holds bin/b2.log < "$work/log"
 truncate -s 268435457 bin/b2.log
 recovers 'copy bin/a' 'copy bin/sub/b'
 passes "lines of a log that is written anew" [ "$(wc -l < bin/b2.log | tr -d ' ')" = 2 ]
+truncate -s 268435457 bin/b2.log
+runs 0 --explain <<'E1'
+copy bin/a: no record
+copy bin/sub/b: waits for bin/a
+E1
+runs 0 --clean <<'E1'
+...removed bin/a...
+...removed bin/sub/b...
+removed 2
+E1
+holds bin/b2.log < /dev/null
+recovers 'copy bin/a' 'copy bin/sub/b'
 
 # What else runs when a call fails is waited for: here the log is in the way, and whichever command ends last leaves its output whole.
 empty fault-beside
@@ -415,6 +430,9 @@ dated x
 chmod 444 bin/a
 chmod 555 bin
 faults 'copy bin/a'
+runs 4 --clean <<'E1'
+b2: host fault
+E1
 passes "an output that may not be removed" grep -q text bin/a
 chmod 755 bin
 chmod 644 bin/a
@@ -423,13 +441,26 @@ recovers 'copy bin/a' 'copy bin/sub/b'
 # A log that may not be read is a fault; one that may not be written is one where something is to be written.
 chmod 0 bin/b2.log
 faults
+for option in --explain --clean; do
+    runs 4 $option <<'E1'
+b2: host fault
+E1
+done
 chmod 444 bin/b2.log
 runs 0 <<'E1'
 updated 0, failed 0, skipped 0, missing 0
 E1
+runs 0 --explain <<'E1'
+copy bin/a: fresh
+copy bin/sub/b: fresh
+E1
 echo text > x
 dated x
 faults 'copy bin/a'
+runs 4 --clean <<'E1'
+...removed bin/a...
+b2: host fault
+E1
 chmod 644 bin/b2.log
 recovers 'copy bin/a' 'copy bin/sub/b'
 
@@ -447,8 +478,8 @@ E1
 chmod 644 x
 chmod 0 Jamroot
 echo 'b2: host fault' > "$work/refusal"
-for look in "" -n --show; do
-    runs 4 $look < "$work/refusal"
+for option in "" -n --show --explain --clean; do
+    runs 4 $option < "$work/refusal"
 done
 chmod 644 Jamroot
 recovers 'copy bin/a' 'copy bin/sub/b'
@@ -543,7 +574,7 @@ b2_to() {
 for to in - /dev/full; do
     a_chain output-fails
     sed -i 's/{ cp/{ sleep 1 ; cp/' Jamroot
-    for words in -n --show -x nothing; do
+    for words in -n --show --explain --clean -x nothing; do
         b2_to "$to" $words
         passes "status of b2 $words to $to" [ "$(cat "$work/status")" = 6 ]
     done

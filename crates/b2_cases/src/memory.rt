@@ -2,6 +2,7 @@
 
 mod case_host;
 mod case_sink;
+mod claims;
 pub mod session;
 mod sessions;
 mod shown;

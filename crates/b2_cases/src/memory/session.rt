@@ -1,6 +1,7 @@
 //! The commands over a host in memory.
 use crate::memory::case_host::CaseHost;
 use crate::memory::case_sink::{CaseSink, FailingWrite};
+use crate::memory::claims::claim;
 use crate::memory::sessions::{drill, session};
 use crate::memory::shown::{
     calls_shown, end_shown, events_shown, files_shown, log_shown, starts_shown,
@@ -9,6 +10,8 @@ use crate::memory::stops::{failures, stops};
 use b2_base::fault::OutOfMemory;
 use b2_base::text::Text;
 use b2_memory::memory::CallKind;
+use b2_top::clean::clean_b2;
+use b2_top::explain::explain_b2;
 use b2_top::mode::{Mode, mode_of};
 use b2_top::run::run_b2;
 use b2_top::show::show_b2;
@@ -70,6 +73,8 @@ fn mode_shown(alloc: Global, words: &[Text]) -> Result<Answer, CaseFault> {
     let mode = match mode_of(words) {
         Mode::Build => "Build",
         Mode::Look => "Look",
+        Mode::Explain => "Explain",
+        Mode::Clean => "Clean",
         Mode::Drill => "Drill",
     };
     Answer::line(alloc, mode)
@@ -246,6 +251,30 @@ fn build(
     end_shown(alloc, &ended, out.bytes())
 }
 
+/// An explanation with these words.
+fn explanation(
+    alloc: Global,
+    words: &[Text],
+    host: &mut CaseHost,
+    failing: &mut FailingWrite,
+) -> Result<Answer, CaseFault> {
+    let mut out = take_sink(alloc, failing);
+    let ended = ManuallyDrop::new(explain_b2(alloc, words, host, &mut out));
+    end_shown(alloc, &ended, out.bytes())
+}
+
+/// Cleaning with these words.
+fn cleaning(
+    alloc: Global,
+    words: &[Text],
+    host: &mut CaseHost,
+    failing: &mut FailingWrite,
+) -> Result<Answer, CaseFault> {
+    let mut out = take_sink(alloc, failing);
+    let ended = ManuallyDrop::new(clean_b2(alloc, words, host, &mut out));
+    end_shown(alloc, &ended, out.bytes())
+}
+
 /// A look with these words.
 fn look(
     alloc: Global,
@@ -279,6 +308,28 @@ impl InMemory {
         Ok(Answer::new(alloc))
     }
 
+    /// Carries out a command that explains or cleans, or else another one.
+    fn still_command(&mut self, alloc: Global, command: &Command) -> Result<Answer, CaseFault> {
+        let words = command.words();
+        match command.name() {
+            "explain_b2" => explanation(
+                alloc,
+                texts(alloc, words)?.as_slice(),
+                &mut self.host,
+                &mut self.failing,
+            ),
+            "clean_b2" => cleaning(
+                alloc,
+                texts(alloc, words)?.as_slice(),
+                &mut self.host,
+                &mut self.failing,
+            ),
+            "check" => claim(alloc, words, false, &mut self.host),
+            "check_all" => claim(alloc, words, true, &mut self.host),
+            _ => self.other_command(alloc, command),
+        }
+    }
+
     /// Carries out a command over hosts of its own, or else one on the current host.
     fn other_command(&mut self, alloc: Global, command: &Command) -> Result<Answer, CaseFault> {
         match command.name() {
@@ -310,7 +361,7 @@ impl Session for InMemory {
             ),
             "mode_of" => mode_shown(alloc, texts(alloc, words)?.as_slice()),
             "fail_at" => self.fail_at(alloc, words),
-            _ => self.other_command(alloc, command),
+            _ => self.still_command(alloc, command),
         }
     }
 }
