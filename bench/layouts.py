@@ -1,10 +1,11 @@
-"""Read by updates.sh: writes one project for several build programs, into the folders b2, boost, ninja and make of the present one:
-layouts.py tree COUNT, or layouts.py libraries PROGRAM, where PROGRAM is our b2, whose commands ninja and make are given too.
+"""Run by updates.sh and planning.py: writes one project for several build programs, into the folders b2, boost, ninja and make of the
+present one: layouts.py tree COUNT, or layouts.py libraries PROGRAM [LIBRARIES SOURCES], where PROGRAM is our b2, whose commands ninja
+and make are given too.
 
 tree: so many steps; each joins a source of its own and what the step with half its number made.
-libraries: 5 static libraries of 20 C++ sources with 100 headers, and a program of all of them. Each source includes a header, and
-through it up to four others. Ninja and make also have the compiler write which headers it read, which our b2 finds by itself; Boost.Build
-has commands of its own."""
+libraries: static libraries of C++ sources with a header for each source, 5 of 20 where it is not said, and a program of all of them.
+Each source includes a header, and through it up to five others, where there are 20. Ninja and make also have the compiler write which
+headers it read, which our b2 finds by itself; Boost.Build has commands of its own."""
 import os
 import re
 import subprocess
@@ -56,15 +57,15 @@ def tree(count):
         put(f"{tool}/Jamroot", "\n".join(lines) + "\n")
 
 
-def put_library(number):
+def put_library(number, count):
     """Writes a library: its headers, each of which includes the one with half its number, its sources, its Jamfile."""
     name = f"l{number}"
-    for k in range(SOURCES):
+    for k in range(count):
         above = f'#include "h{k // 2}.h"\n' if k else "#include <vector>\n"
         everywhere(f"{name}/include/{name}/h{k}.h", f"#pragma once\n{above}int {name}_f{k}(int value);\n")
         body = f"std::vector<int> values(value, {k}); return static_cast<int>(values.size()) + {name}_f{k // 2}(0);" if k else "return value;"
         everywhere(f"{name}/f{k}.cpp", f"#include <{name}/h{k}.h>\nint {name}_f{k}(int value) {{ {body} }}\n")
-    sources = " ".join(f"f{k}.cpp" for k in range(SOURCES))
+    sources = " ".join(f"f{k}.cpp" for k in range(count))
     everywhere(f"{name}/Jamfile", f"lib {name} : {sources} : <link>static <include>include : : <include>include ;\n")
 
 
@@ -78,12 +79,12 @@ def step_of(start, command):
     return out, inputs, command, ""
 
 
-def libraries(program):
-    for number in range(LIBRARIES):
-        put_library(number)
-    names = range(LIBRARIES)
-    everywhere("main.cpp", "".join(f"#include <l{n}/h{SOURCES - 1}.h>\n" for n in names)
-               + f"int main() {{ return {' + '.join(f'l{n}_f{SOURCES - 1}(0)' for n in names)}; }}\n")
+def libraries(program, count, sources):
+    names, last = range(count), sources - 1
+    for number in names:
+        put_library(number, sources)
+    everywhere("main.cpp", "".join(f"#include <l{n}/h{last}.h>\n" for n in names)
+               + f"int main() {{ return {' + '.join(f'l{n}_f{last}(0)' for n in names)}; }}\n")
     everywhere("Jamroot", f"using gcc ;\nexe app : main.cpp {' '.join(f'l{n}//l{n}' for n in names)} ;\n")
     lines = subprocess.run([program, "-n"], cwd="b2", stdout=subprocess.PIPE, check=True).stdout.decode().splitlines()
     put_builds([step_of(start, command) for start, command in zip(lines[0::2], lines[1::2])])
@@ -92,4 +93,4 @@ def libraries(program):
 if sys.argv[1] == "tree":
     tree(int(sys.argv[2]))
 else:
-    libraries(sys.argv[2])
+    libraries(sys.argv[2], *(int(word) for word in sys.argv[3:] or (LIBRARIES, SOURCES)))
