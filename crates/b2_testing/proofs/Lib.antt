@@ -1,0 +1,13 @@
+pub mod VerdictsAreOne
+pub mod MarksAreOfNumbers
+pub mod NeedsAreAdded
+pub mod LeadingIsReached
+pub mod LeadingIsDecided
+pub mod VerdictsAreTold
+pub mod RowsAskForTests
+pub mod PassedTestsStand
+pub mod AddedTargetsAreSound
+pub mod TextRunsInTheWorld
+pub mod TargetsAreAdded
+pub mod MarkersAreCounted
+pub mod RowsAreLookedUp
