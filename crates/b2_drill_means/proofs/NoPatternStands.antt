@@ -12,7 +12,7 @@ use Rattle.b2_conversions.specs.declared.fault.MakingFault.{MakingFault}
 use Rattle.b2_conversions.specs.declared.fault.MakingFault.TheVariants as making
 use Rattle.b2_drill_load.specs.Texts.{drill_job, drill_answer}
 use Rattle.b2_drill_means.specs.Laws.{HasJamroot, ComesToDrill}
-use Rattle.b2_drill_means.proofs.FilesComeToThePlan.{text_answered, IsLoadedSo, loaded_so, lines_few, comes_to_drill}
+use Rattle.b2_drill_means.proofs.FilesComeToThePlan.{text_answered, without_tests, IsLoadedSo, loaded_so, lines_few, comes_to_drill}
 use Rattle.b2_drill_plan.specs.Plan.{IsDrill}
 use Rattle.b2_drill_plan.proofs.RequestIsPlanned.{drill_plans}
 use Rattle.b2_drill_project.specs.Loaded.{drill_walk}
@@ -42,6 +42,9 @@ use Rattle.b2_refusals.specs.declared.fault.Fault.TheVariants as faults
 use Rattle.b2_top.specs.RefusalCauses.{IsOfPattern, HasCause, IsPatternRefused}
 use Rattle.b2_top.specs.declared.answer.Answer.{Answer}
 use Rattle.b2_top.specs.declared.answer.Answer.TheVariants as answers
+use Rattle.b2_testing.specs.Adding.{with_tests}
+use Rattle.b2_testing.specs.Readying.{IsEquippedFor}
+use Rattle.jam_scope.specs.Worlds.{Worlds}
 use Rattle.b2_walk.specs.declared.fault.LoadFault.{LoadFault}
 use Rattle.b2_walk.specs.declared.fault.LoadFault.TheVariants as loading
 use Rattle.jam_effects.specs.declared.fault.EvalFault.{EvalFault}
@@ -92,7 +95,8 @@ none_some a e = cc
 
 -- what is refused of a project, by how its load ended
 abbrev RefusesIn : Disk → EvalFault → Ending → Type 0
-RefusesIn disk fault (loaded w found) = Refuses disk w.state.worlds found (request_sets found.registry []) (target_words found.registry []) fault
+RefusesIn disk fault (loaded w found) = (worlds : Worlds) × IsEquippedFor found.tests w.state.worlds worlds
+    × Refuses disk worlds (with_tests found) (request_sets found.registry []) (target_words found.registry []) fault
 RefusesIn disk fault (fails why s) = ⊤
 
 module _ (one_reading : OneReading) (one_meaning : OneMeaning) (one_ending : OneEnding) (one_plan : OnePlan EvalFault) (n : ℕ) (disk : Disk) (few : n ≤ 2000) (stands : HasJamroot n disk) where
@@ -112,10 +116,10 @@ module _ (one_reading : OneReading) (one_meaning : OneMeaning) (one_ending : One
             (sym (text_answered (refusing disk refused.left refused.pattern) so.lines so.left i line small)
             ∙ ap (λ (j : Job). (answers_in (refusing disk refused.left refused.pattern) (drill_place ∷ []) (drill_walk so.lines so.left).state.worlds).step_text j) (same_job (drill_job i line) (job_of job) e) ∙ ends))
 
-    with_question : IsDrill so.lines (project_with disk (drill_walk so.lines so.left).state.worlds (drill_project so.lines) question fault)
+    with_question : IsDrill so.lines (project_with disk (drill_walk so.lines so.left).state.worlds (with_tests (drill_project so.lines)) question fault)
     with_question = record {
       few = lines_few one_reading n disk few stands;
-      declared_is = refl;
+      declared_is = without_tests so.lines;
       roots_are = refl;
       answers = λ i line less.
           let most : length so.lines ≤ 2000 = lines_few one_reading n disk few stands in
@@ -123,18 +127,21 @@ module _ (one_reading : OneReading) (one_meaning : OneMeaning) (one_ending : One
           ∙ text_answered (setting_of disk) so.lines so.left i line (omega (arith, less, most));
     }
 
-    no_plan_refused : (why : Generating EvalFault) → Plans (project_with disk (drill_walk so.lines so.left).state.worlds (drill_project so.lines) question fault) ([] ∷ []) [] (Err why) → ⊥
+    no_plan_refused : (why : Generating EvalFault) → Plans (project_with disk (drill_walk so.lines so.left).state.worlds (with_tests (drill_project so.lines)) question fault) ([] ∷ []) [] (Err why) → ⊥
     no_plan_refused why plans =
-        let found = drill_plans (project_with disk (drill_walk so.lines so.left).state.worlds (drill_project so.lines) question fault) so.lines with_question in
-        ok_not_err found.0 why (one_plan (project_with disk (drill_walk so.lines so.left).state.worlds (drill_project so.lines) question fault) ([] ∷ []) [] (Ok found.0) (Err why) found.2 plans)
+        let found = drill_plans (project_with disk (drill_walk so.lines so.left).state.worlds (with_tests (drill_project so.lines)) question fault) so.lines with_question in
+        ok_not_err found.0 why (one_plan (project_with disk (drill_walk so.lines so.left).state.worlds (with_tests (drill_project so.lines)) question fault) ([] ∷ []) [] (Ok found.0) (Err why) found.2 plans)
 
-  refuses_not : (fault : EvalFault) → Refuses disk (drill_walk so.lines so.left).state.worlds (drill_project so.lines) ([] ∷ []) [] fault → ⊥
+  refuses_not : (fault : EvalFault) → Refuses disk (drill_walk so.lines so.left).state.worlds (with_tests (drill_project so.lines)) ([] ∷ []) [] fault → ⊥
   refuses_not fault r = no_plan_refused r.question fault r.refused r.why r.plans
 
   not_in_generation : (lines : List Text) (fault : EvalFault) → IsRefusedInGeneration disk [] lines fault → ⊥
   not_in_generation lines fault g =
-      refuses_not fault
-      (subst (RefusesIn disk fault) (one_ending (load_setting disk None) load_turns [] (loaded g.walk g.found) (loaded (drill_walk so.lines so.left) (drill_project so.lines)) g.loads (so.loads None)) g.refuses)
+      let here : RefusesIn disk fault (loaded (drill_walk so.lines so.left) (drill_project so.lines)) =
+      subst (RefusesIn disk fault) (one_ending (load_setting disk None) load_turns [] (loaded g.walk g.found) (loaded (drill_walk so.lines so.left) (drill_project so.lines)) g.loads (so.loads None))
+      (g.worlds, g.equipped, g.refuses)
+      in
+      refuses_not fault (subst (λ (worlds : Worlds). Refuses disk worlds (with_tests (drill_project so.lines)) ([] ∷ []) [] fault) here.1 here.2)
 
   -- ---- all
 

@@ -9,6 +9,10 @@ use Rattle.jam_journal.specs.Tables.{Text}
 use Rattle.jam_scope.specs.Worlds.{Worlds}
 use Rattle.jam_eval.specs.Refused.{Refuses}
 use Rattle.jam_effects.specs.declared.fault.EvalFault.{EvalFault}
+use Rattle.b2_planning.specs.Plans.{seen}
+use Rattle.b2_testing.specs.Adding.{with_tests}
+use Rattle.b2_testing.specs.Readying.{IsEquippedFor}
+use Rattle.b2_testing.specs.Requested.{requested}
 use Rattle.jam_effects.specs.declared.turns.Turns.{Turns}
 use Rattle.jam_effects.specs.Machines.{folder_of}
 use Rattle.b2_plan.specs.Plans.{Apart}
@@ -20,20 +24,20 @@ use Rattle.b2_walk.specs.Finding.{CountsFault as CountsLoad, Counts as CountsLoa
 use Rattle.b2_walk.specs.Walking.{IsSettingFor}
 use Rattle.b2_walk.specs.Walks.{Walk, Refusal as LoadRefusal}
 use Rattle.b2_project.specs.declared.project.Project.{Project}
-use Rattle.b2_project.specs.Loading.{IsProject, IsRefused, IsLoaded, TellsLoad}
+use Rattle.b2_project.specs.Loading.{IsRefused, IsLoaded, TellsLoad}
 use Rattle.b2_metatargets.specs.Numbered.{IsNumbered}
 use Rattle.b2_project.specs.Loads.{Loads, loaded}
 use Rattle.b2_front.proofs.LinesBeginTheLoad.{loaded_begins}
 use Rattle.b2_planning.specs.declared.planned.Planned.{Planned as Made}
-use Rattle.b2_generate.specs.Loaded.{Loaded}
 use Rattle.b2_generate.specs.Planning.{Planned}
 use Rattle.b2_front.specs.declared.refusal.Stop.{Stop}
 use Rattle.b2_front.specs.declared.refusal.Stop.TheVariants as stops
 use Rattle.b2_front.specs.Meaning.{Refusal, of_load, of_request, of_generation, load_turns, load_setting, project_of, HasLoaded, Means}
 use Rattle.b2_front.specs.Meaning.{IsRefusedInGeneration, not_loaded, not_asked, not_planned, planned}
 use Rattle.b2_front.specs.Refusals.{stop_of_load}
-use Rattle.b2_front.specs.Preparing.{IfRefusal, Tells, call_of, IsPrepared, LinesTold, IsWhole, Counts}
-use Rattle.b2_front.specs.Parts.{IsReady, IsAsked, IsRefusedFor, GoesOn}
+use Rattle.b2_front.specs.Preparing.{IfRefusal, Tells, call_of, IsPrepared, LinesTold, TestsTold, IsWhole, Counts}
+use Rattle.b2_front.specs.Parts.{IsReady, IsAsked, IsRefusedFor, AreAsked, GoesOn}
+use Rattle.b2_front.specs.Parts.AsksLoaded.{asks_after, ran_out}
 use Rattle.b2_front.proofs.FaultsAreToldAsAnswers.{load_told, tells_map}
 use Rattle.b2_front.proofs.RefusalsHoldNoHostFault.{load_whole, load_counts}
 use Rattle.b2_front.proofs.RefusedPatternGivesNoPlan.{counts_then}
@@ -48,39 +52,49 @@ module _ (disk : Disk) (words lines : List Text) where
   abbrev Comes : Option Text → Result Planned Refusal → Type 0
   Comes pattern outcome = (left : ℕ) × Means disk (call_of left pattern) words lines outcome
 
-  -- the words over a project that was loaded
-  comes_of : (w : Walk) (found : Declared) → Loads (load_setting disk None) load_turns words (loaded w found)
-      → (outcome : Result Planned Refusal) → IsAsked (project_of disk w.state.worlds found) words outcome → Means disk None words w.state.kept.echoes outcome
-  comes_of w found loads (Ok plan) h = planned w found plan loads h.0 h.1
-  comes_of w found loads (Err (of_load why)) h = absurd h
-  comes_of w found loads (Err (of_request why)) h = not_asked w found why loads h
-  comes_of w found loads (Err (of_generation why)) h = not_planned w found why loads h.0 h.1
+  -- the words over a project that was loaded, in the worlds that its tests need
+  comes_of : (w : Walk) (found : Declared) (worlds : Worlds) → Loads (load_setting disk None) load_turns words (loaded w found) → IsEquippedFor found.tests w.state.worlds worlds
+      → (outcome : Result Planned Refusal) → IsAsked (project_of disk worlds (with_tests found)) words outcome → Means disk None words w.state.kept.echoes outcome
+  comes_of w found worlds loads equips (Ok plan) h = planned w found worlds plan loads equips h.0 h.1
+  comes_of w found worlds loads equips (Err (of_load why)) h = absurd h
+  comes_of w found worlds loads equips (Err (of_request why)) h = not_asked w found why loads h
+  comes_of w found worlds loads equips (Err (of_generation why)) h = not_planned w found worlds why loads equips h.0 h.1
 
-  project_is : (w : Walk) (found : Declared) (project : Project) → IsProject w found project
-      → project_of disk project.world project.declared ≡ project_of disk w.state.worlds found
-  project_is w found project is =
-      subst (λ (d : Declared). project_of disk project.world project.declared ≡ project_of disk w.state.worlds d) is.declared
-      (subst (λ (v : Worlds). project_of disk project.world project.declared ≡ project_of disk v project.declared) is.world refl)
+  abbrev Asked : Declared → Worlds → Option Text → Result Planned Refusal → Type 0
+  Asked found worlds pattern outcome = (pattern ≡ None) × IsAsked (project_of disk worlds (with_tests found)) words outcome
 
-  prepared_so : (project : Project) (last : ℕ) → IsLoaded (load_setting disk None) words load_turns last lines (Ok project) → (result : Result Made Stop)
-      → Tells (IsRefusedFor words project.declared project.world disk) (λ pattern outcome. (pattern ≡ None) × IsAsked (project_of disk project.world project.declared) words outcome) result
-      → IsPrepared disk words lines result
-  prepared_so project last (w, found, loads, is, echoes, after) result told =
-      tells_map (IsRefusedFor words project.declared project.world disk) (λ pattern outcome. (pattern ≡ None) × IsAsked (project_of disk project.world project.declared) words outcome)
-      (IsRefusedInGeneration disk words lines) Comes refused follows result told
+  prepared_so : (project : Project) (last : ℕ) → IsLoaded (load_setting disk None) words load_turns last lines (Ok project)
+      → (later : Worlds) → IsEquippedFor project.declared.tests project.world later → (result : Result Made Stop)
+      → Tells (IsRefusedFor words (with_tests project.declared) later disk) (Asked project.declared later) result → IsPrepared disk words lines result
+  prepared_so project last (w, found, loads, is, echoes, after) later equips result told =
+      tells_map (IsRefusedFor words (with_tests project.declared) later disk) (Asked project.declared later) (IsRefusedInGeneration disk words lines) Comes refused follows result told
     where
-      refused : (fault : EvalFault) → IsRefusedFor words project.declared project.world disk fault → IsRefusedInGeneration disk words lines fault
-      refused fault h =
-          let is_for = subst (λ (d : Declared). IsRefusedFor words d w.state.worlds disk fault) is.declared (subst (λ (v : Worlds). IsRefusedFor words project.declared v disk fault) is.world h) in
-          record { walk = w; found = found; loads = loads; asked = is_for.0; refuses = is_for.1; echoes = echoes }
+      equips_so : IsEquippedFor found.tests w.state.worlds later
+      equips_so = subst (λ (d : Declared). IsEquippedFor d.tests w.state.worlds later) is.declared (subst (λ (v : Worlds). IsEquippedFor project.declared.tests v later) is.world equips)
 
-      follows : (pattern : Option Text) (outcome : Result Planned Refusal) → (pattern ≡ None) × IsAsked (project_of disk project.world project.declared) words outcome → Comes pattern outcome
+      refused : (fault : EvalFault) → IsRefusedFor words (with_tests project.declared) later disk fault → IsRefusedInGeneration disk words lines fault
+      refused fault h =
+          let is_for = subst (λ (d : Declared). IsRefusedFor words (with_tests d) later disk fault) is.declared h in
+          record { walk = w; found = found; worlds = later; loads = loads; equipped = equips_so; asked = is_for.0; refuses = is_for.1; echoes = echoes }
+
+      follows : (pattern : Option Text) (outcome : Result Planned Refusal) → Asked project.declared later pattern outcome → Comes pattern outcome
       follows pattern outcome h = (
         0,
         subst (λ p. Means disk (call_of 0 p) words lines outcome) (sym h.0)
             (subst (λ ls. Means disk None words ls outcome) (sym echoes)
-            (comes_of w found loads outcome (subst (λ (l : Loaded EvalFault). IsAsked l words outcome) (project_is w found project is) h.1))),
+            (comes_of w found later loads equips_so outcome (subst (λ (d : Declared). IsAsked (project_of disk later (with_tests d)) words outcome) is.declared h.1))),
       )
+
+  -- the tests
+  tests_so : (project : Project) (last : ℕ) → IsLoaded (load_setting disk None) words load_turns last lines (Ok project) → (result : Result Made Stop) (tests : List (List ℕ × ℕ))
+      → AreAsked project.declared result tests → TestsTold disk words result tests
+  tests_so project last (w, found, loads, is, echoes, after) (Ok made) tests are = record {
+    walk = w;
+    found = found;
+    loads = loads;
+    are = subst (λ (d : Declared). tests ≡ requested d (seen made).rows (seen made).steps (seen made).wanted) is.declared are;
+  }
+  tests_so project last (w, found, loads, is, echoes, after) (Err stop) tests are = are
 
   -- what is told of a fault that is none of the host
   as_refused : (fault : LoadFault) (last : ℕ) → IsLoaded (load_setting disk (call_of last (refused_by fault))) words load_turns last lines (Err fault)
@@ -141,36 +155,53 @@ module _ (words lines : List Text) (from mid to : Outside) (first last : Turns) 
       subst (λ n. IsLoaded (load_setting disk call) words n last.left lines (Err fault)) left_is
       (told (load_setting disk call) (subst (λ n. IsSettingFor (load_setting disk call) n from) (sym budget_is) (setting_for from disk visible consistent call)) (call_refuses first.left last.left (refused_by fault)))
 
-  so : (disk : Disk) → from.disk ≡ Some disk → IsConsistent disk → (ended : Result Project LoadFault) → TellsLoad from words first last lines ended
-      → mid.disk ≡ from.disk → (result : Result Made Stop) → GoesOn words ended mid to result → IsPrepared disk words lines result
-  so disk visible consistent (Ok project) told same result goes =
-      prepared_so disk words lines project last.left (loads_so disk visible consistent project told) result
-      (subst (λ d. IfSome d (λ (e : Disk). Tells (IsRefusedFor words project.declared project.world e) (λ pattern outcome. (pattern ≡ None) × IsAsked (project_of e project.world project.declared) words outcome) result)) (same ∙ visible) goes.told)
-  so disk visible consistent (Err fault) told same result goes =
-      subst (IsPrepared disk words lines) (sym goes.0) (refused_so disk words lines fault last.left (fails_so disk visible consistent fault told))
+  module _ (result : Result Made Stop) (tests : List (List ℕ × ℕ)) where
+    so : (disk : Disk) → from.disk ≡ Some disk → IsConsistent disk → (ended : Result Project LoadFault) → TellsLoad from words first last lines ended
+        → mid.disk ≡ from.disk → GoesOn words ended mid to result tests → IsPrepared disk words lines result
+    so disk visible consistent (Ok project) told same (asks_after later equips asks) =
+        prepared_so disk words lines project last.left (loads_so disk visible consistent project told) later equips result
+        (subst (λ d. IfSome d (λ (e : Disk). Tells (IsRefusedFor words (with_tests project.declared) later e) (Asked e words lines project.declared later) result)) (same ∙ visible) asks.asks.told)
+    so disk visible consistent (Ok project) told same (ran_out is still none) = subst (IsPrepared disk words lines) (sym is) tt
+    so disk visible consistent (Err fault) told same goes =
+        subst (IsPrepared disk words lines) (sym goes.0) (refused_so disk words lines fault last.left (fails_so disk visible consistent fault told))
 
-  pub told_prepared : IfSome from.disk IsConsistent → (ended : Result Project LoadFault) → TellsLoad from words first last lines ended
-      → mid.disk ≡ from.disk → (result : Result Made Stop) → GoesOn words ended mid to result → IfSome from.disk (λ disk. IsPrepared disk words lines result)
-  told_prepared consistent ended told same result goes = go from.disk refl consistent
-    where
-      go : (d : Option Disk) → from.disk ≡ d → IfSome d IsConsistent → IfSome d (λ disk. IsPrepared disk words lines result)
-      go None e c = tt
-      go (Some disk) e c = so disk e c ended told same result goes
+    pub told_prepared : IfSome from.disk IsConsistent → (ended : Result Project LoadFault) → TellsLoad from words first last lines ended
+        → mid.disk ≡ from.disk → GoesOn words ended mid to result tests → IfSome from.disk (λ disk. IsPrepared disk words lines result)
+    told_prepared consistent ended told same goes = go from.disk refl consistent
+      where
+        go : (d : Option Disk) → from.disk ≡ d → IfSome d IsConsistent → IfSome d (λ disk. IsPrepared disk words lines result)
+        go None e c = tt
+        go (Some disk) e c = so disk e c ended told same goes
 
-  lines_so : (disk : Disk) → from.disk ≡ Some disk → IsConsistent disk → (ended : Result Project LoadFault) → TellsLoad from words first last lines ended
-      → (result : Result Made Stop) → GoesOn words ended mid to result → LinesTold disk words lines result
-  lines_so disk visible consistent (Ok project) told result goes =
-      all_lines disk words lines (loaded_so disk words lines project last.left (loads_so disk visible consistent project told)) result
-  lines_so disk visible consistent (Err fault) told result goes =
-      subst (LinesTold disk words lines) (sym goes.0) (first_lines disk words lines fault last.left (fails_so disk visible consistent fault told))
+    lines_so : (disk : Disk) → from.disk ≡ Some disk → IsConsistent disk → (ended : Result Project LoadFault) → TellsLoad from words first last lines ended
+        → GoesOn words ended mid to result tests → LinesTold disk words lines result
+    lines_so disk visible consistent (Ok project) told goes =
+        all_lines disk words lines (loaded_so disk words lines project last.left (loads_so disk visible consistent project told)) result
+    lines_so disk visible consistent (Err fault) told goes =
+        subst (LinesTold disk words lines) (sym goes.0) (first_lines disk words lines fault last.left (fails_so disk visible consistent fault told))
 
-  pub lines_prepared : IfSome from.disk IsConsistent → (ended : Result Project LoadFault) → TellsLoad from words first last lines ended
-      → (result : Result Made Stop) → GoesOn words ended mid to result → IfSome from.disk (λ disk. LinesTold disk words lines result)
-  lines_prepared consistent ended told result goes = go from.disk refl consistent
-    where
-      go : (d : Option Disk) → from.disk ≡ d → IfSome d IsConsistent → IfSome d (λ disk. LinesTold disk words lines result)
-      go None e c = tt
-      go (Some disk) e c = lines_so disk e c ended told result goes
+    pub lines_prepared : IfSome from.disk IsConsistent → (ended : Result Project LoadFault) → TellsLoad from words first last lines ended
+        → GoesOn words ended mid to result tests → IfSome from.disk (λ disk. LinesTold disk words lines result)
+    lines_prepared consistent ended told goes = go from.disk refl consistent
+      where
+        go : (d : Option Disk) → from.disk ≡ d → IfSome d IsConsistent → IfSome d (λ disk. LinesTold disk words lines result)
+        go None e c = tt
+        go (Some disk) e c = lines_so disk e c ended told goes
+
+    tests_of : (disk : Disk) → from.disk ≡ Some disk → IsConsistent disk → (ended : Result Project LoadFault) → TellsLoad from words first last lines ended
+        → GoesOn words ended mid to result tests → TestsTold disk words result tests
+    tests_of disk visible consistent (Ok project) told (asks_after later equips asks) =
+        tests_so disk words lines project last.left (loads_so disk visible consistent project told) result tests asks.tests_are
+    tests_of disk visible consistent (Ok project) told (ran_out is still none) = subst (λ r. TestsTold disk words r tests) (sym is) none
+    tests_of disk visible consistent (Err fault) told goes = subst (λ r. TestsTold disk words r tests) (sym goes.0) goes.2
+
+    pub tests_prepared : IfSome from.disk IsConsistent → (ended : Result Project LoadFault) → TellsLoad from words first last lines ended
+        → GoesOn words ended mid to result tests → IfSome from.disk (λ disk. TestsTold disk words result tests)
+    tests_prepared consistent ended told goes = go from.disk refl consistent
+      where
+        go : (d : Option Disk) → from.disk ≡ d → IfSome d IsConsistent → IfSome d (λ disk. TestsTold disk words result tests)
+        go None e c = tt
+        go (Some disk) e c = tests_of disk e c ended told goes
 
 -- ---- over every host
 
@@ -179,28 +210,34 @@ pub ready_load : (ended : Result Project LoadFault) → IfOk ended (λ project. 
 ready_load (Ok project) places step = record { places = places; step = step }
 ready_load (Err fault) places step = tt
 
-module _ (words : List Text) (mid to : Outside) where
-  pub whole_prepared : (ended : Result Project LoadFault) → IfErr ended IsWholeLoad → (result : Result Made Stop) → GoesOn words ended mid to result → IfErr result IsWhole
-  whole_prepared (Ok project) whole result goes = goes.whole
-  whole_prepared (Err fault) whole result goes = subst (λ r. IfErr r IsWhole) (sym goes.0) (load_whole fault whole)
+module _ (words : List Text) (mid to : Outside) (result : Result Made Stop) (tests : List (List ℕ × ℕ)) where
+  pub whole_prepared : (ended : Result Project LoadFault) → IfErr ended IsWholeLoad → GoesOn words ended mid to result tests → IfErr result IsWhole
+  whole_prepared (Ok project) whole (asks_after later equips asks) = asks.asks.whole
+  whole_prepared (Ok project) whole (ran_out is still none) = subst (λ r. IfErr r IsWhole) (sym is) tt
+  whole_prepared (Err fault) whole goes = subst (λ r. IfErr r IsWhole) (sym goes.0) (load_whole fault whole)
 
-  pub apart_prepared : (ended : Result Project LoadFault) (result : Result Made Stop) → GoesOn words ended mid to result → IfOk result (λ p. Apart p.plan.steps p.plan.roots)
-  apart_prepared (Ok project) result goes = goes.apart
-  apart_prepared (Err fault) result goes = subst (λ r. IfOk r (λ p. Apart p.plan.steps p.plan.roots)) (sym goes.0) tt
+  pub apart_prepared : (ended : Result Project LoadFault) → GoesOn words ended mid to result tests → IfOk result (λ p. Apart p.plan.steps p.plan.roots)
+  apart_prepared (Ok project) (asks_after later equips asks) = asks.asks.apart
+  apart_prepared (Ok project) (ran_out is still none) = subst (λ r. IfOk r (λ p. Apart p.plan.steps p.plan.roots)) (sym is) tt
+  apart_prepared (Err fault) goes = subst (λ r. IfOk r (λ p. Apart p.plan.steps p.plan.roots)) (sym goes.0) tt
 
-  pub disk_prepared : (ended : Result Project LoadFault) (result : Result Made Stop) → GoesOn words ended mid to result → to.disk ≡ mid.disk
-  disk_prepared (Ok project) result goes = goes.disk
-  disk_prepared (Err fault) result goes = ap (λ (o : Outside). o.disk) goes.1
+  pub disk_prepared : (ended : Result Project LoadFault) → GoesOn words ended mid to result tests → to.disk ≡ mid.disk
+  disk_prepared (Ok project) (asks_after later equips asks) = asks.asks.disk
+  disk_prepared (Ok project) (ran_out is still none) = ap (λ (o : Outside). o.disk) still
+  disk_prepared (Err fault) goes = ap (λ (o : Outside). o.disk) goes.1
 
-  pub children_prepared : (ended : Result Project LoadFault) (result : Result Made Stop) → GoesOn words ended mid to result → to.children ≡ mid.children
-  children_prepared (Ok project) result goes = goes.children
-  children_prepared (Err fault) result goes = ap (λ (o : Outside). o.children) goes.1
+  pub children_prepared : (ended : Result Project LoadFault) → GoesOn words ended mid to result tests → to.children ≡ mid.children
+  children_prepared (Ok project) (asks_after later equips asks) = asks.asks.children
+  children_prepared (Ok project) (ran_out is still none) = ap (λ (o : Outside). o.children) still
+  children_prepared (Err fault) goes = ap (λ (o : Outside). o.children) goes.1
 
-pub counts_prepared : (words : List Text) (from mid to : Outside) (ended : Result Project LoadFault) → CountsLoaded ended from mid → (result : Result Made Stop) → GoesOn words ended mid to result → Counts result from to
-counts_prepared words from mid to (Ok project) counts result goes = counts_then from mid to counts result goes.counts
-counts_prepared words from mid to (Err fault) counts result goes =
-    subst (λ r. Counts r from to) (sym goes.0) (load_counts fault from to (subst (CountsLoad fault from) (sym goes.1) counts))
+  pub counts_prepared : (from : Outside) (ended : Result Project LoadFault) → CountsLoaded ended from mid → GoesOn words ended mid to result tests → Counts result from to
+  counts_prepared from (Ok project) counts (asks_after later equips asks) = counts_then from mid to counts result asks.asks.counts
+  counts_prepared from (Ok project) counts (ran_out is still none) = subst (λ r. Counts r from to) (sym is) tt
+  counts_prepared from (Err fault) counts goes =
+      subst (λ r. Counts r from to) (sym goes.0) (load_counts fault from to (subst (CountsLoad fault from) (sym goes.1) counts))
 
-pub keeps_prepared : (words : List Text) (from mid to : Outside) → Keeps from mid → (ended : Result Project LoadFault) (result : Result Made Stop) → GoesOn words ended mid to result → Keeps from to
-keeps_prepared words from mid to keeps (Ok project) result goes = keeps_then from mid to keeps goes.keeps
-keeps_prepared words from mid to keeps (Err fault) result goes = subst (Keeps from) (sym goes.1) keeps
+  pub keeps_prepared : (from : Outside) → Keeps from mid → (ended : Result Project LoadFault) → GoesOn words ended mid to result tests → Keeps from to
+  keeps_prepared from keeps (Ok project) (asks_after later equips asks) = keeps_then from mid to keeps asks.asks.keeps
+  keeps_prepared from keeps (Ok project) (ran_out is still none) = subst (Keeps from) (sym still) keeps
+  keeps_prepared from keeps (Err fault) goes = subst (Keeps from) (sym goes.1) keeps

@@ -1,5 +1,5 @@
 -- A request over a loaded project has its plan or its refusal as the answer, as generation gives it.
-use Rattle.std.proofs.Common.{◌≡◌, ℕ, Bool, true, false, Option, Some, None, List, Result, Ok, Err, refl, sym, ap, ◌∙◌, subst}
+use Rattle.std.proofs.Common.{◌≡◌, ◌⊎◌, ℕ, Bool, true, false, Option, Some, None, List, [], Result, Ok, Err, inl, inr, refl, sym, ap, ◌∙◌, subst}
 use Rattle.std.specs.Prelude.{IfOk, IfErr}
 use Rattle.std.specs.Option.{IfSome}
 use Rattle.b2_host.specs.Disks.{Disk}
@@ -25,19 +25,21 @@ use Rattle.b2_conversions.specs.declared.fault.MakingFault.TheVariants as making
 use Rattle.b2_generate.specs.declared.fault.GenFault.{GenFault}
 use Rattle.b2_generate.specs.declared.fault.GenFault.TheVariants as generating
 use Rattle.b2_planning.specs.declared.planned.Planned.{Planned as Made}
+use Rattle.b2_generate.specs.Answers.{HaveSets}
 use Rattle.b2_generate.specs.Loaded.{Loaded}
 use Rattle.b2_generate.specs.Planning.{Planned}
-use Rattle.b2_planning.specs.Plans.{IsPlanned}
+use Rattle.b2_planning.specs.Plans.{seen, IsPlanned}
 use Rattle.b2_generate.specs.Told.{loaded_of, IsKnown, is_eval, is_memory}
 use Rattle.b2_loaded.specs.Faults.{is_host_fault, is_out_of_memory}
 use Rattle.b2_loaded.specs.Seen.{setting_of}
 use Rattle.b2_loaded.specs.Worlds.{answers_in, told_in}
+use Rattle.b2_testing.specs.Requested.{requested}
 use Rattle.b2_front.specs.declared.refusal.Stop.{Stop}
 use Rattle.b2_front.specs.declared.refusal.Stop.TheVariants as stops
 use Rattle.b2_front.specs.Meaning.{Refusal, of_load, of_request, of_generation, project_of, Refuses}
 use Rattle.b2_front.specs.Refusals.{stop_of_request}
 use Rattle.b2_front.specs.Preparing.{Tells, IsWhole, Counts}
-use Rattle.b2_front.specs.Parts.{planned_or_stop, IsGenerated, IsAsked, IsRefusedFor, Does, PlansRequest, Asks}
+use Rattle.b2_front.specs.Parts.{planned_or_stop, IsGenerated, IsAsked, IsRefusedFor, Does, PlansRequest, Asks, AreAsked, HandsOn}
 use Rattle.b2_front.specs.Again.{is_refusal, is_refused_answer, Settles, SettlesBy}
 use Rattle.b2_front.proofs.FaultsAreToldAsAnswers.{tells_map}
 use Rattle.b2_front.proofs.RefusedPatternGivesNoPlan.{not_so, first_same, answers_again_after}
@@ -46,24 +48,57 @@ use Rattle.b2_front.proofs.RefusalsHoldNoHostFault.{OfPattern, generated_told, g
 -- ---- what is kept
 
 -- an answer that nothing was done for
-pub nothing_done : (Rest : Disk → EvalFault → Type 0) (Told : Disk → Result Planned Refusal → Type 0) (o : Outside) (stop : Stop)
-    → IfSome o.disk (λ disk. Tells (Rest disk) (λ pattern outcome. (pattern ≡ None) × Told disk outcome) (Err stop)) → IsWhole stop → Counts (Err stop) o o → Does Rest Told o o (Err stop)
-nothing_done Rest Told o stop told whole counts = record {
+pub nothing_done : (found : Declared) (Rest : Disk → EvalFault → Type 0) (Told : Disk → Result Planned Refusal → Type 0) (o : Outside) (stop : Stop)
+    → IfSome o.disk (λ disk. Tells (Rest disk) (λ pattern outcome. (pattern ≡ None) × Told disk outcome) (Err stop)) → IsWhole stop → Counts (Err stop) o o → Does found Rest Told o o (Err stop)
+nothing_done found Rest Told o stop told whole counts = record {
   told = told;
   whole = whole;
   apart = tt;
+  sets = tt;
   disk = refl;
   children = refl;
   keeps = keeps_same o o refl;
   counts = counts;
 }
 
-pub no_memory : (Rest : Disk → EvalFault → Type 0) (Told : Disk → Result Planned Refusal → Type 0) (o : Outside) → Does Rest Told o o (Err stops.OutOfMemory)
-no_memory Rest Told o = nothing_done Rest Told o stops.OutOfMemory (visible o.disk) tt tt
-  where
-    visible : (disk : Option Disk) → IfSome disk (λ d. Tells (Rest d) (λ pattern outcome. (pattern ≡ None) × Told d outcome) (Err stops.OutOfMemory))
-    visible None = tt
-    visible (Some d) = tt
+-- nothing is told of it where memory ran out
+no_told : (Rest : Disk → EvalFault → Type 0) (Told : Disk → Result Planned Refusal → Type 0) (disk : Option Disk)
+    → IfSome disk (λ d. Tells (Rest d) (λ pattern outcome. (pattern ≡ None) × Told d outcome) (Err stops.OutOfMemory))
+no_told Rest Told None = tt
+no_told Rest Told (Some d) = tt
+
+-- what was done is kept where memory ran out after it
+memory_after : (found : Declared) (Rest : Disk → EvalFault → Type 0) (Told : Disk → Result Planned Refusal → Type 0) (from to : Outside) (asked : Result Made Stop)
+    → Does found Rest Told from to asked → Does found Rest Told from to (Err stops.OutOfMemory)
+memory_after found Rest Told from to asked does = record {
+  told = no_told Rest Told from.disk;
+  whole = tt;
+  apart = tt;
+  sets = tt;
+  disk = does.disk;
+  children = does.children;
+  keeps = does.keeps;
+  counts = tt;
+}
+
+-- what a request came to is handed on
+pub asks_handed : (words : List Text) (found : Declared) (worlds : Worlds) (from to : Outside) (asked result : Result Made Stop)
+    → (result ≡ asked) ⊎ (result ≡ Err stops.OutOfMemory) → Asks words found worlds from to asked → Asks words found worlds from to result
+asks_handed words found worlds from to asked result (inl is) asks = subst (Asks words found worlds from to) (sym is) asks
+asks_handed words found worlds from to asked result (inr is) asks =
+    subst (Asks words found worlds from to) (sym is) (memory_after found (IsRefusedFor words found worlds) (λ disk. IsAsked (project_of disk worlds found) words) from to asked asks)
+
+-- a stop has no tests
+pub handed_stop : (found : Declared) (stop : Stop) (result : Result Made Stop) (tests : List (List ℕ × ℕ)) → result ≡ Err stop → tests ≡ [] → HandsOn found (Err stop) result tests
+handed_stop found stop result tests is none = record { same = inl is; tests_are = subst (λ r. AreAsked found r tests) (sym is) none }
+
+-- a plan is handed on with its tests
+pub handed_plan : (found : Declared) (made : Made) (tests : List (List ℕ × ℕ)) → tests ≡ requested found (seen made).rows (seen made).steps (seen made).wanted → HandsOn found (Ok made) (Ok made) tests
+handed_plan found made tests are = record { same = inl refl; tests_are = are }
+
+-- or memory ran out at them
+pub handed_memory : (found : Declared) (made : Made) (result : Result Made Stop) (tests : List (List ℕ × ℕ)) → result ≡ Err stops.OutOfMemory → tests ≡ [] → HandsOn found (Ok made) result tests
+handed_memory found made result tests is none = record { same = inr is; tests_are = subst (λ r. AreAsked found r tests) (sym is) none }
 
 -- ---- generation
 
@@ -110,13 +145,14 @@ module _ (found : Declared) (worlds : Worlds) (request : Request) (roots : List 
           (told (answers_in (setting_of d) found.places worlds) (ap (told_in found.places worlds) e)))
           (no_refusal (Refuses d worlds found request.sets request.targets) generated not_refused)
 
-  apart_over : (made : Result Made (GenFault EvalFault)) → IfOk made (λ p. Apart p.plan.steps p.plan.roots) → IfOk (planned_or_stop made) (λ p. Apart p.plan.steps p.plan.roots)
-  apart_over (Ok p) h = h
-  apart_over (Err fault) h = tt
+  -- what holds of the plan that was generated
+  ok_over : (Holds : Made → Type 0) (made : Result Made (GenFault EvalFault)) → IfOk made Holds → IfOk (planned_or_stop made) Holds
+  ok_over Holds (Ok p) h = h
+  ok_over Holds (Err fault) h = tt
 
-  no_apart : (result : Result Made Stop) → IfOk result (λ made. ⊥) → IfOk result (λ p. Apart p.plan.steps p.plan.roots)
-  no_apart (Ok made) h = absurd h
-  no_apart (Err stop) h = tt
+  no_plan_so : (Holds : Made → Type 0) (result : Result Made Stop) → IfOk result (λ made. ⊥) → IfOk result Holds
+  no_plan_so Holds (Ok made) h = absurd h
+  no_plan_so Holds (Err stop) h = tt
 
   -- the count stays where a pattern was refused
   same_first : (given : Result Made (GenFault EvalFault)) → is_refused_answer given ≡ true → IsCounted (is_eval is_host_fault) (is_memory is_out_of_memory) from.faults mid.faults given → mid.faults ≡ from.faults
@@ -136,12 +172,12 @@ module _ (found : Declared) (worlds : Worlds) (request : Request) (roots : List 
 
   -- the answer of a request, by what generation gave with these files and counts, and by what came of it
   pub settled_over : ((told : Answers EvalFault) → told_in found.places worlds from.disk ≡ Some told → IsPlanned (loaded_of found roots told) is_host_fault is_out_of_memory request generated)
-      → roots ≡ worlds.now.roots → IfOk generated (λ p. Apart p.plan.steps p.plan.roots) → IfErr generated (IsKnown HoldsNoMemory)
+      → roots ≡ worlds.now.roots → IfOk generated (λ p. Apart p.plan.steps p.plan.roots) → IfOk generated (λ p. HaveSets found (seen p).rows) → IfErr generated (IsKnown HoldsNoMemory)
       → IsCounted (is_eval is_host_fault) (is_memory is_out_of_memory) from.faults mid.faults generated → mid.disk ≡ from.disk
       → (result : Result Made Stop) → Settles found worlds request.sets request.targets generated mid to result
       → to.disk ≡ from.disk → to.children ≡ from.children → Keeps from to
       → PlansRequest found worlds request.sets request.targets from to result
-  settled_over told same apart known counted between result settles disk children keeps = go (is_refused_answer generated) refl settles
+  settled_over told same apart sets known counted between result settles disk children keeps = go (is_refused_answer generated) refl settles
     where
       go : (b : Bool) → is_refused_answer generated ≡ b → SettlesBy found worlds request.sets request.targets b generated mid to result → PlansRequest found worlds request.sets request.targets from to result
       go true is h =
@@ -149,7 +185,8 @@ module _ (found : Declared) (worlds : Worlds) (request : Request) (roots : List 
           record {
             told = told_map result again.told;
             whole = again.whole;
-            apart = no_apart result again.no_plan;
+            apart = no_plan_so (λ p. Apart p.plan.steps p.plan.roots) result again.no_plan;
+            sets = no_plan_so (λ p. HaveSets found (seen p).rows) result again.no_plan;
             disk = disk;
             children = children;
             keeps = keeps;
@@ -160,7 +197,8 @@ module _ (found : Declared) (worlds : Worlds) (request : Request) (roots : List 
           (record {
             told = told_over told same is;
             whole = generated_whole generated known;
-            apart = apart_over generated apart;
+            apart = ok_over (λ p. Apart p.plan.steps p.plan.roots) generated apart;
+            sets = ok_over (λ p. HaveSets found (seen p).rows) generated sets;
             disk = disk;
             children = children;
             keeps = keeps;
@@ -187,6 +225,7 @@ module _ (words : List Text) (found : Declared) (worlds : Worlds) (from to : Out
     told = go from.disk (subst (λ ss. IsTold result ss (target_words found.registry words) from.disk) sets_are (subst (λ ts. IsTold result sets ts from.disk) targets_are plans.told));
     whole = plans.whole;
     apart = plans.apart;
+    sets = plans.sets;
     disk = plans.disk;
     children = plans.children;
     keeps = plans.keeps;
@@ -203,7 +242,7 @@ module _ (words : List Text) (found : Declared) (worlds : Worlds) (from to : Out
   pub asks_refused : (fault : RequestFault) → IsBy (request_fault found.registry words) fault
       → Asks words found worlds from from (Err (stop_of_request fault))
   asks_refused fault cause =
-      nothing_done (IsRefusedFor words found worlds) (λ disk. IsAsked (project_of disk worlds found) words) from (stop_of_request fault) (go from.disk) (asked_whole fault) (asked_counts fault from)
+      nothing_done found (IsRefusedFor words found worlds) (λ disk. IsAsked (project_of disk worlds found) words) from (stop_of_request fault) (go from.disk) (asked_whole fault) (asked_counts fault from)
     where
       go : (disk : Option Disk) → IfSome disk (λ d. Tells (IsRefusedFor words found worlds d) (λ pattern outcome. (pattern ≡ None) × IsAsked (project_of d worlds found) words outcome) (Err (stop_of_request fault)))
       go None = tt

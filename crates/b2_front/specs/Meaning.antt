@@ -23,6 +23,9 @@ use Rattle.b2_loaded.specs.Questions.{with_fault, IsRefused}
 use Rattle.b2_loaded.specs.declared.question.Question.{Question}
 use Rattle.b2_loaded.specs.Seen.{setting_of}
 use Rattle.b2_loaded.specs.Worlds.{answers_in}
+use Rattle.b2_testing.specs.Adding.{with_tests}
+use Rattle.b2_testing.specs.Readying.{IsEquippedFor}
+use Rattle.b2_testing.specs.Requested.{requested}
 
 -- why there is no plan: a refusal of the load, of the request, or of generation
 pub data Refusal : Type 0 where
@@ -73,32 +76,44 @@ pub record Refuses (disk : Disk) (worlds : Worlds) (found : Declared) (sets : Li
   pub of_text : IsOfText fault why
   pub plans : Plans (project_with disk worlds found question fault) sets targets (Err why)
 
--- so it is after these lines of ECHO, for words that are a request
+-- so it is after these lines of ECHO, for words that are a request, over the project with its tests
 pub record IsRefusedInGeneration (disk : Disk) (words lines : List Text) (fault : EvalFault) : Type 0 where
   pub walk : Walk
   pub found : Declared
+  pub worlds : Worlds
   pub loads : Loads (load_setting disk None) load_turns words (loaded walk found)
+  pub equipped : IsEquippedFor found.tests walk.state.worlds worlds
   pub asked : request_fault found.registry words ≡ None
-  pub refuses : Refuses disk walk.state.worlds found (request_sets found.registry words) (target_words found.registry words) fault
+  pub refuses : Refuses disk worlds (with_tests found) (request_sets found.registry words) (target_words found.registry words) fault
   pub echoes : lines ≡ walk.state.kept.echoes
 
+-- The tests that a request with this plan asks for, in the order of its rows, each with the step that makes its marker.
+pub record AsksTests (disk : Disk) (words : List Text) (plan : Planned) (tests : List (List ℕ × ℕ)) : Type 0 where
+  pub walk : Walk
+  pub found : Declared
+  pub loads : Loads (load_setting disk None) load_turns words (loaded walk found)
+  pub are : tests ≡ requested found plan.rows plan.steps plan.wanted
+
 -- The files of a disk and the free words of a command come to lines of ECHO, and to a plan or the first refusal: that of the load, to
--- which all words are given; else that of the request, which is read by the features that were loaded; else that of generation.
--- `refused` is the call of a project file, by the turns left in it, of which a pattern is refused though it reads as one, if there is
--- such a call.
+-- which all words are given; else that of the request, which is read by the features that were loaded; else that of generation. The
+-- main targets of the tests stand behind those that were loaded; where there is a test, the build text of the rules that make markers
+-- has run in the worlds that the load left. `refused` is the call of a project file, by the turns left in it, of which a pattern is
+-- refused though it reads as one, if there is such a call.
 module _ (disk : Disk) (refused : Option (ℕ × Text)) (words : List Text) where
   abbrev pub Ends : Ending → Type 0
   Ends = Loads (load_setting disk refused) load_turns words
 
-  -- generation over what was loaded
-  abbrev pub Generates : Walk → Declared → Result Planned (Fault EvalFault) → Type 0
-  Generates w found = Plans (project_of disk w.state.worlds found) (request_sets found.registry words) (target_words found.registry words)
+  -- generation over what was loaded with its tests, in these worlds
+  abbrev pub Generates : Worlds → Declared → Result Planned (Fault EvalFault) → Type 0
+  Generates worlds found = Plans (project_of disk worlds (with_tests found)) (request_sets found.registry words) (target_words found.registry words)
 
   pub data Means : List Text → Result Planned Refusal → Type 0 where
     not_loaded : (why : LoadRefusal) (s : State Kept) → Ends (fails why s) → Means s.kept.echoes (Err (of_load why))
     not_asked : (w : Walk) (found : Declared) (why : RequestFault) → Ends (loaded w found) → request_fault found.registry words ≡ Some why →
         Means w.state.kept.echoes (Err (of_request why))
-    not_planned : (w : Walk) (found : Declared) (why : Fault EvalFault) → Ends (loaded w found) → request_fault found.registry words ≡ None →
-        Generates w found (Err why) → Means w.state.kept.echoes (Err (of_generation why))
-    planned : (w : Walk) (found : Declared) (plan : Planned) → Ends (loaded w found) → request_fault found.registry words ≡ None →
-        Generates w found (Ok plan) → Means w.state.kept.echoes (Ok plan)
+    not_planned : (w : Walk) (found : Declared) (worlds : Worlds) (why : Fault EvalFault) → Ends (loaded w found) →
+        IsEquippedFor found.tests w.state.worlds worlds → request_fault found.registry words ≡ None →
+        Generates worlds found (Err why) → Means w.state.kept.echoes (Err (of_generation why))
+    planned : (w : Walk) (found : Declared) (worlds : Worlds) (plan : Planned) → Ends (loaded w found) →
+        IsEquippedFor found.tests w.state.worlds worlds → request_fault found.registry words ≡ None →
+        Generates worlds found (Ok plan) → Means w.state.kept.echoes (Ok plan)

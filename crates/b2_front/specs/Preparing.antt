@@ -1,5 +1,5 @@
 -- What is promised of the way from words to a plan.
-use Rattle.std.specs.Prelude.{◌≡◌, ℕ, List, Option, Some, None, Result, Ok, Err}
+use Rattle.std.specs.Prelude.{◌≡◌, ℕ, List, [], Option, Some, None, Result, Ok, Err}
 use Rattle.std.specs.Option.{option_map}
 use Rattle.b2_host.specs.Disks.{Disk}
 use Rattle.b2_base.specs.Counts.{Rose}
@@ -19,7 +19,7 @@ use Rattle.b2_front.specs.declared.refusal.Refusal.{Refusal as Why}
 use Rattle.b2_front.specs.declared.refusal.Refusal.TheVariants as refusals
 use Rattle.b2_front.specs.declared.refusal.Stop.{Stop}
 use Rattle.b2_front.specs.declared.refusal.Stop.TheVariants.{Refused, HostInLoad, Host, OutOfMemory}
-use Rattle.b2_front.specs.Meaning.{Refusal, HasLoaded, BeginLoad, IsRefusedInGeneration, Means}
+use Rattle.b2_front.specs.Meaning.{Refusal, HasLoaded, BeginLoad, IsRefusedInGeneration, AsksTests, Means}
 use Rattle.b2_front.specs.Refusals.{refusal_of, pattern_of, IsWholeRefusal}
 
 -- `Holds` of a refusal as data; `Rest` where there is none.
@@ -64,6 +64,11 @@ call_of left = option_map (λ pattern. (left, pattern))
 -- The answer is what the files and the words come to, or the fault of a pattern that is refused in generation.
 abbrev pub IsPrepared : Disk → List Text → List Text → Result Made Stop → Type 0
 IsPrepared disk words lines = Tells (IsRefusedInGeneration disk words lines) (λ pattern result. (left : ℕ) × Means disk (call_of left pattern) words lines result)
+
+-- These are the tests that the plan asks for; none where there is no plan.
+abbrev pub TestsTold : Disk → List Text → Result Made Stop → List (List ℕ × ℕ) → Type 0
+TestsTold disk words (Ok plan) tests = AsksTests disk words (seen plan) tests
+TestsTold disk words (Err stop) tests = tests ≡ []
 
 -- Where the host failed in the load, the lines begin those of the whole load; where it failed in generation, they are all of them.
 abbrev pub LinesTold : Disk → List Text → List Text → Result Made Stop → Type 0

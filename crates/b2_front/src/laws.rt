@@ -1,5 +1,5 @@
-//! A law of what files and words come to.
-ghost use Rattle.b2_front.specs.Laws.{OneMeaning};
+//! Laws of what files and words come to.
+ghost use Rattle.b2_front.specs.Laws.{OneMeaning, OneAsking, NoneAsked};
 
 use b2_generate::laws::one_plan;
 use b2_project::laws::one_ending;
@@ -11,4 +11,12 @@ pub fn one_meaning()
 {
     one_ending();
     one_plan::<EvalFault>();
+}
+
+/// A plan that they come to asks for its tests in one way, and for none where the load declared none.
+pub fn one_asking()
+    ensures one { OneAsking }
+    ensures none { NoneAsked }
+{
+    one_ending();
 }

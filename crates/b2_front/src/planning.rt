@@ -3,7 +3,9 @@ ghost use Rattle.std.specs.Prelude.{IfOk, codes};
 ghost use Rattle.std.specs.List.{Contains};
 ghost use Rattle.b2_plan.specs.Plans.{Apart};
 ghost use Rattle.b2_metatargets.specs.Numbered.{IsNumbered};
+ghost use Rattle.b2_generate.specs.Answers.{HaveSets};
 ghost use Rattle.b2_generate.specs.Told.{Leaves};
+ghost use Rattle.b2_planning.specs.Plans.{seen};
 ghost use Rattle.b2_front.specs.Parts.{IsPlanIn};
 
 use b2_base::fault::OutOfMemory;
@@ -27,6 +29,7 @@ pub(crate) fn plan_in<E: Evaluate + Drop>(
     requires bin { IfOk roots (λ rs. Contains rs (codes "bin")) }
     ensures told { IsPlanIn E.answers E.is_host_fault E.is_out_of_memory declared.now roots request.now evaluator result.result }
     ensures apart { IfOk result.result (λ p. Apart p.plan.steps p.plan.roots) }
+    ensures sets { IfOk result.result (λ p. HaveSets declared.now (seen p).rows) }
     ensures leaves { Leaves E.answers E.kept E.faults E.is_host_fault E.is_out_of_memory E.CanFault evaluator result.evaluator result.result }
 {
     match roots {

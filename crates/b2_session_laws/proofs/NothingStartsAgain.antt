@@ -1,6 +1,7 @@
 -- What the second of two calls does not start again.
 use Rattle.std.proofs.Common.{◌≡◌, List, [], ◌∷◌, ◌++◌, inl, inr, refl, sym, ap, subst, ◌∙◌}
 use Rattle.b2_host.specs.declared.children.ChildEvent.{ChildEvent}
+use Rattle.b2_host.specs.Disks.{Disk}
 use Rattle.b2_host.specs.Outside.{Outside}
 use Rattle.b2_runs.specs.Afterwards.{IsMadeEachTime}
 use Rattle.b2_runs.specs.LogFiles.{IsTrueOn}
@@ -16,19 +17,25 @@ use Rattle.b2_drain.specs.Drains.{Made}
 use Rattle.b2_words.specs.Words.{Word}
 use Rattle.b2_top.specs.declared.answer.Answer.TheVariants as answers
 use Rattle.b2_top.specs.Builds.{MayAnswer}
-use Rattle.b2_top.specs.Plans.{TellsApart, making_by}
+use Rattle.b2_top.specs.LastLines.{IsUnwritten}
+use Rattle.b2_top.specs.Plans.{HasPlan, TellsApart, making_by}
 use Rattle.b2_sessions.specs.Calls.{update_of}
 use Rattle.b2_session_laws.specs.Neighbours.{AreNeighbours, AreOfOnePlan, StartsNoMore, StartsNoneAgain, NextIsFresh, NoWorkIsLost, StopLosesNoWork}
 
+-- Ok is no answer of an update whose verdicts were not written
+not_unwritten : IsUnwritten answers.Ok → ⊥
+not_unwritten (inl e) = cc
+not_unwritten (inr e) = cc
+
 -- only an update that went well gives Ok
-ended_well : (ended : UpdateAnswer) → MayAnswer ended answers.Ok → ended ≡ all_went
-ended_well all_went may = refl
-ended_well (some_failed lists) may = absurd may
-ended_well (step_cycle list) may = elim may [ inl e ↦ absurd cc | inr more ↦ elim more [ inl e ↦ absurd cc | inr e ↦ absurd cc ] ]
-ended_well (too_big path size) may = elim may [ inl e ↦ absurd cc | inr more ↦ elim more [ inl e ↦ absurd cc | inr e ↦ absurd cc ] ]
-ended_well host_fault may = elim may [ inl e ↦ absurd cc | inr e ↦ absurd cc ]
-ended_well sink_fault may = absurd cc
-ended_well out_of_memory may = absurd cc
+ended_well : {words : List Word} {disk : Disk} (plan : HasPlan words disk) (ended : UpdateAnswer) → MayAnswer plan ended answers.Ok → ended ≡ all_went
+ended_well plan all_went may = refl
+ended_well plan (some_failed lists) (tests, asks, lacks) = absurd (not_unwritten lacks.unwritten)
+ended_well plan (step_cycle list) may = elim may [ inl e ↦ absurd cc | inr more ↦ elim more [ inl e ↦ absurd cc | inr e ↦ absurd cc ] ]
+ended_well plan (too_big path size) may = elim may [ inl e ↦ absurd cc | inr more ↦ elim more [ inl e ↦ absurd cc | inr e ↦ absurd cc ] ]
+ended_well plan host_fault may = elim may [ inl e ↦ absurd cc | inr e ↦ absurd cc ]
+ended_well plan sink_fault may = absurd cc
+ended_well plan out_of_memory may = absurd cc
 
 -- what follows the same list is the same
 pub same_rest : {X : Type 0} (old xs ys : List X) → old ++ xs ≡ old ++ ys → xs ≡ ys
@@ -55,7 +62,7 @@ module _ (made : Made) (words again : List Word) (n : AreNeighbours made words a
   no_more reopened is later i step path events makes once c =
       let begun : Outside = record n.before.host { reads = p.come.reads } in
       let resumed : Outside = record n.reopened.host { reads = p.next.reads } in
-      let well : p.come.ended ≡ all_went = ended_well p.come.ended (subst (MayAnswer p.come.ended) is p.come.may) in
+      let well : p.come.ended ≡ all_went = ended_well p.come.plan p.come.ended (subst (MayAnswer p.come.plan p.come.ended) is p.come.may) in
       subst (λ (ended : UpdateAnswer). (x : HostUpdated first_update ended begun n.between.host) → IsTrueOn (making first_update) x.old → (IsMadeEachTime (record first_update.build { folder = x.old.now }) path → ⊥) → ⊥) (sym well)
       (λ x t not_each. none_starts_after_all_went first_update next_update p.next.ended begun n.between.host resumed n.after.host later i step path x (ap (λ (m : Moment). m.host.disk) reopened) p.next.updated p.same t distinct p.fits events makes not_each c)
       p.come.updated log_true once

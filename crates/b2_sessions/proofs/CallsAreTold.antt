@@ -60,8 +60,8 @@ module _ (made : Made) (words : List Word) (before after : Outside) (disk later 
     pub true_log : TellsApart words later.past → IsTrueOn (making_by made) disk → IsTrueOn (making_by made) later
 
   -- an update has come
-  come : IsSeen → (answer : Answer) (ended : UpdateAnswer) → MayAnswer ended answer → HasBuilt made words before after disk later ended → HasCome made words answer before after disk
-  come seen answer ended may built = record {
+  come : IsSeen → (answer : Answer) (ended : UpdateAnswer) (built : HasBuilt made words before after disk later ended) → MayAnswer built.plan ended answer → HasCome made words answer before after disk
+  come seen answer ended built may = record {
     plan = built.plan;
     ended = ended;
     may = may;
@@ -90,21 +90,21 @@ module _ (made : Made) (words : List Word) (before after : Outside) (disk later 
   by_refusal seen (faults.Load fault) (still, cause) = inl still
   by_refusal seen (faults.Request fault) (still, cause) = inl still
   by_refusal seen (faults.Gen fault) (still, cause) = inl still
-  by_refusal seen (faults.StepCycle list) built = inr (come seen (answers.Refused (faults.StepCycle list)) (step_cycle list) (inl refl) built)
-  by_refusal seen (faults.TooBig path size) built = inr (come seen (answers.Refused (faults.TooBig path size)) (too_big path size) (inl refl) built)
+  by_refusal seen (faults.StepCycle list) built = inr (come seen (answers.Refused (faults.StepCycle list)) (step_cycle list) built (inl refl))
+  by_refusal seen (faults.TooBig path size) built = inr (come seen (answers.Refused (faults.TooBig path size)) (too_big path size) built (inl refl))
 
   -- nothing was done, or an update has come
   by_answer : IsSeen → (answer : Answer) → HappenedBy made words before after disk later answer → StaysStill before after ⊎ HasCome made words answer before after disk
-  by_answer seen answers.Ok built = inr (come seen answers.Ok all_went refl built)
-  by_answer seen (answers.Failed lists) built = inr (come seen (answers.Failed lists) (some_failed (lists_of lists)) refl built)
+  by_answer seen answers.Ok built = inr (come seen answers.Ok all_went built (inl refl))
+  by_answer seen (answers.Failed lists) built = inr (come seen (answers.Failed lists) (some_failed (lists_of lists)) built refl)
   by_answer seen (answers.Refused fault) refused = by_refusal seen fault refused
   by_answer seen answers.Usage (still, none) = inl still
   by_answer seen answers.HostFault (inl still) = inl still
-  by_answer seen answers.HostFault (inr built) = inr (come seen answers.HostFault host_fault (inl refl) built)
+  by_answer seen answers.HostFault (inr built) = inr (come seen answers.HostFault host_fault built (inl refl))
   by_answer seen answers.OutOfMemory (inl still) = inl still
-  by_answer seen answers.OutOfMemory (inr (ended, may, built)) = inr (come seen answers.OutOfMemory ended may built)
+  by_answer seen answers.OutOfMemory (inr (ended, built, may)) = inr (come seen answers.OutOfMemory ended built may)
   by_answer seen answers.SinkFault (inl still) = inl still
-  by_answer seen answers.SinkFault (inr (ended, may, built)) = inr (come seen answers.SinkFault ended may built)
+  by_answer seen answers.SinkFault (inr (ended, built, may)) = inr (come seen answers.SinkFault ended built may)
 
 module _ (made : Made) (words : List Word) (answer : Answer) (before after : Moment) where
   -- the same of files that may be visible or not

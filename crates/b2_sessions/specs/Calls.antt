@@ -25,7 +25,7 @@ update_of {words} {disk} made plan = update_for made plan []
 pub record HasCome (made : Made) (words : List Word) (answer : Answer) (before after : Outside) (disk : Disk) : Type 0 where
   pub plan : HasPlan words disk
   pub ended : UpdateAnswer
-  pub may : MayAnswer ended answer
+  pub may : MayAnswer plan ended answer
   pub reads : Option (List Read)
   pub updated : HostUpdated (update_of made plan) ended (record before { reads = reads }) after
 

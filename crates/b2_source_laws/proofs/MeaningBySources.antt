@@ -29,11 +29,14 @@ use Rattle.b2_loaded.specs.Readings.{reads}
 use Rattle.b2_loaded.specs.Seen.{setting_of}
 use Rattle.b2_loaded.specs.Worlds.{answers_in}
 use Rattle.b2_loaded.proofs.EvaluationsGiveWhatIsTold.{right as rightly_seen}
+use Rattle.b2_testing.specs.Adding.{with_tests}
+use Rattle.b2_testing.specs.Readying.{IsEquippedFor}
+use Rattle.jam_scope.specs.Worlds.{Worlds}
 use Rattle.b2_front.specs.Meaning.{Refusal, of_load, of_request, of_generation, load_turns, load_setting, project_of, Means}
 use Rattle.b2_front.specs.Meaning.{not_loaded, not_asked, not_planned, planned}
 use Rattle.jam_source_laws.specs.Sources.{is_hidden, ShowSame, BytesAgree, AreRoots}
 use Rattle.jam_source_laws.proofs.RightSettingsShowSame.{files_show_same}
-use Rattle.b2_source_laws.proofs.RootsStayInWalks.{load_settles}
+use Rattle.b2_source_laws.proofs.RootsStayInWalks.{load_settles, equipped_keeps}
 use Rattle.b2_source_laws.proofs.WalksBySources.{loads_agree}
 use Rattle.b2_source_laws.proofs.AnswersBySources.{answers_same}
 
@@ -76,21 +79,23 @@ module _ (disk other : Disk) (refused : Option (ℕ × Text)) (words : List Text
   other_loading : IsSetting (load_setting other refused)
   other_loading = record { sees = (rightly_seen other also).sees; reads = (rightly_seen other also).reads }
 
-  made_so : (w : Walk) (found : Declared) (plan : Planned) → BytesAgree w.state.worlds.now.roots disk.now other.now → Loads (load_setting disk refused) load_turns words (loaded w found)
-      → request_fault found.registry words ≡ None → Plans (project_of disk w.state.worlds found) (request_sets found.registry words) (target_words found.registry words) (Ok plan)
-      → Means other refused words w.state.kept.echoes (Ok plan)
-  made_so w found plan agree loads asked plans =
+  made_so : (w : Walk) (found : Declared) (worlds : Worlds) (plan : Planned) → BytesAgree worlds.now.roots disk.now other.now → Loads (load_setting disk refused) load_turns words (loaded w found)
+      → IsEquippedFor found.tests w.state.worlds worlds → request_fault found.registry words ≡ None
+      → Plans (project_of disk worlds (with_tests found)) (request_sets found.registry words) (target_words found.registry words) (Ok plan) → Means other refused words w.state.kept.echoes (Ok plan)
+  made_so w found worlds plan agree loads equips asked plans =
       let roots : List Text = w.state.worlds.now.roots in
       let settled = load_settles (load_setting disk refused) refl load_turns words w found loads in
+      let later = (equipped_keeps found.tests w.state.worlds worlds equips).0 settled.0 in
+      let agree_there : BytesAgree roots disk.now other.now = subst (λ rs. BytesAgree rs disk.now other.now) later.1 agree in
       let normal : All IsNormal roots = All-from_recursion IsNormal roots (normals roots settled.1) in
-      let shown : ShowSame roots (load_setting disk refused) (load_setting other refused) = files_show_same roots (load_setting disk refused) other.now names reading normal refl loading other_loading agree in
-      let told : ShowSame roots (setting_of disk) (setting_of other) = files_show_same roots (setting_of disk) other.now names reading normal refl (rightly_seen disk consistent) (rightly_seen other also) agree in
+      let shown : ShowSame roots (load_setting disk refused) (load_setting other refused) = files_show_same roots (load_setting disk refused) other.now names reading normal refl loading other_loading agree_there in
+      let told : ShowSame roots (setting_of disk) (setting_of other) = files_show_same roots (setting_of disk) other.now names reading normal refl (rightly_seen disk consistent) (rightly_seen other also) agree_there in
       let again : Loads (load_setting other refused) load_turns words (loaded w found) =
       loads_agree roots (load_setting disk refused) other.now names reading refl shown settled.1 load_turns words (loaded w found) loads (λ frozen. refl) in
-      let same : answers_in (setting_of disk) found.places w.state.worlds ≡ answers_in (setting_of other) found.places w.state.worlds =
-      answers_same roots (setting_of disk) other.now names reading refl told found.places w.state.worlds settled.0 refl in
-      let project : Answers EvalFault → Loaded EvalFault = λ answers. record { declared = found; roots = roots; answers = answers } in
-      planned w found plan again asked (subst (λ answers. Plans (project answers) (request_sets found.registry words) (target_words found.registry words) (Ok plan)) same plans)
+      let same : answers_in (setting_of disk) found.places worlds ≡ answers_in (setting_of other) found.places worlds =
+      answers_same roots (setting_of disk) other.now names reading refl told found.places worlds later.0 later.1 in
+      let project : Answers EvalFault → Loaded EvalFault = λ answers. record { declared = with_tests found; roots = worlds.now.roots; answers = answers } in
+      planned w found worlds plan again equips asked (subst (λ answers. Plans (project answers) (request_sets found.registry words) (target_words found.registry words) (Ok plan)) same plans)
 
   same_bytes : (roots : List Text) (plan : Planned) → plan.roots ≡ roots → ((path : Text) → (IsInRoots plan.roots path → ⊥) → bytes_at other.now path ≡ bytes_at disk.now path) → BytesAgree roots disk.now other.now
   same_bytes roots plan is agree = λ path outside. sym (agree path (λ inside. outside_hidden roots path outside (subst (λ rs. IsInRoots rs path) is inside)))
@@ -99,13 +104,13 @@ module _ (disk other : Disk) (refused : Option (ℕ × Text)) (words : List Text
       → ((path : Text) → (IsInRoots plan.roots path → ⊥) → bytes_at other.now path ≡ bytes_at disk.now path) → Means other refused words lines (Ok plan)
   moves lines result plan (not_loaded why s ends) is agree = let clash : Err (of_load why) ≡ Ok plan = is in cc
   moves lines result plan (not_asked w found why ends asked) is agree = let clash : Err (of_request why) ≡ Ok plan = is in cc
-  moves lines result plan (not_planned w found why ends asked plans) is agree = let clash : Err (of_generation why) ≡ Ok plan = is in cc
-  moves lines result plan (planned w found made ends asked plans) is agree =
+  moves lines result plan (not_planned w found worlds why ends equips asked plans) is agree = let clash : Err (of_generation why) ≡ Ok plan = is in cc
+  moves lines result plan (planned w found worlds made ends equips asked plans) is agree =
       let one : made ≡ plan = cc in
-      let plans' = subst (λ p. Plans (project_of disk w.state.worlds found) (request_sets found.registry words) (target_words found.registry words) (Ok p)) one plans in
-      made_so w found plan
-      (same_bytes w.state.worlds.now.roots plan (plan_roots (project_of disk w.state.worlds found) (request_sets found.registry words) (target_words found.registry words) plan plans') agree)
-      ends asked plans'
+      let plans' = subst (λ p. Plans (project_of disk worlds (with_tests found)) (request_sets found.registry words) (target_words found.registry words) (Ok p)) one plans in
+      made_so w found worlds plan
+      (same_bytes worlds.now.roots plan (plan_roots (project_of disk worlds (with_tests found)) (request_sets found.registry words) (target_words found.registry words) plan plans') agree)
+      ends equips asked plans'
 
 pub means_by_sources : (disk other : Disk) (refused : Option (ℕ × Text)) (words lines : List Text) (plan : Planned) → IsConsistent disk → IsConsistent other
     → ((path : Text) → (IsInRoots plan.roots path → ⊥) → bytes_at other.now path ≡ bytes_at disk.now path)

@@ -15,10 +15,11 @@ use Rattle.b2_walk.specs.Walks.{Walk, declaring, Course, goes_on, refused}
 use Rattle.b2_project.specs.Loads.{loaded, fails, with_declared, then_declare, Loads}
 use Rattle.b2_generate.specs.Planning.{Planned}
 use Rattle.b2_generation_laws.specs.Laws.{PlansAreApart, IdsAreDistinct}
+use Rattle.b2_testing.specs.Adding.{with_tests}
 use Rattle.b2_front.specs.Meaning.{Refusal, of_load, of_request, of_generation, load_turns, load_setting, project_of, Means}
 use Rattle.b2_front.specs.Meaning.{not_loaded, not_asked, not_planned, planned}
 use Rattle.b2_source_laws.specs.Laws.{MeaningIsApart}
-use Rattle.b2_source_laws.proofs.RootsStayInWalks.{load_settles}
+use Rattle.b2_source_laws.proofs.RootsStayInWalks.{load_settles, bin_stays}
 
 -- what a load has declared is what its calls declare
 one_walk : (w other : Walk) (found made : Declared) → loaded w found ≡ loaded other made → (w ≡ other) × (found ≡ made)
@@ -41,13 +42,14 @@ module _ (distinct : IdsAreDistinct) (apart : PlansAreApart EvalFault) (disk : D
   of_means : (lines : List Text) (result : Result Planned Refusal) (plan : Planned) → Means disk refusing words lines result → result ≡ Ok plan → Apart plan.steps plan.roots
   of_means lines result plan (not_loaded why s ends) is = let clash : Err (of_load why) ≡ Ok plan = is in cc
   of_means lines result plan (not_asked w found why ends asked) is = let clash : Err (of_request why) ≡ Ok plan = is in cc
-  of_means lines result plan (not_planned w found why ends asked plans) is = let clash : Err (of_generation why) ≡ Ok plan = is in cc
-  of_means lines result plan (planned w found made ends asked plans) is =
+  of_means lines result plan (not_planned w found worlds why ends equips asked plans) is = let clash : Err (of_generation why) ≡ Ok plan = is in cc
+  of_means lines result plan (planned w found worlds made ends equips asked plans) is =
       let one : made ≡ plan = cc in
       let settled = load_settles (load_setting disk refusing) refl load_turns words w found ends in
+      let kept = bin_stays found.tests w.state.worlds worlds equips settled.2 in
       let ids = distinct w.visits w.calls found (load_declares (load_setting disk refusing) load_turns words w found ends) in
       subst (λ (p : Planned). Apart p.steps p.roots) one
-      (apart (project_of disk w.state.worlds found) (request_sets found.registry words) (target_words found.registry words) made settled.2 ids plans)
+      (apart (project_of disk worlds (with_tests found)) (request_sets found.registry words) (target_words found.registry words) made kept ids plans)
 
 pub meaning_is_apart : IdsAreDistinct → PlansAreApart EvalFault → MeaningIsApart
 meaning_is_apart distinct apart disk refusing words lines plan means = of_means distinct apart disk refusing words lines (Ok plan) plan means refl

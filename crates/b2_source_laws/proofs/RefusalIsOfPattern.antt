@@ -30,7 +30,6 @@ use Rattle.b2_front.specs.Refusals.{IsWholeLoad, IsWholeRequest, IsWholeChoice, 
 use Rattle.b2_front.specs.declared.refusal.Refusal.{Refusal}
 use Rattle.b2_front.specs.declared.refusal.Refusal.TheVariants as refusals
 use Rattle.b2_refusals.specs.Wholes.{IsLoadRefusal, IsChoiceRefusal, IsMakingRefusal, IsGenRefusal, IsWhole}
-use Rattle.b2_refusals.specs.declared.fault.Fault.TheVariants as faults
 use Rattle.b2_words.specs.Words.{Word}
 use Rattle.b2_top.specs.Causes.{HasNoPlan}
 use Rattle.b2_top.specs.Plans.{HasPlan}

@@ -5,6 +5,7 @@ use Rattle.std.specs.List.{Contains}
 use Rattle.b2_base.specs.Segments.{here}
 use Rattle.b2_base.proofs.NormalMakesNormalForms.{is_normal_normal}
 use Rattle.b2_metatargets.specs.declared.fault.DeclaringFault.{DeclaringFault}
+use Rattle.b2_metatargets.specs.declared.place.TestCall.{TestCall}
 use Rattle.b2_metatargets.specs.declared.visit.Visit.{Visit}
 use Rattle.b2_metatargets.specs.declared.visit.Call.{Call}
 use Rattle.b2_metatargets.specs.declared.whole.Declared.{Declared}
@@ -13,7 +14,7 @@ use Rattle.b2_metatargets.specs.Declaring.{declared}
 use Rattle.jam_grammar.specs.Trees.{StmtTrees}
 use Rattle.jam_journal.specs.Tables.{Text}
 use Rattle.jam_journal.specs.Scopes.{enter}
-use Rattle.jam_scope.specs.Worlds.{World}
+use Rattle.jam_scope.specs.Worlds.{World, Worlds}
 use Rattle.jam_scope.specs.Changes.{freeze_roots}
 use Rattle.jam_scope.specs.Texts.{first_roots}
 use Rattle.jam_eval.specs.Kept.{Ends}
@@ -27,6 +28,7 @@ use Rattle.jam_natives.specs.Rows.{jam_meaning}
 use Rattle.b2_walk.specs.Directories.{way_to, project_files, seen, first_file, is_visited, visit_of, module_above}
 use Rattle.b2_walk.specs.Walks.{Walk, no_walk, Refusal, no_jamroot, no_jamfile, Course, goes_on, refused, and_then, visited, prepared, after_run, after_reading, unless_visited, run_project, visit_file, visit_found, visit, visit_all, run_text, load_dir, load_root, ComesTo, is_refused, is_whole, leads_on}
 use Rattle.b2_project.specs.Loads.{Ending, loaded, fails, with_declared, then_declare, up_to_toolset, IsToolsetRun, IsEquipped, IsAfterWalk, Loads}
+use Rattle.b2_testing.specs.Readying.{text_setting, walk_in, IsEquippedFor}
 use Rattle.jam_source_laws.specs.Sources.{IsRoot, AreRoots, KeepsRoots, RootsStay}
 use Rattle.jam_source_laws.proofs.RootsStay.{still, roots_then, roots_kept}
 
@@ -214,3 +216,17 @@ load_settles setting natives left words w found (whole, comes, course, after, is
     (comes_stays setting natives words (no_walk left).state.worlds.now (load_root setting (no_walk left)) whole comes (root_stays setting natives left)) in
     let frozen = walk_frozen setting natives whole course after (comes_frozen setting natives words (load_root setting (no_walk left)) whole comes (root_frozen setting left)) in
     subst Settled (sym is) (then_settled setting left course stays frozen)
+
+-- ---- tests
+
+-- the worlds that the tests of a project need have the output roots of those before, where these are frozen
+pub equipped_keeps : (tests : List TestCall) (before after : Worlds) → IsEquippedFor tests before after → KeepsRoots before.now after.now
+equipped_keeps [] before after is = subst (λ (v : Worlds). KeepsRoots before.now v.now) (sym is) (still before.now)
+equipped_keeps (test ∷ more) before after h =
+    let (reading, reads, is) = h.runs in
+    let stays : StaysCourse before.now (goes_on h.walk) = subst (StaysCourse before.now) (sym is) (text_stays text_setting refl (codes "gcc") reading (walk_in before)) in
+    subst (λ (v : Worlds). KeepsRoots before.now v.now) (sym h.left) stays
+
+-- so `bin` is among them if it was
+pub bin_stays : (tests : List TestCall) (before after : Worlds) → IsEquippedFor tests before after → Contains before.now.roots (codes "bin") → Contains after.now.roots (codes "bin")
+bin_stays tests before after h bin = (equipped_keeps tests before after h).2 (codes "bin") bin

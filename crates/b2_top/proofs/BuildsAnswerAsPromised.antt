@@ -1,5 +1,5 @@
 -- Whether the files and words came to a plan or stopped before it, the answer of a build is one that the call promises.
-use Rattle.std.proofs.Common.{◌≡◌, List, [], Some, None, IfSome, Result, Ok, Err, refl, sym, ◌∙◌, subst}
+use Rattle.std.proofs.Common.{◌≡◌, ℕ, List, [], Some, None, IfSome, Result, Ok, Err, refl, sym, ◌∙◌, subst}
 use Rattle.b2_top.proofs.OnlyPatternsRefuseAPlan.{whole_of, pattern_refused}
 use Rattle.b2_top.proofs.WrittenBytesAreTold.{if_map}
 use Rattle.b2_top.specs.RefusalCauses.{fault_of, IsPatternRefused}
@@ -10,7 +10,7 @@ use Rattle.b2_top.specs.declared.answer.Answer.TheVariants as answers
 use Rattle.b2_top.specs.declared.build_command.BuildCommand.{BuildCommand}
 use Rattle.b2_top.specs.Told.{StaysStill}
 use Rattle.b2_front.specs.Laws.{OneMeaning}
-use Rattle.b2_front.specs.Meaning.{Means}
+use Rattle.b2_front.specs.Meaning.{AsksTests, Means}
 use Rattle.b2_front.specs.Preparing.{IsPrepared, LinesTold, IsWhole as IsWholeStop, CountsStop}
 use Rattle.b2_front.proofs.LinesBeginTheLoad.{loaded_begins}
 use Rattle.b2_front.specs.declared.refusal.Refusal.{Refusal}
@@ -37,7 +37,7 @@ use Rattle.b2_top.specs.Reported.BeginsSome.{reporting}
 use Rattle.b2_top.specs.Running.{Runs, Calls}
 use Rattle.b2_top.specs.Running.Runs.{updates, stops as stops_echoing}
 use Rattle.b2_top.proofs.StillCallsAnswerAsPromised.{still_sink, still_memory, still_short, still_refused, still_fault}
-use Rattle.b2_top.proofs.UpdatesAnswerAsPromised.{ended}
+use Rattle.b2_top.proofs.UpdatesAnswerAsPromised.{told_plan, ended}
 
 module _ (law : OneMeaning) (made : Made) (words : List Word) (command : BuildCommand) (asked : build_command words ≡ Some command) (h0 h1 : Outside) (o0 : Output)
     (idle : h0.children.running ≡ []) (echoes : List Word) (disk_same : h1.disk ≡ h0.disk) (children_same : h1.children ≡ h0.children) where
@@ -83,7 +83,7 @@ module _ (law : OneMeaning) (made : Made) (words : List Word) (command : BuildCo
 
   -- ---- there is one
 
-  module _ (planned : Planned) (told : Prepared (Ok planned)) (apart : Apart planned.plan.steps planned.plan.roots) (same : h1.faults ≡ h0.faults) (keeps : Keeps h0 h1) where
+  module _ (planned : Planned) (tests : List (List ℕ × ℕ)) (told : Prepared (Ok planned)) (asks : IfSome h0.disk (λ disk. AsksTests disk command.words (seen planned) tests)) (apart : Apart planned.plan.steps planned.plan.roots) (same : h1.faults ≡ h0.faults) (keeps : Keeps h0 h1) where
     plan_at : (disk : Disk) → IsPrepared disk command.words echoes (Ok planned) → HasPlan words disk
     plan_at disk h = record { command = command; echoes = echoes; planned = seen planned; asked = asked; means = h.1 }
 
@@ -97,7 +97,7 @@ module _ (law : OneMeaning) (made : Made) (words : List Word) (command : BuildCo
         still_memory made words h0 h1 o0 o1 idle still (λ none. not_none none) (echo_lines echoes) w
         (λ part front. if_map h0.disk (λ disk h. reporting (echo_lines echoes, echoing (plan_at disk h) refl, front)) told)
 
-    pub run_of : (h2 : Outside) (o2 : Output) (result : Answer) → Runs made echoes (options_of command.options) planned.plan (moment h1 o0) (moment h2 o2) result
+    pub run_of : (h2 : Outside) (o2 : Output) (result : Answer) → Runs made echoes (options_of command.options) planned.plan tests (moment h1 o0) (moment h2 o2) result
         → Calls made words (moment h0 o0) (moment h2 o2) result
     run_of h2 o2 result (updates out echoed u) = ended made words (moment h0 o0) (moment h2 o2) u.out u.ended (record {
       command = command;
@@ -106,12 +106,13 @@ module _ (law : OneMeaning) (made : Made) (words : List Word) (command : BuildCo
       sink = out;
       echoes = echoes;
       planned = planned;
+      tests = tests;
       disk_same = disk_same;
       children_same = children_same;
       same = same;
       keeps = keeps;
       apart = apart;
-      prepared = told;
+      prepared = told_plan h0.disk command.words echoes planned tests told asks;
       echoed = echoed;
       out_keeps = u.out_keeps;
       caused = u.counts;

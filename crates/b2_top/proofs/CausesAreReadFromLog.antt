@@ -1,11 +1,9 @@
 -- Causes by the log's file as it stands: what is read of it are the lines that it counts as, and the read changes nothing else.
-use Rattle.std.proofs.Common.{◌≡◌, ℕ, ◌≤◌, Bool, true, false, List, length, Option, Some, None, IfSome, Result, Ok, Err, ◌⊎◌, inl, inr, refl, sym, ap, ◌∙◌, subst, arith}
+use Rattle.std.proofs.Common.{◌≡◌, ℕ, ◌≤◌, Bool, false, List, length, Option, Some, None, IfSome, Result, Ok, Err, inl, inr, refl, sym, ap, ◌∙◌, subst, arith}
 use Rattle.std.proofs.lemmas.Bool.{true≢false}
 use Rattle.b2_base.specs.Counts.{Rose}
-use Rattle.b2_host.specs.declared.fault.IoFault.{IoFault}
 use Rattle.b2_host.specs.declared.fault.IoFault.TheVariants as io
 use Rattle.b2_host.specs.Disks.{Disk}
-use Rattle.b2_host.specs.FileCalls.{log_path, after_read}
 use Rattle.b2_host.specs.Outside.{Outside, Read, Risks, Fails}
 use Rattle.b2_host.specs.OutsideLaws.{Keeps, keeps_same}
 use Rattle.b2_log.specs.declared.line.LogLine.{LogLine}

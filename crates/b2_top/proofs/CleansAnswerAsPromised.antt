@@ -1,5 +1,5 @@
 -- Whatever cleaning came to, what is left, written and answered is what the call promises.
-use Rattle.std.proofs.Common.{◌≡◌, ◌⊎◌, inl, inr, ℕ, List, [], ◌∷◌, ◌++◌, length, take, drop, Option, Some, None, option_map, IfSome, Result, Ok, Err, IfErr, refl, sym, ap, subst, ◌∙◌, append_assoc, append-nil}
+use Rattle.std.proofs.Common.{◌≡◌, ◌⊎◌, inl, inr, ℕ, List, [], ◌++◌, length, take, drop, Option, Some, None, option_map, IfSome, Result, Ok, Err, refl, sym, ap, subst, ◌∙◌, append_assoc, append-nil}
 use Rattle.std.specs.List.{flat_map}
 use Rattle.std.proofs.lemmas.List.{take-append-drop}
 use Rattle.std.proofs.lemmas.Grind.{flat_map-append}
@@ -40,10 +40,10 @@ use Rattle.b2_top.specs.Asked.{clean_words}
 use Rattle.b2_top.specs.RefusalCauses.{fault_of, IsPatternRefused}
 use Rattle.b2_top.specs.Reports.{echo_lines, refusal_report, fault_report}
 use Rattle.b2_top.specs.Told.{HostFailedFirst, WrittenTold, Wrote}
-use Rattle.b2_top.specs.Writing.{FailsIn, StopsIn, Writes, unwritten, Says, SaysFault, AnswersStop}
+use Rattle.b2_top.specs.Writing.{FailsIn, Writes, unwritten, Says, SaysFault, AnswersStop}
 use Rattle.b2_top.specs.Writing.Says.{said, failed, stopped}
 use Rattle.b2_top.specs.Writing.SaysFault.{fault_said, fault_failed, fault_stopped}
-use Rattle.b2_top.specs.FreePlans.{HasFreePlan, HasNoFreePlan, IsFreeRefused, EndsWithFault, BeginsFreeReport, BeginsSomeFree}
+use Rattle.b2_top.specs.FreePlans.{HasNoFreePlan, IsFreeRefused, BeginsFreeReport}
 use Rattle.b2_top.specs.FreePlans.BeginsFreeReport.{usage as begins_usage, whole as begins_whole, refused as begins_refused}
 use Rattle.b2_top.specs.FreePlans.BeginsSomeFree.{nothing as begins_nothing, report as begins_report, host_fault as begins_fault}
 use Rattle.b2_top.specs.Cleans.{HasPlan, LeavesFiles, LeavesTold, IsTold, IsCleanedTold, IsBegun, ReportedBy, ReportTold, IsAnswered, TellsCleaned, CleansPlan}

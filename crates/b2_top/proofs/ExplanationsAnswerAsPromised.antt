@@ -1,5 +1,5 @@
 -- Whatever the files and words came to, what an explanation writes and answers is what the call promises.
-use Rattle.std.proofs.Common.{◌≡◌, ℕ, List, [], ◌++◌, Option, Some, None, IfSome, Result, Ok, Err, IfErr, ◌⊎◌, inl, inr, refl, sym, ap, ◌∙◌, subst}
+use Rattle.std.proofs.Common.{◌≡◌, ℕ, List, [], ◌++◌, Option, Some, None, IfSome, Result, Ok, Err, ◌⊎◌, inl, inr, refl, sym, ap, ◌∙◌, subst}
 use Rattle.std.specs.Option.{option_map}
 use Rattle.b2_base.specs.Counts.{Rose}
 use Rattle.b2_base.specs.Bytes.{IsFrontOf}
@@ -8,8 +8,6 @@ use Rattle.b2_host.specs.Outside.{Outside}
 use Rattle.b2_host.specs.OutsideLaws.{Keeps, keeps_same, keeps_then}
 use Rattle.b2_host.specs.Output.{Output, with_written}
 use Rattle.b2_host.specs.OutputLaws.{OutKeeps}
-use Rattle.b2_runs.specs.Moments.{Moment}
-use Rattle.b2_runs.specs.Reports.{host_fault_line}
 use Rattle.b2_runs.specs.UpdateAnswers.{SinkFailed}
 use Rattle.b2_words.specs.Words.{Word}
 use Rattle.b2_generate.specs.Planning.{Planned}
@@ -37,7 +35,7 @@ use Rattle.b2_top.specs.declared.answer.Answer.TheVariants as answers
 use Rattle.b2_top.specs.declared.asked.ExplainCommand.{ExplainCommand}
 use Rattle.b2_top.specs.Asked.{explain_command, explained_words}
 use Rattle.b2_top.specs.Endings.{IsOrCutShort}
-use Rattle.b2_top.specs.FreePlans.{HasNoFreePlan, IsFreeRefused, EndsWithFault, BeginsFreeReport, BeginsSomeFree}
+use Rattle.b2_top.specs.FreePlans.{IsFreeRefused, EndsWithFault, BeginsFreeReport, BeginsSomeFree}
 use Rattle.b2_top.specs.FreePlans.BeginsFreeReport.{usage as begins_usage, whole as begins_whole, refused as begins_refused}
 use Rattle.b2_top.specs.FreePlans.BeginsSomeFree.{nothing as has_nothing, report as has_report, host_fault as has_fault}
 use Rattle.b2_top.specs.RefusalCauses.{fault_of, IsPatternRefused}
@@ -46,7 +44,7 @@ use Rattle.b2_top.specs.Told.{HostFailedFirst}
 use Rattle.b2_top.specs.Writing.{FailsIn, StopsIn, Says, SaysFault, AnswersStop}
 use Rattle.b2_top.specs.Writing.Says.{said, failed, stopped}
 use Rattle.b2_top.specs.Writing.SaysFault.{fault_said, fault_failed, fault_stopped}
-use Rattle.b2_top.specs.Explains.{IsTooBigFor, HasPlan, IsTold, IsTooBigTold, IsReport, IsEchoed, ReportedBy, CausedBy, IsOfExplaining, IsTooBigAnswer, IsAnswered, ExplainedBy, explained_report, TellsWhys, TellsPlan}
+use Rattle.b2_top.specs.Explains.{IsTooBigFor, HasPlan, IsTold, IsTooBigTold, IsReport, IsEchoed, CausedBy, IsOfExplaining, IsTooBigAnswer, IsAnswered, ExplainedBy, explained_report, TellsWhys, TellsPlan}
 use Rattle.b2_top.proofs.CausesAreReadFromLog.{still_keeps, counts_stay}
 use Rattle.b2_top.proofs.OnlyPatternsRefuseAPlan.{whole_of, pattern_refused}
 use Rattle.b2_top.proofs.PiecesWrittenMakeTheWhole.{written_none, keeps_written, keeps_failed}

@@ -6,6 +6,7 @@ pub mod JobsAreFromOne
 mod TrueLinesAreStable
 mod DefinedBuildLacksNothing
 mod StillCallsAnswerAsPromised
+mod VerdictsAreWritten
 mod UpdatesAnswerAsPromised
 mod BuildsAnswerAsPromised
 mod PromisesFollowFromCalls

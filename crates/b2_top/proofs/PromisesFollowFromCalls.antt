@@ -117,9 +117,9 @@ module _ (made : Made) (words : List Word) (before after : Outside) (disk later 
   did answers.HostFault (inl still) = inl still
   did answers.HostFault (inr b) = inr (host_fault, b)
   did answers.OutOfMemory (inl still) = inl still
-  did answers.OutOfMemory (inr b) = inr (b.0, b.2)
+  did answers.OutOfMemory (inr b) = inr (b.0, b.1)
   did answers.SinkFault (inl still) = inl still
-  did answers.SinkFault (inr b) = inr (b.0, b.2)
+  did answers.SinkFault (inr b) = inr (b.0, b.1)
 
 -- What is seen of a call: what happened, that the files stand among what stood, and that nothing is forgotten.
 record IsSeen (made : Made) (words : List Word) (before after : Outside) (result : Answer) (disk later : Disk) : Type 0 where

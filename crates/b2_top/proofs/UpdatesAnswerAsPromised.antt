@@ -1,9 +1,9 @@
 -- Whatever the update of a plan ended with, its events, lines and faults are those that the call promises.
-use Rattle.std.proofs.Common.{◌≡◌, ◌⊎◌, ℕ, List, [], ◌++◌, Option, Some, None, IfSome, Ok, inl, inr, refl, sym, ap, ◌∙◌, subst, append_assoc, append-nil}
+use Rattle.std.proofs.Common.{◌≡◌, ◌⊎◌, ℕ, List, [], ◌∷◌, ◌++◌, Option, Some, None, IfSome, Ok, inl, inr, refl, sym, ap, ◌∙◌, subst, append_assoc, append-nil}
 use Rattle.std.specs.List.{Contains}
 use Rattle.std.specs.Option.{option_map}
 use Rattle.b2_top.proofs.FaultsCountFromEarlier.{sink_failed_from, wait_failed_from}
-use Rattle.b2_top.proofs.PiecesWrittenMakeTheWhole.{keeps_written, keeps_failed}
+use Rattle.b2_top.proofs.PiecesWrittenMakeTheWhole.{written_none, keeps_written, keeps_failed}
 use Rattle.b2_top.proofs.WrittenBytesAreTold.{if_all, text_of, faults_of}
 use Rattle.b2_top.specs.Reports.{echo_lines, refusal_report, fault_report}
 use Rattle.b2_top.specs.Writing.{FailsIn, Says, SaysFault}
@@ -13,6 +13,7 @@ use Rattle.b2_top.specs.declared.answer.Answer.{Answer}
 use Rattle.b2_top.specs.declared.answer.Answer.TheVariants as answers
 use Rattle.b2_top.specs.declared.build_command.BuildCommand.{BuildCommand}
 use Rattle.b2_top.specs.Told.{CountsStay, HostFailedFirst}
+use Rattle.b2_front.specs.Meaning.{AsksTests}
 use Rattle.b2_front.specs.Preparing.{IsPrepared}
 use Rattle.b2_planning.specs.Plans.{seen}
 use Rattle.b2_planning.specs.declared.planned.Planned.{Planned}
@@ -30,16 +31,17 @@ use Rattle.b2_plan.specs.declared.step.Step.{Step}
 use Rattle.b2_log.specs.declared.line.LogLine.{LogLine}
 use Rattle.b2_refusals.specs.Lines.{refusal_line as own_line}
 use Rattle.b2_refusals.specs.Wholes.{IsWhole}
-use Rattle.b2_refusals.specs.declared.fault.Fault.{Fault}
 use Rattle.b2_refusals.specs.declared.fault.Fault.TheVariants as faults
 use Rattle.b2_runs.specs.Moments.{Moment}
 use Rattle.b2_runs.specs.Reports.{too_big_line, host_fault_line}
 use Rattle.b2_runs.specs.Soundness.{Distinguishes, UsesTrueLines}
 use Rattle.b2_runs.specs.Staleness.{Update}
 use Rattle.b2_runs.specs.UpdateAnswers as runs
-use Rattle.b2_runs.specs.UpdateAnswers.{UpdateAnswer as RunAnswer, SinkFailed, CausedBy, IsQuietHost, LeavesOpen, HasHappened, HasUpdated, WithLog, WrittenBy, failed_of, refusal_line}
+use Rattle.b2_runs.specs.UpdateAnswers.{UpdateAnswer as RunAnswer, SinkFailed, CausedBy, IsQuietHost, LeavesOpen, HasHappened, HasUpdated, WithLog, WrittenBy, failed_of}
 use Rattle.b2_runs.specs.UpdateAnswers.UpdateAnswer.{all_went, failed as some_failed, step_cycle, too_big, host_fault, sink_fault, out_of_memory}
 use Rattle.b2_drain.specs.Drains.{Made}
+use Rattle.b2_endings.specs.Endings.{lists_of}
+use Rattle.b2_endings.specs.declared.failed_lists.FailedLists.{FailedLists}
 use Rattle.b2_update.specs.Answers.{answer_of}
 use Rattle.b2_update.specs.Moments.{moment}
 use Rattle.b2_update.specs.Updates.{update_of, UpdateTold, IsDone}
@@ -48,11 +50,12 @@ use Rattle.b2_update.specs.declared.update_answer.UpdateAnswer.TheVariants as en
 use Rattle.b2_words.specs.Words.{Word}
 use Rattle.b2_top.specs.Commands.{build_command}
 use Rattle.b2_top.specs.Plans.{HasPlan, options_of, update_for}
-use Rattle.b2_top.specs.Builds.{HasBuilt, MayAnswer, HappenedBy, RefusedBy, run_answer}
-use Rattle.b2_top.specs.Reported.{WroteUpdate, IsAllOf, IsToldOrCut, RefusalTold, ReportedBy}
+use Rattle.b2_top.specs.Builds.{HasBuilt, LacksSome, MayAnswer, HappenedBy, run_answer}
+use Rattle.b2_top.specs.Reported.{WroteUpdate, IsAllOf, IsToldOrCut, ReportedBy}
 use Rattle.b2_top.specs.Answered.{StaysOrWaits, CountsTold, StartsNone, ReportTold}
 use Rattle.b2_top.specs.Endings.{IfRefused}
-use Rattle.b2_top.specs.Running.{EndsUpdate, OnlyPatternRefused, Calls}
+use Rattle.b2_top.specs.LastLines.{AreVerdictLines, AreLast, IsUnwritten}
+use Rattle.b2_top.specs.Running.{TellsVerdicts, EndsUpdate, OnlyPatternRefused, Calls}
 use Rattle.b2_top.proofs.StillCallsAnswerAsPromised.{not_in}
 
 -- ---- visible files
@@ -155,6 +158,16 @@ quiet_from h0 h1 h2 same keeps (inr wait) = inr (wait_failed_from h0 h1 h2 keeps
 
 -- ---- a call
 
+-- What the files and the words come to: this plan, which asks for these tests.
+pub record IsToldPlan (disk : Disk) (words echoes : List Word) (planned : Planned) (tests : List (List ℕ × ℕ)) : Type 0 where
+  pub prepared : IsPrepared disk words echoes (Ok planned)
+  pub asks : AsksTests disk words (seen planned) tests
+
+pub told_plan : (d : Option Disk) (words echoes : List Word) (planned : Planned) (tests : List (List ℕ × ℕ)) → IfSome d (λ disk. IsPrepared disk words echoes (Ok planned))
+    → IfSome d (λ disk. AsksTests disk words (seen planned) tests) → IfSome d (λ disk. IsToldPlan disk words echoes planned tests)
+told_plan None words echoes planned tests told asks = tt
+told_plan (Some disk) words echoes planned tests told asks = record { prepared = told; asks = asks }
+
 -- What holds where a plan was updated with this answer, and the end is to be told. `m` is the sink then.
 pub record IsUpdated (made : Made) (words : List Word) (before after : Moment) (m : Output) (end : UpdateAnswer) : Type 0 where
   pub command : BuildCommand
@@ -163,12 +176,13 @@ pub record IsUpdated (made : Made) (words : List Word) (before after : Moment) (
   pub sink : Output
   pub echoes : List Word
   pub planned : Planned
+  pub tests : List (List ℕ × ℕ)
   pub disk_same : loaded.disk ≡ before.host.disk
   pub children_same : loaded.children ≡ before.host.children
   pub same : loaded.faults ≡ before.host.faults
   pub keeps : Keeps before.host loaded
   pub apart : Apart planned.plan.steps planned.plan.roots
-  pub prepared : IfSome before.host.disk (λ disk. IsPrepared disk command.words echoes (Ok planned))
+  pub prepared : IfSome before.host.disk (λ disk. IsToldPlan disk command.words echoes planned tests)
   pub echoed : sink ≡ with_written (echo_lines echoes) before.out
   pub out_keeps : OutKeeps sink m
   pub caused : CausedBy (moment loaded sink) (moment after.host m) (answer_of end)
@@ -208,13 +222,13 @@ module _ (made : Made) (words : List Word) (before after : Moment) (m : Output) 
   AtBoth P = BothTold P h0.disk h2.disk
 
   abbrev IsTold : Disk → Type 0
-  IsTold disk = IsPrepared disk s.command.words s.echoes (Ok s.planned)
+  IsTold disk = IsToldPlan disk s.command.words s.echoes s.planned s.tests
 
   not_none : {X : Type 0} → build_command words ≡ None → X
   not_none none = let e : None ≡ Some s.command = sym none ∙ s.asked in absurd cc
 
   abbrev plan_at : (disk : Disk) → IsTold disk → HasPlan words disk
-  plan_at disk h = record { command = s.command; echoes = s.echoes; planned = seen s.planned; asked = s.asked; means = h.1 }
+  plan_at disk h = record { command = s.command; echoes = s.echoes; planned = seen s.planned; asked = s.asked; means = h.prepared.1 }
 
   -- what is told of the log at entry
   abbrev Done : (disk later : Disk) → IsTold disk → List LogLine → Type 0
@@ -240,8 +254,8 @@ module _ (made : Made) (words : List Word) (before after : Moment) (m : Output) 
   turns_now = subst (λ d. HasHappened steps jobs d h0.children.events h2.children.events (answer_of end)) s.disk_same
       (subst (λ (f : Family). HasHappened steps jobs h1.disk f.events h2.children.events (answer_of end)) s.children_same s.turns)
 
-  built : AtBoth (λ disk later. HasBuilt made words h0 h2 disk later (answer_of end))
-  built = of_each (λ disk later h w. record {
+  abbrev built_at : (disk later : Disk) (h : IsTold disk) → WithLog disk.now (Done disk later h) (answer_of end) → HasBuilt made words h0 h2 disk later (answer_of end)
+  built_at disk later h w = record {
     plan = plan_at disk h;
     apart = s.apart;
     reads = h1.reads;
@@ -249,21 +263,46 @@ module _ (made : Made) (words : List Word) (before after : Moment) (m : Output) 
         (λ log f p. updated_from (update_for made (plan_at disk h) log) (answer_of end) h0 h1 h2 disk later s.children_same (f p.uses_true p.distinct).updated) w;
     turns = turns_now;
     left_open = left_now;
-  })
+  }
+
+  built : AtBoth (λ disk later. HasBuilt made words h0 h2 disk later (answer_of end))
+  built = of_each (λ disk later h w. built_at disk later h w)
+
+  -- ---- the last lines
+
+  abbrev IsLast : List ℕ → Type 0
+  IsLast last = AreLast steps s.tests (answer_of end) last
+
+  -- a piece of them was written
+  abbrev Follows : List ℕ → Type 0
+  Follows piece = o2.written ≡ option_map (λ so_far. so_far ++ piece) m.written
+
+  abbrev Wrote : (List ℕ → List ℕ → Type 0) → Disk → Disk → List ChildEvent → Type 0
+  Wrote IsSo disk later events = WroteUpdate made words before after disk later events (answer_of end) IsSo
 
   abbrev Writes : (List ℕ → List ℕ → Type 0) → Disk → Disk → Type 0
-  Writes IsSo disk later = (events : List ChildEvent) → h2.children.events ≡ h0.children.events ++ events
-      → WroteUpdate made words before after disk later events (answer_of end) IsSo
+  Writes IsSo disk later = (events : List ChildEvent) → h2.children.events ≡ h0.children.events ++ events → Wrote IsSo disk later events
 
-  wrote : (IsSo : List ℕ → List ℕ → Type 0) (piece : List ℕ) → o2.written ≡ option_map (λ so_far. so_far ++ piece) m.written
-      → IsSo piece (refusal_line steps (answer_of end)) → AtBoth (Writes IsSo)
-  wrote IsSo piece e so = of_each (λ disk later h w events are. record {
+  abbrev wrote_at : (IsSo : List ℕ → List ℕ → Type 0) (last piece : List ℕ) → IsLast last → Follows piece → IsSo piece last
+      → (disk later : Disk) (h : IsTold disk) → WithLog disk.now (Done disk later h) (answer_of end) → Writes IsSo disk later
+  wrote_at IsSo last piece are e so disk later h w events are_events = record {
     plan = plan_at disk h;
+    tests = s.tests;
+    asks = h.asks;
+    last = last;
+    are_last = are;
     wrote = with_log disk.now (Done disk later h) _ (answer_of end) (λ log f p.
-        pieces (echo_lines s.echoes) (refusal_line steps (answer_of end)) piece (WrittenBy (update_for made (plan_at disk h) log) events later.now (answer_of end)) IsSo
+        pieces (echo_lines s.echoes) last piece (WrittenBy (update_for made (plan_at disk h) log) events later.now (answer_of end)) IsSo
         o0.written o1.written m.written o2.written (text_of (echo_lines s.echoes) o0 o1 s.echoed) e so
-        ((f p.uses_true p.distinct).written events (subst (λ (g : Family). h2.children.events ≡ g.events ++ events) (sym s.children_same) are))) w;
-  })
+        ((f p.uses_true p.distinct).written events (subst (λ (g : Family). h2.children.events ≡ g.events ++ events) (sym s.children_same) are_events))) w;
+  }
+
+  wrote : (IsSo : List ℕ → List ℕ → Type 0) (last piece : List ℕ) → IsLast last → Follows piece → IsSo piece last → AtBoth (Writes IsSo)
+  wrote IsSo last piece are e so = of_each (λ disk later h w. wrote_at IsSo last piece are e so disk later h w)
+
+  -- the call may have this answer
+  abbrev MayEnd : Answer → Type 0
+  MayEnd result = (disk : Disk) (h : IsTold disk) → MayAnswer (plan_at disk h) (answer_of end) result
 
   cut_now : (b : RunAnswer) → (b ≡ all_went → ⊥) → failed_of b ≡ [] → Turns b
   cut_now b not_all none = cut_turns steps jobs h0.disk h0.children.events h2.children.events (answer_of end) b not_all none turns_now
@@ -309,64 +348,55 @@ module _ (made : Made) (words : List Word) (before after : Moment) (m : Output) 
     out_keeps = kept_out;
   }
 
-  -- the answer is the update's own, and nothing more is written
-  pub ends_well : (result : Answer) → o2 ≡ m → ((disk later : Disk) → HasBuilt made words h0 h2 disk later (answer_of end) → HappenedBy made words h0 h2 disk later result)
-      → CountsTold before after result → (result ≡ answers.Usage → ⊥) → StartsNone result h0 h2 → IfRefused IsWhole result → ((disk : Disk) → IfRefused (OnlyPatternRefused words disk) result)
-      → ((disk later : Disk) (events : List ChildEvent) → WroteUpdate made words before after disk later events (answer_of end) IsAllOf → ReportedBy made words before after disk later events result)
-      → [] ≡ refusal_line steps (answer_of end) → answer_of end ≡ run_answer result → Promised result
-  ends_well result e happened counts not_usage starts whole patterns reported line_is named =
-      ends_so result (both_follow h0.disk h2.disk happened built) counts not_usage starts whole patterns
-      (both_follow h0.disk h2.disk (λ disk later w events are. reported disk later events (w events are)) (wrote IsAllOf [] (same_text m o2 e) line_is))
-      (subst Turns named turns_now) (kept_same e)
-
   -- the call was cut off by a fault of the sink, or by memory that ran out
-  pub cut_sink : (piece : List ℕ) → o2.written ≡ option_map (λ so_far. so_far ++ piece) m.written → IsFrontOf piece (refusal_line steps (answer_of end))
-      → MayAnswer (answer_of end) answers.SinkFault → SinkFailed o0 o2 → StaysOrWaits h0 h2 → OutKeeps o0 o2 → Promised answers.SinkFault
-  cut_sink piece e front may sink host kept_out =
-      ends_so answers.SinkFault (both_follow h0.disk h2.disk (λ disk later b. inr (answer_of end, may, b)) built) (sink, host) (λ u. cc) tt tt (λ disk. tt)
-      (both_follow h0.disk h2.disk (λ disk later w events are. inr (answer_of end, may, w events are)) (wrote IsFrontOf piece e front))
+  pub cut_sink : (last piece : List ℕ) → IsLast last → Follows piece → IsFrontOf piece last
+      → MayEnd answers.SinkFault → SinkFailed o0 o2 → StaysOrWaits h0 h2 → OutKeeps o0 o2 → Promised answers.SinkFault
+  cut_sink last piece are e front may sink host kept_out =
+      ends_so answers.SinkFault (of_each (λ disk later h w. inr (answer_of end, built_at disk later h w, may disk h))) (sink, host) (λ u. cc) tt tt (λ disk. tt)
+      (of_each (λ disk later h w events are_events. inr (answer_of end, wrote_at IsFrontOf last piece are e front disk later h w events are_events, may disk h)))
       (cut_now sink_fault (λ u. cc) refl) kept_out
 
-  pub cut_memory : (piece : List ℕ) → o2.written ≡ option_map (λ so_far. so_far ++ piece) m.written → IsFrontOf piece (refusal_line steps (answer_of end))
-      → MayAnswer (answer_of end) answers.OutOfMemory → o2.faults ≡ o0.faults → OutKeeps o0 o2 → Promised answers.OutOfMemory
-  cut_memory piece e front may sink kept_out =
-      ends_so answers.OutOfMemory (both_follow h0.disk h2.disk (λ disk later b. inr (answer_of end, may, b)) built) sink (λ u. cc) tt tt (λ disk. tt)
-      (both_follow h0.disk h2.disk (λ disk later w events are. inr (answer_of end, may, w events are)) (wrote IsFrontOf piece e front))
+  pub cut_memory : (last piece : List ℕ) → IsLast last → Follows piece → IsFrontOf piece last
+      → MayEnd answers.OutOfMemory → o2.faults ≡ o0.faults → OutKeeps o0 o2 → Promised answers.OutOfMemory
+  cut_memory last piece are e front may sink kept_out =
+      ends_so answers.OutOfMemory (of_each (λ disk later h w. inr (answer_of end, built_at disk later h w, may disk h))) sink (λ u. cc) tt tt (λ disk. tt)
+      (of_each (λ disk later h w events are_events. inr (answer_of end, wrote_at IsFrontOf last piece are e front disk later h w events are_events, may disk h)))
       (cut_now out_of_memory (λ u. cc) refl) kept_out
 
-  -- a refusal in the update
-  module _ (fault : Fault) (line_is : own_line steps fault ≡ refusal_line steps (answer_of end)) (counts : runs.CountsStay (moment h1 o1) (moment h2 m))
-      (by_sink : MayAnswer (answer_of end) answers.SinkFault) (by_memory : MayAnswer (answer_of end) answers.OutOfMemory)
-      (refused : (disk later : Disk) → HasBuilt made words h0 h2 disk later (answer_of end) → RefusedBy made words h0 h2 disk later fault)
-      (told_so : (disk later : Disk) (events : List ChildEvent) → WroteUpdate made words before after disk later events (answer_of end) IsAllOf → RefusalTold made words before after disk later events fault)
-      (starts : StartsNone (answers.Refused fault) h0 h2) (whole : IsWhole fault) (patterns : (disk : Disk) → OnlyPatternRefused words disk fault)
-      (named : answer_of end ≡ run_answer (answers.Refused fault)) where
-    front_is : (part : List ℕ) → IsFrontOf part (own_line steps fault) → IsFrontOf part (refusal_line steps (answer_of end))
-    front_is part front = subst (IsFrontOf part) line_is front
+  -- The update has an answer of its own, which comes where its last lines are written.
+  module _ (own : Answer) (last : List ℕ) (are : IsLast last) (counts : runs.CountsStay (moment h1 o1) (moment h2 m))
+      (happened : (disk later : Disk) → HasBuilt made words h0 h2 disk later (answer_of end) → HappenedBy made words h0 h2 disk later own)
+      (told_so : (disk later : Disk) (events : List ChildEvent) → Wrote IsAllOf disk later events → ReportedBy made words before after disk later events own)
+      (counted : CountsStay before after → CountsTold before after own) (not_usage : own ≡ answers.Usage → ⊥)
+      (starts : StartsNone own h0 h2) (whole : IfRefused IsWhole own) (patterns : (disk : Disk) → IfRefused (OnlyPatternRefused words disk) own)
+      (named : answer_of end ≡ run_answer own) where
+    pub said_own : (result : Answer) → result ≡ own → o2 ≡ with_written last m → Promised result
+    said_own result is p = subst Promised (sym is) (ends_so own (both_follow h0.disk h2.disk happened built)
+        (counted (stays (faults_of last m o2 p) counts)) not_usage starts whole patterns
+        (both_follow h0.disk h2.disk (λ disk later w events are_events. told_so disk later events (w events are_events)) (wrote IsAllOf last last are (text_of last m o2 p) refl))
+        (subst Turns named turns_now) (kept (keeps_written last m o2 p)))
 
-    pub ended_refusal : (result : Answer) → Says (answers.Refused fault) (refusal_report [] steps fault) m o2 result → Promised result
-    ended_refusal result (said is p) = subst Promised (sym is) (ends_so (answers.Refused fault) (both_follow h0.disk h2.disk refused built)
-        (stays (faults_of (own_line steps fault) m o2 p) counts) (λ u. cc) starts whole patterns
-        (both_follow h0.disk h2.disk (λ disk later w events are. told_so disk later events (w events are)) (wrote IsAllOf (own_line steps fault) (text_of (own_line steps fault) m o2 p) line_is))
-        (subst Turns named turns_now) (kept (keeps_written (own_line steps fault) m o2 p)))
-    ended_refusal result (failed is f) = subst Promised (sym is) (cut_sink f.part f.written (front_is f.part f.begins) by_sink (failed_after f.sink) (inl (counts.host ∙ s.same))
-        (kept (keeps_failed (own_line steps fault) m o2 f)))
-    ended_refusal result (stopped is w) = subst Promised (sym is) (cut_memory w.part (text_of w.part m o2 w.same) (front_is w.part w.begins) by_memory
-        (faults_of w.part m o2 w.same ∙ same_sink counts.sink) (kept (keeps_written w.part m o2 w.same)))
+    -- or it was cut off at them
+    pub ended_own : MayEnd answers.SinkFault → MayEnd answers.OutOfMemory → (result : Answer) → Says own last m o2 result → Promised result
+    ended_own by_sink by_memory result (said is p) = said_own result is p
+    ended_own by_sink by_memory result (failed is f) =
+        subst Promised (sym is) (cut_sink last f.part are f.written f.begins by_sink (failed_after f.sink) (inl (counts.host ∙ s.same)) (kept (keeps_failed last m o2 f)))
+    ended_own by_sink by_memory result (stopped is w) =
+        subst Promised (sym is) (cut_memory last w.part are (text_of w.part m o2 w.same) w.begins by_memory (faults_of w.part m o2 w.same ∙ same_sink counts.sink) (kept (keeps_written w.part m o2 w.same)))
 
   -- a fault of the host in the update
   module _ (is_fault : answer_of end ≡ host_fault) (counts : runs.CallFailed h1 h2) (sink_stays : m.faults ≡ o1.faults) where
     rose : Rose h0.faults h2.faults
     rose = subst (λ n. Rose n h2.faults) s.same counts.faults
 
-    line_is : host_fault_line ≡ refusal_line steps (answer_of end)
-    line_is = sym (ap (refusal_line steps) is_fault)
+    line_is : IsLast host_fault_line
+    line_is = subst (λ a. AreLast steps s.tests a host_fault_line) (sym is_fault) refl
 
-    fault_ends : (piece : List ℕ) → o2.written ≡ option_map (λ so_far. so_far ++ piece) m.written → IsToldOrCut o0 o2 piece host_fault_line → HostFailedFirst before after → OutKeeps o0 o2 → Promised answers.HostFault
+    fault_ends : (piece : List ℕ) → Follows piece → IsToldOrCut o0 o2 piece host_fault_line → HostFailedFirst before after → OutKeeps o0 o2 → Promised answers.HostFault
     fault_ends piece e so first kept_out =
         ends_so answers.HostFault (both_follow h0.disk h2.disk (λ disk later b. inr (subst (λ a. HasBuilt made words h0 h2 disk later a) is_fault b)) built) first (λ u. cc) tt tt (λ disk. tt)
         (both_follow h0.disk h2.disk (λ disk later w events are. inr (subst (λ a. WroteUpdate made words before after disk later events a (IsToldOrCut o0 o2)) is_fault (w events are)))
-        (wrote (IsToldOrCut o0 o2) piece e (subst (IsToldOrCut o0 o2 piece) line_is so)))
+        (wrote (IsToldOrCut o0 o2) host_fault_line piece line_is e so))
         (cut_now host_fault (λ u. cc) refl) kept_out
 
     first_so : (o2 ≡ with_written (fault_report []) m) ⊎ FailsIn (fault_report []) m o2 → HostFailedFirst before after
@@ -376,8 +406,19 @@ module _ (made : Made) (words : List Word) (before after : Moment) (m : Output) 
     ended_fault result (fault_said is p) = subst Promised (sym is) (fault_ends host_fault_line (text_of host_fault_line m o2 p)
         (inl (refl, faults_of host_fault_line m o2 p ∙ same_sink sink_stays)) (first_so (inl p)) (kept (keeps_written host_fault_line m o2 p)))
     ended_fault result (fault_failed is f) = subst Promised (sym is) (fault_ends f.part f.written (inr (failed_after f.sink, f.begins)) (first_so (inr f)) (kept (keeps_failed host_fault_line m o2 f)))
-    ended_fault result (fault_stopped is w) = subst Promised (sym is) (cut_memory w.part (text_of w.part m o2 w.same) (subst (IsFrontOf w.part) line_is w.begins)
-        (subst (λ a. MayAnswer a answers.OutOfMemory) (sym is_fault) (inr refl)) (faults_of w.part m o2 w.same ∙ same_sink sink_stays) (kept (keeps_written w.part m o2 w.same)))
+    ended_fault result (fault_stopped is w) = subst Promised (sym is) (cut_memory host_fault_line w.part line_is (text_of w.part m o2 w.same) w.begins
+        (λ disk h. subst (λ a. MayAnswer (plan_at disk h) a answers.OutOfMemory) (sym is_fault) (inr refl)) (faults_of w.part m o2 w.same ∙ same_sink sink_stays) (kept (keeps_written w.part m o2 w.same)))
+
+  -- ---- the verdicts of tests
+
+  -- what is told where some were asked for
+  lacks : (test : List ℕ × ℕ) (more : List (List ℕ × ℕ)) → s.tests ≡ test ∷ more → (answer : Answer) → IsUnwritten answer → (disk : Disk) (h : IsTold disk) → LacksSome (plan_at disk h) answer
+  lacks test more is answer unwritten disk h =
+      (s.tests, h.asks, record { some_tests = λ none. let clash : test ∷ more ≡ [] = sym is ∙ none in absurd cc; unwritten = unwritten })
+
+-- no test has a verdict
+none_told : (steps : List Step) (ended : RunAnswer) → AreVerdictLines steps ended [] []
+none_told _ ended = record { verdicts = []; passed = tt; lines_are = refl }
 
 -- whatever the update ended with
 module _ (made : Made) (words : List Word) (before after : Moment) (m : Output) where
@@ -390,20 +431,43 @@ module _ (made : Made) (words : List Word) (before after : Moment) (m : Output) 
       let k = keeps_written (echo_lines s.echoes) before.out s.sink s.echoed in
       subst (SinkFailed before.out) (sym e) (sink_failed_from before.out s.sink m k.faults k.may_fail s.caused.0)
 
-  pub ended : (end : UpdateAnswer) (s : IsUpdated made words before after m end) (result : Answer) → EndsUpdate s.planned.plan.steps end m after.out result
+  -- it came to its end
+  ended_done : (s : IsUpdated made words before after m ends.Done) (result : Answer) (tests : List (List ℕ × ℕ)) → s.tests ≡ tests
+      → TellsVerdicts s.planned.plan.steps tests ends.Done m after.out result → Calls made words before after result
+  ended_done s result [] is e = said_own made words before after m ends.Done s answers.Ok []
+      (subst (λ (ts : List (List ℕ × ℕ)). AreVerdictLines s.planned.plan.steps all_went ts []) (sym is) (none_told s.planned.plan.steps all_went)) s.caused
+      (λ disk later b. b) (λ disk later events w. w) (λ c. c) (λ u. cc) tt tt (λ disk. tt) refl result e.0 (e.1 ∙ written_none m)
+  ended_done s result (test ∷ more) is (lines, are, says) = ended_own made words before after m ends.Done s answers.Ok lines
+      (subst (λ (ts : List (List ℕ × ℕ)). AreVerdictLines s.planned.plan.steps all_went ts lines) (sym is) are) s.caused
+      (λ disk later b. b) (λ disk later events w. w) (λ c. c) (λ u. cc) tt tt (λ disk. tt) refl
+      (λ disk h. inr (lacks made words before after m ends.Done s test more is answers.SinkFault (inl refl) disk h))
+      (λ disk h. inr (lacks made words before after m ends.Done s test more is answers.OutOfMemory (inr refl) disk h)) result says
+
+  ended_failed : (lists : FailedLists) (s : IsUpdated made words before after m (ends.Failed lists)) (result : Answer) (tests : List (List ℕ × ℕ)) → s.tests ≡ tests
+      → TellsVerdicts s.planned.plan.steps tests (ends.Failed lists) m after.out result → Calls made words before after result
+  ended_failed lists s result [] is e = said_own made words before after m (ends.Failed lists) s (answers.Failed lists) []
+      (subst (λ (ts : List (List ℕ × ℕ)). AreVerdictLines s.planned.plan.steps (some_failed (lists_of lists)) ts []) (sym is) (none_told s.planned.plan.steps (some_failed (lists_of lists)))) s.caused
+      (λ disk later b. b) (λ disk later events w. w) (λ c. c) (λ u. cc) tt tt (λ disk. tt) refl result e.0 (e.1 ∙ written_none m)
+  ended_failed lists s result (test ∷ more) is (lines, are, says) = ended_own made words before after m (ends.Failed lists) s (answers.Failed lists) lines
+      (subst (λ (ts : List (List ℕ × ℕ)). AreVerdictLines s.planned.plan.steps (some_failed (lists_of lists)) ts lines) (sym is) are) s.caused
+      (λ disk later b. b) (λ disk later events w. w) (λ c. c) (λ u. cc) tt tt (λ disk. tt) refl
+      (λ disk h. lacks made words before after m (ends.Failed lists) s test more is answers.SinkFault (inl refl) disk h)
+      (λ disk h. lacks made words before after m (ends.Failed lists) s test more is answers.OutOfMemory (inr refl) disk h) result says
+
+  pub ended : (end : UpdateAnswer) (s : IsUpdated made words before after m end) (result : Answer) → EndsUpdate s.planned.plan.steps s.tests end m after.out result
       → Calls made words before after result
-  ended ends.Done s result e = subst (Calls made words before after) (sym e.0) (ends_well made words before after m ends.Done s answers.Ok e.1
-      (λ disk later b. b) (stays made words before after m ends.Done s (same_faults e.1) s.caused) (λ u. cc) tt tt (λ disk. tt) (λ disk later events w. w) refl refl)
-  ended (ends.Failed lists) s result e = subst (Calls made words before after) (sym e.0) (ends_well made words before after m (ends.Failed lists) s (answers.Failed lists) e.1
-      (λ disk later b. b) (stays made words before after m (ends.Failed lists) s (same_faults e.1) s.caused) (λ u. cc) tt tt (λ disk. tt) (λ disk later events w. w) refl refl)
-  ended (ends.StepCycle list) s result says = ended_refusal made words before after m (ends.StepCycle list) s (faults.StepCycle list) refl s.caused
-      (inr (inl refl)) (inr (inr refl)) (λ disk later b. b) (λ disk later events w. w) tt tt (λ disk. tt) refl result says
-  ended (ends.TooBig path size) s result says = ended_refusal made words before after m (ends.TooBig path size) s (faults.TooBig path size) (too_big_is path size) s.caused
-      (inr (inl refl)) (inr (inr refl)) (λ disk later b. b) (λ disk later events w. w) tt tt (λ disk. tt) refl result says
+  ended ends.Done s result e = ended_done s result s.tests refl e
+  ended (ends.Failed lists) s result e = ended_failed lists s result s.tests refl e
+  ended (ends.StepCycle list) s result says = ended_own made words before after m (ends.StepCycle list) s (answers.Refused (faults.StepCycle list))
+      (refusal_report [] s.planned.plan.steps (faults.StepCycle list)) refl s.caused
+      (λ disk later b. b) (λ disk later events w. w) (λ c. c) (λ u. cc) tt tt (λ disk. tt) refl (λ disk h. inr (inl refl)) (λ disk h. inr (inr refl)) result says
+  ended (ends.TooBig path size) s result says = ended_own made words before after m (ends.TooBig path size) s (answers.Refused (faults.TooBig path size))
+      (refusal_report [] s.planned.plan.steps (faults.TooBig path size)) (too_big_is path size) s.caused
+      (λ disk later b. b) (λ disk later events w. w) (λ c. c) (λ u. cc) tt tt (λ disk. tt) refl (λ disk h. inr (inl refl)) (λ disk h. inr (inr refl)) result says
   ended ends.HostFault s result says = ended_fault made words before after m ends.HostFault s refl s.caused.0 s.caused.1 result says
-  ended ends.SinkFault s result e = subst (Calls made words before after) (sym e.0) (cut_sink made words before after m ends.SinkFault s [] (same_text m after.out e.1)
-      (nothing_begins []) refl (sink_now s e.1) (quiet_from before.host s.loaded after.host s.same s.keeps s.caused.1)
+  ended ends.SinkFault s result e = subst (Calls made words before after) (sym e.0) (cut_sink made words before after m ends.SinkFault s [] [] refl (same_text m after.out e.1)
+      (nothing_begins []) (λ disk h. refl) (sink_now s e.1) (quiet_from before.host s.loaded after.host s.same s.keeps s.caused.1)
       (kept_same made words before after m ends.SinkFault s e.1))
-  ended ends.OutOfMemory s result e = subst (Calls made words before after) (sym e.0) (cut_memory made words before after m ends.OutOfMemory s [] (same_text m after.out e.1)
-      (nothing_begins []) refl (same_faults e.1 ∙ same_sink made words before after m ends.OutOfMemory s s.caused.0)
+  ended ends.OutOfMemory s result e = subst (Calls made words before after) (sym e.0) (cut_memory made words before after m ends.OutOfMemory s [] [] refl (same_text m after.out e.1)
+      (nothing_begins []) (λ disk h. refl) (same_faults e.1 ∙ same_sink made words before after m ends.OutOfMemory s s.caused.0)
       (kept_same made words before after m ends.OutOfMemory s e.1))

@@ -1,10 +1,11 @@
 -- What happened in a call, by its answer.
-use Rattle.std.specs.Prelude.{◌≡◌, ◌⊎◌, List, Option, None}
+use Rattle.std.specs.Prelude.{◌≡◌, ◌⊎◌, ℕ, List, Option, None}
 use Rattle.b2_top.specs.declared.answer.Answer.{Answer}
 use Rattle.b2_top.specs.declared.answer.Answer.TheVariants as answers
 use Rattle.b2_host.specs.Disks.{Disk}
 use Rattle.b2_host.specs.Outside.{Read, Outside}
 use Rattle.b2_plan.specs.Plans.{Apart}
+use Rattle.b2_front.specs.Meaning.{AsksTests}
 use Rattle.b2_log.specs.declared.line.LogLine.{LogLine}
 use Rattle.b2_refusals.specs.declared.fault.Fault.{Fault}
 use Rattle.b2_refusals.specs.declared.fault.Fault.TheVariants as faults
@@ -19,20 +20,26 @@ use Rattle.b2_words.specs.Words.{Word}
 use Rattle.b2_top.specs.Commands.{build_command}
 use Rattle.b2_top.specs.Plans.{HasPlan, build_at, update_for, MeetsPremises}
 use Rattle.b2_top.specs.Causes.{HasNoPlan}
+use Rattle.b2_top.specs.LastLines.{LacksVerdicts}
 use Rattle.b2_top.specs.Told.{StaysStill}
 
--- The answers of a call whose update ended so: its own, and those of a fault at the last line, where it has one.
-abbrev pub MayAnswer : UpdateAnswer → Answer → Type 0
-MayAnswer all_went result = result ≡ answers.Ok
-MayAnswer (some_failed lists) (answers.Failed named) = lists ≡ lists_of named
-MayAnswer (some_failed lists) result = ⊥
-MayAnswer (step_cycle list) result =
+-- The plan asks for some tests, and the sink failed or memory ran out at their verdicts.
+abbrev pub LacksSome : {words : List Word} → {disk : Disk} → HasPlan words disk → Answer → Type 0
+LacksSome {words} {disk} plan result =
+    (tests : List (List ℕ × ℕ)) × AsksTests disk plan.command.words plan.planned tests × LacksVerdicts tests result
+
+-- The answers of a call whose update ended so: its own, and those of a fault at the last lines, where it has some.
+abbrev pub MayAnswer : {words : List Word} → {disk : Disk} → HasPlan words disk → UpdateAnswer → Answer → Type 0
+MayAnswer plan all_went result = (result ≡ answers.Ok) ⊎ LacksSome plan result
+MayAnswer plan (some_failed lists) (answers.Failed named) = lists ≡ lists_of named
+MayAnswer plan (some_failed lists) result = LacksSome plan result
+MayAnswer plan (step_cycle list) result =
     (result ≡ answers.Refused (faults.StepCycle list)) ⊎ (result ≡ answers.SinkFault) ⊎ (result ≡ answers.OutOfMemory)
-MayAnswer (too_big path size) result =
+MayAnswer plan (too_big path size) result =
     (result ≡ answers.Refused (faults.TooBig path size)) ⊎ (result ≡ answers.SinkFault) ⊎ (result ≡ answers.OutOfMemory)
-MayAnswer host_fault result = (result ≡ answers.HostFault) ⊎ (result ≡ answers.OutOfMemory)
-MayAnswer sink_fault result = result ≡ answers.SinkFault
-MayAnswer out_of_memory result = result ≡ answers.OutOfMemory
+MayAnswer plan host_fault result = (result ≡ answers.HostFault) ⊎ (result ≡ answers.OutOfMemory)
+MayAnswer plan sink_fault result = result ≡ answers.SinkFault
+MayAnswer plan out_of_memory result = result ≡ answers.OutOfMemory
 
 module _ (made : Made) (words : List Word) (before after : Outside) (disk later : Disk) where
   -- There is a plan, and this is its update, which ended so. It began when the project had been loaded, which changes
@@ -50,7 +57,7 @@ module _ (made : Made) (words : List Word) (before after : Outside) (disk later 
 
   -- there is a plan, and its update ended so that the call may have this answer
   abbrev pub HasBuiltUpTo : Answer → Type 0
-  HasBuiltUpTo result = (ended : UpdateAnswer) × MayAnswer ended result × HasBuilt ended
+  HasBuiltUpTo result = (ended : UpdateAnswer) × (built : HasBuilt ended) × MayAnswer built.plan ended result
 
   -- nothing was done, for a cause that the words and the files have
   abbrev pub IsRefusedEarly : Fault → Type 0

@@ -12,7 +12,7 @@ use Rattle.b2_runs.specs.UpdateAnswers.{SinkFailed}
 use Rattle.b2_refusals.specs.declared.fault.Fault.{Fault}
 use Rattle.b2_refusals.specs.Lines.{usage_line}
 use Rattle.b2_top.specs.RefusalCauses.{HasCause}
-use Rattle.b2_top.specs.Reports.{refusal_report, fault_report}
+use Rattle.b2_top.specs.Reports.{refusal_report}
 
 -- Such a command was asked for, and the files and its free words come to a plan.
 pub record HasFreePlan (free : Option (List Word)) (disk : Disk) : Type 0 where

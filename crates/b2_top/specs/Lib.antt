@@ -8,6 +8,7 @@ pub mod Commands
 pub mod Laws
 pub mod Plans
 pub mod Causes
+pub mod LastLines
 pub mod Builds
 pub mod Reported
 pub mod Answered

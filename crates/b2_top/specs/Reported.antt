@@ -9,12 +9,12 @@ use Rattle.b2_base.specs.Counts.{Rose}
 use Rattle.b2_base.specs.Bytes.{IsFrontOf}
 use Rattle.b2_host.specs.Output.{Output}
 use Rattle.b2_host.specs.declared.children.ChildEvent.{ChildEvent}
-use Rattle.b2_front.specs.Meaning.{BeginLoad}
+use Rattle.b2_front.specs.Meaning.{BeginLoad, AsksTests}
 use Rattle.b2_refusals.specs.Lines.{usage_line}
 use Rattle.b2_refusals.specs.declared.fault.Fault.{Fault}
 use Rattle.b2_refusals.specs.declared.fault.Fault.TheVariants as faults
 use Rattle.b2_runs.specs.Moments.{Moment}
-use Rattle.b2_runs.specs.UpdateAnswers.{UpdateAnswer, SinkFailed, WithLog, WrittenBy, refusal_line}
+use Rattle.b2_runs.specs.UpdateAnswers.{UpdateAnswer, SinkFailed, WithLog, WrittenBy}
 use Rattle.b2_runs.specs.UpdateAnswers.UpdateAnswer.{all_went, failed as some_failed, step_cycle, too_big, host_fault}
 use Rattle.b2_endings.specs.Endings.{lists_of}
 use Rattle.b2_drain.specs.Drains.{Made}
@@ -24,6 +24,7 @@ use Rattle.b2_top.specs.Told.{StaysStill, Wrote}
 use Rattle.b2_top.specs.Plans.{HasPlan, update_for, MeetsPremises}
 use Rattle.b2_top.specs.Causes.{HasNoPlan}
 use Rattle.b2_top.specs.Builds.{MayAnswer}
+use Rattle.b2_top.specs.LastLines.{AreLast}
 
 -- ---- parts of a text
 
@@ -84,17 +85,22 @@ WroteEarly before after events Holds =
 
 module _ (made : Made) (words : List Word) (before after : Moment) (disk later : Disk) (events : List ChildEvent) where
   -- There is a plan, and its update ended so. Where its premises are met, the lines of ECHO were written, those that
-  -- the update writes, and of the last line a part of which this holds.
+  -- the update writes, and of the last lines a part of which this holds. The last lines are the verdicts of the tests that
+  -- the plan asks for, or the line of a refusal.
   pub record WroteUpdate (ended : UpdateAnswer) (Holds : List ℕ → List ℕ → Type 0) : Type 0 where
     pub plan : HasPlan words disk
+    pub tests : List (List ℕ × ℕ)
+    pub asks : AsksTests disk plan.command.words plan.planned tests
+    pub last : List ℕ
+    pub are_last : AreLast plan.planned.steps tests ended last
     pub wrote : WithLog disk.now (λ log. MeetsPremises (update_for made plan log) disk later
         → Wrote before.out after.out (λ written. (lines : List ℕ) × (part : List ℕ)
         × WrittenBy (update_for made plan log) events later.now ended lines
-        × Holds part (refusal_line plan.planned.steps ended) × (written ≡ echo_lines plan.echoes ++ lines ++ part))) ended
+        × Holds part last × (written ≡ echo_lines plan.echoes ++ lines ++ part))) ended
 
-  -- an update ended so that the call may have this answer, and its last line was cut
+  -- an update ended so that the call may have this answer, and its last lines were cut
   abbrev pub WroteUpTo : Answer → Type 0
-  WroteUpTo result = (ended : UpdateAnswer) × MayAnswer ended result × WroteUpdate ended IsFrontOf
+  WroteUpTo result = (ended : UpdateAnswer) × (wrote : WroteUpdate ended IsFrontOf) × MayAnswer wrote.plan ended result
 
   -- the report of a refusal
   abbrev pub RefusalTold : Fault → Type 0

@@ -1,5 +1,5 @@
 -- What the parts of a call do.
-use Rattle.std.specs.Prelude.{◌≡◌, List, [], Some, None, Err, IfSome, ⊤}
+use Rattle.std.specs.Prelude.{◌≡◌, ℕ, List, [], ◌∷◌, Some, None, Result, Err, IfSome, ⊤}
 use Rattle.b2_top.specs.Reports.{echo_lines, refusal_report, fault_report}
 use Rattle.b2_top.specs.RefusalCauses.{IsPatternRefused}
 use Rattle.b2_top.specs.Writing.{Writes, unwritten, Says, SaysFault}
@@ -27,27 +27,52 @@ use Rattle.b2_update.specs.declared.update_answer.UpdateAnswer.TheVariants as en
 use Rattle.b2_words.specs.Words.{Word}
 use Rattle.b2_top.specs.Commands.{build_command}
 use Rattle.b2_top.specs.Endings.{IsUsageOrCutShort, IfRefused}
+use Rattle.b2_top.specs.LastLines.{AreVerdictLines}
 use Rattle.b2_top.specs.Plans.{HasPlan}
 use Rattle.b2_top.specs.Answered.{HappenedTold, CountsTold, UsageTold, StartsNone, ReportTold, TurnsTold, LeftOpenTold}
 
 -- ---- an update
 
--- what is written and answered after an update that ended so
-abbrev pub EndsUpdate : List Step → UpdateAnswer → Output → Output → Answer → Type 0
-EndsUpdate steps ends.Done before after result = (result ≡ answers.Ok) × (after ≡ before)
-EndsUpdate steps (ends.Failed lists) before after result = (result ≡ answers.Failed lists) × (after ≡ before)
-EndsUpdate steps (ends.StepCycle list) before after result =
+-- the answer of a call whose update ended so, where all that comes after it could be written
+abbrev pub own_answer : UpdateAnswer → Answer
+own_answer ends.Done = answers.Ok
+own_answer (ends.Failed lists) = answers.Failed lists
+own_answer (ends.StepCycle list) = answers.Refused (faults.StepCycle list)
+own_answer (ends.TooBig path size) = answers.Refused (faults.TooBig path size)
+own_answer ends.HostFault = answers.HostFault
+own_answer ends.SinkFault = answers.SinkFault
+own_answer ends.OutOfMemory = answers.OutOfMemory
+
+-- the verdicts of these tests were written, as after an update that ended so
+abbrev pub WritesVerdicts : List Step → UpdateAnswer → List (List ℕ × ℕ) → Output → Output → Result (Unit {0}) IoFault
+    → Type 0
+WritesVerdicts steps ended tests before after result =
+    (lines : List ℕ) × AreVerdictLines steps (answer_of ended) tests lines × Writes lines before after result
+
+-- After an update that came to its end, nothing more is written where no test is asked for; else the verdicts.
+abbrev pub TellsVerdicts : List Step → List (List ℕ × ℕ) → UpdateAnswer → Output → Output → Answer → Type 0
+TellsVerdicts steps [] ended before after result = (result ≡ own_answer ended) × (after ≡ before)
+TellsVerdicts steps (test ∷ more) ended before after result =
+    (lines : List ℕ) × AreVerdictLines steps (answer_of ended) (test ∷ more) lines
+    × Says (own_answer ended) lines before after result
+
+-- what is written and answered after an update that ended so, for these tests
+abbrev pub EndsUpdate : List Step → List (List ℕ × ℕ) → UpdateAnswer → Output → Output → Answer → Type 0
+EndsUpdate steps tests ends.Done before after result = TellsVerdicts steps tests ends.Done before after result
+EndsUpdate steps tests (ends.Failed lists) before after result =
+    TellsVerdicts steps tests (ends.Failed lists) before after result
+EndsUpdate steps tests (ends.StepCycle list) before after result =
     Says (answers.Refused (faults.StepCycle list)) (refusal_report [] steps (faults.StepCycle list)) before after result
-EndsUpdate steps (ends.TooBig path size) before after result =
+EndsUpdate steps tests (ends.TooBig path size) before after result =
     Says (answers.Refused (faults.TooBig path size)) (refusal_report [] steps (faults.TooBig path size))
     before after result
-EndsUpdate steps ends.HostFault before after result = SaysFault (fault_report []) before after result
-EndsUpdate steps ends.SinkFault before after result = (result ≡ answers.SinkFault) × (after ≡ before)
-EndsUpdate steps ends.OutOfMemory before after result = (result ≡ answers.OutOfMemory) × (after ≡ before)
+EndsUpdate steps tests ends.HostFault before after result = SaysFault (fault_report []) before after result
+EndsUpdate steps tests ends.SinkFault before after result = (result ≡ answers.SinkFault) × (after ≡ before)
+EndsUpdate steps tests ends.OutOfMemory before after result = (result ≡ answers.OutOfMemory) × (after ≡ before)
 
--- A plan is updated, and its end is told.
-pub record Updates (made : Made) (options : Options) (plan : Plan) (before after : Moment) (result : Answer)
-    : Type 0 where
+-- A plan is updated, and its end is told, with the verdicts of these tests.
+pub record Updates (made : Made) (options : Options) (plan : Plan) (tests : List (List ℕ × ℕ)) (before after : Moment)
+    (result : Answer) : Type 0 where
   pub ended : UpdateAnswer
   pub out : Output
   pub counts : CausedBy before (moment after.host out) (answer_of ended)
@@ -56,16 +81,16 @@ pub record Updates (made : Made) (options : Options) (plan : Plan) (before after
       (answer_of ended)
   pub left_open : LeavesOpen plan.steps before.host.children after.host.children
   pub told : UpdateTold plan options made before (moment after.host out) ended
-  pub ends : EndsUpdate plan.steps ended out after.out result
+  pub ends : EndsUpdate plan.steps tests ended out after.out result
 
 -- The lines of ECHO are written, and then the plan is updated.
-pub data Runs (made : Made) (echoes : List Word) (options : Options) (plan : Plan) (before after : Moment)
-    (result : Answer) : Type 0 where
+pub data Runs (made : Made) (echoes : List Word) (options : Options) (plan : Plan) (tests : List (List ℕ × ℕ))
+    (before after : Moment) (result : Answer) : Type 0 where
   updates : (out : Output) → out ≡ with_written (echo_lines echoes) before.out
-      → Updates made options plan (moment before.host out) after result
-      → Runs made echoes options plan before after result
+      → Updates made options plan tests (moment before.host out) after result
+      → Runs made echoes options plan tests before after result
   stops : (fault : IoFault) → Writes {T = Unit {0}} (echo_lines echoes) before.out after.out (Err fault)
-      → after.host ≡ before.host → result ≡ unwritten fault → Runs made echoes options plan before after result
+      → after.host ≡ before.host → result ≡ unwritten fault → Runs made echoes options plan tests before after result
 
 -- ---- a build
 

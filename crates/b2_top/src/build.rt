@@ -11,6 +11,7 @@ use crate::answer::Answer;
 use crate::build_command::BuildCommand;
 use crate::lines::write_echoes;
 use crate::tell::{tell_host_fault, tell_refusal, tell_stop, unwritten};
+use crate::verdicts::tell_verdicts;
 use b2_base::text::Text;
 use b2_front::laws::one_meaning;
 use b2_front::prepare::{Prepared, prepare};
@@ -36,10 +37,11 @@ fn options_of(options: BuildOptions) -> Options
     }
 }
 
-/// Updates a plan, and tells a refusal in the update or a fault of the host.
+/// Updates a plan, and tells the verdicts of the tests that were asked for, a refusal in the update, or a fault of the host.
 fn update_plan<H: Children, S: Sink>(
     alloc: Global,
     plan: &Plan,
+    tests: &[(Text, u32)],
     options: Options,
     host: &mut H,
     out: &mut S,
@@ -47,14 +49,16 @@ fn update_plan<H: Children, S: Sink>(
     requires idle { (H.outside host.old).children.running ≡ [] }
     requires apart { Apart plan.now.steps plan.now.roots }
     requires some_job { 1 ≤ options.jobs }
-    ensures updates { Updates H.made options plan.now (moment (H.outside host.old) (S.output out.old))
+    ensures updates { Updates H.made options plan.now tests.now (moment (H.outside host.old) (S.output out.old))
         (moment (H.outside host.new) (S.output out.new)) result }
     ensures none_left { LeavesNone (H.outside host.old) (H.outside host.new) }
     ensures keeps { Keeps (H.outside host.old) (H.outside host.new) }
 {
     match update(alloc, plan, options, host, out) {
-        UpdateAnswer::Done => Answer::Ok,
-        UpdateAnswer::Failed(lists) => Answer::Failed(lists),
+        UpdateAnswer::Done => tell_verdicts(alloc, plan, tests, UpdateAnswer::Done, out),
+        UpdateAnswer::Failed(lists) => {
+            tell_verdicts(alloc, plan, tests, UpdateAnswer::Failed(lists), out)
+        }
         UpdateAnswer::StepCycle(list) => {
             let fault = Fault::StepCycle { list };
             tell_refusal(alloc, &[], plan.steps.as_slice(), fault, out)
@@ -74,6 +78,7 @@ fn run_plan<H: Children, S: Sink>(
     alloc: Global,
     echoes: &[Text],
     plan: &Plan,
+    tests: &[(Text, u32)],
     options: Options,
     host: &mut H,
     out: &mut S,
@@ -81,13 +86,13 @@ fn run_plan<H: Children, S: Sink>(
     requires idle { (H.outside host.old).children.running ≡ [] }
     requires apart { Apart plan.now.steps plan.now.roots }
     requires some_job { 1 ≤ options.jobs }
-    ensures runs { Runs H.made echoes.now options plan.now (moment (H.outside host.old) (S.output out.old))
+    ensures runs { Runs H.made echoes.now options plan.now tests.now (moment (H.outside host.old) (S.output out.old))
         (moment (H.outside host.new) (S.output out.new)) result }
     ensures none_left { LeavesNone (H.outside host.old) (H.outside host.new) }
     ensures keeps { Keeps (H.outside host.old) (H.outside host.new) }
 {
     match write_echoes(alloc, echoes, out) {
-        Ok(()) => update_plan(alloc, plan, options, host, out),
+        Ok(()) => update_plan(alloc, plan, tests, options, host, out),
         Err(fault) => unwritten(fault),
     }
 }
@@ -108,9 +113,21 @@ pub fn build<H: Children, S: Sink>(
 {
     one_meaning();
     let options = options_of(command.options);
-    let Prepared { echoes, result } = prepare(alloc, command.words.as_slice(), host);
+    let Prepared {
+        echoes,
+        result,
+        tests,
+    } = prepare(alloc, command.words.as_slice(), host);
     match result {
-        Ok(planned) => run_plan(alloc, echoes.as_slice(), &planned.plan, options, host, out),
+        Ok(planned) => run_plan(
+            alloc,
+            echoes.as_slice(),
+            &planned.plan,
+            tests.as_slice(),
+            options,
+            host,
+            out,
+        ),
         Err(stop) => tell_stop(alloc, echoes.as_slice(), stop, out),
     }
 }

@@ -67,7 +67,11 @@ fn clean<H: Files, S: Sink>(alloc: Global, words: &[Text], host: &mut H, out: &m
     ensures { Cleans words.now (moment (H.outside host.old) (S.output out.old)) (moment (H.outside host.new) (S.output out.new)) result }
 {
     one_meaning();
-    let Prepared { echoes, result } = prepare(alloc, words, host);
+    let Prepared {
+        echoes,
+        result,
+        tests: _tests,
+    } = prepare(alloc, words, host);
     match result {
         Ok(planned) => clean_steps(alloc, echoes.as_slice(), &planned.plan, host, out),
         Err(stop) => tell_stop(alloc, echoes.as_slice(), stop, out),

@@ -160,7 +160,11 @@ fn explain_words<H: Files, S: Sink>(
         (moment (H.outside host.new) (S.output out.new)) result }
 {
     one_meaning();
-    let Prepared { echoes, result } = prepare(alloc, command.words.as_slice(), host);
+    let Prepared {
+        echoes,
+        result,
+        tests: _tests,
+    } = prepare(alloc, command.words.as_slice(), host);
     match result {
         Ok(planned) => {
             let echoes = echoes.as_slice();

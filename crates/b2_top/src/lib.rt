@@ -18,3 +18,4 @@ pub mod mode;
 pub mod run;
 pub mod show;
 pub mod tell;
+mod verdicts;

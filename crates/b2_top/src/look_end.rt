@@ -37,7 +37,11 @@ pub fn tell<S: Sink>(alloc: Global, view: View, prepared: Prepared, out: &mut S)
     requires { IfErr prepared.result IsWholeStop }
     ensures { AnswersWith view prepared.echoes prepared.result (S.output out.old) (S.output out.new) result }
 {
-    let Prepared { echoes, result } = prepared;
+    let Prepared {
+        echoes,
+        result,
+        tests: _tests,
+    } = prepared;
     match result {
         Ok(planned) => tell_look(alloc, view, echoes.as_slice(), &planned, out),
         Err(stop) => tell_stop(alloc, echoes.as_slice(), stop, out),

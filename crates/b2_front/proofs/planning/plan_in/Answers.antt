@@ -19,6 +19,9 @@ returns-in-Ok-clause-told g c = λ rs copied.
 pub returns-in-Ok-clause-apart : goal.returns-in-Ok-clause-apart
 returns-in-Ok-clause-apart g c = c.plan.ensures.apart
 
+pub returns-in-Ok-clause-sets : goal.returns-in-Ok-clause-sets
+returns-in-Ok-clause-sets g c = c.plan.ensures.sets
+
 pub returns-in-Ok-clause-leaves : goal.returns-in-Ok-clause-leaves
 returns-in-Ok-clause-leaves g c = c.plan.ensures.leaves
 

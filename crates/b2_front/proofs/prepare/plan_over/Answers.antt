@@ -48,7 +48,7 @@ returns g c =
     (told_own found c.args.world c.args.request.now c.roots.result.now from planned.result.result
     own.result.projects.now own.result.loaded.world (outside own.result.host.files.now) (own.ensures.projects ∙ c.as_slice.ensures) own.ensures.world start_is
     (planned.ensures.told c.roots.result.now c.copy_paths-roots.ensures))
-    c.roots.ensures.same planned.ensures.apart planned.ensures.leaves.known
+    c.roots.ensures.same planned.ensures.apart planned.ensures.sets planned.ensures.leaves.known
     (counted_own from mid (outside own.result.host.files.now) mid planned.result.result start_is refl planned.ensures.leaves.counted)
     (ap (λ (h : Held). h.disk) kept ∙ ap (λ (o : Outside). o.disk) start_is)
     ended.result.result

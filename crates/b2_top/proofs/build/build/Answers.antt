@@ -1,5 +1,5 @@
 use Rattle.std.proofs.Common.{ℕ, List, Result, IfSome, IfOk, IfErr, inl, ap, ◌∙◌, subst}
-use Rattle.b2_front.specs.Preparing.{IsPrepared, LinesTold, Counts, IsWhole}
+use Rattle.b2_front.specs.Preparing.{IsPrepared, LinesTold, TestsTold, Counts, IsWhole}
 use Rattle.b2_front.specs.declared.refusal.Stop.{Stop}
 use Rattle.b2_planning.specs.declared.planned.Planned.{Planned}
 use Rattle.b2_host.specs.ChildProcesses.{Family}
@@ -30,12 +30,16 @@ returns-in-Ok-clause-builds g c = λ words asked.
     let command = c.args.command.now in
     let words_told = subst (λ (l : List (List ℕ)). IfSome h0.disk (λ (disk : Disk). IsPrepared disk l echoes c.prepare-echoes.result.result)) c.as_slice.ensures c.prepare-echoes.ensures.told in
     let told = subst (λ (r : Result Planned Stop). IfSome h0.disk (λ (disk : Disk). IsPrepared disk command.words echoes r)) c.in-Ok.is words_told in
+    let tests = c.prepare-echoes.result.tests.items in
+    let words_asked = subst (λ (l : List (List ℕ)). IfSome h0.disk (λ (disk : Disk). TestsTold disk l c.prepare-echoes.result.result tests)) c.as_slice.ensures c.prepare-echoes.ensures.tests in
+    let asks = subst (λ (r : Result Planned Stop). IfSome h0.disk (λ (disk : Disk). TestsTold disk command.words r tests)) c.in-Ok.is words_asked in
     let apart = subst (λ (r : Result Planned Stop). IfOk r (λ (p : Planned). Apart p.plan.steps p.plan.roots)) c.in-Ok.is c.prepare-echoes.ensures.apart in
     let same = subst (λ (r : Result Planned Stop). Counts r h0 h1) c.in-Ok.is c.prepare-echoes.ensures.counts in
-    let run = subst (λ (lines : List (List ℕ)). Runs made lines c.options_of-options.result planned.plan (moment h1 o0) (moment h2 o2) c.run_plan.result) c.as_slice-in-Ok.ensures c.run_plan.ensures.runs in
-    let asked_so = subst (λ (o : Options). Runs made echoes o planned.plan (moment h1 o0) (moment h2 o2) c.run_plan.result) c.options_of-options.ensures run in
+    let run = subst (λ (lines : List (List ℕ)). Runs made lines c.options_of-options.result planned.plan c.as_slice-in-Ok-2.result.now (moment h1 o0) (moment h2 o2) c.run_plan.result) c.as_slice-in-Ok.ensures c.run_plan.ensures.runs in
+    let tests_so = subst (λ (ts : List (List ℕ × ℕ)). Runs made echoes c.options_of-options.result planned.plan ts (moment h1 o0) (moment h2 o2) c.run_plan.result) c.as_slice-in-Ok-2.ensures.value run in
+    let asked_so = subst (λ (o : Options). Runs made echoes o planned.plan tests (moment h1 o0) (moment h2 o2) c.run_plan.result) c.options_of-options.ensures tests_so in
     run_of c.one_meaning.ensures made words command asked h0 h1 o0 c.requires.idle echoes c.prepare-echoes.ensures.disk c.prepare-echoes.ensures.children
-    planned told apart same c.prepare-echoes.ensures.keeps h2 o2 c.run_plan.result asked_so
+    planned tests told asks apart same c.prepare-echoes.ensures.keeps h2 o2 c.run_plan.result asked_so
 
 pub returns-in-Ok-clause-none_left : goal.returns-in-Ok-clause-none_left
 returns-in-Ok-clause-none_left g c =

@@ -7,6 +7,9 @@ use Rattle.b2_refusals.specs.declared.fault.Fault.TheVariants as faults
 use Rattle.b2_update.specs.declared.update_answer.UpdateAnswer.TheVariants as ended
 use Rattle.b2_top.proofs.build.update_plan.Goals as goal
 
+pub tell_verdicts-requires-clause-apart : goal.tell_verdicts-requires-clause-apart
+tell_verdicts-requires-clause-apart g c = c.requires.apart
+
 pub returns-in-Done-clause-updates : goal.returns-in-Done-clause-updates
 returns-in-Done-clause-updates g c =
     record {
@@ -17,7 +20,7 @@ returns-in-Done-clause-updates g c =
       turns = c.in-Done.ensures.turns;
       left_open = c.in-Done.ensures.left_open;
       told = c.in-Done.ensures.told;
-      ends = (refl, refl);
+      ends = c.tell_verdicts.ensures;
     }
 
 pub returns-in-Done-clause-none_left : goal.returns-in-Done-clause-none_left
@@ -36,7 +39,7 @@ returns-in-Failed-clause-updates g c =
       turns = c.in-Failed.ensures.turns;
       left_open = c.in-Failed.ensures.left_open;
       told = c.in-Failed.ensures.told;
-      ends = (refl, refl);
+      ends = c.tell_verdicts-in-Failed.ensures;
     }
 
 pub returns-in-Failed-clause-none_left : goal.returns-in-Failed-clause-none_left

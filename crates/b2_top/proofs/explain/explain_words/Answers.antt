@@ -1,4 +1,4 @@
-use Rattle.std.proofs.Common.{ℕ, List, Result, IfSome, IfOk, IfErr, subst}
+use Rattle.std.proofs.Common.{ℕ, List, Result, IfSome, IfErr, subst}
 use Rattle.b2_front.specs.Preparing.{IsPrepared, Counts, IsWhole}
 use Rattle.b2_front.specs.declared.refusal.Stop.{Stop}
 use Rattle.b2_planning.specs.declared.planned.Planned.{Planned}
