@@ -133,6 +133,7 @@ pub fn claim(
     let Prepared {
         echoes: _echoes,
         result,
+        tests: _tests,
     } = prepare(alloc, &[], host);
     let Ok(planned) = result else {
         return Answer::line(alloc, "no plan");
