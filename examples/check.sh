@@ -404,6 +404,8 @@ if command -v g++ > /dev/null; then
     shows README.md
     project from-b2
     shows docs/FROM-B2.md
+    project tests
+    shows docs/TESTING.md
     . "$top/examples/cpp-check.sh"
 else
     echo "There is no g++ here: no C++ project was built."

@@ -237,6 +237,70 @@ for number in 1 2 3 4 5 6 7 8; do
     mends whole -j4 release
 done
 
+# ---- each testing rule with its other end, with the real compiler
+
+project tests
+"$B2" > "$work/printed" 2> /dev/null
+passes "all tests" [ "$(grep -c '^passed //' "$work/printed")" = 4 ]
+sed -i 's/ = delete/ = default/' include/stack.h
+runs 1 <<'E1'
+gcc.compile.c++ bin/gcc/debug/link-static/stack.o
+gcc.archive bin/gcc/debug/link-static/libstack.a
+gcc.compile.c++ bin/gcc/debug/order_test.o
+gcc.link bin/gcc/debug/order_test.run
+testing.run bin/gcc/debug/order_test.test
+gcc.compile.c++ bin/gcc/debug/empty_test.o
+gcc.link bin/gcc/debug/empty_test.run
+testing.run-fail bin/gcc/debug/empty_test.test
+gcc.compile.c++ bin/gcc/debug/header_test.o
+testing.pass bin/gcc/debug/header_test.test
+testing.compile-fail bin/gcc/debug/copy_test.test
+...failed testing.compile-fail bin/gcc/debug/copy_test.test...
+updated 10, failed 1, skipped 0, missing 0
+passed //order_test.test
+passed //empty_test.test
+passed //header_test.test
+failed //copy_test.test
+E1
+passes "no marker of a test that failed" [ ! -e bin/gcc/debug/copy_test.test ]
+runs 1 copy_test.test <<'E1'
+testing.compile-fail bin/gcc/debug/copy_test.test
+...failed testing.compile-fail bin/gcc/debug/copy_test.test...
+updated 0, failed 1, skipped 0, missing 0
+failed //copy_test.test
+E1
+cp "$top/examples/tests/include/stack.h" include
+"$B2" copy_test.test > "$work/printed" 2> /dev/null
+passes "a test that passes again" grep -qx 'passed //copy_test.test' "$work/printed"
+# A source that does not compile: its test has failed, and the marker of before stands.
+echo 'int broken' >> header_test.cpp
+"$B2" header_test.test > "$work/happened" 2> /dev/null
+passes "status 1 of a source that does not compile" [ $? = 1 ]
+cat > "$work/expected" <<'E1'
+gcc.compile.c++ bin/gcc/debug/header_test.o
+...failed gcc.compile.c++ bin/gcc/debug/header_test.o...
+...skipped bin/gcc/debug/header_test.test...
+updated 0, failed 1, skipped 1, missing 0
+failed //header_test.test
+E1
+passes "the verdict on a source that does not compile" diff "$work/expected" "$work/happened"
+passes "its marker of before" [ -e bin/gcc/debug/header_test.test ]
+cp "$top/examples/tests/header_test.cpp" .
+# A program that ends well is no longer one that is to end badly, and the other way round.
+cp empty_test.cpp order_test.cpp
+sed -i '/pop/d' empty_test.cpp
+"$B2" -j4 > "$work/printed" 2> /dev/null
+passes "status 1 of tests that fail" [ $? = 1 ]
+tail -n 5 "$work/printed" > "$work/happened"
+cat > "$work/expected" <<'E1'
+updated 8, failed 2, skipped 0, missing 0
+failed //order_test.test
+failed //empty_test.test
+passed //header_test.test
+passed //copy_test.test
+E1
+passes "the verdicts" diff "$work/expected" "$work/happened"
+
 # ---- a program of a shared library, which is started in another folder (docs/MANUAL.md, 'Shared libraries')
 
 rm -rf "$work/shared" && mkdir "$work/shared" && cd "$work/shared"

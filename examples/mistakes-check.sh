@@ -93,6 +93,9 @@ refuses 'Jamroot:1: bad using' 'using gcc : 12 ;'
 refuses 'Jamroot:1: bad exe' 'exe draw main.cpp ;'
 refuses 'Jamroot:1: bad run' 'run draw.cpp : circle ;'
 refuses 'Jamroot:1: bad compile-fail' 'compile-fail draw.c ;'
+refuses 'Jamroot:2: unknown rule unit-test' 'import testing ;
+unit-test draw : draw.cpp ;'
+refuses 'gcc:6: unknown rule gcc.compile.c++' 'compile-fail draw.cpp ;'
 refuses 'Jamroot:2: f is there twice' 'feature.feature f : a ;
 feature.feature f : b ;'
 refuses 'Jamroot:2: unknown cxxstd' 'using gcc ;
@@ -123,6 +126,10 @@ alias t : y : <colour>blue ;'
 refuses 'alternatives 1 and 2 of //t for <colour>red' 'feature.feature colour : red green ;
 alias t : x : <colour>red ;
 alias t : y : <colour>red ;'
+refuses 'alternatives 1 and 2 of //draw.test for <toolset>gcc <variant>debug <optimization>off <debug-symbols>on <inlining>off '\
+'<runtime-debugging>on <link>shared <runtime-link>shared <threading>single <warnings>on' 'using gcc ;
+compile draw.cpp ;
+run draw.cpp ;'
 refuses 'unstable requirements of //draw' 'using gcc ;
 exe draw : main.cpp : <link>shared:<threading>multi <threading>multi:<link>static ;'
 refuses 'no chain from FILE to OBJ' 'exe draw : main.cpp ;'
