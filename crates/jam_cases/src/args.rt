@@ -8,7 +8,7 @@ use transcript::answer::Answer;
 #[cycle(args)]
 pub fn put_arg(answer: &mut Answer, arg: &Arg) {
     match arg {
-        Arg::Word(text) => put_quoted(answer, text.as_str()),
+        Arg::Word(word) => put_quoted(answer, word.text().as_str()),
         Arg::Bracket(inner) => {
             answer.put("[");
             put_inner(answer, inner);

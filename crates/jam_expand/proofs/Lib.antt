@@ -17,3 +17,4 @@ pub mod PiecesAreTheOnlyCut
 pub mod SizesOfListsMultiply
 pub mod PlainWordsExpandToThemselves
 pub mod PlainBodyIsItself
+pub mod WordsAreReadOnce

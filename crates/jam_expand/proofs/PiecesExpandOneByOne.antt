@@ -15,7 +15,7 @@ use Rattle.jam_expand.specs.Limits.{Answer, within}
 use Rattle.jam_expand.specs.Words.{Piece, text, part, inside_len, before_pieces, piece_at, pieces_after, pieces_of, any_part, too_deep, bytes_of}
 use Rattle.jam_expand.specs.Products.{product}
 use Rattle.jam_expand.specs.Values.{values_of_all}
-use Rattle.jam_expand.specs.Expansions.{list_of, lists_of, product_of, elements_at}
+use Rattle.jam_expand.specs.Expansions.{list_of, lists_of, product_of_pieces, product_of, elements_at}
 
 -- lists that were found before others
 pub after_lists : List (List (List ℕ)) → Result (List (List (List ℕ))) ExpandFault → Result (List (List (List ℕ))) ExpandFault
@@ -40,24 +40,23 @@ found_piece values found pieces place piece d list inside here e =
     ∙ ap (λ r. after_lists found (and_then (λ first. and_then (λ lists. Ok (first ∷ lists)) (lists_of values (drop (place + 1) pieces))) r)) e
     ∙ found_more found list (lists_of values (drop (place + 1) pieces)))
 
-pub piece_fault : (values : List ℕ → Answer) (found : List (List (List ℕ))) (word : List ℕ) (place : ℕ) (piece d : Piece) (fault : ExpandFault) → place < length (pieces_of word) → piece ≡ get_or (pieces_of word) place d
-    → after_lists found (lists_of values (drop place (pieces_of word))) ≡ lists_of values (pieces_of word)
-    → (fault ≡ faults.OutOfMemory) ⊎ (list_of values piece ≡ Err fault) → (fault ≡ faults.OutOfMemory) ⊎ (product_of values word ≡ Err fault)
+pub piece_fault : (values : List ℕ → Answer) (found : List (List (List ℕ))) (pieces : List Piece) (place : ℕ) (piece d : Piece) (fault : ExpandFault) → place < length pieces → piece ≡ get_or pieces place d
+    → after_lists found (lists_of values (drop place pieces)) ≡ lists_of values pieces
+    → (fault ≡ faults.OutOfMemory) ⊎ (list_of values piece ≡ Err fault) → (fault ≡ faults.OutOfMemory) ⊎ (product_of_pieces values pieces ≡ Err fault)
 unfolding after_lists
-piece_fault values found word place piece d fault inside here so_far (inl e) = inl e
-piece_fault values found word place piece d fault inside here so_far (inr e) =
-    let pieces = pieces_of word in
+piece_fault values found pieces place piece d fault inside here so_far (inl e) = inl e
+piece_fault values found pieces place piece d fault inside here so_far (inr e) =
     let all : lists_of values pieces ≡ Err fault =
     sym so_far ∙ ap (λ s. after_lists found (lists_of values s)) (drop_more pieces place d inside ∙ ap (λ s. s ∷ drop (place + 1) pieces) (sym here))
     ∙ ap (λ r. after_lists found (and_then (λ first. and_then (λ lists. Ok (first ∷ lists)) (lists_of values (drop (place + 1) pieces))) r)) e in
     inr (ap (λ r. and_then (λ lists. within (product lists)) r) all)
 
-pub found_all : (values : List ℕ → Answer) (found : List (List (List ℕ))) (word : List ℕ) (place : ℕ) → length (pieces_of word) ≤ place
-    → after_lists found (lists_of values (drop place (pieces_of word))) ≡ lists_of values (pieces_of word) → product_of values word ≡ within (product found)
+pub found_all : (values : List ℕ → Answer) (found : List (List (List ℕ))) (pieces : List Piece) (place : ℕ) → length pieces ≤ place
+    → after_lists found (lists_of values (drop place pieces)) ≡ lists_of values pieces → product_of_pieces values pieces ≡ within (product found)
 unfolding after_lists
-found_all values found word place end so_far =
+found_all values found pieces place end so_far =
     ap (λ r. and_then (λ lists. within (product lists)) r)
-    (sym so_far ∙ ap (λ s. after_lists found (lists_of values s)) (drop_of_length-le (pieces_of word) end) ∙ ap (λ s. Ok s) (append-nil found))
+    (sym so_far ∙ ap (λ s. after_lists found (lists_of values s)) (drop_of_length-le pieces end) ∙ ap (λ s. Ok s) (append-nil found))
 
 -- the bytes of the pieces of a word are among those of the word
 no_zero_cons : (byte : ℕ) (bytes : List ℕ) → 0 < byte → HasNoZero bytes → HasNoZero (byte ∷ bytes)
@@ -99,7 +98,7 @@ held_no_zero word items place d h e l = piece_no_zero word place (shown (get_or 
 pub held_fault : (values : List ℕ → Answer) (found : List (List (List ℕ))) (word : List ℕ) (items : List held.Piece) (place : ℕ) (d : held.Piece) (fault : ExpandFault) → map shown items ≡ pieces_of word → place < length items
     → after_lists found (lists_of values (drop place (pieces_of word))) ≡ lists_of values (pieces_of word)
     → (fault ≡ faults.OutOfMemory) ⊎ (list_of values (shown (get_or items place d)) ≡ Err fault) → (fault ≡ faults.OutOfMemory) ⊎ (product_of values word ≡ Err fault)
-held_fault values found word items place d fault e l so_far h = piece_fault values found word place (shown (get_or items place d)) (shown d) fault (held_within word items place e l) (held_at word items place d e) so_far h
+held_fault values found word items place d fault e l so_far h = piece_fault values found (pieces_of word) place (shown (get_or items place d)) (shown d) fault (held_within word items place e l) (held_at word items place d e) so_far h
 
 pub held_more : (values : List ℕ → Answer) (found : List (List (List ℕ))) (word : List ℕ) (items : List held.Piece) (place : ℕ) (d : held.Piece) (list : List (List ℕ)) → map shown items ≡ pieces_of word → place < length items
     → after_lists found (lists_of values (drop place (pieces_of word))) ≡ lists_of values (pieces_of word)
@@ -108,7 +107,7 @@ held_more values found word items place d list e l so_far h = found_piece values
 
 pub held_all : (values : List ℕ → Answer) (found : List (List (List ℕ))) (word : List ℕ) (items : List held.Piece) (place : ℕ) → map shown items ≡ pieces_of word → length items ≤ place
     → after_lists found (lists_of values (drop place (pieces_of word))) ≡ lists_of values (pieces_of word) → product_of values word ≡ within (product found)
-held_all values found word items place e end so_far = found_all values found word place (subst (λ s. length s ≤ place) e (omega (arith, end, length-map items shown))) so_far
+held_all values found word items place e end so_far = found_all values found (pieces_of word) place (subst (λ s. length s ≤ place) e (omega (arith, end, length-map items shown))) so_far
 
 part_more : (test : List ℕ → Bool) (word : List ℕ) (items : List held.Piece) (place : ℕ) (d : held.Piece) (inside : List ℕ) → map shown items ≡ pieces_of word → place < length items → shown (get_or items place d) ≡ part inside
     → any_part test (drop place (pieces_of word)) ≡ (test inside || any_part test (drop (place + 1) (pieces_of word)))

@@ -18,9 +18,12 @@ abbrev pub lists_of : (List ℕ → Answer) → List Piece → Result (List (Lis
 lists_of values [] = Ok []
 lists_of values (piece ∷ pieces) = and_then (λ list. and_then (λ lists. Ok (list ∷ lists)) (lists_of values pieces)) (list_of values piece)
 
--- the elements of a word, where `values` says what the inside of a part gives
+-- the elements of pieces, and those of a word, where `values` says what the inside of a part gives
+abbrev pub product_of_pieces : (List ℕ → Answer) → List Piece → Answer
+product_of_pieces values pieces = and_then (λ lists. within (product lists)) (lists_of values pieces)
+
 abbrev pub product_of : (List ℕ → Answer) → List ℕ → Answer
-product_of values word = and_then (λ lists. within (product lists)) (lists_of values (pieces_of word))
+product_of values word = product_of_pieces values (pieces_of word)
 
 -- The elements of a word whose parts are nested at most so many deep. The inside of a part is expanded first, and each of
 -- its elements is read as a name with index and modifiers.

@@ -1,3 +1,7 @@
+-- What a reader opens first, and what it defines. The other files serve these or the proofs.
+-- `Expansions`, `Bodies`: the expansion of a word and of a body
+-- `Products`, `Indexes`, `Modifiers`: products, indexes, modifiers
+
 pub mod Limits
 pub mod Words
 pub mod Unclosed
@@ -18,3 +22,4 @@ pub mod BodyCuts
 pub mod WordCuts
 pub mod Sizes
 pub mod PlainNames
+pub mod OwnPieces

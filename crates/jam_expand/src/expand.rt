@@ -21,7 +21,7 @@ use b2_base::text_list::TextList;
 use std::alloc::Global;
 
 /// How deep parts may be nested in one word.
-const LEVELS: usize = 16;
+pub(crate) const LEVELS: usize = 16;
 
 /// Whether a part is nested too deep, where so many may still be nested.
 #[cycle(depth)]
@@ -36,7 +36,7 @@ fn is_too_deep(alloc: Global, levels: usize, inside: &str) -> Result<bool, OutOf
 
 /// Whether the parts of a word are nested more than so many deep.
 #[cycle(depth)]
-fn is_deeper(alloc: Global, levels: usize, word: &str) -> Result<bool, OutOfMemory>
+pub(crate) fn is_deeper(alloc: Global, levels: usize, word: &str) -> Result<bool, OutOfMemory>
     ensures { IfOk result (λ deep. deep ≡ deeper levels word.now) }
 {
     if is_plain(word) {
@@ -53,7 +53,7 @@ fn is_deeper(alloc: Global, levels: usize, word: &str) -> Result<bool, OutOfMemo
     Ok(false)
 }
 
-fn push_list(lists: &mut Vec<TextList>, list: TextList) -> Result<(), OutOfMemory>
+pub(crate) fn push_list(lists: &mut Vec<TextList>, list: TextList) -> Result<(), OutOfMemory>
     ensures { OnOk result (lists.new.items ≡ lists.old.items ++ list ∷ []) }
 {
     lists.push(list)?;
@@ -87,7 +87,7 @@ fn values_at<L: Look>(
 
 /// The list of a piece, whose part holds parts that are nested at most so many deep.
 #[cycle(expand)]
-fn list_of<L: Look>(
+pub(crate) fn list_of<L: Look>(
     alloc: Global,
     levels: usize,
     piece: &Piece,

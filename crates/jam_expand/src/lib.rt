@@ -1,4 +1,8 @@
 //! Words with variables, and the texts that they stand for.
+//!
+//! # What is proved
+//!
+//! - What a word or a body expands to is exact, with each fault.
 #![tactic(auto)]
 
 pub mod body;
@@ -15,3 +19,4 @@ mod piece;
 mod plain;
 mod product;
 mod reference;
+pub mod word;

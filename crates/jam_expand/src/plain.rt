@@ -24,7 +24,7 @@ pub fn is_plain(word: &str) -> bool
 }
 
 /// What stands before a `)` at the end of the text, if one does.
-fn before_close(text: &str) -> Option<&str>
+pub fn before_close(text: &str) -> Option<&str>
     ensures { IfSome result (λ before. text.now ≡ before.now ++ 41 ∷ []) }
 {
     let len = text.len();

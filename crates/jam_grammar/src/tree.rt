@@ -1,5 +1,6 @@
 //! The tree of a file.
 use b2_base::text::Text;
+use jam_expand::word::Word;
 use std::rc::Rc;
 
 /// A whole file.
@@ -189,8 +190,8 @@ pub struct Param {
 #[cycle(arguments)]
 #[derive(Drop)]
 pub enum Arg {
-    /// A word.
-    Word(Text),
+    /// A word, which is read once here and expanded often.
+    Word(Word),
     /// `[ .. ]`: the value of a call.
     Bracket(Box<Inner>),
 }

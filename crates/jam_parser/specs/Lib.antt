@@ -1,3 +1,6 @@
+-- What a reader opens first, and what it defines. The other files serve these or the proofs.
+-- `Parts`, `Faults`: what reading a part answers, and the faults of tokens without a tree
+
 pub mod Parts
 pub mod Starts
 pub mod Begins

@@ -9,6 +9,7 @@ ghost use Rattle.jam_parser.specs.Parts.{IsRead, Completes, EndsBy, in_brackets,
 
 use crate::reading::{Fault, key_here, next_of, past, word_here};
 use b2_base::token::Token;
+use jam_expand::word::Word;
 use jam_grammar::mark::Mark;
 use jam_grammar::tree::{Arg, Inner};
 use std::alloc::Global;
@@ -53,7 +54,8 @@ pub fn arg<'a>(alloc: Global, rest: &'a [Token], depth: u8) -> Result<(Arg, &'a 
         Some(_) => Err(Fault::At(rest)),
         None => {
             let (text, after) = word_here(rest, depth)?;
-            Ok((Arg::Word(text), after))
+            let word = Word::new(alloc, text)?;
+            Ok((Arg::Word(word), after))
         }
     }
 }

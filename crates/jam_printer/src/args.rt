@@ -15,7 +15,7 @@ pub fn push_arg(lexemes: &mut Vec<Lexeme>, arg: &Arg) -> Result<(), OutOfMemory>
     ensures { IfOk result (λ _. lexemes.new.items ≡ lexemes.old.items ++ written_as (arg_syms arg.now)) }
 {
     match arg {
-        Arg::Word(text) => push_word(lexemes, text),
+        Arg::Word(word) => push_word(lexemes, word.text()),
         Arg::Bracket(inner) => {
             push_key(lexemes, Mark::SquareOpen)?;
             push_inner(lexemes, inner)?;
